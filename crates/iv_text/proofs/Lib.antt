@@ -1,0 +1,11 @@
+pub mod LineLemmas
+pub mod ColumnLemmas
+pub mod GenomeLemmas
+pub mod ReadLemmas
+pub mod FileLemmas
+pub mod BedLemmas
+pub mod RowLemmas
+pub mod OrderedLemmas
+pub mod Putting
+pub mod Pulling
+pub mod Examples

@@ -1,0 +1,12 @@
+pub mod Lines
+pub mod Columns
+pub mod Number
+pub mod Row
+pub mod Genome
+pub mod Read
+pub mod Fault
+pub mod GenomeFile
+pub mod BedFile
+pub mod Ordered
+pub mod Sinks
+pub mod Sources
