@@ -3,7 +3,7 @@ use Rattle.std.proofs.Common.{◌++◌, Option, Some, None, length, refl, subst,
 use Rattle.std.proofs.lemmas.Bool.{cond-true, cond-false, le-leb}
 use Rattle.std.specs.Prelude.{All, MatchOption, unwrap_or}
 use Rattle.std.proofs.lemmas.List.Elements.{All-append, All-nil, All-cons}
-use Rattle.iv_text.specs.Columns.{columns}
+use Rattle.iv_text.specs.Fields.{columns}
 use Rattle.iv_text.specs.Genome.{Sequences}
 use Rattle.iv_text.specs.Read.{read, Fits}
 use Rattle.iv_text.specs.Row.{Row}

@@ -1,7 +1,7 @@
 -- One line of a genome file.
 use Rattle.std.proofs.Common.{◌≡◌, ℕ, ◌++◌, Bool, true, false, List, [], ◌∷◌, Option, Some, None, Ok, Err, ◌∙◌, ap, find, cond}
 use Rattle.std.proofs.lemmas.Bool.{cond-true, cond-false}
-use Rattle.iv_text.specs.Columns.{columns}
+use Rattle.iv_text.specs.Fields.{columns}
 use Rattle.iv_text.specs.GenomeFile.{is_skipped, has_cause, causes, sequence, with_sequence, after_line}
 use Rattle.iv_text.specs.declared.fault.LoadCause.{LoadCause}
 

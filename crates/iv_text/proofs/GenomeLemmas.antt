@@ -10,7 +10,8 @@ use Rattle.std.specs.List.{prefix_len}
 use Rattle.std.specs.Map.{keys_of, lookup}
 use Rattle.std.specs.Option.{option_map}
 use Rattle.std.specs.Str.{bytes_eq}
-use Rattle.iv_text.specs.Genome.{rank_of, length_at}
+use Rattle.iv_text.specs.Named.{place_of}
+use Rattle.iv_text.specs.Genome.{length_at}
 
 prefix-along : {X Y : Type 0} (f : X → Y) (p : Y → Bool) (xs : List X) → prefix_len p (map f xs) ≡ prefix_len (λ x. p (f x)) xs
 prefix-along f p [] = refl
@@ -21,9 +22,9 @@ position-along f p xs =
     ap (λ n. cond (nat_lt n (length (map f xs))) (Some n) None) (prefix-along f (λ y. not (p y)) xs)
     ∙ ap (λ n. cond (nat_lt (prefix_len (λ x. not (p (f x))) xs) n) (Some (prefix_len (λ x. not (p (f x))) xs)) None) (length-map xs f)
 
--- the place of a key is the rank of its name
-pub rank-is : {K : Type 0} (items : K → List ℕ) (name : List ℕ) (es : List (K × ℕ)) → position (λ k. bytes_eq name (items k)) (keys_of es) ≡ rank_of (map (λ e. (items e.0, e.1)) es) name
-rank-is items name es =
+-- the place of a key is the place of its name
+pub place-is : {K V : Type 0} (items : K → List ℕ) (name : List ℕ) (es : List (K × V)) → position (λ k. bytes_eq name (items k)) (keys_of es) ≡ place_of (map (λ e. (items e.0, e.1)) es) name
+place-is items name es =
     position-along (λ e. e.0) (λ k. bytes_eq name (items k)) es
     ∙ sym (position-along (λ s. s.0) (bytes_eq name) (map (λ e. (items e.0, e.1)) es) ∙ position-along (λ e. (items e.0, e.1)) (λ s. bytes_eq name s.0) es)
 
@@ -37,13 +38,18 @@ none_is None h = refl
 none_is (Some x) h = absurd (true≢false h)
 
 -- a name that is not among the keys is put last
-pub push-is : {K S : Type 0} (items : K → List ℕ) (eq : K → K → Bool) (m : IndexMap K ℕ S) (k : K) (n : ℕ) (name : List ℕ)
-    → ((x : K) → eq k x ≡ bytes_eq name (items x)) → items k ≡ name → rank_of (map (λ e. (items e.0, e.1)) m.entries) name ≡ None
-    → map {B = List ℕ × ℕ} (λ e. (items e.0, e.1)) (insert_entry eq m.entries k n) ≡ map {B = List ℕ × ℕ} (λ e. (items e.0, e.1)) m.entries ++ (name, n) ∷ []
-push-is {K} items eq m k n name same is fresh =
-    let view : K × ℕ → List ℕ × ℕ = λ e. (items e.0, e.1) in
-    let there : position (eq k) (keys_of m.entries) ≡ None = (λ j. position (λ x. same x j) (keys_of m.entries)) ∙ rank-is items name m.entries ∙ fresh in
+pub push-is : {K V S : Type 0} (items : K → List ℕ) (eq : K → K → Bool) (m : IndexMap K V S) (k : K) (n : V) (name : List ℕ)
+    → ((x : K) → eq k x ≡ bytes_eq name (items x)) → items k ≡ name → place_of (map (λ e. (items e.0, e.1)) m.entries) name ≡ None
+    → map {B = List ℕ × V} (λ e. (items e.0, e.1)) (insert_entry eq m.entries k n) ≡ map {B = List ℕ × V} (λ e. (items e.0, e.1)) m.entries ++ (name, n) ∷ []
+push-is {K} {V} items eq m k n name same is fresh =
+    let view : K × V → List ℕ × V = λ e. (items e.0, e.1) in
+    let there : position (eq k) (keys_of m.entries) ≡ None = (λ j. position (λ x. same x j) (keys_of m.entries)) ∙ place-is items name m.entries ∙ fresh in
     let none : lookup (eq k) m.entries ≡ None = none_is (lookup (eq k) m.entries) (sym (some_index (eq k) m.entries) ∙ ap is_some there) in
     ap (map view) (insert_entry-new eq m k n none)
     ∙ map-append view m.entries ((k, n) ∷ [])
     ∙ ap (λ t. map view m.entries ++ (t, n) ∷ []) is
+
+-- what stands under a key is what stands under its name
+pub lookup-is : {K V : Type 0} (items : K → List ℕ) (name : List ℕ) (es : List (K × V)) → lookup (λ k. bytes_eq name (items k)) es ≡ lookup (bytes_eq name) (map {B = List ℕ × V} (λ e. (items e.0, e.1)) es)
+lookup-is items name [] = refl
+lookup-is items name (e ∷ es) = ap (λ o. cond (bytes_eq name (items e.0)) (Some e.1) o) (lookup-is items name es)

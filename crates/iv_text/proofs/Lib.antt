@@ -1,5 +1,5 @@
 pub mod LineLemmas
-pub mod ColumnLemmas
+pub mod FieldLemmas
 pub mod GenomeLemmas
 pub mod ReadLemmas
 pub mod FileLemmas

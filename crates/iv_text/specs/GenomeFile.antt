@@ -3,7 +3,7 @@ use Rattle.std.specs.Prelude.{◌≡◌, ℕ, ◌+◌, ◌++◌, ◌==◌, ◌||
 use Rattle.std.specs.List.{list_any}
 use Rattle.std.specs.Option.{is_some, is_none}
 use Rattle.std.specs.Str.{bytes_eq}
-use Rattle.iv_text.specs.Columns.{columns}
+use Rattle.iv_text.specs.Fields.{columns}
 use Rattle.iv_text.specs.Lines.{lines}
 use Rattle.iv_text.specs.Number.{number}
 use Rattle.iv_text.specs.Genome.{Sequences, rank_of}

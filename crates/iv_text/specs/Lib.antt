@@ -1,7 +1,8 @@
 pub mod Lines
-pub mod Columns
+pub mod Fields
 pub mod Number
 pub mod Row
+pub mod Named
 pub mod Genome
 pub mod Read
 pub mod Fault

@@ -2,7 +2,7 @@
 use Rattle.std.specs.Prelude.{◌≡◌, ◌<◌, ◌≤◌, ℕ, IsSome, ◌==◌, ◌&&◌, ◌||◌, not, nat_le, nat_lt, Bool, true, false, cond, List, [], ◌∷◌, Option, None, Some, Result, Ok, Err, length, find}
 use Rattle.std.specs.List.{slice_index_or, list_any}
 use Rattle.std.specs.Option.{unwrap_or, is_none}
-use Rattle.iv_text.specs.Columns.{columns}
+use Rattle.iv_text.specs.Fields.{columns}
 use Rattle.iv_text.specs.Number.{number}
 use Rattle.iv_text.specs.Row.{Row, strand_of}
 use Rattle.iv_text.specs.Genome.{Sequences, rank_of, length_at}
@@ -67,9 +67,13 @@ abbrev pub told : Option RecordFault → Row → Result Row RecordFault
 told None r = Ok r
 told (Some f) r = Err f
 
+-- the first fault of columns, or else their record
+abbrev pub read_columns : Sequences → ℕ → List (List ℕ) → Result Row RecordFault
+read_columns g width cs = told (find (has_fault g width cs) faults) (row g width cs)
+
 -- the line's first fault, or else its record
 abbrev pub read : Sequences → ℕ → List ℕ → Result Row RecordFault
-read g width line = told (find (has_fault g width (columns line)) faults) (row g width (columns line))
+read g width line = read_columns g width (columns line)
 
 -- cs has a column for each of the width, which are these; those beyond the width are empty
 pub record AreColumns (width : ℕ) (cs : List (List ℕ)) (seq start stop name score strand : List ℕ) : Type 0 where

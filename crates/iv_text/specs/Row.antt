@@ -1,5 +1,5 @@
 -- A record as its fields, and the order of a track.
-use Rattle.std.specs.Prelude.{ℕ, ◌==◌, cond, List, [], ◌∷◌, Option, None, Some}
+use Rattle.std.specs.Prelude.{◌≡◌, ◌<◌, ℕ, ◌==◌, cond, List, [], ◌∷◌, Option, None, Some}
 use Rattle.std.specs.Option.{option_cmp}
 use Rattle.std.specs.declared.cmp.Ordering.{Ordering}
 use Rattle.std.specs.Ordering.{nat_cmp, ordering_then}
@@ -17,6 +17,13 @@ pub record Row : Type 0 where
   pub score : List ℕ
   pub strand : Option Strand
   pub width : ℕ
+
+-- what each record is: it has a base, and the columns beyond its width are empty
+pub record IsRow (r : Row) : Type 0 where
+  pub some : r.start < r.stop
+  pub no_name : r.width < 4 → r.name ≡ []
+  pub no_score : r.width < 5 → r.score ≡ []
+  pub no_strand : r.width < 6 → r.strand ≡ None
 
 -- a column of one byte may say a strand
 abbrev pub strand_of : List ℕ → Option Strand

@@ -1,14 +1,14 @@
 //! The records of a BED file.
 ghost use Rattle.std.specs.Prelude.{◌≡◌, ◌≤◌, ◌⊎◌, All, length, Ok, Err, None, Some, IfOk, IfErr, OnOk, MatchOption, true, false, nat_le, List, ℕ, [], ◌∷◌, ◌++◌};
 ghost use Rattle.std.specs.Option.{unwrap_or};
-ghost use Rattle.iv_text.specs.Columns.{columns as columns_of};
+ghost use Rattle.iv_text.specs.Fields.{columns as columns_of};
 ghost use Rattle.iv_text.specs.Lines.{lines};
 ghost use Rattle.iv_text.specs.Read.{read, Fits};
 ghost use Rattle.iv_text.specs.declared.fault.LoadCause.TheVariants as cause;
 ghost use Rattle.iv_text.specs.BedFile.{is_unread as says_nothing, is_width, with_row, drafted, after_row, bed_of, IsSoundDraft};
 ghost use Rattle.iv_text.specs.Row.{Row};
 
-use crate::columns::Columns;
+use crate::fields::columns;
 use crate::fault::{LoadCause, LoadFault};
 use crate::genome::Genome;
 use crate::lines::lines_of;
@@ -66,7 +66,7 @@ fn is_unread(line: &[u8]) -> bool
 fn width_of(line: &[u8]) -> Option<u8>
     ensures { MatchOption result (is_width (length (columns_of line.now)) ≡ false) (λ w. (w ≡ length (columns_of line.now)) × (3 ≤ w) × (w ≤ 6)) }
 {
-    let mut columns = Columns::of(line);
+    let mut columns = columns(line);
     let mut count = 0u8;
     while count < 7 {
         if columns.next().is_none() {

@@ -1,11 +1,11 @@
 //! The genome that a genome file says.
 ghost use Rattle.std.specs.Prelude.{◌≡◌, ◌≤◌, ◌<◌, ◌⊎◌, length, Ok, Err, Some, IfOk, IfErr, OnOk, IsTrue, ◌↔◌, List, ℕ, find, [], ◌∷◌};
-ghost use Rattle.iv_text.specs.Columns.{columns as columns_of};
+ghost use Rattle.iv_text.specs.Fields.{columns as columns_of};
 ghost use Rattle.iv_text.specs.Lines.{lines};
 ghost use Rattle.iv_text.specs.GenomeFile.{bad_name, is_skipped as is_skipped_line, has_cause, causes, sequence, after_line, genome_of};
 ghost use Rattle.iv_text.specs.declared.fault.LoadCause.TheVariants as cause;
 
-use crate::columns::Columns;
+use crate::fields::columns;
 use crate::fault::{LoadCause, LoadFault};
 use crate::genome::Genome;
 use crate::lines::lines_of;
@@ -38,7 +38,7 @@ fn sequence_of(line: &[u8]) -> Result<(&[u8], u32), LoadCause>
     ensures none { OnOk result ((g : List (List ℕ × ℕ)) → find (has_cause g (columns_of line.now)) causes ≡ find (has_cause g (columns_of line.now)) (cause.Repeated ∷ cause.TooMany ∷ [])) }
     ensures err { IfErr result (λ c. (g : List (List ℕ × ℕ)) → find (has_cause g (columns_of line.now)) causes ≡ Some c) }
 {
-    let mut columns = Columns::of(line);
+    let mut columns = columns(line);
     let (Some(name), Some(length)) = (columns.next(), columns.next()) else {
         return Err(LoadCause::Columns);
     };

@@ -3,8 +3,8 @@
 
 mod bed_file;
 mod buffered;
-mod columns;
 mod fault;
+mod fields;
 mod genome;
 mod genome_file;
 mod held;
@@ -23,8 +23,8 @@ mod texts;
 
 pub use bed_file::BedFile;
 pub use buffered::Buffered;
-pub use columns::Columns;
 pub use fault::{LoadCause, LoadFault, RecordFault, fault_text, load_text};
+pub use fields::{Fields, columns, split_first_column};
 pub use genome::Genome;
 pub use held::Held;
 pub use laws::{first_line_ends_at_feed, last_line_ends_at_end, one_ordered_list};

@@ -1,9 +1,9 @@
 //! The record that a line stands for.
 ghost use Rattle.std.specs.Prelude.{◌≡◌, ◌≤◌, List, ℕ, [], ◌∷◌, ◌++◌, MatchOption, IfSome, IfOk, IsTrue, ◌↔◌, nat_le, length, ◌≢◌, true, false, Bool};
-ghost use Rattle.iv_text.specs.Columns.{columns as columns_of};
+ghost use Rattle.iv_text.specs.Fields.{columns as columns_of};
 ghost use Rattle.iv_text.specs.Read.{read, chosen, bad_text, AreColumns, AreSound, IsWithin, Fits};
 
-use crate::columns::Columns;
+use crate::fields::{Fields, columns};
 use crate::fault::RecordFault;
 use crate::genome::Genome;
 use crate::number::read_number;
@@ -43,7 +43,7 @@ pub(crate) fn is_within<A: Allocator + Copy>(genome: &Genome<A>, rank: u32, stop
 }
 
 /// The next column where one is wanted, and else an empty one.
-fn next_wanted<'a>(columns: &mut Columns<'a>, wanted: bool) -> Option<&'a [u8]>
+fn next_wanted<'a>(columns: &mut Fields<'a>, wanted: bool) -> Option<&'a [u8]>
     ensures taken { MatchOption result ((wanted ≡ true) × (columns.old ≡ [])) (λ column. columns.old ≡ chosen wanted column.now columns.new) }
     ensures empty { wanted ≡ false → IfSome result (λ column. column.now ≡ []) }
 {
@@ -66,7 +66,7 @@ fn cells_of(line: &[u8], width: u8) -> Option<Cells<'_>>
     requires { (3 ≤ width) × (width ≤ 6) }
     ensures { MatchOption result (length (columns_of line.now) ≢ width) (λ c. AreColumns width (columns_of line.now) c.seq.now c.start.now c.stop.now c.name.now c.score.now c.strand.now) }
 {
-    let mut columns = Columns::of(line);
+    let mut columns = columns(line);
     let seq = columns.next()?;
     let start = columns.next()?;
     let stop = columns.next()?;

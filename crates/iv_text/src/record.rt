@@ -30,21 +30,20 @@ pub struct Record<A: Allocator = Global> {
 }
 
 impl<A: Allocator> Model for Record<A> {
-    ghost use Rattle.std.specs.Prelude.{◌<◌};
-    ghost use Rattle.iv_text.specs.Row.{Row};
+    ghost use Rattle.iv_text.specs.Row.{Row, IsRow};
 
     ghost Value = { Row };
 
     ghost view = { λ r. record { seq = r.rank; start = r.start; stop = r.stop; name = r.texts.0; score = r.texts.1; strand = r.strand; width = r.width } };
 
-    ghost invariant = { λ r. r.start < r.stop };
+    ghost invariant = { λ r. IsRow (record { seq = r.rank; start = r.start; stop = r.stop; name = r.texts.0; score = r.texts.1; strand = r.strand; width = r.width }) };
 }
 
 impl<A: Allocator> Record<A> {
     /// A copy of a record that lies in a line.
     pub(crate) fn copy_of(row: &RecordRef<'_>, alloc: A) -> Result<Self, AllocError>
         ensures ok { IfOk result (λ r. r ≡ row.now) }
-        ensures free { row.now.name ≡ [] → row.now.score ≡ [] → IsOk result }
+        ensures free { row.now.width ≡ 3 → IsOk result }
     {
         let texts = Texts::copy_of(alloc, row.name, row.score)?;
         Ok(Record {

@@ -24,14 +24,13 @@ pub struct RecordRef<'a> {
 }
 
 impl<'a> Model for RecordRef<'a> {
-    ghost use Rattle.std.specs.Prelude.{◌<◌};
-    ghost use Rattle.iv_text.specs.Row.{Row};
+    ghost use Rattle.iv_text.specs.Row.{Row, IsRow};
 
     ghost Value = { Row };
 
     ghost view = { λ r. record { seq = r.rank; start = r.start; stop = r.stop; name = r.name.now; score = r.score.now; strand = r.strand; width = r.width } };
 
-    ghost invariant = { λ r. r.start < r.stop };
+    ghost invariant = { λ r. IsRow (record { seq = r.rank; start = r.start; stop = r.stop; name = r.name.now; score = r.score.now; strand = r.strand; width = r.width }) };
 }
 
 impl<'a> RecordRef<'a> {
@@ -95,10 +94,10 @@ impl<'a> RecordRef<'a> {
         are_sound(width, self.name, self.score, self.strand)
     }
 
-    /// A copy that owns its columns. It takes no memory where name and score are empty, as at width 3.
+    /// A copy that owns its columns. It takes no memory at width 3.
     pub fn to_record<A: Allocator + Copy>(&self, alloc: A) -> Result<Record<A>, AllocError>
         ensures ok { IfOk result (λ r. r ≡ self.now) }
-        ensures free { self.now.name ≡ [] → self.now.score ≡ [] → IsOk result }
+        ensures free { self.now.width ≡ 3 → IsOk result }
     {
         Record::copy_of(self, alloc)
     }

@@ -2,7 +2,7 @@ use Rattle.std.proofs.Common.{rules, ◌≡◌, sym, ◌∙◌, ap, inl, inr, So
 use Rattle.std.proofs.lemmas.Bool.{le-leb, lt-leb}
 use Rattle.std.specs.Option.{is_some}
 use Rattle.std.proofs.lemmas.Result.{err_from_is_err_and}
-use Rattle.iv_text.specs.Columns.{columns as columns_of}
+use Rattle.iv_text.specs.Fields.{columns as columns_of}
 use Rattle.iv_text.specs.Genome.{rank_of}
 use Rattle.iv_text.specs.Read.{column}
 use Rattle.iv_text.specs.GenomeFile.{has_cause, causes, sequence, after_line}

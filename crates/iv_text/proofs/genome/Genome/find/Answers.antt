@@ -1,11 +1,11 @@
 use Rattle.std.proofs.Common.{sym, ◌∙◌, ap}
 use Rattle.iv_text.specs.Genome.{rank_of, length_at}
-use Rattle.iv_text.proofs.GenomeLemmas.{rank-is, length-is}
+use Rattle.iv_text.proofs.GenomeLemmas.{place-is, length-is}
 use Rattle.iv_text.proofs.genome.Genome.find.Goals as goal
 
 pub returns-in-Some-clause-rank : goal.returns-in-Some-clause-rank
 returns-in-Some-clause-rank g c =
-    c.in-Some.ensures.index ∙ rank-is _ c.args.name.now c.self.inside.lengths.entries ∙ ap (λ s. rank_of s c.args.name.now) c.self.view_is
+    c.in-Some.ensures.index ∙ place-is _ c.args.name.now c.self.inside.lengths.entries ∙ ap (λ s. rank_of s c.args.name.now) c.self.view_is
 
 pub returns-in-Some-clause-length : goal.returns-in-Some-clause-length
 returns-in-Some-clause-length g c =
@@ -14,4 +14,4 @@ returns-in-Some-clause-length g c =
 
 pub returns-in-None-clause-rank : goal.returns-in-None-clause-rank
 returns-in-None-clause-rank g c =
-    c.in-None.ensures.index ∙ rank-is _ c.args.name.now c.self.inside.lengths.entries ∙ ap (λ s. rank_of s c.args.name.now) c.self.view_is
+    c.in-None.ensures.index ∙ place-is _ c.args.name.now c.self.inside.lengths.entries ∙ ap (λ s. rank_of s c.args.name.now) c.self.view_is
