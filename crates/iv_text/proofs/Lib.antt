@@ -1,6 +1,6 @@
 pub mod LineLemmas
 pub mod FieldLemmas
-pub mod GenomeLemmas
+pub mod NamedLemmas
 pub mod ReadLemmas
 pub mod FileLemmas
 pub mod BedLemmas

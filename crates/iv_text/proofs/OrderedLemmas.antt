@@ -1,10 +1,13 @@
 -- Lists in order: their copies, one more, and that the copies determine the list.
-use Rattle.std.proofs.Common.{◌≡◌, ℕ, ◌+◌, ◌<◌, ◌≤◌, Bool, true, false, cond, List, [], ◌∷◌, ◌++◌, length, refl, sym, ap, ◌∙◌, subst, arith}
-use Rattle.std.specs.Prelude.{count_by, fold}
-use Rattle.std.specs.List.{AllByRecursion}
+use Rattle.std.proofs.Common.{◌≡◌, ℕ, ◌+◌, ◌<◌, ◌≤◌, Bool, true, false, cond, List, [], ◌∷◌, ◌++◌, zero, suc, length, refl, sym, ap, ◌∙◌, subst, arith}
+use Rattle.std.specs.Prelude.{count_by, fold, insert}
+use Rattle.std.specs.List.{AllByRecursion, AllWithin, slice_index_or}
+use Rattle.std.specs.List.Sorted.{IsSorted, IsPermutation, IsPartitionedBy}
+use Rattle.std.proofs.lemmas.Bool.{cond-true, cond-false, false≢true}
+use Rattle.std.proofs.lemmas.List.Sorted.{sum_by-IsPermutation}
 use Rattle.std.specs.declared.cmp.Ordering.{Ordering}
 use Rattle.std.specs.declared.cmp.Ordering.TheVariants.{Less, Equal, Greater}
-use Rattle.std.specs.Ordering.{is_eq, is_le, is_gt, ordering_reverse}
+use Rattle.std.specs.Ordering.{is_eq, is_le, is_lt, is_gt, ordering_reverse}
 use Rattle.std.specs.Cmp.{IsTotalOrder, tied_itself, Equal-is, upto}
 use Rattle.std.proofs.lemmas.Map.Lookups.{CmpEqualImpliesEq}
 use Rattle.std.proofs.lemmas.List.Sums.{sum_by-cons}
@@ -114,6 +117,70 @@ module _ {K : Type 0} (cmp : K → K → Ordering) where
   in_order-all_added o [] start h = h
   in_order-all_added o (x ∷ xs) start h = in_order-all_added o xs (added_by cmp start x) (in_order-added o start x h)
 
+-- ---- sorts and inserts
+
+not_lt : (a b : Ordering) → b ≡ ordering_reverse a → is_lt a ≡ false → is_le b ≡ true
+not_lt Less b e h = cc
+not_lt Equal b e h = ap is_le e
+not_lt Greater b e h = ap is_le e
+
+lt_not : (a b : Ordering) → b ≡ ordering_reverse a → is_lt a ≡ true → is_le b ≡ false
+lt_not Less b e h = ap is_le e
+lt_not Equal b e h = cc
+lt_not Greater b e h = cc
+
+all-place : {X : Type 0} (P : X → Type 0) (xs : List X) → AllByRecursion P xs → (j : ℕ) (d : X) → j < length xs → P (slice_index_or xs j d)
+all-place P [] h j d low = absurd (omega arith)
+all-place P (x ∷ xs) h zero d low = h.0
+all-place P (x ∷ xs) h (suc j) d low = all-place P xs h.1 j d (omega arith)
+
+module _ {K : Type 0} (cmp : K → K → Ordering) where
+  -- an insert behind what is less and before what is not adds in the order
+  pub added-insert : IsTotalOrder cmp → (xs : List K) (x : K) (n : ℕ) → n ≤ length xs
+      → AllWithin (λ y. is_lt (cmp y x) ≡ true) xs 0 n → AllWithin (λ y. is_lt (cmp y x) ≡ false) xs n (length xs) → insert xs n x ≡ added_by cmp xs x
+  added-insert o [] x zero le low high = refl
+  added-insert o [] x (suc n) le low high = absurd (omega arith)
+  added-insert o (q ∷ xs) x zero le low high =
+      sym (cond-true (is_le (cmp x q)) (x ∷ q ∷ xs) (q ∷ added_by cmp xs x) (not_lt (cmp q x) (cmp x q) (o.antisymm x q) (high 0 q (omega arith) (omega arith))))
+  added-insert o (q ∷ xs) x (suc n) le low high =
+      ap (λ (l : List K). q ∷ l) (added-insert o xs x n (omega arith) (λ k d from to. low (suc k) d (omega arith) (omega arith)) (λ k d from to. high (suc k) d (omega arith) (omega arith)))
+      ∙ sym (cond-false (is_le (cmp x q)) (x ∷ q ∷ xs) (q ∷ added_by cmp xs x) (lt_not (cmp q x) (cmp x q) (o.antisymm x q) (low 0 q (omega arith) (omega arith))))
+
+  -- of two places in a list in order the first holds no more
+  pub in_order-places : IsTotalOrder cmp → (xs : List K) → InOrder cmp xs → (i j : ℕ) (d : K) → i ≤ j → j < length xs → is_le (cmp (slice_index_or xs i d) (slice_index_or xs j d)) ≡ true
+  in_order-places o [] h i j d le low = absurd (omega arith)
+  in_order-places o (x ∷ xs) h zero zero d le low = ap is_le (tied_itself o x)
+  in_order-places o (x ∷ xs) h zero (suc j) d le low = all-place (λ y. is_le (cmp x y) ≡ true) xs h.0 j d (omega arith)
+  in_order-places o (x ∷ xs) h (suc i) zero d le low = absurd (omega arith)
+  in_order-places o (x ∷ xs) h (suc i) (suc j) d le low = in_order-places o xs h.1 i j d (omega arith) (omega arith)
+
+  -- what is less than x stands in front
+  pub in_order-parted : IsTotalOrder cmp → (xs : List K) (x : K) → InOrder cmp xs → IsPartitionedBy (λ y. is_lt (cmp y x)) xs
+  in_order-parted o xs x h i j d le low less = by (is_lt (cmp (slice_index_or xs i d) x)) refl
+    where
+      by : (t : Bool) → is_lt (cmp (slice_index_or xs i d) x) ≡ t → is_lt (cmp (slice_index_or xs i d) x) ≡ true
+      by true e = e
+      by false e =
+          let a = slice_index_or xs i d in
+          let b = slice_index_or xs j d in
+          let up : is_le (cmp x b) ≡ true = le_chain cmp o x a b (not_lt (cmp a x) (cmp x a) (o.antisymm x a) e) (in_order-places o xs h i j d le low) in
+          absurd (false≢true (sym (lt_not (cmp b x) (cmp x b) (o.antisymm x b) less) ∙ up))
+
+  -- a list that was sorted is in order
+  pub in_order-sorted : IsTotalOrder cmp → (xs : List K) → IsSorted cmp xs → InOrder cmp xs
+  in_order-sorted o [] sorted = tt
+  in_order-sorted o (x ∷ []) sorted = (tt, tt)
+  in_order-sorted o (x ∷ y ∷ ys) sorted =
+      let later : InOrder cmp (y ∷ ys) = in_order-sorted o (y ∷ ys) (λ k d from to.
+          let next : suc k + 1 ≡ suc (k + 1) = omega arith in
+          let P : ℕ → Type 0 = λ n. is_lt (cmp (slice_index_or (x ∷ y ∷ ys) n d) (slice_index_or (y ∷ ys) k d)) ≡ false in
+          subst P next (sorted (suc k) d (omega arith) (omega arith))) in
+      let first : is_le (cmp x y) ≡ true = not_lt (cmp y x) (cmp x y) (o.antisymm x y) (sorted 0 x (omega arith) (omega arith)) in
+      ((first, all-weaker (λ z. is_le (cmp y z) ≡ true) (λ z. is_le (cmp x z) ≡ true) (λ z le. le_chain cmp o x y z first le) ys later.0), later)
+
+  pub copies-permutation : (xs ys : List K) (k : K) → IsPermutation xs ys → copies_by cmp ys k ≡ copies_by cmp xs k
+  copies-permutation xs ys k moved = sum_by-IsPermutation (λ q. cond {A = ℕ} (is_eq (cmp k q)) 1 0) xs ys moved
+
 -- ---- the order of a track
 
 pub ordered-in_order : (rows : List Row) → AreInOrder (ordered rows)
@@ -124,3 +191,9 @@ ordered-copies rows r = copies-all_added row_cmp rows [] r ∙ omega arith
 
 pub rows-alone : (xs ys : List Row) → AreInOrder xs → AreInOrder ys → ((r : Row) → copies xs r ≡ copies ys r) → xs ≡ ys
 rows-alone = one_list row_cmp rows_total rows_exact
+
+-- the records of a sort are the records in order
+pub ordered-sorted : (rows sorted : List Row) → IsPermutation rows sorted → IsSorted row_cmp sorted → sorted ≡ ordered rows
+ordered-sorted rows sorted moved up =
+    rows-alone sorted (ordered rows) (in_order-sorted row_cmp rows_total sorted up) (ordered-in_order rows)
+    (λ r. copies-permutation row_cmp rows sorted r moved ∙ sym (ordered-copies rows r))

@@ -1,7 +1,7 @@
 use Rattle.std.proofs.Common.{sym, ◌∙◌, ap, ◌≡◌, List, ℕ, ◌++◌, ◌∷◌, [], map}
 use Rattle.std.specs.Str.{bytes_eq}
 use Rattle.iv_text.specs.Genome.{rank_of}
-use Rattle.iv_text.proofs.GenomeLemmas.{push-is}
+use Rattle.iv_text.proofs.NamedLemmas.{push-is}
 use Rattle.iv_text.proofs.genome.Genome.push.Goals as goal
 
 pub returns : goal.returns

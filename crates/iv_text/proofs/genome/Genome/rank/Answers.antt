@@ -1,6 +1,6 @@
 use Rattle.std.proofs.Common.{sym, ◌∙◌, ap}
 use Rattle.iv_text.specs.Genome.{rank_of}
-use Rattle.iv_text.proofs.GenomeLemmas.{place-is}
+use Rattle.iv_text.proofs.NamedLemmas.{place-is}
 use Rattle.iv_text.proofs.genome.Genome.rank.Goals as goal
 
 pub returns-in-Some : goal.returns-in-Some

@@ -1,4 +1,4 @@
--- What a map's entries say of the genome that they are seen as.
+-- What the entries of a map say of the named things that they are seen as.
 use Rattle.std.proofs.Common.{◌≡◌, ℕ, ◌+◌, Bool, true, false, cond, not, nat_lt, List, [], ◌∷◌, Option, None, Some, length, map, position, slice_get, refl, sym, ◌∙◌, ap}
 use Rattle.std.proofs.Common.{◌++◌, is_some, true≢false}
 use Rattle.std.proofs.lemmas.List.{length-map, map-append}
@@ -37,19 +37,32 @@ none_is : {X : Type 0} (o : Option X) → is_some o ≡ false → o ≡ None
 none_is None h = refl
 none_is (Some x) h = absurd (true≢false h)
 
--- a name that is not among the keys is put last
-pub push-is : {K V S : Type 0} (items : K → List ℕ) (eq : K → K → Bool) (m : IndexMap K V S) (k : K) (n : V) (name : List ℕ)
-    → ((x : K) → eq k x ≡ bytes_eq name (items x)) → items k ≡ name → place_of (map (λ e. (items e.0, e.1)) m.entries) name ≡ None
-    → map {B = List ℕ × V} (λ e. (items e.0, e.1)) (insert_entry eq m.entries k n) ≡ map {B = List ℕ × V} (λ e. (items e.0, e.1)) m.entries ++ (name, n) ∷ []
-push-is {K} {V} items eq m k n name same is fresh =
+-- a key that is not there is put last
+pushed : {K V S : Type 0} (items : K → List ℕ) (eq : K → K → Bool) (m : IndexMap K V S) (k : K) (v : V) (name : List ℕ)
+    → items k ≡ name → lookup (eq k) m.entries ≡ None
+    → map {B = List ℕ × V} (λ e. (items e.0, e.1)) (insert_entry eq m.entries k v) ≡ map {B = List ℕ × V} (λ e. (items e.0, e.1)) m.entries ++ (name, v) ∷ []
+pushed {K} {V} items eq m k v name is none =
     let view : K × V → List ℕ × V = λ e. (items e.0, e.1) in
+    ap (map view) (insert_entry-new eq m k v none)
+    ∙ map-append view m.entries ((k, v) ∷ [])
+    ∙ ap (λ t. map view m.entries ++ (t, v) ∷ []) is
+
+-- and so is a name that has no place
+pub push-is : {K V S : Type 0} (items : K → List ℕ) (eq : K → K → Bool) (m : IndexMap K V S) (k : K) (v : V) (name : List ℕ)
+    → ((x : K) → eq k x ≡ bytes_eq name (items x)) → items k ≡ name → place_of (map (λ e. (items e.0, e.1)) m.entries) name ≡ None
+    → map {B = List ℕ × V} (λ e. (items e.0, e.1)) (insert_entry eq m.entries k v) ≡ map {B = List ℕ × V} (λ e. (items e.0, e.1)) m.entries ++ (name, v) ∷ []
+push-is items eq m k v name same is fresh =
     let there : position (eq k) (keys_of m.entries) ≡ None = (λ j. position (λ x. same x j) (keys_of m.entries)) ∙ place-is items name m.entries ∙ fresh in
-    let none : lookup (eq k) m.entries ≡ None = none_is (lookup (eq k) m.entries) (sym (some_index (eq k) m.entries) ∙ ap is_some there) in
-    ap (map view) (insert_entry-new eq m k n none)
-    ∙ map-append view m.entries ((k, n) ∷ [])
-    ∙ ap (λ t. map view m.entries ++ (t, n) ∷ []) is
+    pushed items eq m k v name is (none_is (lookup (eq k) m.entries) (sym (some_index (eq k) m.entries) ∙ ap is_some there))
 
 -- what stands under a key is what stands under its name
 pub lookup-is : {K V : Type 0} (items : K → List ℕ) (name : List ℕ) (es : List (K × V)) → lookup (λ k. bytes_eq name (items k)) es ≡ lookup (bytes_eq name) (map {B = List ℕ × V} (λ e. (items e.0, e.1)) es)
 lookup-is items name [] = refl
 lookup-is items name (e ∷ es) = ap (λ o. cond (bytes_eq name (items e.0)) (Some e.1) o) (lookup-is items name es)
+
+-- a name under which nothing stands is put last
+pub push-new : {K V S : Type 0} (items : K → List ℕ) (eq : K → K → Bool) (m : IndexMap K V S) (k : K) (v : V) (name : List ℕ)
+    → ((x : K) → eq k x ≡ bytes_eq name (items x)) → items k ≡ name → lookup (bytes_eq name) (map {B = List ℕ × V} (λ e. (items e.0, e.1)) m.entries) ≡ None
+    → map {B = List ℕ × V} (λ e. (items e.0, e.1)) (insert_entry eq m.entries k v) ≡ map {B = List ℕ × V} (λ e. (items e.0, e.1)) m.entries ++ (name, v) ∷ []
+push-new items eq m k v name same is fresh =
+    pushed items eq m k v name is ((λ j. lookup (λ x. same x j) m.entries) ∙ lookup-is items name m.entries ∙ fresh)
