@@ -1,0 +1,10 @@
+pub mod Last
+pub mod Tests
+pub mod Groups
+pub mod Cover
+pub mod Positions
+pub mod Swept
+pub mod Merging
+pub mod Meanings
+pub mod Examples
+pub mod BlockLemmas

@@ -1,0 +1,4 @@
+pub mod Blocks
+pub mod CoverRows
+pub mod OpenBlocks
+pub mod BlockLaws

@@ -1,0 +1,13 @@
+//! What records cover: their blocks.
+#![tactic(auto)]
+
+mod laws;
+mod merge;
+mod open_block;
+
+pub use laws::{
+    blocks_start_after_gaps, blocks_stop_with_their_last_record, gaps_part_blocks,
+    records_belong_to_one_block,
+};
+pub use merge::put_merge;
+pub use open_block::{OpenBlock, close_block, take_record};
