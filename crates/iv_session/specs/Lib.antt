@@ -1,0 +1,9 @@
+pub mod States
+pub mod Edits
+pub mod Views
+pub mod Cutting
+pub mod Written
+pub mod Reading
+pub mod Commands
+pub mod Scripts
+pub mod Stops

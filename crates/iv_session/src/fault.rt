@@ -1,0 +1,122 @@
+//! Faults of edits and views, by their numbers.
+ghost use Rattle.std.specs.Prelude.{◌≡◌, ◌≤◌, Some, None, IfSome};
+ghost use Rattle.iv_session.specs.Written.{edit_code, view_code, print_code, refusal_code};
+
+use iv_text::RecordFault;
+use thiserror::Error;
+
+/// Why an edit is refused.
+#[derive(Clone, Copy, Debug, PartialEq, Eq, Error)]
+pub enum EditFault {
+    /// E12: the track holds its limit.
+    #[error("track is full")]
+    Full,
+    /// E22: memory was refused.
+    #[error("no memory")]
+    NoMemory,
+}
+
+impl EditFault {
+    /// Its number in the table of faults.
+    pub fn code(&self) -> u8
+        ensures value { result ≡ edit_code self.now }
+        ensures known { (1 ≤ result) × (result ≤ 24) }
+    {
+        match self {
+            EditFault::Full => 12,
+            EditFault::NoMemory => 22,
+        }
+    }
+}
+
+/// Why a view is not opened, in the order in which the causes are looked for.
+#[derive(Clone, Copy, Debug, PartialEq, Eq, Error)]
+pub enum ViewFault {
+    /// E13: the name is not 1 to 32 bytes from 33 to 126.
+    #[error("bad view name")]
+    BadName,
+    /// E14: a view of this name is open.
+    #[error("view name taken")]
+    Taken,
+    /// E15: as many views are open as may be.
+    #[error("too many views")]
+    TooMany,
+    /// E16: the words say no view.
+    #[error("bad options")]
+    Words,
+    /// E22: memory was refused.
+    #[error("no memory")]
+    NoMemory,
+}
+
+impl ViewFault {
+    /// Its number in the table of faults.
+    pub fn code(&self) -> u8
+        ensures value { result ≡ view_code self.now }
+        ensures known { (1 ≤ result) × (result ≤ 24) }
+    {
+        match self {
+            ViewFault::BadName => 13,
+            ViewFault::Taken => 14,
+            ViewFault::TooMany => 15,
+            ViewFault::Words => 16,
+            ViewFault::NoMemory => 22,
+        }
+    }
+}
+
+/// Why a view is not printed.
+#[derive(Clone, Copy, Debug, PartialEq, Eq, Error)]
+pub enum PrintFault {
+    /// E21: no view of this name is open. Nothing was written.
+    #[error("no such view")]
+    NoView,
+    /// The sink failed. A prefix of the text was written.
+    #[error("output cannot be written")]
+    Write,
+}
+
+impl PrintFault {
+    /// Its number in the table of faults, `None` for a write fault.
+    pub fn code(&self) -> Option<u8>
+        ensures value { result ≡ print_code self.now }
+        ensures known { IfSome result (λ code. (1 ≤ code) × (code ≤ 24)) }
+    {
+        match self {
+            PrintFault::NoView => Some(21),
+            PrintFault::Write => None,
+        }
+    }
+}
+
+/// Why a line of a script is refused.
+#[derive(Clone, Copy, Debug, PartialEq, Eq, Error)]
+pub(crate) enum LineRefusal {
+    /// E1: no such command, or another number of fields than it takes.
+    #[error("no such command or wrong fields")]
+    Command,
+    #[error("{0}")]
+    Record(RecordFault),
+    #[error("{0}")]
+    Edit(EditFault),
+    #[error("{0}")]
+    View(ViewFault),
+    /// E21: no view of this name is open.
+    #[error("no such view")]
+    NoView,
+}
+
+impl LineRefusal {
+    pub(crate) fn code(&self) -> u8
+        ensures value { result ≡ refusal_code self.now }
+        ensures known { (1 ≤ result) × (result ≤ 24) }
+    {
+        match self {
+            LineRefusal::Command => 1,
+            LineRefusal::Record(fault) => fault.code(),
+            LineRefusal::Edit(fault) => fault.code(),
+            LineRefusal::View(fault) => fault.code(),
+            LineRefusal::NoView => 21,
+        }
+    }
+}

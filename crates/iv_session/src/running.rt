@@ -1,0 +1,127 @@
+//! Running one line of a script.
+ghost use Rattle.std.specs.Prelude.{◌≡◌, MatchResult};
+ghost use Rattle.iv_session.specs.Commands.{Runs, Adds, Opens, arguments};
+ghost use Rattle.iv_session.specs.Scripts.{PrintsLine, TellsOf, RanLine, FailedLine, refusals_of};
+ghost use Rattle.iv_session.specs.Written.{written_of};
+
+use crate::command::{Command, command_of, only_argument, two_arguments};
+use crate::fault::{LineRefusal, PrintFault};
+use crate::message::put_message;
+use crate::session::Session;
+use crate::words::Words;
+use iv_text::{Sink, WriteFault, fault_text, split_first_column};
+use std::alloc::Allocator;
+
+/// What became of a line.
+#[derive(Clone, Copy, Debug, PartialEq, Eq)]
+pub(crate) enum Outcome {
+    Done,
+    Refused,
+}
+
+impl Outcome {
+    /// How many refusals it is.
+    pub(crate) fn refusals(self) -> u64
+        ensures { result ≡ refusals_of self }
+    {
+        match self {
+            Outcome::Done => 0,
+            Outcome::Refused => 1,
+        }
+    }
+}
+
+/// Which sink failed at a line.
+#[derive(Clone, Copy, Debug, PartialEq, Eq)]
+pub(crate) enum FailedSink {
+    Output,
+    Messages,
+}
+
+/// Adds the record that the columns behind the command stand for.
+fn add_line<A: Allocator + Copy>(session: &mut Session<A>, line: &[u8]) -> Result<(), LineRefusal>
+    ensures { Adds (arguments line.now) session.old session.new (written_of result) }
+{
+    let (_, columns) = split_first_column(line);
+    let row = match session.read(columns.unwrap_or(b"")) {
+        Ok(row) => row,
+        Err(fault) => return Err(LineRefusal::Record(fault)),
+    };
+    match session.add(&row) {
+        Ok(_) => Ok(()),
+        Err(fault) => Err(LineRefusal::Edit(fault)),
+    }
+}
+
+/// Opens the view that the line names.
+fn open_line<A: Allocator + Copy>(session: &mut Session<A>, line: &[u8]) -> Result<(), LineRefusal>
+    ensures { Opens (arguments line.now) session.old session.new (written_of result) }
+{
+    let Some((name, words)) = two_arguments(line) else {
+        return Err(LineRefusal::Command);
+    };
+    match session.open_view(name, Words::of(words).as_slice()) {
+        Ok(()) => Ok(()),
+        Err(fault) => Err(LineRefusal::View(fault)),
+    }
+}
+
+/// Prints the view that the line names.
+fn print_line<A: Allocator + Copy, W: Sink>(
+    session: &Session<A>,
+    line: &[u8],
+    output: &mut W,
+) -> Result<Result<(), LineRefusal>, WriteFault>
+    ensures { PrintsLine session.now (arguments line.now) (W.state output.old) (W.state output.new) result }
+{
+    let Some(name) = only_argument(line) else {
+        return Ok(Err(LineRefusal::Command));
+    };
+    match session.print_view(name, output) {
+        Ok(()) => Ok(Ok(())),
+        Err(PrintFault::NoView) => Ok(Err(LineRefusal::NoView)),
+        Err(PrintFault::Write) => Err(WriteFault),
+    }
+}
+
+/// Tells of a line that was refused.
+fn tell<E: Sink>(
+    messages: &mut E,
+    number: u64,
+    done: Result<(), LineRefusal>,
+) -> Result<Outcome, FailedSink>
+    ensures { TellsOf done number (E.state messages.old) (E.state messages.new) result }
+{
+    let Err(refusal) = done else {
+        return Ok(Outcome::Done);
+    };
+    match put_message(messages, number, fault_text(refusal.code())) {
+        Ok(()) => Ok(Outcome::Refused),
+        Err(_) => Err(FailedSink::Messages),
+    }
+}
+
+/// Runs one line.
+pub(crate) fn run_line<A: Allocator + Copy, W: Sink, E: Sink>(
+    session: &mut Session<A>,
+    number: u64,
+    line: &[u8],
+    output: &mut W,
+    messages: &mut E,
+) -> Result<Outcome, FailedSink>
+    ensures { MatchResult result
+        (λ outcome. RanLine Runs session.old session.new number line.now (W.state output.old) (W.state output.new) (E.state messages.old) (E.state messages.new) outcome)
+        (λ failed. FailedLine Runs session.old session.new number line.now (W.state output.old) (W.state output.new) (E.state messages.old) (E.state messages.new) failed) }
+{
+    let done = match command_of(line) {
+        Command::Skipped => Ok(()),
+        Command::Add => add_line(session, line),
+        Command::Open => open_line(session, line),
+        Command::Print => match print_line(session, line, output) {
+            Ok(done) => done,
+            Err(_) => return Err(FailedSink::Output),
+        },
+        Command::Unknown => Err(LineRefusal::Command),
+    };
+    tell(messages, number, done)
+}
