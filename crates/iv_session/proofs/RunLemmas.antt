@@ -1,5 +1,5 @@
 -- One line of a script.
-use Rattle.std.proofs.Common.{◌≡◌, ℕ, List, [], ◌∷◌, Option, Some, None, Result, Ok, Err, refl, sym, ap, ◌∙◌, subst}
+use Rattle.std.proofs.Common.{◌≡◌, ℕ, List, [], Option, Some, None, Result, Ok, Err, refl, sym, ap, ◌∙◌, subst}
 use Rattle.std.specs.Prelude.{MatchOption, MatchResult, IfErr}
 use Rattle.iv_text.specs.Sinks.{SinkState, Takes, FailsIn, Puts}
 use Rattle.iv_text.specs.declared.sink.WriteFault.{WriteFault}
@@ -8,7 +8,7 @@ use Rattle.iv_session.specs.States.{State}
 use Rattle.iv_session.specs.Views.{view_named, view_text}
 use Rattle.iv_session.specs.Written.{Written, silent, printed, refused_as, refusal_count, written_of, told}
 use Rattle.iv_session.specs.Commands.{Runs, Does, Prints, PrintsNamed, PrintsView, command_of, arguments, only_field}
-use Rattle.iv_session.specs.Scripts.{PrintsLine, TellsOf, RanLine, FailedLine, refusals_of}
+use Rattle.iv_session.specs.Scripts.{PrintsLine, TellsOf, RanLine, FailedLine}
 use Rattle.iv_session.specs.declared.command.Command.{Command}
 use Rattle.iv_session.specs.declared.command.Command.TheVariants as command
 use Rattle.iv_session.specs.declared.view.View.{View}
@@ -110,6 +110,7 @@ ran-quiet kind old new n line out out1 said0 said1 done result is does same tell
   where
     put : Takes out out1 []
     put = subst (λ (o : SinkState). Takes out o []) (sym same) (Takes-nothing out)
+
     by : (done : Result (Unit {0}) LineRefusal) (result : Result Outcome FailedSink) → Does kind (arguments line) old new (written_of done) → TellsOf done n said0 said1 result → Ran old new n line out out1 said0 said1 result
     by (Ok _) (Ok ended_as) does tells = record { written = silent; makes = runs-as kind old new line silent is does; output = put; messages = tells.0; count = tells.1 }
     by (Err f) (Ok ended_as) does tells = record { written = written_of (Err f); makes = runs-as kind old new line (written_of (Err f)) is does; output = put; messages = tells.0; count = tells.1 }

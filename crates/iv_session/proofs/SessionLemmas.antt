@@ -1,5 +1,5 @@
 -- The records of a session, and the parts of a line.
-use Rattle.std.proofs.Common.{◌≡◌, ℕ, ◌+◌, ◌<◌, ◌≤◌, Bool, true, false, List, [], ◌∷◌, ◌++◌, Option, Some, None, length, drop, refl, sym, ap, ◌∙◌, subst, arith}
+use Rattle.std.proofs.Common.{◌≡◌, ℕ, ◌<◌, ◌≤◌, true, false, List, [], ◌∷◌, Option, Some, None, length, drop, sym, ap, ◌∙◌, subst, arith}
 use Rattle.std.specs.Prelude.{All, insert, unwrap_or, option_map, not, ◌==◌}
 use Rattle.iv_text.specs.declared.fault.RecordFault.TheVariants as fault
 use Rattle.std.specs.Borrow.{Bor}
@@ -8,7 +8,7 @@ use Rattle.std.proofs.lemmas.List.Sorted.{IsPermutation-insert, All-permutation}
 use Rattle.std.proofs.lemmas.List.Elements.{All-cons}
 use Rattle.iv_text.specs.Fields.{columns, fields_left}
 use Rattle.iv_text.specs.Genome.{Sequences}
-use Rattle.iv_text.specs.Ordered.{added, ordered, AreInOrder}
+use Rattle.iv_text.specs.Ordered.{added, AreInOrder}
 use Rattle.iv_text.specs.Read.{Fits, read, read_columns, told, row}
 use Rattle.iv_text.specs.Row.{Row, row_cmp, rows_total}
 use Rattle.std.specs.Ordering.{is_lt}

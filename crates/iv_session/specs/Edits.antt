@@ -1,5 +1,5 @@
 -- Why an edit is refused.
-use Rattle.std.specs.Prelude.{ℕ, ◌<◌, ◌≤◌, ◌⊎◌, length}
+use Rattle.std.specs.Prelude.{◌<◌, ◌≤◌, ◌⊎◌, length}
 use Rattle.iv_session.specs.States.{State}
 use Rattle.iv_session.specs.declared.fault.EditFault.{EditFault}
 use Rattle.iv_session.specs.declared.fault.EditFault.TheVariants as fault

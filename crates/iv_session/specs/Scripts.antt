@@ -1,7 +1,5 @@
 -- What a script does, line by line.
-use Rattle.std.specs.Prelude.{Result, Ok, Err, ◌≡◌, ℕ, ◌+◌, ◌≤◌, ◌<◌, ◌++◌, ◌∷◌, [], List, Bool, true, false, if◌then◌else◌, Option, Some, None, IfSome, codes, decimal, length, map, All}
-use Rattle.std.specs.List.{flat_map}
-use Rattle.std.specs.Io.KnownBytes.{IsAtEnd}
+use Rattle.std.specs.Prelude.{Result, Ok, Err, ◌≡◌, ℕ, ◌≤◌, ◌++◌, ◌∷◌, [], List, None, length}
 use Rattle.iv_text.specs.Sources.{SourceState, Reads, IsInput}
 use Rattle.iv_text.specs.Sinks.{SinkState, Takes, FailsIn}
 use Rattle.iv_text.specs.Lines.{lines}

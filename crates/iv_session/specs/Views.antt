@@ -1,5 +1,5 @@
 -- The words of a view, its text, and why a view is not opened.
-use Rattle.std.specs.Prelude.{ℕ, ◌&&◌, not, nat_le, cond, Bool, true, false, List, [], ◌∷◌, Option, None, Some, length, find, codes}
+use Rattle.std.specs.Prelude.{ℕ, ◌&&◌, not, nat_le, cond, Bool, false, List, [], ◌∷◌, Option, None, Some, length, find, codes}
 use Rattle.std.specs.List.{list_all}
 use Rattle.std.specs.Option.{is_some, is_none}
 use Rattle.std.specs.Map.{lookup}

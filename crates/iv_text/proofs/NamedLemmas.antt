@@ -1,5 +1,5 @@
 -- What the entries of a map say of the named things that they are seen as.
-use Rattle.std.proofs.Common.{◌≡◌, ℕ, ◌+◌, Bool, true, false, cond, not, nat_lt, List, [], ◌∷◌, Option, None, Some, length, map, position, slice_get, refl, sym, ◌∙◌, ap}
+use Rattle.std.proofs.Common.{◌≡◌, ℕ, ◌+◌, Bool, false, cond, not, nat_lt, List, [], ◌∷◌, Option, None, Some, length, map, position, slice_get, refl, sym, ◌∙◌, ap}
 use Rattle.std.proofs.Common.{◌++◌, is_some, true≢false}
 use Rattle.std.proofs.lemmas.List.{length-map, map-append}
 use Rattle.indexmap.specs.IndexMap.{IndexMap, insert_entry}

@@ -1,6 +1,6 @@
 -- Lists in order: their copies, one more, and that the copies determine the list.
-use Rattle.std.proofs.Common.{◌≡◌, ℕ, ◌+◌, ◌<◌, ◌≤◌, Bool, true, false, cond, List, [], ◌∷◌, ◌++◌, zero, suc, length, refl, sym, ap, ◌∙◌, subst, arith}
-use Rattle.std.specs.Prelude.{count_by, fold, insert}
+use Rattle.std.proofs.Common.{◌≡◌, ℕ, ◌+◌, ◌<◌, ◌≤◌, Bool, true, false, cond, List, [], ◌∷◌, zero, suc, length, refl, sym, ap, ◌∙◌, subst, arith}
+use Rattle.std.specs.Prelude.{fold, insert}
 use Rattle.std.specs.List.{AllByRecursion, AllWithin, slice_index_or}
 use Rattle.std.specs.List.Sorted.{IsSorted, IsPermutation, IsPartitionedBy}
 use Rattle.std.proofs.lemmas.Bool.{cond-true, cond-false, false≢true}
@@ -172,9 +172,9 @@ module _ {K : Type 0} (cmp : K → K → Ordering) where
   in_order-sorted o (x ∷ []) sorted = (tt, tt)
   in_order-sorted o (x ∷ y ∷ ys) sorted =
       let later : InOrder cmp (y ∷ ys) = in_order-sorted o (y ∷ ys) (λ k d from to.
-          let next : suc k + 1 ≡ suc (k + 1) = omega arith in
-          let P : ℕ → Type 0 = λ n. is_lt (cmp (slice_index_or (x ∷ y ∷ ys) n d) (slice_index_or (y ∷ ys) k d)) ≡ false in
-          subst P next (sorted (suc k) d (omega arith) (omega arith))) in
+      let next : suc k + 1 ≡ suc (k + 1) = omega arith in
+      let P : ℕ → Type 0 = λ n. is_lt (cmp (slice_index_or (x ∷ y ∷ ys) n d) (slice_index_or (y ∷ ys) k d)) ≡ false in
+      subst P next (sorted (suc k) d (omega arith) (omega arith))) in
       let first : is_le (cmp x y) ≡ true = not_lt (cmp y x) (cmp x y) (o.antisymm x y) (sorted 0 x (omega arith) (omega arith)) in
       ((first, all-weaker (λ z. is_le (cmp y z) ≡ true) (λ z. is_le (cmp x z) ≡ true) (λ z le. le_chain cmp o x y z first le) ys later.0), later)
 

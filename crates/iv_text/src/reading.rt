@@ -3,8 +3,8 @@ ghost use Rattle.std.specs.Prelude.{◌≡◌, ◌≤◌, List, ℕ, [], ◌∷�
 ghost use Rattle.iv_text.specs.Fields.{columns as columns_of};
 ghost use Rattle.iv_text.specs.Read.{read, chosen, bad_text, AreColumns, AreSound, IsWithin, Fits};
 
-use crate::fields::{Fields, columns};
 use crate::fault::RecordFault;
+use crate::fields::{Fields, columns};
 use crate::genome::Genome;
 use crate::number::read_number;
 use crate::record_ref::RecordRef;

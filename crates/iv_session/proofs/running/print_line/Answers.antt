@@ -1,4 +1,4 @@
-use Rattle.std.proofs.Common.{◌≡◌, sym}
+use Rattle.std.proofs.Common.{sym}
 use Rattle.iv_session.proofs.RunLemmas.{printed-ok, printed-none, printed-failed, printed-wrong}
 use Rattle.iv_session.proofs.running.print_line.Goals as goal
 

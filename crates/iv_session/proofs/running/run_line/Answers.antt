@@ -1,6 +1,6 @@
-use Rattle.std.proofs.Common.{◌≡◌, sym, ap, ◌∙◌, refl, Ok, Err}
+use Rattle.std.proofs.Common.{sym, ap, refl}
 use Rattle.iv_session.specs.declared.command.Command.TheVariants as command
-use Rattle.iv_session.proofs.RunLemmas.{ran-quiet, ran-print, failed-print}
+use Rattle.iv_session.proofs.RunLemmas.{ran-quiet, ran-print}
 use Rattle.iv_session.proofs.running.run_line.Goals as goal
 use Rattle.iv_session.proofs.running.run_line.Goals.{in-Skipped, in-Add, in-Open, in-Print+in-Ok, in-Unknown}
 
@@ -14,7 +14,7 @@ returns g c = elim c.match-command_of.branch [
       (sym w.in-Open.ensures) (rw (w.session-is, w.done-is) w.open_line-done.ensures) (ap g.W.Sink.state w.output-is) c.tell.ensures
   | in-Print+in-Ok w ↦ rw (w.session-is, w.output-is)
       (ran-print c.args.session.now c.args.number c.args.line.now _ _ _ _ c.match-command_of.done c.tell.result
-        (sym w.in-Print.ensures) (rw w.done-is w.in-Ok.ensures) c.tell.ensures)
+      (sym w.in-Print.ensures) (rw w.done-is w.in-Ok.ensures) c.tell.ensures)
   | in-Unknown w ↦ ran-quiet command.Unknown _ _ _ _ _ _ _ _ c.match-command_of.done c.tell.result
       (sym w.in-Unknown.ensures) (rw w.done-is (w.session-is, refl)) (ap g.W.Sink.state w.output-is) c.tell.ensures
 ]

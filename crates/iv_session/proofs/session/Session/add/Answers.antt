@@ -1,4 +1,4 @@
-use Rattle.std.proofs.Common.{◌≡◌, ◌<◌, ◌≤◌, ℕ, List, length, refl, sym, ap, subst, ◌∙◌, arith, rules, inl, inr}
+use Rattle.std.proofs.Common.{◌≡◌, ◌<◌, List, length, sym, ap, subst, ◌∙◌, arith, rules, inr}
 use Rattle.std.specs.Prelude.{insert}
 use Rattle.std.specs.Ordering.{is_lt}
 use Rattle.std.specs.List.Sorted.{IsPartitionedBy}
@@ -19,7 +19,7 @@ placed g c =
     let rows = c.self.inside.records.items in
     let r = c.in-Ok.record in
     let parted : IsPartitionedBy (λ (y : Row). is_lt (row_cmp y r)) c.deref.result.now =
-        rw c.deref.ensures.value (in_order-parted row_cmp rows_total rows r c.self.invariant.in_order) in
+    rw c.deref.ensures.value (in_order-parted row_cmp rows_total rows r c.self.invariant.in_order) in
     let point = IsPartitionPoint-from_clause (λ (y : Row). is_lt (row_cmp y r)) c.deref.result.now c.partition_point-place.result c.partition_point-place.ensures.partitioned parted (λ a b f called. search rules) in
     place-added rows c.deref.result.now r c.partition_point-place.result c.deref.ensures.value c.partition_point-place.ensures.bound point
 
@@ -32,7 +32,7 @@ invariant_of-self g c =
     let P : State → Type 0 = λ s. Fits s.genome s.width c.args.row.now in
     let fits : Fits c.self.inside.genome c.self.inside.width c.args.row.now = subst P (sym c.self.view_is) c.requires in
     let fits2 : Fits c.self.inside.genome c.self.inside.width c.in-Ok.record =
-        subst (λ (r : Row). Fits c.self.inside.genome c.self.inside.width r) (sym c.in-Ok.ensures.ok) fits in
+    subst (λ (r : Row). Fits c.self.inside.genome c.self.inside.width r) (sym c.in-Ok.ensures.ok) fits in
     elim c.match-insert.branch [
       | in-Ok-insert w ↦ session-added c.self.inside.genome c.self.inside.width c.self.inside.limit c.partition_point-place.result
           c.self.inside.records.items c.insert.new.self.items c.in-Ok.record c.self.invariant fits2 (room g c)
@@ -55,7 +55,7 @@ returns-clause-ok g c =
     elim c.match-insert.branch [
       | in-Ok-insert w ↦ rw w.result-is
           (ap state (w.in-Ok-insert.ensures.items ∙ placed g c ∙ ap (added inside.records.items) c.in-Ok.ensures.ok)
-            ∙ ap (λ (s : State). with_record s c.args.row.now) c.self.view_is)
+          ∙ ap (λ (s : State). with_record s c.args.row.now) c.self.view_is)
       | in-Err w ↦ rw w.result-is tt
     ]
 

@@ -10,10 +10,10 @@ use Rattle.iv_session.proofs.session.Session.new.Goals as goal
 pub invariant_of-result : goal.invariant_of-result
 invariant_of-result g c =
     let same : c.sort.new.self.items ≡ ordered c.into_records-records.result.items =
-        ordered-sorted c.into_records-records.result.items c.sort.new.self.items c.in_ok-sort.ensures.permutation c.in_ok-sort.ensures.sorted in
+    ordered-sorted c.into_records-records.result.items c.sort.new.self.items c.in_ok-sort.ensures.permutation c.in_ok-sort.ensures.sorted in
     let read : c.into_records-records.result.items ≡ c.args.first.rows = c.into_records-records.ensures in
     let fits : All (Fits c.args.genome c.args.first.width) c.into_records-records.result.items =
-        subst (λ (l : List Row). All (Fits c.args.genome c.args.first.width) l) (sym read) c.requires.fit in
+    subst (λ (l : List Row). All (Fits c.args.genome c.args.first.width) l) (sym read) c.requires.fit in
     record {
       low = c.width-width.ensures.known.0;
       high = c.width-width.ensures.known.1;
@@ -27,6 +27,6 @@ invariant_of-result g c =
 pub returns : goal.returns
 returns g c =
     let same : c.sort.new.self.items ≡ ordered c.args.first.rows =
-        ordered-sorted c.into_records-records.result.items c.sort.new.self.items c.in_ok-sort.ensures.permutation c.in_ok-sort.ensures.sorted
-        ∙ ap ordered c.into_records-records.ensures in
+    ordered-sorted c.into_records-records.result.items c.sort.new.self.items c.in_ok-sort.ensures.permutation c.in_ok-sort.ensures.sorted
+    ∙ ap ordered c.into_records-records.ensures in
     rw (c.width-width.ensures.value, c.new.ensures, same) refl

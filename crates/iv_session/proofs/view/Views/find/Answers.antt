@@ -1,4 +1,4 @@
-use Rattle.std.proofs.Common.{◌≡◌, ◌∙◌, ap}
+use Rattle.std.proofs.Common.{◌∙◌, ap}
 use Rattle.iv_text.proofs.NamedLemmas.{lookup-is}
 use Rattle.iv_session.specs.Views.{view_named}
 use Rattle.iv_session.proofs.view.Views.find.Goals as goal
