@@ -110,10 +110,10 @@ impl<A: Allocator> Record<A> {
     pub fn fits<B: Allocator + Copy>(&self, genome: &Genome<B>, width: u8) -> bool
         ensures { IsTrue result ↔ Fits genome.now width self.now }
     {
-        if self.width != width || !is_within(genome, self.rank, self.stop) {
+        if self.width() != width || !is_within(genome, self.seq(), self.stop()) {
             return false;
         }
-        are_sound(width, self.texts.name(), self.texts.score(), self.strand)
+        are_sound(width, self.name(), self.score(), self.strand())
     }
 
     /// Whether the two are copies: the same record.
@@ -158,13 +158,13 @@ impl<A: Allocator> Ord for Record<A> {
     ghost matches_eq = { λ _ _. refl };
 
     fn cmp(&self, other: &Record<A>) -> Ordering {
-        self.rank
-            .cmp(&other.rank)
-            .then_with(|| self.start.cmp(&other.start))
-            .then_with(|| self.stop.cmp(&other.stop))
-            .then_with(|| self.texts.name().cmp(other.texts.name()))
-            .then_with(|| self.texts.score().cmp(other.texts.score()))
-            .then_with(|| self.strand.cmp(&other.strand))
-            .then_with(|| self.width.cmp(&other.width))
+        self.seq()
+            .cmp(&other.seq())
+            .then_with(|| self.start().cmp(&other.start()))
+            .then_with(|| self.stop().cmp(&other.stop()))
+            .then_with(|| self.name().cmp(other.name()))
+            .then_with(|| self.score().cmp(other.score()))
+            .then_with(|| self.strand().cmp(&other.strand()))
+            .then_with(|| self.width().cmp(&other.width()))
     }
 }
