@@ -1,0 +1,4 @@
+pub mod Files
+pub mod Words
+pub mod Loading
+pub mod Statuses

@@ -1,0 +1,28 @@
+-- The session that the files of a run begin.
+use Rattle.std.specs.Prelude.{◌≡◌, ℕ, List, Result, Ok, Err}
+use Rattle.iv_text.specs.Genome.{Sequences}
+use Rattle.iv_text.specs.GenomeFile.{genome_of}
+use Rattle.iv_text.specs.BedFile.{Bed, bed_of}
+use Rattle.iv_text.specs.declared.fault.LoadFault.{LoadFault}
+use Rattle.iv_session.specs.States.{State, begun}
+use Rattle.iv_cli.specs.declared.fault.CliFault.{CliFault}
+use Rattle.iv_cli.specs.declared.fault.CliFault.TheVariants.{Damaged}
+use Rattle.iv_cli.specs.declared.plan.Slot.TheVariants.{Sizes, First}
+
+-- the width of a file without a record
+abbrev pub empty_width : ℕ
+empty_width = 3
+
+-- the session of a genome and a first file, or the fault of the first damaged one
+abbrev pub with_first : Sequences → ℕ → Result Bed LoadFault → Result State CliFault
+with_first g limit (Err f) = Err (Damaged First f)
+with_first g limit (Ok first) = Ok (begun g first limit)
+
+abbrev pub with_genome : List ℕ → ℕ → Result Sequences LoadFault → Result State CliFault
+with_genome first limit (Err f) = Err (Damaged Sizes f)
+with_genome first limit (Ok g) = with_first g limit (bed_of g empty_width limit first)
+
+-- what the bytes of the genome file and of the first file load as: the session that they begin, with so many records
+-- at most, or the fault of the first damaged file
+abbrev pub loaded : List ℕ → List ℕ → ℕ → Result State CliFault
+loaded sizes first limit = with_genome first limit (genome_of sizes)

@@ -1,0 +1,114 @@
+//! The words of a run.
+ghost use Rattle.std.specs.Prelude.{◌≡◌, map, IfOk, IfErr, List, ℕ};
+ghost use Rattle.std.specs.Option.{option_copied};
+ghost use Rattle.iv_cli.specs.Words.{RunFiles, IsPlan, option_of as slot_of_word, file_of};
+
+use crate::fault::CliFault;
+use std::fmt;
+use std::marker::Model;
+
+/// What a file of a run is for.
+#[derive(Clone, Copy, Debug, PartialEq, Eq)]
+pub enum Slot {
+    /// The genome.
+    Sizes,
+    /// The records of the track.
+    First,
+    /// The second file of records.
+    Other,
+    /// The bases.
+    Bases,
+}
+
+impl fmt::Display for Slot {
+    fn fmt<W: fmt::Write>(&self, f: &mut fmt::Formatter<W>) -> fmt::Result {
+        f.write_str(match self {
+            Slot::Sizes => "genome file",
+            Slot::First => "first file",
+            Slot::Other => "second file",
+            Slot::Bases => "sequence file",
+        })
+    }
+}
+
+/// The fault of words that say no run: E16.
+const BAD_WORDS: u8 = 16;
+
+/// What the words after the program's name ask for.
+#[derive(Debug, Drop)]
+pub struct Plan<'a> {
+    sizes: &'a [u8],
+    first: &'a [u8],
+}
+
+impl<'a> Model for Plan<'a> {
+    ghost use Rattle.iv_cli.specs.Words.{RunFiles};
+
+    ghost Value = { RunFiles };
+
+    ghost view = { λ p. record { sizes = p.sizes.now; first = p.first.now } };
+}
+
+/// The file that an option names.
+fn option_slot(word: &[u8]) -> Option<Slot>
+    ensures { result ≡ slot_of_word word.now }
+{
+    if word == b"-g".as_slice() {
+        Some(Slot::Sizes)
+    } else if word == b"-i".as_slice() {
+        Some(Slot::First)
+    } else {
+        None
+    }
+}
+
+impl<'a> Plan<'a> {
+    /// What the words after the program's name ask for: `session`, and behind it the options `-g GENOME` and
+    /// `-i RECORDS` in either order. The word after an option is its value, whatever it is.
+    ///
+    /// Any other words are the fault `Words` with the number 16.
+    pub fn read(words: &[&'a [u8]]) -> Result<Plan<'a>, CliFault>
+        ensures ok { IfOk result (λ plan. IsPlan (map (λ word. word.now) words.now) plan) }
+        ensures err { IfErr result (λ fault. (fault ≡ CliFault.Words 16) × ((files : RunFiles) → ¬ IsPlan (map (λ word. word.now) words.now) files)) }
+    {
+        let Some((first_word, options)) = words.split_first() else {
+            return Err(CliFault::Words(BAD_WORDS));
+        };
+        if *first_word != b"session".as_slice() {
+            return Err(CliFault::Words(BAD_WORDS));
+        }
+        let mut sizes = None;
+        let mut first = None;
+        let mut rest = options;
+        while let [option, value, others @ ..] = rest {
+            match option_slot(option) {
+                Some(Slot::Sizes) if sizes.is_none() => sizes = Some(*value),
+                Some(Slot::First) if first.is_none() => first = Some(*value),
+                _ => return Err(CliFault::Words(BAD_WORDS)),
+            }
+            rest = others;
+        }
+        match (rest, sizes, first) {
+            ([], Some(sizes), Some(first)) => Ok(Plan { sizes, first }),
+            _ => Err(CliFault::Words(BAD_WORDS)),
+        }
+    }
+
+    /// The name of a file, as the words give it.
+    pub fn file(&self, slot: Slot) -> Option<&'a [u8]>
+        ensures { option_copied result ≡ file_of self.now slot }
+    {
+        match slot {
+            Slot::Sizes => Some(self.sizes),
+            Slot::First => Some(self.first),
+            Slot::Other | Slot::Bases => None,
+        }
+    }
+
+    /// The width of a BED file without a record.
+    pub(crate) fn empty_width(&self) -> u8
+        ensures { result ≡ 3 }
+    {
+        3
+    }
+}
