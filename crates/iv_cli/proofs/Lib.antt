@@ -1,0 +1,3 @@
+pub mod ReadingLemmas
+pub mod WordLemmas
+pub mod LoadLemmas

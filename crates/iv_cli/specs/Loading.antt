@@ -4,14 +4,25 @@ use Rattle.iv_text.specs.Genome.{Sequences}
 use Rattle.iv_text.specs.GenomeFile.{genome_of}
 use Rattle.iv_text.specs.BedFile.{Bed, bed_of}
 use Rattle.iv_text.specs.declared.fault.LoadFault.{LoadFault}
+use Rattle.iv_text.specs.declared.fault.LoadCause.{LoadCause}
+use Rattle.iv_text.specs.declared.fault.LoadCause.TheVariants as cause
 use Rattle.iv_session.specs.States.{State, begun}
 use Rattle.iv_cli.specs.declared.fault.CliFault.{CliFault}
-use Rattle.iv_cli.specs.declared.fault.CliFault.TheVariants.{Damaged}
+use Rattle.iv_cli.specs.declared.fault.CliFault.TheVariants.{Damaged, Memory}
+use Rattle.iv_cli.specs.declared.plan.Slot.{Slot}
 use Rattle.iv_cli.specs.declared.plan.Slot.TheVariants.{Sizes, First}
 
 -- the width of a file without a record
 abbrev pub empty_width : ℕ
 empty_width = 3
+
+-- how a fault of a file is told: want of memory is no damage
+abbrev pub fault_of : LoadCause → CliFault → CliFault
+fault_of cause.Memory damaged = Memory
+fault_of other damaged = damaged
+
+abbrev pub damage_of : Slot → LoadFault → CliFault
+damage_of slot f = fault_of f.cause (Damaged slot f)
 
 -- the session of a genome and a first file, or the fault of the first damaged one
 abbrev pub with_first : Sequences → ℕ → Result Bed LoadFault → Result State CliFault

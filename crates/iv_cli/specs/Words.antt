@@ -51,3 +51,25 @@ pub record IsPlan (words : List (List ℕ)) (files : RunFiles) : Type 0 where
   pub known : All (λ setting. IsSome (option_of setting.0)) settings
   pub sizes : values_of (codes "-g") settings ≡ files.sizes ∷ []
   pub first : values_of (codes "-i") settings ≡ files.first ∷ []
+
+-- what settings have said so far
+pub record Said : Type 0 where
+  pub sizes : Option (List ℕ)
+  pub first : Option (List ℕ)
+
+-- a value, unless one was given before
+abbrev pub unless_given : Option (List ℕ) → Said → Option Said
+unless_given None said = Some said
+unless_given (Some value) said = None
+
+-- what is said after a value for a file, where it can be given
+abbrev pub taken_at : Option Slot → Said → List ℕ → Option Said
+taken_at None said value = None
+taken_at (Some Sizes) said value = unless_given said.sizes (record said { sizes = Some value })
+taken_at (Some First) said value = unless_given said.first (record said { first = Some value })
+taken_at (Some Other) said value = None
+taken_at (Some Bases) said value = None
+
+-- what is said after one more setting, where it can be
+abbrev pub taken : Said → List ℕ → List ℕ → Option Said
+taken said word value = taken_at (option_of word) said value

@@ -1,6 +1,6 @@
 //! Loading the files of a run.
 ghost use Rattle.std.specs.Prelude.{◌≡◌, ◌≤◌, ◌⊎◌, Ok, Err, IfOk, IfErr};
-ghost use Rattle.iv_cli.specs.Loading.{loaded};
+ghost use Rattle.iv_cli.specs.Loading.{loaded, damage_of};
 
 use crate::fault::CliFault;
 use crate::plan::{Plan, Slot};
@@ -19,6 +19,7 @@ pub struct Inputs<'a> {
 
 /// The fault of a run whose file has this fault. Want of memory is no damage.
 fn damage(slot: Slot, fault: LoadFault) -> CliFault
+    ensures { result ≡ damage_of slot fault }
 {
     match fault.cause {
         LoadCause::Memory => CliFault::Memory,

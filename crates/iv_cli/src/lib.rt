@@ -1,6 +1,7 @@
 //! From the words and the files of a run to a session, and from its outcome to an exit status.
 #![tactic(auto)]
 
+mod draft;
 mod fault;
 mod inputs;
 mod plan;

@@ -1,8 +1,9 @@
 //! The words of a run.
 ghost use Rattle.std.specs.Prelude.{◌≡◌, map, IfOk, IfErr, List, ℕ};
 ghost use Rattle.std.specs.Option.{option_copied};
-ghost use Rattle.iv_cli.specs.Words.{RunFiles, IsPlan, option_of as slot_of_word, file_of};
+ghost use Rattle.iv_cli.specs.Words.{RunFiles, IsPlan, file_of};
 
+use crate::draft::{BAD_WORDS, Draft};
 use crate::fault::CliFault;
 use std::fmt;
 use std::marker::Model;
@@ -31,9 +32,6 @@ impl fmt::Display for Slot {
     }
 }
 
-/// The fault of words that say no run: E16.
-const BAD_WORDS: u8 = 16;
-
 /// What the words after the program's name ask for.
 #[derive(Debug, Drop)]
 pub struct Plan<'a> {
@@ -49,19 +47,6 @@ impl<'a> Model for Plan<'a> {
     ghost view = { λ p. record { sizes = p.sizes.now; first = p.first.now } };
 }
 
-/// The file that an option names.
-fn option_slot(word: &[u8]) -> Option<Slot>
-    ensures { result ≡ slot_of_word word.now }
-{
-    if word == b"-g".as_slice() {
-        Some(Slot::Sizes)
-    } else if word == b"-i".as_slice() {
-        Some(Slot::First)
-    } else {
-        None
-    }
-}
-
 impl<'a> Plan<'a> {
     /// What the words after the program's name ask for: `session`, and behind it the options `-g GENOME` and
     /// `-i RECORDS` in either order. The word after an option is its value, whatever it is.
@@ -72,26 +57,24 @@ impl<'a> Plan<'a> {
         ensures err { IfErr result (λ fault. (fault ≡ CliFault.Words 16) × ((files : RunFiles) → ¬ IsPlan (map (λ word. word.now) words.now) files)) }
     {
         let Some((first_word, options)) = words.split_first() else {
-            return Err(CliFault::Words(BAD_WORDS));
+            return Err(BAD_WORDS);
         };
         if *first_word != b"session".as_slice() {
-            return Err(CliFault::Words(BAD_WORDS));
+            return Err(BAD_WORDS);
         }
-        let mut sizes = None;
-        let mut first = None;
+        let mut draft = Draft::new();
         let mut rest = options;
-        while let [option, value, others @ ..] = rest {
-            match option_slot(option) {
-                Some(Slot::Sizes) if sizes.is_none() => sizes = Some(*value),
-                Some(Slot::First) if first.is_none() => first = Some(*value),
-                _ => return Err(CliFault::Words(BAD_WORDS)),
-            }
+        'settings: while let [option, value, others @ ..] = rest {
+            draft.take(option, value)?;
             rest = others;
         }
-        match (rest, sizes, first) {
-            ([], Some(sizes), Some(first)) => Ok(Plan { sizes, first }),
-            _ => Err(CliFault::Words(BAD_WORDS)),
+        if !rest.is_empty() {
+            return Err(BAD_WORDS);
         }
+        let (Some(sizes), Some(first)) = (draft.sizes(), draft.first()) else {
+            return Err(BAD_WORDS);
+        };
+        Ok(Plan { sizes, first })
     }
 
     /// The name of a file, as the words give it.

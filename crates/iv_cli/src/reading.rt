@@ -7,7 +7,11 @@ use iv_text::Source;
 use std::alloc::Allocator;
 
 /// Adds a piece to the bytes, of which there may be so many.
-fn take_piece<A: Allocator>(bytes: &mut Vec<u8, A>, piece: &[u8], limit: u64) -> Result<(), FileFault>
+fn take_piece<A: Allocator>(
+    bytes: &mut Vec<u8, A>,
+    piece: &[u8],
+    limit: u64,
+) -> Result<(), FileFault>
     requires { length bytes.old.items ≤ limit }
     ensures ok { OnOk result (bytes.new.items ≡ bytes.old.items ++ piece.now) }
     ensures few { OnOk result (length bytes.new.items ≤ limit) }
@@ -35,7 +39,7 @@ pub fn read_all<A: Allocator + Copy, R: Source>(
 {
     let mut bytes = Vec::new(alloc);
     let mut piece = [0u8; 65536];
-    loop {
+    'pieces: loop {
         let n = match source.pull(&mut piece) {
             Ok(n) => n,
             Err(_) => return Err(FileFault::Input),

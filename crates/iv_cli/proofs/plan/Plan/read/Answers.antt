@@ -1,0 +1,25 @@
+use Rattle.std.proofs.Common.{refl, ap, subst, sym, ◌∙◌, List, ℕ, map}
+use Rattle.std.proofs.lemmas.Result.{err_from_is_err_and}
+use Rattle.iv_cli.specs.Words.{IsPlan}
+use Rattle.iv_cli.proofs.WordLemmas.{Going-more, refuse-taken, refuse-odd, two-up, one-only}
+use Rattle.iv_cli.proofs.plan.Plan.read.Goals as goal
+
+pub returns-in_err-take-clause-err : goal.returns-in_err-take-clause-err
+returns-in_err-take-clause-err c =
+    let p = err_from_is_err_and c.from_residual.result c.from_residual.ensures.1 in
+    let words = two-up (λ word. word.now) c.settings.rest.now _ _ c.in-len2-up.len_at_least in
+    rw (p.1, p.2) (
+      c.in_err-take.ensures.err.0,
+      λ files plan. refuse-taken _ _ _ _ _ _ (rw words at c.settings.invariant) c.in_err-take.ensures.err.1 files
+          (rw c.in-Some.ensures.cases.0 at plan),
+    )
+
+pub settings-preserved : goal.settings-preserved
+settings-preserved c =
+    let words = two-up (λ word. word.now) c.settings.rest.now _ _ c.in-len2-up.len_at_least in
+    Going-more _ _ _ _ _ _ (rw words at c.settings.invariant) c.in_ok-take.ensures.ok
+
+pub returns-then-not-is_empty-clause-err : goal.returns-then-not-is_empty-clause-err
+returns-then-not-is_empty-clause-err c =
+    let last = one-only (λ word. word.now) c.settings.rest.now c.in_default-rest.len_below (sym c.if-not-is_empty.ensures) in
+    (refl, λ files plan. refuse-odd _ _ _ _ (rw last.1 at c.settings.invariant) files (rw c.in-Some.ensures.cases.0 at plan))
