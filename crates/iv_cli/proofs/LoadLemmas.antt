@@ -2,7 +2,7 @@
 use Rattle.std.proofs.Common.{◌≡◌, ℕ, List, Result, Ok, Err, refl, sym, ap, ◌∙◌, ◌⊎◌, inl, inr}
 use Rattle.iv_text.specs.Genome.{Sequences}
 use Rattle.iv_text.specs.GenomeFile.{genome_of}
-use Rattle.iv_text.specs.BedFile.{Bed, bed_of}
+use Rattle.iv_text.specs.BedFile.{bed_of}
 use Rattle.iv_text.specs.declared.fault.LoadFault.{LoadFault}
 use Rattle.iv_text.specs.declared.fault.LoadCause.{LoadCause}
 use Rattle.iv_text.specs.declared.fault.LoadCause.TheVariants as cause

@@ -1,5 +1,5 @@
 -- Reading a source to its end.
-use Rattle.std.proofs.Common.{◌≡◌, ℕ, ◌+◌, ◌≤◌, ◌<◌, List, [], ◌++◌, length, take, refl, sym, ap, ◌∙◌, subst, arith, append-nil, length-append, true}
+use Rattle.std.proofs.Common.{◌≡◌, ℕ, ◌+◌, ◌≤◌, ◌<◌, List, [], ◌++◌, length, refl, sym, ◌∙◌, subst, append-nil, length-append, true}
 use Rattle.std.specs.Io.KnownBytes.{Consumes, IsAtEnd}
 use Rattle.std.proofs.KnownBytes.{Consumes-nil, Consumes-trans, Consumes-whole}
 use Rattle.iv_text.specs.Sources.{SourceState, Gives}
@@ -25,6 +25,7 @@ ReadsWhole-end a b c limit front piece before few last none ended =
     record {
       input = Consumes-whole a.coming c.coming front (λ xs. xs ≡ front) all.from ended refl;
       few = few;
+      ended = ended;
       failed = all.failed;
     }
 

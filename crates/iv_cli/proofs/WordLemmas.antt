@@ -7,10 +7,10 @@ use Rattle.std.proofs.lemmas.List.{map-append, take_all}
 use lib.ListN.{get_or}
 use Rattle.std.proofs.lemmas.List.Elements.{All-append, All-nil, All-cons, All-head, All-tail, filter-append}
 use Rattle.std.proofs.lemmas.Slice.Eq.{bytes_eq-Decides}
-use Rattle.std.proofs.lemmas.Bool.{cond-true, cond-false, true≢false}
+use Rattle.std.proofs.lemmas.Bool.{cond-true, true≢false}
 use Rattle.iv_cli.specs.declared.plan.Slot.{Slot}
-use Rattle.iv_cli.specs.declared.plan.Slot.TheVariants.{Sizes, First, Other, Bases}
-use Rattle.iv_cli.specs.Words.{Setting, RunFiles, Said, IsPlan, settings_of, paired, option_of, values_of, is_of, taken, taken_at, unless_given}
+use Rattle.iv_cli.specs.declared.plan.Slot.TheVariants.{Sizes, First}
+use Rattle.iv_cli.specs.Words.{Setting, RunFiles, Said, IsPlan, paired, option_of, values_of, is_of, taken, taken_at, unless_given}
 
 -- a value that may be given, as the list of the values given
 abbrev pub listed : Option (List ℕ) → List (List ℕ)

@@ -1,14 +1,15 @@
 -- What became of reading a whole file.
-use Rattle.std.specs.Prelude.{◌≡◌, ℕ, ◌≤◌, ◌<◌, List, Bool, true, length}
-use Rattle.std.specs.Io.KnownBytes.{Consumes}
+use Rattle.std.specs.Prelude.{◌≡◌, ℕ, ◌≤◌, ◌<◌, List, true, length}
+use Rattle.std.specs.Io.KnownBytes.{Consumes, IsAtEnd}
 use Rattle.iv_text.specs.Sources.{SourceState, IsInput}
 use Rattle.iv_cli.specs.declared.fault.FileFault.{FileFault}
 use Rattle.iv_cli.specs.declared.fault.FileFault.TheVariants.{Input, TooLong, Memory}
 
--- these bytes are the whole input, and not more than the limit; the source is no more failed than before
+-- these bytes are the whole input, and not more than the limit; the source is at its end, and no more failed than before
 pub record ReadsWhole (old new : SourceState) (limit : ℕ) (bytes : List ℕ) : Type 0 where
   pub input : IsInput old bytes
   pub few : length bytes ≤ limit
+  pub ended : IsAtEnd new.coming
   pub failed : new.failed ≡ old.failed
 
 -- what each fault says of the source and of the number of bytes that it has given

@@ -23,7 +23,8 @@ pub fn run_status(done: &Result<Summary, RunFault>) -> u8
     ensures { result ≡ run_status_of done.now }
 {
     match done {
-        Ok(summary) => { if summary.refused == 0 { 0 } else { 1 } }
+        Ok(summary) if summary.refused == 0 => 0,
+        Ok(_) => 1,
         Err(fault) => match fault.cause {
             RunCause::Input | RunCause::TooLong | RunCause::Output | RunCause::Messages => 4,
             RunCause::Memory => 5,

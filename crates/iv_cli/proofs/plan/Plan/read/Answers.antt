@@ -1,6 +1,5 @@
-use Rattle.std.proofs.Common.{refl, ap, subst, sym, ◌∙◌, List, ℕ, map}
+use Rattle.std.proofs.Common.{refl, sym}
 use Rattle.std.proofs.lemmas.Result.{err_from_is_err_and}
-use Rattle.iv_cli.specs.Words.{IsPlan}
 use Rattle.iv_cli.proofs.WordLemmas.{Going-more, refuse-taken, refuse-odd, two-up, one-only}
 use Rattle.iv_cli.proofs.plan.Plan.read.Goals as goal
 
