@@ -1,12 +1,8 @@
 //! Merge rows of ordered records.
 use crate::fixtures::genome;
 use iv_cover::{OpenBlock, close_block, put_merge, take_record};
-use iv_session::Session;
 use iv_text::{BedFile, Genome, MemSink, read_record};
 use std::test::Fail;
-
-/// Three records: two that are book-ended, and one a base behind them.
-const NEAR: &[u8] = b"chr1\t10\t20\nchr1\t20\t30\nchr1\t31\t40\n";
 
 #[test]
 fn rows_by_distance(rt: HostRuntime) -> Result<(), Fail> {
@@ -48,14 +44,25 @@ fn row_of_the_last_block(rt: HostRuntime) -> Result<(), Fail> {
     Ok(())
 }
 
-#[test]
-fn rows_of_one_record(rt: HostRuntime) -> Result<(), Fail> {
-    let genome = genome(&rt)?;
-    let file = BedFile::parse(rt.alloc(), &genome, 3, 1, b"chr2\t5\t9\n")?;
+/// The merge rows of the records of a BED file.
+fn merged(rt: &HostRuntime, genome: &Genome, text: &[u8], distance: u32) -> Result<MemSink, Fail> {
+    let file = BedFile::parse(rt.alloc(), genome, 3, 9, text)?;
+    let mut records = file.into_records();
+    records.sort()?;
     let mut sink = MemSink::new(rt.alloc(), 100, 7)?;
-    if file.records().len() == 1 {
-        put_merge(1, file.records(), &genome, &mut sink)?;
+    put_merge(distance, records.as_slice(), genome, &mut sink)?;
+    Ok(sink)
+}
+
+#[test]
+fn rows_of_records(rt: HostRuntime) -> Result<(), Fail> {
+    let genome = genome(&rt)?;
+    let text = b"chr1\t31\t40\nchr1\t20\t30\nchr1\t10\t20\n";
+    for (distance, rows) in [
+        (0, b"chr1\t10\t30\nchr1\t31\t40\n".as_slice()),
+        (1, b"chr1\t10\t40\n".as_slice()),
+    ] {
+        assert_eq!(rt; merged(&rt, &genome, text, distance)?.bytes(), rows);
     }
-    assert_eq!(rt; sink.bytes(), b"chr2\t5\t9\n".as_slice());
     Ok(())
 }

@@ -10,6 +10,7 @@ use std::test::Fail;
 #[test]
 fn adds_and_a_print(rt: HostRuntime) -> Result<(), Fail> {
     for piece in [1, 3, 7, 1000] {
+        assert!(rt; piece > 0);
         let mut session = session(&rt, b"", 9)?;
         let script = b"open\tm\tmerge\nadd\tchr1\t10\t20\nadd\tchr1\t15\t30\nprint\tm\n";
         let ran = run(&rt, &mut session, script, piece, 100)?;
@@ -43,6 +44,7 @@ const MIXED: &[u8] = b"open\tm\tmerge\r\n# a note\r\npaint\tm\r\nadd\tchr1\t10\t
 #[test]
 fn returns_before_feeds(rt: HostRuntime) -> Result<(), Fail> {
     for piece in [1, 3, 7, 1000] {
+        assert!(rt; piece > 0);
         let mut session = session(&rt, b"", 9)?;
         let ran = run(&rt, &mut session, MIXED, piece, 100)?;
         assert_eq!(rt; ran.output.bytes(), b"chr1\t10\t20\n".as_slice());
@@ -65,6 +67,7 @@ fn returns_before_feeds(rt: HostRuntime) -> Result<(), Fail> {
 #[test]
 fn output_that_fails(rt: HostRuntime) -> Result<(), Fail> {
     for piece in [1, 3, 7, 1000] {
+        assert!(rt; piece > 0);
         let mut session = session(&rt, b"", 9)?;
         let ran = run(&rt, &mut session, MIXED, piece, 7)?;
         assert_eq!(rt; ran.output.bytes(), b"chr1\t10".as_slice());
