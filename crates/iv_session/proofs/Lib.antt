@@ -4,3 +4,4 @@ pub mod StopLemmas
 pub mod SessionLemmas
 pub mod CuttingLemmas
 pub mod RunLemmas
+pub mod Examples

@@ -1,0 +1,30 @@
+# `make` alone lists the targets.
+
+# Rattle's command; `make RT=/some/where/rt build` takes another one.
+RT ?= rt
+PROGRAM := build/bedkeep
+
+.DEFAULT_GOAL := help
+.PHONY: help build demo test clean
+
+help:
+	@echo 'make build   prove and build the program; it is left at $(PROGRAM)'
+	@echo 'make demo    build it, then run examples/corrections.script over examples/genes.bed'
+	@echo 'make test    the whole gate: every proof from nothing, the wrong bodies, the tests, the stored run'
+	@echo 'make clean   remove all that builds and proofs left behind'
+	@echo 'make help    this list'
+
+# `rt run` proves, builds and then runs: the crate's stored run, whose output `make test` compares.
+build:
+	cd crates/bedkeep && $(RT) run -- session -g data/sizes -i data/empty.bed < stdin > /dev/null
+	mkdir -p build && cp crates/bedkeep/out/bedkeep $(PROGRAM)
+
+# Status 1 says that the script has refused lines, and this one has.
+demo: build
+	$(PROGRAM) session -g examples/human.genome -i examples/genes.bed < examples/corrections.script || test $$? -eq 1
+
+test:
+	$(RT) ci
+
+clean:
+	rm -rf build crates/*/out

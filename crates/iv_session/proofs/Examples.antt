@@ -1,0 +1,82 @@
+-- Examples that compute.
+use Rattle.std.proofs.Common.{◌≡◌, ℕ, ◌++◌, List, [], ◌∷◌, Option, Some, None, refl, inl, arith}
+use Rattle.std.specs.Prelude.{codes}
+use Rattle.iv_text.specs.Genome.{Sequences}
+use Rattle.iv_text.specs.Fault.{fault_text}
+use Rattle.iv_text.specs.Fields.{words}
+use Rattle.iv_text.specs.Row.{Row}
+use Rattle.iv_session.specs.Commands.{Runs, command_of}
+use Rattle.iv_session.specs.Scripts.{Steps}
+use Rattle.iv_session.specs.States.{State}
+use Rattle.iv_session.specs.Views.{view_of, view_fault, view_text}
+use Rattle.iv_session.specs.Written.{Written, silent, printed, refused_as}
+use Rattle.iv_session.specs.declared.command.Command.TheVariants as command
+use Rattle.iv_session.specs.declared.fault.ViewFault.TheVariants as fault
+use Rattle.iv_session.specs.declared.view.View.{View}
+use Rattle.iv_session.specs.declared.view.View.TheVariants as view
+
+abbrev g : Sequences
+g = (codes "chr1", 100) ∷ (codes "chr2", 50) ∷ (codes "chr3", 0) ∷ []
+
+abbrev tab : List ℕ
+tab = 9 ∷ []
+
+-- an empty track of width 3
+abbrev empty : State
+empty = record { genome = g; width = 3; limit = 2; records = []; views = [] }
+
+abbrev first_row : Row
+first_row = record { seq = 0; start = 10; stop = 20; name = []; score = []; strand = None; width = 3 }
+
+abbrev second_row : Row
+second_row = record { seq = 0; start = 15; stop = 30; name = []; score = []; strand = None; width = 3 }
+
+abbrev opened : State
+opened = record empty { views = (codes "m", view.Merge) ∷ [] }
+
+abbrev with_one : State
+with_one = record opened { records = first_row ∷ [] }
+
+abbrev with_two : State
+with_two = record opened { records = first_row ∷ second_row ∷ [] }
+
+pub comments-are_skipped : command_of (codes "# a note") ≡ command.Skipped
+comments-are_skipped = refl
+
+pub commands-stand_before_a_tab : command_of (codes "print" ++ tab ++ codes "m") ≡ command.Print
+commands-stand_before_a_tab = refl
+
+pub other_words-are_unknown : command_of (codes "paint" ++ tab ++ codes "m") ≡ command.Unknown
+other_words-are_unknown = refl
+
+pub spaces-are_no_words : view_of (words (codes "  merge ")) ≡ Some view.Merge
+spaces-are_no_words = refl
+
+pub no_words-are_no_view : view_of (words []) ≡ None
+no_words-are_no_view = refl
+
+pub names-are_not_empty : view_fault empty [] (codes "merge" ∷ []) ≡ Some fault.BadName
+names-are_not_empty = refl
+
+pub names-are_taken_once : view_fault opened (codes "m") [] ≡ Some fault.Taken
+names-are_taken_once = refl
+
+pub one_view-stands_open : view_fault opened (codes "n") [] ≡ Some fault.TooMany
+one_view-stands_open = refl
+
+-- two adds and a print between an opening and a refused add
+abbrev script : List (List ℕ)
+script =
+    (codes "open" ++ tab ++ codes "m" ++ tab ++ codes "merge") ∷
+    (codes "add" ++ tab ++ codes "chr1" ++ tab ++ codes "10" ++ tab ++ codes "20") ∷
+    (codes "add" ++ tab ++ codes "chr1" ++ tab ++ codes "15" ++ tab ++ codes "30") ∷
+    (codes "print" ++ tab ++ codes "m") ∷
+    (codes "add" ++ tab ++ codes "chr1" ++ tab ++ codes "90" ++ tab ++ codes "101") ∷ []
+
+pub script-steps : Steps Runs empty script (silent ∷ silent ∷ silent ∷ printed (view_text view.Merge with_two) ∷ refused_as 7 ∷ []) with_two
+script-steps =
+    (opened, inl (view.Merge, refl, refl, refl),
+    (with_one, inl (omega arith, refl, refl),
+    (with_two, inl (omega arith, refl, refl),
+    (with_two, (refl, refl),
+    (with_two, (refl, refl), refl)))))
