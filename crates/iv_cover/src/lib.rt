@@ -10,4 +10,3 @@ pub use laws::{
     records_belong_to_one_block,
 };
 pub use merge::put_merge;
-pub use open_block::{OpenBlock, close_block, take_record};

@@ -10,10 +10,10 @@ use std::alloc::Allocator;
 ///
 /// It is an interval on the sequence of this rank, 0-based and half-open.
 #[derive(Clone, Copy, Debug, PartialEq, Eq)]
-pub struct OpenBlock {
-    pub sequence: u32,
-    pub start: u64,
-    pub stop: u64,
+pub(crate) struct OpenBlock {
+    sequence: u32,
+    start: u64,
+    stop: u64,
 }
 
 impl OpenBlock {
@@ -42,7 +42,7 @@ impl OpenBlock {
 /// The record joins the open block where it is on the same sequence and starts at most `distance`
 /// bases past the block's stop. Otherwise the open block's row is put, and the record opens a block.
 /// On a fault the sink has taken a prefix of that row.
-pub fn take_record<A: Allocator + Copy, S: Sink>(
+pub(crate) fn take_record<A: Allocator + Copy, S: Sink>(
     current: Option<OpenBlock>,
     distance: u32,
     next: &Record<A>,
@@ -67,7 +67,7 @@ pub fn take_record<A: Allocator + Copy, S: Sink>(
 }
 
 /// Puts the row of the block that is open, if there is one. On a fault the sink has taken a prefix of it.
-pub fn close_block<A: Allocator + Copy, S: Sink>(
+pub(crate) fn close_block<A: Allocator + Copy, S: Sink>(
     current: Option<OpenBlock>,
     genome: &Genome<A>,
     sink: &mut S,

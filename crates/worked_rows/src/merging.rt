@@ -1,48 +1,8 @@
 //! Merge rows of ordered records.
 use crate::fixtures::genome;
-use iv_cover::{OpenBlock, close_block, put_merge, take_record};
-use iv_text::{BedFile, Genome, MemSink, read_record};
+use iv_cover::put_merge;
+use iv_text::{BedFile, Genome, MemSink};
 use std::test::Fail;
-
-#[test]
-fn rows_by_distance(rt: HostRuntime) -> Result<(), Fail> {
-    let genome = genome(&rt)?;
-    let block = OpenBlock {
-        sequence: 0,
-        start: 10,
-        stop: 30,
-    };
-    let record = read_record(&genome, 3, b"chr1\t31\t40")?.to_record(rt.alloc())?;
-    for (distance, start, row) in [
-        (0, 31, b"chr1\t10\t30\n".as_slice()),
-        (1, 10, b"".as_slice()),
-    ] {
-        let mut sink = MemSink::new(rt.alloc(), 100, 3)?;
-        let next = take_record(Some(block), distance, &record, &genome, &mut sink)?;
-        assert_eq!(rt; (next.start, next.stop), (start, 40));
-        assert_eq!(rt; sink.bytes(), row);
-    }
-    Ok(())
-}
-
-#[test]
-fn row_of_the_last_block(rt: HostRuntime) -> Result<(), Fail> {
-    let genome = genome(&rt)?;
-    let block = OpenBlock {
-        sequence: 1,
-        start: 0,
-        stop: 50,
-    };
-    for (open, row) in [
-        (Some(block), b"chr2\t0\t50\n".as_slice()),
-        (None, b"".as_slice()),
-    ] {
-        let mut sink = MemSink::new(rt.alloc(), 100, 7)?;
-        close_block(open, &genome, &mut sink)?;
-        assert_eq!(rt; sink.bytes(), row);
-    }
-    Ok(())
-}
 
 /// The merge rows of the records of a BED file.
 fn merged(rt: &HostRuntime, genome: &Genome, text: &[u8], distance: u32) -> Result<MemSink, Fail> {

@@ -1,6 +1,7 @@
 //! Records of lines.
 use crate::fixtures::genome;
-use iv_text::{Genome, RecordFault, Strand, read_record};
+use iv_text::{Genome, Record, RecordFault, Strand, read_record};
+use std::mem::size_of;
 use std::test::Fail;
 
 /// The fault of a line at width 6.
@@ -137,4 +138,10 @@ fn order_of_records(rt: HostRuntime) -> Result<(), Fail> {
     let again = read_record(&genome, 6, b"chr2\t00\t01\ta\t0\t+")?.to_record(rt.alloc())?;
     assert!(rt; before.is_copy_of(&again));
     Ok(())
+}
+
+#[test]
+fn records_are_small(rt: HostRuntime) {
+    let size = size_of::<Record>();
+    assert!(rt; size <= 48, "a record has {size} bytes");
 }
