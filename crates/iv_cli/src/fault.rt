@@ -24,7 +24,7 @@ pub enum CliFault {
     #[error("E{0}")]
     Words(u8),
     /// A file is damaged: which one, and its first fault.
-    #[error("{0}: {1}")]
+    #[error("{1}")]
     Damaged(Slot, LoadFault),
     /// The output failed.
     #[error("output cannot be written")]

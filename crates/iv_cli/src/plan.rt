@@ -5,7 +5,6 @@ ghost use Rattle.iv_cli.specs.Words.{RunFiles, IsPlan, file_of};
 
 use crate::draft::{BAD_WORDS, Draft};
 use crate::fault::CliFault;
-use std::fmt;
 use std::marker::Model;
 
 /// What a file of a run is for.
@@ -19,17 +18,6 @@ pub enum Slot {
     Other,
     /// The bases.
     Bases,
-}
-
-impl fmt::Display for Slot {
-    fn fmt<W: fmt::Write>(&self, f: &mut fmt::Formatter<W>) -> fmt::Result {
-        f.write_str(match self {
-            Slot::Sizes => "genome file",
-            Slot::First => "first file",
-            Slot::Other => "second file",
-            Slot::Bases => "sequence file",
-        })
-    }
 }
 
 /// What the words after the program's name ask for.
