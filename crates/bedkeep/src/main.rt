@@ -4,12 +4,12 @@
 use iv_cli::{FileFault, Inputs, Plan, Slot, load, read_all, run_status, status};
 use iv_session::{RunFault, ScriptLimits, Session, Summary, run_script};
 use iv_text::{StdSink, StdSource};
+use std::env;
 use std::fs::File;
 use std::io::{ErrorKind, Write};
 use std::process::ExitCode;
 use std::rt::{Env, Files};
 use std::str::from_utf8;
-use std::env;
 
 /// How many bytes a file may have.
 const MOST_FILE_BYTES: u64 = 4_294_967_295;

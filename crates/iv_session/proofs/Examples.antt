@@ -74,9 +74,20 @@ script =
     (codes "add" ++ tab ++ codes "chr1" ++ tab ++ codes "90" ++ tab ++ codes "101") ∷ []
 
 pub script-steps : Steps Runs empty script (silent ∷ silent ∷ silent ∷ printed (view_text view.Merge with_two) ∷ refused_as 7 ∷ []) with_two
-script-steps =
-    (opened, inl (view.Merge, refl, refl, refl),
-    (with_one, inl (omega arith, refl, refl),
-    (with_two, inl (omega arith, refl, refl),
-    (with_two, (refl, refl),
-    (with_two, (refl, refl), refl)))))
+script-steps = (
+  opened,
+  inl (view.Merge, refl, refl, refl),
+  (
+    with_one,
+    inl (omega arith, refl, refl),
+    (
+      with_two,
+      inl (omega arith, refl, refl),
+      (
+        with_two,
+        (refl, refl),
+        (with_two, (refl, refl), refl),
+      ),
+    ),
+  ),
+)
