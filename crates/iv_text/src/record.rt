@@ -1,5 +1,5 @@
 //! A record that owns its columns, and the order of a track.
-ghost use Rattle.std.specs.Prelude.{◌≡◌, ◌<◌, ◌↔◌, [], IfOk, IsOk, IsTrue};
+ghost use Rattle.std.specs.Prelude.{◌≡◌, ◌<◌, ◌+◌, ◌-◌, ◌^◌, ◌↔◌, [], None, IfOk, IsOk, IsTrue};
 ghost use Rattle.std.specs.Prelude.{refl};
 ghost use Rattle.std.specs.Ordering.{as_partial_cmp, eq_by_cmp};
 ghost use Rattle.std.specs.Cmp.{partial_equiv_from_equiv, eq_by_cmp_equiv, partial_order_from_agreeing_total};
@@ -54,6 +54,23 @@ impl<A: Allocator> Record<A> {
             width: row.width,
             texts,
         })
+    }
+
+    /// The least of all records that start at this place of a sequence, or after it: one base, and no columns beside.
+    ///
+    /// The start is below 2^32 - 1. It takes no memory. It is for searches alone: no genome has a record of width 0.
+    pub fn least_at(alloc: A, seq: u32, start: u32) -> Self
+        requires { start < 2 ^ 32 - 1 }
+        ensures { result ≡ record { seq = seq; start = start; stop = start + 1; name = []; score = []; strand = None; width = 0 } }
+    {
+        Record {
+            rank: seq,
+            start,
+            stop: start + 1,
+            strand: None,
+            width: 0,
+            texts: Texts::empty(alloc),
+        }
     }
 
     /// The rank of its sequence in the genome.
