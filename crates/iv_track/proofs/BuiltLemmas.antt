@@ -1,0 +1,61 @@
+-- A track's map that is built at once from sorted records.
+use Rattle.std.proofs.Common.{◌≡◌, ℕ, ◌+◌, ◌<◌, ◌≤◌, List, [], ◌∷◌, ◌++◌, length, refl, sym, ap, ◌∙◌, subst, arith, zero, suc}
+use Rattle.std.specs.Prelude.{All, IfSome, replicate, unwrap_or, sum}
+use Rattle.std.specs.List.{AllByRecursion}
+use Rattle.std.specs.Cmp.{eq_by_cmp_equiv}
+use Rattle.std.specs.BTreeMap.{is_at}
+use Rattle.std.specs.Map.{keys_of, values_of}
+use Rattle.std.proofs.lemmas.List.Elements.{All-head, All-tail, All-from_recursion, recursion_from_All}
+use Rattle.std.proofs.lemmas.Map.Keys.{IsDistinct-from_sorted}
+use Rattle.std.proofs.lemmas.Map.Views.{All-values_from_lookup, IfSome-lookup_from_All}
+use Rattle.iv_text.specs.Row.{Row, row_cmp, rows_total}
+use Rattle.iv_text.proofs.RowLemmas.{rows_exact}
+use Rattle.iv_text.proofs.OrderedLemmas.{one_list}
+use Rattle.iv_track.specs.Copies.{expanded}
+use Rattle.iv_track.specs.Entries.{IsLedger, value_at}
+use Rattle.iv_track.specs.Tracked.{AreCounted, IsTrack}
+use Rattle.iv_track.proofs.Counts.{all-expanded, copies-expanded, in_order-expanded, length-expanded}
+
+module _ {K : Type 0} (P : K → Type 0) where
+  first-of : (n : ℕ) (k : K) (xs : List K) → 0 < n → AllByRecursion P (replicate n k ++ xs) → P k
+  first-of zero k xs some h = absurd (omega arith)
+  first-of (suc n) k xs some h = h.0
+
+  rest-of : (n : ℕ) (k : K) (xs : List K) → AllByRecursion P (replicate n k ++ xs) → AllByRecursion P xs
+  rest-of zero k xs h = h
+  rest-of (suc n) k xs h = rest-of n k xs h.1
+
+  -- what holds of each in the list holds of each key
+  pub keys-expanded : (es : List (K × ℕ)) → All (λ n. 0 < n) (values_of es) → AllByRecursion P (expanded es) → AllByRecursion P (keys_of es)
+  keys-expanded [] some h = tt
+  keys-expanded (e ∷ es) some h = (
+    first-of e.1 e.0 (expanded es) (All-head (λ n. 0 < n) e.1 (values_of es) some) h,
+    keys-expanded es (All-tail (λ n. 0 < n) e.1 (values_of es) some) (rest-of e.1 e.0 (expanded es) h),
+  )
+
+-- a map with the values of the counted entries of a list in order
+module _ (es gs : List (Row × ℕ)) (rows : List Row) (c : AreCounted es rows) (s : IsLedger row_cmp gs) (same : (k : Row) → value_at row_cmp gs k ≡ value_at row_cmp es k) where
+  pub built_rows : expanded gs ≡ rows
+  built_rows =
+      one_list row_cmp rows_total rows_exact (expanded gs) (expanded es) (in_order-expanded row_cmp rows_total gs s) (in_order-expanded row_cmp rows_total es c.ordered)
+      (λ k. copies-expanded row_cmp rows_total gs k s ∙ ap (λ o. unwrap_or o 0) (same k) ∙ sym (copies-expanded row_cmp rows_total es k c.ordered))
+      ∙ c.rows_are
+
+  built_present : All (λ n. 0 < n) (values_of gs)
+  built_present =
+      All-values_from_lookup (eq_by_cmp_equiv rows_total) (λ n. 0 < n) gs (IsDistinct-from_sorted row_cmp (keys_of gs) s)
+      (λ q. subst (λ o. IfSome o (λ n. 0 < n)) (sym (same q)) (IfSome-lookup_from_All (λ n. 0 < n) (is_at (row_cmp q)) es c.present))
+
+  pub built_track : (len width limit : ℕ) → len ≡ length rows → All (λ (q : Row). q.width ≡ width) rows → len ≤ limit → limit ≤ 4000000 → IsTrack gs len width limit
+  built_track len width limit is widths room bounded =
+      let W : Row → Type 0 = λ q. q.width ≡ width in
+      let B : Row → Type 0 = λ q. q.start < q.stop in
+      record {
+        ordered = s;
+        present = built_present;
+        widths = All-from_recursion W (keys_of gs) (keys-expanded W gs built_present (subst (AllByRecursion W) (sym built_rows) (recursion_from_All W rows widths)));
+        bases = All-from_recursion B (keys_of gs) (keys-expanded B gs built_present (subst (AllByRecursion B) (c.rows_are ∙ sym built_rows) (all-expanded B es (recursion_from_All B (keys_of es) c.bases))));
+        len_is = omega (arith, is, ap length built_rows, length-expanded gs);
+        room = omega arith;
+        bounded = bounded;
+      }

@@ -1,0 +1,45 @@
+-- A walk over the entries of a track's map, seen as rows.
+use Rattle.std.proofs.Common.{◌≡◌, ℕ, ◌+◌, ◌-◌, ◌<◌, ◌≤◌, Bool, true, false, cond, List, [], ◌∷◌, ◌++◌, Option, Some, None, refl, sym, ap, ◌∙◌, subst, arith, zero, suc, append_assoc}
+use denote.Ref.{Bor}
+use Rattle.std.specs.Prelude.{All, filter, replicate, IfSome}
+use Rattle.std.specs.Map.{keys_of, values_of}
+use Rattle.std.proofs.lemmas.List.Elements.{filter-append, All-head, All-tail, All-cons}
+use Rattle.iv_track.specs.Copies.{expanded, again}
+
+module _ {K : Type 0} where
+  filter-replicate : (p : K → Bool) (n : ℕ) (k : K) → filter p (replicate n k) ≡ cond (p k) (replicate n k) []
+  filter-replicate p zero k = elim (p k) as (λ b. ◌≡◌ {A = List K} [] (cond b [] [])) [ true ↦ refl | false ↦ refl ]
+  filter-replicate p (suc n) k = (elim (p k) as (λ b. p k ≡ b → cond b (k ∷ filter p (replicate n k)) (filter p (replicate n k)) ≡ cond b (k ∷ replicate n k) []) [
+    | true ↦ λ is. ap (λ ys. k ∷ ys) (filter-replicate p n k ∙ ap (λ b. cond b (replicate n k) []) is)
+    | false ↦ λ is. filter-replicate p n k ∙ ap (λ b. cond b (replicate n k) []) is
+  ]) refl
+
+  -- the rows of the entries that pass are the rows that pass
+  pub expanded-filter : (p : K → Bool) (es : List (K × ℕ)) → expanded (filter (λ e. p e.0) es) ≡ filter p (expanded es)
+  expanded-filter p [] = refl
+  expanded-filter p (e ∷ es) =
+      (elim (p e.0) as (λ b. p e.0 ≡ b → expanded (cond b (e ∷ filter (λ f. p f.0) es) (filter (λ f. p f.0) es)) ≡ cond b (replicate e.1 e.0) [] ++ filter p (expanded es)) [
+        | true ↦ λ is. ap (λ ys. replicate e.1 e.0 ++ ys) (expanded-filter p es)
+        | false ↦ λ is. expanded-filter p es
+      ]) refl
+      ∙ ap (λ ys. ys ++ filter p (expanded es)) (sym (filter-replicate p e.1 e.0))
+      ∙ sym (filter-append p (replicate e.1 e.0) (expanded es))
+
+  -- each entry that passes has copies
+  pub present-filter : (p : K × ℕ → Bool) (es : List (K × ℕ)) → All (λ n. 0 < n) (values_of es) → All (λ n. 0 < n) (values_of (filter p es))
+  present-filter p [] h = h
+  present-filter p (e ∷ es) h =
+      let rest = present-filter p es (All-tail (λ n. 0 < n) e.1 (values_of es) h) in
+      elim (p e) as (λ b. All (λ n. 0 < n) (values_of (cond b (e ∷ filter p es) (filter p es)))) [
+        | true ↦ All-cons (λ n. 0 < n) e.1 (values_of (filter p es)) (All-head (λ n. 0 < n) e.1 (values_of es) h) rest
+        | false ↦ rest
+      ]
+
+  -- one copy is handed out, and the others are held
+  pub again-more : (r : Bor K) (n : ℕ) (rest : List K) → 0 < n → again (Some (r, n)) ++ rest ≡ r.now ∷ (again (Some (r, n - 1)) ++ rest)
+  again-more r zero rest h = absurd (omega arith)
+  again-more r (suc n) rest h = let e : suc n - 1 ≡ n = omega arith in rw e
+
+  pub again-none : (r : Bor K) (n : ℕ) → n ≤ 0 → again (Some (r, n)) ≡ []
+  again-none r zero h = refl
+  again-none r (suc n) h = absurd (omega arith)

@@ -1,0 +1,20 @@
+use Rattle.std.proofs.Common.{◌≡◌, ◌∙◌, sym, ap}
+use Rattle.std.specs.Ordering.{is_lt}
+use Rattle.iv_text.specs.Row.{row_cmp}
+use Rattle.iv_track.specs.Tracked.{Tracked, next_after}
+use Rattle.iv_track.proofs.TrackLemmas.{next-entry}
+use Rattle.iv_track.proofs.track.Track.after.Goals as goal
+
+pub returns-in-Some-clause-next : goal.returns-in-Some-clause-next
+returns-in-Some-clause-next g c =
+    let i = c.self.inside in
+    c.in-Some.ensures.entry
+    ∙ sym (next-entry (λ q. is_lt (row_cmp c.args.row.now q)) i.ledger i.len i.width i.limit c.self.invariant)
+    ∙ ap (λ (t : Tracked). next_after t.rows c.args.row.now) c.self.view_is
+
+pub returns-in-None-clause-next : goal.returns-in-None-clause-next
+returns-in-None-clause-next g c =
+    let i = c.self.inside in
+    c.in-None.ensures.entry
+    ∙ sym (next-entry (λ q. is_lt (row_cmp c.args.row.now q)) i.ledger i.len i.width i.limit c.self.invariant)
+    ∙ ap (λ (t : Tracked). next_after t.rows c.args.row.now) c.self.view_is

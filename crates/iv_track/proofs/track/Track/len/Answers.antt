@@ -1,0 +1,14 @@
+use Rattle.std.proofs.Common.{◌∙◌, sym, ap, subst, length}
+use Rattle.iv_text.specs.Ordered.{AreInOrder}
+use Rattle.iv_track.specs.Tracked.{Tracked}
+use Rattle.iv_track.proofs.Counts.{length-expanded, in_order-expanded}
+use Rattle.iv_text.specs.Row.{row_cmp, rows_total}
+use Rattle.iv_track.proofs.track.Track.len.Goals as goal
+
+pub returns-clause-len : goal.returns-clause-len
+returns-clause-len g c =
+    c.self.invariant.len_is ∙ sym (length-expanded c.self.inside.ledger) ∙ ap (λ (t : Tracked). length t.rows) c.self.view_is
+
+pub returns-clause-ordered : goal.returns-clause-ordered
+returns-clause-ordered g c =
+    subst (λ (t : Tracked). AreInOrder t.rows) c.self.view_is (in_order-expanded row_cmp rows_total c.self.inside.ledger c.self.invariant.ordered)

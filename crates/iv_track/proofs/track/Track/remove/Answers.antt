@@ -1,0 +1,81 @@
+use Rattle.std.proofs.Common.{◌≡◌, ℕ, ◌≤◌, ◌<◌, ◌-◌, ◌∙◌, sym, ap, arith, List, length, Some, None, Option, subst, refl}
+use Rattle.std.specs.Prelude.{unwrap_or}
+use Rattle.iv_text.specs.Row.{Row, row_cmp}
+use Rattle.iv_track.specs.Entries.{value_at}
+use Rattle.iv_track.specs.Copies.{expanded}
+use Rattle.iv_text.specs.Ordered.{copies}
+use Rattle.iv_track.specs.Tracked.{Tracked, IsTrack, removed}
+use Rattle.iv_track.proofs.TrackLemmas.{count_here, found, count-pos, len-pos, IsLowered, lowered_by_take, lowered_by_set, lowered_track, set_gives}
+use Rattle.iv_track.proofs.track.Track.remove.Given as given
+use Rattle.iv_track.proofs.track.Track.remove.Goals as goal
+use Rattle.iv_track.proofs.track.Track.remove.Goals.{then-count-eq1, else-count-eq1}
+
+pub returns-in_default-clause-absent : goal.returns-in_default-clause-absent
+returns-in_default-clause-absent g c =
+    let i = c.self.inside in
+    ap (λ (t : Tracked). copies t.rows c.args.row.now) (sym c.self.view_is)
+    ∙ count_here i.ledger i.len i.width i.limit c.args.row.now c.self.invariant
+    ∙ ap (λ o. unwrap_or o 0) (sym c.get.ensures.value ∙ sym c.copied.ensures ∙ c.in_default.is)
+
+pub overflow_sub-count : goal.overflow_sub-count
+overflow_sub-count g c =
+    let i = c.self.inside in
+    count-pos i.ledger i.ledger i.len i.width i.limit c.args.row.now c.self.invariant c.in-Some.count (sym c.get.ensures.value ∙ sym c.copied.ensures ∙ c.in-Some.is)
+
+-- after either way the map has one copy less, and the other fields are as before
+changed : (g : given.Over) (c : goal.Joined-count-eq1 g) → IsLowered c.self.inside.ledger c.if-count-eq1.self-inside.ledger c.args.row.now c.self.inside.width
+    × (c.if-count-eq1.self-inside.len ≡ c.self.inside.len)
+    × (c.if-count-eq1.self-inside.width ≡ c.self.inside.width)
+    × (c.if-count-eq1.self-inside.limit ≡ c.self.inside.limit)
+changed g c =
+    let i = c.self.inside in
+    let n = c.in-Some.count in
+    let count : value_at row_cmp i.ledger c.args.row.now ≡ Some n = sym c.get.ensures.value ∙ sym c.copied.ensures ∙ c.in-Some.is in
+    elim c.if-count-eq1.branch [
+      | then-count-eq1 w ↦
+          let is = w.self-inside-is in (
+            subst (λ gs. IsLowered i.ledger gs c.args.row.now i.width) (sym (ap (λ s. s.ledger) is)) (lowered_by_take i.ledger w.take.new.self i.len i.width i.limit c.args.row.now c.self.invariant n count w.if-count-eq1.true w.take.ensures.rest w.take.ensures.ordered),
+            ap (λ s. s.len) is,
+            ap (λ s. s.width) is,
+            ap (λ s. s.limit) is,
+          )
+      | else-count-eq1 w ↦
+          let is = w.self-inside-is in
+          let e = w.set.ensures in (
+            subst (λ gs. IsLowered i.ledger gs c.args.row.now i.width) (sym (ap (λ s. s.ledger) is)) (lowered_by_set i.ledger w.set.new.self i.len i.width i.limit c.args.row.now c.self.invariant n count w.if-count-eq1.false (set_gives w.set.result _ n _ _ count e.written e.absent) e.ordered),
+            ap (λ s. s.len) is,
+            ap (λ s. s.width) is,
+            ap (λ s. s.limit) is,
+          )
+    ]
+
+pub overflow_sub-self : goal.overflow_sub-self
+overflow_sub-self g c =
+    let i = c.self.inside in
+    let count : value_at row_cmp i.ledger c.args.row.now ≡ Some c.in-Some.count = sym c.get.ensures.value ∙ sym c.copied.ensures ∙ c.in-Some.is in
+    omega (arith, len-pos i.ledger i.ledger i.len i.width i.limit c.args.row.now c.self.invariant c.in-Some.count count, (changed g c).1)
+
+pub invariant_of-self : goal.invariant_of-self
+invariant_of-self g c =
+    let i = c.self.inside in
+    let j = c.if-count-eq1.self-inside in
+    let count : value_at row_cmp i.ledger c.args.row.now ≡ Some c.in-Some.count = sym c.get.ensures.value ∙ sym c.copied.ensures ∙ c.in-Some.is in
+    let d = changed g c.before in
+    let low = lowered_track i.ledger j.ledger i.len i.width i.limit c.args.row.now c.self.invariant c.in-Some.count count d.0 in
+    subst (λ l. IsTrack j.ledger (l - 1) j.width j.limit) (sym d.1)
+    (subst (λ w. IsTrack j.ledger (i.len - 1) w j.limit) (sym d.2)
+    (subst (λ m. IsTrack j.ledger (i.len - 1) i.width m) (sym d.3) low))
+
+pub returns-clause-ok : goal.returns-clause-ok
+returns-clause-ok g c =
+    let d = changed g c.before in
+    let with : List Row → ℕ → ℕ → Tracked = λ rows width limit. record { rows = rows; width = width; limit = limit } in
+    (λ k. with (d.0.rows k) (d.2 k) (d.3 k))
+    ∙ ap (λ (t : Tracked). record t { rows = removed t.rows c.args.row.now }) c.self.view_is
+
+pub returns-clause-found : goal.returns-clause-found
+returns-clause-found g c =
+    let i = c.self.inside in
+    let count : value_at row_cmp i.ledger c.args.row.now ≡ Some c.in-Some.count = sym c.get.ensures.value ∙ sym c.copied.ensures ∙ c.in-Some.is in
+    subst (λ (t : Tracked). 0 < copies t.rows c.args.row.now) c.self.view_is
+    (found i.ledger i.ledger i.len i.width i.limit c.args.row.now c.self.invariant c.in-Some.count count)

@@ -1,0 +1,196 @@
+//! The counted ordered map.
+ghost use Rattle.std.specs.Prelude.{◌≡◌, ◌+◌, ◌^◌, ◌<◌, [], length, IsSome, IfOk, IfErr, IfSome, OnOk, OnErr, IfNone, MatchResult};
+ghost use Rattle.std.specs.Option.{option_map, option_copied};
+ghost use Rattle.std.specs.Map.{remove_entry, set_value};
+ghost use Rattle.std.specs.Map.Iter.{deref_pair, TakesFirst};
+ghost use Rattle.std.specs.BTreeMap.{is_at, insert_entry};
+ghost use Rattle.std.specs.List.{filter};
+ghost use Rattle.std.specs.Ordering.{is_le};
+ghost use Rattle.iv_track.specs.Entries.{IsLedger, value_at, first_from, first_after, last_until};
+ghost use Rattle.iv_track.specs.Steps.{ticked};
+
+use crate::meter::Meter;
+use std::alloc::{AllocError, Allocator, Global};
+use std::collections::BTreeMap;
+use std::collections::btree_map::Range;
+use std::marker::Model;
+use std::mem;
+use std::ops::Bound;
+
+/// A finite map in the order of its keys. Each call that takes a `Meter` is one step.
+///
+/// No key stands twice. Only `put` can want memory, and only for a key that is new.
+#[derive(Drop)]
+pub struct Ledger<K: Ord, V, A: Allocator = Global> {
+    map: BTreeMap<K, V, A>,
+}
+
+impl<K: Ord, V, A: Allocator> Model for Ledger<K, V, A> {
+    ghost use Rattle.std.specs.Prelude.{List};
+
+    ghost Value = { List (K × V) };
+
+    ghost view = { λ l. l.map.entries };
+}
+
+impl<K: Ord + Drop, V: Drop, A: Allocator + Clone + Drop> Ledger<K, V, A> {
+    /// No entry yet; nothing grows. It keeps the allocator for its entries.
+    pub fn new(alloc: A) -> Self
+        ensures { result ≡ [] }
+    {
+        Ledger {
+            map: BTreeMap::new(alloc),
+        }
+    }
+
+    /// The ledger of these entries, whose keys ascend: built at once, and no step.
+    ///
+    /// # Errors
+    ///
+    /// Memory was refused.
+    pub fn from_entries(alloc: A, entries: Vec<(K, V), A>) -> Result<Self, AllocError>
+        requires ascend { IsLedger K.cmp entries.items }
+        ensures values { IfOk result (λ l. (k : K) → value_at K.cmp l k ≡ value_at K.cmp entries.items k) }
+        ensures ordered { IfOk result (λ l. IsLedger K.cmp l) }
+    {
+        Ok(Ledger {
+            map: BTreeMap::from_iter(alloc, entries)?,
+        })
+    }
+
+    /// How many entries there are. It is no step.
+    pub fn len(&self) -> usize
+        ensures len { result ≡ length self.now }
+        ensures small { result < 2 ^ 63 }
+        ensures ordered { IsLedger K.cmp self.now }
+    {
+        self.map.len()
+    }
+
+    /// The value at a key, `None` where the key is absent.
+    pub fn get(&self, key: &K, meter: &mut Meter) -> Option<&V>
+        ensures value { option_copied result ≡ value_at K.cmp self.now key.now }
+        ensures step { meter.new ≡ ticked meter.old }
+    {
+        meter.tick();
+        self.map.get(key)
+    }
+
+    /// Writes the value of a key, whether it is there or new, and gives the value before, `None` for a new key.
+    ///
+    /// # Errors
+    ///
+    /// Memory was refused, which happens for a new key alone. The ledger is unchanged.
+    pub fn put(&mut self, key: K, value: V, meter: &mut Meter) -> Result<Option<V>, AllocError>
+        ensures before { IfOk result (λ before. before ≡ value_at K.cmp self.old key) }
+        ensures ok { OnOk result (self.new ≡ insert_entry K.cmp self.old key value) }
+        ensures absent { OnErr result (value_at K.cmp self.old key ≡ None) }
+        ensures err { OnErr result (self.new ≡ self.old) }
+        ensures was_ordered { IsLedger K.cmp self.old }
+        ensures ordered { IsLedger K.cmp self.new }
+        ensures step { meter.new ≡ ticked meter.old }
+    {
+        meter.tick();
+        Ok(self.map.insert(key, value)?)
+    }
+
+    /// Writes the value of a key that is there and gives the old one. It takes no memory.
+    ///
+    /// # Errors
+    ///
+    /// The key is absent: the new value is given back, and the ledger is unchanged.
+    pub fn set(&mut self, key: &K, value: V, meter: &mut Meter) -> Result<V, V>
+        ensures ok { IfOk result (λ before. value_at K.cmp self.old key.now ≡ Some before) }
+        ensures written { OnOk result (self.new ≡ set_value (is_at (K.cmp key.now)) self.old value) }
+        ensures absent { IfErr result (λ back. back ≡ value × (value_at K.cmp self.old key.now ≡ None)) }
+        ensures err { OnErr result (self.new ≡ self.old) }
+        ensures ordered { IsLedger K.cmp self.new }
+        ensures step { meter.new ≡ ticked meter.old }
+    {
+        meter.tick();
+        match self.map.get_mut(key) {
+            Some(place) => Ok(mem::replace(place, value)),
+            None => Err(value),
+        }
+    }
+
+    /// Takes a key out and gives its value, `None` where the key is absent. It takes no memory.
+    pub fn take(&mut self, key: &K, meter: &mut Meter) -> Option<V>
+        ensures value { result ≡ value_at K.cmp self.old key.now }
+        ensures rest { self.new ≡ remove_entry (is_at (K.cmp key.now)) self.old }
+        ensures ordered { IsLedger K.cmp self.new }
+        ensures step { meter.new ≡ ticked meter.old }
+    {
+        meter.tick();
+        self.map.remove(key)
+    }
+
+    /// The entry of the first key at or after this one, in order, `None` where there is none.
+    pub fn at_or_after(&self, key: &K, meter: &mut Meter) -> Option<(&K, &V)>
+        ensures entry { option_map deref_pair result ≡ first_from K.cmp self.now key.now }
+        ensures ordered { IsLedger K.cmp self.now }
+        ensures step { meter.new ≡ ticked meter.old }
+    {
+        meter.tick();
+        self.map.range(key..).next()
+    }
+
+    /// The entry of the last key at or before this one, in order, `None` where there is none.
+    pub fn at_or_before(&self, key: &K, meter: &mut Meter) -> Option<(&K, &V)>
+        ensures entry { option_map deref_pair result ≡ last_until K.cmp self.now key.now }
+        ensures ordered { IsLedger K.cmp self.now }
+        ensures step { meter.new ≡ ticked meter.old }
+    {
+        meter.tick();
+        self.map.range(..=key).next_back()
+    }
+
+    /// The entry of the first key after this one, in order, `None` where there is none.
+    pub fn after(&self, key: &K, meter: &mut Meter) -> Option<(&K, &V)>
+        ensures entry { option_map deref_pair result ≡ first_after K.cmp self.now key.now }
+        ensures ordered { IsLedger K.cmp self.now }
+        ensures step { meter.new ≡ ticked meter.old }
+    {
+        meter.tick();
+        self.map
+            .range((Bound::Excluded(key), Bound::Unbounded))
+            .next()
+    }
+
+    /// The entries from a key on, in order. To begin is one step, and each call of the walk's `next` another.
+    pub fn walk(&self, key: &K, meter: &mut Meter) -> Walk<'_, K, V>
+        ensures entries { result ≡ filter (λ e. is_le (K.cmp key.now e.0)) self.now }
+        ensures ordered { IsLedger K.cmp self.now }
+        ensures step { meter.new ≡ ticked meter.old }
+    {
+        meter.tick();
+        Walk {
+            entries: self.map.range(key..),
+        }
+    }
+}
+
+/// A walk over entries of a ledger, in order. Its model is the entries that are left.
+#[derive(Drop)]
+pub struct Walk<'a, K, V> {
+    entries: Range<'a, K, V>,
+}
+
+impl<'a, K, V> Model for Walk<'a, K, V> {
+    ghost use Rattle.std.specs.Prelude.{List};
+
+    ghost Value = { List (K × V) };
+
+    ghost view = { λ w. w.entries };
+}
+
+impl<'a, K, V> Walk<'a, K, V> {
+    /// The next entry, `None` after the last. Each call is one step, the last one too.
+    pub fn next(&mut self, meter: &mut Meter) -> Option<(&'a K, &'a V)>
+        ensures next { TakesFirst deref_pair self.old result self.new }
+        ensures step { meter.new ≡ ticked meter.old }
+    {
+        meter.tick();
+        self.entries.next()
+    }
+}

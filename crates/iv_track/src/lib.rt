@@ -1,0 +1,12 @@
+//! The track: records in order with their copies, in an ordered map whose every call is counted.
+#![tactic(auto)]
+
+mod fault;
+mod ledger;
+mod meter;
+mod track;
+
+pub use fault::{AddFault, NotThere, ReplaceFault};
+pub use ledger::{Ledger, Walk};
+pub use meter::Meter;
+pub use track::{Rows, Track};

@@ -1,0 +1,329 @@
+//! A track.
+ghost use Rattle.std.specs.Prelude.{◌≡◌, ◌+◌, ◌-◌, ◌^◌, ◌<◌, ◌≤◌, ◌↔◌, [], length, Some, None, IfOk, OnOk, OnErr, All, option_map, vec_len};
+ghost use Rattle.std.specs.Map.Iter.{deref_pair};
+ghost use Rattle.std.specs.List.{filter};
+ghost use Rattle.std.specs.Iterator.{YieldsFirstRef};
+ghost use Rattle.iv_text.specs.Row.{Row, row_cmp};
+ghost use Rattle.iv_text.specs.Ordered.{AreInOrder, copies, added, ordered};
+ghost use Rattle.iv_track.specs.Steps.{TakesUpTo};
+ghost use Rattle.iv_track.specs.Tracked.{AreCounted};
+
+use crate::fault::{AddFault, NotThere, ReplaceFault};
+use crate::ledger::{Ledger, Walk};
+use crate::meter::Meter;
+use iv_text::Record;
+use std::alloc::{AllocError, Allocator, Global};
+use std::marker::Model;
+use std::mem;
+
+/// Records in the order of a track, with their copies, all of one width.
+///
+/// Its model is the one ordered list of its records, in which a copy stands again, with the width and the limit.
+#[derive(Drop)]
+pub struct Track<A: Allocator + Copy = Global> {
+    ledger: Ledger<Record<A>, u32, A>,
+    alloc: A,
+    len: u32,
+    limit: u32,
+    width: u8,
+}
+
+impl<A: Allocator + Copy> Model for Track<A> {
+    ghost use Rattle.iv_track.specs.Copies.{expanded};
+    ghost use Rattle.iv_track.specs.Tracked.{Tracked, IsTrack};
+
+    ghost Value = { Tracked };
+
+    ghost view = { λ t. record { rows = expanded t.ledger; width = t.width; limit = t.limit } };
+
+    ghost invariant = { λ t. IsTrack t.ledger t.len t.width t.limit };
+}
+
+impl<A: Allocator + Copy> Track<A> {
+    ghost use Rattle.iv_track.specs.Tracked.{Tracked, removed, next_from, next_after, is_from};
+
+    /// A track without a record; nothing grows. It keeps the allocator for its records.
+    ///
+    /// The width, 3 to 6, is that of each record to come. The limit is at most 4,000,000 records.
+    pub fn new(alloc: A, width: u8, limit: u32) -> Self
+        requires { limit ≤ 4000000 }
+        ensures { result ≡ record { rows = []; width = width; limit = limit } }
+    {
+        Track {
+            ledger: Ledger::new(alloc),
+            alloc,
+            len: 0,
+            limit,
+            width,
+        }
+    }
+
+    /// The track of these records: they are sorted, and the map is built from them at once.
+    ///
+    /// The limit is at most 4,000,000, the records are at most so many, and each has the width.
+    ///
+    /// # Errors
+    ///
+    /// Memory was refused.
+    pub fn from_records(
+        alloc: A,
+        width: u8,
+        limit: u32,
+        rows: Vec<Record<A>, A>,
+    ) -> Result<Self, AllocError>
+        requires limit { limit ≤ 4000000 }
+        requires few { vec_len rows ≤ limit }
+        requires width { All (λ r. r.width ≡ width) rows.items }
+        ensures { IfOk result (λ t. t ≡ record { rows = ordered rows.items; width = width; limit = limit }) }
+    {
+        let len = rows.len() as u32;
+        let mut sorted = rows;
+        sorted.sort()?;
+        let entries = counted(alloc, sorted)?;
+        Ok(Track {
+            ledger: Ledger::from_entries(alloc, entries)?,
+            alloc,
+            len,
+            limit,
+            width,
+        })
+    }
+
+    /// How many records there are, copies counted: at most one above the limit.
+    pub fn len(&self) -> u32
+        ensures len { result ≡ length self.now.rows }
+        ensures ordered { AreInOrder self.now.rows }
+        ensures room { result ≤ self.now.limit + 1 }
+        ensures bounded { self.now.limit ≤ 4000000 }
+    {
+        self.len
+    }
+
+    /// How many records `add` lets in, at most 4,000,000.
+    pub fn limit(&self) -> u32
+        ensures { result ≡ self.now.limit }
+    {
+        self.limit
+    }
+
+    /// How many columns each record has.
+    pub fn width(&self) -> u8
+        ensures { result ≡ self.now.width }
+    {
+        self.width
+    }
+
+    /// How many copies of the record are there, 0 where it is absent. At most 2 steps.
+    pub fn copies(&self, row: &Record<A>, meter: &mut Meter) -> u32
+        ensures value { result ≡ copies self.now.rows row.now }
+        ensures ordered { AreInOrder self.now.rows }
+        ensures steps { TakesUpTo meter.old meter.new 2 }
+    {
+        self.ledger.get(row, meter).copied().unwrap_or(0)
+    }
+
+    /// Adds a record without a look at the limit, so that the track may come to hold one more. At most 3 steps.
+    ///
+    /// The track holds at most its limit before, and the record has its width.
+    ///
+    /// # Errors
+    ///
+    /// Memory was refused. The track is unchanged.
+    pub fn stage(&mut self, row: Record<A>, meter: &mut Meter) -> Result<(), AllocError>
+        requires room { length self.old.rows ≤ self.old.limit }
+        requires width { row.width ≡ self.old.width }
+        ensures ok { OnOk result (self.new ≡ record self.old { rows = added self.old.rows row }) }
+        ensures err { OnErr result (self.new ≡ self.old) }
+        ensures steps { TakesUpTo meter.old meter.new 3 }
+    {
+        // Gives the proof that the record has a base.
+        let _stop = row.stop();
+        let count = self.ledger.get(&row, meter).copied().unwrap_or(0);
+        self.ledger.put(row, count + 1, meter)?;
+        self.len += 1;
+        Ok(())
+    }
+
+    /// Adds a record of the track's width. At most 8 steps.
+    ///
+    /// # Errors
+    ///
+    /// E12 exactly where the track holds its limit or more, else E22. The track is unchanged.
+    pub fn add(&mut self, row: Record<A>, meter: &mut Meter) -> Result<(), AddFault>
+        requires { row.width ≡ self.old.width }
+        ensures ok { OnOk result (self.new ≡ record self.old { rows = added self.old.rows row }) }
+        ensures full { (result ≡ Err AddFault.Full) ↔ (self.old.limit ≤ length self.old.rows) }
+        ensures err { OnErr result (self.new ≡ self.old) }
+        ensures steps { TakesUpTo meter.old meter.new 8 }
+    {
+        if self.len >= self.limit {
+            return Err(AddFault::Full);
+        }
+        self.stage(row, meter)?;
+        Ok(())
+    }
+
+    /// The first record on this sequence from this start on, or on a later sequence, and how many copies of it there are.
+    ///
+    /// The start is below 2^32 - 1. At most 2 steps, and no memory.
+    pub fn at_or_after(&self, seq: u32, start: u64, meter: &mut Meter) -> Option<(&Record<A>, u32)>
+        requires { start < 2 ^ 32 - 1 }
+        ensures next { option_map (λ p. (p.0.now, p.1)) result ≡ next_from self.now.rows seq start }
+        ensures steps { TakesUpTo meter.old meter.new 2 }
+    {
+        let least = Record::least_at(self.alloc, seq, start as u32);
+        match self.ledger.at_or_after(&least, meter) {
+            Some((row, count)) => Some((row, *count)),
+            None => None,
+        }
+    }
+
+    /// The first record after this one, and how many copies of it there are. At most 2 steps, and no memory.
+    pub fn after(&self, row: &Record<A>, meter: &mut Meter) -> Option<(&Record<A>, u32)>
+        ensures next { option_map (λ p. (p.0.now, p.1)) result ≡ next_after self.now.rows row.now }
+        ensures steps { TakesUpTo meter.old meter.new 2 }
+    {
+        match self.ledger.after(row, meter) {
+            Some((next, count)) => Some((next, *count)),
+            None => None,
+        }
+    }
+
+    /// The records on this sequence from this start on, and on later sequences, each as often as it stands.
+    ///
+    /// The start is below 2^32 - 1. To begin is one step, and each call of the walk's `next` at most another.
+    pub fn walk(&self, seq: u32, start: u64, meter: &mut Meter) -> Rows<'_, A>
+        requires { start < 2 ^ 32 - 1 }
+        ensures rows { result ≡ filter (is_from seq start) self.now.rows }
+        ensures ordered { AreInOrder self.now.rows }
+        ensures steps { TakesUpTo meter.old meter.new 1 }
+    {
+        let least = Record::least_at(self.alloc, seq, start as u32);
+        Rows {
+            entries: self.ledger.walk(&least, meter),
+            held: None,
+        }
+    }
+
+    /// Takes one copy of a record out. At most 3 steps, and no memory.
+    ///
+    /// # Errors
+    ///
+    /// E11 exactly where no copy is there. The track is unchanged.
+    pub fn remove(&mut self, row: &Record<A>, meter: &mut Meter) -> Result<(), NotThere>
+        ensures ok { OnOk result (self.new ≡ record self.old { rows = removed self.old.rows row.now }) }
+        ensures found { OnOk result (0 < copies self.old.rows row.now) }
+        ensures absent { OnErr result (copies self.old.rows row.now ≡ 0) }
+        ensures err { OnErr result (self.new ≡ self.old) }
+        ensures steps { TakesUpTo meter.old meter.new 3 }
+    {
+        let Some(count) = self.ledger.get(row, meter).copied() else {
+            return Err(NotThere);
+        };
+        if count == 1 {
+            self.ledger.take(row, meter);
+        } else {
+            let _ = self.ledger.set(row, count - 1, meter);
+        }
+        self.len -= 1;
+        Ok(())
+    }
+
+    /// Adds the new record, of the track's width, and takes one copy of the old one. At most 8 steps.
+    ///
+    /// The track holds at most its limit before; a full track is no hindrance.
+    ///
+    /// # Errors
+    ///
+    /// E11 exactly where no copy of the old record is there, else E22. The track is unchanged.
+    pub fn replace(
+        &mut self,
+        old: &Record<A>,
+        new: Record<A>,
+        meter: &mut Meter,
+    ) -> Result<(), ReplaceFault>
+        requires room { length self.old.rows ≤ self.old.limit }
+        requires width { new.width ≡ self.old.width }
+        ensures ok { OnOk result (self.new ≡ record self.old { rows = added (removed self.old.rows old.now) new }) }
+        ensures absent { (result ≡ Err ReplaceFault.NotThere) ↔ (copies self.old.rows old.now ≡ 0) }
+        ensures err { OnErr result (self.new ≡ self.old) }
+        ensures steps { TakesUpTo meter.old meter.new 8 }
+    {
+        if self.copies(old, meter) == 0 {
+            return Err(ReplaceFault::NotThere);
+        }
+        self.stage(new, meter)?;
+        match self.remove(old, meter) {
+            Ok(()) => Ok(()),
+            Err(_) => unreachable!(),
+        }
+    }
+}
+
+/// The different records of a list in order, each with the number of its copies.
+fn counted<A: Allocator + Copy>(
+    alloc: A,
+    rows: Vec<Record<A>, A>,
+) -> Result<Vec<(Record<A>, u32), A>, AllocError>
+    requires ordered { AreInOrder rows.items }
+    requires few { vec_len rows < 2 ^ 32 }
+    ensures { IfOk result (λ es. AreCounted es.items rows.items) }
+{
+    let mut entries = Vec::new(alloc);
+    let mut rest = rows.into_iter();
+    let Some(mut held) = rest.next() else {
+        return Ok(entries);
+    };
+    // Gives the proof that the record has a base.
+    let _stop = held.stop();
+    let mut count = 1u32;
+    for row in rest {
+        if row == held {
+            count += 1;
+            continue;
+        }
+        let _stop = row.stop();
+        entries.push((mem::replace(&mut held, row), count))?;
+        count = 1;
+    }
+    entries.push((held, count))?;
+    Ok(entries)
+}
+
+/// A walk over records of a track, in its order. Its model is the records that are left, copies repeated.
+#[derive(Drop)]
+pub struct Rows<'a, A: Allocator + Copy = Global> {
+    entries: Walk<'a, Record<A>, u32>,
+    held: Option<(&'a Record<A>, u32)>,
+}
+
+impl<'a, A: Allocator + Copy> Model for Rows<'a, A> {
+    ghost use Rattle.std.specs.Prelude.{List, ◌++◌, ◌<◌, All};
+    ghost use Rattle.std.specs.Map.{values_of};
+    ghost use Rattle.iv_text.specs.Row.{Row};
+    ghost use Rattle.iv_track.specs.Copies.{expanded, again};
+
+    ghost Value = { List Row };
+
+    ghost view = { λ w. again w.held ++ expanded w.entries };
+
+    ghost invariant = { λ w. All (λ n. 0 < n) (values_of w.entries) };
+}
+
+impl<'a, A: Allocator + Copy> Rows<'a, A> {
+    /// The next record, `None` after the last. A call is at most one step.
+    pub fn next(&mut self, meter: &mut Meter) -> Option<&'a Record<A>>
+        ensures row { YieldsFirstRef (λ rows. rows) self.old result self.new }
+        ensures steps { TakesUpTo meter.old meter.new 1 }
+    {
+        if let Some((row, left)) = self.held {
+            if left > 0 {
+                self.held = Some((row, left - 1));
+                return Some(row);
+            }
+        }
+        let (row, count) = self.entries.next(meter)?;
+        self.held = Some((row, *count - 1));
+        Some(row)
+    }
+}
