@@ -19,7 +19,7 @@ returns-clause-values g c = λ k.
     let h = c.in_ok-from_iter.ensures.ran in
     let es = c.args.entries.items in
     let cmp = g.K.Ord.cmp in
-    let o = g.K.Ord.total in
+    let o = g.met.K.Ord.total in
     let as_long : h.0.rest.len ≡ length es = omega (arith, c.args.entries.ok.0, h.2.1) in
     let same : h.1 ≡ es = sym (map-same h.1) ∙ items_from_drains h.1 h.3 (YieldsList-from_vec {s = h.0} es h.2.0 as_long) in
     h.4.0 k
