@@ -128,11 +128,12 @@ impl<A: Allocator + Copy> Track<A> {
     ///
     /// # Errors
     ///
-    /// Memory was refused. The track is unchanged.
+    /// E22: memory was refused, which happens for a record without a copy alone. The track is unchanged.
     pub fn stage(&mut self, row: Record<A>, meter: &mut Meter) -> Result<(), AllocError>
         requires room { length self.old.rows ≤ self.old.limit }
         requires width { row.width ≡ self.old.width }
         ensures ok { OnOk result (self.new ≡ record self.old { rows = added self.old.rows row }) }
+        ensures memory { OnErr result (copies self.old.rows row ≡ 0) }
         ensures err { OnErr result (self.new ≡ self.old) }
         ensures steps { TakesUpTo meter.old meter.new 3 }
     {
@@ -148,11 +149,13 @@ impl<A: Allocator + Copy> Track<A> {
     ///
     /// # Errors
     ///
-    /// E12 exactly where the track holds its limit or more, else E22. The track is unchanged.
+    /// E12 exactly where the track holds its limit or more, else E22, and that only for a record without a
+    /// copy. The track is unchanged.
     pub fn add(&mut self, row: Record<A>, meter: &mut Meter) -> Result<(), AddFault>
         requires { row.width ≡ self.old.width }
         ensures ok { OnOk result (self.new ≡ record self.old { rows = added self.old.rows row }) }
         ensures full { (result ≡ Err AddFault.Full) ↔ (self.old.limit ≤ length self.old.rows) }
+        ensures memory { result ≡ Err AddFault.NoMemory → copies self.old.rows row ≡ 0 }
         ensures err { OnErr result (self.new ≡ self.old) }
         ensures steps { TakesUpTo meter.old meter.new 8 }
     {
@@ -235,7 +238,8 @@ impl<A: Allocator + Copy> Track<A> {
     ///
     /// # Errors
     ///
-    /// E11 exactly where no copy of the old record is there, else E22. The track is unchanged.
+    /// E11 exactly where no copy of the old record is there, else E22, and that only for a new record without a
+    /// copy. The track is unchanged.
     pub fn replace(
         &mut self,
         old: &Record<A>,
@@ -246,6 +250,7 @@ impl<A: Allocator + Copy> Track<A> {
         requires width { new.width ≡ self.old.width }
         ensures ok { OnOk result (self.new ≡ record self.old { rows = added (removed self.old.rows old.now) new }) }
         ensures absent { (result ≡ Err ReplaceFault.NotThere) ↔ (copies self.old.rows old.now ≡ 0) }
+        ensures memory { result ≡ Err ReplaceFault.NoMemory → copies self.old.rows new ≡ 0 }
         ensures err { OnErr result (self.new ≡ self.old) }
         ensures steps { TakesUpTo meter.old meter.new 8 }
     {

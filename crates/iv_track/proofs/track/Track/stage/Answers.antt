@@ -1,10 +1,11 @@
 use Rattle.std.proofs.Common.{◌≡◌, ℕ, ◌≤◌, ◌∙◌, sym, ap, arith, List, length}
-use Rattle.std.specs.Prelude.{unwrap_or}
+use Rattle.std.proofs.Common.{Result, Ok, Err}
+use Rattle.std.specs.Prelude.{unwrap_or, OnErr}
 use Rattle.iv_text.specs.Row.{Row, row_cmp}
 use Rattle.iv_track.specs.Entries.{value_at}
-use Rattle.iv_text.specs.Ordered.{added}
+use Rattle.iv_text.specs.Ordered.{added, copies}
 use Rattle.iv_track.specs.Tracked.{Tracked}
-use Rattle.iv_track.proofs.TrackLemmas.{count-le-len, len-rows, staged_rows, staged_track}
+use Rattle.iv_track.proofs.TrackLemmas.{count_here, count-le-len, len-rows, staged_rows, staged_track}
 use Rattle.iv_track.proofs.track.Track.stage.Goals as goal
 
 pub overflow_add-count : goal.overflow_add-count
@@ -29,3 +30,17 @@ returns-clause-ok g c =
     let with_rows : List Row → Tracked = λ rows. record { rows = rows; width = i.width; limit = i.limit } in
     ap with_rows (staged_rows i.ledger c.put.new.self i.len i.width i.limit c.args.row c.self.invariant c.unwrap_or-count.result e c.in_ok-put.ensures.ok)
     ∙ ap (λ (t : Tracked). record t { rows = added t.rows c.args.row }) c.self.view_is
+
+-- what holds holds after a refusal
+after_refusal : {X E : Type 0} (res : Result X E) (P : Type 0) → P → OnErr res P
+after_refusal (Ok x) P p = tt
+after_refusal (Err e) P p = p
+
+pub returns-in_err-put-clause-memory : goal.returns-in_err-put-clause-memory
+returns-in_err-put-clause-memory g c =
+    let i = c.self.inside in
+    after_refusal c.from_residual.result (copies c.args.self.now.rows c.args.row ≡ 0) (
+    ap (λ (t : Tracked). copies t.rows c.args.row) (sym c.self.view_is)
+    ∙ count_here i.ledger i.len i.width i.limit c.args.row c.self.invariant
+    ∙ ap (λ o. unwrap_or o 0) c.in_err-put.ensures.absent
+    )
