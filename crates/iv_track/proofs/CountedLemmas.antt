@@ -1,22 +1,21 @@
 -- A list in order, grouped into its different keys with their numbers of copies.
-use Rattle.std.proofs.Common.{◌≡◌, ℕ, ◌+◌, ◌<◌, ◌≤◌, Bool, true, false, cond, List, [], ◌∷◌, ◌++◌, Option, Some, None, length, refl, sym, ap, ◌∙◌, subst, arith, zero, suc, append_assoc}
-use Rattle.std.specs.Prelude.{All, replicate, map, unwrap_or, sum}
+use Rattle.std.proofs.Common.{◌≡◌, ℕ, ◌+◌, ◌<◌, ◌≤◌, true, false, List, [], ◌∷◌, ◌++◌, length, refl, sym, ap, ◌∙◌, subst, arith, zero, suc, append_assoc}
+use Rattle.std.specs.Prelude.{All, replicate}
 use Rattle.std.specs.List.{AllByRecursion}
 use Rattle.std.specs.List.Sorted.{IsStrictlySortedBy}
 use Rattle.std.specs.declared.cmp.Ordering.{Ordering}
 use Rattle.std.specs.declared.cmp.Ordering.TheVariants.{Less, Equal, Greater}
 use Rattle.std.specs.Ordering.{is_eq, is_le, ordering_reverse}
-use Rattle.std.specs.Cmp.{IsTotalOrder, Equal-is}
-use Rattle.std.specs.BTreeMap.{is_at}
-use Rattle.std.specs.Map.{keys_of, values_of, lookup}
-use Rattle.std.proofs.lemmas.List.Elements.{All-head, All-tail, All-cons, All-append}
+use Rattle.std.specs.Cmp.{Equal-is}
+use Rattle.std.specs.Map.{keys_of, values_of}
+use Rattle.std.proofs.lemmas.List.Elements.{All-cons, All-append}
 use Rattle.std.proofs.lemmas.List.{length-append}
 use Rattle.std.proofs.Math.ListN.{length-replicate}
-use Rattle.iv_text.specs.Ordered.{InOrder, AreInOrder}
+use Rattle.iv_text.specs.Ordered.{AreInOrder}
 use Rattle.iv_text.specs.Row.{Row, row_cmp, rows_total}
 use Rattle.iv_text.proofs.RowLemmas.{rows_exact}
 use Rattle.iv_track.specs.Copies.{expanded}
-use Rattle.iv_track.specs.Entries.{IsLedger, value_at}
+use Rattle.iv_track.specs.Entries.{IsLedger}
 use Rattle.iv_track.specs.Tracked.{AreCounted}
 
 -- es and then `count` of `held` are what a list in order has before `rest`

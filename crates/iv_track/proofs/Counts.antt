@@ -1,11 +1,11 @@
 -- A map from keys to numbers of copies, and the list that it stands for.
-use Rattle.std.proofs.Common.{◌≡◌, ℕ, ◌+◌, ◌*◌, ◌<◌, ◌≤◌, Bool, true, false, cond, List, [], ◌∷◌, ◌++◌, Option, Some, None, length, refl, sym, ap, ◌∙◌, subst, arith, rules, add-one, zero, suc}
-use Rattle.std.specs.Prelude.{All, sum, replicate, count_by, unwrap_or, find, option_map, fold}
+use Rattle.std.proofs.Common.{◌≡◌, ℕ, ◌+◌, ◌*◌, ◌<◌, Bool, true, false, cond, List, [], ◌∷◌, ◌++◌, Option, Some, None, length, refl, sym, ap, ◌∙◌, subst, arith, add-one, zero, suc}
+use Rattle.std.specs.Prelude.{All, sum, replicate, unwrap_or, find, option_map}
 use Rattle.std.specs.List.{position_or_len, AllByRecursion}
 use Rattle.std.specs.declared.cmp.Ordering.{Ordering}
 use Rattle.std.specs.declared.cmp.Ordering.TheVariants.{Less, Equal, Greater}
-use Rattle.std.specs.Ordering.{is_eq, is_le, is_gt, eq_by_cmp, match_ordering, ordering_reverse}
-use Rattle.std.specs.Cmp.{IsTotalOrder, eq_by_cmp_equiv, tied_itself, Equal-is, upto, alike_right}
+use Rattle.std.specs.Ordering.{is_eq, is_le, match_ordering}
+use Rattle.std.specs.Cmp.{IsTotalOrder, eq_by_cmp_equiv, tied_itself, Equal-is, alike_right}
 use Rattle.std.specs.List.Sorted.{IsStrictlySortedBy}
 use Rattle.std.specs.Map.{keys_of, values_of, lookup, remove_entry, set_value}
 use Rattle.std.specs.BTreeMap.{insert_entry, is_at}
@@ -19,7 +19,7 @@ use Rattle.std.proofs.lemmas.List.Sums.{sum_by-append, sum_by-cons}
 use Rattle.std.proofs.lemmas.List.Folds.{sum_by-replicate, find_at}
 use Rattle.std.proofs.Math.ListN.{length-replicate}
 use Rattle.iv_text.specs.Ordered.{copies_by, added_by, InOrder}
-use Rattle.iv_text.proofs.OrderedLemmas.{one_list, length-added, copies-added, in_order-added}
+use Rattle.iv_text.proofs.OrderedLemmas.{one_list, copies-added, in_order-added}
 use Rattle.iv_track.specs.Copies.{removed_by, expanded}
 
 -- ---- how many

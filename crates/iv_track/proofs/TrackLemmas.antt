@@ -1,10 +1,10 @@
 -- What a change of a track's map does to the track.
-use Rattle.std.proofs.Common.{Bool, nat_eq, nat_lt, [], ◌∷◌, Result, Ok, Err, ◌≡◌, ◌≢◌, ℕ, ◌+◌, ◌-◌, ◌<◌, ◌≤◌, List, Option, Some, None, length, refl, sym, ap, ◌∙◌, subst, arith, cond, true, false, zero, suc}
+use Rattle.std.proofs.Common.{Bool, nat_eq, [], ◌∷◌, Result, Ok, Err, ◌≡◌, ◌≢◌, ℕ, ◌+◌, ◌-◌, ◌<◌, ◌≤◌, List, Option, Some, None, length, refl, sym, ap, ◌∙◌, subst, arith, cond, true, zero, suc}
 use borrow.Author.Tests.{lt-ltb}
 use Rattle.std.proofs.lemmas.List.Elements.{All-head, All-tail}
 use Rattle.std.proofs.lemmas.Map.Lookups.{exact_unsigned}
-use Rattle.std.specs.Prelude.{filter, find, option_map, All, sum, unwrap_or, IfSome, OnOk, IfErr}
-use Rattle.std.specs.Map.{keys_of, values_of, lookup, remove_entry, set_value}
+use Rattle.std.specs.Prelude.{filter, find, option_map, All, unwrap_or, IfSome, OnOk, IfErr}
+use Rattle.std.specs.Map.{keys_of, values_of, remove_entry, set_value}
 use Rattle.std.specs.BTreeMap.{insert_entry, is_at}
 use Rattle.std.proofs.lemmas.Map.{keys-set_value}
 use Rattle.std.proofs.lemmas.Map.Views.{All-keys-insert_entry, All-values-insert_entry, All-map-remove_entry, All-values-set_value, IfSome-lookup_from_All}
@@ -23,7 +23,7 @@ use Rattle.std.specs.Cmp.Lexicographic.{slice_cmp}
 use Rattle.iv_text.specs.declared.strand.Strand.{Strand}
 use Rattle.iv_text.specs.Ordered.{copies, added}
 use Rattle.iv_text.proofs.OrderedLemmas.{length-added}
-use Rattle.iv_track.specs.Tracked.{is_from, with_copies, Tracked, IsTrack, removed}
+use Rattle.iv_track.specs.Tracked.{is_from, with_copies, IsTrack, removed}
 use Rattle.iv_track.proofs.Counts.{find-expanded, copies-found, copies-expanded, length-expanded, expanded-insert, expanded-remove_entry, expanded-set_value, length-removed}
 
 -- the number of copies in the map

@@ -1,8 +1,8 @@
 -- A walk over the entries of a track's map, seen as rows.
-use Rattle.std.proofs.Common.{◌≡◌, ℕ, ◌+◌, ◌-◌, ◌<◌, ◌≤◌, Bool, true, false, cond, List, [], ◌∷◌, ◌++◌, Option, Some, None, refl, sym, ap, ◌∙◌, subst, arith, zero, suc, append_assoc}
+use Rattle.std.proofs.Common.{◌≡◌, ℕ, ◌-◌, ◌<◌, ◌≤◌, Bool, true, false, cond, List, [], ◌∷◌, ◌++◌, Some, refl, sym, ap, ◌∙◌, arith, zero, suc}
 use denote.Ref.{Bor}
-use Rattle.std.specs.Prelude.{All, filter, replicate, IfSome}
-use Rattle.std.specs.Map.{keys_of, values_of}
+use Rattle.std.specs.Prelude.{All, filter, replicate}
+use Rattle.std.specs.Map.{values_of}
 use Rattle.std.proofs.lemmas.List.Elements.{filter-append, All-head, All-tail, All-cons}
 use Rattle.iv_track.specs.Copies.{expanded, again}
 

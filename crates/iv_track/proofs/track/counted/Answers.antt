@@ -1,4 +1,4 @@
-use Rattle.std.proofs.Common.{◌≡◌, ◌∙◌, ◌++◌, ◌∷◌, [], sym, ap, subst, arith, length}
+use Rattle.std.proofs.Common.{◌∙◌, ◌++◌, ◌∷◌, [], sym, ap, subst, arith, length}
 use Rattle.iv_track.specs.Tracked.{AreCounted}
 use Rattle.iv_track.proofs.CountedLemmas.{IsGrouping, counted-none, grouping-begin, grouping-same, grouping-next, grouping-end, grouping-few}
 use Rattle.iv_track.proofs.track.counted.Goals as goal

@@ -1,4 +1,4 @@
-use Rattle.std.proofs.Common.{◌≡◌, ap, ◌∙◌}
+use Rattle.std.proofs.Common.{ap, ◌∙◌}
 use Rattle.std.specs.Map.Iter.{deref_pair}
 use Rattle.iv_track.specs.Entries.{first_from}
 use Rattle.iv_track.proofs.Nearest.{first_from_range}

@@ -7,7 +7,6 @@ use Rattle.std.proofs.lemmas.Iterator.Adapters.{YieldsList-from_vec}
 use Rattle.std.proofs.lemmas.Iterator.{items_from_drains}
 use Rattle.std.proofs.lemmas.Map.Keys.{IsDistinct-from_sorted}
 use Rattle.std.proofs.lemmas.Map.Made.{update_all_none}
-use Rattle.iv_track.specs.Entries.{value_at}
 use Rattle.iv_track.proofs.ledger.Ledger.from_entries.Goals as goal
 
 map-same : {X : Type 0} (xs : List X) → map (λ y. y) xs ≡ xs

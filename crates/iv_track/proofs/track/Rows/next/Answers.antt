@@ -1,4 +1,4 @@
-use Rattle.std.proofs.Common.{◌<◌, subst, ℕ, List}
+use Rattle.std.proofs.Common.{◌<◌, subst, ℕ}
 use Rattle.std.specs.Prelude.{All}
 use Rattle.std.specs.Map.{values_of}
 use Rattle.std.proofs.lemmas.List.Elements.{All-tail}

@@ -1,4 +1,4 @@
-use Rattle.std.proofs.Common.{◌≡◌, ◌≤◌, ◌<◌, ◌∙◌, sym, ap, arith, length, refl}
+use Rattle.std.proofs.Common.{◌≡◌, ap, arith, length, refl}
 use Rattle.std.proofs.Common.{Result, Ok, Err}
 use Rattle.std.specs.Result.{IsErrAnd}
 use Rattle.iv_track.specs.declared.fault.AddFault.{AddFault}

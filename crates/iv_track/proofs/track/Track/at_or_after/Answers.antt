@@ -1,5 +1,4 @@
-use Rattle.std.proofs.Common.{◌≡◌, ◌∙◌, sym, ap}
-use Rattle.std.specs.Prelude.{find}
+use Rattle.std.proofs.Common.{◌∙◌, sym, ap}
 use Rattle.iv_text.specs.Row.{row_cmp}
 use Rattle.iv_track.specs.Entries.{first_from}
 use Rattle.iv_track.specs.Tracked.{Tracked, next_from, is_from}

@@ -1,4 +1,4 @@
-use Rattle.std.proofs.Common.{◌≡◌, ◌∙◌, List, sym, ap, arith, length}
+use Rattle.std.proofs.Common.{◌≡◌, ◌∙◌, List, ap, arith}
 use Rattle.std.proofs.lemmas.List.Sorted.{All-permutation}
 use Rattle.iv_text.specs.Row.{Row, row_cmp, rows_total}
 use Rattle.iv_text.proofs.OrderedLemmas.{in_order-sorted, ordered-sorted}

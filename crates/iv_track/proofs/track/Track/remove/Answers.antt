@@ -1,8 +1,7 @@
-use Rattle.std.proofs.Common.{◌≡◌, ℕ, ◌≤◌, ◌<◌, ◌-◌, ◌∙◌, sym, ap, arith, List, length, Some, None, Option, subst, refl}
+use Rattle.std.proofs.Common.{◌≡◌, ℕ, ◌<◌, ◌-◌, ◌∙◌, sym, ap, arith, List, Some, subst}
 use Rattle.std.specs.Prelude.{unwrap_or}
 use Rattle.iv_text.specs.Row.{Row, row_cmp}
 use Rattle.iv_track.specs.Entries.{value_at}
-use Rattle.iv_track.specs.Copies.{expanded}
 use Rattle.iv_text.specs.Ordered.{copies}
 use Rattle.iv_track.specs.Tracked.{Tracked, IsTrack, removed}
 use Rattle.iv_track.proofs.TrackLemmas.{count_here, found, count-pos, len-pos, IsLowered, lowered_by_take, lowered_by_set, lowered_track, set_gives}

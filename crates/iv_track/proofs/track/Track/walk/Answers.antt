@@ -1,6 +1,5 @@
-use Rattle.std.proofs.Common.{◌≡◌, ◌∙◌, sym, ap, subst}
-use Rattle.std.specs.Prelude.{filter, All}
-use Rattle.std.specs.Map.{values_of}
+use Rattle.std.proofs.Common.{◌∙◌, ap, subst}
+use Rattle.std.specs.Prelude.{filter}
 use Rattle.std.specs.Ordering.{is_le}
 use Rattle.iv_text.specs.Row.{row_cmp, rows_total}
 use Rattle.iv_track.specs.Copies.{expanded}
