@@ -1,18 +1,16 @@
 -- Examples that compute.
-use Rattle.std.proofs.Common.{◌≡◌, ℕ, ◌++◌, List, [], ◌∷◌, Option, Some, None, refl, inl, arith}
+use Rattle.std.proofs.Common.{◌≡◌, ℕ, ◌++◌, List, [], ◌∷◌, Some, None, refl, inl, arith}
 use Rattle.std.specs.Prelude.{codes}
 use Rattle.iv_text.specs.Genome.{Sequences}
-use Rattle.iv_text.specs.Fault.{fault_text}
 use Rattle.iv_text.specs.Fields.{words}
 use Rattle.iv_text.specs.Row.{Row}
 use Rattle.iv_session.specs.Commands.{Runs, command_of}
 use Rattle.iv_session.specs.Scripts.{Steps}
 use Rattle.iv_session.specs.States.{State}
 use Rattle.iv_session.specs.Views.{view_of, view_fault, view_text}
-use Rattle.iv_session.specs.Written.{Written, silent, printed, refused_as}
+use Rattle.iv_session.specs.Written.{silent, printed, refused_as}
 use Rattle.iv_session.specs.declared.command.Command.TheVariants as command
 use Rattle.iv_session.specs.declared.fault.ViewFault.TheVariants as fault
-use Rattle.iv_session.specs.declared.view.View.{View}
 use Rattle.iv_session.specs.declared.view.View.TheVariants as view
 
 abbrev g : Sequences
