@@ -1,0 +1,69 @@
+//! An allocator for tests, which refuses one growth.
+#![tactic(auto)]
+
+ghost use Rattle.std.specs.Prelude.{IfSome, ◌≡◌, ◌<◌};
+
+use std::alloc::{AllocError, Allocator};
+use std::cell::Cell;
+
+/// Passes every call on to the allocator inside it, but refuses one growth, that of the given number.
+///
+/// A test that runs with 1, 2, 3 and so on, until no growth is refused any more, has met each place
+/// where the code under test can run out of memory. It lends the allocator out as a `&`, which is an
+/// allocator too, and asks at the end whether the refusal came.
+#[derive(Drop)]
+pub struct RefusesNth<B> {
+    inner: B,
+    /// How many growths are to come up to the one that is refused, which counts; none after it.
+    left: Cell<u64>,
+}
+
+impl<B> RefusesNth<B> {
+    /// Growths count from 1.
+    pub fn new(inner: B, number: u64) -> RefusesNth<B>
+        requires { 0 < number }
+    {
+        RefusesNth {
+            inner,
+            left: Cell::new(number),
+        }
+    }
+
+    /// Whether the growth to be refused has come.
+    pub fn has_refused(&self) -> bool {
+        self.left.get() == 0
+    }
+
+    /// The allocator inside, unless this growth is the one to be refused.
+    fn open(&self) -> Option<&B>
+        ensures { IfSome result (λ inner. inner.now ≡ self.now.inner) }
+    {
+        match self.left.get() {
+            0 => Some(&self.inner),
+            1 => {
+                self.left.set(0);
+                None
+            }
+            left => {
+                self.left.set(left - 1);
+                Some(&self.inner)
+            }
+        }
+    }
+}
+
+// Each block comes from the allocator inside, and goes back to it.
+unsafe impl<B: Allocator> Allocator for RefusesNth<B> {
+    ghost dealloc_token = { λ refusing ty ptr. B.dealloc_token refusing.inner ty ptr };
+
+    fn allocate(&self, size: usize, align: usize) -> Result<*mut u8, AllocError> {
+        match self.open() {
+            Some(inner) => inner.allocate(size, align),
+            None => Err(AllocError),
+        }
+    }
+
+    unsafe fn deallocate(&self, ptr: *mut u8, size: usize, align: usize) {
+        self.inner.deallocate(ptr, size, align);
+    }
+}
