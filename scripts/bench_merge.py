@@ -2,17 +2,21 @@
 """Times a merge view printed by a session of bedkeep beside `bedtools merge`.
 
     make build
-    python3 scripts/bench_merge.py [FOLDER]
+    python3 scripts/bench_merge.py [FOLDER] [--records N ..] [--columns N ..] [--order WORD ..]
 
-Writes a genome file and a sorted BED file of a million records of three
-columns into FOLDER (a temporary folder where none is given), the same bytes
-each time. Runs both programs in turn, with standard output thrown away, and
-prints the least and the median time of each and their ratios. Before that
+Writes genome and BED files into FOLDER (a temporary folder where none is
+given), the same bytes each time: a file for each number of records, each
+number of columns and each order asked for. Runs both programs in turn over
+each, with standard output thrown away, and prints the least and the median
+time of each, their ratios, and the most memory that each held. A shuffled
+file is sorted by `bedtools sort` in front of `bedtools merge`. Before that
 both outputs are compared; where they differ the script stops with status 1.
 """
 
 import argparse
 import hashlib
+import itertools
+import multiprocessing
 import os
 import platform
 import random
@@ -42,24 +46,39 @@ def main():
         sys.exit(f"{wanted.program} is not there: run `make build` first")
     if shutil.which("bedtools") is None:
         sys.exit("bedtools is not installed")
+    version = subprocess.run(["bedtools", "--version"], capture_output=True, text=True).stdout.strip()
+    print(f"{wanted.runs} runs each, {version}, {os.cpu_count()} processors, {platform.machine()}")
+    print("| records | columns | order | bedkeep | bedtools | ratio of medians | bedkeep's bytes a record | bedtools' |")
+    print("|---|---|---|---|---|---|---|---|")
     with tempfile.TemporaryDirectory() as temporary:
         folder = wanted.folder or temporary
         os.makedirs(folder, exist_ok=True)
-        genome, track, script = (os.path.join(folder, name) for name in ("sizes", "sorted.bed", "script"))
-        write_data(genome, track, script, wanted.records)
-        # each program: its words, and the file that is its standard input
-        programs = {
-            "bedkeep": ([wanted.program, "session", "-g", genome, "-i", track], script),
-            "bedtools": (["bedtools", "merge", "-i", track], os.devnull),
-        }
-        compare(programs)
-        report(wanted, track, measure(programs, wanted.runs))
+        for case in itertools.product(wanted.records, wanted.columns, wanted.order):
+            run_case(wanted, folder, *case)
+
+
+def run_case(wanted, folder, records, columns, order):
+    genome, track, script = (os.path.join(folder, name) for name in ("sizes", f"{order}.bed", "script"))
+    # in a process of its own, so that this one stays small: a child begins with the memory of its parent
+    writer = multiprocessing.get_context("spawn").Process(target=write_data, args=(genome, track, script, records, columns, order))
+    writer.start()
+    writer.join()
+    sort = "bedtools merge -i {0}" if order == "sorted" else "bedtools sort -i {0} | bedtools merge -i -"
+    # each program: its words, and the file that is its standard input
+    programs = {
+        "bedkeep": ([wanted.program, "session", "-g", genome, "-i", track], script),
+        "bedtools": (["sh", "-c", sort.format(track)], os.devnull),
+    }
+    compare(programs)
+    report(records, columns, order, *measure(programs, wanted.runs))
 
 
 def read_words():
     words = argparse.ArgumentParser(description=__doc__.splitlines()[0])
     words.add_argument("folder", nargs="?", help="where the data is written (default: a temporary folder)")
-    words.add_argument("--records", type=int, default=1_000_000)
+    words.add_argument("--records", type=int, nargs="+", default=[1_000_000])
+    words.add_argument("--columns", type=int, nargs="+", choices=[3, 4, 5, 6], default=[3])
+    words.add_argument("--order", nargs="+", choices=["sorted", "shuffled"], default=["sorted"])
     words.add_argument("--runs", type=int, default=7, help="runs of each program")
     words.add_argument("--program", default=os.path.join(TOP, "build", "bedkeep"))
     return words.parse_args()
@@ -68,12 +87,16 @@ def read_words():
 # ------------------------------------------------------------------ the data
 
 
-def write_data(genome, track, script, count):
+def write_data(genome, track, script, count, columns, order):
     with open(genome, "w") as file:
-        file.writelines(f"{name}\t{length}\n" for name, length in CHROMOSOMES)
+        file.writelines(f"{name}\t{length}\n" for name, length in sorted(CHROMOSOMES))
+    rows = enumerate(places(count))
+    if order == "sorted":
+        rows = sorted(rows, key=lambda row: (CHROMOSOMES[row[1][0]][0], *row[1][1:]))
     with open(track, "w") as file:
-        for rank, start, stop in sorted(places(count)):
-            file.write(f"{CHROMOSOMES[rank][0]}\t{start}\t{stop}\n")
+        for number, (rank, start, stop) in rows:
+            beside = [f"gene_{number}", str(number % 1000), "+-"[number % 2]][:columns - 3]
+            file.write("\t".join([CHROMOSOMES[rank][0], str(start), str(stop), *beside]) + "\n")
     with open(script, "w") as file:
         file.write(SCRIPT)
 
@@ -96,7 +119,6 @@ def compare(programs):
     found = {name: digest_of(*program) for name, program in programs.items()}
     if found["bedkeep"] != found["bedtools"]:
         sys.exit(f"the outputs differ (digest, bytes): {found}")
-    print(f"outputs byte-equal: {found['bedkeep'][1]:,} bytes")
 
 
 def digest_of(words, given):
@@ -111,16 +133,19 @@ def digest_of(words, given):
 
 
 def measure(programs, runs):
-    """Seconds of each run, the programs taking turns."""
-    seconds = {name: [] for name in programs}
+    """Seconds of each run, the programs taking turns, and the most bytes that each held."""
+    seconds, most = {name: [] for name in programs}, dict.fromkeys(programs, 0)
     for _ in range(runs):
         for name, (words, given) in programs.items():
             with open(given, "rb") as standard_input:
                 begun = time.perf_counter()
-                done = subprocess.run(words, stdin=standard_input, stdout=subprocess.DEVNULL)
+                running = subprocess.Popen(words, stdin=standard_input, stdout=subprocess.DEVNULL)
+                _, status, used = os.wait4(running.pid, 0)
                 seconds[name].append(time.perf_counter() - begun)
-            stop_unless_done(words, done.returncode)
-    return seconds
+            running.returncode = os.waitstatus_to_exitcode(status)
+            stop_unless_done(words, running.returncode)
+            most[name] = max(most[name], used.ru_maxrss * 1024)
+    return seconds, most
 
 
 def stop_unless_done(words, status):
@@ -131,20 +156,15 @@ def stop_unless_done(words, status):
 # ------------------------------------------------------------------ the report
 
 
-def report(wanted, track, seconds):
-    version = subprocess.run(["bedtools", "--version"], capture_output=True, text=True).stdout.strip()
-    print(f"{wanted.records:,} records, {os.path.getsize(track):,} bytes, {wanted.runs} runs each, "
-          f"{version}, {os.cpu_count()} processors, {platform.machine()}")
-    print(f"{'':10}{'least':>10}{'median':>10}")
-    for name, runs in seconds.items():
-        print(f"{name:10}{milliseconds(min(runs))}{milliseconds(statistics.median(runs))}")
-    ours, theirs = seconds["bedkeep"], seconds["bedtools"]
-    print(f"{'ratio':10}{min(ours) / min(theirs):10.2f}"
-          f"{statistics.median(ours) / statistics.median(theirs):10.2f}")
+def report(records, columns, order, seconds, most):
+    ours, theirs = (f"{milliseconds(min(runs))}, {milliseconds(statistics.median(runs))}" for runs in seconds.values())
+    ratio = statistics.median(seconds["bedkeep"]) / statistics.median(seconds["bedtools"])
+    print(f"| {records:,} | {columns} | {order} | {ours} | {theirs} | {ratio:.2f} "
+          f"| {most['bedkeep'] / records:.0f} | {most['bedtools'] / records:.0f} |", flush=True)
 
 
 def milliseconds(value):
-    return f"{value * 1000:7.0f} ms"
+    return f"{value * 1000:.0f} ms"
 
 
 if __name__ == "__main__":

@@ -10,7 +10,7 @@ use Rattle.iv_cli.specs.declared.fault.CliFault.{CliFault}
 use Rattle.iv_cli.specs.declared.fault.CliFault.TheVariants.{Damaged, Memory}
 use Rattle.iv_cli.specs.declared.plan.Slot.{Slot}
 use Rattle.iv_cli.specs.declared.plan.Slot.TheVariants.{Sizes, First}
-use Rattle.iv_cli.specs.Loading.{loaded, with_first, with_genome, fault_of, damage_of, empty_width}
+use Rattle.iv_cli.specs.Loading.{loaded, with_first, with_genome, fault_of, damage_of}
 
 -- a fault is told as damage, unless it is want of memory
 told : (c : LoadCause) (damaged : CliFault) → (c ≡ cause.Memory) ⊎ (fault_of c damaged ≡ damaged)
@@ -34,14 +34,14 @@ damaged slot f whole (inr is) = elim (told f.cause (Damaged slot f)) [
   | inr same ↦ inr (is ∙ ap Err (sym same))
 ]
 
-pub genome-damaged : (sizes first : List ℕ) (limit : ℕ) (f : LoadFault) → (f ≡ record { line = 0; cause = cause.Memory }) ⊎ (genome_of sizes ≡ Err f)
-    → (damage_of Sizes f ≡ Memory) ⊎ (loaded sizes first limit ≡ Err (damage_of Sizes f))
-genome-damaged sizes first limit f (inl memory) = damaged Sizes f (loaded sizes first limit) (inl memory)
-genome-damaged sizes first limit f (inr is) = damaged Sizes f (loaded sizes first limit) (inr (ap (with_genome first limit) is))
+pub genome-damaged : (width : ℕ) (sizes first : List ℕ) (limit : ℕ) (f : LoadFault) → (f ≡ record { line = 0; cause = cause.Memory }) ⊎ (genome_of sizes ≡ Err f)
+    → (damage_of Sizes f ≡ Memory) ⊎ (loaded width sizes first limit ≡ Err (damage_of Sizes f))
+genome-damaged width sizes first limit f (inl memory) = damaged Sizes f (loaded width sizes first limit) (inl memory)
+genome-damaged width sizes first limit f (inr is) = damaged Sizes f (loaded width sizes first limit) (inr (ap (with_genome width first limit) is))
 
-pub first-damaged : (sizes first : List ℕ) (limit : ℕ) (g : Sequences) (f : LoadFault) → genome_of sizes ≡ Ok g
-    → (f ≡ record { line = 0; cause = cause.Memory }) ⊎ (bed_of g empty_width limit first ≡ Err f)
-    → (damage_of First f ≡ Memory) ⊎ (loaded sizes first limit ≡ Err (damage_of First f))
-first-damaged sizes first limit g f genome (inl memory) = damaged First f (loaded sizes first limit) (inl memory)
-first-damaged sizes first limit g f genome (inr is) =
-    damaged First f (loaded sizes first limit) (inr (ap (with_genome first limit) genome ∙ ap (with_first g limit) is))
+pub first-damaged : (width : ℕ) (sizes first : List ℕ) (limit : ℕ) (g : Sequences) (f : LoadFault) → genome_of sizes ≡ Ok g
+    → (f ≡ record { line = 0; cause = cause.Memory }) ⊎ (bed_of g width limit first ≡ Err f)
+    → (damage_of First f ≡ Memory) ⊎ (loaded width sizes first limit ≡ Err (damage_of First f))
+first-damaged width sizes first limit g f genome (inl memory) = damaged First f (loaded width sizes first limit) (inl memory)
+first-damaged width sizes first limit g f genome (inr is) =
+    damaged First f (loaded width sizes first limit) (inr (ap (with_genome width first limit) genome ∙ ap (with_first g limit) is))

@@ -7,15 +7,10 @@ use Rattle.std.proofs.lemmas.List.{map-append, take_all}
 use lib.ListN.{get_or}
 use Rattle.std.proofs.lemmas.List.Elements.{All-append, All-nil, All-cons, All-head, All-tail, filter-append}
 use Rattle.std.proofs.lemmas.Slice.Eq.{bytes_eq-Decides}
-use Rattle.std.proofs.lemmas.Bool.{cond-true, true≢false}
-use Rattle.iv_cli.specs.declared.plan.Slot.{Slot}
-use Rattle.iv_cli.specs.declared.plan.Slot.TheVariants.{Sizes, First}
-use Rattle.iv_cli.specs.Words.{Setting, RunFiles, Said, IsPlan, paired, option_of, values_of, is_of, taken, taken_at, unless_given}
-
--- a value that may be given, as the list of the values given
-abbrev pub listed : Option (List ℕ) → List (List ℕ)
-listed None = []
-listed (Some value) = value ∷ []
+use Rattle.std.proofs.lemmas.Bool.{cond-true, eqb-true, true≢false}
+use Rattle.iv_cli.specs.declared.draft.RunOption.{RunOption}
+use Rattle.iv_cli.specs.declared.draft.RunOption.TheVariants as option
+use Rattle.iv_cli.specs.Words.{Setting, RunPlan, Said, IsPlan, paired, option_of, values_of, is_of, listed, taken, taken_at, unless_given, width_said}
 
 -- the option of a setting is a known one
 abbrev pub IsKnown : Setting → Type 0
@@ -28,14 +23,16 @@ pub record Going (options rest : List (List ℕ)) (said : Said) : Type 0 where
   pub known : All IsKnown done
   pub sizes : values_of (codes "-g") done ≡ listed said.sizes
   pub first : values_of (codes "-i") done ≡ listed said.first
+  pub width : values_of (codes "-width") done ≡ listed said.width
 
-pub Going-begin : (options : List (List ℕ)) → Going options options (record { sizes = None; first = None })
+pub Going-begin : (options : List (List ℕ)) → Going options options (record { sizes = None; first = None; width = None })
 Going-begin options = record {
   done = [];
   are = same (paired options);
   known = All-nil IsKnown;
   sizes = refl;
   first = refl;
+  width = refl;
 }
   where
     same : (o : Option (List Setting)) → o ≡ option_map (λ more. [] ++ more) o
@@ -45,6 +42,9 @@ Going-begin options = record {
 none≢some : {A : Type 0} (a : A) → None ≡ Some a → ⊥
 none≢some a e = cc
 
+some-same : {A : Type 0} (a b : A) → Some a ≡ Some b → a ≡ b
+some-same a b e = cc
+
 -- ---- the values of an option
 
 values-append : (word : List ℕ) (xs ys : List Setting) → values_of word (xs ++ ys) ≡ values_of word xs ++ values_of word ys
@@ -52,67 +52,95 @@ values-append word xs ys =
     ap (map (λ (setting : Setting). setting.1)) (filter-append (is_of word) xs ys)
     ∙ map-append (λ (setting : Setting). setting.1) (filter (is_of word) xs) (filter (is_of word) ys)
 
--- the value of one setting, if it is of this option
-abbrev value_if : Bool → List ℕ → List (List ℕ)
-value_if true value = value ∷ []
-value_if false value = []
-
-values-one : (word : List ℕ) (setting : Setting) → values_of word (setting ∷ []) ≡ value_if (is_of word setting) setting.1
-values-one word setting = by (is_of word setting)
-  where
-    by : (b : Bool) → map (λ (setting : Setting). setting.1) (cond b (setting ∷ []) []) ≡ value_if b setting.1
-    by true = refl
-    by false = refl
-
--- the two options are different words
-apart : (word : List ℕ) → bytes_eq word (codes "-g") ≡ true → bytes_eq word (codes "-i") ≡ false
-apart word is = ap (λ (w : List ℕ). bytes_eq w (codes "-i")) ((bytes_eq-Decides word (codes "-g")).0 is)
-
 -- ---- one more setting
+
+-- the word of an option
+abbrev word_of : RunOption → List ℕ
+word_of option.Sizes = codes "-g"
+word_of option.First = codes "-i"
+word_of option.Width = codes "-width"
+
+-- a word is that of its option
+named : (word : List ℕ) (k : RunOption) → option_of word ≡ Some k → word ≡ word_of k
+named word k is = by (bytes_eq word (codes "-g")) (bytes_eq word (codes "-i")) (bytes_eq word (codes "-width")) refl refl refl is
+  where
+    by : (a b c : Bool) → bytes_eq word (codes "-g") ≡ a → bytes_eq word (codes "-i") ≡ b → bytes_eq word (codes "-width") ≡ c
+        → cond a (Some option.Sizes) (cond b (Some option.First) (cond c (Some option.Width) None)) ≡ Some k → word ≡ word_of k
+    by true b c at_g at_i at_width is = (bytes_eq-Decides word (codes "-g")).0 at_g ∙ ap word_of (some-same option.Sizes k is)
+    by false true c at_g at_i at_width is = (bytes_eq-Decides word (codes "-i")).0 at_i ∙ ap word_of (some-same option.First k is)
+    by false false true at_g at_i at_width is = (bytes_eq-Decides word (codes "-width")).0 at_width ∙ ap word_of (some-same option.Width k is)
+    by false false false at_g at_i at_width is = absurd (none≢some k is)
 
 unless-some : (o : Option (List ℕ)) (said new : Said) → unless_given o said ≡ Some new → (o ≡ None) × (new ≡ said)
 unless-some None said new h = (refl, cc)
 unless-some (Some value) said new h = absurd (none≢some new h)
 
 -- what a setting that can be taken says
-record Says (old new : Said) (b1 b2 : Bool) (o : Option Slot) (value : List ℕ) : Type 0 where
-  sizes : listed new.sizes ≡ listed old.sizes ++ value_if b1 value
-  first : listed new.first ≡ listed old.first ++ value_if b2 value
-  known : IsSome o
+record Says (old new : Said) (one : List Setting) : Type 0 where
+  sizes : listed new.sizes ≡ listed old.sizes ++ values_of (codes "-g") one
+  first : listed new.first ≡ listed old.first ++ values_of (codes "-i") one
+  width : listed new.width ≡ listed old.width ++ values_of (codes "-width") one
 
-says : (old new : Said) (b1 b2 : Bool) (value : List ℕ) → (b1 ≡ true → b2 ≡ false)
-    → taken_at (cond b1 (Some Sizes) (cond b2 (Some First) None)) old value ≡ Some new
-    → Says old new b1 b2 (cond b1 (Some Sizes) (cond b2 (Some First) None)) value
-says old new true true value both h = absurd (true≢false (both refl))
-says old new true false value both h =
+-- the value that was not given is given
+given-first : (old new : Option (List ℕ)) (value : List ℕ) → old ≡ None → new ≡ Some value → listed new ≡ listed old ++ (value ∷ [])
+given-first old new value none some = ap listed some ∙ ap (λ (o : Option (List ℕ)). listed o ++ (value ∷ [])) (sym none)
+
+-- another stays as it is
+as-before : (old new : Option (List ℕ)) → new ≡ old → listed new ≡ listed old ++ []
+as-before old new same = ap listed same ∙ sym (append-nil (listed old))
+
+says : (k : RunOption) (old new : Said) (value : List ℕ) → taken_at (Some k) old value ≡ Some new → Says old new ((word_of k, value) ∷ [])
+says option.Sizes old new value h =
     let given = unless-some old.sizes (record old { sizes = Some value }) new h in
     record {
-      sizes = ap (λ (s : Said). listed s.sizes) given.1 ∙ ap (λ (o : Option (List ℕ)). listed o ++ (value ∷ [])) (sym given.0);
-      first = ap (λ (s : Said). listed s.first) given.1 ∙ sym (append-nil (listed old.first));
-      known = refl;
+      sizes = given-first old.sizes new.sizes value given.0 (ap (λ (s : Said). s.sizes) given.1);
+      first = as-before old.first new.first (ap (λ (s : Said). s.first) given.1);
+      width = as-before old.width new.width (ap (λ (s : Said). s.width) given.1);
     }
-says old new false true value both h =
+says option.First old new value h =
     let given = unless-some old.first (record old { first = Some value }) new h in
     record {
-      sizes = ap (λ (s : Said). listed s.sizes) given.1 ∙ sym (append-nil (listed old.sizes));
-      first = ap (λ (s : Said). listed s.first) given.1 ∙ ap (λ (o : Option (List ℕ)). listed o ++ (value ∷ [])) (sym given.0);
-      known = refl;
+      sizes = as-before old.sizes new.sizes (ap (λ (s : Said). s.sizes) given.1);
+      first = given-first old.first new.first value given.0 (ap (λ (s : Said). s.first) given.1);
+      width = as-before old.width new.width (ap (λ (s : Said). s.width) given.1);
     }
-says old new false false value both h = absurd (none≢some new h)
+says option.Width old new value h =
+    let given = unless-some old.width (record old { width = Some value }) new h in
+    record {
+      sizes = as-before old.sizes new.sizes (ap (λ (s : Said). s.sizes) given.1);
+      first = as-before old.first new.first (ap (λ (s : Said). s.first) given.1);
+      width = given-first old.width new.width value given.0 (ap (λ (s : Said). s.width) given.1);
+    }
+
+-- a setting that can be taken is of a known option
+record IsTaken (old new : Said) (word value : List ℕ) : Type 0 where
+  known : IsSome (option_of word)
+  told : Says old new ((word, value) ∷ [])
+
+is-taken : (old new : Said) (word value : List ℕ) → taken old word value ≡ Some new → IsTaken old new word value
+is-taken old new word value h = by (option_of word) refl h
+  where
+    by : (o : Option RunOption) → option_of word ≡ o → taken_at o old value ≡ Some new → IsTaken old new word value
+    by None is h = absurd (none≢some new h)
+    by (Some k) is h = record {
+      known = ap is_some is;
+      told = subst (λ (w : List ℕ). Says old new ((w, value) ∷ [])) (sym (named word k is)) (says k old new value h);
+    }
 
 pub Going-more : (options others : List (List ℕ)) (word value : List ℕ) (old new : Said)
     → Going options (word ∷ value ∷ others) old → taken old word value ≡ Some new → Going options others new
 Going-more options others word value old new going h =
     let one : List Setting = (word, value) ∷ [] in
-    let told = says old new (bytes_eq word (codes "-g")) (bytes_eq word (codes "-i")) value (apart word) h in
+    let is = is-taken old new word value h in
+    let more : (option : List ℕ) (before after : List (List ℕ)) → values_of option going.done ≡ before → after ≡ before ++ values_of option one → values_of option (going.done ++ one) ≡ after =
+    λ option before after was then. values-append option going.done one ∙ ap (λ (l : List (List ℕ)). l ++ values_of option one) was ∙ sym then in
     record {
       done = going.done ++ one;
       are = going.are ∙ shifted (paired others);
-      known = All-append IsKnown going.done one going.known (All-cons IsKnown (word, value) [] told.known (All-nil IsKnown));
-      sizes = values-append (codes "-g") going.done one ∙ ap (λ (l : List (List ℕ)). l ++ values_of (codes "-g") one) going.sizes
-          ∙ ap (λ (l : List (List ℕ)). listed old.sizes ++ l) (values-one (codes "-g") (word, value)) ∙ sym told.sizes;
-      first = values-append (codes "-i") going.done one ∙ ap (λ (l : List (List ℕ)). l ++ values_of (codes "-i") one) going.first
-          ∙ ap (λ (l : List (List ℕ)). listed old.first ++ l) (values-one (codes "-i") (word, value)) ∙ sym told.first;
+      known = All-append IsKnown going.done one going.known (All-cons IsKnown (word, value) [] is.known (All-nil IsKnown));
+      sizes = more (codes "-g") (listed old.sizes) (listed new.sizes) going.sizes is.told.sizes;
+      first = more (codes "-i") (listed old.first) (listed new.first) going.first is.told.first;
+      width = more (codes "-width") (listed old.width) (listed new.width) going.width is.told.width;
     }
   where
     shifted : (o : Option (List Setting))
@@ -127,11 +155,11 @@ cond_some : (b : Bool) (o : Option (List Setting)) (settings : List Setting) →
 cond_some true o settings h = (refl, h)
 cond_some false o settings h = absurd (none≢some settings h)
 
-pub refuse-nothing : (files : RunFiles) → ¬ IsPlan [] files
-refuse-nothing files plan = none≢some plan.settings plan.are
+pub refuse-nothing : (plan : RunPlan) → ¬ IsPlan [] plan
+refuse-nothing plan is = none≢some is.settings is.are
 
-pub refuse-word : (word : List ℕ) (options : List (List ℕ)) → bytes_eq word (codes "session") ≡ false → (files : RunFiles) → ¬ IsPlan (word ∷ options) files
-refuse-word word options differ files plan = true≢false (sym (cond_some _ _ plan.settings plan.are).0 ∙ differ)
+pub refuse-word : (word : List ℕ) (options : List (List ℕ)) → bytes_eq word (codes "session") ≡ false → (plan : RunPlan) → ¬ IsPlan (word ∷ options) plan
+refuse-word word options differ plan is = true≢false (sym (cond_some _ _ is.settings is.are).0 ∙ differ)
 
 -- the settings of a plan are those so far and those of the words to come
 record Splits (rest : List (List ℕ)) (done settings : List Setting) : Type 0 where
@@ -139,48 +167,71 @@ record Splits (rest : List (List ℕ)) (done settings : List Setting) : Type 0 w
   are : paired rest ≡ Some more
   all : settings ≡ done ++ more
 
-splits : (options rest : List (List ℕ)) (said : Said) (word : List ℕ) (files : RunFiles) (going : Going options rest said)
-    → (plan : IsPlan (word ∷ options) files) → Splits rest going.done plan.settings
-splits options rest said word files going plan = by (paired rest) refl (sym (cond_some _ _ plan.settings plan.are).1 ∙ going.are)
+splits : (options rest : List (List ℕ)) (said : Said) (word : List ℕ) (plan : RunPlan) (going : Going options rest said)
+    → (is : IsPlan (word ∷ options) plan) → Splits rest going.done is.settings
+splits options rest said word plan going is = by (paired rest) refl (sym (cond_some _ _ is.settings is.are).1 ∙ going.are)
   where
-    by : (o : Option (List Setting)) → paired rest ≡ o → Some plan.settings ≡ option_map (λ more. going.done ++ more) o → Splits rest going.done plan.settings
-    by None is h = absurd (none≢some plan.settings (sym h))
-    by (Some more) is h = record { more = more; are = is; all = cc }
+    by : (o : Option (List Setting)) → paired rest ≡ o → Some is.settings ≡ option_map (λ more. going.done ++ more) o → Splits rest going.done is.settings
+    by None none h = absurd (none≢some is.settings (sym h))
+    by (Some more) some h = record { more = more; are = some; all = cc }
 
 pub refuse-odd : (options : List (List ℕ)) (last : List ℕ) (said : Said) (word : List ℕ) → Going options (last ∷ []) said
-    → (files : RunFiles) → ¬ IsPlan (word ∷ options) files
-refuse-odd options last said word going files plan =
-    let s = splits options (last ∷ []) said word files going plan in none≢some s.more s.are
+    → (plan : RunPlan) → ¬ IsPlan (word ∷ options) plan
+refuse-odd options last said word going plan is =
+    let s = splits options (last ∷ []) said word plan going is in none≢some s.more s.are
 
 -- an option that is given twice is not given once
-twice : (option word value x : List ℕ) (done rest settings : List Setting) (given : List (List ℕ)) → settings ≡ done ++ ((word, value) ∷ rest)
-    → values_of option done ≡ given → values_of option settings ≡ x ∷ [] → is_of option (word, value) ≡ true → 1 ≤ length given → ⊥
-twice option word value x done rest settings given all before once is some =
+twice : (option word value : List ℕ) (done rest settings : List Setting) (given : List (List ℕ)) → settings ≡ done ++ ((word, value) ∷ rest)
+    → values_of option done ≡ given → length (values_of option settings) ≤ 1 → is_of option (word, value) ≡ true → 1 ≤ length given → ⊥
+twice option word value done rest settings given all before once is some =
     let behind : values_of option ((word, value) ∷ rest) ≡ value ∷ values_of option rest =
     ap (map (λ (setting : Setting). setting.1)) (cond-true _ _ _ is) in
-    let parts : x ∷ [] ≡ given ++ (value ∷ values_of option rest) =
-    sym once ∙ ap (values_of option) all ∙ values-append option done ((word, value) ∷ rest)
+    let parts : values_of option settings ≡ given ++ (value ∷ values_of option rest) =
+    ap (values_of option) all ∙ values-append option done ((word, value) ∷ rest)
     ∙ ap (λ (l : List (List ℕ)). l ++ values_of option ((word, value) ∷ rest)) before
     ∙ ap (λ (l : List (List ℕ)). given ++ l) behind in
-    let long : length (x ∷ []) ≡ length given + length (value ∷ values_of option rest) =
+    let long : length (values_of option settings) ≡ length given + length (value ∷ values_of option rest) =
     ap (λ (l : List (List ℕ)). length l) parts ∙ length-append given (value ∷ values_of option rest) in
-    omega (arith, long, some)
+    omega (arith, long, some, once)
 
--- a setting that cannot be taken is of an option that is given, or of none
-data IsRefused (said : Said) (b1 b2 : Bool) (o : Option Slot) : Type 0 where
-  sizes_given : b1 ≡ true → 1 ≤ length (listed said.sizes) → IsRefused said b1 b2 o
-  first_given : b2 ≡ true → 1 ≤ length (listed said.first) → IsRefused said b1 b2 o
-  unknown : o ≡ None → IsRefused said b1 b2 o
+-- a width is said by one value at most
+width-once : (values : List (List ℕ)) (width : ℕ) → width_said values ≡ Some width → length values ≤ 1
+width-once [] width h = omega arith
+width-once (value ∷ []) width h = omega arith
+width-once (value ∷ next ∷ values) width h = absurd (none≢some width h)
+
+-- each option is given once at most in a plan
+once : (words : List (List ℕ)) (plan : RunPlan) (is : IsPlan words plan) (k : RunOption) → length (values_of (word_of k) is.settings) ≤ 1
+once words plan is option.Sizes = omega (arith, ap (λ (l : List (List ℕ)). length l) is.sizes)
+once words plan is option.First = omega (arith, ap (λ (l : List (List ℕ)). length l) is.first)
+once words plan is option.Width = width-once (values_of (codes "-width") is.settings) plan.width is.width
+
+-- the value given for an option, and that it is what was said
+abbrev said_of : Said → RunOption → Option (List ℕ)
+said_of said option.Sizes = said.sizes
+said_of said option.First = said.first
+said_of said option.Width = said.width
+
+values-done : (options rest : List (List ℕ)) (said : Said) (going : Going options rest said) (k : RunOption) → values_of (word_of k) going.done ≡ listed (said_of said k)
+values-done options rest said going option.Sizes = going.sizes
+values-done options rest said going option.First = going.first
+values-done options rest said going option.Width = going.width
 
 given_before : (o : Option (List ℕ)) (said : Said) → unless_given o said ≡ None → 1 ≤ length (listed o)
 given_before None said h = absurd (none≢some said (sym h))
 given_before (Some value) said h = omega arith
 
-refused : (said : Said) (b1 b2 : Bool) (value : List ℕ) → taken_at (cond b1 (Some Sizes) (cond b2 (Some First) None)) said value ≡ None
-    → IsRefused said b1 b2 (cond b1 (Some Sizes) (cond b2 (Some First) None))
-refused said true b2 value h = sizes_given refl (given_before said.sizes _ h)
-refused said false true value h = first_given refl (given_before said.first _ h)
-refused said false false value h = unknown refl
+-- an option whose value cannot be taken has one
+refused : (k : RunOption) (said : Said) (value : List ℕ) → taken_at (Some k) said value ≡ None → 1 ≤ length (listed (said_of said k))
+refused option.Sizes said value h = given_before said.sizes _ h
+refused option.First said value h = given_before said.first _ h
+refused option.Width said value h = given_before said.width _ h
+
+-- a setting is of its own option
+own : (k : RunOption) (value : List ℕ) → is_of (word_of k) (word_of k, value) ≡ true
+own option.Sizes value = refl
+own option.First value = refl
+own option.Width value = refl
 
 -- the words to come begin with a setting
 led : (setting : Setting) (o : Option (List Setting)) (more : List Setting) → option_map (λ settings. setting ∷ settings) o ≡ Some more
@@ -193,54 +244,71 @@ known-behind [] rest setting all = All-head IsKnown setting rest all
 known-behind (first ∷ done) rest setting all = known-behind done rest setting (All-tail IsKnown first (done ++ (setting ∷ rest)) all)
 
 pub refuse-taken : (options others : List (List ℕ)) (option value : List ℕ) (said : Said) (word : List ℕ)
-    → Going options (option ∷ value ∷ others) said → taken said option value ≡ None → (files : RunFiles) → ¬ IsPlan (word ∷ options) files
-refuse-taken options others option value said word going h files plan =
-    let s = splits options (option ∷ value ∷ others) said word files going plan in
-    let first = led (option, value) (paired others) s.more s.are in
-    let all : plan.settings ≡ going.done ++ ((option, value) ∷ first.0) = s.all ∙ ap (λ (l : List Setting). going.done ++ l) first.1 in
-    elim (refused said (bytes_eq option (codes "-g")) (bytes_eq option (codes "-i")) value h) [
-      | sizes_given is some ↦ twice (codes "-g") option value files.sizes going.done first.0 plan.settings (listed said.sizes) all going.sizes plan.sizes is some
-      | first_given is some ↦ twice (codes "-i") option value files.first going.done first.0 plan.settings (listed said.first) all going.first plan.first is some
-      | unknown none ↦ true≢false (sym (known-behind going.done first.0 (option, value) (subst (λ (l : List Setting). All IsKnown l) all plan.known)) ∙ ap is_some none)
-    ]
+    → Going options (option ∷ value ∷ others) said → taken said option value ≡ None → (plan : RunPlan) → ¬ IsPlan (word ∷ options) plan
+refuse-taken options others option value said word going h plan is = by (option_of option) refl h
+  where
+    s : Splits (option ∷ value ∷ others) going.done is.settings
+    s = splits options (option ∷ value ∷ others) said word plan going is
+
+    first : (rest : List Setting) × (s.more ≡ (option, value) ∷ rest)
+    first = led (option, value) (paired others) s.more s.are
+
+    all : is.settings ≡ going.done ++ ((option, value) ∷ first.0)
+    all = s.all ∙ ap (λ (l : List Setting). going.done ++ l) first.1
+
+    by : (o : Option RunOption) → option_of option ≡ o → taken_at o said value ≡ None → ⊥
+    by None at h = true≢false (sym (known-behind going.done first.0 (option, value) (subst (λ (l : List Setting). All IsKnown l) all is.known)) ∙ ap is_some at)
+    by (Some k) at h =
+        twice (word_of k) option value going.done first.0 is.settings (listed (said_of said k)) all (values-done options (option ∷ value ∷ others) said going k)
+        (once (word ∷ options) plan is k) (ap (λ (w : List ℕ). is_of (word_of k) (w, value)) (named option k at) ∙ own k value) (refused k said value h)
 
 -- where no words are to come, the settings are those so far
-settings-done : (options : List (List ℕ)) (said : Said) (word : List ℕ) (files : RunFiles) (going : Going options [] said)
-    → (plan : IsPlan (word ∷ options) files) → plan.settings ≡ going.done
-settings-done options said word files going plan =
-    let s = splits options [] said word files going plan in
+settings-done : (options : List (List ℕ)) (said : Said) (word : List ℕ) (plan : RunPlan) (going : Going options [] said)
+    → (is : IsPlan (word ∷ options) plan) → is.settings ≡ going.done
+settings-done options said word plan going is =
+    let s = splits options [] said word plan going is in
     s.all ∙ ap (λ (l : List Setting). going.done ++ l) (none s.more s.are) ∙ append-nil going.done
   where
     none : (more : List Setting) → Some [] ≡ Some more → more ≡ []
     none more e = cc
+
+-- the values of an option in a plan are what was said of it
+plan-said : (options : List (List ℕ)) (said : Said) (word : List ℕ) (plan : RunPlan) (going : Going options [] said)
+    → (is : IsPlan (word ∷ options) plan) (k : RunOption) → values_of (word_of k) is.settings ≡ listed (said_of said k)
+plan-said options said word plan going is k =
+    ap (values_of (word_of k)) (settings-done options said word plan going is) ∙ values-done options [] said going k
 
 no_value : (x : List ℕ) (o : Option (List ℕ)) → o ≡ None → listed o ≡ x ∷ [] → ⊥
 no_value x None none h = cc
 no_value x (Some value) none h = none≢some value (sym none)
 
 pub refuse-sizes : (options : List (List ℕ)) (said : Said) (word : List ℕ) → Going options [] said → said.sizes ≡ None
-    → (files : RunFiles) → ¬ IsPlan (word ∷ options) files
-refuse-sizes options said word going none files plan =
-    no_value files.sizes said.sizes none
-    (sym going.sizes ∙ ap (values_of (codes "-g")) (sym (settings-done options said word files going plan)) ∙ plan.sizes)
+    → (plan : RunPlan) → ¬ IsPlan (word ∷ options) plan
+refuse-sizes options said word going none plan is =
+    no_value plan.sizes said.sizes none (sym (plan-said options said word plan going is option.Sizes) ∙ is.sizes)
 
 pub refuse-first : (options : List (List ℕ)) (said : Said) (word : List ℕ) → Going options [] said → said.first ≡ None
-    → (files : RunFiles) → ¬ IsPlan (word ∷ options) files
-refuse-first options said word going none files plan =
-    no_value files.first said.first none
-    (sym going.first ∙ ap (values_of (codes "-i")) (sym (settings-done options said word files going plan)) ∙ plan.first)
+    → (plan : RunPlan) → ¬ IsPlan (word ∷ options) plan
+refuse-first options said word going none plan is =
+    no_value plan.first said.first none (sym (plan-said options said word plan going is option.First) ∙ is.first)
+
+pub refuse-width : (options : List (List ℕ)) (said : Said) (word : List ℕ) → Going options [] said → width_said (listed said.width) ≡ None
+    → (plan : RunPlan) → ¬ IsPlan (word ∷ options) plan
+refuse-width options said word going none plan is =
+    none≢some plan.width (sym none ∙ ap width_said (sym (plan-said options said word plan going is option.Width)) ∙ is.width)
 
 -- ---- words that are a plan
 
-pub accept : (options : List (List ℕ)) (said : Said) (word sizes first : List ℕ) → Going options [] said
-    → bytes_eq word (codes "session") ≡ true → Some sizes ≡ said.sizes → Some first ≡ said.first
-    → IsPlan (word ∷ options) (record { sizes = sizes; first = first })
-accept options said word sizes first going is sizes_is first_is = record {
+pub accept : (options : List (List ℕ)) (said : Said) (word sizes first : List ℕ) (width : ℕ) → Going options [] said
+    → bytes_eq word (codes "session") ≡ true → Some sizes ≡ said.sizes → Some first ≡ said.first → Some width ≡ width_said (listed said.width)
+    → IsPlan (word ∷ options) (record { sizes = sizes; first = first; width = width })
+accept options said word sizes first width going is sizes_is first_is width_is = record {
   settings = going.done;
   are = cond-true _ _ _ is ∙ going.are ∙ ap Some (append-nil going.done);
   known = going.known;
   sizes = going.sizes ∙ ap listed (sym sizes_is);
   first = going.first ∙ ap listed (sym first_is);
+  width = ap width_said going.width ∙ sym width_is;
 }
 
 -- ---- lists of references
@@ -259,3 +327,8 @@ pub one-only : {A : Type 0} (f : A → List ℕ) (xs : List A) → length xs < 2
 one-only f [] less some = absurd (true≢false some)
 one-only f (x ∷ []) less some = (f x, refl)
 one-only f (x ∷ y ∷ xs) less some = absurd (omega (arith, less))
+
+-- an empty list
+pub none-left : {A : Type 0} (f : A → List ℕ) (xs : List A) → (length xs == 0) ≡ true → map f xs ≡ []
+none-left f [] none = refl
+none-left f (x ∷ xs) none = let zero : length (x ∷ xs) ≡ 0 = eqb-true _ _ none in absurd (omega (arith, zero))

@@ -12,10 +12,6 @@ use Rattle.iv_cli.specs.declared.fault.CliFault.TheVariants.{Damaged, Memory}
 use Rattle.iv_cli.specs.declared.plan.Slot.{Slot}
 use Rattle.iv_cli.specs.declared.plan.Slot.TheVariants.{Sizes, First}
 
--- the width of a file without a record
-abbrev pub empty_width : ℕ
-empty_width = 3
-
 -- how a fault of a file is told: want of memory is no damage
 abbrev pub fault_of : LoadCause → CliFault → CliFault
 fault_of cause.Memory damaged = Memory
@@ -29,11 +25,11 @@ abbrev pub with_first : Sequences → ℕ → Result Bed LoadFault → Result St
 with_first g limit (Err f) = Err (Damaged First f)
 with_first g limit (Ok first) = Ok (begun g first limit)
 
-abbrev pub with_genome : List ℕ → ℕ → Result Sequences LoadFault → Result State CliFault
-with_genome first limit (Err f) = Err (Damaged Sizes f)
-with_genome first limit (Ok g) = with_first g limit (bed_of g empty_width limit first)
+abbrev pub with_genome : ℕ → List ℕ → ℕ → Result Sequences LoadFault → Result State CliFault
+with_genome width first limit (Err f) = Err (Damaged Sizes f)
+with_genome width first limit (Ok g) = with_first g limit (bed_of g width limit first)
 
--- what the bytes of the genome file and of the first file load as: the session that they begin, with so many records
--- at most, or the fault of the first damaged file
-abbrev pub loaded : List ℕ → List ℕ → ℕ → Result State CliFault
-loaded sizes first limit = with_genome first limit (genome_of sizes)
+-- what the bytes of the genome file and of the first file load as, where a file without a record has this width: the
+-- session that they begin, with so many records at most, or the fault of the first damaged file
+abbrev pub loaded : ℕ → List ℕ → List ℕ → ℕ → Result State CliFault
+loaded width sizes first limit = with_genome width first limit (genome_of sizes)

@@ -1,25 +1,44 @@
 -- The words of a run.
-use Rattle.std.specs.Prelude.{◌≡◌, ℕ, Bool, cond, List, [], ◌∷◌, Option, None, Some, All, IsSome, map, filter, codes}
+use Rattle.std.specs.Prelude.{◌≡◌, ◌-◌, ℕ, ◌&&◌, nat_le, Bool, cond, List, [], ◌∷◌, Option, None, Some, All, IsSome, map, filter, codes}
 use Rattle.std.specs.Option.{option_map}
 use Rattle.std.specs.Str.{bytes_eq}
+use Rattle.iv_cli.specs.declared.draft.RunOption.{RunOption}
+use Rattle.iv_cli.specs.declared.draft.RunOption.TheVariants as option
 use Rattle.iv_cli.specs.declared.plan.Slot.{Slot}
 use Rattle.iv_cli.specs.declared.plan.Slot.TheVariants.{Sizes, First, Other, Bases}
 
--- the names of the files of a run
-pub record RunFiles : Type 0 where
+-- what the words of a run say: the names of its files, and the width of a BED file without a record
+pub record RunPlan : Type 0 where
   pub sizes : List ℕ
   pub first : List ℕ
+  pub width : ℕ
 
--- the name of one of them
-abbrev pub file_of : RunFiles → Slot → Option (List ℕ)
-file_of files Sizes = Some files.sizes
-file_of files First = Some files.first
-file_of files Other = None
-file_of files Bases = None
+-- the name of a file
+abbrev pub file_of : RunPlan → Slot → Option (List ℕ)
+file_of plan Sizes = Some plan.sizes
+file_of plan First = Some plan.first
+file_of plan Other = None
+file_of plan Bases = None
 
--- the file that an option names
-abbrev pub option_of : List ℕ → Option Slot
-option_of word = cond (bytes_eq word (codes "-g")) (Some Sizes) (cond (bytes_eq word (codes "-i")) (Some First) None)
+-- the option that a word is
+abbrev pub option_of : List ℕ → Option RunOption
+option_of word =
+    cond (bytes_eq word (codes "-g")) (Some option.Sizes)
+    (cond (bytes_eq word (codes "-i")) (Some option.First)
+    (cond (bytes_eq word (codes "-width")) (Some option.Width)
+    None))
+
+-- a width is said by one digit from 3 to 6
+abbrev pub width_of : List ℕ → Option ℕ
+width_of [] = None
+width_of (b ∷ []) = cond (nat_le 51 b && nat_le b 54) (Some (b - 48)) None
+width_of (b ∷ c ∷ bs) = None
+
+-- the width that the values given for it say: 3 where there is none
+abbrev pub width_said : List (List ℕ) → Option ℕ
+width_said [] = Some 3
+width_said (value ∷ []) = width_of value
+width_said (value ∷ next ∷ values) = None
 
 -- an option and its value
 abbrev pub Setting : Type 0
@@ -44,31 +63,37 @@ is_of word setting = bytes_eq setting.0 word
 abbrev pub values_of : List ℕ → List Setting → List (List ℕ)
 values_of word settings = map (λ setting. setting.1) (filter (is_of word) settings)
 
--- the words are the plan of a session: settings of known options, `-g` and `-i` once each
-pub record IsPlan (words : List (List ℕ)) (files : RunFiles) : Type 0 where
+-- the words are the plan of a session: settings of known options, `-g` and `-i` once each, `-width` once at most
+pub record IsPlan (words : List (List ℕ)) (plan : RunPlan) : Type 0 where
   pub settings : List Setting
   pub are : settings_of words ≡ Some settings
   pub known : All (λ setting. IsSome (option_of setting.0)) settings
-  pub sizes : values_of (codes "-g") settings ≡ files.sizes ∷ []
-  pub first : values_of (codes "-i") settings ≡ files.first ∷ []
+  pub sizes : values_of (codes "-g") settings ≡ plan.sizes ∷ []
+  pub first : values_of (codes "-i") settings ≡ plan.first ∷ []
+  pub width : width_said (values_of (codes "-width") settings) ≡ Some plan.width
 
 -- what settings have said so far
 pub record Said : Type 0 where
   pub sizes : Option (List ℕ)
   pub first : Option (List ℕ)
+  pub width : Option (List ℕ)
+
+-- a value that may be given, as the list of the values given
+abbrev pub listed : Option (List ℕ) → List (List ℕ)
+listed None = []
+listed (Some value) = value ∷ []
 
 -- a value, unless one was given before
 abbrev pub unless_given : Option (List ℕ) → Said → Option Said
 unless_given None said = Some said
 unless_given (Some value) said = None
 
--- what is said after a value for a file, where it can be given
-abbrev pub taken_at : Option Slot → Said → List ℕ → Option Said
+-- what is said after a value for an option, where it can be given
+abbrev pub taken_at : Option RunOption → Said → List ℕ → Option Said
 taken_at None said value = None
-taken_at (Some Sizes) said value = unless_given said.sizes (record said { sizes = Some value })
-taken_at (Some First) said value = unless_given said.first (record said { first = Some value })
-taken_at (Some Other) said value = None
-taken_at (Some Bases) said value = None
+taken_at (Some option.Sizes) said value = unless_given said.sizes (record said { sizes = Some value })
+taken_at (Some option.First) said value = unless_given said.first (record said { first = Some value })
+taken_at (Some option.Width) said value = unless_given said.width (record said { width = Some value })
 
 -- what is said after one more setting, where it can be
 abbrev pub taken : Said → List ℕ → List ℕ → Option Said

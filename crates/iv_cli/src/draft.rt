@@ -1,20 +1,59 @@
 //! What the settings of a run have said so far.
 ghost use Rattle.std.specs.Prelude.{◌≡◌, Some, None, IfErr, OnOk};
 ghost use Rattle.std.specs.Option.{option_copied};
-ghost use Rattle.iv_cli.specs.Words.{option_of, taken};
+ghost use Rattle.iv_cli.specs.Words.{option_of as option_of_word, taken, listed, width_of, width_said};
 
 use crate::fault::CliFault;
-use crate::plan::Slot;
 use std::marker::Model;
 
 /// The fault of words that say no run: E16.
 pub(crate) const BAD_WORDS: CliFault = CliFault::Words(16);
 
-/// The names of files that are given so far.
+/// The width of a BED file without a record, where none is asked for.
+const USUAL_WIDTH: u8 = 3;
+
+/// An option of a run.
+#[derive(Clone, Copy, Debug, PartialEq, Eq)]
+pub(crate) enum RunOption {
+    /// `-g`: the genome file.
+    Sizes,
+    /// `-i`: the first BED file.
+    First,
+    /// `-width`: the width of a BED file without a record.
+    Width,
+}
+
+/// The option that a word is.
+fn option_of(word: &[u8]) -> Option<RunOption>
+    ensures { result ≡ option_of_word word.now }
+{
+    if word == b"-g".as_slice() {
+        Some(RunOption::Sizes)
+    } else if word == b"-i".as_slice() {
+        Some(RunOption::First)
+    } else if word == b"-width".as_slice() {
+        Some(RunOption::Width)
+    } else {
+        None
+    }
+}
+
+/// The width that a value says: one digit from 3 to 6.
+fn read_width(value: &[u8]) -> Option<u8>
+    ensures { result ≡ width_of value.now }
+{
+    match value {
+        [digit] if *digit >= b'3' && *digit <= b'6' => Some(*digit - b'0'),
+        _ => None,
+    }
+}
+
+/// The values that are given so far.
 #[derive(Debug, Drop)]
 pub(crate) struct Draft<'a> {
     sizes: Option<&'a [u8]>,
     first: Option<&'a [u8]>,
+    width: Option<&'a [u8]>,
 }
 
 impl<'a> Model for Draft<'a> {
@@ -23,30 +62,18 @@ impl<'a> Model for Draft<'a> {
 
     ghost Value = { Said };
 
-    ghost view = { λ d. record { sizes = option_copied d.sizes; first = option_copied d.first } };
-}
-
-/// The file that an option names.
-fn option_slot(word: &[u8]) -> Option<Slot>
-    ensures { result ≡ option_of word.now }
-{
-    if word == b"-g".as_slice() {
-        Some(Slot::Sizes)
-    } else if word == b"-i".as_slice() {
-        Some(Slot::First)
-    } else {
-        None
-    }
+    ghost view = { λ d. record { sizes = option_copied d.sizes; first = option_copied d.first; width = option_copied d.width } };
 }
 
 impl<'a> Draft<'a> {
     /// Nothing is given.
     pub(crate) fn new() -> Self
-        ensures { result ≡ record { sizes = None; first = None } }
+        ensures { result ≡ record { sizes = None; first = None; width = None } }
     {
         Draft {
             sizes: None,
             first: None,
+            width: None,
         }
     }
 
@@ -55,13 +82,17 @@ impl<'a> Draft<'a> {
         ensures ok { OnOk result (taken self.old option.now value.now ≡ Some self.new) }
         ensures err { IfErr result (λ fault. (fault ≡ CliFault.Words 16) × (taken self.old option.now value.now ≡ None)) }
     {
-        match option_slot(option) {
-            Some(Slot::Sizes) if self.sizes.is_none() => {
+        match option_of(option) {
+            Some(RunOption::Sizes) if self.sizes.is_none() => {
                 self.sizes = Some(value);
                 Ok(())
             }
-            Some(Slot::First) if self.first.is_none() => {
+            Some(RunOption::First) if self.first.is_none() => {
                 self.first = Some(value);
+                Ok(())
+            }
+            Some(RunOption::Width) if self.width.is_none() => {
+                self.width = Some(value);
                 Ok(())
             }
             _ => Err(BAD_WORDS),
@@ -80,5 +111,15 @@ impl<'a> Draft<'a> {
         ensures { option_copied result ≡ self.now.first }
     {
         self.first
+    }
+
+    /// The width of a BED file without a record, 3 where none is given, and `None` where what is given says none.
+    pub(crate) fn width(&self) -> Option<u8>
+        ensures { result ≡ width_said (listed self.now.width) }
+    {
+        match self.width {
+            None => Some(USUAL_WIDTH),
+            Some(value) => read_width(value),
+        }
     }
 }

@@ -30,7 +30,7 @@ fn damage(slot: Slot, fault: LoadFault) -> CliFault
 /// The session that the files of a run begin, with no view open.
 ///
 /// The genome file is read first, then the first file; the fault is that of the first damaged one. A BED file without a
-/// record has the width 3.
+/// record has the width that the plan says.
 pub fn load<A: Allocator + Copy>(
     alloc: A,
     plan: &Plan<'_>,
@@ -38,14 +38,14 @@ pub fn load<A: Allocator + Copy>(
     limit: u32,
 ) -> Result<Session<A>, CliFault>
     requires { limit ≤ 4000000 }
-    ensures ok { IfOk result (λ session. loaded inputs.now.sizes.now inputs.now.first.now limit ≡ Ok session) }
-    ensures err { IfErr result (λ fault. (fault ≡ CliFault.Memory) ⊎ (loaded inputs.now.sizes.now inputs.now.first.now limit ≡ Err fault)) }
+    ensures ok { IfOk result (λ session. loaded plan.now.width inputs.now.sizes.now inputs.now.first.now limit ≡ Ok session) }
+    ensures err { IfErr result (λ fault. (fault ≡ CliFault.Memory) ⊎ (loaded plan.now.width inputs.now.sizes.now inputs.now.first.now limit ≡ Err fault)) }
 {
     let genome = match Genome::parse(alloc, inputs.sizes) {
         Ok(genome) => genome,
         Err(fault) => return Err(damage(Slot::Sizes, fault)),
     };
-    let first = match BedFile::parse(alloc, &genome, plan.empty_width(), limit, inputs.first) {
+    let first = match BedFile::parse(alloc, &genome, plan.width(), limit, inputs.first) {
         Ok(first) => first,
         Err(fault) => return Err(damage(Slot::First, fault)),
     };

@@ -1,7 +1,7 @@
 //! The words of a run.
-ghost use Rattle.std.specs.Prelude.{◌≡◌, map, IfOk, IfErr, List, ℕ};
+ghost use Rattle.std.specs.Prelude.{◌≡◌, ◌≤◌, map, IfOk, IfErr, List, ℕ};
 ghost use Rattle.std.specs.Option.{option_copied};
-ghost use Rattle.iv_cli.specs.Words.{RunFiles, IsPlan, file_of};
+ghost use Rattle.iv_cli.specs.Words.{RunPlan, IsPlan, file_of};
 
 use crate::draft::{BAD_WORDS, Draft};
 use crate::fault::CliFault;
@@ -25,24 +25,29 @@ pub enum Slot {
 pub struct Plan<'a> {
     sizes: &'a [u8],
     first: &'a [u8],
+    width: u8,
 }
 
 impl<'a> Model for Plan<'a> {
-    ghost use Rattle.iv_cli.specs.Words.{RunFiles};
+    ghost use Rattle.std.specs.Prelude.{◌≤◌};
+    ghost use Rattle.iv_cli.specs.Words.{RunPlan};
 
-    ghost Value = { RunFiles };
+    ghost Value = { RunPlan };
 
-    ghost view = { λ p. record { sizes = p.sizes.now; first = p.first.now } };
+    ghost view = { λ p. record { sizes = p.sizes.now; first = p.first.now; width = p.width } };
+
+    ghost invariant = { λ p. (3 ≤ p.width) × (p.width ≤ 6) };
 }
 
 impl<'a> Plan<'a> {
-    /// What the words after the program's name ask for: `session`, and behind it the options `-g GENOME` and
-    /// `-i RECORDS` in either order. The word after an option is its value, whatever it is.
+    /// What the words after the program's name ask for: `session`, and behind it the options `-g GENOME`,
+    /// `-i RECORDS` and, where it is wanted, `-width N`, in any order, each once. The word after an option is its
+    /// value, whatever it is; `N` is one digit from 3 to 6.
     ///
     /// Any other words are the fault `Words` with the number 16.
     pub fn read(words: &[&'a [u8]]) -> Result<Plan<'a>, CliFault>
         ensures ok { IfOk result (λ plan. IsPlan (map (λ word. word.now) words.now) plan) }
-        ensures err { IfErr result (λ fault. (fault ≡ CliFault.Words 16) × ((files : RunFiles) → ¬ IsPlan (map (λ word. word.now) words.now) files)) }
+        ensures err { IfErr result (λ fault. (fault ≡ CliFault.Words 16) × ((plan : RunPlan) → ¬ IsPlan (map (λ word. word.now) words.now) plan)) }
     {
         let Some((first_word, options)) = words.split_first() else {
             return Err(BAD_WORDS);
@@ -62,7 +67,14 @@ impl<'a> Plan<'a> {
         let (Some(sizes), Some(first)) = (draft.sizes(), draft.first()) else {
             return Err(BAD_WORDS);
         };
-        Ok(Plan { sizes, first })
+        let Some(width) = draft.width() else {
+            return Err(BAD_WORDS);
+        };
+        Ok(Plan {
+            sizes,
+            first,
+            width,
+        })
     }
 
     /// The name of a file, as the words give it.
@@ -76,10 +88,11 @@ impl<'a> Plan<'a> {
         }
     }
 
-    /// The width of a BED file without a record.
-    pub(crate) fn empty_width(&self) -> u8
-        ensures { result ≡ 3 }
+    /// The width of a BED file without a record, 3 to 6.
+    pub fn width(&self) -> u8
+        ensures value { result ≡ self.now.width }
+        ensures known { (3 ≤ result) × (result ≤ 6) }
     {
-        3
+        self.width
     }
 }

@@ -1,5 +1,5 @@
 -- Examples that compute.
-use Rattle.std.proofs.Common.{◌≡◌, ℕ, ◌++◌, List, [], ◌∷◌, Some, None, refl, inl, arith}
+use Rattle.std.proofs.Common.{◌≡◌, ℕ, ◌++◌, List, [], ◌∷◌, None, Ok, Err, false, refl, inl, arith}
 use Rattle.std.specs.Prelude.{codes}
 use Rattle.iv_text.specs.Genome.{Sequences}
 use Rattle.iv_text.specs.Fields.{words}
@@ -7,11 +7,12 @@ use Rattle.iv_text.specs.Row.{Row}
 use Rattle.iv_session.specs.Commands.{Runs, command_of}
 use Rattle.iv_session.specs.Scripts.{Steps}
 use Rattle.iv_session.specs.States.{State}
-use Rattle.iv_session.specs.Views.{view_of, view_fault, view_text}
+use Rattle.iv_session.specs.Views.{read_words, opened, view_text, all_text}
 use Rattle.iv_session.specs.Written.{silent, printed, refused_as}
 use Rattle.iv_session.specs.declared.command.Command.TheVariants as command
 use Rattle.iv_session.specs.declared.fault.ViewFault.TheVariants as fault
-use Rattle.iv_session.specs.declared.view.View.TheVariants as view
+use Rattle.iv_session.specs.declared.view.OpenView.{OpenView}
+use Rattle.iv_session.specs.declared.words.ViewWords.TheVariants as view
 
 abbrev g : Sequences
 g = (codes "chr1", 100) ∷ (codes "chr2", 50) ∷ (codes "chr3", 0) ∷ []
@@ -21,7 +22,7 @@ tab = 9 ∷ []
 
 -- an empty track of width 3
 abbrev empty : State
-empty = record { genome = g; width = 3; limit = 2; records = []; views = [] }
+empty = record { genome = g; width = 3; limit = 2; records = []; second = None; bases = None; views = [] }
 
 abbrev first_row : Row
 first_row = record { seq = 0; start = 10; stop = 20; name = []; score = []; strand = None; width = 3 }
@@ -29,14 +30,18 @@ first_row = record { seq = 0; start = 10; stop = 20; name = []; score = []; stra
 abbrev second_row : Row
 second_row = record { seq = 0; start = 15; stop = 30; name = []; score = []; strand = None; width = 3 }
 
-abbrev opened : State
-opened = record empty { views = (codes "m", view.Merge) ∷ [] }
+-- an open view that shows the merged blocks
+abbrev merging : OpenView
+merging = record { shows = view.Merge; stale = false }
+
+abbrev with_a_view : State
+with_a_view = record empty { views = (codes "m", merging) ∷ [] }
 
 abbrev with_one : State
-with_one = record opened { records = first_row ∷ [] }
+with_one = record with_a_view { records = first_row ∷ [] }
 
 abbrev with_two : State
-with_two = record opened { records = first_row ∷ second_row ∷ [] }
+with_two = record with_a_view { records = first_row ∷ second_row ∷ [] }
 
 pub comments-are_skipped : command_of (codes "# a note") ≡ command.Skipped
 comments-are_skipped = refl
@@ -47,20 +52,23 @@ commands-stand_before_a_tab = refl
 pub other_words-are_unknown : command_of (codes "paint" ++ tab ++ codes "m") ≡ command.Unknown
 other_words-are_unknown = refl
 
-pub spaces-are_no_words : view_of (words (codes "  merge ")) ≡ Some view.Merge
+pub spaces-are_no_words : read_words 3 false false (words (codes "  merge ")) ≡ Ok view.Merge
 spaces-are_no_words = refl
 
-pub no_words-are_no_view : view_of (words []) ≡ None
+pub no_words-are_no_view : read_words 3 false false (words []) ≡ Err fault.Words
 no_words-are_no_view = refl
 
-pub names-are_not_empty : view_fault empty [] (codes "merge" ∷ []) ≡ Some fault.BadName
+pub names-are_not_empty : opened empty [] (codes "merge" ∷ []) ≡ Err fault.BadName
 names-are_not_empty = refl
 
-pub names-are_taken_once : view_fault opened (codes "m") [] ≡ Some fault.Taken
+pub names-are_taken_once : opened with_a_view (codes "m") [] ≡ Err fault.Taken
 names-are_taken_once = refl
 
-pub one_view-stands_open : view_fault opened (codes "n") [] ≡ Some fault.TooMany
-one_view-stands_open = refl
+pub names-come_before_words : opened with_a_view (codes "n") [] ≡ Err fault.Words
+names-come_before_words = refl
+
+pub views-stand_under_their_names : all_text (record with_a_view { views = (codes "b", merging) ∷ (codes "a", merging) ∷ [] }) ≡ codes "#b\n#a\n"
+views-stand_under_their_names = refl
 
 -- two adds and a print between an opening and a refused add
 abbrev script : List (List ℕ)
@@ -73,8 +81,8 @@ script =
 
 pub script-steps : Steps Runs empty script (silent ∷ silent ∷ silent ∷ printed (view_text view.Merge with_two) ∷ refused_as 7 ∷ []) with_two
 script-steps = (
-  opened,
-  inl (view.Merge, refl, refl, refl),
+  with_a_view,
+  inl (refl, refl),
   (
     with_one,
     inl (omega arith, refl, refl),

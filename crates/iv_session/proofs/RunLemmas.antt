@@ -1,17 +1,16 @@
 -- One line of a script.
-use Rattle.std.proofs.Common.{◌≡◌, ℕ, List, [], Option, Some, None, Result, Ok, Err, refl, sym, ap, ◌∙◌, subst}
+use Rattle.std.proofs.Common.{◌≡◌, ℕ, ◌<◌, arith, length, List, [], ◌∷◌, Option, Some, None, Result, Ok, Err, refl, sym, ap, ◌∙◌, subst}
 use Rattle.std.specs.Prelude.{MatchOption, MatchResult, IfErr}
 use Rattle.iv_text.specs.Sinks.{SinkState, Takes, FailsIn, Puts}
 use Rattle.iv_text.specs.declared.sink.WriteFault.{WriteFault}
 use Rattle.iv_text.proofs.Putting.{Takes-nothing}
 use Rattle.iv_session.specs.States.{State}
-use Rattle.iv_session.specs.Views.{view_named, view_text}
+use Rattle.iv_session.specs.Views.{view_named, view_text, all_text}
 use Rattle.iv_session.specs.Written.{Written, silent, printed, refused_as, refusal_count, written_of, told}
-use Rattle.iv_session.specs.Commands.{Runs, Does, Prints, PrintsNamed, PrintsView, command_of, arguments, only_field}
+use Rattle.iv_session.specs.Commands.{Runs, Does, Prints, PrintsAll, PrintsNamed, PrintsView, command_of, arguments, only_field}
 use Rattle.iv_session.specs.Scripts.{PrintsLine, TellsOf, RanLine, FailedLine}
 use Rattle.iv_session.specs.declared.command.Command.{Command}
-use Rattle.iv_session.specs.declared.command.Command.TheVariants as command
-use Rattle.iv_session.specs.declared.view.View.{View}
+use Rattle.iv_session.specs.declared.view.OpenView.{OpenView}
 use Rattle.iv_session.specs.declared.fault.LineRefusal.{LineRefusal}
 use Rattle.iv_session.specs.declared.fault.LineRefusal.TheVariants as refusal
 use Rattle.iv_session.specs.declared.fault.PrintFault.{PrintFault}
@@ -36,60 +35,84 @@ cut_off = Err printing.Write
 abbrev pub PrintsIt : State → List ℕ → SinkState → SinkState → Result (Unit {0}) PrintFault → Type 0
 PrintsIt s name out0 out1 result = MatchOption (view_named s.views name)
     ((result ≡ Err printing.NoView) × (out1 ≡ out0))
-    (λ shows. Puts out0 out1 result (view_text shows s) × IfErr result (λ f. f ≡ printing.Write))
+    (λ v. Puts out0 out1 result (view_text v.shows s) × IfErr result (λ f. f ≡ printing.Write))
 
-prints-named : (s : State) (cs : List (List ℕ)) (name : List ℕ) (o : Option View) (written : Written) → only_field cs ≡ Some name → view_named s.views name ≡ o
+prints-named : (s : State) (cs : List (List ℕ)) (name : List ℕ) (o : Option OpenView) (written : Written) → only_field cs ≡ Some name → view_named s.views name ≡ o
     → PrintsView o s s written → Prints cs s s written
 prints-named s cs name o written one is prints =
-    subst (λ (f : Option (List ℕ)). PrintsNamed f s s written) (sym one) (subst (λ (v : Option View). PrintsView v s s written) (sym is) prints)
+    subst (λ (f : Option (List ℕ)). PrintsNamed f s s written) (sym one) (subst (λ (v : Option OpenView). PrintsView v s s written) (sym is) prints)
 
 pub printed-ok : (s : State) (cs : List (List ℕ)) (name : List ℕ) (out0 out1 : SinkState) → only_field cs ≡ Some name
-    → PrintsIt s name out0 out1 (Ok tt) → PrintsLine s cs out0 out1 (Ok (Ok tt))
+    → PrintsIt s name out0 out1 (Ok tt) → PrintsLine (Prints cs s s) out0 out1 (Ok (Ok tt))
 printed-ok s cs name out0 out1 one it = by (view_named s.views name) refl it
   where
-    by : (o : Option View) → view_named s.views name ≡ o
-        → MatchOption o ((all_put ≡ no_view) × (out1 ≡ out0)) (λ shows. Puts out0 out1 all_put (view_text shows s) × IfErr all_put (λ f. f ≡ printing.Write))
-        → PrintsLine s cs out0 out1 (Ok (Ok tt))
+    by : (o : Option OpenView) → view_named s.views name ≡ o
+        → MatchOption o ((all_put ≡ no_view) × (out1 ≡ out0)) (λ v. Puts out0 out1 all_put (view_text v.shows s) × IfErr all_put (λ f. f ≡ printing.Write))
+        → PrintsLine (Prints cs s s) out0 out1 (Ok (Ok tt))
     by None is it = absurd (cc (it.0))
-    by (Some shows) is it = record {
-      written = printed (view_text shows s);
-      prints = prints-named s cs name (Some shows) (printed (view_text shows s)) one is (refl, refl);
+    by (Some v) is it = record {
+      written = printed (view_text v.shows s);
+      prints = prints-named s cs name (Some v) (printed (view_text v.shows s)) one is (refl, refl);
       puts = (it.0, refl);
     }
 
 pub printed-none : (s : State) (cs : List (List ℕ)) (name : List ℕ) (out0 out1 : SinkState) → only_field cs ≡ Some name
-    → PrintsIt s name out0 out1 (Err printing.NoView) → PrintsLine s cs out0 out1 (Ok (Err refusal.NoView))
+    → PrintsIt s name out0 out1 (Err printing.NoView) → PrintsLine (Prints cs s s) out0 out1 (Ok (Err refusal.NoView))
 printed-none s cs name out0 out1 one it = by (view_named s.views name) refl it
   where
-    by : (o : Option View) → view_named s.views name ≡ o
-        → MatchOption o ((no_view ≡ no_view) × (out1 ≡ out0)) (λ shows. Puts out0 out1 no_view (view_text shows s) × IfErr no_view (λ f. f ≡ printing.Write))
-        → PrintsLine s cs out0 out1 (Ok (Err refusal.NoView))
+    by : (o : Option OpenView) → view_named s.views name ≡ o
+        → MatchOption o ((no_view ≡ no_view) × (out1 ≡ out0)) (λ v. Puts out0 out1 no_view (view_text v.shows s) × IfErr no_view (λ f. f ≡ printing.Write))
+        → PrintsLine (Prints cs s s) out0 out1 (Ok (Err refusal.NoView))
     by None is it = record {
       written = refused_as 21;
       prints = prints-named s cs name None (refused_as 21) one is (refl, refl);
       puts = (subst (λ (o : SinkState). Takes out0 o []) (sym it.1) (Takes-nothing out0), refl);
     }
-    by (Some shows) is it = absurd (cc (it.1))
+    by (Some v) is it = absurd (cc (it.1))
 
 pub printed-failed : (s : State) (cs : List (List ℕ)) (name : List ℕ) (out0 out1 : SinkState) (failed : WriteFault) → only_field cs ≡ Some name
-    → PrintsIt s name out0 out1 (Err printing.Write) → PrintsLine s cs out0 out1 (Err failed)
+    → PrintsIt s name out0 out1 (Err printing.Write) → PrintsLine (Prints cs s s) out0 out1 (Err failed)
 printed-failed s cs name out0 out1 failed one it = by (view_named s.views name) refl it
   where
-    by : (o : Option View) → view_named s.views name ≡ o
-        → MatchOption o ((cut_off ≡ no_view) × (out1 ≡ out0)) (λ shows. Puts out0 out1 cut_off (view_text shows s) × IfErr cut_off (λ f. f ≡ printing.Write))
-        → PrintsLine s cs out0 out1 (Err failed)
+    by : (o : Option OpenView) → view_named s.views name ≡ o
+        → MatchOption o ((cut_off ≡ no_view) × (out1 ≡ out0)) (λ v. Puts out0 out1 cut_off (view_text v.shows s) × IfErr cut_off (λ f. f ≡ printing.Write))
+        → PrintsLine (Prints cs s s) out0 out1 (Err failed)
     by None is it = absurd (cc (it.0))
-    by (Some shows) is it = record {
-      written = printed (view_text shows s);
-      prints = prints-named s cs name (Some shows) (printed (view_text shows s)) one is (refl, refl);
+    by (Some v) is it = record {
+      written = printed (view_text v.shows s);
+      prints = prints-named s cs name (Some v) (printed (view_text v.shows s)) one is (refl, refl);
       puts = (it.0, refl);
     }
 
 -- a print of no name, or of more fields
-pub printed-wrong : (s : State) (cs : List (List ℕ)) (out : SinkState) → only_field cs ≡ None → PrintsLine s cs out out (Ok (Err refusal.Command))
+pub printed-wrong : (s : State) (cs : List (List ℕ)) (out : SinkState) → only_field cs ≡ None → PrintsLine (Prints cs s s) out out (Ok (Err refusal.Command))
 printed-wrong s cs out none = record {
   written = refused_as 1;
   prints = subst (λ (f : Option (List ℕ)). PrintsNamed f s s (refused_as 1)) (sym none) (refl, refl);
+  puts = (Takes-nothing out, refl);
+}
+
+-- a print of all views
+pub printed-all : (s : State) (cs : List (List ℕ)) (out0 out1 : SinkState) → cs ≡ [] → Puts out0 out1 all_put (all_text s) → PrintsLine (PrintsAll cs s s) out0 out1 (Ok (Ok tt))
+printed-all s cs out0 out1 none puts = record {
+  written = printed (all_text s);
+  prints = subst (λ (l : List (List ℕ)). PrintsAll l s s (printed (all_text s))) (sym none) (refl, refl);
+  puts = (puts, refl);
+}
+
+pub printed-all_failed : (s : State) (cs : List (List ℕ)) (out0 out1 : SinkState) (failed : WriteFault) → cs ≡ [] → FailsIn out0 out1 (all_text s) → PrintsLine (PrintsAll cs s s) out0 out1 (Err failed)
+printed-all_failed s cs out0 out1 failed none fails = record {
+  written = printed (all_text s);
+  prints = subst (λ (l : List (List ℕ)). PrintsAll l s s (printed (all_text s))) (sym none) (refl, refl);
+  puts = (fails, refl);
+}
+
+-- all views are printed by a command without fields
+pub printed-all_wrong : (s : State) (cs : List (List ℕ)) (out : SinkState) → 0 < length cs → PrintsLine (PrintsAll cs s s) out out (Ok (Err refusal.Command))
+printed-all_wrong s [] out some = absurd (omega arith)
+printed-all_wrong s (field ∷ cs) out some = record {
+  written = refused_as 1;
+  prints = (refl, refl);
   puts = (Takes-nothing out, refl);
 }
 
@@ -120,30 +143,30 @@ ran-quiet kind old new n line out out1 said0 said1 done result is does same tell
     by (Err f) (Err sink.Output) does tells = absurd (cc (tells.1))
 
 -- a line that prints, or is refused
-pub ran-print : (s : State) (n : ℕ) (line : List ℕ) (out0 out1 said0 said1 : SinkState) (done : Result (Unit {0}) LineRefusal) (result : Result Outcome FailedSink)
-    → command_of line ≡ command.Print → PrintsLine s (arguments line) out0 out1 (Ok done) → TellsOf done n said0 said1 result → Ran s s n line out0 out1 said0 said1 result
-ran-print s n line out0 out1 said0 said1 done result is prints tells = by result tells
+pub ran-print : (kind : Command) (s : State) (n : ℕ) (line : List ℕ) (out0 out1 said0 said1 : SinkState) (done : Result (Unit {0}) LineRefusal) (result : Result Outcome FailedSink)
+    → command_of line ≡ kind → PrintsLine (Does kind (arguments line) s s) out0 out1 (Ok done) → TellsOf done n said0 said1 result → Ran s s n line out0 out1 said0 said1 result
+ran-print kind s n line out0 out1 said0 said1 done result is prints tells = by result tells
   where
     by : (result : Result Outcome FailedSink) → TellsOf done n said0 said1 result → Ran s s n line out0 out1 said0 said1 result
     by (Ok ended_as) tells = record {
       written = prints.written;
-      makes = runs-as command.Print s s line prints.written is prints.prints;
+      makes = runs-as kind s s line prints.written is prints.prints;
       output = prints.puts.0;
       messages = subst (λ (r : Option (List ℕ)). Takes said0 said1 (told n r)) (sym prints.puts.1) tells.0;
       count = ap refusal_count prints.puts.1 ∙ tells.1;
     }
     by (Err sink.Messages) tells = record {
       written = prints.written;
-      makes = runs-as command.Print s s line prints.written is prints.prints;
+      makes = runs-as kind s s line prints.written is prints.prints;
       texts = (prints.puts.0, subst (λ (r : Option (List ℕ)). FailsIn said0 said1 (told n r)) (sym prints.puts.1) tells.0);
     }
     by (Err sink.Output) tells = absurd (cc (tells.1))
 
 -- a line at whose print the output failed
-pub failed-print : (s : State) (n : ℕ) (line : List ℕ) (out0 out1 said : SinkState) (failed : WriteFault)
-    → command_of line ≡ command.Print → PrintsLine s (arguments line) out0 out1 (Err failed) → FailedLine Runs s s n line out0 out1 said said sink.Output
-failed-print s n line out0 out1 said failed is prints = record {
+pub failed-print : (kind : Command) (s : State) (n : ℕ) (line : List ℕ) (out0 out1 said : SinkState) (failed : WriteFault)
+    → command_of line ≡ kind → PrintsLine (Does kind (arguments line) s s) out0 out1 (Err failed) → FailedLine Runs s s n line out0 out1 said said sink.Output
+failed-print kind s n line out0 out1 said failed is prints = record {
   written = prints.written;
-  makes = runs-as command.Print s s line prints.written is prints.prints;
+  makes = runs-as kind s s line prints.written is prints.prints;
   texts = (prints.puts.0, Takes-nothing said);
 }

@@ -1,40 +1,45 @@
 -- The records of a session, and the parts of a line.
-use Rattle.std.proofs.Common.{◌≡◌, ℕ, ◌<◌, ◌≤◌, true, false, List, [], ◌∷◌, Option, Some, None, length, drop, sym, ap, ◌∙◌, subst, arith}
-use Rattle.std.specs.Prelude.{All, insert, unwrap_or, option_map, not, ◌==◌}
+use Rattle.std.proofs.Common.{◌≡◌, ℕ, ◌<◌, ◌≤◌, true, List, [], ◌∷◌, Option, Some, None, length, drop, sym, ap, ◌∙◌, arith}
+use Rattle.std.specs.Prelude.{unwrap_or, option_map, not, ◌==◌}
 use Rattle.iv_text.specs.declared.fault.RecordFault.TheVariants as fault
 use Rattle.std.specs.Borrow.{Bor}
 use Rattle.std.proofs.lemmas.Bool.{ne_eqb, cond-true}
-use Rattle.std.proofs.lemmas.List.Sorted.{IsPermutation-insert, All-permutation}
-use Rattle.std.proofs.lemmas.List.Elements.{All-cons}
+use Rattle.std.proofs.lemmas.List.Elements.{All-from_recursion, recursion_from_All}
 use Rattle.iv_text.specs.Fields.{columns, fields_left}
 use Rattle.iv_text.specs.Genome.{Sequences}
-use Rattle.iv_text.specs.Ordered.{added, AreInOrder}
+use Rattle.iv_text.specs.Ordered.{copies, added}
 use Rattle.iv_text.specs.Read.{Fits, read, read_columns, told, row}
-use Rattle.iv_text.specs.Row.{Row, row_cmp, rows_total}
-use Rattle.std.specs.Ordering.{is_lt}
-use Rattle.std.specs.List.Sorted.{IsPartitionPoint}
-use Rattle.iv_text.proofs.OrderedLemmas.{in_order-added, length-added, added-insert}
+use Rattle.iv_text.specs.Row.{Row, row_cmp}
+use Rattle.iv_text.proofs.OrderedLemmas.{all-added, length-added}
+use Rattle.iv_track.specs.Tracked.{removed}
+use Rattle.iv_track.proofs.Counts.{all-removed, length-removed}
 use Rattle.iv_session.specs.States.{IsSession}
 
 -- with one more record that fits there is still a session, where there was room
-pub session-added : (g : Sequences) (width limit n : ℕ) (rows rows2 : List Row) (r : Row)
-    → IsSession g width limit rows → Fits g width r → length rows < limit → rows2 ≡ insert rows n r → rows2 ≡ added rows r
-    → IsSession g width limit rows2
-session-added g width limit n rows rows2 r is fits room inserted same = record {
+pub session-added : (g : Sequences) (width limit : ℕ) (rows : List Row) (r : Row)
+    → IsSession g width limit rows → Fits g width r → length rows < limit → IsSession g width limit (added rows r)
+session-added g width limit rows r is fits room = record {
   low = is.low;
   high = is.high;
-  in_order = subst AreInOrder (sym same) (in_order-added row_cmp rows_total rows r is.in_order);
-  fit = subst (λ (l : List Row). All (Fits g width) l) (sym inserted)
-      (All-permutation (Fits g width) (r ∷ rows) (insert rows n r) (IsPermutation-insert rows n r) (All-cons (Fits g width) r rows fits is.fit));
-  few = omega (arith, ap length same, length-added row_cmp rows r);
-  bounded = is.bounded;
+  fit = All-from_recursion (Fits g width) (added rows r) (all-added row_cmp (Fits g width) rows r fits (recursion_from_All (Fits g width) rows is.fit));
+  few = omega (arith, length-added row_cmp rows r);
 }
 
--- a record that is put behind what is less is added in the order
-pub place-added : (rows seen : List Row) (r : Row) (n : ℕ) → seen ≡ rows → n ≤ length seen
-    → IsPartitionPoint (λ y. is_lt (row_cmp y r) ≡ true) (λ y. is_lt (row_cmp y r) ≡ false) seen n → insert rows n r ≡ added rows r
-place-added rows seen r n same within point =
-    ap (λ (l : List Row). insert l n r) (sym same) ∙ added-insert row_cmp rows_total seen r n within point.0 point.1 ∙ ap (λ (l : List Row). added l r) same
+-- with one copy less too
+pub session-removed : (g : Sequences) (width limit : ℕ) (rows : List Row) (r : Row)
+    → IsSession g width limit rows → 0 < copies rows r → IsSession g width limit (removed rows r)
+session-removed g width limit rows r is there = record {
+  low = is.low;
+  high = is.high;
+  fit = All-from_recursion (Fits g width) (removed rows r) (all-removed row_cmp (Fits g width) rows r (recursion_from_All (Fits g width) rows is.fit));
+  few = omega (arith, length-removed row_cmp rows r there, is.few);
+}
+
+-- a record that takes the place of one needs no room
+pub session-replaced : (g : Sequences) (width limit : ℕ) (rows : List Row) (r q : Row)
+    → IsSession g width limit rows → 0 < copies rows r → Fits g width q → IsSession g width limit (added (removed rows r) q)
+session-replaced g width limit rows r q is there fits =
+    session-added g width limit (removed rows r) q (session-removed g width limit rows r is there) fits (omega (arith, length-removed row_cmp rows r there, is.few))
 
 -- a line of no columns is read as one of no bytes, at a width
 read-empty : (g : Sequences) (width : ℕ) → 3 ≤ width → read g width [] ≡ read_columns g width []

@@ -1,13 +1,14 @@
 -- The words of a view, its text, and why a view is not opened.
-use Rattle.std.specs.Prelude.{ℕ, ◌&&◌, not, nat_le, cond, Bool, false, List, [], ◌∷◌, Option, None, Some, length, find, codes}
-use Rattle.std.specs.List.{list_all}
-use Rattle.std.specs.Option.{is_some, is_none}
+use Rattle.std.specs.Prelude.{ℕ, ◌++◌, ◌&&◌, not, nat_le, cond, Bool, false, List, [], ◌∷◌, Option, None, Some, Result, Ok, Err, length, find, codes}
+use Rattle.std.specs.List.{list_all, flat_map}
+use Rattle.std.specs.Option.{is_some}
 use Rattle.std.specs.Map.{lookup}
 use Rattle.std.specs.Str.{bytes_eq}
 use Rattle.iv_cover.specs.CoverRows.{merge_text}
 use Rattle.iv_session.specs.States.{State}
-use Rattle.iv_session.specs.declared.view.View.{View}
-use Rattle.iv_session.specs.declared.view.View.TheVariants as view
+use Rattle.iv_session.specs.declared.view.OpenView.{OpenView}
+use Rattle.iv_session.specs.declared.words.ViewWords.{ViewWords}
+use Rattle.iv_session.specs.declared.words.ViewWords.TheVariants as view
 use Rattle.iv_session.specs.declared.fault.ViewFault.{ViewFault}
 use Rattle.iv_session.specs.declared.fault.ViewFault.TheVariants as fault
 
@@ -20,12 +21,12 @@ abbrev pub is_view_name : List ℕ → Bool
 is_view_name name = nat_le 1 (length name) && nat_le (length name) 32 && list_all is_visible name
 
 -- the view that stands open under a name
-abbrev pub view_named : List (List ℕ × View) → List ℕ → Option View
+abbrev pub view_named : List (List ℕ × OpenView) → List ℕ → Option OpenView
 view_named views name = lookup (bytes_eq name) views
 
 -- as many views may be open
 abbrev pub most_views : ℕ
-most_views = 1
+most_views = 64
 
 -- the words are the one word `merge`
 abbrev pub are_merge : List (List ℕ) → Bool
@@ -33,26 +34,43 @@ are_merge [] = false
 are_merge (word ∷ []) = bytes_eq word (codes "merge")
 are_merge (word ∷ next ∷ words) = false
 
--- the view that words say
-abbrev pub view_of : List (List ℕ) → Option View
-view_of words = cond (are_merge words) (Some view.Merge) None
+-- what the words of a view say on a track of this width, beside a second file and a FASTA file or without, or their first fault
+abbrev pub read_words : ℕ → Bool → Bool → List (List ℕ) → Result ViewWords ViewFault
+read_words width has_second has_bases words = cond (are_merge words) (Ok view.Merge) (Err fault.Words)
 
--- whether a view of this name and these words has a fault
-abbrev pub has_view_fault : State → List ℕ → List (List ℕ) → ViewFault → Bool
-has_view_fault s name words fault.BadName = not (is_view_name name)
-has_view_fault s name words fault.Taken = is_some (view_named s.views name)
-has_view_fault s name words fault.TooMany = nat_le most_views (length s.views)
-has_view_fault s name words fault.Words = is_none (view_of words)
-has_view_fault s name words fault.NoMemory = false
+-- what words say in a session
+abbrev pub words_said : State → List (List ℕ) → Result ViewWords ViewFault
+words_said s words = read_words s.width (is_some s.second) (is_some s.bases) words
 
--- the faults, in the order in which they are told
-abbrev pub view_faults : List ViewFault
-view_faults = fault.BadName ∷ fault.Taken ∷ fault.TooMany ∷ fault.Words ∷ []
+-- whether the name of a view to be opened has a fault
+abbrev pub has_name_fault : State → List ℕ → ViewFault → Bool
+has_name_fault s name fault.BadName = not (is_view_name name)
+has_name_fault s name fault.Taken = is_some (view_named s.views name)
+has_name_fault s name fault.TooMany = nat_le most_views (length s.views)
+has_name_fault s name fault.Words = false
+has_name_fault s name fault.NoMemory = false
 
--- the first fault of a view of this name and these words
-abbrev pub view_fault : State → List ℕ → List (List ℕ) → Option ViewFault
-view_fault s name words = find (has_view_fault s name words) view_faults
+-- the faults of a name, in the order in which they are told
+abbrev pub name_faults : List ViewFault
+name_faults = fault.BadName ∷ fault.Taken ∷ fault.TooMany ∷ []
+
+-- a fault, or else what the words say
+abbrev pub told : Option ViewFault → Result ViewWords ViewFault → Result ViewWords ViewFault
+told None said = said
+told (Some f) said = Err f
+
+-- the view that is opened under a name by these words: the first fault of the name, or else what the words say
+abbrev pub opened : State → List ℕ → List (List ℕ) → Result ViewWords ViewFault
+opened s name words = told (find (has_name_fault s name) name_faults) (words_said s words)
 
 -- what a view prints: its definition's text for the session as it is
-abbrev pub view_text : View → State → List ℕ
+abbrev pub view_text : ViewWords → State → List ℕ
 view_text view.Merge s = merge_text 0 s.genome s.records
+
+-- the line above a view's text, where all views are printed
+abbrev pub heading : List ℕ → List ℕ
+heading name = codes "#" ++ name ++ codes "\n"
+
+-- what all views print, in order of opening
+abbrev pub all_text : State → List ℕ
+all_text s = flat_map (λ v. heading v.0 ++ view_text v.1.shows s) s.views

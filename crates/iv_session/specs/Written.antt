@@ -13,6 +13,7 @@ use Rattle.iv_session.specs.declared.fault.LineRefusal.TheVariants as refusal
 
 -- the number of an edit's fault
 abbrev pub edit_code : EditFault → ℕ
+edit_code edit.Absent = 11
 edit_code edit.Full = 12
 edit_code edit.NoMemory = 22
 

@@ -8,6 +8,9 @@ use thiserror::Error;
 /// Why an edit is refused.
 #[derive(Clone, Copy, Debug, PartialEq, Eq, Error)]
 pub enum EditFault {
+    /// E11: the track has no copy of the record.
+    #[error("no such record")]
+    Absent,
     /// E12: the track holds its limit.
     #[error("track is full")]
     Full,
@@ -23,6 +26,7 @@ impl EditFault {
         ensures known { (1 ≤ result) × (result ≤ 24) }
     {
         match self {
+            EditFault::Absent => 11,
             EditFault::Full => 12,
             EditFault::NoMemory => 22,
         }
@@ -86,6 +90,20 @@ impl PrintFault {
             PrintFault::NoView => Some(21),
             PrintFault::Write => None,
         }
+    }
+}
+
+/// E21: no view of this name is open.
+#[derive(Clone, Copy, Debug, PartialEq, Eq, Error)]
+#[error("no such view")]
+pub struct NoView;
+
+impl NoView {
+    /// Its number in the table of faults: 21.
+    pub fn code(&self) -> u8
+        ensures { result ≡ 21 }
+    {
+        21
     }
 }
 

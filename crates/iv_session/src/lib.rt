@@ -11,7 +11,7 @@ mod session;
 mod view;
 mod words;
 
-pub use fault::{EditFault, PrintFault, ViewFault};
+pub use fault::{EditFault, NoView, PrintFault, ViewFault};
 pub use script::{RunCause, RunFault, ScriptLimits, Summary, run_script};
 pub use session::{Accepted, Session};
-pub use view::View;
+pub use words::ViewWords;

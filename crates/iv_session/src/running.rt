@@ -1,15 +1,16 @@
 //! Running one line of a script.
-ghost use Rattle.std.specs.Prelude.{◌≡◌, MatchResult};
-ghost use Rattle.iv_session.specs.Commands.{Runs, Adds, Opens, arguments};
+ghost use Rattle.std.specs.Prelude.{◌≡◌, ◌≢◌, Err, MatchResult, IfOk};
+ghost use Rattle.iv_text.specs.Read.{Fits};
+ghost use Rattle.iv_session.specs.Commands.{Runs, Adds, Removes, Replaces, Opens, Closes, Prints, PrintsAll, arguments, both, read_two};
 ghost use Rattle.iv_session.specs.Scripts.{PrintsLine, TellsOf, RanLine, FailedLine, refusals_of};
 ghost use Rattle.iv_session.specs.Written.{written_of};
 
-use crate::command::{Command, command_of, only_argument, two_arguments};
+use crate::command::{Command, command_of, only_argument, split_columns, two_arguments};
 use crate::fault::{LineRefusal, PrintFault};
 use crate::message::put_message;
 use crate::session::Session;
 use crate::words::Words;
-use iv_text::{Sink, WriteFault, fault_text, split_first_column};
+use iv_text::{RecordFault, RecordRef, Sink, WriteFault, fault_text, split_first_column};
 use std::alloc::Allocator;
 
 /// What became of a line.
@@ -53,6 +54,75 @@ fn add_line<A: Allocator + Copy>(session: &mut Session<A>, line: &[u8]) -> Resul
     }
 }
 
+/// Takes one copy of the record that the columns behind the command stand for out.
+fn remove_line<A: Allocator + Copy>(
+    session: &mut Session<A>,
+    line: &[u8],
+) -> Result<(), LineRefusal>
+    ensures { Removes (arguments line.now) session.old session.new (written_of result) }
+{
+    let (_, columns) = split_first_column(line);
+    let row = match session.read(columns.unwrap_or(b"")) {
+        Ok(row) => row,
+        Err(fault) => return Err(LineRefusal::Record(fault)),
+    };
+    match session.remove(&row) {
+        Ok(_) => Ok(()),
+        Err(fault) => Err(LineRefusal::Edit(fault)),
+    }
+}
+
+/// Both records of a line, or a fault: that the second has too few or too many columns is told first, then a
+/// fault of the first record, then one of the second.
+fn both_rows<'a>(
+    first: Result<RecordRef<'a>, RecordFault>,
+    second: Result<RecordRef<'a>, RecordFault>,
+) -> Result<(RecordRef<'a>, RecordRef<'a>), RecordFault>
+    ensures columns { second.entry ≡ Err RecordFault.Columns → result ≡ Err RecordFault.Columns }
+    ensures others { second.entry ≢ Err RecordFault.Columns → result ≡ both first.entry second.entry }
+{
+    match (first, second) {
+        (_, Err(RecordFault::Columns)) => Err(RecordFault::Columns),
+        (Err(fault), _) => Err(fault),
+        (Ok(_), Err(fault)) => Err(fault),
+        (Ok(first), Ok(second)) => Ok((first, second)),
+    }
+}
+
+/// The records that the columns behind the command stand for, the old one and the new one.
+fn two_rows<'a, A: Allocator + Copy>(
+    session: &Session<A>,
+    line: &'a [u8],
+) -> Result<(RecordRef<'a>, RecordRef<'a>), RecordFault>
+    ensures value { result ≡ read_two session.now.genome session.now.width (arguments line.now) }
+    ensures old { IfOk result (λ rows. Fits session.now.genome session.now.width rows.0) }
+    ensures new { IfOk result (λ rows. Fits session.now.genome session.now.width rows.1) }
+{
+    let (_, columns) = split_first_column(line);
+    let width = session.track().width();
+    match split_columns(columns.unwrap_or(b""), width) {
+        Some((old, new)) => both_rows(session.read(old), session.read(new)),
+        None => Err(RecordFault::Columns),
+    }
+}
+
+/// Replaces one copy of the old record by the new one.
+fn replace_line<A: Allocator + Copy>(
+    session: &mut Session<A>,
+    line: &[u8],
+) -> Result<(), LineRefusal>
+    ensures { Replaces (arguments line.now) session.old session.new (written_of result) }
+{
+    let (old, new) = match two_rows(session, line) {
+        Ok(rows) => rows,
+        Err(fault) => return Err(LineRefusal::Record(fault)),
+    };
+    match session.replace(&old, &new) {
+        Ok(_) => Ok(()),
+        Err(fault) => Err(LineRefusal::Edit(fault)),
+    }
+}
+
 /// Opens the view that the line names.
 fn open_line<A: Allocator + Copy>(session: &mut Session<A>, line: &[u8]) -> Result<(), LineRefusal>
     ensures { Opens (arguments line.now) session.old session.new (written_of result) }
@@ -72,7 +142,7 @@ fn print_line<A: Allocator + Copy, W: Sink>(
     line: &[u8],
     output: &mut W,
 ) -> Result<Result<(), LineRefusal>, WriteFault>
-    ensures { PrintsLine session.now (arguments line.now) (W.state output.old) (W.state output.new) result }
+    ensures { PrintsLine (Prints (arguments line.now) session.now session.now) (W.state output.old) (W.state output.new) result }
 {
     let Some(name) = only_argument(line) else {
         return Ok(Err(LineRefusal::Command));
@@ -81,6 +151,37 @@ fn print_line<A: Allocator + Copy, W: Sink>(
         Ok(()) => Ok(Ok(())),
         Err(PrintFault::NoView) => Ok(Err(LineRefusal::NoView)),
         Err(PrintFault::Write) => Err(WriteFault),
+    }
+}
+
+/// Prints all views, where the line has nothing behind its command.
+fn print_all_line<A: Allocator + Copy, W: Sink>(
+    session: &Session<A>,
+    line: &[u8],
+    output: &mut W,
+) -> Result<Result<(), LineRefusal>, WriteFault>
+    ensures { PrintsLine (PrintsAll (arguments line.now) session.now session.now) (W.state output.old) (W.state output.new) result }
+{
+    let (_, fields) = split_first_column(line);
+    if fields.is_some() {
+        return Ok(Err(LineRefusal::Command));
+    }
+    match session.print_all(output) {
+        Ok(()) => Ok(Ok(())),
+        Err(_) => Err(WriteFault),
+    }
+}
+
+/// Closes the view that the line names.
+fn close_line<A: Allocator + Copy>(session: &mut Session<A>, line: &[u8]) -> Result<(), LineRefusal>
+    ensures { Closes (arguments line.now) session.old session.new (written_of result) }
+{
+    let Some(name) = only_argument(line) else {
+        return Err(LineRefusal::Command);
+    };
+    match session.close_view(name) {
+        Ok(()) => Ok(()),
+        Err(_) => Err(LineRefusal::NoView),
     }
 }
 
@@ -116,8 +217,15 @@ pub(crate) fn run_line<A: Allocator + Copy, W: Sink, E: Sink>(
     let done = match command_of(line) {
         Command::Skipped => Ok(()),
         Command::Add => add_line(session, line),
+        Command::Remove => remove_line(session, line),
+        Command::Replace => replace_line(session, line),
         Command::Open => open_line(session, line),
+        Command::Close => close_line(session, line),
         Command::Print => match print_line(session, line, output) {
+            Ok(done) => done,
+            Err(_) => return Err(FailedSink::Output),
+        },
+        Command::PrintAll => match print_all_line(session, line, output) {
             Ok(done) => done,
             Err(_) => return Err(FailedSink::Output),
         },

@@ -1,32 +1,37 @@
 //! The views that a session keeps open.
-ghost use Rattle.std.specs.Prelude.{◌≡◌, ◌++◌, ◌∷◌, [], None, OnOk, OnErr, length};
+ghost use Rattle.std.specs.Prelude.{◌≡◌, ◌++◌, ◌∷◌, [], false, None, Some, IfSome, IsTrue, IsSome, ◌↔◌, OnOk, OnErr, length};
+ghost use Rattle.std.specs.List.{slice_get};
+ghost use Rattle.std.specs.Map.{remove_entry};
+ghost use Rattle.std.specs.Option.{option_map};
+ghost use Rattle.std.specs.Str.{bytes_eq};
 ghost use Rattle.iv_session.specs.Views.{view_named};
 
+use crate::words::ViewWords;
 use indexmap::IndexMap;
 use std::alloc::{AllocError, Allocator, Global};
 use std::hash::{BuildHasherDefault, FoldHasher};
 use std::marker::Model;
 
-/// What a view shows.
+/// An open view: what it shows, and whether it has to be built anew before it is printed.
 #[derive(Clone, Copy, Debug, PartialEq, Eq)]
-pub enum View {
-    /// `merge` without options: the blocks of overlapping and book-ended records.
-    Merge,
+pub(crate) struct OpenView {
+    pub(crate) shows: ViewWords,
+    pub(crate) stale: bool,
 }
 
 /// The open views by name, in order of opening.
 #[derive(Drop)]
 pub(crate) struct Views<A: Allocator = Global> {
-    views: IndexMap<Vec<u8, A>, View, BuildHasherDefault<FoldHasher>, A>,
+    views: IndexMap<Vec<u8, A>, OpenView, BuildHasherDefault<FoldHasher>, A>,
 }
 
 impl<A: Allocator> Model for Views<A> {
     ghost use Rattle.std.specs.Prelude.{List, ℕ, map};
-    ghost use Rattle.iv_session.specs.declared.view.View.{View};
+    ghost use Rattle.iv_session.specs.declared.view.OpenView.{OpenView};
 
-    ghost Value = { List (List ℕ × View) };
+    ghost Value = { List (List ℕ × OpenView) };
 
-    ghost view = { λ v. map {B = List ℕ × View} (λ e. (e.0.items, e.1)) v.views.entries };
+    ghost view = { λ v. map {B = List ℕ × OpenView} (λ e. (e.0.items, e.1)) v.views.entries };
 }
 
 impl<A: Allocator + Copy> Views<A> {
@@ -45,21 +50,43 @@ impl<A: Allocator + Copy> Views<A> {
     }
 
     /// The view of a name.
-    pub(crate) fn find(&self, name: &[u8]) -> Option<View>
+    pub(crate) fn find(&self, name: &[u8]) -> Option<OpenView>
         ensures { result ≡ view_named self.now name.now }
     {
         self.views.get(name).copied()
     }
 
-    /// Puts a view last.
-    pub(crate) fn push(&mut self, alloc: A, name: &[u8], view: View) -> Result<(), AllocError>
+    /// The name and the view at a place in the order of opening.
+    pub(crate) fn at(&self, place: usize) -> Option<(&[u8], OpenView)>
+        ensures { option_map (λ p. (p.0.now, p.1)) result ≡ slice_get self.now place }
+    {
+        match self.views.as_slice().get_index(place) {
+            Some((name, view)) => Some((name.as_slice(), *view)),
+            None => None,
+        }
+    }
+
+    /// Puts a view last, current.
+    pub(crate) fn push(&mut self, alloc: A, name: &[u8], shows: ViewWords) -> Result<(), AllocError>
         requires { view_named self.old name.now ≡ None }
-        ensures ok { OnOk result (self.new ≡ self.old ++ (name.now, view) ∷ []) }
+        ensures ok { OnOk result (self.new ≡ self.old ++ (name.now, record { shows = shows; stale = false }) ∷ []) }
         ensures err { OnErr result (self.new ≡ self.old) }
     {
         let mut key = Vec::new(alloc);
         key.extend_from_slice(name)?;
+        let view = OpenView {
+            shows,
+            stale: false,
+        };
         self.views.insert(key, view)?;
         Ok(())
+    }
+
+    /// Takes the view of a name out, and says whether there was one. The others keep their order.
+    pub(crate) fn remove(&mut self, name: &[u8]) -> bool
+        ensures found { IsTrue result ↔ IsSome (view_named self.old name.now) }
+        ensures rest { self.new ≡ remove_entry (bytes_eq name.now) self.old }
+    {
+        self.views.shift_remove(name).is_some()
     }
 }

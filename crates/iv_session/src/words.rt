@@ -1,11 +1,12 @@
 //! The name and the words of a view.
 ghost use Rattle.std.specs.Prelude.{◌≡◌, ◌≤◌, map, take, length};
 ghost use Rattle.iv_text.specs.Fields.{words as words_of};
-ghost use Rattle.iv_session.specs.Views.{is_view_name as is_name, view_of};
+ghost use Rattle.iv_session.specs.Views.{is_view_name as is_name, read_words};
 ghost use Rattle.iv_session.specs.Cutting.{shown};
 
-use crate::view::View;
+use crate::fault::ViewFault;
 use iv_text::Fields;
+use std::alloc::Allocator;
 
 /// How many words of a view are looked at: no view has as many.
 pub(crate) const MOST_WORDS: usize = 9;
@@ -25,14 +26,35 @@ pub(crate) fn is_view_name(name: &[u8]) -> bool
     true
 }
 
-/// The view that words say.
-pub(crate) fn read_view(words: &[&[u8]]) -> Option<View>
-    ensures { result ≡ view_of (map (λ word. word.now) words.now) }
-{
-    if words.len() == 1 && words[0] == b"merge".as_slice() {
-        Some(View::Merge)
-    } else {
-        None
+/// What the words of a view say.
+#[derive(Clone, Copy, Debug, PartialEq, Eq)]
+pub enum ViewWords {
+    /// `merge` without options: the blocks of overlapping and book-ended records.
+    Merge,
+}
+
+impl ViewWords {
+    /// What words say, for a track of this width, beside a second file and a FASTA file or without.
+    ///
+    /// # Errors
+    ///
+    /// `Words` where they say no view. No other fault comes: the one view that there is asks for no column, no strand
+    /// and no file, and reading its words takes no memory.
+    pub fn read<A: Allocator + Copy>(
+        _alloc: A,
+        width: u8,
+        has_second: bool,
+        has_bases: bool,
+        words: &[&[u8]],
+    ) -> Result<ViewWords, ViewFault>
+        ensures { result ≡ read_words width has_second has_bases (map (λ word. word.now) words.now) }
+    {
+        let _ = (width, has_second, has_bases);
+        if words.len() == 1 && words[0] == b"merge".as_slice() {
+            Ok(ViewWords::Merge)
+        } else {
+            Err(ViewFault::Words)
+        }
     }
 }
 

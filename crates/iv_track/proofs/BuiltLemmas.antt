@@ -8,7 +8,7 @@ use Rattle.std.specs.Map.{keys_of, values_of}
 use Rattle.std.proofs.lemmas.List.Elements.{All-head, All-tail, All-from_recursion, recursion_from_All}
 use Rattle.std.proofs.lemmas.Map.Keys.{IsDistinct-from_sorted}
 use Rattle.std.proofs.lemmas.Map.Views.{All-values_from_lookup, IfSome-lookup_from_All}
-use Rattle.iv_text.specs.Row.{Row, row_cmp, rows_total}
+use Rattle.iv_text.specs.Row.{Row, IsPlaced, row_cmp, rows_total}
 use Rattle.iv_text.proofs.RowLemmas.{rows_exact}
 use Rattle.iv_text.proofs.OrderedLemmas.{one_list}
 use Rattle.iv_track.specs.Copies.{expanded}
@@ -49,12 +49,11 @@ module _ (es gs : List (Row × ℕ)) (rows : List Row) (c : AreCounted es rows) 
   pub built_track : (len width limit : ℕ) → len ≡ length rows → All (λ (q : Row). q.width ≡ width) rows → len ≤ limit → limit ≤ 4000000 → IsTrack gs len width limit
   built_track len width limit is widths room bounded =
       let W : Row → Type 0 = λ q. q.width ≡ width in
-      let B : Row → Type 0 = λ q. q.start < q.stop in
       record {
         ordered = s;
         present = built_present;
         widths = All-from_recursion W (keys_of gs) (keys-expanded W gs built_present (subst (AllByRecursion W) (sym built_rows) (recursion_from_All W rows widths)));
-        bases = All-from_recursion B (keys_of gs) (keys-expanded B gs built_present (subst (AllByRecursion B) (c.rows_are ∙ sym built_rows) (all-expanded B es (recursion_from_All B (keys_of es) c.bases))));
+        placed = All-from_recursion IsPlaced (keys_of gs) (keys-expanded IsPlaced gs built_present (subst (AllByRecursion IsPlaced) (c.rows_are ∙ sym built_rows) (all-expanded IsPlaced es (recursion_from_All IsPlaced (keys_of es) c.placed))));
         len_is = omega (arith, is, ap length built_rows, length-expanded gs);
         room = omega arith;
         bounded = bounded;

@@ -12,7 +12,7 @@ use Rattle.std.proofs.lemmas.List.Elements.{All-cons, All-append}
 use Rattle.std.proofs.lemmas.List.{length-append}
 use Rattle.std.proofs.Math.ListN.{length-replicate}
 use Rattle.iv_text.specs.Ordered.{AreInOrder}
-use Rattle.iv_text.specs.Row.{Row, row_cmp, rows_total}
+use Rattle.iv_text.specs.Row.{Row, IsPlaced, row_cmp, rows_total}
 use Rattle.iv_text.proofs.RowLemmas.{rows_exact}
 use Rattle.iv_track.specs.Copies.{expanded}
 use Rattle.iv_track.specs.Entries.{IsLedger}
@@ -26,8 +26,8 @@ pub record IsGrouping (es : List (Row × ℕ)) (held : Row) (count : ℕ) (rest 
   pub ledger : IsLedger row_cmp es
   pub some : 0 < count
   pub present : All (λ n. 0 < n) (values_of es)
-  pub bases : All (λ (q : Row). q.start < q.stop) (keys_of es)
-  pub base : held.start < held.stop
+  pub placed : All IsPlaced (keys_of es)
+  pub place : IsPlaced held
 
 all-nil : {X : Type 0} (P : X → Type 0) → All P []
 all-nil P = λ k d low. absurd (omega arith)
@@ -36,16 +36,16 @@ nil_sorted : IsStrictlySortedBy row_cmp []
 unfolding IsStrictlySortedBy
 nil_sorted = tt
 
-pub grouping-begin : (es : List (Row × ℕ)) (held : Row) (rest whole : List Row) → es ≡ [] → whole ≡ held ∷ rest → AreInOrder whole → held.start < held.stop → IsGrouping es held 1 rest whole
-grouping-begin es held rest whole none is order base = record {
+pub grouping-begin : (es : List (Row × ℕ)) (held : Row) (rest whole : List Row) → es ≡ [] → whole ≡ held ∷ rest → AreInOrder whole → IsPlaced held → IsGrouping es held 1 rest whole
+grouping-begin es held rest whole none is order place = record {
   rows_are = ap (λ fs. expanded fs ++ (held ∷ rest)) none ∙ sym is;
   order = subst AreInOrder is order;
   below = subst (λ fs. AllByRecursion (λ k. row_cmp k held ≡ Less) (keys_of fs)) (sym none) tt;
   ledger = subst (IsLedger row_cmp) (sym none) nil_sorted;
   some = omega arith;
   present = subst (λ (fs : List (Row × ℕ)). All (λ n. 0 < n) (values_of fs)) (sym none) (all-nil (λ n. 0 < n));
-  bases = subst (λ (fs : List (Row × ℕ)). All (λ (q : Row). q.start < q.stop) (keys_of fs)) (sym none) (all-nil (λ (q : Row). q.start < q.stop));
-  base = base;
+  placed = subst (λ (fs : List (Row × ℕ)). All IsPlaced (keys_of fs)) (sym none) (all-nil IsPlaced);
+  place = place;
 }
 
 replicate-more : {K : Type 0} (n : ℕ) (k : K) (xs : List K) → replicate (n + 1) k ++ xs ≡ replicate n k ++ (k ∷ xs)
@@ -62,8 +62,8 @@ grouping-same es held row count rest whole alike h =
       ledger = h.ledger;
       some = omega arith;
       present = h.present;
-      bases = h.bases;
-      base = h.base;
+      placed = h.placed;
+      place = h.place;
     }
 
 expanded-append : {K : Type 0} (es fs : List (K × ℕ)) → expanded (es ++ fs) ≡ expanded es ++ expanded fs
@@ -96,8 +96,8 @@ le_apart Less b e h n = refl
 le_apart Equal b e h n = cc
 le_apart Greater b e h n = cc
 
-pub grouping-next : (es : List (Row × ℕ)) (held row : Row) (count : ℕ) (rest whole : List Row) → is_eq (row_cmp row held) ≡ false → row.start < row.stop → IsGrouping es held count (row ∷ rest) whole → IsGrouping (es ++ (held, count) ∷ []) row 1 rest whole
-grouping-next es held row count rest whole apart base h =
+pub grouping-next : (es : List (Row × ℕ)) (held row : Row) (count : ℕ) (rest whole : List Row) → is_eq (row_cmp row held) ≡ false → IsPlaced row → IsGrouping es held count (row ∷ rest) whole → IsGrouping (es ++ (held, count) ∷ []) row 1 rest whole
+grouping-next es held row count rest whole apart place h =
     let up : row_cmp held row ≡ Less = le_apart (row_cmp held row) (row_cmp row held) (rows_total.antisymm row held) h.order.0.0 apart in
     let under : AllByRecursion (λ k. row_cmp k row ≡ Less) (keys_of es) = all-through (λ k. row_cmp k held ≡ Less) (λ k. row_cmp k row ≡ Less) (λ k low. rows_total.trans k held row low up) (keys_of es) h.below in
     record {
@@ -108,8 +108,8 @@ grouping-next es held row count rest whole apart base h =
       ledger = subst (IsStrictlySortedBy row_cmp) (sym (keys-append es ((held, count) ∷ []))) (sorted-last row_cmp (keys_of es) held h.ledger h.below);
       some = omega arith;
       present = subst (All (λ n. 0 < n)) (sym (values-append es ((held, count) ∷ []))) (All-append (λ n. 0 < n) (values_of es) (count ∷ []) h.present (All-cons (λ n. 0 < n) count [] h.some (all-nil (λ n. 0 < n))));
-      bases = subst (All (λ (q : Row). q.start < q.stop)) (sym (keys-append es ((held, count) ∷ []))) (All-append (λ (q : Row). q.start < q.stop) (keys_of es) (held ∷ []) h.bases (All-cons (λ (q : Row). q.start < q.stop) held [] h.base (all-nil (λ (q : Row). q.start < q.stop))));
-      base = base;
+      placed = subst (All IsPlaced) (sym (keys-append es ((held, count) ∷ []))) (All-append IsPlaced (keys_of es) (held ∷ []) h.placed (All-cons IsPlaced held [] h.place (all-nil IsPlaced)));
+      place = place;
     }
 
 nil_from_length : {X : Type 0} (xs : List X) → length xs ≡ 0 → xs ≡ []
@@ -117,7 +117,7 @@ nil_from_length [] e = refl
 nil_from_length (x ∷ xs) e = absurd (omega (arith, e))
 
 nothing_counted : AreCounted [] []
-nothing_counted = record { rows_are = refl; ordered = nil_sorted; present = all-nil (λ n. 0 < n); bases = all-nil (λ (q : Row). q.start < q.stop) }
+nothing_counted = record { rows_are = refl; ordered = nil_sorted; present = all-nil (λ n. 0 < n); placed = all-nil IsPlaced }
 
 pub counted-none : (es : List (Row × ℕ)) (rows : List Row) → es ≡ [] → length rows ≡ 0 → AreCounted es rows
 counted-none es rows none empty = subst (λ fs. AreCounted fs rows) (sym none) (subst (AreCounted []) (sym (nil_from_length rows empty)) nothing_counted)
@@ -128,7 +128,7 @@ grouping-end es held count rest whole none h = record {
   rows_are = expanded-append es ((held, count) ∷ []) ∙ ap (λ r. expanded es ++ (replicate count held ++ r)) (sym (nil_from_length rest none)) ∙ h.rows_are;
   ordered = subst (IsStrictlySortedBy row_cmp) (sym (keys-append es ((held, count) ∷ []))) (sorted-last row_cmp (keys_of es) held h.ledger h.below);
   present = subst (All (λ n. 0 < n)) (sym (values-append es ((held, count) ∷ []))) (All-append (λ n. 0 < n) (values_of es) (count ∷ []) h.present (All-cons (λ n. 0 < n) count [] h.some (all-nil (λ n. 0 < n))));
-  bases = subst (All (λ (q : Row). q.start < q.stop)) (sym (keys-append es ((held, count) ∷ []))) (All-append (λ (q : Row). q.start < q.stop) (keys_of es) (held ∷ []) h.bases (All-cons (λ (q : Row). q.start < q.stop) held [] h.base (all-nil (λ (q : Row). q.start < q.stop))));
+  placed = subst (All IsPlaced) (sym (keys-append es ((held, count) ∷ []))) (All-append IsPlaced (keys_of es) (held ∷ []) h.placed (All-cons IsPlaced held [] h.place (all-nil IsPlaced)));
 }
 
 -- no more copies than records

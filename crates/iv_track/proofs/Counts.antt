@@ -192,7 +192,7 @@ module _ {K : Type 0} (cmp : K → K → Ordering) where
   copies-cons : (x k : K) (xs : List K) → copies_by cmp (x ∷ xs) k ≡ cond (is_eq (cmp k x)) 1 0 + copies_by cmp xs k
   copies-cons x k xs = sum_by-cons (λ y. cond (is_eq (cmp k y)) 1 0) x xs
 
-  all-removed : (P : K → Type 0) (xs : List K) (x : K) → AllByRecursion P xs → AllByRecursion P (removed_by cmp xs x)
+  pub all-removed : (P : K → Type 0) (xs : List K) (x : K) → AllByRecursion P xs → AllByRecursion P (removed_by cmp xs x)
   all-removed P [] x h = h
   all-removed P (q ∷ xs) x h = elim (is_eq (cmp x q)) as (λ b. AllByRecursion P (cond b xs (q ∷ removed_by cmp xs x))) [
     | true ↦ h.1

@@ -3,8 +3,13 @@ use Rattle.std.proofs.Common.{◌≡◌, ℕ, ◌-◌, ◌<◌, ◌≤◌, Bool,
 use denote.Ref.{Bor}
 use Rattle.std.specs.Prelude.{All, filter, replicate}
 use Rattle.std.specs.Map.{values_of}
+use Rattle.std.specs.Ordering.{nat_cmp}
+use Rattle.std.proofs.lemmas.Bool.{cond-true}
 use Rattle.std.proofs.lemmas.List.Elements.{filter-append, All-head, All-tail, All-cons}
+use Rattle.iv_text.specs.Row.{Row}
 use Rattle.iv_track.specs.Copies.{expanded, again}
+use Rattle.iv_track.specs.Tracked.{is_from}
+use Rattle.iv_track.proofs.PlaceLemmas.{le_then, zero_le}
 
 module _ {K : Type 0} where
   filter-replicate : (p : K → Bool) (n : ℕ) (k : K) → filter p (replicate n k) ≡ cond (p k) (replicate n k) []
@@ -43,3 +48,10 @@ module _ {K : Type 0} where
   pub again-none : (r : Bor K) (n : ℕ) → n ≤ 0 → again (Some (r, n)) ≡ []
   again-none r zero h = refl
   again-none r (suc n) h = absurd (omega arith)
+
+-- from the first base of the first sequence on there is every record
+pub filter-from_first : (rows : List Row) → filter (is_from 0 0) rows ≡ rows
+filter-from_first [] = refl
+filter-from_first (r ∷ rows) =
+    cond-true (is_from 0 0 r) _ _ (le_then (nat_cmp 0 r.seq) (nat_cmp 0 r.start) (zero_le r.seq) (zero_le r.start))
+    ∙ ap (λ (l : List Row). r ∷ l) (filter-from_first rows)

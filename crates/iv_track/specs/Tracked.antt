@@ -1,9 +1,9 @@
 -- A track as the ordered list of its records, in which a copy stands again.
-use Rattle.std.specs.Prelude.{◌≡◌, ℕ, ◌+◌, ◌<◌, ◌≤◌, Bool, List, Option, Some, None, find, All, sum}
+use Rattle.std.specs.Prelude.{◌≡◌, ℕ, ◌+◌, ◌<◌, ◌≤◌, Bool, false, List, Option, Some, None, find, All, sum}
 use Rattle.std.specs.Ordering.{is_lt, is_le, nat_cmp, ordering_then}
 use Rattle.std.specs.Map.{keys_of, values_of}
 use Rattle.iv_track.specs.Entries.{IsLedger}
-use Rattle.iv_text.specs.Row.{Row, row_cmp}
+use Rattle.iv_text.specs.Row.{Row, IsPlaced, row_cmp}
 use Rattle.iv_text.specs.Ordered.{copies}
 use Rattle.iv_track.specs.Copies.{removed_by, expanded}
 
@@ -26,6 +26,11 @@ with_copies rows (Some r) = Some (r, copies rows r)
 abbrev pub is_from : ℕ → ℕ → Row → Bool
 is_from seq start q = is_le (ordering_then (nat_cmp seq q.seq) (nat_cmp start q.start))
 
+-- where a search for these records begins: the placed records at or after the key are these, and with no key there are none
+abbrev pub BeginsFrom : ℕ → ℕ → Option Row → Type 0
+BeginsFrom seq start (Some least) = (q : Row) → IsPlaced q → is_le (row_cmp least q) ≡ is_from seq start q
+BeginsFrom seq start None = (q : Row) → IsPlaced q → is_from seq start q ≡ false
+
 -- the first such record, with its copies
 abbrev pub next_from : List Row → ℕ → ℕ → Option (Row × ℕ)
 next_from rows seq start = with_copies rows (find (is_from seq start) rows)
@@ -34,19 +39,19 @@ next_from rows seq start = with_copies rows (find (is_from seq start) rows)
 abbrev pub next_after : List Row → Row → Option (Row × ℕ)
 next_after rows r = with_copies rows (find (λ q. is_lt (row_cmp r q)) rows)
 
--- the map of a track: it is in order, each record in it has a base, a copy and the width, and `len` counts the copies
+-- the map of a track: it is in order, each record in it is placed and has a copy and the width, and `len` counts the copies
 pub record IsTrack (es : List (Row × ℕ)) (len width limit : ℕ) : Type 0 where
   pub ordered : IsLedger row_cmp es
   pub present : All (λ n. 0 < n) (values_of es)
   pub widths : All (λ q. q.width ≡ width) (keys_of es)
-  pub bases : All (λ q. q.start < q.stop) (keys_of es)
+  pub placed : All IsPlaced (keys_of es)
   pub len_is : len ≡ sum (values_of es)
   pub room : len ≤ limit + 1
   pub bounded : limit ≤ 4000000
 
--- the entries of a list in order: its different records in order, which have bases, each with the number of its copies
+-- the entries of a list in order: its different records in order, which are placed, each with the number of its copies
 pub record AreCounted (es : List (Row × ℕ)) (rows : List Row) : Type 0 where
   pub rows_are : expanded es ≡ rows
   pub ordered : IsLedger row_cmp es
   pub present : All (λ n. 0 < n) (values_of es)
-  pub bases : All (λ q. q.start < q.stop) (keys_of es)
+  pub placed : All IsPlaced (keys_of es)

@@ -6,7 +6,7 @@ ghost use Rattle.std.specs.Iterator.{YieldsFirstRef};
 ghost use Rattle.iv_text.specs.Row.{Row, row_cmp};
 ghost use Rattle.iv_text.specs.Ordered.{AreInOrder, copies, added, ordered};
 ghost use Rattle.iv_track.specs.Steps.{TakesUpTo};
-ghost use Rattle.iv_track.specs.Tracked.{AreCounted};
+ghost use Rattle.iv_track.specs.Tracked.{AreCounted, BeginsFrom};
 
 use crate::fault::{AddFault, NotThere, ReplaceFault};
 use crate::ledger::{Ledger, Walk};
@@ -137,8 +137,7 @@ impl<A: Allocator + Copy> Track<A> {
         ensures err { OnErr result (self.new ≡ self.old) }
         ensures steps { TakesUpTo meter.old meter.new 3 }
     {
-        // Gives the proof that the record has a base.
-        let _stop = row.stop();
+        row.law_of_place();
         let count = self.ledger.get(&row, meter).copied().unwrap_or(0);
         self.ledger.put(row, count + 1, meter)?;
         self.len += 1;
@@ -168,13 +167,14 @@ impl<A: Allocator + Copy> Track<A> {
 
     /// The first record on this sequence from this start on, or on a later sequence, and how many copies of it there are.
     ///
-    /// The start is below 2^32 - 1. At most 2 steps, and no memory.
+    /// At most 2 steps, and no memory.
     pub fn at_or_after(&self, seq: u32, start: u64, meter: &mut Meter) -> Option<(&Record<A>, u32)>
-        requires { start < 2 ^ 32 - 1 }
         ensures next { option_map (λ p. (p.0.now, p.1)) result ≡ next_from self.now.rows seq start }
         ensures steps { TakesUpTo meter.old meter.new 2 }
     {
-        let least = Record::least_at(self.alloc, seq, start as u32);
+        let Some(least) = least_from(self.alloc, seq, start) else {
+            return None;
+        };
         match self.ledger.at_or_after(&least, meter) {
             Some((row, count)) => Some((row, *count)),
             None => None,
@@ -194,7 +194,8 @@ impl<A: Allocator + Copy> Track<A> {
 
     /// The records on this sequence from this start on, and on later sequences, each as often as it stands.
     ///
-    /// The start is below 2^32 - 1. To begin is one step, and each call of the walk's `next` at most another.
+    /// The start is below 2^32 - 1, which a caller tests. To begin is one step, and each call of the walk's `next` at
+    /// most another.
     pub fn walk(&self, seq: u32, start: u64, meter: &mut Meter) -> Rows<'_, A>
         requires { start < 2 ^ 32 - 1 }
         ensures rows { result ≡ filter (is_from seq start) self.now.rows }
@@ -265,6 +266,18 @@ impl<A: Allocator + Copy> Track<A> {
     }
 }
 
+/// The least record that may be on this sequence from this start on, or on a later sequence, `None` where none may be.
+fn least_from<A: Allocator + Copy>(alloc: A, seq: u32, start: u64) -> Option<Record<A>>
+    ensures { BeginsFrom seq start result }
+{
+    if start < u64::from(u32::MAX) {
+        return Some(Record::least_at(alloc, seq, start as u32));
+    }
+    // No record starts so late.
+    let next = seq.checked_add(1)?;
+    Some(Record::least_at(alloc, next, 0))
+}
+
 /// The different records of a list in order, each with the number of its copies.
 fn counted<A: Allocator + Copy>(
     alloc: A,
@@ -279,15 +292,14 @@ fn counted<A: Allocator + Copy>(
     let Some(mut held) = rest.next() else {
         return Ok(entries);
     };
-    // Gives the proof that the record has a base.
-    let _stop = held.stop();
+    held.law_of_place();
     let mut count = 1u32;
     for row in rest {
         if row == held {
             count += 1;
             continue;
         }
-        let _stop = row.stop();
+        row.law_of_place();
         entries.push((mem::replace(&mut held, row), count))?;
         count = 1;
     }

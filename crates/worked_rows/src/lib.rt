@@ -1,4 +1,4 @@
-//! Tests over all crates: examples whose answers were worked out by hand.
+//! Tests of reading, writing and merging: examples whose answers were worked out by hand.
 #![tactic(auto)]
 
 #[cfg(test)]
@@ -11,12 +11,6 @@ mod fixtures;
 mod merging;
 #[cfg(test)]
 mod records;
-#[cfg(test)]
-mod runs;
-#[cfg(test)]
-mod scripts;
-#[cfg(test)]
-mod sessions;
 #[cfg(test)]
 mod sinks;
 #[cfg(test)]

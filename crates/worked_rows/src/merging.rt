@@ -2,15 +2,16 @@
 use crate::fixtures::genome;
 use iv_cover::put_merge;
 use iv_text::{BedFile, Genome, MemSink};
+use iv_track::{Meter, Track};
 use std::test::Fail;
 
 /// The merge rows of the records of a BED file.
 fn merged(rt: &HostRuntime, genome: &Genome, text: &[u8], distance: u32) -> Result<MemSink, Fail> {
     let file = BedFile::parse(rt.alloc(), genome, 3, 9, text)?;
-    let mut records = file.into_records();
-    records.sort()?;
+    let width = file.width();
+    let track = Track::from_records(rt.alloc(), width, 9, file.into_records())?;
     let mut sink = MemSink::new(rt.alloc(), 100, 7)?;
-    put_merge(distance, records.as_slice(), genome, &mut sink)?;
+    put_merge(distance, &track, genome, &mut Meter::new(), &mut sink)?;
     Ok(sink)
 }
 

@@ -78,7 +78,11 @@ fn numbers_of_record_faults(rt: HostRuntime) {
 
 #[test]
 fn numbers_of_edit_faults(rt: HostRuntime) {
-    for (fault, code) in [(EditFault::Full, 12), (EditFault::NoMemory, 22)] {
+    for (fault, code) in [
+        (EditFault::Absent, 11),
+        (EditFault::Full, 12),
+        (EditFault::NoMemory, 22),
+    ] {
         assert_eq!(rt; fault.code(), code);
     }
 }

@@ -14,7 +14,7 @@ loop-row-init g c =
     let first = sym c.into_iter-rest.ensures.rest ∙ c.in-Some.ensures.cases.0 in (
       grouping-begin c.new-entries.result.items c.in-Some.held c.into_iter-row-iterator.result.rest.items c.args.rows.items c.new-entries.ensures.items
           (first ∙ ap (λ s. c.in-Some.held ∷ s.rest.items) (sym same))
-          c.requires.ordered (omega (arith, c.stop-stop.ensures.value, c.stop-stop.ensures.some)),
+          c.requires.ordered c.law_of_place.ensures,
       omega (arith, c.args.rows.ok.0, c.into_iter-rest.ensures.len, c.in-Some.ensures.cases.1, ap length first, ap (λ s. s.rest.len) same, ap (λ s. length s.rest.items) same),
     )
 
@@ -40,7 +40,7 @@ loop-row-preserved g c =
     let whole = c.args.rows.items in (
       subst (λ h. IsGrouping c.push.new.self.items h 1 rest whole) (sym c.replace.ensures.after)
           (subst (λ es. IsGrouping es c.in-Some-row.row 1 rest whole) (sym (c.in_ok-push.ensures.items ∙ ap (λ h. l.entries.items ++ (h, l.count) ∷ []) c.replace.ensures.value))
-          (grouping-next l.entries.items l.held c.in-Some-row.row l.count rest whole (sym c.eq.ensures ∙ c.if-eq.false) (omega (arith, c.stop-stop-in-loop-row.ensures.value, c.stop-stop-in-loop-row.ensures.some))
+          (grouping-next l.entries.items l.held c.in-Some-row.row l.count rest whole (sym c.eq.ensures ∙ c.if-eq.false) c.law_of_place-in-loop-row.ensures
           (subst (λ left. IsGrouping l.entries.items l.held l.count left whole) now.0 l.invariant.0))),
       omega (arith, now.1, l.invariant.1, ap length now.0),
     )

@@ -1,22 +1,19 @@
-use Rattle.std.proofs.Common.{◌≡◌, List, sym, subst}
+use Rattle.std.proofs.Common.{◌≡◌, List, [], sym, ap, subst, ◌∙◌}
 use Rattle.std.specs.Prelude.{All}
-use Rattle.std.proofs.lemmas.List.Sorted.{All-permutation}
-use Rattle.iv_text.specs.Ordered.{ordered, AreInOrder}
-use Rattle.iv_text.specs.Read.{Fits}
-use Rattle.iv_text.specs.Row.{Row}
-use Rattle.iv_text.proofs.OrderedLemmas.{ordered-sorted, ordered-in_order}
+use Rattle.std.proofs.lemmas.List.Elements.{All-from_recursion, recursion_from_All}
+use Rattle.iv_text.specs.Ordered.{ordered}
+use Rattle.iv_text.specs.Read.{Fits, LiesOn}
+use Rattle.iv_text.specs.Row.{Row, row_cmp}
+use Rattle.iv_text.proofs.OrderedLemmas.{all-all_added}
+use Rattle.iv_track.specs.Tracked.{Tracked}
 use Rattle.worked_rows.proofs.merging.merged.Goals as goal
 
-pub put_merge-requires-clause-ordered : goal.put_merge-requires-clause-ordered
-put_merge-requires-clause-ordered c =
-    let same : c.sort.new.self.items ≡ ordered c.into_records-records.result.items =
-    ordered-sorted c.into_records-records.result.items c.sort.new.self.items c.in_ok-sort.ensures.permutation c.in_ok-sort.ensures.sorted in
-    rw c.as_slice.ensures.value (subst AreInOrder (sym same) (ordered-in_order c.into_records-records.result.items))
-
-pub put_merge-requires-clause-lie : goal.put_merge-requires-clause-lie
-put_merge-requires-clause-lie c =
-    let fits : All (Fits c.args.genome.now c.in_ok-file.file.width) c.into_records-records.result.items =
-    subst (λ (l : List Row). All (Fits c.args.genome.now c.in_ok-file.file.width) l) (sym c.into_records-records.ensures) c.in_ok-file.ensures.fit in
-    let sorted : All (Fits c.args.genome.now c.in_ok-file.file.width) c.sort.new.self.items =
-    All-permutation (Fits c.args.genome.now c.in_ok-file.file.width) c.into_records-records.result.items c.sort.new.self.items c.in_ok-sort.ensures.permutation fits in
-    λ k d within. rw c.as_slice.ensures.value ((sorted k d (rw (sym c.as_slice.ensures.value) within)).lies)
+pub put_merge-requires : goal.put_merge-requires
+put_merge-requires c =
+    let g = c.args.genome.now in
+    let rows : List Row = c.into_records.result.items in
+    let F : Row → Type 0 = Fits g c.in_ok-file.file.width in
+    let fits : All F rows = subst (λ (l : List Row). All F l) (sym c.into_records.ensures) c.in_ok-file.ensures.fit in
+    let all : All F (ordered rows) = All-from_recursion F (ordered rows) (all-all_added row_cmp F rows [] (recursion_from_All F rows fits) tt) in
+    let lies : All (LiesOn g) (ordered rows) = λ k d within. (all k d within).lies in
+    subst (λ (t : Tracked). All (LiesOn g) t.rows) (sym c.in_ok-track.ensures) lies

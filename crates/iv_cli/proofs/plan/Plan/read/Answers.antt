@@ -1,6 +1,6 @@
 use Rattle.std.proofs.Common.{refl, sym}
 use Rattle.std.proofs.lemmas.Result.{err_from_is_err_and}
-use Rattle.iv_cli.proofs.WordLemmas.{Going-more, refuse-taken, refuse-odd, two-up, one-only}
+use Rattle.iv_cli.proofs.WordLemmas.{Going-more, refuse-taken, refuse-odd, refuse-width, two-up, one-only, none-left}
 use Rattle.iv_cli.proofs.plan.Plan.read.Goals as goal
 
 pub returns-in_err-take-clause-err : goal.returns-in_err-take-clause-err
@@ -9,8 +9,8 @@ returns-in_err-take-clause-err c =
     let words = two-up (λ word. word.now) c.settings.rest.now _ _ c.in-len2-up.len_at_least in
     rw (p.1, p.2) (
       c.in_err-take.ensures.err.0,
-      λ files plan. refuse-taken _ _ _ _ _ _ (rw words at c.settings.invariant) c.in_err-take.ensures.err.1 files
-          (rw c.in-Some.ensures.cases.0 at plan),
+      λ plan is. refuse-taken _ _ _ _ _ _ (rw words at c.settings.invariant) c.in_err-take.ensures.err.1 plan
+          (rw c.in-Some.ensures.cases.0 at is),
     )
 
 pub settings-preserved : goal.settings-preserved
@@ -21,4 +21,9 @@ settings-preserved c =
 pub returns-then-not-is_empty-clause-err : goal.returns-then-not-is_empty-clause-err
 returns-then-not-is_empty-clause-err c =
     let last = one-only (λ word. word.now) c.settings.rest.now c.in_default-rest.len_below (sym c.if-not-is_empty.ensures) in
-    (refl, λ files plan. refuse-odd _ _ _ _ (rw last.1 at c.settings.invariant) files (rw c.in-Some.ensures.cases.0 at plan))
+    (refl, λ plan is. refuse-odd _ _ _ _ (rw last.1 at c.settings.invariant) plan (rw c.in-Some.ensures.cases.0 at is))
+
+pub returns-in_default-width-clause-err : goal.returns-in_default-width-clause-err
+returns-in_default-width-clause-err c =
+    let none = none-left (λ word. word.now) c.settings.rest.now (sym c.if-not-is_empty.ensures) in
+    (refl, λ plan is. refuse-width _ _ _ (rw none at c.settings.invariant) (sym c.in_default-width.ensures) plan (rw c.in-Some.ensures.cases.0 at is))

@@ -1,32 +1,24 @@
-use Rattle.std.proofs.Common.{◌≡◌, List, length, refl, sym, ap, subst, ◌∙◌, arith}
+use Rattle.std.proofs.Common.{List, [], ◌≡◌, sym, ap, subst, arith, length}
 use Rattle.std.specs.Prelude.{All}
-use Rattle.std.proofs.lemmas.List.Sorted.{All-permutation, length_permutation}
-use Rattle.iv_text.specs.Ordered.{ordered, AreInOrder}
+use Rattle.std.proofs.lemmas.List.Elements.{All-from_recursion, recursion_from_All}
+use Rattle.iv_text.specs.Ordered.{ordered}
 use Rattle.iv_text.specs.Read.{Fits}
-use Rattle.iv_text.specs.Row.{Row}
-use Rattle.iv_text.proofs.OrderedLemmas.{ordered-sorted, ordered-in_order}
+use Rattle.iv_text.specs.Row.{Row, row_cmp}
+use Rattle.iv_text.proofs.OrderedLemmas.{all-all_added, length-all_added}
+use Rattle.iv_track.specs.Tracked.{Tracked}
+use Rattle.iv_session.specs.States.{IsSession}
 use Rattle.iv_session.proofs.session.Session.new.Goals as goal
 
 pub invariant_of-result : goal.invariant_of-result
 invariant_of-result g c =
-    let same : c.sort.new.self.items ≡ ordered c.into_records-records.result.items =
-    ordered-sorted c.into_records-records.result.items c.sort.new.self.items c.in_ok-sort.ensures.permutation c.in_ok-sort.ensures.sorted in
-    let read : c.into_records-records.result.items ≡ c.args.first.rows = c.into_records-records.ensures in
-    let fits : All (Fits c.args.genome c.args.first.width) c.into_records-records.result.items =
-    subst (λ (l : List Row). All (Fits c.args.genome c.args.first.width) l) (sym read) c.requires.fit in
-    record {
+    let P : Tracked → Type 0 = λ t. IsSession c.args.genome t.width t.limit t.rows in
+    let F : Row → Type 0 = Fits c.args.genome c.width-width.result in
+    let rows : List Row = c.into_records.result.items in
+    let read : rows ≡ c.args.first.rows = c.into_records.ensures in
+    let fits : All F rows = rw (c.width-width.ensures.value, read) c.requires.fit in
+    subst P (sym c.in_ok-track.ensures) (record {
       low = c.width-width.ensures.known.0;
       high = c.width-width.ensures.known.1;
-      in_order = subst AreInOrder (sym same) (ordered-in_order c.into_records-records.result.items);
-      fit = rw c.width-width.ensures.value
-          (All-permutation (Fits c.args.genome c.args.first.width) c.into_records-records.result.items c.sort.new.self.items c.in_ok-sort.ensures.permutation fits);
-      few = omega (arith, length_permutation c.into_records-records.result.items c.sort.new.self.items c.in_ok-sort.ensures.permutation, ap length read, c.requires.few);
-      bounded = c.requires.bounded;
-    }
-
-pub returns : goal.returns
-returns g c =
-    let same : c.sort.new.self.items ≡ ordered c.args.first.rows =
-    ordered-sorted c.into_records-records.result.items c.sort.new.self.items c.in_ok-sort.ensures.permutation c.in_ok-sort.ensures.sorted
-    ∙ ap ordered c.into_records-records.ensures in
-    rw (c.width-width.ensures.value, c.new.ensures, same) refl
+      fit = All-from_recursion F (ordered rows) (all-all_added row_cmp F rows [] (recursion_from_All F rows fits) tt);
+      few = omega (arith, length-all_added row_cmp rows [], ap length read, c.requires.few);
+    })

@@ -20,7 +20,7 @@ invariant_of-self-2 g c =
     let e = c.unwrap_or-count.ensures ∙ ap (λ o. unwrap_or o 0) (c.copied.ensures ∙ c.get.ensures.value) in
     staged_track i.ledger c.put.new.self i.len i.width i.limit c.args.row c.self.invariant c.unwrap_or-count.result e c.in_ok-put.ensures.ok c.in_ok-put.ensures.ordered
     (c.requires.width ∙ sym (ap (λ (t : Tracked). t.width) c.self.view_is))
-    (omega (arith, c.stop-stop.ensures.value, c.stop-stop.ensures.some))
+    c.law_of_place.ensures
     (omega (arith, c.requires.room, len-rows i.ledger i.len i.width i.limit c.self.invariant, ap (λ (t : Tracked). length t.rows) c.self.view_is, ap (λ (t : Tracked). t.limit) c.self.view_is))
 
 pub returns-clause-ok : goal.returns-clause-ok

@@ -6,7 +6,7 @@ use Rattle.iv_track.specs.Copies.{expanded}
 use Rattle.iv_text.specs.Ordered.{AreInOrder}
 use Rattle.iv_track.specs.Tracked.{Tracked, is_from}
 use Rattle.iv_track.proofs.Counts.{in_order-expanded}
-use Rattle.iv_track.proofs.TrackLemmas.{filter-least}
+use Rattle.iv_track.proofs.PlaceLemmas.{filter-least}
 use Rattle.iv_track.proofs.WalkLemmas.{expanded-filter, present-filter}
 use Rattle.iv_track.proofs.track.Track.walk.Goals as goal
 
@@ -16,7 +16,7 @@ invariant_of-result g c = rw c.walk.ensures.entries (present-filter (λ e. is_le
 pub returns-clause-rows : goal.returns-clause-rows
 returns-clause-rows g c =
     let i = c.self.inside in
-    ap expanded (c.walk.ensures.entries ∙ ap (λ k. filter (λ e. is_le (row_cmp k e.0)) i.ledger) c.least_at-least.ensures ∙ filter-least c.args.seq c.args.start i.ledger c.self.invariant.bases)
+    ap expanded (c.walk.ensures.entries ∙ ap (λ k. filter (λ e. is_le (row_cmp k e.0)) i.ledger) c.least_at-least.ensures ∙ filter-least c.args.seq c.args.start i.ledger c.self.invariant.placed)
     ∙ expanded-filter (is_from c.args.seq c.args.start) i.ledger
     ∙ ap (λ (t : Tracked). filter (is_from c.args.seq c.args.start) t.rows) c.self.view_is
 

@@ -51,6 +51,15 @@ fn words_that_are_no_session(rt: HostRuntime) {
         b"g",
         b"-i",
         b"a",
+        b"session",
+        b"-width",
+        b"3",
+        b"-g",
+        b"g",
+        b"-width",
+        b"3",
+        b"-i",
+        b"a",
     ];
     for (from, to) in [
         (0, 0),
@@ -61,9 +70,42 @@ fn words_that_are_no_session(rt: HostRuntime) {
         (0, 7),
         (7, 12),
         (12, 17),
+        (17, 26),
+        (17, 24),
     ] {
         assert_eq!(rt; Plan::read(&all[from..to]).err(), Some(CliFault::Words(16)));
     }
+}
+
+#[test]
+fn widths_of_empty_files(rt: HostRuntime) -> Result<(), Fail> {
+    for (value, want) in [
+        (b"3".as_slice(), Some(3)),
+        (b"6".as_slice(), Some(6)),
+        (b"2".as_slice(), None),
+        (b"7".as_slice(), None),
+        (b"03".as_slice(), None),
+        (b"".as_slice(), None),
+        (b"x".as_slice(), None),
+    ] {
+        let words = [
+            b"session".as_slice(),
+            b"-width",
+            value,
+            b"-g",
+            b"g",
+            b"-i",
+            b"a",
+        ];
+        let read = Plan::read(&words);
+        assert_eq!(rt; read.as_ref().ok().map(|plan| plan.width()), want);
+        assert!(rt; want.is_some() || read.err() == Some(CliFault::Words(16)));
+    }
+    assert_eq!(rt;
+        Plan::read(&[b"session", b"-g", b"g", b"-i", b"a"])?.width(),
+        3
+    );
+    Ok(())
 }
 
 /// The fault of files, at most two records.

@@ -227,23 +227,6 @@ fn refused_lines(rt: HostRuntime) -> Result<(), Fail> {
 }
 
 #[test]
-fn second_view(rt: HostRuntime) -> Result<(), Fail> {
-    let mut session = session(&rt, b"", 9)?;
-    let ran = run(
-        &rt,
-        &mut session,
-        b"open\ta\tmerge\nopen\ta\tmerge\nopen\tb\tmerge\n",
-        7,
-        0,
-    )?;
-    assert_eq!(rt;
-        ran.messages.bytes(),
-        b"line 2: view name taken\nline 3: too many views\n".as_slice()
-    );
-    Ok(())
-}
-
-#[test]
 fn starts_with_zeros(rt: HostRuntime) -> Result<(), Fail> {
     let mut session = session(&rt, b"chr1\t50\t60\tn\t0\t+\n", 9)?;
     let script = b"open\tm\tmerge\nadd\tchr1\t0010\t20\tn\t0\t+\nprint\tm\n";

@@ -122,19 +122,6 @@ fn names_and_words_of_views(rt: HostRuntime) -> Result<(), Fail> {
 }
 
 #[test]
-fn one_view_at_a_time(rt: HostRuntime) -> Result<(), Fail> {
-    let mut session = session(&rt, b"", 2)?;
-    for (name, want) in [
-        (b"m".as_slice(), None),
-        (b"m".as_slice(), Some(ViewFault::Taken)),
-        (b"n".as_slice(), Some(ViewFault::TooMany)),
-    ] {
-        assert_eq!(rt; session.open_view(name, &[b"merge"]).err(), want);
-    }
-    Ok(())
-}
-
-#[test]
 fn prints_that_fail(rt: HostRuntime) -> Result<(), Fail> {
     let mut session = session(&rt, b"chr1\t10\t20\n", 2)?;
     session.open_view(b"m", &[b"merge"])?;

@@ -1,0 +1,10 @@
+use Rattle.std.proofs.Common.{drop}
+use Rattle.std.specs.List.{flat_map}
+use Rattle.iv_text.specs.Sinks.{Underway}
+use Rattle.iv_session.specs.Views.{all_text}
+use Rattle.iv_session.proofs.ViewLemmas.{printed_under}
+use Rattle.iv_session.proofs.session.Session.put_views.Given as goal
+
+abbrev pub invariant-loop-place : goal.invariant-loop-place
+invariant-loop-place g l = Underway (g.S.Sink.state l.fn.sink) (g.S.Sink.state l.sink)
+    (flat_map (printed_under l.self) (drop l.place l.self.views)) (all_text l.self)

@@ -1,0 +1,87 @@
+-- Where a search from a place begins.
+use Rattle.std.proofs.Common.{◌≡◌, ℕ, ◌+◌, ◌<◌, ◌≤◌, Bool, true, false, cond, nat_eq, List, [], ◌∷◌, Option, Some, None, refl, ap, ◌∙◌, arith, zero, suc}
+use borrow.Author.Tests.{lt-ltb}
+use Rattle.std.proofs.lemmas.List.Elements.{All-head, All-tail}
+use Rattle.std.proofs.lemmas.Map.Lookups.{exact_unsigned}
+use Rattle.std.specs.Prelude.{filter, find, All}
+use Rattle.std.specs.Map.{keys_of}
+use Rattle.std.specs.declared.cmp.Ordering.{Ordering}
+use Rattle.std.specs.declared.cmp.Ordering.TheVariants.{Less, Equal, Greater}
+use Rattle.std.specs.Ordering.{is_le, ordering_then, nat_cmp}
+use Rattle.std.specs.Option.{option_cmp}
+use Rattle.std.specs.Cmp.{ranked}
+use Rattle.std.specs.Cmp.Lexicographic.{slice_cmp}
+use Rattle.iv_text.specs.declared.strand.Strand.{Strand}
+use Rattle.iv_text.specs.Row.{Row, IsPlaced, row_cmp, strand_cmp}
+use Rattle.iv_track.specs.Tracked.{is_from, BeginsFrom}
+
+from_least : (a b r : Ordering) → (b ≡ Equal → is_le r ≡ true) → is_le (ordering_then a (ordering_then b r)) ≡ is_le (ordering_then a b)
+from_least Less b r h = refl
+from_least Equal Less r h = refl
+from_least Equal Equal r h = h refl
+from_least Equal Greater r h = refl
+from_least Greater b r h = refl
+
+pub le_then : (a b : Ordering) → is_le a ≡ true → is_le b ≡ true → is_le (ordering_then a b) ≡ true
+le_then Less b g h = refl
+le_then Equal b g h = h
+le_then Greater b g h = g
+
+pub zero_le : (n : ℕ) → is_le (nat_cmp 0 n) ≡ true
+zero_le zero = refl
+zero_le (suc n) = ap (λ b. is_le (cond b Less (cond (nat_eq 0 (suc n)) Equal Greater))) (lt-ltb 0 (suc n) (omega arith))
+
+empty_le : (bs : List ℕ) → is_le (slice_cmp nat_cmp [] bs) ≡ true
+empty_le [] = refl
+empty_le (b ∷ bs) = refl
+
+none_le : (s : Option Strand) → is_le (option_cmp strand_cmp None s) ≡ true
+none_le None = refl
+none_le (Some s) = refl
+
+le_nat : (m n : ℕ) → m ≤ n → is_le (nat_cmp m n) ≡ true
+le_nat m n h = go (nat_cmp m n) refl
+  where
+    go : (o : Ordering) → o ≡ nat_cmp m n → is_le o ≡ true
+    go Less e = refl
+    go Equal e = refl
+    go Greater e = let r : n < m = ranked m n Greater e in absurd (omega arith)
+
+-- the least record at a place is before exactly the records from there on that have a base
+least-is_from : (seq start : ℕ) (q : Row) → q.start < q.stop → is_le (row_cmp (record { seq = seq; start = start; stop = start + 1; name = []; score = []; strand = None; width = 0 }) q) ≡ is_from seq start q
+least-is_from seq start q some =
+    from_least (nat_cmp seq q.seq) (nat_cmp start q.start) _ (λ tied.
+    (le_then (nat_cmp (start + 1) q.stop) _ (le_nat (start + 1) q.stop (omega (arith, some, exact_unsigned start q.start tied)))
+    (le_then (slice_cmp nat_cmp [] q.name) _ (empty_le q.name)
+    (le_then (slice_cmp nat_cmp [] q.score) _ (empty_le q.score)
+    (le_then (option_cmp strand_cmp None q.strand) _ (none_le q.strand) (zero_le q.width))))))
+
+-- it is where a search from there begins
+pub begins-least : (seq start : ℕ) → BeginsFrom seq start (Some (record { seq = seq; start = start; stop = start + 1; name = []; score = []; strand = None; width = 0 }))
+begins-least seq start q p = least-is_from seq start q p.some
+
+-- tests that agree on placed records find the same
+find-placed : (p r : Row → Bool) → ((q : Row) → IsPlaced q → p q ≡ r q) → (es : List (Row × ℕ)) → All IsPlaced (keys_of es) → find (λ e. p e.0) es ≡ find (λ e. r e.0) es
+find-placed p r same [] h = refl
+find-placed p r same (e ∷ es) h =
+    (λ i. cond (same e.0 (All-head IsPlaced e.0 (keys_of es) h) i) (Some e) (find-placed p r same es (All-tail IsPlaced e.0 (keys_of es) h) i))
+
+-- a search from where it begins finds the first record from the place on
+pub find-begun : (seq start : ℕ) (least : Row) (es : List (Row × ℕ)) → BeginsFrom seq start (Some least) → All IsPlaced (keys_of es) → find (λ e. is_le (row_cmp least e.0)) es ≡ find (λ e. is_from seq start e.0) es
+find-begun seq start least es begins = find-placed (λ q. is_le (row_cmp least q)) (is_from seq start) begins es
+
+find-nothing : (es : List (Row × ℕ)) → find (λ (e : Row × ℕ). false) es ≡ None
+find-nothing [] = refl
+find-nothing (e ∷ es) = find-nothing es
+
+-- where it begins nowhere there is none
+pub find-nowhere : (seq start : ℕ) (es : List (Row × ℕ)) → BeginsFrom seq start None → All IsPlaced (keys_of es) → find (λ e. is_from seq start e.0) es ≡ None
+find-nowhere seq start es begins h = find-placed (is_from seq start) (λ q. false) begins es h ∙ find-nothing es
+
+-- the entries from the least record at a place on are those of the records from there on
+pub filter-least : (seq start : ℕ) (es : List (Row × ℕ)) → All IsPlaced (keys_of es)
+    → filter (λ e. is_le (row_cmp (record { seq = seq; start = start; stop = start + 1; name = []; score = []; strand = None; width = 0 }) e.0)) es ≡ filter (λ e. is_from seq start e.0) es
+filter-least seq start [] h = refl
+filter-least seq start (e ∷ es) h =
+    let rest = filter-least seq start es (All-tail IsPlaced e.0 (keys_of es) h) in
+    (λ i. cond (begins-least seq start e.0 (All-head IsPlaced e.0 (keys_of es) h) i) (e ∷ rest i) (rest i))

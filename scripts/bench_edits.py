@@ -1,0 +1,104 @@
+#!/usr/bin/env python3
+"""Times edits of a session of bedkeep over a track of a million records.
+
+    make build
+    python3 scripts/bench_edits.py [FOLDER] [--records N] [--columns N ..] [--edits N]
+
+Writes a genome file, a BED file and two scripts into FOLDER (a temporary
+folder where none is given), the same bytes each time. One script opens a
+view and nothing else; the other opens it and then adds so many records and
+removes them again, in another order. The time of an edit is the difference of
+the two runs. At the end both print the view, and the script stops with
+status 1 where what they print differs.
+"""
+
+import argparse
+import os
+import platform
+import random
+import statistics
+import subprocess
+import sys
+import tempfile
+import time
+
+from bench_merge import CHROMOSOMES, TOP, places, stop_unless_done, write_data
+
+SEED = 21
+
+
+def main():
+    wanted = read_words()
+    if not os.access(wanted.program, os.X_OK):
+        sys.exit(f"{wanted.program} is not there: run `make build` first")
+    print(f"{wanted.records:,} records, {wanted.edits:,} adds and {wanted.edits:,} removes, {wanted.runs} runs each, "
+          f"{os.cpu_count()} processors, {platform.machine()}")
+    print("| columns | without edits | with edits | edits a second |")
+    print("|---|---|---|---|")
+    with tempfile.TemporaryDirectory() as temporary:
+        folder = wanted.folder or temporary
+        os.makedirs(folder, exist_ok=True)
+        for columns in wanted.columns:
+            run_case(wanted, folder, columns)
+
+
+def read_words():
+    words = argparse.ArgumentParser(description=__doc__.splitlines()[0])
+    words.add_argument("folder", nargs="?", help="where the data is written (default: a temporary folder)")
+    words.add_argument("--records", type=int, default=1_000_000)
+    words.add_argument("--columns", type=int, nargs="+", choices=[3, 4, 5, 6], default=[3, 6])
+    words.add_argument("--edits", type=int, default=200_000, help="how many adds, and how many removes")
+    words.add_argument("--runs", type=int, default=5, help="runs of each script")
+    words.add_argument("--program", default=os.path.join(TOP, "build", "bedkeep"))
+    return words.parse_args()
+
+
+def run_case(wanted, folder, columns):
+    genome, track, idle, busy = (os.path.join(folder, name) for name in ("sizes", "sorted.bed", "idle", "busy"))
+    write_data(genome, track, idle, wanted.records, columns, "sorted")
+    write_edits(busy, wanted.edits, columns)
+    words = [wanted.program, "session", "-g", genome, "-i", track]
+    if printed(words, idle) != printed(words, busy):
+        sys.exit("what the scripts print differs")
+    seconds = {idle: [], busy: []}
+    for _ in range(wanted.runs):
+        for script, runs in seconds.items():
+            runs.append(timed(words, script))
+    still, moved = (statistics.median(runs) for runs in seconds.values())
+    print(f"| {columns} | {still * 1000:.0f} ms | {moved * 1000:.0f} ms | {2 * wanted.edits / (moved - still):,.0f} |", flush=True)
+
+
+def write_edits(script, edits, columns):
+    chance = random.Random(SEED)
+    # the same places as in the track, and others: some records get a copy
+    rows = []
+    for number, (rank, start, stop) in enumerate(places(edits)):
+        shift = 0 if number % 2 else 7
+        beside = [f"gene_{number}", str(number % 1000), "+-"[number % 2]][:columns - 3]
+        rows.append("\t".join([CHROMOSOMES[rank][0], str(start + shift), str(stop + shift), *beside]))
+    with open(script, "w") as file:
+        file.write("open\tm\tmerge\n")
+        file.writelines(f"add\t{row}\n" for row in rows)
+        chance.shuffle(rows)
+        file.writelines(f"remove\t{row}\n" for row in rows)
+        file.write("print\tm\n")
+
+
+def printed(words, script):
+    with open(script, "rb") as given:
+        done = subprocess.run(words, stdin=given, stdout=subprocess.PIPE)
+    stop_unless_done(words, done.returncode)
+    return done.stdout
+
+
+def timed(words, script):
+    with open(script, "rb") as given:
+        begun = time.perf_counter()
+        done = subprocess.run(words, stdin=given, stdout=subprocess.DEVNULL)
+        seconds = time.perf_counter() - begun
+    stop_unless_done(words, done.returncode)
+    return seconds
+
+
+if __name__ == "__main__":
+    main()
