@@ -8,7 +8,7 @@ use Rattle.iv_session.specs.States.{State}
 use Rattle.iv_session.specs.Views.{view_named, view_text, all_text}
 use Rattle.iv_session.specs.Written.{Written, silent, printed, refused_as, refusal_count, written_of, told}
 use Rattle.iv_session.specs.Commands.{Runs, Does, Prints, PrintsAll, PrintsNamed, PrintsView, command_of, arguments, only_field}
-use Rattle.iv_session.specs.Scripts.{PrintsLine, TellsOf, RanLine, FailedLine}
+use Rattle.iv_session.specs.Scripts.{PrintsAs, PrintsLine, TellsOf, RanLine, FailedLine}
 use Rattle.iv_session.specs.declared.command.Command.{Command}
 use Rattle.iv_session.specs.declared.view.OpenView.{OpenView}
 use Rattle.iv_session.specs.declared.fault.LineRefusal.{LineRefusal}
@@ -93,18 +93,12 @@ printed-wrong s cs out none = record {
 }
 
 -- a print of all views
-pub printed-all : (s : State) (cs : List (List ℕ)) (out0 out1 : SinkState) → cs ≡ [] → Puts out0 out1 all_put (all_text s) → PrintsLine (PrintsAll cs s s) out0 out1 (Ok (Ok tt))
-printed-all s cs out0 out1 none puts = record {
+pub printed-all : (s : State) (cs : List (List ℕ)) (out0 out1 : SinkState) (result : Result (Result (Unit {0}) LineRefusal) WriteFault)
+    → cs ≡ [] → PrintsAs out0 out1 result (printed (all_text s)) → PrintsLine (PrintsAll cs s s) out0 out1 result
+printed-all s cs out0 out1 result none puts = record {
   written = printed (all_text s);
   prints = subst (λ (l : List (List ℕ)). PrintsAll l s s (printed (all_text s))) (sym none) (refl, refl);
-  puts = (puts, refl);
-}
-
-pub printed-all_failed : (s : State) (cs : List (List ℕ)) (out0 out1 : SinkState) (failed : WriteFault) → cs ≡ [] → FailsIn out0 out1 (all_text s) → PrintsLine (PrintsAll cs s s) out0 out1 (Err failed)
-printed-all_failed s cs out0 out1 failed none fails = record {
-  written = printed (all_text s);
-  prints = subst (λ (l : List (List ℕ)). PrintsAll l s s (printed (all_text s))) (sym none) (refl, refl);
-  puts = (fails, refl);
+  puts = puts;
 }
 
 -- all views are printed by a command without fields

@@ -55,13 +55,13 @@ abbrev pub name_faults : List ViewFault
 name_faults = fault.BadName ∷ fault.Taken ∷ fault.TooMany ∷ []
 
 -- a fault, or else what the words say
-abbrev pub told : Option ViewFault → Result ViewWords ViewFault → Result ViewWords ViewFault
-told None said = said
-told (Some f) said = Err f
+abbrev pub unless_fault : Option ViewFault → Result ViewWords ViewFault → Result ViewWords ViewFault
+unless_fault None said = said
+unless_fault (Some f) said = Err f
 
 -- the view that is opened under a name by these words: the first fault of the name, or else what the words say
 abbrev pub opened : State → List ℕ → List (List ℕ) → Result ViewWords ViewFault
-opened s name words = told (find (has_name_fault s name) name_faults) (words_said s words)
+opened s name words = unless_fault (find (has_name_fault s name) name_faults) (words_said s words)
 
 -- what a view prints: its definition's text for the session as it is
 abbrev pub view_text : ViewWords → State → List ℕ
@@ -71,6 +71,10 @@ view_text view.Merge s = merge_text 0 s.genome s.records
 abbrev pub heading : List ℕ → List ℕ
 heading name = codes "#" ++ name ++ codes "\n"
 
+-- what a view prints under its heading
+abbrev pub headed_text : State → List ℕ × OpenView → List ℕ
+headed_text s v = heading v.0 ++ view_text v.1.shows s
+
 -- what all views print, in order of opening
 abbrev pub all_text : State → List ℕ
-all_text s = flat_map (λ v. heading v.0 ++ view_text v.1.shows s) s.views
+all_text s = flat_map (headed_text s) s.views

@@ -242,7 +242,8 @@ impl<A: Allocator + Copy> Session<A> {
         let Some(view) = self.views.find(name) else {
             return Err(PrintFault::NoView);
         };
-        match self.put_view(view.shows, sink) {
+        let mut meter = Meter::new();
+        match self.put_view(view.shows, &mut meter, sink) {
             Ok(()) => Ok(()),
             Err(_) => Err(PrintFault::Write),
         }
@@ -256,24 +257,29 @@ impl<A: Allocator + Copy> Session<A> {
     pub fn print_all<S: Sink>(&self, sink: &mut S) -> Result<(), PrintFault>
         ensures { Puts (S.state sink.old) (S.state sink.new) result (all_text self.now) × IfErr result (λ f. f ≡ PrintFault.Write) }
     {
-        match self.put_views(sink) {
+        let mut meter = Meter::new();
+        match self.put_views(&mut meter, sink) {
             Ok(()) => Ok(()),
             Err(_) => Err(PrintFault::Write),
         }
     }
 
     /// Puts the text of a view.
-    fn put_view<S: Sink>(&self, shows: ViewWords, sink: &mut S) -> Result<(), WriteFault>
+    fn put_view<S: Sink>(
+        &self,
+        shows: ViewWords,
+        meter: &mut Meter,
+        sink: &mut S,
+    ) -> Result<(), WriteFault>
         ensures { Puts (S.state sink.old) (S.state sink.new) result (view_text shows self.now) }
     {
-        let mut meter = Meter::new();
         match shows {
-            ViewWords::Merge => put_merge(0, &self.track, &self.genome, &mut meter, sink),
+            ViewWords::Merge => put_merge(0, &self.track, &self.genome, meter, sink),
         }
     }
 
     /// Puts the headings and texts of all views.
-    fn put_views<S: Sink>(&self, sink: &mut S) -> Result<(), WriteFault>
+    fn put_views<S: Sink>(&self, meter: &mut Meter, sink: &mut S) -> Result<(), WriteFault>
         ensures { Puts (S.state sink.old) (S.state sink.new) result (all_text self.now) }
     {
         for place in 0..self.views.len() {
@@ -281,7 +287,7 @@ impl<A: Allocator + Copy> Session<A> {
                 break;
             };
             put_heading(sink, name)?;
-            self.put_view(view.shows, sink)?;
+            self.put_view(view.shows, meter, sink)?;
         }
         Ok(())
     }

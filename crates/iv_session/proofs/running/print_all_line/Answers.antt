@@ -1,6 +1,6 @@
-use Rattle.std.proofs.Common.{sym}
+use Rattle.std.proofs.Common.{refl, sym}
 use Rattle.iv_session.proofs.ColumnLemmas.{fields-behind, nothing-behind}
-use Rattle.iv_session.proofs.RunLemmas.{printed-all, printed-all_failed, printed-all_wrong}
+use Rattle.iv_session.proofs.RunLemmas.{printed-all, printed-all_wrong}
 use Rattle.iv_session.proofs.running.print_all_line.Goals as goal
 
 pub returns-then-is_some : goal.returns-then-is_some
@@ -9,8 +9,8 @@ returns-then-is_some g c =
 
 pub returns-in-Ok : goal.returns-in-Ok
 returns-in-Ok g c =
-    printed-all c.args.session.now _ _ _ (nothing-behind c.args.line.now _ _ c.split_first_column.ensures (sym c.if-is_some.ensures)) c.in-Ok.ensures.0
+    printed-all c.args.session.now _ _ _ _ (nothing-behind c.args.line.now _ _ c.split_first_column.ensures (sym c.if-is_some.ensures)) (c.in-Ok.ensures.0, refl)
 
 pub returns-in-Err : goal.returns-in-Err
 returns-in-Err g c =
-    printed-all_failed c.args.session.now _ _ _ _ (nothing-behind c.args.line.now _ _ c.split_first_column.ensures (sym c.if-is_some.ensures)) c.in-Err.ensures.0
+    printed-all c.args.session.now _ _ _ _ (nothing-behind c.args.line.now _ _ c.split_first_column.ensures (sym c.if-is_some.ensures)) (c.in-Err.ensures.0, refl)

@@ -1,6 +1,5 @@
-use Rattle.std.proofs.Common.{slice_get, ap, ◌∙◌, arith}
+use Rattle.std.proofs.Common.{arith}
 use Rattle.iv_text.proofs.Putting.{Underway-begin, Underway-fails, Underway-more, Puts-err}
-use Rattle.iv_session.specs.States.{State}
 use Rattle.iv_session.proofs.ViewLemmas.{views-next, views-there}
 use Rattle.iv_session.proofs.session.Session.put_views.Goals as goal
 
@@ -9,23 +8,20 @@ loop-place-init g c = Underway-begin _ _
 
 pub returns-in_err-put_heading : goal.returns-in_err-put_heading
 returns-in_err-put_heading g c =
-    let s = c.args.self.now in
-    let next = views-next s s.views c.loop-place.place (c.in-Some.name.now, c.in-Some.view) (c.in-Some.ensures ∙ ap (λ (t : State). slice_get t.views c.loop-place.place) c.self.view_is) in
+    let next = views-next _ _ c.self.view_is c.loop-place.place (c.in-Some.name.now, c.in-Some.view) c.in-Some.ensures in
     Puts-err _ _ c.from_residual.result _ c.from_residual.ensures.0
     (Underway-fails _ _ _ _ _ _ (rw next at c.loop-place.invariant) c.in_err-put_heading.ensures)
 
 pub returns-in_err-put_view : goal.returns-in_err-put_view
 returns-in_err-put_view g c =
-    let s = c.args.self.now in
-    let next = views-next s s.views c.loop-place.place (c.in-Some.name.now, c.in-Some.view) (c.in-Some.ensures ∙ ap (λ (t : State). slice_get t.views c.loop-place.place) c.self.view_is) in
+    let next = views-next _ _ c.self.view_is c.loop-place.place (c.in-Some.name.now, c.in-Some.view) c.in-Some.ensures in
     let headed = Underway-more _ _ _ _ _ _ (rw next at c.loop-place.invariant) c.in_ok-put_heading.ensures in
     Puts-err _ _ c.from_residual-in_err-put_view.result _ c.from_residual-in_err-put_view.ensures.0
     (Underway-fails _ _ _ _ _ _ headed c.in_err-put_view.ensures)
 
 pub loop-place-preserved : goal.loop-place-preserved
 loop-place-preserved g c =
-    let s = c.args.self.now in
-    let next = views-next s s.views c.loop-place.place (c.in-Some.name.now, c.in-Some.view) (c.in-Some.ensures ∙ ap (λ (t : State). slice_get t.views c.loop-place.place) c.self.view_is) in
+    let next = views-next _ _ c.self.view_is c.loop-place.place (c.in-Some.name.now, c.in-Some.view) c.in-Some.ensures in
     let headed = Underway-more _ _ _ _ _ _ (rw next at c.loop-place.invariant) c.in_ok-put_heading.ensures in
     Underway-more _ _ _ _ _ _ headed c.in_ok-put_view.ensures
 

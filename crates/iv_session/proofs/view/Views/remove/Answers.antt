@@ -2,9 +2,8 @@ use Rattle.std.proofs.Common.{◌≡◌, ◌∙◌, ap, map}
 use Rattle.std.specs.Map.{remove_entry}
 use Rattle.std.specs.Option.{is_some}
 use Rattle.std.specs.Str.{bytes_eq}
-use Rattle.iv_text.proofs.NamedLemmas.{lookup-is}
+use Rattle.iv_text.proofs.NamedLemmas.{lookup-is, remove-is}
 use Rattle.iv_session.specs.Views.{view_named}
-use Rattle.iv_session.proofs.ViewLemmas.{remove-is}
 use Rattle.iv_session.proofs.view.Views.remove.Goals as goal
 
 pub returns-clause-found : goal.returns-clause-found
