@@ -51,15 +51,6 @@ fn words_that_are_no_session(rt: HostRuntime) {
         b"g",
         b"-i",
         b"a",
-        b"session",
-        b"-width",
-        b"3",
-        b"-g",
-        b"g",
-        b"-width",
-        b"3",
-        b"-i",
-        b"a",
     ];
     for (from, to) in [
         (0, 0),
@@ -70,11 +61,26 @@ fn words_that_are_no_session(rt: HostRuntime) {
         (0, 7),
         (7, 12),
         (12, 17),
-        (17, 26),
-        (17, 24),
     ] {
         assert_eq!(rt; Plan::read(&all[from..to]).err(), Some(CliFault::Words(16)));
     }
+}
+
+#[test]
+fn width_given_twice(rt: HostRuntime) {
+    let words = [
+        b"session".as_slice(),
+        b"-width",
+        b"3",
+        b"-g",
+        b"g",
+        b"-width",
+        b"3",
+        b"-i",
+        b"a",
+    ];
+    assert_eq!(rt; Plan::read(&words).err(), Some(CliFault::Words(16)));
+    assert_eq!(rt; Plan::read(&words[..7]).err(), Some(CliFault::Words(16)));
 }
 
 #[test]
