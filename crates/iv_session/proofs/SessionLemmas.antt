@@ -1,5 +1,6 @@
 -- The records of a session.
-use Rattle.std.proofs.Common.{ℕ, ◌<◌, List, length, arith}
+use Rattle.std.proofs.Common.{◌≡◌, ℕ, ◌<◌, ◌≤◌, inl, inr, List, length, arith}
+use Rattle.std.proofs.lemmas.Bool.{cases_lt}
 use Rattle.std.proofs.lemmas.List.Elements.{All-from_recursion, recursion_from_All}
 use Rattle.iv_text.specs.Genome.{Sequences}
 use Rattle.iv_text.specs.Ordered.{copies, added}
@@ -9,6 +10,13 @@ use Rattle.iv_text.proofs.OrderedLemmas.{all-added, length-added}
 use Rattle.iv_track.specs.Tracked.{removed}
 use Rattle.iv_track.proofs.Counts.{all-removed, length-removed}
 use Rattle.iv_session.specs.States.{IsSession}
+
+-- a track that does not answer that it is full has room
+pub room : {X : Type 0} (n limit : ℕ) (answer full : X) → (limit ≤ n → answer ≡ full) → (answer ≡ full → ⊥) → n < limit
+room n limit answer full at other = elim (cases_lt n limit) [
+  | inl below ↦ below
+  | inr high ↦ absurd (other (at high))
+]
 
 -- with one more record that fits there is still a session, where there was room
 pub session-added : (g : Sequences) (width limit : ℕ) (rows : List Row) (r : Row)

@@ -2,7 +2,9 @@
 ghost use Rattle.std.specs.Prelude.{◌≡◌, ◌≤◌, Some, None, IfSome};
 ghost use Rattle.iv_session.specs.Written.{edit_code, view_code, print_code, refusal_code};
 
-use iv_text::RecordFault;
+use iv_text::{RecordFault, WriteFault};
+use iv_track::{AddFault, NotThere, ReplaceFault};
+use std::alloc::AllocError;
 use thiserror::Error;
 
 /// Why an edit is refused.
@@ -17,6 +19,56 @@ pub enum EditFault {
     /// E22: memory was refused.
     #[error("no memory")]
     NoMemory,
+}
+
+impl From<AllocError> for EditFault {
+    ghost use Rattle.std.specs.Prelude.{◌≡◌};
+    ghost use Rattle.iv_session.specs.declared.fault.EditFault.TheVariants.{NoMemory};
+
+    ghost from_gives = { λ _ fault. fault ≡ NoMemory };
+
+    fn from(_: AllocError) -> EditFault {
+        EditFault::NoMemory
+    }
+}
+
+impl From<AddFault> for EditFault {
+    ghost use Rattle.std.specs.Prelude.{◌≡◌};
+    ghost use Rattle.iv_session.specs.Edits.{fault_of_add};
+
+    ghost from_gives = { λ told fault. fault ≡ fault_of_add told };
+
+    fn from(told: AddFault) -> EditFault {
+        match told {
+            AddFault::Full => EditFault::Full,
+            AddFault::NoMemory => EditFault::NoMemory,
+        }
+    }
+}
+
+impl From<NotThere> for EditFault {
+    ghost use Rattle.std.specs.Prelude.{◌≡◌};
+    ghost use Rattle.iv_session.specs.declared.fault.EditFault.TheVariants.{Absent};
+
+    ghost from_gives = { λ _ fault. fault ≡ Absent };
+
+    fn from(_: NotThere) -> EditFault {
+        EditFault::Absent
+    }
+}
+
+impl From<ReplaceFault> for EditFault {
+    ghost use Rattle.std.specs.Prelude.{◌≡◌};
+    ghost use Rattle.iv_session.specs.Edits.{fault_of_replace};
+
+    ghost from_gives = { λ told fault. fault ≡ fault_of_replace told };
+
+    fn from(told: ReplaceFault) -> EditFault {
+        match told {
+            ReplaceFault::NotThere => EditFault::Absent,
+            ReplaceFault::NoMemory => EditFault::NoMemory,
+        }
+    }
 }
 
 impl EditFault {
@@ -53,6 +105,17 @@ pub enum ViewFault {
     NoMemory,
 }
 
+impl From<AllocError> for ViewFault {
+    ghost use Rattle.std.specs.Prelude.{◌≡◌};
+    ghost use Rattle.iv_session.specs.declared.fault.ViewFault.TheVariants.{NoMemory};
+
+    ghost from_gives = { λ _ fault. fault ≡ NoMemory };
+
+    fn from(_: AllocError) -> ViewFault {
+        ViewFault::NoMemory
+    }
+}
+
 impl ViewFault {
     /// Its number in the table of faults.
     pub fn code(&self) -> u8
@@ -78,6 +141,17 @@ pub enum PrintFault {
     /// The sink failed. A prefix of the text was written.
     #[error("output cannot be written")]
     Write,
+}
+
+impl From<WriteFault> for PrintFault {
+    ghost use Rattle.std.specs.Prelude.{◌≡◌};
+    ghost use Rattle.iv_session.specs.declared.fault.PrintFault.TheVariants.{Write};
+
+    ghost from_gives = { λ _ fault. fault ≡ Write };
+
+    fn from(_: WriteFault) -> PrintFault {
+        PrintFault::Write
+    }
 }
 
 impl PrintFault {
@@ -122,6 +196,28 @@ pub(crate) enum LineRefusal {
     /// E21: no view of this name is open.
     #[error("no such view")]
     NoView,
+}
+
+impl From<RecordFault> for LineRefusal {
+    ghost use Rattle.std.specs.Prelude.{◌≡◌};
+    ghost use Rattle.iv_session.specs.declared.fault.LineRefusal.TheVariants.{Record};
+
+    ghost from_gives = { λ told refusal. refusal ≡ Record told };
+
+    fn from(told: RecordFault) -> LineRefusal {
+        LineRefusal::Record(told)
+    }
+}
+
+impl From<EditFault> for LineRefusal {
+    ghost use Rattle.std.specs.Prelude.{◌≡◌};
+    ghost use Rattle.iv_session.specs.declared.fault.LineRefusal.TheVariants.{Edit};
+
+    ghost from_gives = { λ told refusal. refusal ≡ Edit told };
+
+    fn from(told: EditFault) -> LineRefusal {
+        LineRefusal::Edit(told)
+    }
 }
 
 impl LineRefusal {

@@ -44,14 +44,9 @@ fn add_line<A: Allocator + Copy>(session: &mut Session<A>, line: &[u8]) -> Resul
     ensures { Adds (arguments line.now) session.old session.new (written_of result) }
 {
     let (_, columns) = split_first_column(line);
-    let row = match session.read(columns.unwrap_or(b"")) {
-        Ok(row) => row,
-        Err(fault) => return Err(LineRefusal::Record(fault)),
-    };
-    match session.add(&row) {
-        Ok(_) => Ok(()),
-        Err(fault) => Err(LineRefusal::Edit(fault)),
-    }
+    let row = session.read(columns.unwrap_or(b""))?;
+    session.add(&row)?;
+    Ok(())
 }
 
 /// Takes one copy of the record that the columns behind the command stand for out.
@@ -62,14 +57,9 @@ fn remove_line<A: Allocator + Copy>(
     ensures { Removes (arguments line.now) session.old session.new (written_of result) }
 {
     let (_, columns) = split_first_column(line);
-    let row = match session.read(columns.unwrap_or(b"")) {
-        Ok(row) => row,
-        Err(fault) => return Err(LineRefusal::Record(fault)),
-    };
-    match session.remove(&row) {
-        Ok(_) => Ok(()),
-        Err(fault) => Err(LineRefusal::Edit(fault)),
-    }
+    let row = session.read(columns.unwrap_or(b""))?;
+    session.remove(&row)?;
+    Ok(())
 }
 
 /// Both records of a line, or a fault: that the second has too few or too many columns is told first, then a
@@ -113,14 +103,9 @@ fn replace_line<A: Allocator + Copy>(
 ) -> Result<(), LineRefusal>
     ensures { Replaces (arguments line.now) session.old session.new (written_of result) }
 {
-    let (old, new) = match two_rows(session, line) {
-        Ok(rows) => rows,
-        Err(fault) => return Err(LineRefusal::Record(fault)),
-    };
-    match session.replace(&old, &new) {
-        Ok(_) => Ok(()),
-        Err(fault) => Err(LineRefusal::Edit(fault)),
-    }
+    let (old, new) = two_rows(session, line)?;
+    session.replace(&old, &new)?;
+    Ok(())
 }
 
 /// Opens the view that the line names.
@@ -130,10 +115,9 @@ fn open_line<A: Allocator + Copy>(session: &mut Session<A>, line: &[u8]) -> Resu
     let Some((name, words)) = two_arguments(line) else {
         return Err(LineRefusal::Command);
     };
-    match session.open_view(name, Words::of(words).as_slice()) {
-        Ok(()) => Ok(()),
-        Err(fault) => Err(LineRefusal::View(fault)),
-    }
+    session
+        .open_view(name, Words::of(words).as_slice())
+        .map_err(LineRefusal::View)
 }
 
 /// Prints the view that the line names.
@@ -179,10 +163,7 @@ fn close_line<A: Allocator + Copy>(session: &mut Session<A>, line: &[u8]) -> Res
     let Some(name) = only_argument(line) else {
         return Err(LineRefusal::Command);
     };
-    match session.close_view(name) {
-        Ok(()) => Ok(()),
-        Err(_) => Err(LineRefusal::NoView),
-    }
+    session.close_view(name).map_err(|_| LineRefusal::NoView)
 }
 
 /// Tells of a line that was refused.

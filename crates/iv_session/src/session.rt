@@ -14,7 +14,7 @@ use crate::view::Views;
 use crate::words::{ViewWords, is_view_name};
 use iv_cover::put_merge;
 use iv_text::{BedFile, Genome, RecordFault, RecordRef, Sink, WriteFault, read_record};
-use iv_track::{AddFault, Meter, ReplaceFault, Track};
+use iv_track::{Meter, Track};
 use std::alloc::{AllocError, Allocator, Global};
 use std::marker::Model;
 
@@ -112,15 +112,10 @@ impl<A: Allocator + Copy> Session<A> {
         ensures why { IfErr result (RefusesAdd self.old row.now) }
         ensures err { OnErr result (self.new ≡ self.old) }
     {
-        let Ok(record) = row.to_record(self.alloc) else {
-            return Err(EditFault::NoMemory);
-        };
+        let record = row.to_record(self.alloc)?;
         let mut meter = Meter::new();
-        match self.track.add(record, &mut meter) {
-            Ok(()) => Ok(Accepted {}),
-            Err(AddFault::Full) => Err(EditFault::Full),
-            Err(AddFault::NoMemory) => Err(EditFault::NoMemory),
-        }
+        self.track.add(record, &mut meter)?;
+        Ok(Accepted {})
     }
 
     /// Takes one copy of a record out.
@@ -134,14 +129,10 @@ impl<A: Allocator + Copy> Session<A> {
         ensures why { IfErr result (RefusesRemove self.old row.now) }
         ensures err { OnErr result (self.new ≡ self.old) }
     {
-        let Ok(record) = row.to_record(self.alloc) else {
-            return Err(EditFault::NoMemory);
-        };
+        let record = row.to_record(self.alloc)?;
         let mut meter = Meter::new();
-        match self.track.remove(&record, &mut meter) {
-            Ok(()) => Ok(Accepted {}),
-            Err(_) => Err(EditFault::Absent),
-        }
+        self.track.remove(&record, &mut meter)?;
+        Ok(Accepted {})
     }
 
     /// Takes one copy of the old record out and adds the new one, in a full track too.
@@ -160,18 +151,11 @@ impl<A: Allocator + Copy> Session<A> {
         ensures why { IfErr result (RefusesReplace self.old old.now new.now) }
         ensures err { OnErr result (self.new ≡ self.old) }
     {
-        let Ok(before) = old.to_record(self.alloc) else {
-            return Err(EditFault::NoMemory);
-        };
-        let Ok(after) = new.to_record(self.alloc) else {
-            return Err(EditFault::NoMemory);
-        };
+        let before = old.to_record(self.alloc)?;
+        let after = new.to_record(self.alloc)?;
         let mut meter = Meter::new();
-        match self.track.replace(&before, after, &mut meter) {
-            Ok(()) => Ok(Accepted {}),
-            Err(ReplaceFault::NotThere) => Err(EditFault::Absent),
-            Err(ReplaceFault::NoMemory) => Err(EditFault::NoMemory),
-        }
+        self.track.replace(&before, after, &mut meter)?;
+        Ok(Accepted {})
     }
 
     /// Opens a view of these words, the last, which is current. A refusal changes nothing.
@@ -195,10 +179,8 @@ impl<A: Allocator + Copy> Session<A> {
             return Err(ViewFault::TooMany);
         }
         let shows = ViewWords::read(self.alloc, self.track.width(), false, false, words)?;
-        match self.views.push(self.alloc, name, shows) {
-            Ok(()) => Ok(()),
-            Err(_) => Err(ViewFault::NoMemory),
-        }
+        self.views.push(self.alloc, name, shows)?;
+        Ok(())
     }
 
     /// Closes the view of this name. The others keep their order, and all else stays as it is.
@@ -243,10 +225,8 @@ impl<A: Allocator + Copy> Session<A> {
             return Err(PrintFault::NoView);
         };
         let mut meter = Meter::new();
-        match self.put_view(view.shows, &mut meter, sink) {
-            Ok(()) => Ok(()),
-            Err(_) => Err(PrintFault::Write),
-        }
+        self.put_view(view.shows, &mut meter, sink)?;
+        Ok(())
     }
 
     /// Prints all views in order of opening, each under a line `#NAME`.
@@ -258,10 +238,8 @@ impl<A: Allocator + Copy> Session<A> {
         ensures { Puts (S.state sink.old) (S.state sink.new) result (all_text self.now) × IfErr result (λ f. f ≡ PrintFault.Write) }
     {
         let mut meter = Meter::new();
-        match self.put_views(&mut meter, sink) {
-            Ok(()) => Ok(()),
-            Err(_) => Err(PrintFault::Write),
-        }
+        self.put_views(&mut meter, sink)?;
+        Ok(())
     }
 
     /// Puts the text of a view.

@@ -1,35 +1,53 @@
-use Rattle.std.proofs.Common.{◌≡◌, ℕ, ◌<◌, ◌⊎◌, zero, suc, inr, refl, sym, subst, arith}
+use Rattle.std.proofs.Common.{◌≡◌, ℕ, ◌<◌, Result, Err, zero, suc, inr, refl, sym, subst, arith}
+use Rattle.std.proofs.lemmas.Result.{err_from_is_err_and}
 use Rattle.iv_text.specs.Ordered.{copies}
 use Rattle.iv_text.specs.Read.{Fits}
 use Rattle.iv_text.specs.Row.{Row}
 use Rattle.iv_track.specs.Tracked.{Tracked}
+use Rattle.iv_track.specs.declared.fault.ReplaceFault.{ReplaceFault}
+use Rattle.iv_track.specs.declared.fault.ReplaceFault.TheVariants as replacing
+use Rattle.iv_session.specs.Edits.{RefusesReplace, fault_of_replace}
 use Rattle.iv_session.specs.States.{State, IsSession}
 use Rattle.iv_session.proofs.SessionLemmas.{session-replaced}
 use Rattle.iv_session.proofs.session.Session.replace.Goals as goal
+
+-- what a track answers
+abbrev answers : ReplaceFault → Result (Unit {0}) ReplaceFault
+answers told = Err told
 
 -- a track that does not answer that a record is absent has a copy
 there : {X : Type 0} (n : ℕ) (answer absent : X) → (n ≡ 0 → answer ≡ absent) → (answer ≡ absent → ⊥) → 0 < n
 there zero answer absent at other = absurd (other (at refl))
 there (suc n) answer absent at other = omega arith
 
-pub invariant_of-self : goal.invariant_of-self
-invariant_of-self g c =
+-- what the track refuses is refused for the same reason
+refused : (inside s : State) (before r after q : Row) (told : ReplaceFault) → inside ≡ s → before ≡ r → after ≡ q
+    → (answers told ≡ answers replacing.NotThere → copies inside.records before ≡ 0) × (copies inside.records before ≡ 0 → answers told ≡ answers replacing.NotThere)
+    → (answers told ≡ answers replacing.NoMemory → copies inside.records after ≡ 0) → RefusesReplace s r q (fault_of_replace told)
+refused inside s before r after q told same first second absent memory =
+    subst (λ (t : State). RefusesReplace t r q (fault_of_replace told)) same
+    (subst (λ (x : Row). RefusesReplace inside x q (fault_of_replace told)) first (subst (λ (y : Row). RefusesReplace inside before y (fault_of_replace told)) second (by told absent memory)))
+  where
+    by : (told : ReplaceFault)
+        → (answers told ≡ answers replacing.NotThere → copies inside.records before ≡ 0) × (copies inside.records before ≡ 0 → answers told ≡ answers replacing.NotThere)
+        → (answers told ≡ answers replacing.NoMemory → copies inside.records after ≡ 0) → RefusesReplace inside before after (fault_of_replace told)
+    by replacing.NotThere absent memory = absent.0 refl
+    by replacing.NoMemory absent memory = inr (there (copies inside.records before) _ _ absent.1 (λ e. cc), memory refl)
+
+pub invariant_of-self-2 : goal.invariant_of-self-2
+invariant_of-self-2 g c =
     let inside = c.self.inside in
-    let e = c.in-Ok-replace.ensures in
+    let e = c.in_ok-replace.ensures in
     let F : State → Type 0 = λ s. Fits s.genome s.width c.args.new.now in
-    let fits : Fits inside.genome inside.track.width c.in-Ok-to_record.after =
-    subst (λ (r : Row). Fits inside.genome inside.track.width r) (sym c.in-Ok-to_record.ensures.ok) (subst F (sym c.self.view_is) c.requires.new) in
+    let fits : Fits inside.genome inside.track.width c.in_ok-after.after =
+    subst (λ (r : Row). Fits inside.genome inside.track.width r) (sym c.in_ok-after.ensures.ok) (subst F (sym c.self.view_is) c.requires.new) in
     let P : Tracked → Type 0 = λ t. IsSession inside.genome t.width t.limit t.rows in
     subst P (sym e.ok)
-    (session-replaced inside.genome inside.track.width inside.track.limit inside.track.rows c.in-Ok.before c.in-Ok-to_record.after c.self.invariant
-    (there (copies inside.track.rows c.in-Ok.before) _ _ e.absent.1 (λ same. cc)) fits)
+    (session-replaced inside.genome inside.track.width inside.track.limit inside.track.rows c.in_ok-before.before c.in_ok-after.after c.self.invariant
+    (there (copies inside.track.rows c.in_ok-before.before) _ _ e.absent.1 (λ same. cc)) fits)
 
-pub returns-clause-why : goal.returns-clause-why
-returns-clause-why g c =
-    let inside = c.self.inside in
-    let e = rw c.in-Err-NoMemory.field-0-is at c.in-Err-NoMemory.ensures in
-    let P : State → Type 0 = λ s. (3 < s.width) ⊎ ((0 < copies s.records c.args.old.now) × (copies s.records c.args.new.now ≡ 0)) in
-    subst P c.self.view_is (inr (
-      subst (λ (r : Row). 0 < copies inside.track.rows r) c.in-Ok.ensures.ok (there (copies inside.track.rows c.in-Ok.before) _ _ e.absent.1 (λ same. cc)),
-      subst (λ (r : Row). copies inside.track.rows r ≡ 0) c.in-Ok-to_record.ensures.ok (e.memory refl),
-    ))
+pub returns-in_err-replace-clause-why : goal.returns-in_err-replace-clause-why
+returns-in_err-replace-clause-why g c =
+    let p = err_from_is_err_and c.from_residual-in_err-replace.result c.from_residual-in_err-replace.ensures.1 in
+    let e = c.in_err-replace.ensures in
+    rw (p.1, p.2) (refused _ _ _ _ _ _ c.in_err-replace.field-0.0 c.self.view_is c.in_ok-before.ensures.ok c.in_ok-after.ensures.ok e.absent e.memory)
