@@ -4,12 +4,12 @@
 use iv_cli::{FileFault, Inputs, Plan, Slot, load, read_all, run_status, status};
 use iv_session::{RunFault, ScriptLimits, Session, Summary, run_script};
 use iv_text::{StdSink, StdSource};
-use std::env;
 use std::fs::File;
 use std::io::{ErrorKind, Write};
 use std::process::ExitCode;
 use std::rt::{Env, Files};
 use std::str::from_utf8;
+use std::{env, mem};
 
 /// How many bytes a file may have.
 const MOST_FILE_BYTES: u64 = 4_294_967_295;
@@ -116,6 +116,8 @@ fn run(rt: &HostRuntime, session: &mut Session) -> Result<Summary, RunFault> {
 fn status_of(rt: &HostRuntime) -> Result<Status, Status> {
     let mut session = session_of(rt)?;
     let done = run(rt, &mut session);
+    // The process ends here, and the system takes its memory at once, where a drop would free record by record.
+    mem::forget(session);
     if rt.stdout().flush().is_err() {
         return Err(BAD_FILE);
     }
