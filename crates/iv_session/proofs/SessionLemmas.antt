@@ -11,9 +11,9 @@ use Rattle.iv_track.specs.Tracked.{removed}
 use Rattle.iv_track.proofs.Counts.{all-removed, length-removed}
 use Rattle.iv_session.specs.States.{IsSession}
 
--- a track that does not answer that it is full has room
-pub room : {X : Type 0} (n limit : ℕ) (answer full : X) → (limit ≤ n → answer ≡ full) → (answer ≡ full → ⊥) → n < limit
-room n limit answer full at other = elim (cases_lt n limit) [
+-- where a number from the limit on is refused, one that is not refused is below it
+pub below-unless : {X : Type 0} (n limit : ℕ) (answer refusal : X) → (limit ≤ n → answer ≡ refusal) → (answer ≡ refusal → ⊥) → n < limit
+below-unless n limit answer refusal at other = elim (cases_lt n limit) [
   | inl below ↦ below
   | inr high ↦ absurd (other (at high))
 ]

@@ -37,7 +37,7 @@ without_record s r = record s { records = removed s.records r }
 
 -- the session with one copy of a record less, and one more of another
 abbrev pub with_replaced : State → Row → Row → State
-with_replaced s r q = record s { records = added (removed s.records r) q }
+with_replaced s r q = with_record (without_record s r) q
 
 -- the session with one more view, the last, which is current
 abbrev pub with_view : State → List ℕ → ViewWords → State

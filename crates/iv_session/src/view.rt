@@ -1,5 +1,5 @@
 //! The views that a session keeps open.
-ghost use Rattle.std.specs.Prelude.{◌≡◌, ◌++◌, ◌∷◌, [], false, None, Some, IfSome, IsTrue, IsSome, ◌↔◌, OnOk, OnErr, length};
+ghost use Rattle.std.specs.Prelude.{◌≡◌, ◌++◌, ◌∷◌, [], false, None, Some, IfSome, OnOk, OnErr, length};
 ghost use Rattle.std.specs.List.{slice_get};
 ghost use Rattle.std.specs.Map.{remove_entry};
 ghost use Rattle.std.specs.Option.{option_map};
@@ -82,11 +82,10 @@ impl<A: Allocator + Copy> Views<A> {
         Ok(())
     }
 
-    /// Takes the view of a name out, and says whether there was one. The others keep their order.
-    pub(crate) fn remove(&mut self, name: &[u8]) -> bool
-        ensures found { IsTrue result ↔ IsSome (view_named self.old name.now) }
-        ensures rest { self.new ≡ remove_entry (bytes_eq name.now) self.old }
+    /// Takes the view of a name out, if there is one. The others keep their order.
+    pub(crate) fn remove(&mut self, name: &[u8])
+        ensures { self.new ≡ remove_entry (bytes_eq name.now) self.old }
     {
-        self.views.shift_remove(name).is_some()
+        self.views.shift_remove(name);
     }
 }

@@ -8,7 +8,7 @@ use Rattle.iv_track.specs.declared.fault.AddFault.{AddFault}
 use Rattle.iv_track.specs.declared.fault.AddFault.TheVariants as adding
 use Rattle.iv_session.specs.Edits.{RefusesAdd, fault_of_add}
 use Rattle.iv_session.specs.States.{State, IsSession}
-use Rattle.iv_session.proofs.SessionLemmas.{room, session-added}
+use Rattle.iv_session.proofs.SessionLemmas.{below-unless, session-added}
 use Rattle.iv_session.proofs.session.Session.add.Goals as goal
 
 -- what a track answers
@@ -25,7 +25,7 @@ refused inside s copied r told same is full memory =
     by : (told : AddFault) → (answers told ≡ answers adding.Full → inside.limit ≤ length inside.records) × (inside.limit ≤ length inside.records → answers told ≡ answers adding.Full)
         → (answers told ≡ answers adding.NoMemory → copies inside.records copied ≡ 0) → RefusesAdd inside copied (fault_of_add told)
     by adding.Full full memory = full.0 refl
-    by adding.NoMemory full memory = inr (room (length inside.records) inside.limit _ _ full.1 (λ e. cc), memory refl)
+    by adding.NoMemory full memory = inr (below-unless (length inside.records) inside.limit _ _ full.1 (λ e. cc), memory refl)
 
 pub invariant_of-self-2 : goal.invariant_of-self-2
 invariant_of-self-2 g c =
@@ -36,7 +36,7 @@ invariant_of-self-2 g c =
     let P : Tracked → Type 0 = λ t. IsSession inside.genome t.width t.limit t.rows in
     subst P (sym c.in_ok-add.ensures.ok)
     (session-added inside.genome inside.track.width inside.track.limit inside.track.rows c.in_ok-record.record c.self.invariant fits
-    (room (length inside.track.rows) inside.track.limit _ _ c.in_ok-add.ensures.full.1 (λ e. cc)))
+    (below-unless (length inside.track.rows) inside.track.limit _ _ c.in_ok-add.ensures.full.1 (λ e. cc)))
 
 pub returns-in_err-add-clause-why : goal.returns-in_err-add-clause-why
 returns-in_err-add-clause-why g c =

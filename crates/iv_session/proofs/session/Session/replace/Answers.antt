@@ -1,4 +1,4 @@
-use Rattle.std.proofs.Common.{◌≡◌, ℕ, ◌<◌, Result, Err, zero, suc, inr, refl, sym, subst, arith}
+use Rattle.std.proofs.Common.{◌≡◌, ℕ, ◌<◌, Result, Err, inr, refl, sym, subst, arith}
 use Rattle.std.proofs.lemmas.Result.{err_from_is_err_and}
 use Rattle.iv_text.specs.Ordered.{copies}
 use Rattle.iv_text.specs.Read.{Fits}
@@ -8,7 +8,7 @@ use Rattle.iv_track.specs.declared.fault.ReplaceFault.{ReplaceFault}
 use Rattle.iv_track.specs.declared.fault.ReplaceFault.TheVariants as replacing
 use Rattle.iv_session.specs.Edits.{RefusesReplace, fault_of_replace}
 use Rattle.iv_session.specs.States.{State, IsSession}
-use Rattle.iv_session.proofs.SessionLemmas.{session-replaced}
+use Rattle.iv_session.proofs.SessionLemmas.{below-unless, session-replaced}
 use Rattle.iv_session.proofs.session.Session.replace.Goals as goal
 
 -- what a track answers
@@ -17,8 +17,7 @@ answers told = Err told
 
 -- a track that does not answer that a record is absent has a copy
 there : {X : Type 0} (n : ℕ) (answer absent : X) → (n ≡ 0 → answer ≡ absent) → (answer ≡ absent → ⊥) → 0 < n
-there zero answer absent at other = absurd (other (at refl))
-there (suc n) answer absent at other = omega arith
+there n answer absent at = below-unless 0 n answer absent (λ low. at (omega (arith, low)))
 
 -- what the track refuses is refused for the same reason
 refused : (inside s : State) (before r after q : Row) (told : ReplaceFault) → inside ≡ s → before ≡ r → after ≡ q
