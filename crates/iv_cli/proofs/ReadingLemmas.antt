@@ -2,7 +2,7 @@
 use Rattle.std.proofs.Common.{◌≡◌, ℕ, ◌+◌, ◌≤◌, ◌<◌, List, [], ◌++◌, length, refl, sym, ◌∙◌, subst, append-nil, length-append, true}
 use Rattle.std.specs.Io.KnownBytes.{Consumes, IsAtEnd}
 use Rattle.std.proofs.KnownBytes.{Consumes-nil, Consumes-trans, Consumes-whole}
-use Rattle.iv_text.specs.Sources.{SourceState, Gives}
+use Rattle.iv_bytes.specs.Sources.{SourceState, Gives}
 use Rattle.iv_cli.specs.Files.{ReadsWhole, StopsReading, IsFaultOf, IsPieceFault}
 use Rattle.iv_cli.specs.declared.fault.FileFault.{FileFault}
 use Rattle.iv_cli.specs.declared.fault.FileFault.TheVariants.{Input, TooLong, Memory}

@@ -1,7 +1,7 @@
 -- What became of reading a whole file.
 use Rattle.std.specs.Prelude.{◌≡◌, ℕ, ◌≤◌, ◌<◌, List, true, length}
 use Rattle.std.specs.Io.KnownBytes.{Consumes, IsAtEnd}
-use Rattle.iv_text.specs.Sources.{SourceState, IsInput}
+use Rattle.iv_bytes.specs.Sources.{SourceState, IsInput}
 use Rattle.iv_cli.specs.declared.fault.FileFault.{FileFault}
 use Rattle.iv_cli.specs.declared.fault.FileFault.TheVariants.{Input, TooLong, Memory}
 

@@ -1,6 +1,6 @@
 //! The block that later records may still join.
 ghost use Rattle.std.specs.Prelude.{◌≡◌, IfOk};
-ghost use Rattle.iv_text.specs.Sinks.{Puts};
+ghost use Rattle.iv_bytes.specs.Sinks.{Puts};
 ghost use Rattle.iv_cover.specs.OpenBlocks.{is_joined, block_of, open_after, row_of, open_row, closed_row};
 
 use iv_text::{Genome, Record, Sink, WriteFault, put_pieces};

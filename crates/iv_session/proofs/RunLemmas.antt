@@ -1,9 +1,9 @@
 -- One line of a script.
 use Rattle.std.proofs.Common.{◌≡◌, ℕ, ◌<◌, arith, length, List, [], ◌∷◌, Option, Some, None, Result, Ok, Err, refl, sym, ap, ◌∙◌, subst}
 use Rattle.std.specs.Prelude.{MatchOption, MatchResult, IfErr}
-use Rattle.iv_text.specs.Sinks.{SinkState, Takes, FailsIn, Puts}
-use Rattle.iv_text.specs.declared.sink.WriteFault.{WriteFault}
-use Rattle.iv_text.proofs.Putting.{Takes-nothing}
+use Rattle.iv_bytes.specs.Sinks.{SinkState, Takes, FailsIn, Puts}
+use Rattle.iv_bytes.specs.declared.sink.WriteFault.{WriteFault}
+use Rattle.iv_bytes.proofs.Putting.{Takes-nothing}
 use Rattle.iv_session.specs.States.{State}
 use Rattle.iv_session.specs.Views.{view_named, view_text, all_text}
 use Rattle.iv_session.specs.Written.{Written, silent, printed, refused_as, refusal_count, written_of, told}

@@ -2,7 +2,7 @@
 ghost use Rattle.std.specs.Prelude.{◌≡◌, ◌≤◌, ◌<◌, ◌↔◌, ◌⊎◌, None, Some, All, map, length, false, not, IsTrue, IsSome, IsOk, IfOk, IfErr, OnOk, OnErr, MatchOption, Ok, Err};
 ghost use Rattle.iv_text.specs.Ordered.{copies};
 ghost use Rattle.iv_text.specs.Read.{read, Fits};
-ghost use Rattle.iv_text.specs.Sinks.{Puts};
+ghost use Rattle.iv_bytes.specs.Sinks.{Puts};
 ghost use Rattle.iv_session.specs.Edits.{RefusesAdd, RefusesRemove, RefusesReplace};
 ghost use Rattle.iv_session.specs.States.{State, begun, with_record, without_record, with_replaced, with_view, without_view};
 ghost use Rattle.iv_session.specs.Views.{view_named, opened, view_text, all_text};

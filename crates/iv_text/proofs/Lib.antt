@@ -6,6 +6,4 @@ pub mod FileLemmas
 pub mod BedLemmas
 pub mod RowLemmas
 pub mod OrderedLemmas
-pub mod Putting
-pub mod Pulling
 pub mod Examples

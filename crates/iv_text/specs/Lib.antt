@@ -9,5 +9,3 @@ pub mod Fault
 pub mod GenomeFile
 pub mod BedFile
 pub mod Ordered
-pub mod Sinks
-pub mod Sources

@@ -1,6 +1,6 @@
 //! Sources, and reading them to their end.
 use iv_cli::{FileFault, read_all};
-use iv_text::{Held, MemSource, Source, StdSource};
+use iv_text::{ByteQueue, MemSource, Source, StdSource};
 use std::test::Fail;
 
 const TEXT: &[u8] = b"chr1\t100\n";
@@ -70,7 +70,7 @@ fn pulls(rt: HostRuntime) {
 #[test]
 fn bytes_that_are_held(rt: HostRuntime) -> Result<(), Fail> {
     let mut source = MemSource::new(TEXT, usize::MAX, 4);
-    let mut held = Held::new();
+    let mut held = ByteQueue::new();
     assert_eq!(rt; held.fill(&mut source)?, true);
     assert_eq!(rt; held.bytes(), b"chr1".as_slice());
     held.skip(held.bytes().len());

@@ -1,5 +1,5 @@
 use Rattle.std.proofs.Common.{◌-◌, ◌≤◌, length}
-use Rattle.iv_text.specs.Sources.{Gives}
+use Rattle.iv_bytes.specs.Sources.{Gives}
 use Rattle.iv_cli.proofs.reading.read_all.Given as goal
 
 abbrev pub invariant-pieces : goal.invariant-pieces

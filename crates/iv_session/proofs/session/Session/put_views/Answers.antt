@@ -1,5 +1,5 @@
 use Rattle.std.proofs.Common.{arith}
-use Rattle.iv_text.proofs.Putting.{Underway-begin, Underway-fails, Underway-more, Puts-err}
+use Rattle.iv_bytes.proofs.Putting.{Underway-begin, Underway-fails, Underway-more, Puts-err}
 use Rattle.iv_session.proofs.ViewLemmas.{views-next, views-there}
 use Rattle.iv_session.proofs.session.Session.put_views.Goals as goal
 

@@ -1,0 +1,51 @@
+//! Sinks, which take bytes in pieces, and putting whole texts into them.
+ghost use Rattle.std.specs.Prelude.{◌≡◌, [], ◌<◌, ◌≤◌, length, take, IfOk, OnErr, IsErr, IsTrue};
+ghost use Rattle.std.specs.List.{flat_map};
+ghost use Rattle.iv_bytes.specs.Sinks.{SinkState, Takes, FailsIn, Puts};
+
+use thiserror::Error;
+
+/// A write failed. The sink that answers it is failed from then on.
+#[derive(Clone, Copy, Debug, PartialEq, Eq, Error)]
+#[error("output cannot be written")]
+pub struct WriteFault;
+
+/// Takes bytes.
+pub trait Sink {
+    /// What it has taken so far, and whether it is failed.
+    ghost state: { Self → SinkState };
+
+    /// Takes some bytes from the front, at least one, and says how many. A fault takes nothing and fails the sink for good.
+    fn push(&mut self, bytes: &[u8]) -> Result<usize, WriteFault>
+        requires { 0 < length bytes.now }
+        ensures some { IfOk result (λ n. (0 < n) × (n ≤ length bytes.now)) }
+        ensures ok { IfOk result (λ n. Takes (state self.old) (state self.new) (take n bytes.now)) }
+        ensures err { OnErr result (FailsIn (state self.old) (state self.new) []) }
+        ensures failing { IsTrue (state self.old).failed → IsErr result };
+
+    /// Whether a push has failed.
+    fn failed(&self) -> bool
+        ensures { result ≡ (state self.now).failed };
+}
+
+/// Puts all the bytes. On a fault the sink has taken a prefix of them.
+pub fn put_all<S: Sink>(sink: &mut S, bytes: &[u8]) -> Result<(), WriteFault>
+    ensures { Puts (S.state sink.old) (S.state sink.new) result bytes.now }
+{
+    let mut rest = bytes;
+    while !rest.is_empty() {
+        let n = sink.push(rest)?;
+        rest = &rest[n..];
+    }
+    Ok(())
+}
+
+/// Puts the pieces one after another. On a fault the sink has taken a prefix of their text.
+pub fn put_pieces<S: Sink>(sink: &mut S, pieces: &[&[u8]]) -> Result<(), WriteFault>
+    ensures { Puts (S.state sink.old) (S.state sink.new) result (flat_map (λ piece. piece.now) pieces.now) }
+{
+    for piece in pieces {
+        put_all(sink, piece)?;
+    }
+    Ok(())
+}
