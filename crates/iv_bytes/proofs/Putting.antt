@@ -1,8 +1,11 @@
 -- One put after another.
 use Rattle.std.proofs.lemmas.List.{take_all}
-use Rattle.std.proofs.Common.{◌≡◌, ℕ, subst, OnErr, ◌+◌, ◌-◌, ◌<◌, arith, length-drop, length, take, drop, take-append-drop, get_or, drop-cons, add-one, IsErr, List, [], ◌∷◌, ◌++◌, refl, sym, ap, ◌∙◌, append_assoc, append-nil, Result, Ok, Err}
+use Rattle.std.proofs.Common.{◌≡◌, ◌≤◌, ℕ, subst, OnErr, ◌+◌, ◌-◌, ◌<◌, arith, length-drop, length, take, drop, take-append-drop, get_or, drop-cons, add-one, IsErr, List, [], ◌∷◌, ◌++◌, refl, sym, ap, ◌∙◌, append_assoc, append-nil, Result, Ok, Err}
 use Rattle.std.specs.List.{flat_map}
 use Rattle.std.proofs.lemmas.Result.{MatchResult-from_err}
+use Rattle.std.proofs.lemmas.Slice.{take-put_mid}
+use Rattle.std.proofs.lemmas.Grind.{common_steps}
+use borrow.Rule.Slice.PartMut.{put_mid}
 use Rattle.std.proofs.KnownBytes.{Appends-nil, Appends-trans}
 use Rattle.std.specs.Borrow.{GName}
 use Rattle.iv_bytes.specs.Sinks.{SinkState, Moves, Takes, FailsIn, Puts, Underway, buffered}
@@ -90,6 +93,26 @@ Underway-ends start now whole u = rw (u.all, append-nil) u.took
 pub flat_map-drop : {X : Type 0} (f : X → List ℕ) (xs : List X) (i : ℕ) (d : X) → i < length xs
     → flat_map f (drop i xs) ≡ f (get_or xs i d) ++ flat_map f (drop (i + 1) xs)
 flat_map-drop f xs i d low = rw (drop-cons xs i d low, add-one) refl
+
+-- ---- pieces laid one after another in an array
+
+-- the piece was copied behind what is laid
+pub laid-more : {X : Type 0} (f : X → List ℕ) (xs : List X) (i : ℕ) (d : X) (row copied : List ℕ) (at : ℕ) (whole : List ℕ)
+    → take at row ++ flat_map f (drop i xs) ≡ whole → i < length xs → at ≤ length row → copied ≡ f (get_or xs i d)
+    → take (at + length (f (get_or xs i d))) (put_mid at ((at + length (f (get_or xs i d))) - at) row copied) ++ flat_map f (drop (i + 1) xs) ≡ whole
+laid-more f xs i d row copied at whole all low within is =
+    let n : ℕ = length (f (get_or xs i d)) in
+    let rest : List ℕ = flat_map f (drop (i + 1) xs) in
+    ap (λ (l : List ℕ). l ++ rest) (take-put_mid at ((at + n) - at) row copied (at + n) (ap (λ (l : List ℕ). at + length l) (sym is)) within)
+    ∙ append_assoc (take at row) copied rest
+    ∙ ap (λ (l : List ℕ). take at row ++ (l ++ rest)) is
+    ∙ ap (λ (l : List ℕ). take at row ++ l) (sym (flat_map-drop f xs i d low))
+    ∙ all
+
+-- the array is as long as before
+pub laid-length : (row copied : List ℕ) (at n : ℕ) → at + n ≤ length row → length copied ≡ n
+    → length (put_mid at ((at + n) - at) row copied) ≡ length row
+laid-length row copied at n within long = grind (arith, common_steps)
 
 -- the same, where its result is returned
 pub Underway-last : {T E : Type 0} (start mid now : SinkState) (to_come : List ℕ) (result : Result T E) (whole : List ℕ)

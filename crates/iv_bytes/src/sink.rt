@@ -1,5 +1,5 @@
 //! Sinks, which take bytes in pieces, and putting whole texts into them.
-ghost use Rattle.std.specs.Prelude.{◌≡◌, [], ◌<◌, ◌≤◌, length, take, IfOk, OnErr, IsErr, IsTrue};
+ghost use Rattle.std.specs.Prelude.{◌≡◌, [], ◌<◌, ◌≤◌, length, take, IfOk, IfSome, OnErr, IsErr, IsTrue};
 ghost use Rattle.std.specs.List.{flat_map};
 ghost use Rattle.iv_bytes.specs.Sinks.{SinkState, Takes, FailsIn, Puts};
 
@@ -40,12 +40,46 @@ pub fn put_all<S: Sink>(sink: &mut S, bytes: &[u8]) -> Result<(), WriteFault>
     Ok(())
 }
 
-/// Puts the pieces one after another. On a fault the sink has taken a prefix of their text.
-pub fn put_pieces<S: Sink>(sink: &mut S, pieces: &[&[u8]]) -> Result<(), WriteFault>
+/// How many bytes of a row are laid in one array.
+const ROW: usize = 96;
+
+/// Copies the pieces one after another to the front of an array, and says how many bytes they have.
+///
+/// `None` if there is no room for all of them.
+fn lay(pieces: &[&[u8]], row: &mut [u8; 96]) -> Option<usize>
+    ensures { IfSome result (λ n. (n ≤ 96) × (take n row.new ≡ flat_map (λ piece. piece.now) pieces.now)) }
+{
+    let mut end: usize = 0;
+    for piece in pieces {
+        let start = end;
+        if piece.len() > ROW - start {
+            return None;
+        }
+        end = start + piece.len();
+        row[start..end].copy_from_slice(piece);
+    }
+    Some(end)
+}
+
+/// Puts the pieces one by one. On a fault the sink has taken a prefix of their text.
+fn put_each<S: Sink>(sink: &mut S, pieces: &[&[u8]]) -> Result<(), WriteFault>
     ensures { Puts (S.state sink.old) (S.state sink.new) result (flat_map (λ piece. piece.now) pieces.now) }
 {
     for piece in pieces {
         put_all(sink, piece)?;
     }
     Ok(())
+}
+
+/// Puts the pieces one after another. On a fault the sink has taken a prefix of their text.
+///
+/// A short text, of 96 bytes at most, is pushed as a whole.
+pub fn put_pieces<S: Sink>(sink: &mut S, pieces: &[&[u8]]) -> Result<(), WriteFault>
+    ensures { Puts (S.state sink.old) (S.state sink.new) result (flat_map (λ piece. piece.now) pieces.now) }
+{
+    let mut row = [0; 96];
+    match lay(pieces, &mut row) {
+        Some(end) => put_all(sink, &row[..end]),
+        None => put_each(sink, pieces),
+    }
 }

@@ -1,5 +1,5 @@
 use Rattle.iv_bytes.proofs.Putting.{Underway-fails, Underway-more, Puts-err, flat_map-drop}
-use Rattle.iv_bytes.proofs.sink.put_pieces.Goals as goal
+use Rattle.iv_bytes.proofs.sink.put_each.Goals as goal
 
 pub returns-in_err-put_all : goal.returns-in_err-put_all
 returns-in_err-put_all g c =

@@ -1,7 +1,7 @@
 use Rattle.std.proofs.Common.{drop}
 use Rattle.std.specs.List.{flat_map}
 use Rattle.iv_bytes.specs.Sinks.{Underway}
-use Rattle.iv_bytes.proofs.sink.put_pieces.Given as goal
+use Rattle.iv_bytes.proofs.sink.put_each.Given as goal
 
 abbrev pub invariant-loop-piece : goal.invariant-loop-piece
 invariant-loop-piece g l = Underway (g.S.Sink.state l.fn.sink) (g.S.Sink.state l.sink)
