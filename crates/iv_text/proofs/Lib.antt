@@ -3,6 +3,7 @@ pub mod FieldLemmas
 pub mod NamedLemmas
 pub mod ReadLemmas
 pub mod FileLemmas
+pub mod OnePassLemmas
 pub mod BedLemmas
 pub mod RowLemmas
 pub mod OrderedLemmas

@@ -9,3 +9,4 @@ pub mod Fault
 pub mod GenomeFile
 pub mod BedFile
 pub mod Ordered
+pub mod OnePass

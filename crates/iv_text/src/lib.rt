@@ -11,6 +11,7 @@ mod lines;
 mod number;
 mod reading;
 mod record;
+mod record_reader;
 mod record_ref;
 mod strand;
 mod texts;

@@ -1,0 +1,215 @@
+-- A line read in one pass from its front.
+use Rattle.std.proofs.Common.{◌≡◌, ℕ, ◌+◌, ◌-◌, ◌*◌, ◌<◌, ◌≤◌, Bool, true, false, ◌&&◌, not, nat_lt, nat_le, List, [], ◌∷◌, ◌++◌, Option, Some, None, Ok, length, find, refl, sym, ap, subst, ◌∙◌, arith, unwrap_or, take, drop, nat_eq, ◌^◌, add-one}
+use Rattle.std.proofs.lemmas.Bool.{cond-true, cond-false, eq-eqb, ne_eqb, false≢true, lt-ltb}
+use Rattle.std.proofs.lemmas.Bool.Decides.{nat_tests}
+use Rattle.std.proofs.lemmas.Grind.{common_steps}
+use Rattle.std.proofs.lemmas.List.Elements.{All-nil, All-cons}
+use Rattle.std.proofs.lemmas.List.Splits.{slice_split_none, slice_split_at}
+use Rattle.std.specs.Char.{is_ascii_digit}
+use Rattle.std.specs.Str.{all_ascii_digits}
+use Rattle.iv_text.specs.Fields.{columns, is_separator}
+use Rattle.iv_text.specs.Number.{number, decimal_from}
+use Rattle.iv_text.specs.Fields.{HasNoTab}
+use Rattle.iv_text.specs.OnePass.{AreBehind, BeginsWithNumber, IsNamed}
+use Rattle.iv_text.specs.declared.strand.Strand.{Strand}
+use Rattle.std.specs.Borrow.{Bor}
+use Rattle.std.specs.Prelude.{MatchOption, IfSome, IsSome, slice_get}
+use Rattle.std.specs.Option.{is_none, option_map}
+use Rattle.std.proofs.lemmas.Option.{slice_get_within}
+use Rattle.iv_text.proofs.ReadLemmas.{skip, hit}
+use Rattle.iv_text.specs.declared.fault.RecordFault.{RecordFault}
+use Rattle.iv_text.specs.declared.fault.RecordFault.TheVariants as fault
+use Rattle.std.specs.Cmp.Lexicographic.{same_text, pointwise}
+use Rattle.iv_text.specs.Genome.{Sequences, rank_of, length_at}
+use Rattle.iv_text.specs.Read.{read, row, column, told, has_fault, faults, bad_text, number_in, length_of, Fits, AreColumns, AreSound}
+use Rattle.iv_text.specs.Row.{Row, IsRow, strand_of}
+use Rattle.std.proofs.lemmas.List.{take-append-drop, get_or_past}
+
+-- ---- digits
+
+pub decimal-more : (n : ℕ) (xs : List ℕ) (b : ℕ) → decimal_from n (xs ++ b ∷ []) ≡ decimal_from n xs * 10 + (b - 48)
+decimal-more n [] b = refl
+decimal-more n (x ∷ xs) b = decimal-more (n * 10 + (x - 48)) xs b
+
+and_true : (s t : Bool) → (s && t) ≡ true → (s ≡ true) × (t ≡ true)
+and_true true t h = (refl, h)
+and_true false t h = absurd (false≢true h)
+
+and_both : (s t : Bool) → s ≡ true → t ≡ true → (s && t) ≡ true
+and_both true t p q = q
+and_both false t p q = p
+
+pub digits-more : (xs : List ℕ) (b : ℕ) → all_ascii_digits xs ≡ true → is_ascii_digit b ≡ true → all_ascii_digits (xs ++ b ∷ []) ≡ true
+digits-more [] b all is = and_both (is_ascii_digit b) true is refl
+digits-more (x ∷ xs) b all is =
+    let both = and_true (is_ascii_digit x) (all_ascii_digits xs) all in
+    and_both (is_ascii_digit x) (all_ascii_digits (xs ++ b ∷ [])) both.0 (digits-more xs b both.1 is)
+
+pub number-is : (ds : List ℕ) → 0 < length ds → length ds ≤ 10 → all_ascii_digits ds ≡ true → number ds ≡ Some (decimal_from 0 ds)
+number-is ds some few all =
+    cond-true _ _ _ (and_both (nat_lt 0 (length ds) && nat_lt (length ds) 11) (all_ascii_digits ds)
+    (and_both (nat_lt 0 (length ds)) (nat_lt (length ds) 11) (lt-ltb 0 (length ds) some) (lt-ltb (length ds) 11 (omega arith))) all)
+
+digit-plain : (b : ℕ) → is_ascii_digit b ≡ true → is_separator 9 b ≡ false
+digit-plain b is = ne_eqb b 9 (λ e. false≢true (ap is_ascii_digit (sym e) ∙ is))
+
+digits-plain : (ds : List ℕ) → all_ascii_digits ds ≡ true → HasNoTab ds
+digits-plain [] all = All-nil (λ b. is_separator 9 b ≡ false)
+digits-plain (d ∷ ds) all =
+    let both = and_true (is_ascii_digit d) (all_ascii_digits ds) all in
+    All-cons (λ b. is_separator 9 b ≡ false) d ds (digit-plain d both.0) (digits-plain ds both.1)
+
+pub number-plain : (ds : List ℕ) (n : ℕ) → number ds ≡ Some n → HasNoTab ds
+number-plain ds n is = by (nat_lt 0 (length ds) && nat_lt (length ds) 11 && all_ascii_digits ds) refl
+  where
+    none_some : (o : Option ℕ) → o ≡ None → o ≡ Some n → ⊥
+    none_some None e h = cc
+    none_some (Some m) e h = cc
+
+    by : (t : Bool) → (nat_lt 0 (length ds) && nat_lt (length ds) 11 && all_ascii_digits ds) ≡ t → HasNoTab ds
+    by true e = digits-plain ds (and_true (nat_lt 0 (length ds) && nat_lt (length ds) 11) (all_ascii_digits ds) e).1
+    by false e = absurd (none_some (number ds) (cond-false _ _ _ e) is)
+
+pub digit-bound : (b : ℕ) → is_ascii_digit b ≡ true → b ≤ 57
+digit-bound b is = grind (arith, nat_tests, is)
+
+pub bound-more : (v b k : ℕ) → v < 10 ^ k → b ≤ 57 → v * 10 + (b - 48) < 10 ^ (k + 1)
+bound-more v b k low few = rw add-one (grind arith)
+
+pub rest-whole : (text : List ℕ) (at : ℕ) → text ≡ take at text ++ take (length text - at) (drop at text)
+rest-whole text at =
+    let whole : take (length text - at) (drop at text) ≡ drop at text = grind (arith, common_steps) in
+    sym (take-append-drop at text) ∙ ap (λ t. take at text ++ t) (sym whole)
+
+-- ---- columns
+
+pub column-more : (column rest : List ℕ) → HasNoTab column → columns (column ++ 9 ∷ rest) ≡ column ∷ columns rest
+column-more column rest plain = slice_split_at (is_separator 9) column 9 rest plain refl
+
+pub column-last : (column : List ℕ) → HasNoTab column → columns (column ++ []) ≡ column ∷ []
+column-last column plain = ap columns (append-nil column) ∙ slice_split_none (is_separator 9) column plain
+  where
+    append-nil : (xs : List ℕ) → xs ++ [] ≡ xs
+    append-nil xs = grind (arith, common_steps)
+
+pub empty-is : (xs : List ℕ) → length xs ≤ 0 → xs ≡ []
+empty-is [] none = refl
+empty-is (x ∷ xs) none = absurd (omega arith)
+
+pub named-rest : (line name : List ℕ) (o : Option (Bor (List ℕ)))
+    → MatchOption o (pointwise nat_eq (take (length name) line) name ≡ false) (λ x. (pointwise nat_eq (take (length name) line) name ≡ true) × (x.now ≡ drop (length name) line) × (length x.now + length name ≡ length line))
+    → IfSome o (λ x. line ≡ name ++ x.now)
+named-rest line name None h = tt
+named-rest line name (Some x) h =
+    sym (take-append-drop (length name) line) ∙ ap (λ t. t ++ drop (length name) line) (same_text (take (length name) line) name (sym h.0)) ∙ ap (λ t. name ++ t) (sym h.1)
+
+pub next-columns : (line name r0 r1 d1 r2 r3 d2 r4 : List ℕ) (others : List (List ℕ))
+    → line ≡ name ++ r0 → r0 ≡ 9 ∷ r1 → r1 ≡ d1 ++ r2 → r2 ≡ 9 ∷ r3 → r3 ≡ d2 ++ r4 → HasNoTab name → HasNoTab d1 → HasNoTab d2 → AreBehind r4 others
+    → columns line ≡ name ∷ d1 ∷ d2 ∷ others
+next-columns line name r0 r1 d1 r2 r3 d2 r4 others e0 e1 e2 e3 e4 p0 p1 p2 behind =
+    ap columns (e0 ∙ ap (λ t. name ++ t) e1) ∙ column-more name r1 p0
+    ∙ ap (λ t. name ∷ columns t) (e2 ∙ ap (λ t. d1 ++ t) e3) ∙ ap (λ (cs : List (List ℕ)). name ∷ cs) (column-more d1 r3 p1)
+    ∙ ap (λ t. name ∷ d1 ∷ columns t) e4 ∙ ap (λ (cs : List (List ℕ)). name ∷ d1 ∷ cs) (behind d2 p2)
+
+-- ---- a line without a fault
+
+not_le : (a b : ℕ) → b < a → nat_le a b ≡ false
+not_le a b low = grind (arith, nat_tests)
+
+not_lt : (a b : ℕ) → b ≤ a → nat_lt a b ≡ false
+not_lt a b low = grind (arith, nat_tests)
+
+guarded : (k w : ℕ) (t : Bool) → (k ≤ w → t ≡ false) → (nat_le k w && t) ≡ false
+guarded k w t good = by (nat_le k w) refl
+  where
+    by : (u : Bool) → nat_le k w ≡ u → (u && t) ≡ false
+    by true e = good (grind (arith, nat_tests, e))
+    by false e = refl
+
+is_there : {X : Type 0} (o : Option X) → IsSome o → is_none o ≡ false
+is_there None h = cc
+is_there (Some x) h = refl
+
+none-found : (t : RecordFault → Bool) → t fault.Columns ≡ false → t fault.UnknownSeq ≡ false → t fault.StartNumber ≡ false → t fault.StopNumber ≡ false → t fault.Order ≡ false → t fault.PastEnd ≡ false
+    → t fault.Name ≡ false → t fault.Score ≡ false → t fault.Strand ≡ false → find t faults ≡ None
+none-found t h1 h2 h3 h4 h5 h6 h7 h8 h9 = simp (h1, h2, h3, h4, h5, h6, h7, h8, h9)
+
+-- the record of these columns
+abbrev pub record_of : ℕ → ℕ → ℕ → List ℕ → List ℕ → Option Strand → ℕ → Row
+record_of rank from to name score strand w = record { seq = rank; start = from; stop = to; name = name; score = score; strand = strand; width = w }
+
+sound-line : (g : Sequences) (w : ℕ) (line seq start stop name score sixth : List ℕ) (rank from to len : ℕ) (strand : Option Strand)
+    → AreColumns w (columns line) seq start stop name score sixth → rank_of g seq ≡ Some rank → length_at g rank ≡ Some len → number start ≡ Some from → number stop ≡ Some to
+    → strand ≡ strand_of sixth → from < to → to ≤ len → AreSound w name score strand
+    → read g w line ≡ Ok (record_of rank from to name score strand w)
+sound-line g w line seq start stop name score sixth rank from to len strand cols rank_is length_is start_is stop_is strand_is some within sound =
+    let cs = columns line in
+    let r : Row = row g w cs in
+    let ranked : rank_of g (column cs 0) ≡ Some rank = ap (rank_of g) cols.seq_is ∙ rank_is in
+    let starts : number (column cs 1) ≡ Some from = ap number cols.start_is ∙ start_is in
+    let stops : number (column cs 2) ≡ Some to = ap number cols.stop_is ∙ stop_is in
+    let stranded : strand_of (column cs 5) ≡ strand = ap strand_of cols.strand_is ∙ sym strand_is in
+    let at_rank : r.seq ≡ rank = ap (λ (o : Option ℕ). unwrap_or o 0) ranked in
+    let at_start : number_in (column cs 1) ≡ from = ap (λ (o : Option ℕ). unwrap_or o 0) starts in
+    let at_stop : number_in (column cs 2) ≡ to = ap (λ (o : Option ℕ). unwrap_or o 0) stops in
+    let known : unwrap_or (length_at g rank) 0 ≡ len = ap (λ (o : Option ℕ). unwrap_or o 0) length_is in
+    let at_length : unwrap_or (length_at g r.seq) 0 ≡ len = ap (λ k. unwrap_or (length_at g k) 0) at_rank ∙ known in
+    let none : find (has_fault g w cs) faults ≡ None =
+    none-found (has_fault g w cs)
+    (ap not (eq-eqb (length cs) w cols.count))
+    (ap is_none ranked) (ap is_none starts) (ap is_none stops)
+    (not_le (number_in (column cs 2)) (number_in (column cs 1)) (omega arith))
+    (not_lt (length_of g (column cs 0)) (number_in (column cs 2)) (omega arith))
+    (guarded 4 w (bad_text (column cs 3)) (λ h. ap bad_text cols.name_is ∙ sound.name_good h))
+    (guarded 5 w (bad_text (column cs 4)) (λ h. ap bad_text cols.score_is ∙ sound.score_good h))
+    (guarded 6 w (is_none (strand_of (column cs 5))) (λ h. ap is_none stranded ∙ is_there strand (sound.strand_good h))) in
+    let same : r ≡ record_of rank from to name score strand w =
+    λ i. record { seq = at_rank i; start = at_start i; stop = at_stop i; name = cols.name_is i; score = cols.score_is i; strand = stranded i; width = w } in
+    ap (λ o. told o r) none ∙ ap Ok same
+
+-- the columns beyond the width are empty
+pub row-of : (w : ℕ) (cs : List (List ℕ)) (seq start stop name score sixth : List ℕ) (rank from to : ℕ) (strand : Option Strand)
+    → AreColumns w cs seq start stop name score sixth → strand ≡ strand_of sixth → from < to → IsRow (record_of rank from to name score strand w)
+row-of w cs seq start stop name score sixth rank from to strand cols strand_is some = record {
+  some = some;
+  no_name = λ h. sym cols.name_is ∙ get_or_past cs 3 [] (omega (arith, cols.count));
+  no_score = λ h. sym cols.score_is ∙ get_or_past cs 4 [] (omega (arith, cols.count));
+  no_strand = λ h. strand_is ∙ ap strand_of (sym cols.strand_is ∙ get_or_past cs 5 [] (omega (arith, cols.count)));
+}
+
+-- a line that was cut from its front
+pub line-read : (g : Sequences) (w : ℕ) (line seq r0 r1 r2 r3 r4 name score sixth : List ℕ) (others : List (List ℕ)) (rank from to len : ℕ) (strand : Option Strand)
+    → line ≡ seq ++ r0 → r0 ≡ 9 ∷ r1 → BeginsWithNumber r1 from r2 → r2 ≡ 9 ∷ r3 → BeginsWithNumber r3 to r4 → AreBehind r4 others
+    → ((a b c : List ℕ) → AreColumns w (a ∷ b ∷ c ∷ others) a b c name score sixth)
+    → IsNamed g seq rank len → strand ≡ strand_of sixth → from < to → to ≤ len → AreSound w name score strand
+    → read g w line ≡ Ok (record_of rank from to name score strand w)
+line-read g w line seq r0 r1 r2 r3 r4 name score sixth others rank from to len strand e0 e1 starts e2 stops behind are named =
+    let cols = next-columns line seq r0 r1 starts.0 r2 r3 stops.0 r4 others e0 e1 starts.1 e2 stops.1
+        named.plain (number-plain starts.0 from starts.2) (number-plain stops.0 to stops.2) behind in
+    let all : AreColumns w (columns line) seq starts.0 stops.0 name score sixth =
+    subst (λ (cs : List (List ℕ)). AreColumns w cs seq starts.0 stops.0 name score sixth) (sym cols) (are seq starts.0 stops.0) in
+    sound-line g w line seq starts.0 stops.0 name score sixth rank from to len strand all named.rank_is named.length_is starts.2 stops.2
+
+-- ---- a line that was read names its record's sequence
+
+told-ok : (o : Option RecordFault) (q r : Row) → told o q ≡ Ok r → q ≡ r
+told-ok None q r h = cc
+told-ok (Some f) q r h = cc
+
+told-hit : (o : Option RecordFault) (f : RecordFault) (q r : Row) → o ≡ Some f → told o q ≡ Ok r → ⊥
+told-hit None f q r is h = cc
+told-hit (Some e) f q r is h = cc
+
+later_faults : List RecordFault
+later_faults = fault.StartNumber ∷ fault.StopNumber ∷ fault.Order ∷ fault.PastEnd ∷ fault.Name ∷ fault.Score ∷ fault.Strand ∷ []
+
+pub read-ranked : (g : Sequences) (w : ℕ) (line : List ℕ) (r : Row) → read g w line ≡ Ok r → rank_of g (column (columns line) 0) ≡ Some r.seq
+unfolding later_faults
+read-ranked g w line r says = by (rank_of g (column (columns line) 0)) refl (has_fault g w (columns line) fault.Columns) refl
+  where
+    by : (o : Option ℕ) → rank_of g (column (columns line) 0) ≡ o → (b : Bool) → has_fault g w (columns line) fault.Columns ≡ b → rank_of g (column (columns line) 0) ≡ Some r.seq
+    by (Some k) is b many =
+        is ∙ ap Some (sym (ap (λ (o : Option ℕ). unwrap_or o 0) is) ∙ ap (λ (q : Row). q.seq) (told-ok (find (has_fault g w (columns line)) faults) (row g w (columns line)) r says))
+    by None is true many = absurd (told-hit (find (has_fault g w (columns line)) faults) fault.Columns (row g w (columns line)) r (hit (has_fault g w (columns line)) fault.Columns (fault.UnknownSeq ∷ later_faults) many) says)
+    by None is false many = absurd (told-hit (find (has_fault g w (columns line)) faults) fault.UnknownSeq (row g w (columns line)) r
+        (skip (has_fault g w (columns line)) fault.Columns (fault.UnknownSeq ∷ later_faults) many ∙ hit (has_fault g w (columns line)) fault.UnknownSeq later_faults (ap is_none is)) says)

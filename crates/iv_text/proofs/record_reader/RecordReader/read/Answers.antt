@@ -1,0 +1,8 @@
+use Rattle.std.proofs.Common.{Some, ap, sym, ◌∙◌}
+use Rattle.iv_text.proofs.OnePassLemmas.{read-ranked}
+use Rattle.iv_text.proofs.record_reader.RecordReader.read.Goals as goal
+
+pub named_by-self-inside-requires : goal.named_by-self-inside-requires
+named_by-self-inside-requires g c =
+    read-ranked c.self.inside.genome.now c.args.width c.args.line.now c.in_ok-row.row (sym c.in_ok-row.ensures.value)
+    ∙ ap (λ r. Some r.seq) (sym c.row.view_is)

@@ -1,0 +1,126 @@
+//! Records read line after line.
+ghost use Rattle.std.specs.Prelude.{◌≡◌, ◌≤◌, ◌++◌, None, Some, Ok, IfOk, IfSome};
+ghost use Rattle.iv_text.specs.Fields.{columns as columns_of};
+ghost use Rattle.iv_text.specs.Genome.{rank_of};
+ghost use Rattle.iv_text.specs.Read.{read, column, Fits};
+ghost use Rattle.iv_text.specs.OnePass.{IsNamed};
+
+use crate::fault::RecordFault;
+use crate::fields::{after_tab, columns_behind, split_first_column};
+use crate::genome::Genome;
+use crate::number::split_number;
+use crate::reading::{are_sound, others_of, read_record};
+use crate::record_ref::RecordRef;
+use crate::strand::read_strand;
+use std::alloc::Allocator;
+use std::marker::Model;
+
+/// A sequence as a line names it, with its rank and its length.
+#[derive(Clone, Copy, Debug)]
+struct Named<'t> {
+    name: &'t [u8],
+    rank: u32,
+    length: u32,
+}
+
+/// Reads the records of lines one after another, faster where a line names the sequence of the line before.
+#[derive(Drop)]
+pub(crate) struct RecordReader<'g, 't, A: Allocator> {
+    genome: &'g Genome<A>,
+    before: Option<Named<'t>>,
+}
+
+impl<'g, 't, A: Allocator> Model for RecordReader<'g, 't, A> {
+    ghost use Rattle.std.specs.Prelude.{IfSome};
+    ghost use Rattle.iv_text.specs.Genome.{Sequences};
+    ghost use Rattle.iv_text.specs.OnePass.{IsNamed};
+
+    ghost Value = { Sequences };
+
+    ghost view = { λ r. r.genome.now };
+
+    ghost invariant = { λ r. IfSome r.before (λ b. IsNamed r.genome.now b.name.now b.rank b.length) };
+}
+
+/// What stands behind a name that a line begins with.
+fn after_name<'t>(line: &'t [u8], name: &[u8]) -> Option<&'t [u8]>
+    ensures { IfSome result (λ rest. line.now ≡ name.now ++ rest.now) }
+{
+    line.strip_prefix(name)
+}
+
+/// The sequence that a line names, whose rank is known.
+fn named_by<'t, A: Allocator + Copy>(
+    genome: &Genome<A>,
+    line: &'t [u8],
+    rank: u32,
+) -> Option<Named<'t>>
+    requires { rank_of genome.now (column (columns_of line.now) 0) ≡ Some rank }
+    ensures { IfSome result (λ b. IsNamed genome.now b.name.now b.rank b.length) }
+{
+    let (name, _) = split_first_column(line);
+    let length = genome.short_length(rank)?;
+    Some(Named { name, rank, length })
+}
+
+impl<'g, 't, A: Allocator + Copy> RecordReader<'g, 't, A> {
+    /// A reader of records on this genome.
+    pub(crate) fn new(genome: &'g Genome<A>) -> Self
+        ensures { result ≡ genome.now }
+    {
+        RecordReader {
+            genome,
+            before: None,
+        }
+    }
+
+    /// The record of a line that names the sequence of the line before, read in one pass from its front.
+    ///
+    /// `None` says nothing: the line begins with another name, or stands for no record.
+    fn read_again(&self, width: u8, line: &'t [u8]) -> Option<RecordRef<'t>>
+        requires { (3 ≤ width) × (width ≤ 6) }
+        ensures value { IfSome result (λ r. read self.now width line.now ≡ Ok r) }
+        ensures fits { IfSome result (λ r. Fits self.now width r) }
+    {
+        let before = self.before?;
+        let rest = after_name(line, before.name)?;
+        let from_start = after_tab(rest)?;
+        let (start, behind) = split_number(from_start)?;
+        let from_stop = after_tab(behind)?;
+        let (stop, last) = split_number(from_stop)?;
+        if start >= stop || stop > u64::from(before.length) {
+            return None;
+        }
+        let columns = columns_behind(last)?;
+        let others = others_of(columns, width)?;
+        let strand = read_strand(others.strand);
+        let sound = are_sound(width, others.name, others.score, strand);
+        if !sound {
+            return None;
+        }
+        Some(RecordRef {
+            rank: before.rank,
+            start: start as u32,
+            stop: stop as u32,
+            name: others.name,
+            score: others.score,
+            strand,
+            width,
+        })
+    }
+
+    /// The record that the next line stands for at a width, or its first fault, as `read_record` answers it.
+    pub(crate) fn read(&mut self, width: u8, line: &'t [u8]) -> Result<RecordRef<'t>, RecordFault>
+        requires { (3 ≤ width) × (width ≤ 6) }
+        ensures same { self.new ≡ self.old }
+        ensures value { result ≡ read self.old width line.now }
+        ensures fits { IfOk result (λ r. Fits self.old width r) }
+    {
+        if let Some(row) = self.read_again(width, line) {
+            return Ok(row);
+        }
+        let row = read_record(self.genome, width, line)?;
+        self.before = named_by(self.genome, line, row.rank);
+        Ok(row)
+    }
+}
