@@ -8,7 +8,7 @@ use Rattle.std.proofs.lemmas.Grind.{common_steps}
 use borrow.Rule.Slice.PartMut.{put_mid}
 use Rattle.std.proofs.KnownBytes.{Appends-nil, Appends-trans}
 use Rattle.std.specs.Borrow.{GName}
-use Rattle.iv_bytes.specs.Sinks.{SinkState, Moves, Takes, FailsIn, Puts, Underway, buffered}
+use Rattle.iv_bytes.specs.Sinks.{SinkState, Moves, Takes, FailsIn, Puts, buffered}
 
 pub Moves-nothing : (state : SinkState) → Moves state state []
 Moves-nothing state = record { sent = []; reaches = Appends-nil state.reached; all = append-nil state.waiting; same = refl }
@@ -65,6 +65,12 @@ Puts-back old mid new (Err e) a b first puts = FailsIn-back old mid new a b firs
 -- what a failed put leaves, whatever the error is turned into on the way out
 pub Puts-err : {T E : Type 0} (old new : SinkState) (result : Result T E) (text : List ℕ) → IsErr result → FailsIn old new text → Puts old new result text
 Puts-err old new result text is fails = MatchResult-from_err result (λ _. Takes old new text) (λ _. FailsIn old new text) is (λ _. fails)
+
+-- in the midst of putting the whole text: what is taken since the start, and what is to come, are the whole
+pub record Underway (start now : SinkState) (to_come whole : List ℕ) : Type 0 where
+  pub done : List ℕ
+  pub took : Takes start now done
+  pub all : whole ≡ done ++ to_come
 
 pub Underway-begin : (start : SinkState) (whole : List ℕ) → Underway start start whole whole
 Underway-begin start whole = record { done = []; took = Takes-nothing start; all = refl }

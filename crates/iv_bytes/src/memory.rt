@@ -8,7 +8,7 @@ use crate::sink::{Sink, WriteFault};
 use crate::source::{ReadFault, Source};
 use std::alloc::{AllocError, Allocator, Global};
 
-/// A sink in memory, for tests: it has room for so many bytes, takes at most `piece` of them at a time, never grows,
+/// A sink in memory, for tests: it has room for `room` bytes, takes at most `piece` of them at a time, never grows,
 /// and fails only where its room is used up.
 #[derive(Drop)]
 pub struct MemSink<A: Allocator = Global> {

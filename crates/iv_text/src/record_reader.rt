@@ -6,7 +6,7 @@ ghost use Rattle.iv_text.specs.Read.{read, column, Fits};
 ghost use Rattle.iv_text.specs.OnePass.{IsNamed};
 
 use crate::fault::RecordFault;
-use crate::fields::{after_tab, columns_behind, split_first_column};
+use crate::fields::{after_tab, columns_behind, cut_first_column};
 use crate::genome::Genome;
 use crate::number::split_number;
 use crate::reading::{are_sound, others_of, read_record};
@@ -58,7 +58,7 @@ fn named_by<'t, A: Allocator + Copy>(
     requires { rank_of genome.now (column (columns_of line.now) 0) ≡ Some rank }
     ensures { IfSome result (λ b. IsNamed genome.now b.name.now b.rank b.length) }
 {
-    let (name, _) = split_first_column(line);
+    let (name, _) = cut_first_column(line);
     let length = genome.short_length(rank)?;
     Some(Named { name, rank, length })
 }
