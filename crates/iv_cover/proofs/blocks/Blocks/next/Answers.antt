@@ -1,5 +1,4 @@
-use Rattle.std.proofs.Common.{◌≡◌, ◌∙◌, List, [], ◌∷◌, ◌++◌, Some, None, length, sym, ap, arith}
-use Rattle.iv_text.specs.Row.{Row}
+use Rattle.std.proofs.Common.{◌∙◌, List, [], ◌∷◌, ◌++◌, Some, None, length, sym, ap, arith}
 use Rattle.iv_cover.specs.declared.block.Block.{Block}
 use Rattle.iv_cover.specs.Coming.{coming, left}
 use Rattle.iv_cover.specs.TrackBlocks.{Group, with_members}
@@ -15,24 +14,24 @@ loop-record-init g c =
     let begun = coming-begun now.distance first now.rows c.of-block.result c.of-block.ensures in
     elim c.match-take.branch [
       | in-Some w ↦ (
-          first ∷ [],
-          sym c.self.view_is
-              ∙ ap (λ o. coming i.distance None (left o i.rows)) (sym c.take.ensures.value ∙ w.in-Some.is)
-              ∙ ap (λ f. coming i.distance None (f.now ∷ i.rows)) (sym w.first-is)
-              ∙ ap (λ s. coming s.distance None (first ∷ s.rows)) (sym w.self-inside-is)
-              ∙ begun,
-          ap (λ s. s.ahead) w.self-inside-is ∙ c.take.ensures.after,
-        )
+        first ∷ [],
+        sym c.self.view_is
+            ∙ ap (λ o. coming i.distance None (left o i.rows)) (sym c.take.ensures.value ∙ w.in-Some.is)
+            ∙ ap (λ f. coming i.distance None (f.now ∷ i.rows)) (sym w.first-is)
+            ∙ ap (λ s. coming s.distance None (first ∷ s.rows)) (sym w.self-inside-is)
+            ∙ begun,
+        ap (λ s. s.ahead) w.self-inside-is ∙ c.take.ensures.after,
+      )
       | in-None+in_ok-first-in-None w ↦ (
-          first ∷ [],
-          sym c.self.view_is
-              ∙ ap (λ o. coming i.distance None (left o i.rows)) (sym c.take.ensures.value ∙ w.in-None.is)
-              ∙ ap (coming i.distance None) w.in_ok-first-in-None.ensures.row
-              ∙ ap (λ f. coming i.distance None (f.now ∷ w.next.new.self)) (sym w.first-is)
-              ∙ ap (λ s. coming s.distance None (first ∷ s.rows)) (sym w.self-inside-is)
-              ∙ begun,
-          ap (λ s. s.ahead) w.self-inside-is ∙ c.take.ensures.after,
-        )
+        first ∷ [],
+        sym c.self.view_is
+            ∙ ap (λ o. coming i.distance None (left o i.rows)) (sym c.take.ensures.value ∙ w.in-None.is)
+            ∙ ap (coming i.distance None) w.in_ok-first-in-None.ensures.row
+            ∙ ap (λ f. coming i.distance None (f.now ∷ w.next.new.self)) (sym w.first-is)
+            ∙ ap (λ s. coming s.distance None (first ∷ s.rows)) (sym w.self-inside-is)
+            ∙ begun,
+        ap (λ s. s.ahead) w.self-inside-is ∙ c.take.ensures.after,
+      )
     ]
 
 pub returns-then-not-is_joined_by : goal.returns-then-not-is_joined_by
