@@ -1,5 +1,5 @@
 -- A list in order, its equal neighbours taken as one entry each.
-use Rattle.std.proofs.Common.{◌≡◌, ℕ, ◌+◌, ◌<◌, ◌^◌, Bool, true, false, not, List, [], ◌∷◌, ◌++◌, Option, Some, None, length, refl, sym, ap, ◌∙◌, subst, arith, zero, suc}
+use Rattle.std.proofs.Common.{◌≡◌, ℕ, ◌+◌, ◌<◌, ◌^◌, Bool, true, false, not, List, [], ◌∷◌, ◌++◌, length, refl, sym, ap, ◌∙◌, subst, arith, zero, suc}
 use Rattle.std.specs.Prelude.{All, map, replicate, if◌then◌else◌}
 use Rattle.std.specs.Iterator.{Yields, Drains}
 use Rattle.std.specs.List.{AllByRecursion}

@@ -5,7 +5,7 @@ use Rattle.std.specs.Map.{keys_of, values_of}
 use Rattle.iv_track.specs.Entries.{IsLedger}
 use Rattle.iv_text.specs.Row.{Row, IsPlaced, row_cmp}
 use Rattle.iv_text.specs.Ordered.{copies}
-use Rattle.iv_track.specs.Copies.{removed_by, expanded}
+use Rattle.iv_track.specs.Copies.{removed_by}
 
 -- the greatest limit that a track may have
 abbrev pub most_records : ℕ

@@ -1,4 +1,4 @@
-use Rattle.std.proofs.Common.{◌≡◌, ℕ, suc, ◌+◌, ◌^◌, ◌<◌, ◌∙◌, List, [], ◌∷◌, Some, None, length, sym, ap, subst, arith}
+use Rattle.std.proofs.Common.{◌≡◌, ℕ, suc, ◌+◌, ◌^◌, ◌<◌, ◌∙◌, List, [], ◌∷◌, length, sym, ap, subst, arith}
 use Rattle.std.specs.Vec.Iter.{into_iter_items, into_iter_len}
 use Rattle.iv_text.specs.Row.{Row, row_cmp}
 use Rattle.iv_track.specs.Counted.{grouped, left}
@@ -13,23 +13,23 @@ loop-row-init g c =
     let first = c.match-take.first in
     elim c.match-take.branch [
       | in-Some w ↦ (
-          counting-begins c.args.self.now (left i.ahead (into_iter_items i.rest)) first (into_iter_items now.rest) c.self.view_is c.self.invariant.0
-              (ap (λ o. left o (into_iter_items i.rest)) (sym c.take.ensures.value ∙ w.in-Some.is)
-              ∙ ap (λ (r : Row). r ∷ into_iter_items i.rest) (sym w.first-is)
-              ∙ ap (λ s. first ∷ into_iter_items s.rest) (sym w.self-inside-is)),
-          subst (λ s. into_iter_len s.rest ≡ length (into_iter_items s.rest)) (sym w.self-inside-is) c.self.invariant.1,
-          ap (λ s. s.ahead) w.self-inside-is ∙ c.take.ensures.after,
-        )
+        counting-begins c.args.self.now (left i.ahead (into_iter_items i.rest)) first (into_iter_items now.rest) c.self.view_is c.self.invariant.0
+            (ap (λ o. left o (into_iter_items i.rest)) (sym c.take.ensures.value ∙ w.in-Some.is)
+            ∙ ap (λ (r : Row). r ∷ into_iter_items i.rest) (sym w.first-is)
+            ∙ ap (λ s. first ∷ into_iter_items s.rest) (sym w.self-inside-is)),
+        subst (λ s. into_iter_len s.rest ≡ length (into_iter_items s.rest)) (sym w.self-inside-is) c.self.invariant.1,
+        ap (λ s. s.ahead) w.self-inside-is ∙ c.take.ensures.after,
+      )
       | in-None+in_ok-first-in-None w ↦ (
-          counting-begins c.args.self.now (left i.ahead (into_iter_items i.rest)) first (into_iter_items now.rest) c.self.view_is c.self.invariant.0
-              (ap (λ o. left o (into_iter_items i.rest)) (sym c.take.ensures.value ∙ w.in-None.is)
-              ∙ w.in_ok-first-in-None.ensures.cases.0
-              ∙ ap (λ (r : Row). r ∷ into_iter_items w.next.new.self) (sym w.first-is)
-              ∙ ap (λ s. first ∷ into_iter_items s.rest) (sym w.self-inside-is)),
-          subst (λ s. into_iter_len s.rest ≡ length (into_iter_items s.rest)) (sym w.self-inside-is)
-              (omega (arith, c.self.invariant.1, w.in_ok-first-in-None.ensures.cases.1, ap length w.in_ok-first-in-None.ensures.cases.0)),
-          ap (λ s. s.ahead) w.self-inside-is ∙ c.take.ensures.after,
-        )
+        counting-begins c.args.self.now (left i.ahead (into_iter_items i.rest)) first (into_iter_items now.rest) c.self.view_is c.self.invariant.0
+            (ap (λ o. left o (into_iter_items i.rest)) (sym c.take.ensures.value ∙ w.in-None.is)
+            ∙ w.in_ok-first-in-None.ensures.cases.0
+            ∙ ap (λ (r : Row). r ∷ into_iter_items w.next.new.self) (sym w.first-is)
+            ∙ ap (λ s. first ∷ into_iter_items s.rest) (sym w.self-inside-is)),
+        subst (λ s. into_iter_len s.rest ≡ length (into_iter_items s.rest)) (sym w.self-inside-is)
+            (omega (arith, c.self.invariant.1, w.in_ok-first-in-None.ensures.cases.1, ap length w.in_ok-first-in-None.ensures.cases.0)),
+        ap (λ s. s.ahead) w.self-inside-is ∙ c.take.ensures.after,
+      )
     ]
 
 pub overflow_add-count : goal.overflow_add-count

@@ -1,7 +1,6 @@
 use Rattle.std.proofs.Common.{◌∙◌, subst, refl}
 use Rattle.std.specs.Ordering.{eq_by_cmp}
 use Rattle.std.specs.Cmp.{eq_by_cmp_equiv}
-use Rattle.std.specs.Prelude.{None}
 use Rattle.std.specs.Iterator.{Drains}
 use Rattle.std.specs.Map.{keys_of}
 use Rattle.std.proofs.lemmas.Map.Keys.{IsDistinct-from_sorted}
