@@ -35,7 +35,9 @@ impl<'a, A: Allocator + Copy> Model for Blocks<'a, A> {
 }
 
 impl<'a, A: Allocator + Copy> Blocks<'a, A> {
-    /// The blocks of the records of a walk, which stand in the order of a track: on each genome that they lie on.
+    /// The blocks of the records that a walk has left, which stand in the order of a track.
+    ///
+    /// They are the blocks of the definition for every genome that the records lie on.
     pub fn of(rows: Rows<'a, A>, distance: u32) -> Self
         requires { AreInOrder rows }
         ensures { (g : Sequences) → All (LiesOn g) rows.entry → result ≡ blocks_of distance g rows.entry }
@@ -47,7 +49,7 @@ impl<'a, A: Allocator + Copy> Blocks<'a, A> {
         }
     }
 
-    /// The next block, `None` after the last.
+    /// The next block, `None` after the last. It reads the walk up to the first record of the block after it.
     pub fn next(&mut self, meter: &mut Meter) -> Option<Block>
         ensures { GivesFirst self.old result self.new }
     {
