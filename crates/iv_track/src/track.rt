@@ -127,8 +127,8 @@ impl<A: Allocator + Copy> Track<A> {
     ///
     /// The track holds at most its limit before, and may hold one more afterwards; the record has its width. This
     /// is the first half of a replace, which adds the new record before it takes the old one, so that a refusal
-    /// changes nothing. It is public for callers that join an add and a removal in a way of their own, as an
-    /// edit of two tracks, and take a record once the add has succeeded.
+    /// changes nothing. It is public so that a caller can make such an edit of its own: add first, and take only
+    /// once that has succeeded.
     ///
     /// # Errors
     ///
