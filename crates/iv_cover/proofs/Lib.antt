@@ -5,6 +5,7 @@ pub mod Cover
 pub mod Positions
 pub mod Swept
 pub mod Merging
+pub mod Comings
 pub mod Meanings
 pub mod Examples
 pub mod BlockLemmas

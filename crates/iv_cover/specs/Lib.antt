@@ -1,4 +1,5 @@
 pub mod Blocks
+pub mod TrackBlocks
 pub mod CoverRows
-pub mod OpenBlocks
+pub mod Coming
 pub mod BlockLaws

@@ -1,10 +1,13 @@
 //! What records cover: their blocks.
 #![tactic(auto)]
 
+mod block;
+mod blocks;
 mod laws;
 mod merge;
-mod open_block;
 
+pub use block::Block;
+pub use blocks::Blocks;
 pub use laws::{
     blocks_start_after_gaps, blocks_stop_with_their_last_record, gaps_part_blocks,
     records_belong_to_one_block,

@@ -13,7 +13,8 @@ use Rattle.iv_text.proofs.RowLemmas.{rows_exact}
 use Rattle.iv_text.proofs.OrderedLemmas.{one_list}
 use Rattle.iv_track.specs.Copies.{expanded}
 use Rattle.iv_track.specs.Entries.{IsLedger, value_at}
-use Rattle.iv_track.specs.Tracked.{AreCounted, IsTrack}
+use Rattle.iv_track.specs.Tracked.{IsTrack, most_records}
+use Rattle.iv_track.proofs.CountedLemmas.{AreCounted}
 use Rattle.iv_track.proofs.Counts.{all-expanded, copies-expanded, in_order-expanded, length-expanded}
 
 module _ {K : Type 0} (P : K → Type 0) where
@@ -46,7 +47,7 @@ module _ (es gs : List (Row × ℕ)) (rows : List Row) (c : AreCounted es rows) 
       All-values_from_lookup (eq_by_cmp_equiv rows_total) (λ n. 0 < n) gs (IsDistinct-from_sorted row_cmp (keys_of gs) s)
       (λ q. subst (λ o. IfSome o (λ n. 0 < n)) (sym (same q)) (IfSome-lookup_from_All (λ n. 0 < n) (is_at (row_cmp q)) es c.present))
 
-  pub built_track : (len width limit : ℕ) → len ≡ length rows → All (λ (q : Row). q.width ≡ width) rows → len ≤ limit → limit ≤ 4000000 → IsTrack gs len width limit
+  pub built_track : (len width limit : ℕ) → len ≡ length rows → All (λ (q : Row). q.width ≡ width) rows → len ≤ limit → limit ≤ most_records → IsTrack gs len width limit
   built_track len width limit is widths room bounded =
       let W : Row → Type 0 = λ q. q.width ≡ width in
       record {

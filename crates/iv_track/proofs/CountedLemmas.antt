@@ -1,6 +1,7 @@
--- A list in order, grouped into its different keys with their numbers of copies.
-use Rattle.std.proofs.Common.{◌≡◌, ℕ, ◌+◌, ◌<◌, ◌≤◌, true, false, List, [], ◌∷◌, ◌++◌, length, refl, sym, ap, ◌∙◌, subst, arith, zero, suc, append_assoc}
-use Rattle.std.specs.Prelude.{All, replicate}
+-- A list in order, its equal neighbours taken as one entry each.
+use Rattle.std.proofs.Common.{◌≡◌, ℕ, ◌+◌, ◌<◌, ◌^◌, Bool, true, false, not, List, [], ◌∷◌, ◌++◌, length, refl, sym, ap, ◌∙◌, subst, arith, zero, suc}
+use Rattle.std.specs.Prelude.{All, map, replicate, if◌then◌else◌}
+use Rattle.std.specs.Iterator.{Yields, Drains}
 use Rattle.std.specs.List.{AllByRecursion}
 use Rattle.std.specs.List.Sorted.{IsStrictlySortedBy}
 use Rattle.std.specs.declared.cmp.Ordering.{Ordering}
@@ -8,130 +9,164 @@ use Rattle.std.specs.declared.cmp.Ordering.TheVariants.{Less, Equal, Greater}
 use Rattle.std.specs.Ordering.{is_eq, is_le, ordering_reverse}
 use Rattle.std.specs.Cmp.{Equal-is}
 use Rattle.std.specs.Map.{keys_of, values_of}
-use Rattle.std.proofs.lemmas.List.Elements.{All-cons, All-append}
-use Rattle.std.proofs.lemmas.List.{length-append}
-use Rattle.std.proofs.Math.ListN.{length-replicate}
+use Rattle.std.proofs.lemmas.Bool.{cond-true, cond-false}
+use Rattle.std.proofs.lemmas.Iterator.{YieldsList, items_from_drains}
+use Rattle.std.proofs.lemmas.Iterator.Consumers.{YieldsList-from_shown}
+use Rattle.std.proofs.lemmas.List.Elements.{All-from_recursion}
 use Rattle.iv_text.specs.Ordered.{AreInOrder}
 use Rattle.iv_text.specs.Row.{Row, IsPlaced, row_cmp, rows_total}
 use Rattle.iv_text.proofs.RowLemmas.{rows_exact}
 use Rattle.iv_track.specs.Copies.{expanded}
+use Rattle.iv_track.specs.Counted.{grouped_from, grouped, GivesEntry}
 use Rattle.iv_track.specs.Entries.{IsLedger}
-use Rattle.iv_track.specs.Tracked.{AreCounted}
 
--- es and then `count` of `held` are what a list in order has before `rest`
-pub record IsGrouping (es : List (Row × ℕ)) (held : Row) (count : ℕ) (rest whole : List Row) : Type 0 where
-  pub rows_are : expanded es ++ (replicate count held ++ rest) ≡ whole
-  pub order : AreInOrder (held ∷ rest)
-  pub below : AllByRecursion (λ k. row_cmp k held ≡ Less) (keys_of es)
-  pub ledger : IsLedger row_cmp es
-  pub some : 0 < count
+-- the entries of a list in order: its different records in order, which are placed, each with the number of its copies
+pub record AreCounted (es : List (Row × ℕ)) (rows : List Row) : Type 0 where
+  pub rows_are : expanded es ≡ rows
+  pub ordered : IsLedger row_cmp es
   pub present : All (λ n. 0 < n) (values_of es)
   pub placed : All IsPlaced (keys_of es)
-  pub place : IsPlaced held
 
-all-nil : {X : Type 0} (P : X → Type 0) → All P []
-all-nil P = λ k d low. absurd (omega arith)
-
-nil_sorted : IsStrictlySortedBy row_cmp []
-unfolding IsStrictlySortedBy
-nil_sorted = tt
-
-pub grouping-begin : (es : List (Row × ℕ)) (held : Row) (rest whole : List Row) → es ≡ [] → whole ≡ held ∷ rest → AreInOrder whole → IsPlaced held → IsGrouping es held 1 rest whole
-grouping-begin es held rest whole none is order place = record {
-  rows_are = ap (λ fs. expanded fs ++ (held ∷ rest)) none ∙ sym is;
-  order = subst AreInOrder is order;
-  below = subst (λ fs. AllByRecursion (λ k. row_cmp k held ≡ Less) (keys_of fs)) (sym none) tt;
-  ledger = subst (IsLedger row_cmp) (sym none) nil_sorted;
-  some = omega arith;
-  present = subst (λ (fs : List (Row × ℕ)). All (λ n. 0 < n) (values_of fs)) (sym none) (all-nil (λ n. 0 < n));
-  placed = subst (λ (fs : List (Row × ℕ)). All IsPlaced (keys_of fs)) (sym none) (all-nil IsPlaced);
-  place = place;
-}
+-- what holds on either side of a test
+either_way : {X : Type 0} (P : X → Type 0) (b : Bool) (x y : X) → (b ≡ true → P x) → (b ≡ false → P y) → P (if b then x else y)
+either_way P true x y where_true where_false = where_true refl
+either_way P false x y where_true where_false = where_false refl
 
 replicate-more : {K : Type 0} (n : ℕ) (k : K) (xs : List K) → replicate (n + 1) k ++ xs ≡ replicate n k ++ (k ∷ xs)
 replicate-more zero k xs = refl
 replicate-more (suc n) k xs = let e : suc n + 1 ≡ suc (n + 1) = omega arith in ap (λ m. replicate m k ++ xs) e ∙ ap (λ (ys : List _). k ∷ ys) (replicate-more n k xs)
 
-pub grouping-same : (es : List (Row × ℕ)) (held row : Row) (count : ℕ) (rest whole : List Row) → is_eq (row_cmp row held) ≡ true → IsGrouping es held count (row ∷ rest) whole → IsGrouping es held (count + 1) rest whole
-grouping-same es held row count rest whole alike h =
-    let same : row ≡ held = rows_exact row held ((Equal-is (row_cmp row held)).0 alike) in
-    record {
-      rows_are = ap (λ ys. expanded es ++ ys) (replicate-more count held rest ∙ ap (λ k. replicate count held ++ (k ∷ rest)) (sym same)) ∙ h.rows_are;
-      order = (h.order.0.1, h.order.1.1);
-      below = h.below;
-      ledger = h.ledger;
-      some = omega arith;
-      present = h.present;
-      placed = h.placed;
-      place = h.place;
-    }
-
-expanded-append : {K : Type 0} (es fs : List (K × ℕ)) → expanded (es ++ fs) ≡ expanded es ++ expanded fs
-expanded-append [] fs = refl
-expanded-append (e ∷ es) fs = ap (λ ys. replicate e.1 e.0 ++ ys) (expanded-append es fs) ∙ sym (append_assoc (replicate e.1 e.0) (expanded es) (expanded fs))
-
-keys-append : {K V : Type 0} (es fs : List (K × V)) → keys_of (es ++ fs) ≡ keys_of es ++ keys_of fs
-keys-append [] fs = refl
-keys-append (e ∷ es) fs = ap (λ ks. e.0 ∷ ks) (keys-append es fs)
-
-values-append : {K V : Type 0} (es fs : List (K × V)) → values_of (es ++ fs) ≡ values_of es ++ values_of fs
-values-append [] fs = refl
-values-append (e ∷ es) fs = ap (λ ks. e.1 ∷ ks) (values-append es fs)
-
-all-last : {X : Type 0} (P : X → Type 0) (xs : List X) (x : X) → AllByRecursion P xs → P x → AllByRecursion P (xs ++ x ∷ [])
-all-last P [] x h p = (p, tt)
-all-last P (y ∷ ys) x h p = (h.0, all-last P ys x h.1 p)
-
 all-through : {X : Type 0} (P Q : X → Type 0) → ((x : X) → P x → Q x) → (xs : List X) → AllByRecursion P xs → AllByRecursion Q xs
 all-through P Q f [] h = tt
 all-through P Q f (x ∷ xs) h = (f x h.0, all-through P Q f xs h.1)
-
-sorted-last : {K : Type 0} (cmp : K → K → Ordering) (ks : List K) (k : K) → IsStrictlySortedBy cmp ks → AllByRecursion (λ q. cmp q k ≡ Less) ks → IsStrictlySortedBy cmp (ks ++ k ∷ [])
-unfolding IsStrictlySortedBy
-sorted-last cmp [] k s h = (tt, tt)
-sorted-last cmp (q ∷ ks) k s h = (all-last (λ y. cmp q y ≡ Less) ks k s.0 h.0, sorted-last cmp ks k s.1 h.1)
 
 le_apart : (a b : Ordering) → b ≡ ordering_reverse a → is_le a ≡ true → is_eq b ≡ false → a ≡ Less
 le_apart Less b e h n = refl
 le_apart Equal b e h n = cc
 le_apart Greater b e h n = cc
 
-pub grouping-next : (es : List (Row × ℕ)) (held row : Row) (count : ℕ) (rest whole : List Row) → is_eq (row_cmp row held) ≡ false → IsPlaced row → IsGrouping es held count (row ∷ rest) whole → IsGrouping (es ++ (held, count) ∷ []) row 1 rest whole
-grouping-next es held row count rest whole apart place h =
-    let up : row_cmp held row ≡ Less = le_apart (row_cmp held row) (row_cmp row held) (rows_total.antisymm row held) h.order.0.0 apart in
-    let under : AllByRecursion (λ k. row_cmp k row ≡ Less) (keys_of es) = all-through (λ k. row_cmp k held ≡ Less) (λ k. row_cmp k row ≡ Less) (λ k low. rows_total.trans k held row low up) (keys_of es) h.below in
-    record {
-      rows_are = ap (λ ys. ys ++ (row ∷ rest)) (expanded-append es ((held, count) ∷ [])) ∙ append_assoc (expanded es) (replicate count held ++ []) (row ∷ rest)
-          ∙ ap (λ ys. expanded es ++ ys) (append_assoc (replicate count held) [] (row ∷ rest)) ∙ h.rows_are;
-      order = h.order.1;
-      below = subst (AllByRecursion (λ k. row_cmp k row ≡ Less)) (sym (keys-append es ((held, count) ∷ []))) (all-last (λ k. row_cmp k row ≡ Less) (keys_of es) held under up);
-      ledger = subst (IsStrictlySortedBy row_cmp) (sym (keys-append es ((held, count) ∷ []))) (sorted-last row_cmp (keys_of es) held h.ledger h.below);
-      some = omega arith;
-      present = subst (All (λ n. 0 < n)) (sym (values-append es ((held, count) ∷ []))) (All-append (λ n. 0 < n) (values_of es) (count ∷ []) h.present (All-cons (λ n. 0 < n) count [] h.some (all-nil (λ n. 0 < n))));
-      placed = subst (All IsPlaced) (sym (keys-append es ((held, count) ∷ []))) (All-append IsPlaced (keys_of es) (held ∷ []) h.placed (All-cons IsPlaced held [] h.place (all-nil IsPlaced)));
-      place = place;
-    }
+-- the same record, or a later one
+same-row : (q r : Row) → is_eq (row_cmp q r) ≡ true → q ≡ r
+same-row q r e = rows_exact q r ((Equal-is (row_cmp q r)).0 e)
 
-nil_from_length : {X : Type 0} (xs : List X) → length xs ≡ 0 → xs ≡ []
+later-row : (q r : Row) → is_le (row_cmp r q) ≡ true → is_eq (row_cmp q r) ≡ false → row_cmp r q ≡ Less
+later-row q r le apart = le_apart (row_cmp r q) (row_cmp q r) (rows_total.antisymm q r) le apart
+
+-- the entries stand for the list
+from-expanded : (r : Row) (n : ℕ) (xs : List Row) → expanded (grouped_from row_cmp r n xs) ≡ replicate n r ++ xs
+from-expanded r n [] = refl
+from-expanded r n (q ∷ qs) =
+    either_way (λ es. expanded es ≡ replicate n r ++ (q ∷ qs)) (is_eq (row_cmp q r)) (grouped_from row_cmp r (n + 1) qs) ((r, n) ∷ grouped_from row_cmp q 1 qs)
+    (λ e. from-expanded r (n + 1) qs ∙ replicate-more n r qs ∙ ap (λ k. replicate n r ++ (k ∷ qs)) (sym (same-row q r e)))
+    (λ _. ap (λ ys. replicate n r ++ ys) (from-expanded q 1 qs))
+
+-- each has a copy
+from-present : (r : Row) (n : ℕ) (xs : List Row) → 0 < n → AllByRecursion (λ m. 0 < m) (values_of (grouped_from row_cmp r n xs))
+from-present r n [] some = (some, tt)
+from-present r n (q ∷ qs) some =
+    either_way (λ (es : List (Row × ℕ)). AllByRecursion (λ m. 0 < m) (values_of es)) (is_eq (row_cmp q r)) (grouped_from row_cmp r (n + 1) qs) ((r, n) ∷ grouped_from row_cmp q 1 qs)
+    (λ _. from-present r (n + 1) qs (omega arith))
+    (λ _. (some, from-present q 1 qs (omega arith)))
+
+-- what comes before the first comes before all
+from-below : (p r : Row) (n : ℕ) (xs : List Row) → row_cmp p r ≡ Less → AreInOrder (r ∷ xs) → AllByRecursion (λ k. row_cmp p k ≡ Less) (keys_of (grouped_from row_cmp r n xs))
+from-below p r n [] less order = (less, tt)
+from-below p r n (q ∷ qs) less order =
+    either_way (λ (es : List (Row × ℕ)). AllByRecursion (λ k. row_cmp p k ≡ Less) (keys_of es)) (is_eq (row_cmp q r)) (grouped_from row_cmp r (n + 1) qs) ((r, n) ∷ grouped_from row_cmp q 1 qs)
+    (λ _. from-below p r (n + 1) qs less (order.0.1, order.1.1))
+    (λ apart. (less, from-below p q 1 qs (rows_total.trans p r q less (later-row q r order.0.0 apart)) order.1))
+
+-- they ascend
+from-ordered : (r : Row) (n : ℕ) (xs : List Row) → AreInOrder (r ∷ xs) → IsLedger row_cmp (grouped_from row_cmp r n xs)
+unfolding IsStrictlySortedBy
+from-ordered r n [] order = (tt, tt)
+from-ordered r n (q ∷ qs) order =
+    either_way (IsLedger row_cmp) (is_eq (row_cmp q r)) (grouped_from row_cmp r (n + 1) qs) ((r, n) ∷ grouped_from row_cmp q 1 qs)
+    (λ _. from-ordered r (n + 1) qs (order.0.1, order.1.1))
+    (λ apart. (from-below r q 1 qs (later-row q r order.0.0 apart) order.1, from-ordered q 1 qs order.1))
+
+nil-ordered : IsStrictlySortedBy row_cmp []
+unfolding IsStrictlySortedBy
+nil-ordered = tt
+
+pub grouped-ordered : (rows : List Row) → AreInOrder rows → IsLedger row_cmp (grouped row_cmp rows)
+grouped-ordered [] order = nil-ordered
+grouped-ordered (r ∷ rs) order = from-ordered r 1 rs order
+
+grouped-counted : (rows : List Row) → AreInOrder rows → AllByRecursion IsPlaced (keys_of (grouped row_cmp rows)) → AreCounted (grouped row_cmp rows) rows
+grouped-counted [] order placed = record { rows_are = refl; ordered = nil-ordered; present = All-from_recursion (λ n. 0 < n) [] tt; placed = All-from_recursion IsPlaced [] placed }
+grouped-counted (r ∷ rs) order placed = record {
+  rows_are = from-expanded r 1 rs;
+  ordered = from-ordered r 1 rs order;
+  present = All-from_recursion (λ n. 0 < n) (values_of (grouped_from row_cmp r 1 rs)) (from-present r 1 rs (omega arith));
+  placed = All-from_recursion IsPlaced (keys_of (grouped_from row_cmp r 1 rs)) placed;
+}
+
+-- ---- what the iterator gives
+
+gives-list : (es : List (Row × ℕ)) → YieldsList GivesEntry (λ e. e) es es
+gives-list es = YieldsList-from_shown GivesEntry (λ e. e) (λ l. l) (λ s t h. ap length h.0.0) (λ s x t h. h.0) es
+
+map-same : {X : Type 0} (xs : List X) → map (λ y. y) xs ≡ xs
+map-same [] = refl
+map-same (x ∷ xs) = ap (λ ys. x ∷ ys) (map-same xs)
+
+pub given-entries : (es xs : List (Row × ℕ)) → Drains GivesEntry es xs → xs ≡ es
+given-entries es xs run = sym (map-same xs) ∙ items_from_drains xs (run.1.0, run.1.1, λ _. (run.0, run.1.2)) (gives-list es)
+
+yielded-placed : (s xs t : List (Row × ℕ)) → Yields GivesEntry s xs t → AllByRecursion IsPlaced (keys_of xs)
+yielded-placed s [] t y = tt
+yielded-placed s (x ∷ xs) t y = (y.1.1, yielded-placed y.0 xs t y.2)
+
+-- the entries of rows in order
+pub given-counted : (rows : List Row) (xs : List (Row × ℕ)) → AreInOrder rows → Drains GivesEntry (grouped row_cmp rows) xs → AreCounted xs rows
+given-counted rows xs order run =
+    let same : xs ≡ grouped row_cmp rows = given-entries (grouped row_cmp rows) xs run in
+    subst (λ es. AreCounted es rows) (sym same)
+    (grouped-counted rows order (subst (λ (es : List (Row × ℕ)). AllByRecursion IsPlaced (keys_of es)) same (yielded-placed (grouped row_cmp rows) xs run.1.0 run.1.1)))
+
+pub given-ordered : (rows : List Row) (xs : List (Row × ℕ)) → AreInOrder rows → Drains GivesEntry (grouped row_cmp rows) xs → IsLedger row_cmp xs
+given-ordered rows xs order run = subst (IsLedger row_cmp) (sym (given-entries (grouped row_cmp rows) xs run)) (grouped-ordered rows order)
+
+-- ---- one entry
+
+-- n neighbours alike `held` were taken, and these rows are left: with them, all entries that were left before
+pub record IsCounting (all : List (Row × ℕ)) (held : Row) (n : ℕ) (rest : List Row) : Type 0 where
+  pub all_is : all ≡ grouped_from row_cmp held n rest
+  pub few : n + length rest < 2 ^ 32
+
+pub counting-begins : (all : List (Row × ℕ)) (rows : List Row) (held : Row) (rest : List Row) → grouped row_cmp rows ≡ all → length rows < 2 ^ 32 → rows ≡ held ∷ rest → IsCounting all held 1 rest
+counting-begins all rows held rest are few is = record {
+  all_is = sym are ∙ ap (grouped row_cmp) is;
+  few = omega (arith, few, ap length is);
+}
+
+pub nil_from_length : {X : Type 0} (xs : List X) → length xs ≡ 0 → xs ≡ []
 nil_from_length [] e = refl
 nil_from_length (x ∷ xs) e = absurd (omega (arith, e))
 
-nothing_counted : AreCounted [] []
-nothing_counted = record { rows_are = refl; ordered = nil_sorted; present = all-nil (λ n. 0 < n); placed = all-nil IsPlaced }
+true-not_false : (b : Bool) → not b ≡ false → b ≡ true
+true-not_false true e = refl
+true-not_false false e = cc
 
-pub counted-none : (es : List (Row × ℕ)) (rows : List Row) → es ≡ [] → length rows ≡ 0 → AreCounted es rows
-counted-none es rows none empty = subst (λ fs. AreCounted fs rows) (sym none) (subst (AreCounted []) (sym (nil_from_length rows empty)) nothing_counted)
+false-not_true : (b : Bool) → not b ≡ true → b ≡ false
+false-not_true true e = cc
+false-not_true false e = refl
 
--- the end: nothing is left
-pub grouping-end : (es : List (Row × ℕ)) (held : Row) (count : ℕ) (rest whole : List Row) → length rest ≡ 0 → IsGrouping es held count rest whole → AreCounted (es ++ (held, count) ∷ []) whole
-grouping-end es held count rest whole none h = record {
-  rows_are = expanded-append es ((held, count) ∷ []) ∙ ap (λ r. expanded es ++ (replicate count held ++ r)) (sym (nil_from_length rest none)) ∙ h.rows_are;
-  ordered = subst (IsStrictlySortedBy row_cmp) (sym (keys-append es ((held, count) ∷ []))) (sorted-last row_cmp (keys_of es) held h.ledger h.below);
-  present = subst (All (λ n. 0 < n)) (sym (values-append es ((held, count) ∷ []))) (All-append (λ n. 0 < n) (values_of es) (count ∷ []) h.present (All-cons (λ n. 0 < n) count [] h.some (all-nil (λ n. 0 < n))));
-  placed = subst (All IsPlaced) (sym (keys-append es ((held, count) ∷ []))) (All-append IsPlaced (keys_of es) (held ∷ []) h.placed (All-cons IsPlaced held [] h.place (all-nil IsPlaced)));
-}
+-- one more that is alike
+pub counting-more : (all : List (Row × ℕ)) (held row : Row) (n : ℕ) (rest : List Row) → not (is_eq (row_cmp row held)) ≡ false → IsCounting all held n (row ∷ rest) → IsCounting all held (n + 1) rest
+counting-more all held row n rest alike h =
+    let few : n + suc (length rest) < 2 ^ 32 = h.few in
+    record {
+      all_is = h.all_is ∙ cond-true (is_eq (row_cmp row held)) (grouped_from row_cmp held (n + 1) rest) ((held, n) ∷ grouped_from row_cmp row 1 rest) (true-not_false _ alike);
+      few = omega (arith, few);
+    }
 
--- no more copies than records
-pub grouping-few : (es : List (Row × ℕ)) (held : Row) (count : ℕ) (rest whole : List Row) → IsGrouping es held count rest whole → count + length rest ≤ length whole
-grouping-few es held count rest whole h =
-    omega (arith, ap length (sym h.rows_are), length-append (expanded es) (replicate count held ++ rest), length-append (replicate count held) rest, length-replicate count held)
+-- one that is not
+pub counting-ends : (all : List (Row × ℕ)) (held row : Row) (n : ℕ) (rest : List Row) → not (is_eq (row_cmp row held)) ≡ true → IsCounting all held n (row ∷ rest) → all ≡ (held, n) ∷ grouped row_cmp (row ∷ rest)
+counting-ends all held row n rest apart h =
+    h.all_is ∙ cond-false (is_eq (row_cmp row held)) (grouped_from row_cmp held (n + 1) rest) ((held, n) ∷ grouped_from row_cmp row 1 rest) (false-not_true _ apart)
+
+-- none
+pub counting-last : (all : List (Row × ℕ)) (held : Row) (n : ℕ) (rest : List Row) → rest ≡ [] → IsCounting all held n rest → all ≡ (held, n) ∷ []
+counting-last all held n rest none h = h.all_is ∙ ap (grouped_from row_cmp held n) none

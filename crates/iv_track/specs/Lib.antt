@@ -1,4 +1,5 @@
 pub mod Copies
+pub mod Counted
 pub mod Entries
 pub mod Fault
 pub mod Steps

@@ -5,7 +5,11 @@ use Rattle.std.specs.Map.{keys_of, values_of}
 use Rattle.iv_track.specs.Entries.{IsLedger}
 use Rattle.iv_text.specs.Row.{Row, IsPlaced, row_cmp}
 use Rattle.iv_text.specs.Ordered.{copies}
-use Rattle.iv_track.specs.Copies.{removed_by, expanded}
+use Rattle.iv_track.specs.Copies.{removed_by}
+
+-- the greatest limit that a track may have
+abbrev pub most_records : ℕ
+most_records = 4000000
 
 -- what a track is: its records in track order, the width of each and the limit
 pub record Tracked : Type 0 where
@@ -27,6 +31,7 @@ abbrev pub is_from : ℕ → ℕ → Row → Bool
 is_from seq start q = is_le (ordering_then (nat_cmp seq q.seq) (nat_cmp start q.start))
 
 -- where a search for these records begins: the placed records at or after the key are these, and with no key there are none
+-- (a clause of a private function; no part of what is promised)
 abbrev pub BeginsFrom : ℕ → ℕ → Option Row → Type 0
 BeginsFrom seq start (Some least) = (q : Row) → IsPlaced q → is_le (row_cmp least q) ≡ is_from seq start q
 BeginsFrom seq start None = (q : Row) → IsPlaced q → is_from seq start q ≡ false
@@ -47,11 +52,4 @@ pub record IsTrack (es : List (Row × ℕ)) (len width limit : ℕ) : Type 0 whe
   pub placed : All IsPlaced (keys_of es)
   pub len_is : len ≡ sum (values_of es)
   pub room : len ≤ limit + 1
-  pub bounded : limit ≤ 4000000
-
--- the entries of a list in order: its different records in order, which are placed, each with the number of its copies
-pub record AreCounted (es : List (Row × ℕ)) (rows : List Row) : Type 0 where
-  pub rows_are : expanded es ≡ rows
-  pub ordered : IsLedger row_cmp es
-  pub present : All (λ n. 0 < n) (values_of es)
-  pub placed : All IsPlaced (keys_of es)
+  pub bounded : limit ≤ most_records

@@ -1,9 +1,10 @@
-//! The counted ordered map.
-ghost use Rattle.std.specs.Prelude.{◌≡◌, ◌+◌, ◌^◌, ◌<◌, [], length, IsSome, IfOk, IfErr, IfSome, OnOk, OnErr, IfNone, MatchResult};
+//! An ordered map that counts its calls.
+ghost use Rattle.std.specs.Prelude.{◌≡◌, ◌+◌, ◌^◌, ◌<◌, List, [], length, IsSome, IfOk, IfErr, IfSome, OnOk, OnErr, IfNone, MatchResult};
 ghost use Rattle.std.specs.Option.{option_map, option_copied};
 ghost use Rattle.std.specs.Map.{remove_entry, set_value};
 ghost use Rattle.std.specs.Map.Iter.{deref_pair, TakesFirst};
 ghost use Rattle.std.specs.BTreeMap.{is_at, insert_entry};
+ghost use Rattle.std.specs.Iterator.{IsFinite, Drains};
 ghost use Rattle.std.specs.List.{filter};
 ghost use Rattle.std.specs.Ordering.{is_le};
 ghost use Rattle.iv_track.specs.Entries.{IsLedger, value_at, first_from, first_after, last_until};
@@ -17,9 +18,11 @@ use std::marker::Model;
 use std::mem;
 use std::ops::Bound;
 
-/// A finite map in the order of its keys. Each call that takes a `Meter` is one step.
+/// An ordered map from keys to values that counts its calls, so that a contract can say how many a method makes.
 ///
-/// No key stands twice. Only `put` can want memory, and only for a key that is new.
+/// It is a `BTreeMap`. Each call that takes a `Meter` adds one step to it, whatever it finds. No key stands
+/// twice. Only `put` can want memory, and only for a key that is new. Its model is the list of its entries in
+/// the order of the keys.
 #[derive(Drop)]
 pub struct Ledger<K: Ord, V, A: Allocator = Global> {
     map: BTreeMap<K, V, A>,
@@ -43,14 +46,21 @@ impl<K: Ord + Drop, V: Drop, A: Allocator + Clone + Drop> Ledger<K, V, A> {
         }
     }
 
-    /// The ledger of these entries, whose keys ascend: built at once, and no step.
+    /// The ledger of the entries that an iterator gives up to its first `None`: built at once, and no step.
+    ///
+    /// Their keys ascend.
     ///
     /// # Errors
     ///
     /// Memory was refused.
-    pub fn from_entries(alloc: A, entries: Vec<(K, V), A>) -> Result<Self, AllocError>
-        requires ascend { IsLedger K.cmp entries.items }
-        ensures values { IfOk result (λ l. (k : K) → value_at K.cmp l k ≡ value_at K.cmp entries.items k) }
+    pub fn from_entries<I: Iterator<Item = (K, V)>>(
+        alloc: A,
+        entries: I,
+    ) -> Result<Self, AllocError>
+        requires starts { I.can_next entries }
+        requires ends { IsFinite (I.remaining entries) }
+        requires ascend { (es : List (K × V)) → Drains I.next_gives entries es → IsLedger K.cmp es }
+        ensures values { IfOk result (λ l. (es : List (K × V)) × Drains I.next_gives entries es × ((k : K) → value_at K.cmp l k ≡ value_at K.cmp es k)) }
         ensures ordered { IfOk result (λ l. IsLedger K.cmp l) }
     {
         Ok(Ledger {
@@ -170,7 +180,9 @@ impl<K: Ord + Drop, V: Drop, A: Allocator + Clone + Drop> Ledger<K, V, A> {
     }
 }
 
-/// A walk over entries of a ledger, in order. Its model is the entries that are left.
+/// A walk over entries of a ledger, in order: an iterator whose `next` is counted.
+///
+/// Its model is the entries that are left.
 #[derive(Drop)]
 pub struct Walk<'a, K, V> {
     entries: Range<'a, K, V>,

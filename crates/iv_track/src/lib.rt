@@ -1,6 +1,7 @@
 //! The track: records in order with their copies, in an ordered map whose every call is counted.
 #![tactic(auto)]
 
+mod counted;
 mod fault;
 mod ledger;
 mod meter;

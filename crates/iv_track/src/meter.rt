@@ -1,10 +1,13 @@
-//! A count of steps.
+//! The count of steps.
 ghost use Rattle.std.specs.Prelude.{◌≡◌, ℕ};
 ghost use Rattle.iv_track.specs.Steps.{ticked};
 
 use std::marker::Model;
 
-/// How many steps were taken: calls of a ledger and steps of its walks. Nothing sets it back.
+/// The count of steps: how many calls of ledgers and of their walks were made with it.
+///
+/// Who wants to know how many steps a method takes makes a meter, lends it, and reads it afterwards. The methods of
+/// a `Track` say in their contracts how many they take at most. Nothing sets a meter back.
 #[derive(Drop)]
 pub struct Meter {
     steps: u64,

@@ -6,15 +6,15 @@ ghost use Rattle.std.specs.Iterator.{YieldsFirstRef};
 ghost use Rattle.iv_text.specs.Row.{Row, row_cmp};
 ghost use Rattle.iv_text.specs.Ordered.{AreInOrder, copies, added, ordered};
 ghost use Rattle.iv_track.specs.Steps.{TakesUpTo};
-ghost use Rattle.iv_track.specs.Tracked.{AreCounted, BeginsFrom};
+ghost use Rattle.iv_track.specs.Tracked.{BeginsFrom, most_records};
 
+use crate::counted::Counted;
 use crate::fault::{AddFault, NotThere, ReplaceFault};
 use crate::ledger::{Ledger, Walk};
 use crate::meter::Meter;
 use iv_text::Record;
 use std::alloc::{AllocError, Allocator, Global};
 use std::marker::Model;
-use std::mem;
 
 /// Records in the order of a track, with their copies, all of one width.
 ///
@@ -44,9 +44,9 @@ impl<A: Allocator + Copy> Track<A> {
 
     /// A track without a record; nothing grows. It keeps the allocator for its records.
     ///
-    /// The width, 3 to 6, is that of each record to come. The limit is at most 4,000,000 records.
+    /// Each record to come has this width, 3 to 6. The limit is at most 4,000,000 records.
     pub fn new(alloc: A, width: u8, limit: u32) -> Self
-        requires { limit ≤ 4000000 }
+        requires { limit ≤ most_records }
         ensures { result ≡ record { rows = []; width = width; limit = limit } }
     {
         Track {
@@ -60,7 +60,7 @@ impl<A: Allocator + Copy> Track<A> {
 
     /// The track of these records: they are sorted, and the map is built from them at once.
     ///
-    /// The limit is at most 4,000,000, the records are at most so many, and each has the width.
+    /// The limit is at most 4,000,000 records. There are no more records than the limit, and each has the width.
     ///
     /// # Errors
     ///
@@ -71,7 +71,7 @@ impl<A: Allocator + Copy> Track<A> {
         limit: u32,
         rows: Vec<Record<A>, A>,
     ) -> Result<Self, AllocError>
-        requires limit { limit ≤ 4000000 }
+        requires limit { limit ≤ most_records }
         requires few { vec_len rows ≤ limit }
         requires width { All (λ r. r.width ≡ width) rows.items }
         ensures { IfOk result (λ t. t ≡ record { rows = ordered rows.items; width = width; limit = limit }) }
@@ -79,9 +79,8 @@ impl<A: Allocator + Copy> Track<A> {
         let len = rows.len() as u32;
         let mut sorted = rows;
         sorted.sort()?;
-        let entries = counted(alloc, sorted)?;
         Ok(Track {
-            ledger: Ledger::from_entries(alloc, entries)?,
+            ledger: Ledger::from_entries(alloc, Counted::of(sorted))?,
             alloc,
             len,
             limit,
@@ -89,12 +88,14 @@ impl<A: Allocator + Copy> Track<A> {
         })
     }
 
-    /// How many records there are, copies counted: at most one above the limit.
+    /// How many records there are, copies counted.
+    ///
+    /// At most one above the limit: `stage` lets one more in, so that a replace can add before it takes.
     pub fn len(&self) -> u32
         ensures len { result ≡ length self.now.rows }
         ensures ordered { AreInOrder self.now.rows }
         ensures room { result ≤ self.now.limit + 1 }
-        ensures bounded { self.now.limit ≤ 4000000 }
+        ensures bounded { self.now.limit ≤ most_records }
     {
         self.len
     }
@@ -122,9 +123,12 @@ impl<A: Allocator + Copy> Track<A> {
         self.ledger.get(row, meter).copied().unwrap_or(0)
     }
 
-    /// Adds a record without a look at the limit, so that the track may come to hold one more. At most 3 steps.
+    /// Adds a record without a look at the limit. At most 3 steps.
     ///
-    /// The track holds at most its limit before, and the record has its width.
+    /// The track holds at most its limit before, and may hold one more afterwards; the record has its width. This
+    /// is the first half of a replace, which adds the new record before it takes the old one, so that a refusal
+    /// changes nothing. It is public so that a caller can make such an edit of its own: add first, and take only
+    /// once that has succeeded.
     ///
     /// # Errors
     ///
@@ -172,13 +176,9 @@ impl<A: Allocator + Copy> Track<A> {
         ensures next { option_map (λ p. (p.0.now, p.1)) result ≡ next_from self.now.rows seq start }
         ensures steps { TakesUpTo meter.old meter.new 2 }
     {
-        let Some(least) = least_from(self.alloc, seq, start) else {
-            return None;
-        };
-        match self.ledger.at_or_after(&least, meter) {
-            Some((row, count)) => Some((row, *count)),
-            None => None,
-        }
+        let least = least_from(self.alloc, seq, start)?;
+        let (row, count) = self.ledger.at_or_after(&least, meter)?;
+        Some((row, *count))
     }
 
     /// The first record after this one, and how many copies of it there are. At most 2 steps, and no memory.
@@ -186,10 +186,8 @@ impl<A: Allocator + Copy> Track<A> {
         ensures next { option_map (λ p. (p.0.now, p.1)) result ≡ next_after self.now.rows row.now }
         ensures steps { TakesUpTo meter.old meter.new 2 }
     {
-        match self.ledger.after(row, meter) {
-            Some((next, count)) => Some((next, *count)),
-            None => None,
-        }
+        let (next, count) = self.ledger.after(row, meter)?;
+        Some((next, *count))
     }
 
     /// The records on this sequence from this start on, and on later sequences, each as often as it stands.
@@ -278,36 +276,9 @@ fn least_from<A: Allocator + Copy>(alloc: A, seq: u32, start: u64) -> Option<Rec
     Some(Record::least_at(alloc, next, 0))
 }
 
-/// The different records of a list in order, each with the number of its copies.
-fn counted<A: Allocator + Copy>(
-    alloc: A,
-    rows: Vec<Record<A>, A>,
-) -> Result<Vec<(Record<A>, u32), A>, AllocError>
-    requires ordered { AreInOrder rows.items }
-    requires few { vec_len rows < 2 ^ 32 }
-    ensures { IfOk result (λ es. AreCounted es.items rows.items) }
-{
-    let mut entries = Vec::new(alloc);
-    let mut rest = rows.into_iter();
-    let Some(mut held) = rest.next() else {
-        return Ok(entries);
-    };
-    held.law_of_place();
-    let mut count = 1u32;
-    for row in rest {
-        if row == held {
-            count += 1;
-            continue;
-        }
-        row.law_of_place();
-        entries.push((mem::replace(&mut held, row), count))?;
-        count = 1;
-    }
-    entries.push((held, count))?;
-    Ok(entries)
-}
-
-/// A walk over records of a track, in its order. Its model is the records that are left, copies repeated.
+/// A walk over records of a track, in its order: an iterator whose `next` counts its steps.
+///
+/// A record comes once for each of its copies. Its model is the list of the records that are left.
 #[derive(Drop)]
 pub struct Rows<'a, A: Allocator + Copy = Global> {
     entries: Walk<'a, Record<A>, u32>,

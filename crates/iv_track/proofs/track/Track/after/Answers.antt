@@ -5,16 +5,18 @@ use Rattle.iv_track.specs.Tracked.{Tracked, next_after}
 use Rattle.iv_track.proofs.TrackLemmas.{next-entry}
 use Rattle.iv_track.proofs.track.Track.after.Goals as goal
 
-pub returns-in-Some-clause-next : goal.returns-in-Some-clause-next
-returns-in-Some-clause-next g c =
+pub returns-in_err-next-clause-next : goal.returns-in_err-next-clause-next
+returns-in_err-next-clause-next g c =
     let i = c.self.inside in
-    c.in-Some.ensures.entry
+    rw c.from_residual.ensures (
+    c.in_err-next.ensures.entry
     ∙ sym (next-entry (λ q. is_lt (row_cmp c.args.row.now q)) i.ledger i.len i.width i.limit c.self.invariant)
     ∙ ap (λ (t : Tracked). next_after t.rows c.args.row.now) c.self.view_is
+    )
 
-pub returns-in-None-clause-next : goal.returns-in-None-clause-next
-returns-in-None-clause-next g c =
+pub returns-clause-next : goal.returns-clause-next
+returns-clause-next g c =
     let i = c.self.inside in
-    c.in-None.ensures.entry
+    c.in_ok-next.ensures.entry
     ∙ sym (next-entry (λ q. is_lt (row_cmp c.args.row.now q)) i.ledger i.len i.width i.limit c.self.invariant)
     ∙ ap (λ (t : Tracked). next_after t.rows c.args.row.now) c.self.view_is

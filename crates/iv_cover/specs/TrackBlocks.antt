@@ -1,0 +1,53 @@
+-- The blocks of a track's records, with the records that are in them, sequence by sequence.
+use Rattle.std.specs.Prelude.{◌≡◌, ℕ, ◌==◌, List, [], ◌∷◌, map, filter, Option, None, Some}
+use Rattle.std.specs.List.{flat_map, range_with_len}
+use Rattle.std.specs.Option.{unwrap_or}
+use Rattle.iv_text.specs.Genome.{Sequences, length_at, seq_count}
+use Rattle.iv_text.specs.Row.{Row}
+use Rattle.iv_cover.specs.declared.block.Block.{Block}
+use Rattle.iv_cover.specs.Blocks.{blocks_below}
+
+-- a block on the sequence of this rank, from its start to its stop, with the records that are in it, in the order of the track
+pub record Group : Type 0 where
+  pub sequence : ℕ
+  pub start : ℕ
+  pub stop : ℕ
+  pub members : List Row
+
+-- where a record starts
+abbrev pub start_of : Row → ℕ
+start_of r = r.start
+
+-- where a record stops
+abbrev pub stop_of : Row → ℕ
+stop_of r = r.stop
+
+-- the records on the sequence of this rank
+abbrev pub on : ℕ → List Row → List Row
+on sequence rows = filter (λ r. r.seq == sequence) rows
+
+-- the length of the sequence of this rank, 0 where there is none
+abbrev pub sequence_length : Sequences → ℕ → ℕ
+sequence_length g sequence = unwrap_or (length_at g sequence) 0
+
+-- a block that starts at b.0, stops at b.1.0 and has the records b.1.1, on the sequence of this rank
+abbrev pub block_on : ℕ → ℕ × (ℕ × List Row) → Group
+block_on sequence b = record { sequence = sequence; start = b.0; stop = b.1.0; members = b.1.1 }
+
+-- the blocks on the sequence of this rank, by start
+abbrev pub blocks_on : ℕ → Sequences → List Row → ℕ → List Group
+blocks_on d g rows sequence =
+    map (block_on sequence) (blocks_below start_of stop_of d (on sequence rows) (sequence_length g sequence))
+
+-- all blocks: those of each sequence, by rank
+abbrev pub blocks_of : ℕ → Sequences → List Row → List Group
+blocks_of d g rows = flat_map (blocks_on d g rows) (range_with_len 0 (seq_count g))
+
+-- a block as a call gives it, with these members
+abbrev pub with_members : Block → List Row → Group
+with_members b members = record { sequence = b.sequence; start = b.start; stop = b.stop; members = members }
+
+-- a call gave the first of the blocks, without its members, and left the others; or there was none, and it gave none
+abbrev pub GivesFirst : List Group → Option Block → List Group → Type 0
+GivesFirst old None new = (old ≡ []) × (new ≡ [])
+GivesFirst old (Some b) new = (members : List Row) × (old ≡ with_members b members ∷ new)

@@ -1,0 +1,27 @@
+-- Equal neighbours of a list as one entry each. This is the state of the iterator that a track is built from, as seen by
+-- its proof, and no part of what is promised.
+use Rattle.std.specs.Prelude.{ℕ, ◌+◌, List, [], ◌∷◌, Option, Some, None, if◌then◌else◌, IfSome}
+use Rattle.std.specs.Iterator.{YieldsFirst}
+use Rattle.std.specs.declared.cmp.Ordering.{Ordering}
+use Rattle.std.specs.Ordering.{is_eq}
+use Rattle.iv_text.specs.Row.{Row, IsPlaced}
+
+module _ {K : Type 0} (cmp : K → K → Ordering) where
+  -- the entries of a list of which n neighbours alike k were taken, and these are left
+  abbrev pub grouped_from : K → ℕ → List K → List (K × ℕ)
+  grouped_from k n [] = (k, n) ∷ []
+  grouped_from k n (q ∷ qs) = if is_eq (cmp q k) then grouped_from k (n + 1) qs else (k, n) ∷ grouped_from q 1 qs
+
+  -- the entries of a list: equal neighbours as one entry, with their number
+  abbrev pub grouped : List K → List (K × ℕ)
+  grouped [] = []
+  grouped (k ∷ ks) = grouped_from k 1 ks
+
+-- the one that was read ahead, if there is one, and those that are left
+abbrev pub left : {K : Type 0} → Option K → List K → List K
+left None ks = ks
+left (Some k) ks = k ∷ ks
+
+-- a call gave the first of the entries, whose record is placed, or none where none was left
+abbrev pub GivesEntry : List (Row × ℕ) → Option (Row × ℕ) → List (Row × ℕ) → Type 0
+GivesEntry old given new = YieldsFirst (λ es. es) old given new × IfSome given (λ e. IsPlaced e.0)

@@ -1,0 +1,71 @@
+//! The different records of a list in order, each with the number of its copies.
+ghost use Rattle.std.specs.Prelude.{◌≡◌, ◌^◌, ◌<◌, vec_len};
+ghost use Rattle.std.specs.Iterator.{item_count};
+ghost use Rattle.iv_text.specs.Row.{row_cmp};
+ghost use Rattle.iv_track.specs.Counted.{grouped, GivesEntry};
+
+use iv_text::Record;
+use std::alloc::Allocator;
+use std::marker::Model;
+use std::vec::IntoIter;
+
+/// An iterator that takes equal neighbours of a list as one entry: the record, and how many there are.
+///
+/// Its model is the list of the entries that are left.
+#[derive(Drop)]
+pub(crate) struct Counted<A: Allocator> {
+    rest: IntoIter<Record<A>, A>,
+    // The record that ended the entry before.
+    ahead: Option<Record<A>>,
+}
+
+impl<A: Allocator> Model for Counted<A> {
+    ghost use Rattle.std.specs.Prelude.{◌≡◌, ◌<◌, ◌^◌, ℕ, List, length};
+    ghost use Rattle.std.specs.Vec.Iter.{into_iter_items, into_iter_len};
+    ghost use Rattle.iv_text.specs.Row.{Row, row_cmp};
+    ghost use Rattle.iv_track.specs.Counted.{grouped, left};
+
+    ghost Value = { List (Row × ℕ) };
+
+    ghost view = { λ c. grouped row_cmp (left c.ahead (into_iter_items c.rest)) };
+
+    ghost invariant = { λ c. (length (left c.ahead (into_iter_items c.rest)) < 2 ^ 32) × (into_iter_len c.rest ≡ length (into_iter_items c.rest)) };
+}
+
+impl<A: Allocator> Counted<A> {
+    /// The entries of fewer than 2^32 records.
+    pub(crate) fn of(rows: Vec<Record<A>, A>) -> Self
+        requires { vec_len rows < 2 ^ 32 }
+        ensures { result ≡ grouped row_cmp rows.items }
+    {
+        Counted {
+            rest: rows.into_iter(),
+            ahead: None,
+        }
+    }
+}
+
+impl<A: Allocator> Iterator for Counted<A> {
+    type Item = (Record<A>, u32);
+
+    ghost next_gives = { GivesEntry };
+
+    ghost remaining = { item_count (λ es. es) };
+
+    fn next(&mut self) -> Option<(Record<A>, u32)> {
+        let first = match self.ahead.take() {
+            Some(row) => row,
+            None => self.rest.next()?,
+        };
+        first.law_of_place();
+        let mut count = 1;
+        while let Some(row) = self.rest.next() {
+            if row != first {
+                self.ahead = Some(row);
+                return Some((first, count));
+            }
+            count += 1;
+        }
+        Some((first, count))
+    }
+}
