@@ -1,4 +1,5 @@
 pub mod Files
 pub mod Words
 pub mod Loading
-pub mod Statuses
+pub mod Endings
+pub mod Notices
