@@ -1,11 +1,13 @@
 //! `bedkeep session -g GENOME -i RECORDS`: keeps a track of records by a script on standard input.
+//!
+//! It opens files, hands over and exits. What the words mean, how a run ends and what is said of it stands in `iv_cli`.
 #![tactic(auto)]
 
-use iv_cli::{FileFault, Inputs, Plan, Slot, load, read_all, run_status, status};
-use iv_session::{RunFault, ScriptLimits, Session, Summary, run_script};
-use iv_text::{StdSink, StdSource};
+use iv_bytes::{StdSink, StdSource, put_all};
+use iv_cli::{CliFault, Ending, FileFault, Inputs, Notice, Plan, Slot, load, read_all};
+use iv_session::{ScriptLimits, Session, run_script};
 use std::fs::File;
-use std::io::{ErrorKind, Write};
+use std::io::Write;
 use std::process::ExitCode;
 use std::rt::{Env, Files};
 use std::str::from_utf8;
@@ -23,108 +25,121 @@ const SCRIPT_LIMITS: ScriptLimits = ScriptLimits {
     line_bytes: 1_048_576,
 };
 
-/// An exit status.
-#[derive(Clone, Copy, Debug, PartialEq, Eq)]
-struct Status(u8);
-
-/// Of words that say no run.
-const BAD_WORDS: Status = Status(2);
-
-/// Of a file that cannot be read or is too long, and of an output that cannot be written.
-const BAD_FILE: Status = Status(4);
-
-/// Of want of memory.
-const NO_MEMORY: Status = Status(5);
-
 /// The words of the command line, the program's name first.
-fn words_of(rt: &(impl Env + AllocGlobal)) -> Result<Vec<String>, Status> {
-    match env::args(rt) {
-        Ok(args) => match args.collect(rt.alloc()) {
-            Ok(words) => Ok(words),
-            Err(_) => Err(NO_MEMORY),
-        },
-        Err(error) if error.kind() == ErrorKind::OutOfMemory => Err(NO_MEMORY),
-        Err(_) => Err(BAD_WORDS),
-    }
+fn words_of(rt: &(impl Env + AllocGlobal)) -> Result<Vec<String>, Ending> {
+    Ok(env::args(rt)?.collect(rt.alloc())?)
 }
 
-/// The bytes of a file.
-fn read_file(rt: &(impl Files + AllocGlobal), name: &[u8]) -> Result<Vec<u8>, Status> {
+/// The words after the program's name, as bytes.
+fn names_of<'a>(rt: &impl AllocGlobal, words: &'a [String]) -> Result<Vec<&'a [u8]>, Ending> {
+    let after_program = words.iter().skip(1);
+    Ok(
+        after_program
+            .map(|word| word.as_bytes())
+            .collect(rt.alloc())?,
+    )
+}
+
+/// The bytes of the file of this name.
+fn read_file(rt: &(impl Files + AllocGlobal), name: &[u8]) -> Result<Vec<u8>, FileFault> {
     let Ok(path) = from_utf8(name) else {
-        return Err(BAD_FILE);
+        return Err(FileFault::Input);
     };
     let Ok(file) = File::open(rt, path) else {
-        return Err(BAD_FILE);
+        return Err(FileFault::Input);
     };
-    match read_all(rt.alloc(), &mut StdSource::new(file), MOST_FILE_BYTES) {
-        Ok(bytes) => Ok(bytes),
-        Err(FileFault::Memory) => Err(NO_MEMORY),
-        Err(FileFault::Input | FileFault::TooLong) => Err(BAD_FILE),
-    }
+    read_all(rt.alloc(), &mut StdSource::new(file), MOST_FILE_BYTES)
 }
 
-/// The bytes of the file that the plan names for a slot; nothing where it names none.
+/// The bytes of a file of the plan; nothing where it names none.
 fn read_slot(
     rt: &(impl Files + AllocGlobal),
     plan: &Plan<'_>,
     slot: Slot,
-) -> Result<Vec<u8>, Status> {
-    match plan.file(slot) {
-        Some(name) => read_file(rt, name),
-        None => Ok(Vec::new(rt.alloc())),
+) -> Result<Vec<u8>, Ending> {
+    let Some(name) = plan.file(slot) else {
+        return Ok(Vec::new(rt.alloc()));
+    };
+    match read_file(rt, name) {
+        Ok(bytes) => Ok(bytes),
+        Err(fault) => Err(Ending::from((slot, fault))),
     }
 }
 
-/// The session that the words ask for.
-fn session_of(rt: &(impl Env + Files + AllocGlobal)) -> Result<Session, Status> {
-    let words = words_of(rt)?;
-    let mut names = Vec::new(rt.alloc());
-    for word in words.iter().skip(1) {
-        if names.push(word.as_bytes()).is_err() {
-            return Err(NO_MEMORY);
-        }
-    }
-    let plan = match Plan::read(names.as_slice()) {
-        Ok(plan) => plan,
-        Err(fault) => return Err(Status(status(&fault))),
-    };
-    let sizes = read_slot(rt, &plan, Slot::Sizes)?;
-    let first = read_slot(rt, &plan, Slot::First)?;
+/// The session that the plan asks for.
+fn session_of(rt: &(impl Files + AllocGlobal), plan: &Plan<'_>) -> Result<Session, Ending> {
+    let sizes = read_slot(rt, plan, Slot::Sizes)?;
+    let first = read_slot(rt, plan, Slot::First)?;
     let inputs = Inputs {
         sizes: sizes.as_slice(),
         first: first.as_slice(),
     };
-    match load(rt.alloc(), &plan, &inputs, MOST_RECORDS) {
-        Ok(session) => Ok(session),
-        Err(fault) => Err(Status(status(&fault))),
-    }
+    Ok(load(rt.alloc(), plan, &inputs, MOST_RECORDS)?)
 }
 
-/// Runs the script on standard input over the session.
-fn run(rt: &HostRuntime, session: &mut Session) -> Result<Summary, RunFault> {
-    run_script(
+/// Runs the script on standard input over the session that the plan asks for.
+fn run_plan(rt: &HostRuntime, plan: &Plan<'_>) -> Ending {
+    let mut session = match session_of(rt, plan) {
+        Ok(session) => session,
+        Err(ending) => return ending,
+    };
+    let done = run_script(
         rt.alloc(),
-        session,
+        &mut session,
         &SCRIPT_LIMITS,
         &mut StdSource::new(rt.stdin()),
         &mut StdSink::new(rt.stdout()),
         &mut StdSink::new(rt.stderr()),
-    )
-}
-
-/// The exit status of the whole run.
-fn status_of(rt: &HostRuntime) -> Result<Status, Status> {
-    let mut session = session_of(rt)?;
-    let done = run(rt, &mut session);
+    );
     // The process ends here, and the system takes its memory at once, where a drop would free record by record.
     mem::forget(session);
-    if rt.stdout().flush().is_err() {
-        return Err(BAD_FILE);
+    Ending::of_run(&done)
+}
+
+/// Prints a notice.
+fn print_notice(rt: &HostRuntime, notice: Notice) -> Ending {
+    match put_all(&mut StdSink::new(rt.stdout()), notice.text()) {
+        Ok(()) => Ending::Done,
+        Err(_) => Ending::from(CliFault::Output),
     }
-    Ok(Status(run_status(&done)))
+}
+
+/// The ending, once standard output has handed on what it held.
+fn flushed(rt: &HostRuntime, ending: Ending) -> Ending {
+    ending.after_flush(rt.stdout().flush().is_ok())
+}
+
+/// Ends the run: tells of the ending, with the name of the file that is meant, and gives its status.
+fn exit(rt: &HostRuntime, ending: Ending, name: &[u8]) -> ExitCode {
+    // Where standard error takes no more, the status alone tells.
+    let _ = ending.put_line(name, &mut StdSink::new(rt.stderr()));
+    ExitCode::from(ending.status())
+}
+
+/// Runs what the words after the program's name ask for.
+fn run_words(rt: &HostRuntime, words: &[&[u8]]) -> ExitCode {
+    if let Some(notice) = Notice::of(words) {
+        return exit(rt, flushed(rt, print_notice(rt, notice)), b"");
+    }
+    match Plan::read(words) {
+        Ok(plan) => {
+            let ending = flushed(rt, run_plan(rt, &plan));
+            exit(rt, ending, plan.file_meant(ending))
+        }
+        Err(fault) => exit(rt, Ending::from(fault), b""),
+    }
+}
+
+/// Runs what the words of the command line ask for.
+fn run(rt: &HostRuntime) -> Result<ExitCode, Ending> {
+    let words = words_of(rt)?;
+    let names = names_of(rt, words.as_slice())?;
+    Ok(run_words(rt, names.as_slice()))
 }
 
 fn main(rt: HostRuntime) -> ExitCode {
-    let (Ok(Status(status)) | Err(Status(status))) = status_of(&rt);
-    ExitCode::from(status)
+    match run(&rt) {
+        Ok(code) => code,
+        Err(ending) => exit(&rt, ending, b""),
+    }
 }

@@ -10,7 +10,8 @@ use Rattle.std.proofs.lemmas.Slice.Eq.{bytes_eq-Decides}
 use Rattle.std.proofs.lemmas.Bool.{cond-true, eqb-true, true≢false}
 use Rattle.iv_cli.specs.declared.draft.RunOption.{RunOption}
 use Rattle.iv_cli.specs.declared.draft.RunOption.TheVariants as option
-use Rattle.iv_cli.specs.Words.{Setting, RunPlan, Said, IsPlan, paired, option_of, values_of, is_of, listed, taken, taken_at, unless_given, width_said}
+use Rattle.iv_cli.specs.Words.{Setting, RunPlan, IsPlan, paired, option_of, values_of, is_of, width_said}
+use Rattle.iv_cli.specs.Drafts.{Said, listed, taken, taken_at, unless_given}
 
 -- the option of a setting is a known one
 abbrev pub IsKnown : Setting → Type 0

@@ -24,7 +24,7 @@ pub record StopsReading (old new : SourceState) (limit : ℕ) (fault : FileFault
   pub given : Consumes old.coming new.coming front
   pub cause : IsFaultOf fault old new limit (length front)
 
--- why a piece is not taken that brings the bytes to this number
+-- why a piece is not taken that brings the bytes to this number (of the loop of `read_all`; no part of what is promised)
 abbrev pub IsPieceFault : FileFault → ℕ → ℕ → Type 0
 IsPieceFault Input limit count = ⊥
 IsPieceFault TooLong limit count = limit < count

@@ -1,4 +1,6 @@
 pub mod Files
 pub mod Words
+pub mod Drafts
 pub mod Loading
-pub mod Statuses
+pub mod Endings
+pub mod Notices

@@ -1,7 +1,8 @@
 //! What the settings of a run have said so far.
 ghost use Rattle.std.specs.Prelude.{◌≡◌, Some, None, IfErr, OnOk};
 ghost use Rattle.std.specs.Option.{option_copied};
-ghost use Rattle.iv_cli.specs.Words.{option_of as option_of_word, taken, listed, width_of, width_said};
+ghost use Rattle.iv_cli.specs.Words.{option_of as option_of_word, width_of, width_said};
+ghost use Rattle.iv_cli.specs.Drafts.{taken, listed};
 
 use crate::fault::CliFault;
 use std::marker::Model;
@@ -58,7 +59,7 @@ pub(crate) struct Draft<'a> {
 
 impl<'a> Model for Draft<'a> {
     ghost use Rattle.std.specs.Option.{option_copied};
-    ghost use Rattle.iv_cli.specs.Words.{Said};
+    ghost use Rattle.iv_cli.specs.Drafts.{Said};
 
     ghost Value = { Said };
 

@@ -1,6 +1,8 @@
 //! Faults of a run.
 use crate::plan::Slot;
-use iv_text::LoadFault;
+use iv_bytes::ReadFault;
+use iv_text::{LoadCause, LoadFault};
+use std::alloc::AllocError;
 use thiserror::Error;
 
 /// Why a file is not read.
@@ -15,6 +17,28 @@ pub enum FileFault {
     /// Memory was refused.
     #[error("no memory")]
     Memory,
+}
+
+impl From<AllocError> for FileFault {
+    ghost use Rattle.std.specs.Prelude.{◌≡◌};
+    ghost use Rattle.iv_cli.specs.declared.fault.FileFault.TheVariants.{Memory};
+
+    ghost from_gives = { λ _ fault. fault ≡ Memory };
+
+    fn from(_: AllocError) -> FileFault {
+        FileFault::Memory
+    }
+}
+
+impl From<ReadFault> for FileFault {
+    ghost use Rattle.std.specs.Prelude.{◌≡◌};
+    ghost use Rattle.iv_cli.specs.declared.fault.FileFault.TheVariants.{Input};
+
+    ghost from_gives = { λ _ fault. fault ≡ Input };
+
+    fn from(_: ReadFault) -> FileFault {
+        FileFault::Input
+    }
 }
 
 /// Why a run does not come to its end.
@@ -32,4 +56,29 @@ pub enum CliFault {
     /// Memory was refused.
     #[error("no memory")]
     Memory,
+}
+
+impl From<AllocError> for CliFault {
+    ghost use Rattle.std.specs.Prelude.{◌≡◌};
+    ghost use Rattle.iv_cli.specs.declared.fault.CliFault.TheVariants.{Memory};
+
+    ghost from_gives = { λ _ fault. fault ≡ Memory };
+
+    fn from(_: AllocError) -> CliFault {
+        CliFault::Memory
+    }
+}
+
+impl From<(Slot, LoadFault)> for CliFault {
+    ghost use Rattle.std.specs.Prelude.{◌≡◌};
+    ghost use Rattle.iv_cli.specs.Loading.{damage_of};
+
+    ghost from_gives = { λ told fault. fault ≡ damage_of told.0 told.1 };
+
+    fn from((slot, fault): (Slot, LoadFault)) -> CliFault {
+        match fault.cause {
+            LoadCause::Memory => CliFault::Memory,
+            _ => CliFault::Damaged(slot, fault),
+        }
+    }
 }

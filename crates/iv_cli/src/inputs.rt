@@ -1,11 +1,11 @@
 //! Loading the files of a run.
 ghost use Rattle.std.specs.Prelude.{◌≡◌, ◌≤◌, ◌⊎◌, Ok, Err, IfOk, IfErr};
-ghost use Rattle.iv_cli.specs.Loading.{loaded, damage_of};
+ghost use Rattle.iv_cli.specs.Loading.{loaded};
 
 use crate::fault::CliFault;
 use crate::plan::{Plan, Slot};
 use iv_session::Session;
-use iv_text::{BedFile, Genome, LoadCause, LoadFault};
+use iv_text::{BedFile, Genome};
 use std::alloc::Allocator;
 
 /// The bytes of the files of a run.
@@ -15,16 +15,6 @@ pub struct Inputs<'a> {
     pub sizes: &'a [u8],
     /// The first BED file.
     pub first: &'a [u8],
-}
-
-/// The fault of a run whose file has this fault. Want of memory is no damage.
-fn damage(slot: Slot, fault: LoadFault) -> CliFault
-    ensures { result ≡ damage_of slot fault }
-{
-    match fault.cause {
-        LoadCause::Memory => CliFault::Memory,
-        _ => CliFault::Damaged(slot, fault),
-    }
 }
 
 /// The session that the files of a run begin, with no view open.
@@ -43,14 +33,11 @@ pub fn load<A: Allocator + Copy>(
 {
     let genome = match Genome::parse(alloc, inputs.sizes) {
         Ok(genome) => genome,
-        Err(fault) => return Err(damage(Slot::Sizes, fault)),
+        Err(fault) => return Err(CliFault::from((Slot::Sizes, fault))),
     };
     let first = match BedFile::parse(alloc, &genome, plan.width(), limit, inputs.first) {
         Ok(first) => first,
-        Err(fault) => return Err(damage(Slot::First, fault)),
+        Err(fault) => return Err(CliFault::from((Slot::First, fault))),
     };
-    match Session::new(alloc, genome, first, limit) {
-        Ok(session) => Ok(session),
-        Err(_) => Err(CliFault::Memory),
-    }
+    Ok(Session::new(alloc, genome, first, limit)?)
 }

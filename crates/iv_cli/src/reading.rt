@@ -6,7 +6,7 @@ use crate::fault::FileFault;
 use iv_text::Source;
 use std::alloc::Allocator;
 
-/// Adds a piece to the bytes, of which there may be so many.
+/// Adds a piece to the bytes. They may come to this limit in all.
 fn take_piece<A: Allocator>(
     bytes: &mut Vec<u8, A>,
     piece: &[u8],
@@ -20,13 +20,11 @@ fn take_piece<A: Allocator>(
     if piece.len() as u64 > limit - bytes.len() as u64 {
         return Err(FileFault::TooLong);
     }
-    match bytes.extend_from_slice(piece) {
-        Ok(()) => Ok(()),
-        Err(_) => Err(FileFault::Memory),
-    }
+    bytes.extend_from_slice(piece)?;
+    Ok(())
 }
 
-/// Reads all bytes of a source, at most so many.
+/// Reads all bytes of a source, at most as many as the limit.
 ///
 /// `TooLong` is told as soon as more bytes than the limit have come, so before a fault behind them.
 pub fn read_all<A: Allocator + Copy, R: Source>(
@@ -40,10 +38,7 @@ pub fn read_all<A: Allocator + Copy, R: Source>(
     let mut bytes = Vec::new(alloc);
     let mut piece = [0u8; 65536];
     'pieces: loop {
-        let n = match source.pull(&mut piece) {
-            Ok(n) => n,
-            Err(_) => return Err(FileFault::Input),
-        };
+        let n = source.pull(&mut piece)?;
         if n == 0 {
             return Ok(bytes);
         }

@@ -1,0 +1,107 @@
+#!/usr/bin/env bash
+# How the built program ends: its exit status, what stands on standard error and what on standard output, for each
+# way in which a run can end.
+#
+#   scripts/exits.sh build/bedkeep
+set -u
+program=$(realpath "$1")
+folder=$(mktemp -d)
+trap 'rm -rf "$folder"' EXIT
+cd "$folder" || exit 1
+failed=0
+
+printf 'chr1\t100\nchr2\t50\n' > sizes
+printf 'chr1\t10\t20\n' > records.bed
+printf 'chr1\t10\t20\nchr1\t1\t101\n' > past_end.bed
+printf 'chr1\t12x\n' > bad_sizes
+printf 'open\tm\tmerge\nprint\tm\n' > prints
+printf 'open\tm\tmerge\nadd\tchr1\t90\t101\nprint\tm\n' > refused
+head -c 1048577 /dev/zero | tr '\0' x > long_line
+mkdir directory
+
+# ends NAME STATUS STDERR: the run that just ended gave this status and these bytes on standard error
+ends() {
+    local found=$?
+    if [ "$found" -ne "$2" ] || ! printf '%b' "$3" | cmp -s - err; then
+        echo "$1: status $found, wanted $2; standard error: $(cat err)" >&2
+        failed=1
+    fi
+}
+
+# prints NAME STDOUT: and these on standard output
+prints() {
+    if ! printf '%b' "$2" | cmp -s - out; then
+        echo "$1: standard output: $(cat out)" >&2
+        failed=1
+    fi
+}
+
+session() { # the options of a session; its script comes on standard input
+    "$program" session "$@" > out 2> err
+}
+
+session -g sizes -i records.bed < prints
+ends 'all done' 0 ''
+prints 'all done' 'chr1\t10\t20\n'
+
+session -g sizes -i records.bed < refused
+ends 'a refused line' 1 "line 2: end past the sequence's end\n"
+prints 'a refused line' 'chr1\t10\t20\n'
+
+for words in '' 'merge' 'session' 'session -g sizes' 'session -g sizes -i records.bed -width 7' '--help me' '--help --version' '-help'; do
+    # shellcheck disable=SC2086 # the words are to be parted
+    "$program" $words > out 2> err < prints
+    ends "words: $words" 2 'bedkeep: bad options\n'
+    prints "words: $words" ''
+done
+session -g sizes -i ''  < prints
+ends 'a file without a name' 4 'bedkeep: : cannot be read\n'
+
+session -g sizes -i past_end.bed < prints
+ends 'a damaged BED file' 3 "bedkeep: past_end.bed: line 2: end past the sequence's end\n"
+session -g bad_sizes -i past_end.bed < prints
+ends 'a damaged genome file comes first' 3 'bedkeep: bad_sizes: line 1: bad length\n'
+
+session -g none -i past_end.bed < prints
+ends 'a file that is not there comes before a damaged one' 4 'bedkeep: none: cannot be read\n'
+session -g sizes -i directory < prints
+ends 'a directory' 4 'bedkeep: directory: cannot be read\n'
+
+session -g sizes -i records.bed < directory
+ends 'an input that cannot be read' 4 'bedkeep: input cannot be read\n'
+session -g sizes -i records.bed < long_line
+ends 'a line that is too long' 4 'bedkeep: input too long\n'
+prints 'a line that is too long' ''
+
+if [ -w /dev/full ]; then
+    "$program" session -g sizes -i records.bed < prints > /dev/full 2> err
+    ends 'a full device' 4 'bedkeep: output cannot be written\n'
+    "$program" --help > /dev/full 2> err
+    ends 'help on a full device' 4 'bedkeep: output cannot be written\n'
+    "$program" session -g sizes -i records.bed < refused 2> /dev/full > out
+    status=$?
+    : > err
+    (exit "$status")
+    ends 'a full device for messages' 4 ''
+fi
+# The reader of the pipe is gone before the script comes.
+(sleep 0.5; cat prints) | "$program" session -g sizes -i records.bed > >(true) 2> err
+ends 'a closed pipe' 4 'bedkeep: output cannot be written\n'
+
+(ulimit -v 40000 && head -c 200000000 /dev/zero | "$program" session -g sizes -i /dev/stdin > out 2> err)
+ends 'want of memory' 5 'bedkeep: no memory\n'
+
+"$program" --version > out 2> err
+ends 'the version' 0 ''
+prints 'the version' 'bedkeep 0.1.0\n'
+"$program" --help > out 2> err
+ends 'the help' 0 ''
+for word in 'usage: bedkeep session -g GENOME -i BED' --help --version -width open add remove replace close print printall merge; do
+    if ! grep -q -e "$word" out; then
+        echo "the help does not speak of $word" >&2
+        failed=1
+    fi
+done
+
+[ "$failed" -eq 0 ] && echo 'each run ended with its status and its line'
+exit "$failed"
