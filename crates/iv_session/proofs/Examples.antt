@@ -6,13 +6,14 @@ use Rattle.iv_text.specs.Fields.{words}
 use Rattle.iv_text.specs.Row.{Row}
 use Rattle.iv_session.specs.Commands.{Runs, command_of}
 use Rattle.iv_session.specs.Scripts.{Steps}
-use Rattle.iv_session.specs.States.{State}
-use Rattle.iv_session.specs.Views.{read_words, opened, view_text, all_text}
+use Rattle.iv_state.specs.States.{State, with_rows}
+use Rattle.iv_state.specs.Views.{opened, all_text}
+use Rattle.iv_view.specs.Views.{read_words, view_text}
 use Rattle.iv_session.specs.Written.{silent, printed, refused_as}
 use Rattle.iv_session.specs.declared.command.Command.TheVariants as command
-use Rattle.iv_session.specs.declared.fault.ViewFault.TheVariants as fault
-use Rattle.iv_session.specs.declared.view.OpenView.{OpenView}
-use Rattle.iv_session.specs.declared.words.ViewWords.TheVariants as view
+use Rattle.iv_view.specs.declared.fault.ViewFault.TheVariants as fault
+use Rattle.iv_state.specs.declared.views.OpenView.{OpenView}
+use Rattle.iv_view.specs.declared.view.View.TheVariants as view
 
 abbrev g : Sequences
 g = (codes "chr1", 100) ∷ (codes "chr2", 50) ∷ (codes "chr3", 0) ∷ []
@@ -22,7 +23,7 @@ tab = 9 ∷ []
 
 -- an empty track of width 3
 abbrev empty : State
-empty = record { genome = g; width = 3; limit = 2; records = []; second = None; bases = None; views = [] }
+empty = record { genome = g; track = record { rows = []; width = 3; limit = 2 }; second = None; bases = None; views = [] }
 
 abbrev first_row : Row
 first_row = record { seq = 0; start = 10; stop = 20; name = []; score = []; strand = None; width = 3 }
@@ -32,16 +33,16 @@ second_row = record { seq = 0; start = 15; stop = 30; name = []; score = []; str
 
 -- an open view that shows the merged blocks
 abbrev merging : OpenView
-merging = record { shows = view.Merge; stale = false }
+merging = record { view = view.Merge; stale = false }
 
 abbrev with_a_view : State
 with_a_view = record empty { views = (codes "m", merging) ∷ [] }
 
 abbrev with_one : State
-with_one = record with_a_view { records = first_row ∷ [] }
+with_one = with_rows with_a_view (first_row ∷ [])
 
 abbrev with_two : State
-with_two = record with_a_view { records = first_row ∷ second_row ∷ [] }
+with_two = with_rows with_a_view (first_row ∷ second_row ∷ [])
 
 pub comments-are_skipped : command_of (codes "# a note") ≡ command.Skipped
 comments-are_skipped = refl
@@ -79,7 +80,7 @@ script =
     (codes "print" ++ tab ++ codes "m") ∷
     (codes "add" ++ tab ++ codes "chr1" ++ tab ++ codes "90" ++ tab ++ codes "101") ∷ []
 
-pub script-steps : Steps Runs empty script (silent ∷ silent ∷ silent ∷ printed (view_text view.Merge with_two) ∷ refused_as 7 ∷ []) with_two
+pub script-steps : Steps Runs empty script (silent ∷ silent ∷ silent ∷ printed (view_text view.Merge g with_two.track.rows) ∷ refused_as 7 ∷ []) with_two
 script-steps = (
   with_a_view,
   inl (refl, refl),

@@ -1,9 +1,6 @@
 pub mod ReadLemmas
 pub mod ScriptLemmas
 pub mod StopLemmas
-pub mod SessionLemmas
 pub mod ColumnLemmas
-pub mod CuttingLemmas
-pub mod ViewLemmas
 pub mod RunLemmas
 pub mod Examples

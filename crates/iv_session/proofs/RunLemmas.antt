@@ -4,17 +4,18 @@ use Rattle.std.specs.Prelude.{MatchOption, MatchResult, IfErr}
 use Rattle.iv_bytes.specs.Sinks.{SinkState, Takes, FailsIn, Puts}
 use Rattle.iv_bytes.specs.declared.sink.WriteFault.{WriteFault}
 use Rattle.iv_bytes.proofs.Putting.{Takes-nothing}
-use Rattle.iv_session.specs.States.{State}
-use Rattle.iv_session.specs.Views.{view_named, view_text, all_text}
+use Rattle.iv_view.specs.Views.{view_text}
+use Rattle.iv_state.specs.States.{State}
+use Rattle.iv_state.specs.Views.{view_named, all_text}
 use Rattle.iv_session.specs.Written.{Written, silent, printed, refused_as, refusal_count, written_of, told}
 use Rattle.iv_session.specs.Commands.{Runs, Does, Prints, PrintsAll, PrintsNamed, PrintsView, command_of, arguments, only_field}
 use Rattle.iv_session.specs.Scripts.{PrintsAs, PrintsLine, TellsOf, RanLine, FailedLine}
 use Rattle.iv_session.specs.declared.command.Command.{Command}
-use Rattle.iv_session.specs.declared.view.OpenView.{OpenView}
+use Rattle.iv_state.specs.declared.views.OpenView.{OpenView}
 use Rattle.iv_session.specs.declared.fault.LineRefusal.{LineRefusal}
 use Rattle.iv_session.specs.declared.fault.LineRefusal.TheVariants as refusal
-use Rattle.iv_session.specs.declared.fault.PrintFault.{PrintFault}
-use Rattle.iv_session.specs.declared.fault.PrintFault.TheVariants as printing
+use Rattle.iv_state.specs.declared.fault.PrintFault.{PrintFault}
+use Rattle.iv_state.specs.declared.fault.PrintFault.TheVariants as printing
 use Rattle.iv_session.specs.declared.running.Outcome.{Outcome}
 use Rattle.iv_session.specs.declared.running.FailedSink.{FailedSink}
 use Rattle.iv_session.specs.declared.running.FailedSink.TheVariants as sink
@@ -35,7 +36,7 @@ cut_off = Err printing.Write
 abbrev pub PrintsIt : State → List ℕ → SinkState → SinkState → Result (Unit {0}) PrintFault → Type 0
 PrintsIt s name out0 out1 result = MatchOption (view_named s.views name)
     ((result ≡ Err printing.NoView) × (out1 ≡ out0))
-    (λ v. Puts out0 out1 result (view_text v.shows s) × IfErr result (λ f. f ≡ printing.Write))
+    (λ v. Puts out0 out1 result (view_text v.view s.genome s.track.rows) × IfErr result (λ f. f ≡ printing.Write))
 
 prints-named : (s : State) (cs : List (List ℕ)) (name : List ℕ) (o : Option OpenView) (written : Written) → only_field cs ≡ Some name → view_named s.views name ≡ o
     → PrintsView o s s written → Prints cs s s written
@@ -47,12 +48,12 @@ pub printed-ok : (s : State) (cs : List (List ℕ)) (name : List ℕ) (out0 out1
 printed-ok s cs name out0 out1 one it = by (view_named s.views name) refl it
   where
     by : (o : Option OpenView) → view_named s.views name ≡ o
-        → MatchOption o ((all_put ≡ no_view) × (out1 ≡ out0)) (λ v. Puts out0 out1 all_put (view_text v.shows s) × IfErr all_put (λ f. f ≡ printing.Write))
+        → MatchOption o ((all_put ≡ no_view) × (out1 ≡ out0)) (λ v. Puts out0 out1 all_put (view_text v.view s.genome s.track.rows) × IfErr all_put (λ f. f ≡ printing.Write))
         → PrintsLine (Prints cs s s) out0 out1 (Ok (Ok tt))
     by None is it = absurd (cc (it.0))
     by (Some v) is it = record {
-      written = printed (view_text v.shows s);
-      prints = prints-named s cs name (Some v) (printed (view_text v.shows s)) one is (refl, refl);
+      written = printed (view_text v.view s.genome s.track.rows);
+      prints = prints-named s cs name (Some v) (printed (view_text v.view s.genome s.track.rows)) one is (refl, refl);
       puts = (it.0, refl);
     }
 
@@ -61,7 +62,7 @@ pub printed-none : (s : State) (cs : List (List ℕ)) (name : List ℕ) (out0 ou
 printed-none s cs name out0 out1 one it = by (view_named s.views name) refl it
   where
     by : (o : Option OpenView) → view_named s.views name ≡ o
-        → MatchOption o ((no_view ≡ no_view) × (out1 ≡ out0)) (λ v. Puts out0 out1 no_view (view_text v.shows s) × IfErr no_view (λ f. f ≡ printing.Write))
+        → MatchOption o ((no_view ≡ no_view) × (out1 ≡ out0)) (λ v. Puts out0 out1 no_view (view_text v.view s.genome s.track.rows) × IfErr no_view (λ f. f ≡ printing.Write))
         → PrintsLine (Prints cs s s) out0 out1 (Ok (Err refusal.NoView))
     by None is it = record {
       written = refused_as 21;
@@ -75,12 +76,12 @@ pub printed-failed : (s : State) (cs : List (List ℕ)) (name : List ℕ) (out0 
 printed-failed s cs name out0 out1 failed one it = by (view_named s.views name) refl it
   where
     by : (o : Option OpenView) → view_named s.views name ≡ o
-        → MatchOption o ((cut_off ≡ no_view) × (out1 ≡ out0)) (λ v. Puts out0 out1 cut_off (view_text v.shows s) × IfErr cut_off (λ f. f ≡ printing.Write))
+        → MatchOption o ((cut_off ≡ no_view) × (out1 ≡ out0)) (λ v. Puts out0 out1 cut_off (view_text v.view s.genome s.track.rows) × IfErr cut_off (λ f. f ≡ printing.Write))
         → PrintsLine (Prints cs s s) out0 out1 (Err failed)
     by None is it = absurd (cc (it.0))
     by (Some v) is it = record {
-      written = printed (view_text v.shows s);
-      prints = prints-named s cs name (Some v) (printed (view_text v.shows s)) one is (refl, refl);
+      written = printed (view_text v.view s.genome s.track.rows);
+      prints = prints-named s cs name (Some v) (printed (view_text v.view s.genome s.track.rows)) one is (refl, refl);
       puts = (it.0, refl);
     }
 

@@ -10,17 +10,18 @@ use Rattle.iv_text.specs.Read.{column, read_columns}
 use Rattle.iv_text.specs.Row.{Row}
 use Rattle.iv_text.specs.declared.fault.RecordFault.{RecordFault}
 use Rattle.iv_text.specs.declared.fault.RecordFault.TheVariants as row
-use Rattle.iv_session.specs.States.{State, with_record, without_record, with_replaced, with_view, without_view}
-use Rattle.iv_session.specs.Edits.{RefusesAdd, RefusesRemove, RefusesReplace}
-use Rattle.iv_session.specs.Views.{view_named, opened, view_text, all_text}
-use Rattle.iv_session.specs.Written.{Written, silent, printed, refused_as, edit_code, view_code}
+use Rattle.iv_state.specs.States.{State, with_record, without_record, with_replaced, with_view, without_view}
+use Rattle.iv_state.specs.Edits.{edit_code, RefusesAdd, RefusesRemove, RefusesReplace}
+use Rattle.iv_state.specs.Views.{view_named, opened, all_text}
+use Rattle.iv_session.specs.Written.{Written, silent, printed, refused_as}
+use Rattle.iv_view.specs.Views.{view_text, view_code}
 use Rattle.iv_session.specs.declared.command.Command.{Command}
 use Rattle.iv_session.specs.declared.command.Command.TheVariants as command
-use Rattle.iv_session.specs.declared.fault.EditFault.{EditFault}
-use Rattle.iv_session.specs.declared.fault.ViewFault.{ViewFault}
-use Rattle.iv_session.specs.declared.fault.ViewFault.TheVariants as view
-use Rattle.iv_session.specs.declared.view.OpenView.{OpenView}
-use Rattle.iv_session.specs.declared.words.ViewWords.{ViewWords}
+use Rattle.iv_state.specs.declared.fault.EditFault.{EditFault}
+use Rattle.iv_view.specs.declared.fault.ViewFault.{ViewFault}
+use Rattle.iv_view.specs.declared.fault.ViewFault.TheVariants as view
+use Rattle.iv_state.specs.declared.views.OpenView.{OpenView}
+use Rattle.iv_view.specs.declared.view.View.{View}
 
 -- the command of a word
 abbrev pub command_named : List ℕ → Command
@@ -68,18 +69,18 @@ Edits may done refuses old new written =
 -- an add of the record that the columns stand for
 abbrev pub AddsRow : Result Row RecordFault → State → State → Written → Type 0
 AddsRow (Err f) old new written = IsRefused (record_code f) old new written
-AddsRow (Ok r) old new written = Edits (length old.records < old.limit) (with_record old r) (RefusesAdd old r) old new written
+AddsRow (Ok r) old new written = Edits (length old.track.rows < old.track.limit) (with_record old r) (RefusesAdd old r) old new written
 
 abbrev pub Adds : List (List ℕ) → State → State → Written → Type 0
-Adds cs old new written = AddsRow (read_columns old.genome old.width cs) old new written
+Adds cs old new written = AddsRow (read_columns old.genome old.track.width cs) old new written
 
 -- a removal of one copy of the record that the columns stand for
 abbrev pub RemovesRow : Result Row RecordFault → State → State → Written → Type 0
 RemovesRow (Err f) old new written = IsRefused (record_code f) old new written
-RemovesRow (Ok r) old new written = Edits (0 < copies old.records r) (without_record old r) (RefusesRemove old r) old new written
+RemovesRow (Ok r) old new written = Edits (0 < copies old.track.rows r) (without_record old r) (RefusesRemove old r) old new written
 
 abbrev pub Removes : List (List ℕ) → State → State → Written → Type 0
-Removes cs old new written = RemovesRow (read_columns old.genome old.width cs) old new written
+Removes cs old new written = RemovesRow (read_columns old.genome old.track.width cs) old new written
 
 -- two records, or the fault of the first, or else that of the second
 abbrev pub both : Result Row RecordFault → Result Row RecordFault → Result (Row × Row) RecordFault
@@ -98,13 +99,13 @@ read_two g width cs =
 abbrev pub ReplacesRow : Result (Row × Row) RecordFault → State → State → Written → Type 0
 ReplacesRow (Err f) old new written = IsRefused (record_code f) old new written
 ReplacesRow (Ok rows) old new written =
-    Edits (0 < copies old.records rows.0) (with_replaced old rows.0 rows.1) (RefusesReplace old rows.0 rows.1) old new written
+    Edits (0 < copies old.track.rows rows.0) (with_replaced old rows.0 rows.1) (RefusesReplace old rows.0 rows.1) old new written
 
 abbrev pub Replaces : List (List ℕ) → State → State → Written → Type 0
-Replaces cs old new written = ReplacesRow (read_two old.genome old.width cs) old new written
+Replaces cs old new written = ReplacesRow (read_two old.genome old.track.width cs) old new written
 
 -- an opening of a view: it is refused as its first fault, or else the view is put last; only where there is no fault can memory be refused
-abbrev pub OpensView : Result ViewWords ViewFault → List ℕ → State → State → Written → Type 0
+abbrev pub OpensView : Result View ViewFault → List ℕ → State → State → Written → Type 0
 OpensView (Err f) name old new written = IsRefused (view_code f) old new written
 OpensView (Ok shows) name old new written =
     ((new ≡ with_view old name shows) × (written ≡ silent))
@@ -134,7 +135,7 @@ Closes cs old new written = ClosesNamed (only_field cs) old new written
 -- a print of the view of this name
 abbrev pub PrintsView : Option OpenView → State → State → Written → Type 0
 PrintsView None old new written = IsRefused 21 old new written
-PrintsView (Some v) old new written = (new ≡ old) × (written ≡ printed (view_text v.shows old))
+PrintsView (Some v) old new written = (new ≡ old) × (written ≡ printed (view_text v.view old.genome old.track.rows))
 
 -- a print has a name
 abbrev pub PrintsNamed : Option (List ℕ) → State → State → Written → Type 0

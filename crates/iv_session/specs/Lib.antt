@@ -1,7 +1,3 @@
-pub mod States
-pub mod Edits
-pub mod Views
-pub mod Cutting
 pub mod Written
 pub mod Reading
 pub mod Commands

@@ -2,33 +2,10 @@
 use Rattle.std.specs.Prelude.{ℕ, ◌+◌, ◌++◌, List, [], ◌∷◌, Option, None, Some, Result, Ok, Err, codes, decimal}
 use Rattle.std.specs.List.{flat_map}
 use Rattle.iv_text.specs.Fault.{fault_text, record_code}
-use Rattle.iv_session.specs.declared.fault.EditFault.{EditFault}
-use Rattle.iv_session.specs.declared.fault.EditFault.TheVariants as edit
-use Rattle.iv_session.specs.declared.fault.ViewFault.{ViewFault}
-use Rattle.iv_session.specs.declared.fault.ViewFault.TheVariants as view
-use Rattle.iv_session.specs.declared.fault.PrintFault.{PrintFault}
-use Rattle.iv_session.specs.declared.fault.PrintFault.TheVariants as printing
+use Rattle.iv_view.specs.Views.{view_code}
+use Rattle.iv_state.specs.Edits.{edit_code}
 use Rattle.iv_session.specs.declared.fault.LineRefusal.{LineRefusal}
 use Rattle.iv_session.specs.declared.fault.LineRefusal.TheVariants as refusal
-
--- the number of an edit's fault
-abbrev pub edit_code : EditFault → ℕ
-edit_code edit.Absent = 11
-edit_code edit.Full = 12
-edit_code edit.NoMemory = 22
-
--- the number of a view's fault
-abbrev pub view_code : ViewFault → ℕ
-view_code view.BadName = 13
-view_code view.Taken = 14
-view_code view.TooMany = 15
-view_code view.Words = 16
-view_code view.NoMemory = 22
-
--- the number of a print's fault
-abbrev pub print_code : PrintFault → Option ℕ
-print_code printing.NoView = Some 21
-print_code printing.Write = None
 
 -- the number of a refusal
 abbrev pub refusal_code : LineRefusal → ℕ

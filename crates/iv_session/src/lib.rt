@@ -1,4 +1,4 @@
-//! A session: a track of records that a curator corrects by a script, with views of it kept open.
+//! Scripts of a session: the lines by which a curator corrects a track and prints its views.
 #![tactic(auto)]
 
 mod command;
@@ -7,11 +7,7 @@ mod line;
 mod message;
 mod running;
 mod script;
-mod session;
-mod view;
-mod words;
 
-pub use fault::{EditFault, NoView, PrintFault, ViewFault};
+pub use iv_state::{Accepted, EditFault, NoView, PrintFault, Session};
+pub use iv_view::{View as ViewWords, ViewFault};
 pub use script::{RunCause, RunFault, ScriptLimits, Summary, run_script};
-pub use session::{Accepted, Session};
-pub use words::ViewWords;

@@ -6,11 +6,11 @@ ghost use Rattle.iv_session.specs.Scripts.{PrintsLine, TellsOf, RanLine, FailedL
 ghost use Rattle.iv_session.specs.Written.{written_of};
 
 use crate::command::{Command, command_of, only_argument, split_columns, two_arguments};
-use crate::fault::{LineRefusal, PrintFault};
+use crate::fault::LineRefusal;
 use crate::message::put_message;
-use crate::session::Session;
-use crate::words::Words;
+use iv_state::{PrintFault, Session};
 use iv_text::{RecordFault, RecordRef, Sink, WriteFault, fault_text, split_first_column};
+use iv_view::Words;
 use std::alloc::Allocator;
 
 /// What became of a line.
@@ -84,9 +84,9 @@ fn two_rows<'a, A: Allocator + Copy>(
     session: &Session<A>,
     line: &'a [u8],
 ) -> Result<(RecordRef<'a>, RecordRef<'a>), RecordFault>
-    ensures value { result ≡ read_two session.now.genome session.now.width (arguments line.now) }
-    ensures old { IfOk result (λ rows. Fits session.now.genome session.now.width rows.0) }
-    ensures new { IfOk result (λ rows. Fits session.now.genome session.now.width rows.1) }
+    ensures value { result ≡ read_two session.now.genome session.now.track.width (arguments line.now) }
+    ensures old { IfOk result (λ rows. Fits session.now.genome session.now.track.width rows.0) }
+    ensures new { IfOk result (λ rows. Fits session.now.genome session.now.track.width rows.1) }
 {
     let (_, columns) = split_first_column(line);
     let width = session.track().width();

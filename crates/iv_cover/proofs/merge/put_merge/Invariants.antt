@@ -1,6 +1,6 @@
 use Rattle.std.proofs.Common.{length}
 use Rattle.std.specs.List.{flat_map}
-use Rattle.iv_bytes.specs.Sinks.{Underway}
+use Rattle.iv_bytes.proofs.Putting.{Underway}
 use Rattle.iv_cover.specs.CoverRows.{block_row, merge_text}
 use Rattle.iv_cover.proofs.merge.put_merge.Given as goal
 

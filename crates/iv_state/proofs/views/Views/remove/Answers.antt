@@ -1,0 +1,11 @@
+use Rattle.std.proofs.Common.{◌∙◌, ap, map}
+use Rattle.std.specs.Map.{remove_entry}
+use Rattle.std.specs.Str.{bytes_eq}
+use Rattle.iv_text.proofs.NamedLemmas.{remove-is}
+use Rattle.iv_state.proofs.views.Views.remove.Goals as goal
+
+pub returns : goal.returns
+returns g c =
+    ap (map _) c.shift_remove.ensures.entries
+    ∙ remove-is (λ v. v.items) c.args.name.now c.self.inside.views.entries
+    ∙ ap (remove_entry (bytes_eq c.args.name.now)) c.self.view_is

@@ -1,0 +1,136 @@
+//! Faults of edits and prints, by their numbers.
+ghost use Rattle.std.specs.Prelude.{◌≡◌, ◌≤◌, Some, None, IfSome};
+ghost use Rattle.iv_state.specs.Edits.{edit_code};
+ghost use Rattle.iv_state.specs.Views.{print_code};
+
+use iv_text::WriteFault;
+use iv_track::{AddFault, NotThere, ReplaceFault};
+use std::alloc::AllocError;
+use thiserror::Error;
+
+/// Why an edit is refused.
+#[derive(Clone, Copy, Debug, PartialEq, Eq, Error)]
+pub enum EditFault {
+    /// E11: the track has no copy of the record.
+    #[error("no such record")]
+    Absent,
+    /// E12: the track holds its limit.
+    #[error("track is full")]
+    Full,
+    /// E22: memory was refused.
+    #[error("no memory")]
+    NoMemory,
+}
+
+impl From<AllocError> for EditFault {
+    ghost use Rattle.std.specs.Prelude.{◌≡◌};
+    ghost use Rattle.iv_state.specs.declared.fault.EditFault.TheVariants.{NoMemory};
+
+    ghost from_gives = { λ _ fault. fault ≡ NoMemory };
+
+    fn from(_: AllocError) -> EditFault {
+        EditFault::NoMemory
+    }
+}
+
+impl From<AddFault> for EditFault {
+    ghost use Rattle.std.specs.Prelude.{◌≡◌};
+    ghost use Rattle.iv_state.specs.Edits.{fault_of_add};
+
+    ghost from_gives = { λ told fault. fault ≡ fault_of_add told };
+
+    fn from(told: AddFault) -> EditFault {
+        match told {
+            AddFault::Full => EditFault::Full,
+            AddFault::NoMemory => EditFault::NoMemory,
+        }
+    }
+}
+
+impl From<NotThere> for EditFault {
+    ghost use Rattle.std.specs.Prelude.{◌≡◌};
+    ghost use Rattle.iv_state.specs.declared.fault.EditFault.TheVariants.{Absent};
+
+    ghost from_gives = { λ _ fault. fault ≡ Absent };
+
+    fn from(_: NotThere) -> EditFault {
+        EditFault::Absent
+    }
+}
+
+impl From<ReplaceFault> for EditFault {
+    ghost use Rattle.std.specs.Prelude.{◌≡◌};
+    ghost use Rattle.iv_state.specs.Edits.{fault_of_replace};
+
+    ghost from_gives = { λ told fault. fault ≡ fault_of_replace told };
+
+    fn from(told: ReplaceFault) -> EditFault {
+        match told {
+            ReplaceFault::NotThere => EditFault::Absent,
+            ReplaceFault::NoMemory => EditFault::NoMemory,
+        }
+    }
+}
+
+impl EditFault {
+    /// Its number in the table of faults.
+    pub fn code(&self) -> u8
+        ensures value { result ≡ edit_code self.now }
+        ensures known { (1 ≤ result) × (result ≤ 24) }
+    {
+        match self {
+            EditFault::Absent => 11,
+            EditFault::Full => 12,
+            EditFault::NoMemory => 22,
+        }
+    }
+}
+
+/// Why a view is not printed.
+#[derive(Clone, Copy, Debug, PartialEq, Eq, Error)]
+pub enum PrintFault {
+    /// E21: no view of this name is open. Nothing was written.
+    #[error("no such view")]
+    NoView,
+    /// The sink failed. A prefix of the text was written.
+    #[error("output cannot be written")]
+    Write,
+}
+
+impl From<WriteFault> for PrintFault {
+    ghost use Rattle.std.specs.Prelude.{◌≡◌};
+    ghost use Rattle.iv_state.specs.declared.fault.PrintFault.TheVariants.{Write};
+
+    ghost from_gives = { λ _ fault. fault ≡ Write };
+
+    fn from(_: WriteFault) -> PrintFault {
+        PrintFault::Write
+    }
+}
+
+impl PrintFault {
+    /// Its number in the table of faults, `None` for a write fault.
+    pub fn code(&self) -> Option<u8>
+        ensures value { result ≡ print_code self.now }
+        ensures known { IfSome result (λ code. (1 ≤ code) × (code ≤ 24)) }
+    {
+        match self {
+            PrintFault::NoView => Some(21),
+            PrintFault::Write => None,
+        }
+    }
+}
+
+/// E21: no view of this name is open.
+#[derive(Clone, Copy, Debug, PartialEq, Eq, Error)]
+#[error("no such view")]
+pub struct NoView;
+
+impl NoView {
+    /// Its number in the table of faults: 21.
+    pub fn code(&self) -> u8
+        ensures { result ≡ 21 }
+    {
+        21
+    }
+}

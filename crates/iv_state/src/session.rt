@@ -1,0 +1,275 @@
+//! A session of a genome and a track, with its open views.
+ghost use Rattle.std.specs.Prelude.{◌≡◌, ◌≤◌, ◌<◌, ◌↔◌, ◌⊎◌, None, Some, All, map, length, false, not, IsTrue, IsSome, IsOk, IfOk, IfErr, OnOk, OnErr, MatchOption, Ok, Err};
+ghost use Rattle.iv_text.specs.Ordered.{copies};
+ghost use Rattle.iv_text.specs.Read.{read, Fits};
+ghost use Rattle.iv_bytes.specs.Sinks.{Puts};
+ghost use Rattle.iv_view.specs.Views.{view_text};
+ghost use Rattle.iv_state.specs.Edits.{RefusesAdd, RefusesRemove, RefusesReplace};
+ghost use Rattle.iv_state.specs.States.{State, begun, with_record, without_record, with_replaced, with_view, without_view};
+ghost use Rattle.iv_state.specs.Views.{view_named, RefusesOpen, Opens, all_text};
+
+use crate::fault::{EditFault, NoView, PrintFault};
+use crate::names::{is_view_name, put_heading};
+use crate::views::Views;
+use iv_text::{BedFile, Buffered, Genome, RecordFault, RecordRef, Sink, WriteFault, read_record};
+use iv_track::{Meter, Track};
+use iv_view::{View, ViewFault, put_view};
+use std::alloc::{AllocError, Allocator, Global};
+use std::marker::Model;
+
+/// How many views may be open.
+const MOST_VIEWS: usize = 64;
+
+/// An edit that was done.
+#[derive(Clone, Copy, Debug, PartialEq, Eq)]
+pub struct Accepted {}
+
+/// A genome, a track of records on it, and the open views in order of opening.
+///
+/// All records fit the genome and have the track's width, and there are not more of them than its limit.
+#[derive(Drop)]
+pub struct Session<A: Allocator + Copy = Global> {
+    alloc: A,
+    genome: Genome<A>,
+    track: Track<A>,
+    views: Views<A>,
+}
+
+impl<A: Allocator + Copy> Model for Session<A> {
+    ghost use Rattle.std.specs.Prelude.{None};
+    ghost use Rattle.iv_state.specs.States.{State, IsSession};
+
+    ghost Value = { State };
+
+    ghost view = { λ s. record { genome = s.genome; track = s.track; second = None; bases = None; views = s.views } };
+
+    ghost invariant = { λ s. IsSession s.genome s.track };
+}
+
+impl<A: Allocator + Copy> Session<A> {
+    /// A session of the records of a file, with no view open. Copies are kept.
+    pub fn new(
+        alloc: A,
+        genome: Genome<A>,
+        first: BedFile<A>,
+        limit: u32,
+    ) -> Result<Session<A>, AllocError>
+        requires fit { All (Fits genome first.width) first.rows }
+        requires few { length first.rows ≤ limit }
+        requires bounded { limit ≤ 4000000 }
+        ensures { IfOk result (λ s. s ≡ begun genome first limit) }
+    {
+        let width = first.width();
+        let track = Track::from_records(alloc, width, limit, first.into_records())?;
+        Ok(Session {
+            alloc,
+            genome,
+            track,
+            views: Views::new(alloc),
+        })
+    }
+
+    /// The record that a line stands for on the session's genome at its width, or its first fault.
+    pub fn read<'a>(&self, line: &'a [u8]) -> Result<RecordRef<'a>, RecordFault>
+        ensures value { result ≡ read self.now.genome self.now.track.width line.now }
+        ensures known { (3 ≤ self.now.track.width) × (self.now.track.width ≤ 6) }
+        ensures fits { IfOk result (λ r. Fits self.now.genome self.now.track.width r) }
+    {
+        read_record(&self.genome, self.track.width(), line)
+    }
+
+    /// Whether a record is one of the session's width on its genome.
+    pub fn fits(&self, row: &RecordRef<'_>) -> bool
+        ensures { IsTrue result ↔ Fits self.now.genome self.now.track.width row.now }
+    {
+        row.fits(&self.genome, self.track.width())
+    }
+
+    /// How many records there are, copies counted.
+    pub fn len(&self) -> u32
+        ensures { result ≡ length self.now.track.rows }
+    {
+        self.track.len()
+    }
+
+    /// The track, as it is.
+    pub fn track(&self) -> &Track<A>
+        ensures value { result.now ≡ self.now.track }
+        ensures known { (3 ≤ self.now.track.width) × (self.now.track.width ≤ 6) }
+    {
+        &self.track
+    }
+
+    /// Adds a record.
+    ///
+    /// `Full` comes exactly where the track holds its limit, unless memory runs out. A record of width 3 needs no
+    /// memory for its own copy, and the track needs none for a record that is there. A refusal changes nothing.
+    pub fn add(&mut self, row: &RecordRef<'_>) -> Result<Accepted, EditFault>
+        requires { Fits self.old.genome self.old.track.width row.now }
+        ensures room { OnOk result (length self.old.track.rows < self.old.track.limit) }
+        ensures ok { OnOk result (self.new ≡ with_record self.old row.now) }
+        ensures why { IfErr result (RefusesAdd self.old row.now) }
+        ensures err { OnErr result (self.new ≡ self.old) }
+    {
+        let record = row.to_record(self.alloc)?;
+        let mut meter = Meter::new();
+        self.track.add(record, &mut meter)?;
+        Ok(Accepted {})
+    }
+
+    /// Takes one copy of a record out.
+    ///
+    /// `Absent` comes exactly where there is no copy, unless memory runs out, and that is told only for the copy of
+    /// the record that is searched for, never at width 3. A refusal changes nothing.
+    pub fn remove(&mut self, row: &RecordRef<'_>) -> Result<Accepted, EditFault>
+        requires { Fits self.old.genome self.old.track.width row.now }
+        ensures there { OnOk result (0 < copies self.old.track.rows row.now) }
+        ensures ok { OnOk result (self.new ≡ without_record self.old row.now) }
+        ensures why { IfErr result (RefusesRemove self.old row.now) }
+        ensures err { OnErr result (self.new ≡ self.old) }
+    {
+        let record = row.to_record(self.alloc)?;
+        let mut meter = Meter::new();
+        self.track.remove(&record, &mut meter)?;
+        Ok(Accepted {})
+    }
+
+    /// Takes one copy of the old record out and adds the new one, in a full track too.
+    ///
+    /// `Absent` comes exactly where there is no copy of the old record, unless memory runs out. A record that is
+    /// there can be replaced by itself. A refusal changes nothing.
+    pub fn replace(
+        &mut self,
+        old: &RecordRef<'_>,
+        new: &RecordRef<'_>,
+    ) -> Result<Accepted, EditFault>
+        requires old { Fits self.old.genome self.old.track.width old.now }
+        requires new { Fits self.old.genome self.old.track.width new.now }
+        ensures there { OnOk result (0 < copies self.old.track.rows old.now) }
+        ensures ok { OnOk result (self.new ≡ with_replaced self.old old.now new.now) }
+        ensures why { IfErr result (RefusesReplace self.old old.now new.now) }
+        ensures err { OnErr result (self.new ≡ self.old) }
+    {
+        let before = old.to_record(self.alloc)?;
+        let after = new.to_record(self.alloc)?;
+        let mut meter = Meter::new();
+        self.track.replace(&before, after, &mut meter)?;
+        Ok(Accepted {})
+    }
+
+    /// Opens a view of these words, the last, which is current. A refusal changes nothing.
+    ///
+    /// # Errors
+    ///
+    /// `BadName`, `Taken`, `TooMany` where 64 views are open, then the fault of the words, then `NoMemory`.
+    pub fn open_view(&mut self, name: &[u8], words: &[&[u8]]) -> Result<(), ViewFault>
+        ensures ok { OnOk result (Opens self.old name.now (map (λ word. word.now) words.now) self.new) }
+        ensures why { IfErr result (RefusesOpen self.old name.now (map (λ word. word.now) words.now)) }
+        ensures err { OnErr result (self.new ≡ self.old) }
+    {
+        if !is_view_name(name) {
+            return Err(ViewFault::BadName);
+        }
+        if self.views.find(name).is_some() {
+            return Err(ViewFault::Taken);
+        }
+        if self.views.len() >= MOST_VIEWS {
+            return Err(ViewFault::TooMany);
+        }
+        let view = View::read(self.alloc, self.track.width(), false, false, words)?;
+        self.views.push(self.alloc, name, view)?;
+        Ok(())
+    }
+
+    /// Closes the view of this name. The others keep their order, and all else stays as it is.
+    ///
+    /// # Errors
+    ///
+    /// No view of this name is open. Nothing changes.
+    pub fn close_view(&mut self, name: &[u8]) -> Result<(), NoView>
+        ensures there { OnOk result (IsSome (view_named self.old.views name.now)) }
+        ensures ok { OnOk result (self.new ≡ without_view self.old name.now) }
+        ensures absent { OnErr result (view_named self.old.views name.now ≡ None) }
+        ensures err { OnErr result (self.new ≡ self.old) }
+    {
+        if self.views.find(name).is_none() {
+            return Err(NoView);
+        }
+        self.views.remove(name);
+        Ok(())
+    }
+
+    /// Whether a view of this name is open, and needn't be built anew before it is printed.
+    pub fn is_current(&self, name: &[u8]) -> bool
+        ensures { MatchOption (view_named self.now.views name.now) (result ≡ false) (λ v. result ≡ not v.stale) }
+    {
+        match self.views.find(name) {
+            Some(shown) => !shown.stale,
+            None => false,
+        }
+    }
+
+    /// Prints the view of this name: the text of its definition for the records as they are.
+    ///
+    /// # Errors
+    ///
+    /// `NoView` exactly where none is open, and then nothing was written; `Write`, and then a prefix was.
+    pub fn print_view<S: Sink>(&self, name: &[u8], sink: &mut S) -> Result<(), PrintFault>
+        ensures { MatchOption (view_named self.now.views name.now)
+            ((result ≡ Err PrintFault.NoView) × (S.state sink.new ≡ S.state sink.old))
+            (λ v. Puts (S.state sink.old) (S.state sink.new) result (view_text v.view self.now.genome self.now.track.rows)
+            × IfErr result (λ f. f ≡ PrintFault.Write)) }
+    {
+        let Some(shown) = self.views.find(name) else {
+            return Err(PrintFault::NoView);
+        };
+        self.put_one(shown.view, sink)?;
+        Ok(())
+    }
+
+    /// Prints all views in order of opening, each under a line `#NAME`.
+    ///
+    /// # Errors
+    ///
+    /// `Write`, and then a prefix was written.
+    pub fn print_all<S: Sink>(&self, sink: &mut S) -> Result<(), PrintFault>
+        ensures { Puts (S.state sink.old) (S.state sink.new) result (all_text self.now) × IfErr result (λ f. f ≡ PrintFault.Write) }
+    {
+        self.put_all(sink)?;
+        Ok(())
+    }
+
+    /// Puts the text of a view through one buffer.
+    fn put_one<S: Sink>(&self, view: View, sink: &mut S) -> Result<(), WriteFault>
+        ensures { Puts (S.state sink.old) (S.state sink.new) result (view_text view self.now.genome self.now.track.rows) }
+    {
+        let mut meter = Meter::new();
+        let mut buffer = Buffered::new(sink);
+        put_view(view, &self.track, &self.genome, &mut meter, &mut buffer)?;
+        buffer.finish()
+    }
+
+    /// Puts the headings and texts of all views through one buffer.
+    fn put_all<S: Sink>(&self, sink: &mut S) -> Result<(), WriteFault>
+        ensures { Puts (S.state sink.old) (S.state sink.new) result (all_text self.now) }
+    {
+        let mut meter = Meter::new();
+        let mut buffer = Buffered::new(sink);
+        self.put_views(&mut meter, &mut buffer)?;
+        buffer.finish()
+    }
+
+    /// Puts the headings and texts of all views, straight into the sink.
+    fn put_views<S: Sink>(&self, meter: &mut Meter, sink: &mut S) -> Result<(), WriteFault>
+        ensures { Puts (S.state sink.old) (S.state sink.new) result (all_text self.now) }
+    {
+        for place in 0..self.views.len() {
+            let Some((name, shown)) = self.views.at(place) else {
+                break;
+            };
+            put_heading(sink, name)?;
+            put_view(shown.view, &self.track, &self.genome, meter, sink)?;
+        }
+        Ok(())
+    }
+}

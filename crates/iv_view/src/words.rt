@@ -1,0 +1,51 @@
+//! The words of a text.
+ghost use Rattle.std.specs.Prelude.{◌≡◌, ◌≤◌, map, take};
+ghost use Rattle.iv_text.specs.Fields.{words as words_of};
+
+use iv_text::Fields;
+use std::marker::Model;
+
+/// How many words of a text are looked at: no view has as many.
+const MOST_WORDS: usize = 9;
+
+/// The first words of a text, at most 9: its maximal runs without a space.
+#[derive(Drop)]
+pub struct Words<'a> {
+    words: [&'a [u8]; 9],
+    count: usize,
+}
+
+impl<'a> Model for Words<'a> {
+    ghost use Rattle.std.specs.Prelude.{List, ℕ, ◌≤◌, map, take};
+
+    ghost Value = { List (List ℕ) };
+
+    ghost view = { λ w. map (λ word. word.now) (take w.count w.words) };
+
+    ghost invariant = { λ w. w.count ≤ 9 };
+}
+
+impl<'a> Words<'a> {
+    /// The words of a text. It takes no memory.
+    pub fn of(text: &'a [u8]) -> Words<'a>
+        ensures { result ≡ take 9 (words_of text.now) }
+    {
+        let mut words: [&'a [u8]; 9] = [&[]; 9];
+        let mut count = 0;
+        let mut fields = Fields::of(text, b' ');
+        while let Some(field) = fields.next() {
+            if !field.is_empty() && count < MOST_WORDS {
+                words[count] = field;
+                count += 1;
+            }
+        }
+        Words { words, count }
+    }
+
+    /// The words, in order.
+    pub fn as_slice(&self) -> &[&'a [u8]]
+        ensures { map (λ word. word.now) result.now ≡ self.now }
+    {
+        &self.words[..self.count]
+    }
+}
