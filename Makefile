@@ -10,7 +10,7 @@ PROGRAM := build/bedkeep
 help:
 	@echo 'make build   prove and build the program; it is left at $(PROGRAM)'
 	@echo 'make demo    build it, then run examples/corrections.script over examples/genes.bed'
-	@echo 'make test    the whole gate: every proof from nothing, the wrong bodies, the tests, the stored run, a run through pipes'
+	@echo 'make test    the whole gate: every proof from nothing, the wrong bodies, the tests, the stored run, a run through pipes, searches'
 	@echo 'make clean   remove all that builds and proofs left behind'
 	@echo 'make help    this list'
 
@@ -27,6 +27,8 @@ test:
 	$(RT) ci
 	$(MAKE) build
 	scripts/answers_at_once.sh $(PROGRAM)
+	python3 scripts/searches.py --try
+	python3 scripts/searches.py
 
 clean:
 	rm -rf build crates/*/out
