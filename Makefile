@@ -10,7 +10,7 @@ PROGRAM := build/bedkeep
 help:
 	@echo 'make build   prove and build the program; it is left at $(PROGRAM)'
 	@echo 'make demo    build it, then run examples/corrections.script over examples/genes.bed'
-	@echo 'make test    the whole gate: every proof from nothing, the wrong bodies, the tests, the stored run, a run through pipes, every exit'
+	@echo 'make test    the whole gate: searches, every proof from nothing, the wrong bodies, the tests, the stored run, a run through pipes, every exit'
 	@echo 'make clean   remove all that builds and proofs left behind'
 	@echo 'make help    this list'
 
@@ -24,6 +24,8 @@ demo: build
 	$(PROGRAM) session -g examples/human.genome -i examples/genes.bed < examples/corrections.script || test $$? -eq 1
 
 test:
+	python3 scripts/searches.py --try
+	python3 scripts/searches.py
 	$(RT) ci
 	$(MAKE) build
 	scripts/answers_at_once.sh $(PROGRAM)

@@ -1,0 +1,258 @@
+#!/usr/bin/env python3
+"""Searches in the crates for two things that no contract can say and that only reading shows.
+
+Memory: a value that says that memory ran out is made only where a refused growth is turned into a fault, in a
+block `impl From<..> for FAULT`; all other code hands it on by `?`. A contract cannot tell a call that met a refusal
+from one that gave up, since an allocator's refusals have no place in the logic. So the names NoMemory, Memory and
+AllocError may stand in patterns, comparisons, types, declarations and `use` lines, and as values in those blocks
+alone. AllocError itself is made in `refusing` alone, the allocator that refuses on purpose.
+
+Meter: steps are counted by the meter that is handed in; a call that made a meter of its own would hide its steps.
+So `Meter::new` stands never in iv_cover; in iv_track only in `from_records`; in the session's crates at most once in
+a function, and in no loop; elsewhere not at all.
+
+The crates of tests, worked_*, may name such faults as values that they expect, and make meters.
+
+    scripts/searches.py         searches the crates; status 1 where a line is refused
+    scripts/searches.py --try   plants lines in a copy, and sees each refused, or let through where it is harmless
+"""
+import re
+import shutil
+import sys
+import tempfile
+from pathlib import Path
+
+TOP = Path(__file__).resolve().parent.parent
+OPENING, CLOSING = "([{", ")]}"
+REFUSED = re.compile(r"\b(NoMemory|Memory|AllocError)\b")
+RENAMED = re.compile(r"\b(NoMemory|Memory|AllocError|Meter)\s+as\b")
+METER = re.compile(r"\bMeter\s*>?\s*::\s*new\b")
+METER_CALLED_OTHERWISE = re.compile(r"\btype\s+\w+\s*=\s*[\w:]*\bMeter\b")
+
+
+def blanked(text):
+    """The text with spaces in place of what the match holds, so that places and line numbers stay."""
+    return re.sub(r"[^\n]", " ", text)
+
+
+def code_of(text):
+    """The code alone: comments, texts in quotes and clauses of contracts are blanked."""
+    quoted = r"""//[^\n]*|b?"(?:\\.|[^"\\])*"|b?'(?:\\[^']+|[^\\'\n])'"""
+    text = re.sub(quoted, lambda m: blanked(m.group()), text, flags=re.S)
+    for m in re.finditer(r"\bghost\b[^{;]*;|\b(?:requires|ensures|ghost)\b[^{;]*\{", text):
+        end = m.end() if text[m.end() - 1] == ";" else after_group(text, m.end() - 1)
+        text = text[: m.start()] + blanked(text[m.start() : end]) + text[end:]
+    return text
+
+
+def after_group(text, at):
+    """The place behind the group whose bracket opens here."""
+    depth = 0
+    for place in range(at, len(text)):
+        depth += (text[place] in OPENING) - (text[place] in CLOSING)
+        if depth == 0:
+            return place + 1
+    return len(text)
+
+
+def before_group(text, at):
+    """The place of the bracket that opens the group which closes here."""
+    depth = 0
+    for place in range(at, -1, -1):
+        depth += (text[place] in CLOSING) - (text[place] in OPENING)
+        if depth == 0:
+            return place
+    return 0
+
+
+def pattern_start(code, arrow):
+    """Where the pattern left of an arrow `=>` begins: behind the comma or the bracket before it."""
+    at = arrow - 1
+    while at >= 0:
+        if code[at] in ",;" or code[at] in OPENING:
+            break
+        if code[at] in CLOSING:
+            opening = before_group(code, at)
+            # behind a closing brace a new arm begins, unless the braces are those of a pattern such as `Fault { line, cause }`
+            if code[at] == "}" and not re.search(r"\b[A-Z]\w*\s*$", code[:opening]):
+                break
+            at = opening
+        at -= 1
+    return at + 1
+
+
+def until(code, start, stops):
+    """The place of the first of these characters behind the start that stands in no group."""
+    at = start
+    while at < len(code):
+        if code[at] in stops or code[at] in CLOSING:
+            return at
+        at = after_group(code, at) if code[at] in OPENING else at + 1
+    return at
+
+
+def patterns(code):
+    """The stretches that only look at values: left of each `=>` up to a guard, and of the `=` of each `let`, the
+    second part of `matches!`, and what stands right of `==` and `!=`."""
+    for m in re.finditer(r"=>", code):
+        start = pattern_start(code, m.start())
+        guard = re.search(r"\bif\b", code[start : m.start()])
+        yield start, start + guard.start() if guard else m.start()
+    for m in re.finditer(r"\blet\b", code):
+        yield m.start(), until(code, m.end(), "=;")
+    for m in re.finditer(r"\bmatches!\s*\(", code):
+        yield until(code, m.end(), ","), after_group(code, m.end() - 1)
+    for m in re.finditer(r"[=!]=\s*&?[\w:]+", code):
+        yield m.span()
+
+
+def declarations(code):
+    """The stretches that only name types: heads of functions and blocks, enums, structs, aliases, `use` lines."""
+    for m in re.finditer(r"\bfn\s+\w|\b(?:impl|trait)\b", code):
+        yield m.start(), until(code, m.end(), "{;")
+    for m in re.finditer(r"\b(?:enum|struct)\b", code):
+        end = until(code, m.end(), "{;")
+        yield m.start(), after_group(code, end) if code[end : end + 1] == "{" else end
+    for m in re.finditer(r"\b(?:use|type)\b[^;]*;", code):
+        yield m.span()
+
+
+def conversions(code):
+    """The bodies of the blocks that turn one fault into another: from a refused growth, or from what they look at."""
+    for m in re.finditer(r"\bimpl\b[^{;]*?\bFrom<(.*?)>\s+for\b[^{;]*\{", code):
+        body = m.end() - 1, after_group(code, m.end() - 1)
+        looks = re.search(r"Memory\)*\s*(=>|\|)|==\s*[\w:]*Memory\b", code[slice(*body)])
+        if m.group(1) == "AllocError" or looks:
+            yield body
+
+
+def bodies(code, word):
+    """The bodies of functions, or of loops, with what stands between the word and the body."""
+    for m in re.finditer(rf"\b(?:{word})\b", code):
+        start = until(code, m.end(), "{;=")
+        if code[start : start + 1] == "{":
+            yield code[m.end() : start], (start, after_group(code, start))
+
+
+def is_in(at, stretches):
+    return any(start <= at < end for start, end in stretches)
+
+
+def memory_made(crate, code):
+    """The places where a value is made that says that memory ran out."""
+    allowed = [*patterns(code), *declarations(code), *conversions(code)]
+    for m in REFUSED.finditer(code):
+        only_named = crate.startswith("worked_") and m.group() != "AllocError"
+        if crate != "refusing" and not only_named and not is_in(m.start(), allowed):
+            yield m.start(), f"{m.group()} is made here, where only a refused growth may say it"
+
+
+def meters_made(crate, code):
+    """The places where a meter is made that may make none."""
+    if crate.startswith("worked_"):
+        return
+    functions = list(bodies(code, "fn"))
+    loops = [body for _, body in bodies(code, "for|while|loop")]
+    seen = set()
+    for m in METER.finditer(code):
+        around = [(start, head) for head, (start, end) in functions if start <= m.start() < end]
+        start, head = max(around, default=(0, ""))
+        in_session = crate in ("iv_session", "iv_state") and around and start not in seen
+        in_track = crate == "iv_track" and head.split("(")[0].split("<")[0].strip() == "from_records"
+        if not (in_session and not is_in(m.start(), loops)) and not in_track:
+            yield m.start(), "a meter of its own"
+        seen.add(start)
+
+
+def renamed(_crate, code):
+    """The places where a name that is looked for is given another one."""
+    for m in [*RENAMED.finditer(code), *METER_CALLED_OTHERWISE.finditer(code)]:
+        yield m.start(), "another name for what is looked for"
+
+
+def search(top):
+    """What is refused, as lines of file, number, reason and text."""
+    found = []
+    for path in sorted(top.glob("crates/*/src/**/*.rt")):
+        text = path.read_text()
+        crate = path.relative_to(top / "crates").parts[0]
+        for look in (memory_made, meters_made, renamed):
+            for at, why in look(crate, code_of(text)):
+                number = text.count("\n", 0, at) + 1
+                line = text.splitlines()[number - 1].strip()
+                found.append(f"{path.relative_to(top)}:{number}: {why}: {line}")
+    return found
+
+
+MADE = "is made here"
+METERS = "a meter of its own"
+OTHER_NAME = "another name"
+
+# A crate, what is planted there, and the reason why it is refused, none where it is let through.
+PLANTED = [
+    ("iv_text", "fn f(n: usize) -> Result<(), LoadCause> { if n > 1000 { return Err(LoadCause::Memory); } Ok(()) }", MADE),
+    ("iv_track", "fn f(n: u32) -> Result<(), AddFault> { match n { 0 => Ok(()), _ => Err(AddFault::NoMemory), } }", MADE),
+    ("iv_track", "fn f(n: u32) -> bool { match n { 0 => true, n if g(AddFault::NoMemory) => false, _ => true } }", MADE),
+    ("iv_cli", "fn f(r: Result<(), u8>) -> Result<(), CliFault> { r.map_err(|_| CliFault::Memory) }", MADE),
+    ("iv_cli", "use crate::CliFault::Memory;\nfn f() -> CliFault { Memory }", MADE),
+    ("iv_cli", "const FAULT: CliFault = CliFault::Memory;", MADE),
+    ("iv_session", "fn f() -> Result<(), AllocError> { Err(AllocError) }", MADE),
+    ("iv_session", "fn f() -> EditFault { EditFault::from(AllocError) }", MADE),
+    ("iv_session", "impl From<u8> for EditFault { fn from(_: u8) -> EditFault { EditFault::NoMemory } }", MADE),
+    ("iv_session", "fn f() -> EditFault { let fault = EditFault::NoMemory; fault }", MADE),
+    ("iv_session", "const MAKE: fn(u8) -> EditFault = |_| EditFault::NoMemory;", MADE),
+    ("worked_rows", "fn f() -> Result<(), AllocError> { Err(AllocError) }", MADE),
+    ("bedkeep", "use iv_session::EditFault::NoMemory as Full;", OTHER_NAME),
+    ("iv_text", "/// Memory was refused: `AllocError`.\nfn f<A>(a: A) -> Result<Vec<u8, A>, AllocError>\n    ensures { OnErr result (g.fault ≡ LoadCause.Memory) }\n{\n    g(\"Memory\")\n}", None),
+    ("iv_text", "fn f(c: LoadCause) -> u8 { match c { LoadCause::Memory => 10, LoadCause::TooMany => { 9 } Fault { cause: LoadCause::Memory } | LoadCause::Memory if true => 1 } }", None),
+    ("iv_text", "enum Why { TooMany, Memory }\nfn f(c: Why) -> bool { if let Why::Memory = c { true } else { false } }", None),
+    ("iv_text", "impl From<AllocError> for Why { fn from(_: AllocError) -> Why { Why::Memory } }", None),
+    ("iv_cli", "impl From<Why> for Fault { fn from(why: Why) -> Fault { match why { Why::Memory => Fault::Memory, _ => Fault::Other } } }", None),
+    ("iv_cli", "fn f(why: Why) -> bool { why == Why::Memory || matches!(why, Why::Memory | Why::Other) }", None),
+    ("worked_rows", "fn f() -> bool { g() == Err(EditFault::NoMemory) }", None),
+    ("iv_cover", "fn f() -> u64 { let mut meter = Meter::new(); meter.steps() }", METERS),
+    ("iv_cover", "fn f() -> u64 { <Meter>::new().steps() }", METERS),
+    ("iv_cover", "type Count = iv_track::Meter;", OTHER_NAME),
+    ("iv_track", "fn from_record() -> Meter { Meter::new() }", METERS),
+    ("iv_session", "fn f() { g(Meter::new()); g(Meter::new()); }", METERS),
+    ("iv_session", "fn f() { for _ in 0..9 { g(Meter::new()); } }", METERS),
+    ("iv_session", "const MAKE: fn() -> Meter = Meter::new;", METERS),
+    ("iv_cli", "fn f() -> Meter { Meter::new() }", METERS),
+    ("iv_track", "fn from_records<A>(a: A) -> Meter { Meter::new() }", None),
+    ("iv_session", "fn f() { g(Meter::new()); }\nfn h() { g(Meter::new()); }", None),
+    ("worked_rows", "fn f() { g(Meter::new()); g(Meter::new()); }", None),
+]
+
+
+def try_planted():
+    """How many of the planted lines were not judged as they should be."""
+    wrong = 0
+    with tempfile.TemporaryDirectory() as temporary:
+        top = Path(temporary)
+        shutil.copytree(TOP / "crates", top / "crates", ignore=shutil.ignore_patterns("out", "proofs", "must-fail"))
+        for number, (crate, text, _) in enumerate(PLANTED):
+            folder = top / "crates" / crate / "src"
+            folder.mkdir(parents=True, exist_ok=True)
+            (folder / f"planted_{number}.rt").write_text(text + "\n")
+        found = search(top)
+    for number, (crate, text, why) in enumerate(PLANTED):
+        told = [line for line in found if f"/planted_{number}.rt:" in line]
+        if len(told) != (why is not None) or any(why not in line for line in told):
+            wrong += 1
+            print(f"planted in {crate}: {text}\n  wanted: {why}; told: {told}", file=sys.stderr)
+    print(f"searches: {len(PLANTED) - wrong} of {len(PLANTED)} planted lines are judged right")
+    return wrong
+
+
+def main():
+    if sys.argv[1:] == ["--try"]:
+        return 1 if try_planted() else 0
+    found = search(TOP)
+    for line in found:
+        print(line, file=sys.stderr)
+    print(f"searches: {len(found)} lines are refused")
+    return 1 if found else 0
+
+
+if __name__ == "__main__":
+    sys.exit(main())
