@@ -23,11 +23,12 @@ build:
 demo: build
 	$(PROGRAM) session -g examples/human.genome -i examples/genes.bed < examples/corrections.script || test $$? -eq 1
 
+# rt ci leaves the program that it proved and built beside the crate.
 test:
 	python3 scripts/searches.py --try
 	python3 scripts/searches.py
 	$(RT) ci
-	$(MAKE) build
+	mkdir -p build && cp crates/bedkeep/out/bedkeep $(PROGRAM)
 	scripts/answers_at_once.sh $(PROGRAM)
 	scripts/exits.sh $(PROGRAM)
 
