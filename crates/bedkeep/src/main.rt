@@ -4,7 +4,7 @@
 #![tactic(auto)]
 
 use iv_bytes::{StdSink, StdSource, put_all};
-use iv_cli::{CliFault, Ending, FileFault, Inputs, Notice, Plan, Slot, load, read_all};
+use iv_cli::{CliFault, Ending, FileFault, Inputs, Notice, ParsedFiles, Plan, Slot, read_all};
 use iv_session::{ScriptLimits, Session, run_script};
 use std::fs::File;
 use std::io::Write;
@@ -66,15 +66,20 @@ fn read_slot(
     }
 }
 
-/// The session that the plan asks for.
-fn session_of(rt: &(impl Files + AllocGlobal), plan: &Plan<'_>) -> Result<Session, Ending> {
+/// What the files of the plan say.
+fn files_of(rt: &(impl Files + AllocGlobal), plan: &Plan<'_>) -> Result<ParsedFiles, Ending> {
     let sizes = read_slot(rt, plan, Slot::Sizes)?;
     let first = read_slot(rt, plan, Slot::First)?;
     let inputs = Inputs {
         sizes: sizes.as_slice(),
         first: first.as_slice(),
     };
-    Ok(load(rt.alloc(), plan, &inputs, MOST_RECORDS)?)
+    Ok(ParsedFiles::parse(rt.alloc(), plan, &inputs, MOST_RECORDS)?)
+}
+
+/// The session that the plan asks for. The files' text is let go before the track is built from what it says.
+fn session_of(rt: &(impl Files + AllocGlobal), plan: &Plan<'_>) -> Result<Session, Ending> {
+    Ok(files_of(rt, plan)?.begin(rt.alloc())?)
 }
 
 /// Runs the script on standard input over the session that the plan asks for.

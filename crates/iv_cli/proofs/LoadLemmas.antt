@@ -10,7 +10,7 @@ use Rattle.iv_cli.specs.declared.fault.CliFault.{CliFault}
 use Rattle.iv_cli.specs.declared.fault.CliFault.TheVariants.{Damaged, Memory}
 use Rattle.iv_cli.specs.declared.plan.Slot.{Slot}
 use Rattle.iv_cli.specs.declared.plan.Slot.TheVariants.{Sizes, First}
-use Rattle.iv_cli.specs.Loading.{loaded, with_first, with_genome, fault_of, damage_of}
+use Rattle.iv_cli.specs.Loading.{parsed, with_first, with_genome, fault_of, damage_of}
 
 -- a fault is told as damage, unless it is want of memory
 told : (c : LoadCause) (damaged : CliFault) → (c ≡ cause.Memory) ⊎ (fault_of c damaged ≡ damaged)
@@ -35,13 +35,13 @@ damaged slot f whole (inr is) = elim (told f.cause (Damaged slot f)) [
 ]
 
 pub genome-damaged : (width : ℕ) (sizes first : List ℕ) (limit : ℕ) (f : LoadFault) → (f ≡ record { line = 0; cause = cause.Memory }) ⊎ (genome_of sizes ≡ Err f)
-    → (damage_of Sizes f ≡ Memory) ⊎ (loaded width sizes first limit ≡ Err (damage_of Sizes f))
-genome-damaged width sizes first limit f (inl memory) = damaged Sizes f (loaded width sizes first limit) (inl memory)
-genome-damaged width sizes first limit f (inr is) = damaged Sizes f (loaded width sizes first limit) (inr (ap (with_genome width first limit) is))
+    → (damage_of Sizes f ≡ Memory) ⊎ (parsed width sizes first limit ≡ Err (damage_of Sizes f))
+genome-damaged width sizes first limit f (inl memory) = damaged Sizes f (parsed width sizes first limit) (inl memory)
+genome-damaged width sizes first limit f (inr is) = damaged Sizes f (parsed width sizes first limit) (inr (ap (with_genome width first limit) is))
 
 pub first-damaged : (width : ℕ) (sizes first : List ℕ) (limit : ℕ) (g : Sequences) (f : LoadFault) → genome_of sizes ≡ Ok g
     → (f ≡ record { line = 0; cause = cause.Memory }) ⊎ (bed_of g width limit first ≡ Err f)
-    → (damage_of First f ≡ Memory) ⊎ (loaded width sizes first limit ≡ Err (damage_of First f))
-first-damaged width sizes first limit g f genome (inl memory) = damaged First f (loaded width sizes first limit) (inl memory)
+    → (damage_of First f ≡ Memory) ⊎ (parsed width sizes first limit ≡ Err (damage_of First f))
+first-damaged width sizes first limit g f genome (inl memory) = damaged First f (parsed width sizes first limit) (inl memory)
 first-damaged width sizes first limit g f genome (inr is) =
-    damaged First f (loaded width sizes first limit) (inr (ap (with_genome width first limit) genome ∙ ap (with_first g limit) is))
+    damaged First f (parsed width sizes first limit) (inr (ap (with_genome width first limit) genome ∙ ap (with_first g limit) is))

@@ -11,7 +11,7 @@ mod reading;
 
 pub use ending::{Ending, run_status, status};
 pub use fault::{CliFault, FileFault};
-pub use inputs::{Inputs, load};
+pub use inputs::{Inputs, ParsedFiles, load};
 pub use notice::Notice;
 pub use plan::{Plan, Slot};
 pub use reading::read_all;

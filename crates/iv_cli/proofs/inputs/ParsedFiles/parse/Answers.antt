@@ -1,5 +1,5 @@
 use Rattle.iv_cli.proofs.LoadLemmas.{genome-damaged, first-damaged}
-use Rattle.iv_cli.proofs.inputs.load.Goals as goal
+use Rattle.iv_cli.proofs.inputs.ParsedFiles.parse.Goals as goal
 
 pub returns-in-Err-clause-err : goal.returns-in-Err-clause-err
 returns-in-Err-clause-err g c =
