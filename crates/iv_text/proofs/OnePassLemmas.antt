@@ -13,15 +13,14 @@ use Rattle.iv_text.specs.Fields.{HasNoTab}
 use Rattle.iv_text.specs.OnePass.{AreBehind, BeginsWithNumber, IsNamed}
 use Rattle.iv_text.specs.declared.strand.Strand.{Strand}
 use Rattle.std.specs.Borrow.{Bor}
-use Rattle.std.specs.Prelude.{MatchOption, IfSome, IsSome, slice_get}
-use Rattle.std.specs.Option.{is_none, option_map}
-use Rattle.std.proofs.lemmas.Option.{slice_get_within}
+use Rattle.std.specs.Prelude.{MatchOption, IfSome, IsSome}
+use Rattle.std.specs.Option.{is_none}
 use Rattle.iv_text.proofs.ReadLemmas.{skip, hit}
 use Rattle.iv_text.specs.declared.fault.RecordFault.{RecordFault}
 use Rattle.iv_text.specs.declared.fault.RecordFault.TheVariants as fault
 use Rattle.std.specs.Cmp.Lexicographic.{same_text, pointwise}
 use Rattle.iv_text.specs.Genome.{Sequences, rank_of, length_at}
-use Rattle.iv_text.specs.Read.{read, row, column, told, has_fault, faults, bad_text, number_in, length_of, Fits, AreColumns, AreSound}
+use Rattle.iv_text.specs.Read.{read, row, column, told, has_fault, faults, bad_text, number_in, length_of, AreColumns, AreSound}
 use Rattle.iv_text.specs.Row.{Row, IsRow, strand_of}
 use Rattle.std.proofs.lemmas.List.{take-append-drop, get_or_past}
 
@@ -185,7 +184,7 @@ pub line-read : (g : Sequences) (w : ℕ) (line seq r0 r1 r2 r3 r4 name score si
     → read g w line ≡ Ok (record_of rank from to name score strand w)
 line-read g w line seq r0 r1 r2 r3 r4 name score sixth others rank from to len strand e0 e1 starts e2 stops behind are named =
     let cols = next-columns line seq r0 r1 starts.0 r2 r3 stops.0 r4 others e0 e1 starts.1 e2 stops.1
-        named.plain (number-plain starts.0 from starts.2) (number-plain stops.0 to stops.2) behind in
+    named.plain (number-plain starts.0 from starts.2) (number-plain stops.0 to stops.2) behind in
     let all : AreColumns w (columns line) seq starts.0 stops.0 name score sixth =
     subst (λ (cs : List (List ℕ)). AreColumns w cs seq starts.0 stops.0 name score sixth) (sym cols) (are seq starts.0 stops.0) in
     sound-line g w line seq starts.0 stops.0 name score sixth rank from to len strand all named.rank_is named.length_is starts.2 stops.2

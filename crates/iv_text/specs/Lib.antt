@@ -10,4 +10,5 @@ pub mod Fault
 pub mod GenomeFile
 pub mod BedFile
 pub mod Ordered
+pub mod RecordText
 pub mod OnePass

@@ -13,6 +13,7 @@ mod reading;
 mod record;
 mod record_reader;
 mod record_ref;
+mod record_text;
 mod strand;
 mod texts;
 
@@ -30,4 +31,5 @@ pub use number::read_number;
 pub use reading::read_record;
 pub use record::Record;
 pub use record_ref::RecordRef;
+pub use record_text::put_record;
 pub use strand::{Strand, read_strand};

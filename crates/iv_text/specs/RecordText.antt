@@ -1,0 +1,28 @@
+-- A record as it is printed.
+use Rattle.std.specs.Prelude.{ℕ, ◌++◌, ◌-◌, List, [], ◌∷◌, Option, None, Some, take, codes, decimal}
+use Rattle.std.specs.List.{flat_map}
+use Rattle.std.specs.Option.{unwrap_or}
+use Rattle.iv_text.specs.Genome.{Sequences, name_at}
+use Rattle.iv_text.specs.Row.{Row, strand_byte}
+use Rattle.iv_text.specs.declared.strand.Strand.{Strand}
+
+-- the sixth column of a record with this strand
+abbrev pub strand_text : Option Strand → List ℕ
+strand_text None = []
+strand_text (Some s) = strand_byte s ∷ []
+
+-- these columns, as many as the width has after the third, each with a TAB in front of it
+abbrev pub tabbed : ℕ → List (List ℕ) → List ℕ
+tabbed width columns = flat_map (λ column. codes "\t" ++ column) (take (width - 3) columns)
+
+-- the columns of a record after the third, each with a TAB in front of it
+abbrev pub rest_text : Row → List ℕ
+rest_text r = tabbed r.width (r.name ∷ r.score ∷ strand_text r.strand ∷ [])
+
+-- the first three columns of a record on this genome, with a TAB between two of them
+abbrev pub place_text : Sequences → Row → List ℕ
+place_text g r = unwrap_or (name_at g r.seq) [] ++ codes "\t" ++ decimal r.start ++ codes "\t" ++ decimal r.stop
+
+-- the columns of a record on this genome, with a TAB between two of them
+abbrev pub record_text : Sequences → Row → List ℕ
+record_text g r = place_text g r ++ rest_text r
