@@ -148,7 +148,7 @@ fn run(
     ))
 }
 
-/// Two prints and two refused lines, in 38 bytes.
+/// Two prints and two refused lines, in 35 bytes.
 const SCRIPT: &[u8] = b"open\tm\tmerge\nno\nprint\tm\nno\nprint\tm\n";
 
 /// How a script ends of whose devices these calls are bad, 0 for none, and how often each device was called.
