@@ -3,7 +3,7 @@ use crate::fixtures::genome;
 use iv_text::{BedFile, Genome, LoadCause, LoadFault, RecordFault};
 use std::test::Fail;
 
-/// The fault of a file, as its line and its cause.
+/// The line and the cause of a file's fault.
 fn fault_of<T: Drop>(read: Result<T, LoadFault>) -> Option<(u64, LoadCause)> {
     match read {
         Ok(_) => None,
@@ -15,99 +15,81 @@ fn fault_of<T: Drop>(read: Result<T, LoadFault>) -> Option<(u64, LoadCause)> {
 fn genome_files(rt: HostRuntime) {
     for (text, want) in [
         (b"chr1\t100\t6\t60\t61\n".as_slice(), None),
-        (b"chrom\tsize\nchr1\t100".as_slice(), None),
-        (b"chr1\n".as_slice(), Some((1, LoadCause::Columns))),
-        (b"\t5\n".as_slice(), Some((1, LoadCause::Name))),
-        (b"chr1\t12x\n".as_slice(), Some((1, LoadCause::Length))),
-        (
-            b"chr1\t4000000001\n".as_slice(),
-            Some((1, LoadCause::Length)),
-        ),
-        (
-            b"chr1\t1\nchr1\t2\n".as_slice(),
-            Some((2, LoadCause::Repeated)),
-        ),
+        (b"chrom\tsize\nchr1\t100", None),
+        (b"chr1\n", Some((1, LoadCause::Columns))),
+        (b"\t5\n", Some((1, LoadCause::Name))),
+        (b"chr1\t12x\n", Some((1, LoadCause::Length))),
+        (b"chr1\t4000000001\n", Some((1, LoadCause::Length))),
+        (b"chr1\t1\nchr1\t2\n", Some((2, LoadCause::Repeated))),
     ] {
-        assert_eq!(rt; fault_of(Genome::parse(rt.alloc(), text)), want);
+        assert!(rt; fault_of(Genome::parse(rt.alloc(), text)) == want);
     }
+}
+
+/// What a genome says of a rank: the rank of its name, the name and the length.
+fn sequence_of(genome: &Genome, rank: u32) -> Option<(u32, &[u8], u64)> {
+    let name = genome.name(rank)?;
+    Some((genome.rank(name)?, name, genome.length(rank)?))
 }
 
 #[test]
 fn sequences_of_a_genome(rt: HostRuntime) -> Result<(), Fail> {
     let genome = genome(&rt)?;
-    assert_eq!(rt; genome.count(), 3);
-    for (rank, name, length) in [
-        (0, b"chr1".as_slice(), 100),
-        (1, b"chr2".as_slice(), 50),
-        (2, b"chr3".as_slice(), 0),
+    assert!(rt; genome.count() == 3 && genome.rank(b"chr").is_none());
+    for (rank, want) in [
+        (0, Some((0, b"chr1".as_slice(), 100))),
+        (1, Some((1, b"chr2", 50))),
+        (2, Some((2, b"chr3", 0))),
+        (3, None),
     ] {
-        assert_eq!(rt; genome.rank(name), Some(rank));
-        assert_eq!(rt; genome.name(rank), Some(name));
-        assert_eq!(rt; genome.length(rank), Some(length));
+        assert!(rt; sequence_of(&genome, rank) == want);
     }
     Ok(())
 }
 
-#[test]
-fn no_such_sequence(rt: HostRuntime) -> Result<(), Fail> {
-    let genome = genome(&rt)?;
-    assert_eq!(rt; genome.rank(b"chr"), None);
-    assert_eq!(rt; genome.length(3), None);
-    assert_eq!(rt; genome.name(3).is_none(), true);
-    Ok(())
+/// What a BED file says: its width, how many records it has and where the last one lies, or the fault.
+fn file_of(
+    rt: &HostRuntime,
+    genome: &Genome,
+    limit: u32,
+    text: &[u8],
+) -> Result<(u8, usize, u32, u64), LoadFault> {
+    let file = BedFile::parse(rt.alloc(), genome, 5, limit, text)?;
+    let width = file.width();
+    let lent = file.records().len();
+    let records = file.into_records();
+    match records.as_slice().last() {
+        Some(record) if lent == records.len() => Ok((width, lent, record.seq(), record.start())),
+        _ => Ok((width, lent, 0, 0)),
+    }
 }
 
 #[test]
 fn bed_files(rt: HostRuntime) -> Result<(), Fail> {
     let genome = genome(&rt)?;
     for (text, want) in [
-        (b"chr1\t1\t2\nchr2\t0\t50\n".as_slice(), None),
-        (b"".as_slice(), None),
+        (b"chr1\t1\t2\nchr2\t3\t50\n".as_slice(), (3, 2, 1, 3)),
+        (b"#c\nchr2\t5\t9\ta\nchr1\t30\t40\tb\n", (4, 2, 0, 30)),
+        (b"chr1\t1\t2\r\nchr1\t7\t8", (3, 2, 0, 7)),
+        (b"", (5, 0, 0, 0)),
+        (b"browser position\n\n", (5, 0, 0, 0)),
+    ] {
+        assert!(rt; file_of(&rt, &genome, 2, text) == Ok(want));
+    }
+    for (text, line, cause) in [
         (
             b"track name=x\n#c\n\nchr1\t1\t2\nchr1\t1\t2\ta\n".as_slice(),
-            Some((5, LoadCause::Record(RecordFault::Columns))),
+            5,
+            LoadCause::Record(RecordFault::Columns),
         ),
+        (b"chr1\t1\t2\ta\t5\t+\tx\n", 1, LoadCause::Columns),
         (
-            b"chr1\t1\t2\ta\t5\t+\tx\n".as_slice(),
-            Some((1, LoadCause::Columns)),
-        ),
-        (b"chr1\t1\t2\r\nchr1\t1\t2".as_slice(), None),
-        (
-            b"chr1\t1\t2\nchr1\t1\t2\nchr1\t3\t4\n".as_slice(),
-            Some((3, LoadCause::TooMany)),
+            b"chr1\t1\t2\nchr1\t1\t2\nchr1\t3\t4\n",
+            3,
+            LoadCause::TooMany,
         ),
     ] {
-        assert_eq!(rt;
-            fault_of(BedFile::parse(rt.alloc(), &genome, 3, 2, text)),
-            want
-        );
+        assert!(rt; file_of(&rt, &genome, 2, text) == Err(LoadFault { line, cause }));
     }
-    Ok(())
-}
-
-#[test]
-fn records_of_a_file(rt: HostRuntime) -> Result<(), Fail> {
-    let genome = genome(&rt)?;
-    let file = BedFile::parse(
-        rt.alloc(),
-        &genome,
-        3,
-        9,
-        b"#c\nchr2\t5\t9\ta\nchr1\t30\t40\tb\n",
-    )?;
-    assert_eq!(rt; file.width(), 4);
-    assert_eq!(rt; file.records().len(), 2);
-    assert_eq!(rt; file.records()[0].seq(), 1);
-    let records = file.into_records();
-    assert_eq!(rt; records.len(), 2);
-    assert_eq!(rt; records[1].start(), 30);
-    Ok(())
-}
-
-#[test]
-fn width_of_a_file_without_a_record(rt: HostRuntime) -> Result<(), Fail> {
-    let genome = genome(&rt)?;
-    let file = BedFile::parse(rt.alloc(), &genome, 5, 0, b"browser position\n\n")?;
-    assert_eq!(rt; file.width(), 5);
     Ok(())
 }

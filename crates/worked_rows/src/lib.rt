@@ -1,4 +1,5 @@
-//! Tests of reading, writing and merging: examples whose answers were worked out by hand.
+//! Tests of reading, writing, tracks and merging: examples whose answers were worked out by hand, real sizes, and
+//! growths that are refused.
 #![tactic(auto)]
 
 #[cfg(test)]
@@ -8,12 +9,20 @@ mod files;
 #[cfg(test)]
 mod fixtures;
 #[cfg(test)]
+mod ledgers;
+#[cfg(test)]
 mod merging;
 #[cfg(test)]
 mod records;
 #[cfg(test)]
+mod refusals;
+#[cfg(test)]
 mod sinks;
+#[cfg(test)]
+mod sizes;
 #[cfg(test)]
 mod sources;
 #[cfg(test)]
 mod texts;
+#[cfg(test)]
+mod tracks;

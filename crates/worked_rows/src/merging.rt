@@ -21,9 +21,9 @@ fn rows_of_records(rt: HostRuntime) -> Result<(), Fail> {
     let text = b"chr1\t31\t40\nchr1\t20\t30\nchr1\t10\t20\n";
     for (distance, rows) in [
         (0, b"chr1\t10\t30\nchr1\t31\t40\n".as_slice()),
-        (1, b"chr1\t10\t40\n".as_slice()),
+        (1, b"chr1\t10\t40\n"),
     ] {
-        assert_eq!(rt; merged(&rt, &genome, text, distance)?.bytes(), rows);
+        assert!(rt; merged(&rt, &genome, text, distance)?.bytes() == rows);
     }
     Ok(())
 }

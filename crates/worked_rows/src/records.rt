@@ -6,10 +6,7 @@ use std::test::Fail;
 
 /// The fault of a line at width 6.
 fn fault_of(genome: &Genome, line: &[u8]) -> Option<RecordFault> {
-    match read_record(genome, 6, line) {
-        Ok(_) => None,
-        Err(fault) => Some(fault),
-    }
+    read_record(genome, 6, line).err()
 }
 
 #[test]
@@ -17,125 +14,116 @@ fn faults_of_lines(rt: HostRuntime) -> Result<(), Fail> {
     let genome = genome(&rt)?;
     for (line, want) in [
         (b"chr1\t0010\t20\tn\t0\t+".as_slice(), None),
+        (b"chr9\tx\ty\tn\t0\t+", Some(RecordFault::UnknownSeq)),
+        (b"chr1\t-1\t20\tn\t0\t+", Some(RecordFault::StartNumber)),
+        (b"chr1\t\t20\tn\t0\t+", Some(RecordFault::StartNumber)),
         (
-            b"chr9\tx\ty\tn\t0\t+".as_slice(),
-            Some(RecordFault::UnknownSeq),
-        ),
-        (
-            b"chr1\t-1\t20\tn\t0\t+".as_slice(),
+            b"chr1\t00000000010\t20\tn\t0\t+",
             Some(RecordFault::StartNumber),
         ),
-        (
-            b"chr1\t\t20\tn\t0\t+".as_slice(),
-            Some(RecordFault::StartNumber),
-        ),
-        (
-            b"chr1\t00000000010\t20\tn\t0\t+".as_slice(),
-            Some(RecordFault::StartNumber),
-        ),
-        (
-            b"chr1\t10\tx\tn\t0\t+".as_slice(),
-            Some(RecordFault::StopNumber),
-        ),
-        (
-            b"chr1\t10\t10\tn\t0\t+".as_slice(),
-            Some(RecordFault::Order),
-        ),
-        (
-            b"chr1\t10\t101\tn\t0\t+".as_slice(),
-            Some(RecordFault::PastEnd),
-        ),
-        (b"chr1\t10\t20\t\t0\t+".as_slice(), Some(RecordFault::Name)),
-        (
-            b"chr1\t10\t20\ta\nb\t0\t+".as_slice(),
-            Some(RecordFault::Name),
-        ),
-        (b"chr1\t10\t20\tn\t\t+".as_slice(), Some(RecordFault::Score)),
-        (
-            b"chr1\t10\t20\tn\t0\t*".as_slice(),
-            Some(RecordFault::Strand),
-        ),
-        (b"chr1\t10\t20\tn\t0".as_slice(), Some(RecordFault::Columns)),
+        (b"chr1\t10\tx\tn\t0\t+", Some(RecordFault::StopNumber)),
+        (b"chr1\t10\t10\tn\t0\t+", Some(RecordFault::Order)),
+        (b"chr1\t10\t101\tn\t0\t+", Some(RecordFault::PastEnd)),
+        (b"chr1\t10\t20\t\t0\t+", Some(RecordFault::Name)),
+        (b"chr1\t10\t20\ta\nb\t0\t+", Some(RecordFault::Name)),
+        (b"chr1\t10\t20\tn\t\t+", Some(RecordFault::Score)),
+        (b"chr1\t10\t20\tn\t0\t*", Some(RecordFault::Strand)),
+        (b"chr1\t10\t20\tn\t0", Some(RecordFault::Columns)),
     ] {
-        assert_eq!(rt; fault_of(&genome, line), want);
+        assert!(rt; fault_of(&genome, line) == want);
     }
     Ok(())
 }
 
-#[test]
-fn columns_of_a_record(rt: HostRuntime) -> Result<(), Fail> {
-    let genome = genome(&rt)?;
-    let row = read_record(&genome, 6, b"chr2\t0010\t20\tn\t0.5\t-")?;
-    assert_eq!(rt;
-        (row.seq(), row.start(), row.stop(), row.width()),
-        (1, 10, 20, 6)
-    );
-    assert_eq!(rt;
-        (row.name(), row.score()),
-        (b"n".as_slice(), b"0.5".as_slice())
-    );
-    assert_eq!(rt; row.strand(), Some(Strand::Minus));
-    Ok(())
+/// Width, rank, start and stop, name and score, strand.
+type Cells<'a> = (u8, (u32, u64, u64), (&'a [u8], &'a [u8]), Option<Strand>);
+
+/// Whether the record of a line has these columns, borrowed and owned.
+fn has_cells(
+    rt: &HostRuntime,
+    genome: &Genome,
+    line: &[u8],
+    cells: Cells<'_>,
+) -> Result<bool, Fail> {
+    let (width, place, texts, strand) = cells;
+    if width < 3 || width > 6 {
+        return Err(Fail::new("no width"));
+    }
+    let row = read_record(genome, width, line)?;
+    let record = row.to_record(rt.alloc())?;
+    let borrowed = row.width() == width
+        && (row.seq(), row.start(), row.stop()) == place
+        && (row.name(), row.score()) == texts
+        && row.strand() == strand;
+    let owned = record.width() == width
+        && (record.seq(), record.start(), record.stop()) == place
+        && (record.name(), record.score()) == texts
+        && record.strand() == strand;
+    Ok(borrowed && owned)
 }
 
 #[test]
-fn columns_of_an_owned_record(rt: HostRuntime) -> Result<(), Fail> {
+fn columns_of_records(rt: HostRuntime) -> Result<(), Fail> {
     let genome = genome(&rt)?;
-    let record = read_record(&genome, 6, b"chr2\t0010\t20\tn\t0.5\t-")?.to_record(rt.alloc())?;
-    assert_eq!(rt;
-        (record.seq(), record.start(), record.stop(), record.width()),
-        (1, 10, 20, 6)
-    );
-    assert_eq!(rt;
-        (record.name(), record.score()),
-        (b"n".as_slice(), b"0.5".as_slice())
-    );
-    assert_eq!(rt; record.strand(), Some(Strand::Minus));
+    for (line, cells) in [
+        (
+            b"chr2\t0010\t20\tn\t0.5\t-".as_slice(),
+            (
+                6,
+                (1, 10, 20),
+                (b"n".as_slice(), b"0.5".as_slice()),
+                Some(Strand::Minus),
+            ),
+        ),
+        (b"chr1\t10\t20\tn\t0", (5, (0, 10, 20), (b"n", b"0"), None)),
+        (b"chr1\t10\t20\tn", (4, (0, 10, 20), (b"n", b""), None)),
+        (b"chr1\t10\t20", (3, (0, 10, 20), (b"", b""), None)),
+    ] {
+        assert!(rt; has_cells(&rt, &genome, line, cells)?);
+    }
     Ok(())
 }
 
-#[test]
-fn columns_beyond_the_width(rt: HostRuntime) -> Result<(), Fail> {
-    let genome = genome(&rt)?;
-    let record = read_record(&genome, 3, b"chr1\t10\t20")?.to_record(rt.alloc())?;
-    assert_eq!(rt;
-        (record.name(), record.score()),
-        (b"".as_slice(), b"".as_slice())
-    );
-    assert_eq!(rt; record.strand(), None);
-    Ok(())
+/// Whether the record of a line of four columns fits a genome, borrowed and owned.
+fn fits(rt: &HostRuntime, from: &Genome, on: &Genome, width: u8) -> Result<(bool, bool), Fail> {
+    let row = read_record(from, 4, b"chr1\t10\t20\tn")?;
+    let record = row.to_record(rt.alloc())?;
+    Ok((row.fits(on, width), record.fits(on, width)))
 }
 
 #[test]
 fn records_that_fit(rt: HostRuntime) -> Result<(), Fail> {
     let genome = genome(&rt)?;
     let small = Genome::parse(rt.alloc(), b"chr1\t19\n")?;
-    let row = read_record(&genome, 4, b"chr1\t10\t20\tn")?;
-    let record = row.to_record(rt.alloc())?;
     for (on, width, want) in [(&genome, 4, true), (&genome, 3, false), (&small, 4, false)] {
-        assert_eq!(rt; (row.fits(on, width), record.fits(on, width)), (want, want));
+        assert!(rt; fits(&rt, &genome, on, width)? == (want, want));
     }
     Ok(())
+}
+
+/// A record of six columns.
+fn record(rt: &HostRuntime, genome: &Genome, line: &[u8]) -> Result<Record, Fail> {
+    Ok(read_record(genome, 6, line)?.to_record(rt.alloc())?)
 }
 
 #[test]
 fn order_of_records(rt: HostRuntime) -> Result<(), Fail> {
     let genome = genome(&rt)?;
-    let mut before = read_record(&genome, 6, b"chr1\t1\t2\ta\t0\t+")?.to_record(rt.alloc())?;
+    let mut before = record(&rt, &genome, b"chr1\t1\t2\ta\t0\t+")?;
     for line in [
         b"chr1\t1\t2\ta\t0\t-".as_slice(),
-        b"chr1\t1\t2\ta\t0\t.".as_slice(),
-        b"chr1\t1\t2\ta\t00\t+".as_slice(),
-        b"chr1\t1\t2\tab\t0\t+".as_slice(),
-        b"chr1\t1\t10\ta\t0\t+".as_slice(),
-        b"chr1\t10\t20\ta\t0\t+".as_slice(),
-        b"chr2\t0\t1\ta\t0\t+".as_slice(),
+        b"chr1\t1\t2\ta\t0\t.",
+        b"chr1\t1\t2\ta\t00\t+",
+        b"chr1\t1\t2\tab\t0\t+",
+        b"chr1\t1\t10\ta\t0\t+",
+        b"chr1\t10\t20\ta\t0\t+",
+        b"chr2\t0\t1\ta\t0\t+",
     ] {
-        let next = read_record(&genome, 6, line)?.to_record(rt.alloc())?;
+        let next = record(&rt, &genome, line)?;
         assert!(rt; before < next && !before.is_copy_of(&next));
         before = next;
     }
-    let again = read_record(&genome, 6, b"chr2\t00\t01\ta\t0\t+")?.to_record(rt.alloc())?;
+    let again = record(&rt, &genome, b"chr2\t00\t01\ta\t0\t+")?;
     assert!(rt; before.is_copy_of(&again));
     Ok(())
 }

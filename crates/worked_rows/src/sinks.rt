@@ -2,58 +2,56 @@
 use iv_text::{Buffered, MemSink, Sink, StdSink, WriteFault, put_all, put_pieces};
 use std::test::Fail;
 
+/// A sink with room for so many bytes, which takes so many at a time.
+fn sink(rt: &HostRuntime, room: usize, piece: usize) -> Result<MemSink, Fail> {
+    if piece == 0 {
+        return Err(Fail::new("pieces of no byte"));
+    }
+    Ok(MemSink::new(rt.alloc(), room, piece)?)
+}
+
+/// Whether a row was put in one text, another in pieces and a third through a buffer.
+fn put_rows<S: Sink>(sink: &mut S) -> (bool, bool, bool) {
+    let whole = put_all(sink, b"chr1\t10\t30\n");
+    let pieces = put_pieces(sink, &[b"chr2", b"", b"\t5"]);
+    let mut buffer = Buffered::new(sink);
+    let held = put_pieces(&mut buffer, &[b"chr3", b"\t10", b"\t30\n"]);
+    let handed_on = buffer.finish();
+    (
+        whole.is_ok(),
+        pieces.is_ok(),
+        held.is_ok() && handed_on.is_ok(),
+    )
+}
+
+const TEXT: &[u8] = b"chr1\t10\t30\nchr2\t5chr3\t10\t30\n";
+
 #[test]
-fn whole_texts(rt: HostRuntime) -> Result<(), Fail> {
-    for piece in [1, 3, 7] {
-        let mut sink = MemSink::new(rt.alloc(), 100, piece)?;
-        put_all(&mut sink, b"chr1\t10\t30\n")?;
-        put_pieces(&mut sink, &[b"chr2", b"", b"\t5"])?;
-        assert_eq!(rt; sink.bytes(), b"chr1\t10\t30\nchr2\t5".as_slice());
-        assert_eq!(rt; sink.failed(), false);
+fn texts_in_sinks(rt: HostRuntime) -> Result<(), Fail> {
+    for (room, want) in [
+        (100, (true, true, true)),
+        (28, (true, true, true)),
+        (27, (true, true, false)),
+        (17, (true, true, false)),
+        (12, (true, false, false)),
+        (7, (false, false, false)),
+    ] {
+        for piece in [1, 3, 7, 100] {
+            let mut sink = sink(&rt, room, piece)?;
+            assert!(rt; put_rows(&mut sink) == want, "{room} bytes in pieces of {piece}");
+            assert!(rt; TEXT.starts_with(sink.bytes()) && sink.bytes().len() == room.min(28));
+            assert!(rt; sink.failed() == (room < 28));
+            assert!(rt; (sink.push(b"x") == Err(WriteFault)) == (room <= 28));
+        }
     }
     Ok(())
 }
 
 #[test]
-fn full_sink(rt: HostRuntime) -> Result<(), Fail> {
-    for piece in [1, 3, 7, 100] {
-        let mut sink = MemSink::new(rt.alloc(), 7, piece)?;
-        assert_eq!(rt; put_all(&mut sink, b"chr1\t10\t30\n"), Err(WriteFault));
-        assert_eq!(rt;
-            (sink.bytes(), sink.failed()),
-            (b"chr1\t10".as_slice(), true)
-        );
-        assert_eq!(rt; sink.push(b"x"), Err(WriteFault));
-    }
-    Ok(())
-}
-
-#[test]
-fn text_that_just_fits(rt: HostRuntime) -> Result<(), Fail> {
-    let mut sink = MemSink::new(rt.alloc(), 7, 3)?;
-    assert_eq!(rt; put_all(&mut sink, b"chr1\t10"), Ok(()));
-    assert_eq!(rt; put_all(&mut sink, b""), Ok(()));
-    assert_eq!(rt; sink.push(b"x"), Err(WriteFault));
-    Ok(())
-}
-
-#[test]
-fn through_a_buffer(rt: HostRuntime) -> Result<(), Fail> {
-    let mut sink = MemSink::new(rt.alloc(), 100, 3)?;
-    let mut buffer = Buffered::new(&mut sink);
-    put_pieces(&mut buffer, &[b"chr1", b"\t10", b"\t30\n"])?;
-    assert_eq!(rt; buffer.failed(), false);
-    buffer.finish()?;
-    assert_eq!(rt; sink.bytes(), b"chr1\t10\t30\n".as_slice());
-    Ok(())
-}
-
-#[test]
-fn into_a_writer(rt: HostRuntime) -> Result<(), Fail> {
+fn text_in_a_writer(rt: HostRuntime) -> Result<(), Fail> {
     let mut bytes = Vec::new(rt.alloc());
     let mut sink = StdSink::new(&mut bytes);
-    put_all(&mut sink, b"chr1\t10\t30\n")?;
-    assert_eq!(rt; sink.failed(), false);
-    assert_eq!(rt; bytes.as_slice(), b"chr1\t10\t30\n".as_slice());
+    assert!(rt; put_rows(&mut sink) == (true, true, true) && !sink.failed());
+    assert!(rt; bytes.as_slice() == TEXT);
     Ok(())
 }

@@ -1,123 +1,101 @@
 //! Words, files and exit statuses of a run.
-use iv_cli::{CliFault, Inputs, Plan, Slot, load, run_status, status};
+use iv_cli::{CliFault, FileFault, Inputs, Plan, Slot, load, read_all, run_status, status};
 use iv_session::{RunCause, RunFault, Summary};
-use iv_text::{LoadCause, LoadFault, RecordFault};
+use iv_text::{Fields, LoadCause, LoadFault, MemSource, RecordFault, Source, StdSource};
 use std::test::Fail;
 
-/// The names of the files that words give, or the number of their fault.
-fn files_of<'a>(words: &[&'a [u8]]) -> Result<(Option<&'a [u8]>, Option<&'a [u8]>), CliFault> {
-    let plan = Plan::read(words)?;
-    Ok((plan.file(Slot::Sizes), plan.file(Slot::First)))
+/// What words that stand between spaces ask for: the genome file, the records, the width. `None` where they are refused.
+fn plan_of<'a>(rt: &HostRuntime, text: &'a [u8]) -> Result<Option<(&'a [u8], &'a [u8], u8)>, Fail> {
+    let mut words = Vec::new(rt.alloc());
+    let mut fields = Fields::of(text, b' ');
+    for _ in 0..20u32 {
+        let Some(word) = fields.next() else {
+            break;
+        };
+        words.push(word)?;
+    }
+    match Plan::read(words.as_slice()) {
+        Ok(plan) => match (plan.file(Slot::Sizes), plan.file(Slot::First)) {
+            (Some(sizes), Some(first)) => {
+                if plan.file(Slot::Other).is_some() || plan.file(Slot::Bases).is_some() {
+                    return Err(Fail::new("a file that was not named"));
+                }
+                Ok(Some((sizes, first, plan.width())))
+            }
+            _ => Err(Fail::new("a file is missing")),
+        },
+        Err(CliFault::Words(16)) => Ok(None),
+        Err(_) => Err(Fail::new("another fault")),
+    }
 }
 
 #[test]
-fn words_of_a_session(rt: HostRuntime) -> Result<(), Fail> {
-    let want = (Some(b"g".as_slice()), Some(b"-g".as_slice()));
-    assert_eq!(rt; files_of(&[b"session", b"-g", b"g", b"-i", b"-g"])?, want);
-    assert_eq!(rt; files_of(&[b"session", b"-i", b"-g", b"-g", b"g"])?, want);
-    Ok(())
-}
-
-#[test]
-fn files_that_are_not_named(rt: HostRuntime) -> Result<(), Fail> {
-    let plan = Plan::read(&[b"session", b"-g", b"", b"-i", b"a"])?;
-    assert_eq!(rt;
+fn words_of_runs(rt: HostRuntime) -> Result<(), Fail> {
+    for (words, sizes, first, width) in [
         (
-            plan.file(Slot::Other).is_some(),
-            plan.file(Slot::Bases).is_some()
+            b"session -g g -i -g".as_slice(),
+            b"g".as_slice(),
+            b"-g".as_slice(),
+            3,
         ),
-        (false, false)
-    );
+        (b"session -i -g -g g", b"g", b"-g", 3),
+        (b"session -g  -i a", b"", b"a", 3),
+        (b"session -width 3 -g g -i a", b"g", b"a", 3),
+        (b"session -g g -i a -width 6", b"g", b"a", 6),
+    ] {
+        assert!(rt; plan_of(&rt, words)? == Some((sizes, first, width)));
+    }
     Ok(())
 }
 
 #[test]
-fn words_that_are_no_session(rt: HostRuntime) {
-    let all = [
+fn words_that_are_no_run(rt: HostRuntime) -> Result<(), Fail> {
+    for words in [
         b"session".as_slice(),
-        b"-g",
-        b"g",
-        b"-i",
-        b"a",
-        b"-g",
-        b"g",
-        b"merge",
-        b"-g",
-        b"g",
-        b"-i",
-        b"a",
-        b"session",
-        b"-b",
-        b"g",
-        b"-i",
-        b"a",
-    ];
-    for (from, to) in [
-        (0, 0),
-        (0, 1),
-        (0, 3),
-        (0, 4),
-        (0, 6),
-        (0, 7),
-        (7, 12),
-        (12, 17),
+        b"",
+        b"session -g g",
+        b"session -g g -i",
+        b"session -g g -i a -g",
+        b"session -g g -i a -g g",
+        b"merge -g g -i a",
+        b"session -b g -i a",
+        b"session -width 3 -g g -width 3 -i a",
+        b"session -width 3 -g g -width 3",
+        b"session -width 2 -g g -i a",
+        b"session -width 7 -g g -i a",
+        b"session -width 03 -g g -i a",
+        b"session -width  -g g -i a",
+        b"session -width x -g g -i a",
     ] {
-        assert_eq!(rt; Plan::read(&all[from..to]).err(), Some(CliFault::Words(16)));
+        assert!(rt; plan_of(&rt, words)?.is_none());
     }
-}
-
-#[test]
-fn width_given_twice(rt: HostRuntime) {
-    let words = [
-        b"session".as_slice(),
-        b"-width",
-        b"3",
-        b"-g",
-        b"g",
-        b"-width",
-        b"3",
-        b"-i",
-        b"a",
-    ];
-    assert_eq!(rt; Plan::read(&words).err(), Some(CliFault::Words(16)));
-    assert_eq!(rt; Plan::read(&words[..7]).err(), Some(CliFault::Words(16)));
-}
-
-#[test]
-fn widths_of_empty_files(rt: HostRuntime) -> Result<(), Fail> {
-    for (value, want) in [
-        (b"3".as_slice(), Some(3)),
-        (b"6".as_slice(), Some(6)),
-        (b"2".as_slice(), None),
-        (b"7".as_slice(), None),
-        (b"03".as_slice(), None),
-        (b"".as_slice(), None),
-        (b"x".as_slice(), None),
-    ] {
-        let words = [
-            b"session".as_slice(),
-            b"-width",
-            value,
-            b"-g",
-            b"g",
-            b"-i",
-            b"a",
-        ];
-        let read = Plan::read(&words);
-        assert_eq!(rt; read.as_ref().ok().map(|plan| plan.width()), want);
-        assert!(rt; want.is_some() || read.err() == Some(CliFault::Words(16)));
-    }
-    assert_eq!(rt;
-        Plan::read(&[b"session", b"-g", b"g", b"-i", b"a"])?.width(),
-        3
-    );
+    assert!(rt; Plan::read(&[]).err() == Some(CliFault::Words(16)));
     Ok(())
 }
 
-/// The fault of files, at most two records.
-fn fault_of(rt: &HostRuntime, sizes: &[u8], first: &[u8]) -> Result<Option<CliFault>, Fail> {
+/// The fault of files, or how many records they load, and the width of these.
+fn loaded(
+    rt: &HostRuntime,
+    sizes: &[u8],
+    first: &[u8],
+) -> Result<Result<(u32, u8), CliFault>, Fail> {
     let plan = Plan::read(&[b"session", b"-g", b"sizes", b"-i", b"records"])?;
-    Ok(load(rt.alloc(), &plan, &Inputs { sizes, first }, 2).err())
+    match load(rt.alloc(), &plan, &Inputs { sizes, first }, 2) {
+        Ok(session) => Ok(Ok((session.len(), session.track().width()))),
+        Err(fault) => Ok(Err(fault)),
+    }
+}
+
+#[test]
+fn files_that_load(rt: HostRuntime) -> Result<(), Fail> {
+    for (first, count, width) in [
+        (b"".as_slice(), 0, 3),
+        (b"chr1\t1\t2\ta\n", 1, 4),
+        (b"chr1\t1\t2\nchr1\t1\t2\n", 2, 3),
+    ] {
+        assert!(rt; loaded(&rt, b"chr1\t9\n", first)? == Ok((count, width)));
+    }
+    Ok(())
 }
 
 #[test]
@@ -145,38 +123,38 @@ fn files_that_are_damaged(rt: HostRuntime) -> Result<(), Fail> {
             LoadCause::TooMany,
         ),
     ] {
-        assert_eq!(rt;
-            fault_of(&rt, sizes, first)?,
-            Some(CliFault::Damaged(slot, LoadFault { line, cause }))
-        );
+        let fault = LoadFault { line, cause };
+        assert!(rt; loaded(&rt, sizes, first)? == Err(CliFault::Damaged(slot, fault)));
     }
     Ok(())
 }
 
-#[test]
-fn files_that_load(rt: HostRuntime) -> Result<(), Fail> {
-    let plan = Plan::read(&[b"session", b"-i", b"records", b"-g", b"sizes"])?;
-    for (first, line, count) in [
-        (b"".as_slice(), b"chr1\t1\t2".as_slice(), 0),
-        (
-            b"chr1\t1\t2\ta\n".as_slice(),
-            b"chr1\t1\t2\tb".as_slice(),
-            1,
-        ),
-    ] {
-        let session = load(
-            rt.alloc(),
-            &plan,
-            &Inputs {
-                sizes: b"chr1\t9\n",
-                first,
-            },
-            4_000_000,
-        )?;
-        assert_eq!(rt; session.len(), count);
-        assert_eq!(rt; session.read(line).is_ok(), true);
+const TEXT: &[u8] = b"chr1\t100\n";
+
+/// What reading so many bytes at most gives, from a source that gives so many of them.
+fn read(rt: &HostRuntime, good: usize, limit: u64) -> Result<usize, FileFault> {
+    let bytes = read_all(rt.alloc(), &mut MemSource::new(TEXT, good, 2), limit)?;
+    if bytes.as_slice() == TEXT {
+        Ok(bytes.len())
+    } else {
+        Ok(0)
     }
-    Ok(())
+}
+
+#[test]
+fn files_that_are_read(rt: HostRuntime) {
+    for (good, limit, want) in [
+        (usize::MAX, 100, Ok(9)),
+        (usize::MAX, 9, Ok(9)),
+        (usize::MAX, 8, Err(FileFault::TooLong)),
+        (usize::MAX, 0, Err(FileFault::TooLong)),
+        (9, 9, Err(FileFault::Input)),
+        (0, 0, Err(FileFault::Input)),
+        (5, 9, Err(FileFault::Input)),
+        (5, 4, Err(FileFault::TooLong)),
+    ] {
+        assert!(rt; read(&rt, good, limit) == want, "{good} bytes, {limit} at most");
+    }
 }
 
 #[test]
@@ -191,63 +169,22 @@ fn statuses_of_faults(rt: HostRuntime) {
         (CliFault::Output, 4),
         (CliFault::Memory, 5),
     ] {
-        assert_eq!(rt; status(&fault), want);
+        assert!(rt; status(&fault) == want);
     }
 }
 
 #[test]
 fn statuses_of_scripts(rt: HostRuntime) {
-    for (done, want) in [
-        (
-            Ok(Summary {
-                lines: 5,
-                refused: 0,
-            }),
-            0,
-        ),
-        (
-            Ok(Summary {
-                lines: 5,
-                refused: 2,
-            }),
-            1,
-        ),
-        (
-            Err(RunFault {
-                line: 1,
-                cause: RunCause::Input,
-            }),
-            4,
-        ),
-        (
-            Err(RunFault {
-                line: 1,
-                cause: RunCause::TooLong,
-            }),
-            4,
-        ),
-        (
-            Err(RunFault {
-                line: 1,
-                cause: RunCause::Output,
-            }),
-            4,
-        ),
-        (
-            Err(RunFault {
-                line: 1,
-                cause: RunCause::Messages,
-            }),
-            4,
-        ),
-        (
-            Err(RunFault {
-                line: 1,
-                cause: RunCause::Memory,
-            }),
-            5,
-        ),
+    for (refused, want) in [(0, 0), (2, 1)] {
+        assert!(rt; run_status(&Ok(Summary { lines: 5, refused })) == want);
+    }
+    for (cause, want) in [
+        (RunCause::Input, 4),
+        (RunCause::TooLong, 4),
+        (RunCause::Output, 4),
+        (RunCause::Messages, 4),
+        (RunCause::Memory, 5),
     ] {
-        assert_eq!(rt; run_status(&done), want);
+        assert!(rt; run_status(&Err(RunFault { line: 1, cause })) == want);
     }
 }

@@ -1,137 +1,201 @@
-//! The calls of a session.
-ghost use Rattle.std.specs.Prelude.{◌≤◌};
-
-use crate::fixtures::{genome, session};
-use iv_session::{EditFault, PrintFault, Session, ViewFault};
-use iv_text::{BedFile, MemSink, RecordFault};
+//! The calls of a session, one by one.
+use crate::fixtures::{SIZES, session};
+use iv_session::{EditFault, NoView, PrintFault, Session, ViewFault};
+use iv_text::{BedFile, Genome, MemSink, RecordFault};
+use iv_track::Meter;
 use std::test::Fail;
 
-/// What the view of this name prints.
-fn printed(rt: &HostRuntime, session: &Session, name: &[u8]) -> Result<MemSink, Fail> {
-    let mut sink = MemSink::new(rt.alloc(), 1000, 3)?;
-    session.print_view(name, &mut sink)?;
-    Ok(sink)
+/// An edit by the records of lines.
+#[derive(Clone, Copy, Debug)]
+enum Edit<'a> {
+    Add(&'a [u8]),
+    Remove(&'a [u8]),
+    Replace(&'a [u8], &'a [u8]),
+}
+
+/// The fault of an edit.
+fn fault_of(session: &mut Session, edit: Edit<'_>) -> Result<Option<EditFault>, RecordFault> {
+    let done = match edit {
+        Edit::Add(line) => {
+            let row = session.read(line)?;
+            session.add(&row)
+        }
+        Edit::Remove(line) => {
+            let row = session.read(line)?;
+            session.remove(&row)
+        }
+        Edit::Replace(old, new) => {
+            let old = session.read(old)?;
+            let new = session.read(new)?;
+            session.replace(&old, &new)
+        }
+    };
+    Ok(done.err())
+}
+
+#[test]
+fn edits(rt: HostRuntime) -> Result<(), Fail> {
+    let mut session = session(&rt, b"chr1\t10\t20\tn\n", 2)?;
+    for (edit, want, count) in [
+        (Edit::Add(b"chr1\t10\t20\tn"), None, 2),
+        (Edit::Add(b"chr1\t10\t20\tn"), Some(EditFault::Full), 2),
+        (Edit::Add(b"chr2\t0\t50\tm"), Some(EditFault::Full), 2),
+        (
+            Edit::Replace(b"chr1\t10\t20\tm", b"chr1\t30\t40\tm"),
+            Some(EditFault::Absent),
+            2,
+        ),
+        (
+            Edit::Replace(b"chr1\t10\t20\tn", b"chr1\t30\t40\tm"),
+            None,
+            2,
+        ),
+        (Edit::Remove(b"chr1\t10\t20\tn"), None, 1),
+        (Edit::Remove(b"chr1\t10\t20\tn"), Some(EditFault::Absent), 1),
+        (Edit::Remove(b"chr1\t30\t40\tm"), None, 0),
+    ] {
+        assert!(rt; fault_of(&mut session, edit)? == want, "at {edit:?}");
+        assert!(rt; session.len() == count, "at {edit:?}");
+    }
+    Ok(())
+}
+
+/// What the session says of a line, and whether the record is one of a session with four columns.
+fn fault_of_line(session: &Session, other: &Session, line: &[u8]) -> (Option<RecordFault>, bool) {
+    match session.read(line) {
+        Ok(row) => (None, other.fits(&row)),
+        Err(fault) => (Some(fault), false),
+    }
+}
+
+#[test]
+fn records_that_are_read(rt: HostRuntime) -> Result<(), Fail> {
+    let plain = session(&rt, b"", 2)?;
+    let named = session(&rt, b"chr1\t1\t2\tn\n", 2)?;
+    for (line, want) in [
+        (b"chr1\t90\t100".as_slice(), None),
+        (b"chr1\t90\t101", Some(RecordFault::PastEnd)),
+        (b"chr3\t0\t1", Some(RecordFault::PastEnd)),
+        (b"chr1\t90\t100\tn", Some(RecordFault::Columns)),
+    ] {
+        assert!(rt; fault_of_line(&plain, &named, line) == (want, false));
+    }
+    assert!(rt; fault_of_line(&plain, &plain, b"chr1\t90\t100") == (None, true));
+    Ok(())
+}
+
+/// The count of copies of the record at a line in a session's track, behind the track's numbers.
+fn numbers_of_track(session: &Session) -> (u32, u8, u32, Option<(u64, u64, u32)>) {
+    let track = session.track();
+    let found = match track.at_or_after(1, 0, &mut Meter::new()) {
+        Some((row, copies)) => Some((row.start(), row.stop(), copies)),
+        None => None,
+    };
+    (track.len(), track.width(), track.limit(), found)
 }
 
 #[test]
 fn session_of_a_file(rt: HostRuntime) -> Result<(), Fail> {
-    let genome = genome(&rt)?;
-    let file = BedFile::parse(rt.alloc(), &genome, 3, 2, b"chr1\t10\t20\nchr1\t10\t20\n")?;
-    let session = Session::new(rt.alloc(), genome, file, 2)?;
-    assert_eq!(rt; session.len(), 2);
+    let genome = Genome::parse(rt.alloc(), SIZES)?;
+    let text = b"chr2\t0\t1\nchr1\t10\t20\nchr2\t0\t1\n";
+    let file = BedFile::parse(rt.alloc(), &genome, 3, 5, text)?;
+    let session = Session::new(rt.alloc(), genome, file, 5)?;
+    assert!(rt; session.len() == 3);
+    assert!(rt; numbers_of_track(&session) == (3, 3, 5, Some((0, 1, 2))));
     Ok(())
 }
 
 #[test]
-fn full_track(rt: HostRuntime) -> Result<(), Fail> {
-    let mut session = session(&rt, b"", 2)?;
-    for (line, want, count) in [
-        (b"chr1\t10\t20".as_slice(), None, 1),
-        (b"chr1\t10\t20".as_slice(), None, 2),
-        (b"chr2\t0\t50".as_slice(), Some(EditFault::Full), 2),
-    ] {
-        let row = session.read(line)?;
-        assert_eq!(rt; session.add(&row).err(), want);
-        assert_eq!(rt; session.len(), count);
-    }
-    Ok(())
-}
-
-#[test]
-fn records_that_are_refused(rt: HostRuntime) -> Result<(), Fail> {
-    let session = session(&rt, b"", 2)?;
-    for (line, want) in [
-        (b"chr1\t90\t100".as_slice(), None),
-        (b"chr1\t90\t101".as_slice(), Some(RecordFault::PastEnd)),
-        (b"chr3\t0\t1".as_slice(), Some(RecordFault::PastEnd)),
-        (b"chr1\t90\t100\tn".as_slice(), Some(RecordFault::Columns)),
-    ] {
-        assert_eq!(rt; session.read(line).err(), want);
-    }
-    Ok(())
-}
-
-#[test]
-fn records_that_fit(rt: HostRuntime) -> Result<(), Fail> {
-    let plain = session(&rt, b"", 2)?;
-    let named = session(&rt, b"chr1\t1\t2\tn\n", 2)?;
-    let row = plain.read(b"chr1\t90\t100")?;
-    assert_eq!(rt; (plain.fits(&row), named.fits(&row)), (true, false));
-    Ok(())
-}
-
-#[test]
-fn merge_views(rt: HostRuntime) -> Result<(), Fail> {
-    let mut session = session(&rt, b"chr1\t31\t40\nchr1\t20\t30\nchr1\t10\t20\n", 9)?;
-    session.open_view(b"m", &[b"merge"])?;
-    assert_eq!(rt;
-        printed(&rt, &session, b"m")?.bytes(),
-        b"chr1\t10\t30\nchr1\t31\t40\n".as_slice()
-    );
-    let row = session.read(b"chr1\t30\t31")?;
-    session.add(&row)?;
-    assert_eq!(rt;
-        printed(&rt, &session, b"m")?.bytes(),
-        b"chr1\t10\t40\n".as_slice()
-    );
-    Ok(())
-}
-
-#[test]
-fn view_without_records(rt: HostRuntime) -> Result<(), Fail> {
-    let mut session = session(&rt, b"", 9)?;
-    session.open_view(b"m", &[b"merge"])?;
-    assert_eq!(rt; printed(&rt, &session, b"m")?.bytes(), b"".as_slice());
-    Ok(())
-}
-
-#[test]
-fn names_and_words_of_views(rt: HostRuntime) -> Result<(), Fail> {
+fn names_of_views(rt: HostRuntime) -> Result<(), Fail> {
     for (name, word, want) in [
         (b"m".as_slice(), b"merge".as_slice(), None),
+        (b"!0123456789abcdef0123456789abcd~", b"merge", None),
+        (b"", b"merge", Some(ViewFault::BadName)),
         (
-            b"!0123456789abcdef0123456789abcd~".as_slice(),
-            b"merge".as_slice(),
-            None,
-        ),
-        (
-            b"".as_slice(),
-            b"merge".as_slice(),
+            b"0123456789abcdef0123456789abcdef0",
+            b"merge",
             Some(ViewFault::BadName),
         ),
-        (
-            b"0123456789abcdef0123456789abcdef0".as_slice(),
-            b"merge".as_slice(),
-            Some(ViewFault::BadName),
-        ),
-        (
-            b"a b".as_slice(),
-            b"merge".as_slice(),
-            Some(ViewFault::BadName),
-        ),
-        (
-            b"m".as_slice(),
-            b"cluster".as_slice(),
-            Some(ViewFault::Words),
-        ),
+        (b"a b", b"merge", Some(ViewFault::BadName)),
+        (b"m", b"cluster", Some(ViewFault::Words)),
     ] {
         let mut session = session(&rt, b"", 2)?;
-        assert_eq!(rt; session.open_view(name, &[word]).err(), want);
+        assert!(rt; session.open_view(name, &[word]).err() == want);
+    }
+    Ok(())
+}
+
+/// A session of three records with two open views.
+fn with_views(rt: &HostRuntime) -> Result<Session, Fail> {
+    let mut session = session(rt, b"chr1\t31\t40\nchr1\t20\t30\nchr1\t10\t20\n", 9)?;
+    session.open_view(b"a", &[b"merge"])?;
+    session.open_view(b"b", &[b"merge"])?;
+    Ok(session)
+}
+
+/// What a print of this view, or of all, writes into an output with room for so many bytes, and its fault.
+fn printed(
+    rt: &HostRuntime,
+    session: &Session,
+    name: Option<&[u8]>,
+    room: usize,
+) -> Result<(MemSink, Option<PrintFault>), Fail> {
+    let mut sink = MemSink::new(rt.alloc(), room, 3)?;
+    let done = match name {
+        Some(name) => session.print_view(name, &mut sink),
+        None => session.print_all(&mut sink),
+    };
+    Ok((sink, done.err()))
+}
+
+#[test]
+fn prints(rt: HostRuntime) -> Result<(), Fail> {
+    let session = with_views(&rt)?;
+    let all = b"#a\nchr1\t10\t30\nchr1\t31\t40\n#b\nchr1\t10\t30\nchr1\t31\t40\n";
+    for (name, room, want, text) in [
+        (Some(b"a".as_slice()), 99, None, &all[3..25]),
+        (Some(b"b"), 7, Some(PrintFault::Write), b"chr1\t10"),
+        (Some(b"c"), 99, Some(PrintFault::NoView), b""),
+        (None, 99, None, all),
+        (None, 28, Some(PrintFault::Write), &all[..28]),
+    ] {
+        let (sink, fault) = printed(&rt, &session, name, room)?;
+        assert!(rt; fault == want && sink.bytes() == text, "into {room} bytes");
     }
     Ok(())
 }
 
 #[test]
-fn prints_that_fail(rt: HostRuntime) -> Result<(), Fail> {
-    let mut session = session(&rt, b"chr1\t10\t20\n", 2)?;
-    session.open_view(b"m", &[b"merge"])?;
-    let mut sink = MemSink::new(rt.alloc(), 7, 3)?;
-    assert_eq!(rt;
-        session.print_view(b"n", &mut sink),
-        Err(PrintFault::NoView)
-    );
-    assert_eq!(rt; sink.bytes(), b"".as_slice());
-    assert_eq!(rt; session.print_view(b"m", &mut sink), Err(PrintFault::Write));
-    assert_eq!(rt; sink.bytes(), b"chr1\t10".as_slice());
+fn views_that_are_current(rt: HostRuntime) -> Result<(), Fail> {
+    let mut session = with_views(&rt)?;
+    assert!(rt; fault_of(&mut session, Edit::Add(b"chr1\t30\t31"))?.is_none());
+    assert!(rt; session.is_current(b"a") && !session.is_current(b"c"));
+    assert!(rt; session.close_view(b"c") == Err(NoView));
+    assert!(rt; session.close_view(b"a") == Ok(()) && !session.is_current(b"a"));
+    let (sink, fault) = printed(&rt, &session, None, 99)?;
+    assert!(rt; fault.is_none() && sink.bytes() == b"#b\nchr1\t10\t40\n".as_slice());
     Ok(())
+}
+
+/// The numbers of faults in the table of faults.
+#[test]
+fn numbers_of_faults(rt: HostRuntime) {
+    for (fault, code) in [
+        (EditFault::Absent, 11),
+        (EditFault::Full, 12),
+        (EditFault::NoMemory, 22),
+    ] {
+        assert!(rt; fault.code() == code);
+    }
+    for (fault, code) in [
+        (ViewFault::BadName, 13),
+        (ViewFault::Taken, 14),
+        (ViewFault::TooMany, 15),
+        (ViewFault::Words, 16),
+        (ViewFault::NoMemory, 22),
+    ] {
+        assert!(rt; fault.code() == code);
+    }
+    assert!(rt; PrintFault::NoView.code() == Some(21) && PrintFault::Write.code().is_none());
+    assert!(rt; NoView.code() == 21);
 }

@@ -1,0 +1,84 @@
+//! Calls at real sizes: a body that gives up above some size and says that memory ran out is seen here alone.
+use crate::fixtures::track_of;
+use iv_text::{Genome, LoadCause, LoadFault};
+use iv_track::{Ledger, Meter, Track};
+use std::test::Fail;
+
+/// How many sequences a genome file may have.
+const SEQUENCES: u32 = 1_000_000;
+
+/// A genome file of so many sequences, eleven bytes each.
+fn genome_file(rt: &HostRuntime, count: u32) -> Result<String, Fail> {
+    let mut text = String::new(rt.alloc());
+    for number in 0..count {
+        let line = format!(in rt.alloc(); "s{}\t9\n", u64::from(number) + 1_000_000)?;
+        text.push_str(line.as_str())?;
+    }
+    Ok(text)
+}
+
+/// How many sequences a genome file has, or its fault.
+fn parsed(rt: &HostRuntime, text: &[u8]) -> Result<u32, LoadFault> {
+    Ok(Genome::parse(rt.alloc(), text)?.count())
+}
+
+#[test]
+fn sequences_up_to_the_limit_and_above(rt: HostRuntime) -> Result<(), Fail> {
+    let text = genome_file(&rt, SEQUENCES + 1)?;
+    let text = text.as_bytes();
+    let fault = LoadFault {
+        line: 1_000_001,
+        cause: LoadCause::TooMany,
+    };
+    assert!(rt; parsed(&rt, text) == Err(fault));
+    assert!(rt; parsed(&rt, &text[..text.len().saturating_sub(11)]) == Ok(SEQUENCES));
+    Ok(())
+}
+
+/// How many entries and records are many.
+const MANY: u32 = 100_000;
+
+/// Whether a ledger takes so many keys, the greatest first, and then walks over them in order.
+fn ledger_holds(rt: &HostRuntime, count: u32) -> Result<bool, Fail> {
+    let mut meter = Meter::new();
+    let mut ledger = Ledger::new(rt.alloc());
+    for key in 0..count {
+        ledger.put(count - key, key, &mut meter)?;
+    }
+    let mut walk = ledger.walk(&0, &mut meter);
+    for key in 0..count {
+        let (next, value) = (key + 1, count - key - 1);
+        if walk.next(&mut meter) != Some((&next, &value)) {
+            return Ok(false);
+        }
+    }
+    Ok(walk.next(&mut meter).is_none())
+}
+
+/// Whether a track holds one record at each tenth start, so many in all.
+fn track_holds(track: &Track, count: u32) -> bool {
+    let mut meter = Meter::new();
+    let mut rows = track.walk(0, 0, &mut meter);
+    for number in 0..count {
+        let start = u64::from(number) * 10;
+        match rows.next(&mut meter) {
+            Some(row) if row.start() == start && row.stop() == start + 5 => {}
+            _ => return false,
+        }
+    }
+    rows.next(&mut meter).is_none() && track.len() == count
+}
+
+#[test]
+fn entries_and_records(rt: HostRuntime) -> Result<(), Fail> {
+    assert!(rt; ledger_holds(&rt, MANY)?);
+    let genome = Genome::parse(rt.alloc(), b"big\t1000000\n")?;
+    let mut text = String::new(rt.alloc());
+    for number in 0..MANY {
+        let start = 10 * (MANY - 1 - number);
+        text.push_str(format!(in rt.alloc(); "big\t{start}\t{}\n", start + 5)?.as_str())?;
+    }
+    let track = track_of(rt.alloc(), &genome, text.as_bytes())??;
+    assert!(rt; track_holds(&track, MANY));
+    Ok(())
+}

@@ -1,0 +1,171 @@
+//! Tracks of records of four columns.
+ghost use Rattle.std.specs.Prelude.{◌≡◌, IfOk};
+
+use crate::fixtures::genome;
+use iv_text::{Genome, Record, read_record};
+use iv_track::{Meter, Track};
+use std::test::Fail;
+
+/// An edit by the records of lines.
+#[derive(Clone, Copy, Debug)]
+enum Edit<'a> {
+    Add(&'a [u8]),
+    Stage(&'a [u8]),
+    Remove(&'a [u8]),
+    Replace(&'a [u8], &'a [u8]),
+}
+
+/// The record of a line of four columns.
+fn record(rt: &HostRuntime, genome: &Genome, line: &[u8]) -> Result<Record, Fail>
+    ensures { IfOk result (λ r. r.width ≡ 4) }
+{
+    Ok(read_record(genome, 4, line)?.to_record(rt.alloc())?)
+}
+
+/// The number of an edit's fault, 0 where there is none.
+fn fault_of(
+    rt: &HostRuntime,
+    genome: &Genome,
+    track: &mut Track,
+    edit: Edit<'_>,
+) -> Result<u8, Fail> {
+    if track.width() != 4 {
+        return Err(Fail::new("another width"));
+    }
+    let has_room = track.len() <= track.limit();
+    let mut meter = Meter::new();
+    match edit {
+        Edit::Add(line) => match track.add(record(rt, genome, line)?, &mut meter) {
+            Ok(()) => Ok(0),
+            Err(fault) => Ok(fault.code()),
+        },
+        Edit::Remove(line) => match track.remove(&record(rt, genome, line)?, &mut meter) {
+            Ok(()) => Ok(0),
+            Err(fault) => Ok(fault.code()),
+        },
+        Edit::Stage(line) if has_room => {
+            track.stage(record(rt, genome, line)?, &mut meter)?;
+            Ok(0)
+        }
+        Edit::Replace(old, new) if has_room => {
+            let old = record(rt, genome, old)?;
+            match track.replace(&old, record(rt, genome, new)?, &mut meter) {
+                Ok(()) => Ok(0),
+                Err(fault) => Ok(fault.code()),
+            }
+        }
+        Edit::Stage(_) | Edit::Replace(_, _) => Err(Fail::new("more records than the limit")),
+    }
+}
+
+#[test]
+fn limit_of_a_track(rt: HostRuntime) -> Result<(), Fail> {
+    let genome = genome(&rt)?;
+    let mut track = Track::new(rt.alloc(), 4, 2);
+    let (a, b, c) = (
+        b"chr1\t10\t20\ta".as_slice(),
+        b"chr1\t10\t20\tb".as_slice(),
+        b"chr1\t10\t20\tc".as_slice(),
+    );
+    for (edit, fault, len) in [
+        (Edit::Remove(a), 11, 0),
+        (Edit::Replace(a, a), 11, 0),
+        (Edit::Add(a), 0, 1),
+        (Edit::Remove(b), 11, 1),
+        (Edit::Replace(b, a), 11, 1),
+        (Edit::Add(b), 0, 2),
+        (Edit::Add(c), 12, 2),
+        (Edit::Replace(a, c), 0, 2),
+        (Edit::Stage(a), 0, 3),
+        (Edit::Remove(c), 0, 2),
+        (Edit::Add(c), 12, 2),
+        (Edit::Remove(a), 0, 1),
+        (Edit::Add(c), 0, 2),
+    ] {
+        assert!(rt; fault_of(&rt, &genome, &mut track, edit)? == fault, "at {edit:?}");
+        assert!(rt; track.len() == len, "at {edit:?}");
+    }
+    assert!(rt; track.limit() == 2 && track.width() == 4);
+    Ok(())
+}
+
+#[test]
+fn track_without_room(rt: HostRuntime) -> Result<(), Fail> {
+    let genome = genome(&rt)?;
+    let mut track = Track::new(rt.alloc(), 4, 0);
+    let line = b"chr1\t10\t20\ta".as_slice();
+    assert!(rt; fault_of(&rt, &genome, &mut track, Edit::Add(line))? == 12);
+    assert!(rt; fault_of(&rt, &genome, &mut track, Edit::Remove(line))? == 11);
+    assert!(rt; track.len() == 0);
+    Ok(())
+}
+
+/// The first letter of a record's name and its copies, of the record behind that of a line, or at or after its place.
+fn next_to(
+    rt: &HostRuntime,
+    genome: &Genome,
+    track: &Track,
+    line: &[u8],
+    after: bool,
+) -> Result<Option<(u8, u32)>, Fail> {
+    let record = record(rt, genome, line)?;
+    let mut meter = Meter::new();
+    let found = if after {
+        track.after(&record, &mut meter)
+    } else {
+        track.at_or_after(record.seq(), record.start(), &mut meter)
+    };
+    match found {
+        Some((row, copies)) => {
+            if track.copies(row, &mut meter) != copies {
+                return Err(Fail::new("other copies"));
+            }
+            Ok(row.name().first().map(|letter| (*letter, copies)))
+        }
+        None => Ok(None),
+    }
+}
+
+#[test]
+fn copies_in_order(rt: HostRuntime) -> Result<(), Fail> {
+    let genome = genome(&rt)?;
+    let mut track = Track::new(rt.alloc(), 4, 9);
+    let (a, b) = (b"chr1\t10\t20\ta".as_slice(), b"chr1\t10\t20\tb".as_slice());
+    for line in [b, a, a] {
+        assert!(rt; fault_of(&rt, &genome, &mut track, Edit::Add(line))? == 0);
+    }
+    assert!(rt; next_to(&rt, &genome, &track, b, false)? == Some((b'a', 2)));
+    assert!(rt; next_to(&rt, &genome, &track, a, true)? == Some((b'b', 1)));
+    assert!(rt; next_to(&rt, &genome, &track, b, true)?.is_none());
+    assert!(rt; track.len() == 3);
+    Ok(())
+}
+
+/// The rank of the first record at or after a start on a sequence.
+fn rank_from(track: &Track, seq: u32, start: u64) -> Option<u32> {
+    let (row, _) = track.at_or_after(seq, start, &mut Meter::new())?;
+    Some(row.seq())
+}
+
+#[test]
+fn starts_past_each_record(rt: HostRuntime) -> Result<(), Fail> {
+    let genome = genome(&rt)?;
+    let mut track = Track::new(rt.alloc(), 4, 9);
+    for line in [b"chr1\t99\t100\ta".as_slice(), b"chr2\t0\t1\ta"] {
+        assert!(rt; fault_of(&rt, &genome, &mut track, Edit::Add(line))? == 0);
+    }
+    for (seq, start, want) in [
+        (0, 99, Some(0)),
+        (0, 100, Some(1)),
+        (0, 4_294_967_294, Some(1)),
+        (0, 4_294_967_295, Some(1)),
+        (0, 4_294_967_296, Some(1)),
+        (0, u64::MAX, Some(1)),
+        (1, 4_294_967_296, None),
+        (u32::MAX, 0, None),
+        (u32::MAX, u64::MAX, None),
+    ] {
+        assert!(rt; rank_from(&track, seq, start) == want, "at {seq} {start}");
+    }
+    Ok(())
+}

@@ -1,0 +1,166 @@
+//! Each growth of a session's memory, refused in turn.
+use crate::fixtures::SIZES;
+use iv_session::{EditFault, Session};
+use iv_text::{BedFile, Genome};
+use iv_track::Meter;
+use refusing::RefusesNth;
+use std::alloc::Global;
+use std::test::Fail;
+
+/// So many records that the tree of a track splits.
+const COUNT: u32 = 30;
+
+/// What may be refused.
+#[derive(Clone, Copy, Debug)]
+enum Edit {
+    Add,
+    Replace,
+    Remove,
+}
+
+impl Edit {
+    /// At which start the first record stands before so many edits of this kind were done, and how many records there are.
+    fn before(self, done: u32) -> (u32, u32) {
+        match self {
+            Edit::Add => (0, done),
+            Edit::Replace => (done, COUNT),
+            Edit::Remove => (COUNT.saturating_add(done), COUNT.saturating_sub(done)),
+        }
+    }
+}
+
+/// A line of four columns.
+fn line(rt: &HostRuntime, start: u32) -> Result<String, Fail> {
+    let stop = start.saturating_add(10);
+    Ok(format!(in rt.alloc(); "chr1\t{start}\t{stop}\tname\n")?)
+}
+
+/// Whether the session holds one record at each start from the first one on, so many in all.
+fn holds_starts(session: &Session<&RefusesNth<Global>>, first: u32, count: u32) -> bool {
+    let mut meter = Meter::new();
+    let mut rows = session.track().walk(0, 0, &mut meter);
+    for start in first..first.saturating_add(count) {
+        match rows.next(&mut meter) {
+            Some(row) if row.start() == u64::from(start) => {}
+            _ => return false,
+        }
+    }
+    rows.next(&mut meter).is_none() && session.len() == count
+}
+
+/// Adds the record of a line, or replaces it by that of another one, or removes that, unless memory is refused.
+fn is_done(
+    session: &mut Session<&RefusesNth<Global>>,
+    edit: Edit,
+    here: &[u8],
+    there: &[u8],
+) -> Result<bool, Fail> {
+    let old = session.read(here)?;
+    let new = session.read(there)?;
+    let done = match edit {
+        Edit::Add => session.add(&old),
+        Edit::Replace => session.replace(&old, &new),
+        Edit::Remove => session.remove(&new),
+    };
+    match done {
+        Ok(_) => Ok(true),
+        Err(EditFault::NoMemory) => Ok(false),
+        Err(_) => Err(Fail::new("another fault")),
+    }
+}
+
+/// Does an edit at a start, again where memory is refused. Whether it was, which must leave the session as it is.
+fn is_refused(
+    rt: &HostRuntime,
+    session: &mut Session<&RefusesNth<Global>>,
+    edit: Edit,
+    start: u32,
+) -> Result<bool, Fail> {
+    let here = line(rt, start)?;
+    let there = line(rt, start.saturating_add(COUNT))?;
+    let (here, there) = (
+        here.as_str().trim_end().as_bytes(),
+        there.as_str().trim_end().as_bytes(),
+    );
+    if is_done(session, edit, here, there)? {
+        return Ok(false);
+    }
+    let (first, count) = edit.before(start);
+    if !holds_starts(session, first, count) {
+        return Err(Fail::new("changed by a refused edit"));
+    }
+    if !is_done(session, edit, here, there)? {
+        return Err(Fail::new("refused twice"));
+    }
+    Ok(true)
+}
+
+/// The session of a file's records, unless memory is refused.
+fn session_of<'a>(
+    alloc: &'a RefusesNth<Global>,
+    text: &[u8],
+) -> Option<Session<&'a RefusesNth<Global>>> {
+    let genome = Genome::parse(alloc, SIZES).ok()?;
+    let file = BedFile::parse(alloc, &genome, 4, COUNT, text).ok()?;
+    Session::new(alloc, genome, file, COUNT).ok()
+}
+
+/// Does each edit of each record. How many of them met the refusal.
+fn refused_edits(
+    rt: &HostRuntime,
+    session: &mut Session<&RefusesNth<Global>>,
+) -> Result<u32, Fail> {
+    let mut refused = 0u32;
+    for edit in [Edit::Add, Edit::Replace, Edit::Remove] {
+        for start in 0..COUNT {
+            if is_refused(rt, session, edit, start)? {
+                refused = refused.saturating_add(1);
+            }
+        }
+        let (first, count) = edit.before(COUNT);
+        if !holds_starts(session, first, count) {
+            return Err(Fail::new("other records"));
+        }
+    }
+    Ok(refused)
+}
+
+/// Begins a session of a text, again where memory is refused, and edits it where it begins without a record. How many
+/// calls met the refusal.
+fn refused_calls(rt: &HostRuntime, alloc: &RefusesNth<Global>, text: &[u8]) -> Result<u32, Fail> {
+    let (mut session, refused) = match session_of(alloc, text) {
+        Some(session) => (session, 0),
+        None => (session_of(alloc, text).ok_or("refused twice")?, 1),
+    };
+    if text.is_empty() {
+        return Ok(refused_edits(rt, &mut session)?.saturating_add(refused));
+    }
+    if !holds_starts(&session, 0, COUNT) {
+        return Err(Fail::new("other records"));
+    }
+    Ok(refused)
+}
+
+/// Whether some growth was refused, and none is any more behind the last one.
+fn is_refused_in_turn(rt: &HostRuntime, text: &[u8]) -> Result<bool, Fail> {
+    let mut met = 0u32;
+    for number in 1..10_000u64 {
+        let alloc = RefusesNth::new(rt.alloc(), number);
+        met = met.saturating_add(refused_calls(rt, &alloc, text)?);
+        if !alloc.has_refused() {
+            return Ok(met > 0);
+        }
+    }
+    Ok(false)
+}
+
+#[test]
+fn each_growth_refused(rt: HostRuntime) -> Result<(), Fail> {
+    let mut text = String::new(rt.alloc());
+    for start in 0..COUNT {
+        text.push_str(line(&rt, start)?.as_str())?;
+    }
+    assert!(rt; is_refused_in_turn(&rt, b"")?);
+    assert!(rt; is_refused_in_turn(&rt, text.as_bytes())?);
+    Ok(())
+}

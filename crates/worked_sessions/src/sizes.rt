@@ -1,0 +1,163 @@
+//! Calls at real sizes: a body that gives up above some size and says that memory ran out is seen here alone.
+use crate::fixtures::{SIZES, run, session_of};
+use iv_cli::{FileFault, read_all};
+use iv_session::Session;
+use iv_text::{MemSource, StdSource};
+use std::test::Fail;
+
+/// How many records are many.
+const MANY: u32 = 200_000;
+
+/// A genome file, a BED file of one record of six columns on each sequence, and the rows of its merge.
+#[derive(Drop)]
+struct Files {
+    sizes: String,
+    first: String,
+    rows: String,
+}
+
+/// Adds two texts at the end.
+fn push(text: &mut String, front: &str, behind: &str) -> Result<(), Fail> {
+    text.push_str(front)?;
+    text.push_str(behind)?;
+    Ok(())
+}
+
+fn many(rt: &HostRuntime) -> Result<Files, Fail> {
+    let mut sizes = String::new(rt.alloc());
+    let mut first = String::new(rt.alloc());
+    let mut rows = String::new(rt.alloc());
+    for number in MANY..2 * MANY {
+        let name = format!(in rt.alloc(); "chr{number}\t")?;
+        push(&mut sizes, name.as_str(), "100\n")?;
+        push(&mut first, name.as_str(), "10\t20\tname\t0.5\t-\n")?;
+        push(&mut rows, name.as_str(), "10\t20\n")?;
+    }
+    Ok(Files { sizes, first, rows })
+}
+
+/// Whether a script over the session has no refused line, and writes this behind the heading of its view.
+fn prints(
+    rt: &HostRuntime,
+    session: &mut Session,
+    script: &[u8],
+    want: &[u8],
+) -> Result<bool, Fail> {
+    let ran = run(rt, session, script, 65_536, 8_000_000)?;
+    Ok(ran.done.is_ok_and(|summary| summary.refused == 0) && ran.output.bytes() == want)
+}
+
+#[test]
+fn files_of_megabytes(rt: HostRuntime) -> Result<(), Fail> {
+    let files = many(&rt)?;
+    assert!(rt; files.sizes.len() > 2_000_000);
+    let mut session = session_of(
+        &rt,
+        files.sizes.as_bytes(),
+        b"3",
+        files.first.as_bytes(),
+        4_000_000,
+    )?;
+    assert!(rt; session.len() == MANY);
+    let script = b"open\tm\tmerge\nadd\tchr300000\t5\t9\tn\t0\t.\nadd\tchr300000\t5\t9\tn\t0\t.\nremove\tchr300000\t5\t9\tn\t0\t.\nreplace\tchr300000\t5\t9\tn\t0\t.\tchr300000\t15\t19\tn\t0\t.\nprint\tm\n";
+    assert!(rt; prints(&rt, &mut session, script, files.rows.as_bytes())?);
+    assert!(rt; session.len() == MANY + 1);
+    Ok(())
+}
+
+/// A text of so many letters.
+fn letters(rt: &HostRuntime, count: usize) -> Result<Vec<u8>, Fail> {
+    Ok(vec![in rt.alloc(); b'n'; count]?)
+}
+
+/// Puts texts one behind the other.
+fn joined(rt: &HostRuntime, texts: &[&[u8]]) -> Result<Vec<u8>, Fail> {
+    let mut all = Vec::new(rt.alloc());
+    for text in texts {
+        all.extend_from_slice(text)?;
+    }
+    Ok(all)
+}
+
+#[test]
+fn long_lines(rt: HostRuntime) -> Result<(), Fail> {
+    for count in [1_001, 10_000, 100_000] {
+        let name = letters(&rt, count)?;
+        let name = name.as_slice();
+        let record = b"\tchr1\t10\t20\t".as_slice();
+        let script = joined(
+            &rt,
+            &[
+                b"#",
+                name,
+                b"\nadd",
+                record,
+                name,
+                b"\nadd",
+                record,
+                name,
+                b"\nremove",
+                record,
+                name,
+                b"\nreplace",
+                record,
+                name,
+                record,
+                name,
+                b"x\nopen\tm\tmerge\nprint\tm\n",
+            ],
+        )?;
+        let mut session = session_of(&rt, SIZES, b"4", b"", 2)?;
+        assert!(rt; prints(&rt, &mut session, script.as_slice(), b"chr1\t10\t20\n")?, "{count} bytes");
+        assert!(rt; session.len() == 1);
+    }
+    Ok(())
+}
+
+#[test]
+fn long_names(rt: HostRuntime) -> Result<(), Fail> {
+    let (seq, name) = (letters(&rt, 300)?, letters(&rt, 100)?);
+    let (seq, name) = (seq.as_slice(), name.as_slice());
+    let sizes = joined(&rt, &[seq, b"\t100\n"])?;
+    let first = joined(&rt, &[seq, b"\t10\t20\t", name, b"\t", name, b"\t+\n"])?;
+    let script = joined(
+        &rt,
+        &[
+            b"add\t",
+            seq,
+            b"\t20\t30\t",
+            name,
+            b"x\t",
+            name,
+            b"x\t+\nopen\tm\tmerge\nprint\tm\n",
+        ],
+    )?;
+    let rows = joined(&rt, &[seq, b"\t10\t30\n"])?;
+    let mut session = session_of(&rt, sizes.as_slice(), b"3", first.as_slice(), 2)?;
+    assert!(rt; prints(&rt, &mut session, script.as_slice(), rows.as_slice())?);
+    Ok(())
+}
+
+/// Whether all bytes are read from both sources of them.
+fn is_read(rt: &HostRuntime, text: &[u8], piece: usize) -> Result<bool, FileFault> {
+    if piece == 0 {
+        return Ok(false);
+    }
+    let limit = text.len() as u64;
+    let from_memory = read_all(
+        rt.alloc(),
+        &mut MemSource::new(text, usize::MAX, piece),
+        limit,
+    )?;
+    let from_reader = read_all(rt.alloc(), &mut StdSource::new(text), limit)?;
+    Ok(from_memory.as_slice() == text && from_reader.as_slice() == text)
+}
+
+#[test]
+fn two_megabytes_are_read(rt: HostRuntime) -> Result<(), Fail> {
+    let text = letters(&rt, 2_000_001)?;
+    for piece in [1_000, 65_536, 100_000] {
+        assert!(rt; is_read(&rt, text.as_slice(), piece)?, "in pieces of {piece}");
+    }
+    Ok(())
+}
