@@ -1,13 +1,15 @@
 //! Scripts of a session: the lines by which a curator corrects a track and prints its views.
 #![tactic(auto)]
 
-mod command;
 mod fault;
+mod fields;
 mod line;
 mod message;
+mod request;
 mod running;
 mod script;
 
 pub use iv_state::{Accepted, EditFault, NoView, PrintFault, Session};
-pub use iv_view::{View as ViewWords, ViewFault};
+pub use iv_view::View as ViewWords;
+pub use iv_view::ViewFault;
 pub use script::{RunCause, RunFault, ScriptLimits, Summary, run_script};
