@@ -1,12 +1,11 @@
 -- One line of a script.
-use Rattle.std.proofs.Common.{◌≡◌, ℕ, List, [], Option, Some, None, Result, Ok, Err, inl, inr, refl, sym, ap, ◌∙◌, subst, take, OnOk, IfErr}
+use Rattle.std.proofs.Common.{◌≡◌, ℕ, List, [], Option, Some, None, Result, Ok, Err, inl, inr, refl, sym, ap, ◌∙◌, subst, take, IfErr}
 use Rattle.std.specs.Prelude.{MatchOption, MatchResult, find}
 use Rattle.std.specs.Option.{is_some}
 use Rattle.iv_bytes.specs.Sinks.{SinkState, Takes, FailsIn, Puts}
 use Rattle.iv_bytes.proofs.Putting.{Takes-nothing}
 use Rattle.iv_text.specs.Fields.{words}
 use Rattle.iv_view.specs.Views.{view_text}
-use Rattle.iv_view.specs.declared.view.View.{View}
 use Rattle.iv_view.specs.declared.fault.ViewFault.{ViewFault}
 use Rattle.iv_view.proofs.WordLemmas.{words-cut}
 use Rattle.iv_state.specs.States.{State}
@@ -26,7 +25,6 @@ use Rattle.iv_session.specs.declared.fault.LineFault.TheVariants as line
 use Rattle.iv_session.specs.declared.running.Outcome.{Outcome}
 use Rattle.iv_session.specs.declared.running.Outcome.TheVariants as outcome
 use Rattle.iv_session.specs.declared.script.RunCause.{RunCause}
-use Rattle.iv_session.specs.declared.script.RunCause.TheVariants as cause
 
 -- ---- a request
 

@@ -1,5 +1,5 @@
 -- What a line of a script asks for, and why it is refused.
-use Rattle.std.specs.Prelude.{◌≡◌, ◌+◌, ℕ, ◌==◌, ◌||◌, if◌then◌else◌, List, [], ◌∷◌, Option, None, Some, Result, Ok, Err, length, take, drop, codes}
+use Rattle.std.specs.Prelude.{◌+◌, ℕ, ◌==◌, ◌||◌, if◌then◌else◌, List, [], ◌∷◌, Option, Some, Result, Ok, Err, length, take, drop, codes}
 use Rattle.std.specs.Str.{bytes_eq}
 use Rattle.iv_text.specs.Fields.{columns}
 use Rattle.iv_text.specs.Fault.{record_code}

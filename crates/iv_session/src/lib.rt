@@ -10,6 +10,5 @@ mod running;
 mod script;
 
 pub use iv_state::{Accepted, EditFault, NoView, PrintFault, Session};
-pub use iv_view::View as ViewWords;
-pub use iv_view::ViewFault;
+pub use iv_view::{View as ViewWords, ViewFault};
 pub use script::{RunCause, RunFault, ScriptLimits, Summary, run_script};

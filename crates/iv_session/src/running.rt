@@ -109,9 +109,9 @@ pub(crate) fn run_line<A: Allocator + Copy, W: Sink, E: Sink>(
 ) -> Result<Outcome, RunCause>
     ensures { MatchResult result
         (λ outcome. RanLine (λ written. Runs session.old line.now session.new written) number
-            (W.state output.old) (W.state output.new) (E.state messages.old) (E.state messages.new) outcome)
+        (W.state output.old) (W.state output.new) (E.state messages.old) (E.state messages.new) outcome)
         (λ cause. FailedLine (λ written. Runs session.old line.now session.new written) number
-            (W.state output.old) (W.state output.new) (E.state messages.old) (E.state messages.new) cause) }
+        (W.state output.old) (W.state output.new) (E.state messages.old) (E.state messages.new) cause) }
 {
     match answer_line(session, line, output) {
         Ok(()) => Ok(Outcome::Done),
