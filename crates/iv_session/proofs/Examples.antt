@@ -1,16 +1,20 @@
 -- Examples that compute.
-use Rattle.std.proofs.Common.{◌≡◌, ℕ, ◌++◌, List, [], ◌∷◌, None, Ok, Err, false, refl, inl, arith}
+use Rattle.std.proofs.Common.{◌≡◌, ℕ, ◌++◌, List, [], ◌∷◌, None, Some, Ok, Err, false, refl, inl, inr, arith}
 use Rattle.std.specs.Prelude.{codes}
 use Rattle.iv_text.specs.Genome.{Sequences}
 use Rattle.iv_text.specs.Fields.{words}
 use Rattle.iv_text.specs.Row.{Row}
-use Rattle.iv_session.specs.Commands.{Runs, command_of}
+use Rattle.iv_text.specs.declared.fault.RecordFault.TheVariants as record_fault
+use Rattle.iv_session.specs.Requests.{asked}
+use Rattle.iv_session.specs.Running.{Runs}
 use Rattle.iv_session.specs.Scripts.{Steps}
 use Rattle.iv_state.specs.States.{State, with_rows}
 use Rattle.iv_state.specs.Views.{opened, all_text}
 use Rattle.iv_view.specs.Views.{read_words, view_text}
-use Rattle.iv_session.specs.Written.{silent, printed, refused_as}
-use Rattle.iv_session.specs.declared.command.Command.TheVariants as command
+use Rattle.iv_session.specs.Written.{Written, printed, refused_by}
+use Rattle.iv_session.specs.declared.request.Request.TheVariants as request
+use Rattle.iv_session.specs.declared.fault.LineFault.TheVariants as line
+use Rattle.iv_session.specs.declared.fault.RequestFault.TheVariants as request_fault
 use Rattle.iv_view.specs.declared.fault.ViewFault.TheVariants as fault
 use Rattle.iv_state.specs.declared.views.OpenView.{OpenView}
 use Rattle.iv_view.specs.declared.view.View.TheVariants as view
@@ -44,14 +48,20 @@ with_one = with_rows with_a_view (first_row ∷ [])
 abbrev with_two : State
 with_two = with_rows with_a_view (first_row ∷ second_row ∷ [])
 
-pub comments-are_skipped : command_of (codes "# a note") ≡ command.Skipped
-comments-are_skipped = refl
+pub comments-ask_nothing : asked g 3 (codes "# a note") ≡ Ok request.Nothing
+comments-ask_nothing = refl
 
-pub commands-stand_before_a_tab : command_of (codes "print" ++ tab ++ codes "m") ≡ command.Print
+pub commands-stand_before_a_tab : asked g 3 (codes "print" ++ tab ++ codes "m") ≡ Ok (request.Print (codes "m"))
 commands-stand_before_a_tab = refl
 
-pub other_words-are_unknown : command_of (codes "paint" ++ tab ++ codes "m") ≡ command.Unknown
-other_words-are_unknown = refl
+pub other_words-are_no_commands : asked g 3 (codes "paint" ++ tab ++ codes "m") ≡ Err request_fault.Command
+other_words-are_no_commands = refl
+
+pub printall-takes_no_field : asked g 3 (codes "printall" ++ tab) ≡ Err request_fault.Command
+printall-takes_no_field = refl
+
+pub records-stand_behind_add : asked g 3 (codes "add" ++ tab ++ codes "chr1" ++ tab ++ codes "10" ++ tab ++ codes "20") ≡ Ok (request.Add first_row)
+records-stand_behind_add = refl
 
 pub spaces-are_no_words : read_words 3 false false (words (codes "  merge ")) ≡ Ok view.Merge
 spaces-are_no_words = refl
@@ -80,20 +90,23 @@ script =
     (codes "print" ++ tab ++ codes "m") ∷
     (codes "add" ++ tab ++ codes "chr1" ++ tab ++ codes "90" ++ tab ++ codes "101") ∷ []
 
-pub script-steps : Steps Runs empty script (silent ∷ silent ∷ silent ∷ printed (view_text view.Merge g with_two.track.rows) ∷ refused_as 7 ∷ []) with_two
+abbrev silent : Written
+silent = printed []
+
+pub script-steps : Steps Runs empty script (silent ∷ silent ∷ silent ∷ printed (view_text view.Merge g with_two.track.rows) ∷ refused_by (Some 7) ∷ []) with_two
 script-steps = (
   with_a_view,
-  inl (refl, refl),
+  inl ([], ((view.Merge, refl, refl), refl), refl),
   (
     with_one,
-    inl (omega arith, refl, refl),
+    inl ([], (omega arith, refl, refl), refl),
     (
       with_two,
-      inl (omega arith, refl, refl),
+      inl ([], (omega arith, refl, refl), refl),
       (
         with_two,
-        (refl, refl),
-        (with_two, (refl, refl), refl),
+        inl (view_text view.Merge g with_two.track.rows, (merging, refl, refl, refl), refl),
+        (with_two, inr (line.Request (request_fault.Record record_fault.PastEnd), refl, refl, refl), refl),
       ),
     ),
   ),

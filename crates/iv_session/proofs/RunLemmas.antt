@@ -1,36 +1,96 @@
 -- One line of a script.
-use Rattle.std.proofs.Common.{◌≡◌, ℕ, ◌<◌, arith, length, List, [], ◌∷◌, Option, Some, None, Result, Ok, Err, refl, sym, ap, ◌∙◌, subst}
-use Rattle.std.specs.Prelude.{MatchOption, MatchResult, IfErr}
+use Rattle.std.proofs.Common.{◌≡◌, ℕ, List, [], Option, Some, None, Result, Ok, Err, inl, inr, refl, sym, ap, ◌∙◌, subst, take, IfErr}
+use Rattle.std.specs.Prelude.{MatchOption, MatchResult, find}
+use Rattle.std.specs.Option.{is_some}
 use Rattle.iv_bytes.specs.Sinks.{SinkState, Takes, FailsIn, Puts}
-use Rattle.iv_bytes.specs.declared.sink.WriteFault.{WriteFault}
 use Rattle.iv_bytes.proofs.Putting.{Takes-nothing}
+use Rattle.iv_text.specs.Fields.{words}
 use Rattle.iv_view.specs.Views.{view_text}
+use Rattle.iv_view.specs.declared.fault.ViewFault.{ViewFault}
+use Rattle.iv_view.proofs.WordLemmas.{words-cut}
 use Rattle.iv_state.specs.States.{State}
-use Rattle.iv_state.specs.Views.{view_named, all_text}
-use Rattle.iv_session.specs.Written.{Written, silent, printed, refused_as, refusal_count, written_of, told}
-use Rattle.iv_session.specs.Commands.{Runs, Does, Prints, PrintsAll, PrintsNamed, PrintsView, command_of, arguments, only_field}
-use Rattle.iv_session.specs.Scripts.{PrintsAs, PrintsLine, TellsOf, RanLine, FailedLine}
-use Rattle.iv_session.specs.declared.command.Command.{Command}
+use Rattle.iv_state.specs.Views.{view_named, opened, unless_fault, has_name_fault, name_faults, Opens, RefusesOpen, all_text}
 use Rattle.iv_state.specs.declared.views.OpenView.{OpenView}
-use Rattle.iv_session.specs.declared.fault.LineRefusal.{LineRefusal}
-use Rattle.iv_session.specs.declared.fault.LineRefusal.TheVariants as refusal
 use Rattle.iv_state.specs.declared.fault.PrintFault.{PrintFault}
 use Rattle.iv_state.specs.declared.fault.PrintFault.TheVariants as printing
+use Rattle.iv_session.specs.Requests.{request_code, fault_code}
+use Rattle.iv_session.specs.Written.{Written, printed, refused_by, refusal_count, told}
+use Rattle.iv_session.specs.Running.{Ends, DoesAsked, RefusesAsked, Writes, WritesFault}
+use Rattle.iv_session.specs.Scripts.{RanLine, FailedLine, Tells, refusals_of}
+use Rattle.iv_session.specs.declared.request.Request.{Request}
+use Rattle.iv_session.specs.declared.request.Request.TheVariants as request
+use Rattle.iv_session.specs.declared.fault.RequestFault.{RequestFault}
+use Rattle.iv_session.specs.declared.fault.LineFault.{LineFault}
+use Rattle.iv_session.specs.declared.fault.LineFault.TheVariants as line
 use Rattle.iv_session.specs.declared.running.Outcome.{Outcome}
-use Rattle.iv_session.specs.declared.running.FailedSink.{FailedSink}
-use Rattle.iv_session.specs.declared.running.FailedSink.TheVariants as sink
+use Rattle.iv_session.specs.declared.running.Outcome.TheVariants as outcome
+use Rattle.iv_session.specs.declared.script.RunCause.{RunCause}
+
+-- ---- a request
+
+-- a line is done, and its text is put
+pub done : (asks : Result Request RequestFault) (old new : State) (out0 out1 : SinkState) (text : List ℕ)
+    → DoesAsked asks old new text → Takes out0 out1 text → Writes (Ends asks old new) out0 out1 (Ok tt)
+done asks old new out0 out1 text does took = record {
+  written = printed text;
+  ends = inl (text, does, refl);
+  writes = (took, refl);
+}
+
+-- a line is done that prints nothing
+pub done-silent : (asks : Result Request RequestFault) (old new : State) (out : SinkState)
+    → DoesAsked asks old new [] → Writes (Ends asks old new) out out (Ok tt)
+done-silent asks old new out does = done asks old new out out [] does (Takes-nothing out)
+
+-- a line is done, and the output failed at its text
+pub done-failed : (asks : Result Request RequestFault) (old new : State) (out0 out1 : SinkState) (text : List ℕ)
+    → DoesAsked asks old new text → FailsIn out0 out1 text → Writes (Ends asks old new) out0 out1 (Err (line.Print printing.Write))
+done-failed asks old new out0 out1 text does failed = record {
+  written = printed text;
+  ends = inl (text, does, refl);
+  writes = (failed, refl);
+}
+
+-- a line is refused
+pub refused : (asks : Result Request RequestFault) (old new : State) (out : SinkState) (f : LineFault) (code : ℕ)
+    → fault_code f ≡ Some code → RefusesAsked asks old f → new ≡ old → Writes (Ends asks old new) out out (Err f)
+refused asks old new out f code is why same = record {
+  written = refused_by (Some code);
+  ends = inr (f, why, same, ap refused_by (sym is));
+  writes = subst (λ (c : Option ℕ). WritesFault c out out (refused_by (Some code))) (sym is) (Takes-nothing out, refl);
+}
+
+-- a line that is no request
+pub not-asked : (asks : Result Request RequestFault) (s : State) (out : SinkState) (f : RequestFault) → Err f ≡ asks
+    → Writes (Ends asks s s) out out (Err (line.Request f))
+not-asked asks s out f is =
+    subst (λ (a : Result Request RequestFault). Writes (Ends a s s) out out (Err (line.Request f))) is
+    (refused (Err f) s s out (line.Request f) (request_code f) refl refl refl)
+
+-- a line that is a request
+pub is-asked : (asks : Result Request RequestFault) (old new : State) (out0 out1 : SinkState) (r : Request) (result : Result (Unit {0}) LineFault)
+    → Ok r ≡ asks → Writes (Ends (Ok r) old new) out0 out1 result → Writes (Ends asks old new) out0 out1 result
+is-asked asks old new out0 out1 r result is writes =
+    subst (λ (a : Result Request RequestFault). Writes (Ends a old new) out0 out1 result) is writes
+
+-- words that are cut off behind the ninth open the same view
+opened-cut : (s : State) (name text : List ℕ) → opened s name (take 9 (words text)) ≡ opened s name (words text)
+opened-cut s name text =
+    ap (unless_fault (find (has_name_fault s name) name_faults)) (words-cut s.track.width (is_some s.second) (is_some s.bases) (words text))
+
+pub Opens-cut : (s new : State) (name text : List ℕ) → Opens s name (take 9 (words text)) new → Opens s name (words text) new
+Opens-cut s new name text (view, is, same) = (view, sym (opened-cut s name text) ∙ is, same)
+
+pub RefusesOpen-cut : (s : State) (name text : List ℕ) (f : ViewFault) → RefusesOpen s name (take 9 (words text)) f
+    → RefusesOpen s name (words text) f
+RefusesOpen-cut s name text f why = rw (sym (opened-cut s name text)) why
 
 -- ---- a print
 
 -- what a print answers
-abbrev all_put : Result (Unit {0}) PrintFault
-all_put = Ok tt
-
-abbrev no_view : Result (Unit {0}) PrintFault
-no_view = Err printing.NoView
-
-abbrev cut_off : Result (Unit {0}) PrintFault
-cut_off = Err printing.Write
+abbrev answered : Option PrintFault → Result (Unit {0}) PrintFault
+answered None = Ok tt
+answered (Some f) = Err f
 
 -- what a print of a view says, as `print_view` has it
 abbrev pub PrintsIt : State → List ℕ → SinkState → SinkState → Result (Unit {0}) PrintFault → Type 0
@@ -38,130 +98,78 @@ PrintsIt s name out0 out1 result = MatchOption (view_named s.views name)
     ((result ≡ Err printing.NoView) × (out1 ≡ out0))
     (λ v. Puts out0 out1 result (view_text v.view s.genome s.track.rows) × IfErr result (λ f. f ≡ printing.Write))
 
-prints-named : (s : State) (cs : List (List ℕ)) (name : List ℕ) (o : Option OpenView) (written : Written) → only_field cs ≡ Some name → view_named s.views name ≡ o
-    → PrintsView o s s written → Prints cs s s written
-prints-named s cs name o written one is prints =
-    subst (λ (f : Option (List ℕ)). PrintsNamed f s s written) (sym one) (subst (λ (v : Option OpenView). PrintsView v s s written) (sym is) prints)
-
-pub printed-ok : (s : State) (cs : List (List ℕ)) (name : List ℕ) (out0 out1 : SinkState) → only_field cs ≡ Some name
-    → PrintsIt s name out0 out1 (Ok tt) → PrintsLine (Prints cs s s) out0 out1 (Ok (Ok tt))
-printed-ok s cs name out0 out1 one it = by (view_named s.views name) refl it
+pub printed-view : (s : State) (name : List ℕ) (out0 out1 : SinkState)
+    → PrintsIt s name out0 out1 (Ok tt) → Writes (Ends (Ok (request.Print name)) s s) out0 out1 (Ok tt)
+printed-view s name out0 out1 it = by (view_named s.views name) refl it
   where
     by : (o : Option OpenView) → view_named s.views name ≡ o
-        → MatchOption o ((all_put ≡ no_view) × (out1 ≡ out0)) (λ v. Puts out0 out1 all_put (view_text v.view s.genome s.track.rows) × IfErr all_put (λ f. f ≡ printing.Write))
-        → PrintsLine (Prints cs s s) out0 out1 (Ok (Ok tt))
+        → MatchOption o ((answered None ≡ answered (Some printing.NoView)) × (out1 ≡ out0))
+        (λ v. Puts out0 out1 (answered None) (view_text v.view s.genome s.track.rows) × IfErr (answered None) (λ f. f ≡ printing.Write))
+        → Writes (Ends (Ok (request.Print name)) s s) out0 out1 (Ok tt)
     by None is it = absurd (cc (it.0))
-    by (Some v) is it = record {
-      written = printed (view_text v.view s.genome s.track.rows);
-      prints = prints-named s cs name (Some v) (printed (view_text v.view s.genome s.track.rows)) one is (refl, refl);
-      puts = (it.0, refl);
-    }
+    by (Some v) is it = done (Ok (request.Print name)) s s out0 out1 (view_text v.view s.genome s.track.rows) (v, is, refl, refl) it.0
 
-pub printed-none : (s : State) (cs : List (List ℕ)) (name : List ℕ) (out0 out1 : SinkState) → only_field cs ≡ Some name
-    → PrintsIt s name out0 out1 (Err printing.NoView) → PrintsLine (Prints cs s s) out0 out1 (Ok (Err refusal.NoView))
-printed-none s cs name out0 out1 one it = by (view_named s.views name) refl it
+pub printed-none : (s : State) (name : List ℕ) (out0 out1 : SinkState) (f : PrintFault)
+    → PrintsIt s name out0 out1 (Err f) → Writes (Ends (Ok (request.Print name)) s s) out0 out1 (Err (line.Print f))
+printed-none s name out0 out1 f it = by f (view_named s.views name) refl it
   where
-    by : (o : Option OpenView) → view_named s.views name ≡ o
-        → MatchOption o ((no_view ≡ no_view) × (out1 ≡ out0)) (λ v. Puts out0 out1 no_view (view_text v.view s.genome s.track.rows) × IfErr no_view (λ f. f ≡ printing.Write))
-        → PrintsLine (Prints cs s s) out0 out1 (Ok (Err refusal.NoView))
-    by None is it = record {
-      written = refused_as 21;
-      prints = prints-named s cs name None (refused_as 21) one is (refl, refl);
-      puts = (subst (λ (o : SinkState). Takes out0 o []) (sym it.1) (Takes-nothing out0), refl);
-    }
-    by (Some v) is it = absurd (cc (it.1))
-
-pub printed-failed : (s : State) (cs : List (List ℕ)) (name : List ℕ) (out0 out1 : SinkState) (failed : WriteFault) → only_field cs ≡ Some name
-    → PrintsIt s name out0 out1 (Err printing.Write) → PrintsLine (Prints cs s s) out0 out1 (Err failed)
-printed-failed s cs name out0 out1 failed one it = by (view_named s.views name) refl it
-  where
-    by : (o : Option OpenView) → view_named s.views name ≡ o
-        → MatchOption o ((cut_off ≡ no_view) × (out1 ≡ out0)) (λ v. Puts out0 out1 cut_off (view_text v.view s.genome s.track.rows) × IfErr cut_off (λ f. f ≡ printing.Write))
-        → PrintsLine (Prints cs s s) out0 out1 (Err failed)
-    by None is it = absurd (cc (it.0))
-    by (Some v) is it = record {
-      written = printed (view_text v.view s.genome s.track.rows);
-      prints = prints-named s cs name (Some v) (printed (view_text v.view s.genome s.track.rows)) one is (refl, refl);
-      puts = (it.0, refl);
-    }
-
--- a print of no name, or of more fields
-pub printed-wrong : (s : State) (cs : List (List ℕ)) (out : SinkState) → only_field cs ≡ None → PrintsLine (Prints cs s s) out out (Ok (Err refusal.Command))
-printed-wrong s cs out none = record {
-  written = refused_as 1;
-  prints = subst (λ (f : Option (List ℕ)). PrintsNamed f s s (refused_as 1)) (sym none) (refl, refl);
-  puts = (Takes-nothing out, refl);
-}
+    by : (f : PrintFault) (o : Option OpenView) → view_named s.views name ≡ o
+        → MatchOption o ((answered (Some f) ≡ answered (Some printing.NoView)) × (out1 ≡ out0))
+        (λ v. Puts out0 out1 (answered (Some f)) (view_text v.view s.genome s.track.rows) × IfErr (answered (Some f)) (λ f. f ≡ printing.Write))
+        → Writes (Ends (Ok (request.Print name)) s s) out0 out1 (Err (line.Print f))
+    by printing.NoView None is it =
+        subst (λ (o : SinkState). Writes (Ends (Ok (request.Print name)) s s) out0 o (Err (line.Print printing.NoView))) (sym it.1)
+        (refused (Ok (request.Print name)) s s out0 (line.Print printing.NoView) 21 refl is refl)
+    by printing.NoView (Some v) is it = absurd (cc (it.1))
+    by printing.Write None is it = absurd (cc (it.0))
+    by printing.Write (Some v) is it =
+        done-failed (Ok (request.Print name)) s s out0 out1 (view_text v.view s.genome s.track.rows) (v, is, refl, refl) it.0
 
 -- a print of all views
-pub printed-all : (s : State) (cs : List (List ℕ)) (out0 out1 : SinkState) (result : Result (Result (Unit {0}) LineRefusal) WriteFault)
-    → cs ≡ [] → PrintsAs out0 out1 result (printed (all_text s)) → PrintsLine (PrintsAll cs s s) out0 out1 result
-printed-all s cs out0 out1 result none puts = record {
-  written = printed (all_text s);
-  prints = subst (λ (l : List (List ℕ)). PrintsAll l s s (printed (all_text s))) (sym none) (refl, refl);
-  puts = puts;
-}
+pub printed-all-failed : (s : State) (out0 out1 : SinkState) (f : PrintFault) → FailsIn out0 out1 (all_text s) → f ≡ printing.Write
+    → Writes (Ends (Ok request.PrintAll) s s) out0 out1 (Err (line.Print f))
+printed-all-failed s out0 out1 f failed is = rw is (done-failed (Ok request.PrintAll) s s out0 out1 (all_text s) (refl, refl) failed)
 
--- all views are printed by a command without fields
-pub printed-all_wrong : (s : State) (cs : List (List ℕ)) (out : SinkState) → 0 < length cs → PrintsLine (PrintsAll cs s s) out out (Ok (Err refusal.Command))
-printed-all_wrong s [] out some = absurd (omega arith)
-printed-all_wrong s (field ∷ cs) out some = record {
-  written = refused_as 1;
-  prints = (refl, refl);
-  puts = (Takes-nothing out, refl);
-}
-
--- ---- a line, and what is told of it
+-- ---- what is told of a line
 
 -- the fact that each line ends with
-abbrev pub Ran : State → State → ℕ → List ℕ → SinkState → SinkState → SinkState → SinkState → Result Outcome FailedSink → Type 0
-Ran old new n line out0 out1 said0 said1 result = MatchResult result
-    (λ ended_as. RanLine Runs old new n line out0 out1 said0 said1 ended_as) (λ failed. FailedLine Runs old new n line out0 out1 said0 said1 failed)
+abbrev pub Ran : (Written → Type 0) → ℕ → SinkState → SinkState → SinkState → SinkState → Result Outcome RunCause → Type 0
+Ran may n out0 out1 said0 said1 result = MatchResult result
+    (λ ended_as. RanLine may n out0 out1 said0 said1 ended_as) (λ failed. FailedLine may n out0 out1 said0 said1 failed)
 
-runs-as : (kind : Command) (old new : State) (line : List ℕ) (written : Written) → command_of line ≡ kind → Does kind (arguments line) old new written → Runs old line new written
-runs-as kind old new line written is does = subst (λ (k : Command). Does k (arguments line) old new written) (sym is) does
-
--- a line that writes nothing to the output
-pub ran-quiet : (kind : Command) (old new : State) (n : ℕ) (line : List ℕ) (out out1 said0 said1 : SinkState) (done : Result (Unit {0}) LineRefusal) (result : Result Outcome FailedSink)
-    → command_of line ≡ kind → Does kind (arguments line) old new (written_of done) → out1 ≡ out → TellsOf done n said0 said1 result → Ran old new n line out out1 said0 said1 result
-ran-quiet kind old new n line out out1 said0 said1 done result is does same tells = by done result does tells
-  where
-    put : Takes out out1 []
-    put = subst (λ (o : SinkState). Takes out o []) (sym same) (Takes-nothing out)
-
-    by : (done : Result (Unit {0}) LineRefusal) (result : Result Outcome FailedSink) → Does kind (arguments line) old new (written_of done) → TellsOf done n said0 said1 result → Ran old new n line out out1 said0 said1 result
-    by (Ok _) (Ok ended_as) does tells = record { written = silent; makes = runs-as kind old new line silent is does; output = put; messages = tells.0; count = tells.1 }
-    by (Err f) (Ok ended_as) does tells = record { written = written_of (Err f); makes = runs-as kind old new line (written_of (Err f)) is does; output = put; messages = tells.0; count = tells.1 }
-    by (Ok _) (Err sink.Messages) does tells = record { written = silent; makes = runs-as kind old new line silent is does; texts = (put, tells.0) }
-    by (Err f) (Err sink.Messages) does tells = record { written = written_of (Err f); makes = runs-as kind old new line (written_of (Err f)) is does; texts = (put, tells.0) }
-    by (Ok _) (Err sink.Output) does tells = absurd (cc (tells.1))
-    by (Err f) (Err sink.Output) does tells = absurd (cc (tells.1))
-
--- a line that prints, or is refused
-pub ran-print : (kind : Command) (s : State) (n : ℕ) (line : List ℕ) (out0 out1 said0 said1 : SinkState) (done : Result (Unit {0}) LineRefusal) (result : Result Outcome FailedSink)
-    → command_of line ≡ kind → PrintsLine (Does kind (arguments line) s s) out0 out1 (Ok done) → TellsOf done n said0 said1 result → Ran s s n line out0 out1 said0 said1 result
-ran-print kind s n line out0 out1 said0 said1 done result is prints tells = by result tells
-  where
-    by : (result : Result Outcome FailedSink) → TellsOf done n said0 said1 result → Ran s s n line out0 out1 said0 said1 result
-    by (Ok ended_as) tells = record {
-      written = prints.written;
-      makes = runs-as kind s s line prints.written is prints.prints;
-      output = prints.puts.0;
-      messages = subst (λ (r : Option (List ℕ)). Takes said0 said1 (told n r)) (sym prints.puts.1) tells.0;
-      count = ap refusal_count prints.puts.1 ∙ tells.1;
-    }
-    by (Err sink.Messages) tells = record {
-      written = prints.written;
-      makes = runs-as kind s s line prints.written is prints.prints;
-      texts = (prints.puts.0, subst (λ (r : Option (List ℕ)). FailsIn said0 said1 (told n r)) (sym prints.puts.1) tells.0);
-    }
-    by (Err sink.Output) tells = absurd (cc (tells.1))
-
--- a line at whose print the output failed
-pub failed-print : (kind : Command) (s : State) (n : ℕ) (line : List ℕ) (out0 out1 said : SinkState) (failed : WriteFault)
-    → command_of line ≡ kind → PrintsLine (Does kind (arguments line) s s) out0 out1 (Err failed) → FailedLine Runs s s n line out0 out1 said said sink.Output
-failed-print kind s n line out0 out1 said failed is prints = record {
-  written = prints.written;
-  makes = runs-as kind s s line prints.written is prints.prints;
-  texts = (prints.puts.0, Takes-nothing said);
+-- a line that was done
+pub ran-done : (may : Written → Type 0) (n : ℕ) (out0 out1 said : SinkState)
+    → Writes may out0 out1 (Ok tt) → RanLine may n out0 out1 said said outcome.Done
+ran-done may n out0 out1 said did = record {
+  written = did.written;
+  makes = did.ends;
+  output = did.writes.0;
+  messages = subst (λ (r : Option (List ℕ)). Takes said said (told n r)) (sym did.writes.1) (Takes-nothing said);
+  count = ap refusal_count did.writes.1;
 }
+
+-- a line that was not done
+pub ran-fault : (may : Written → Type 0) (n : ℕ) (out0 out1 said0 said1 : SinkState) (f : LineFault) (result : Result Outcome RunCause)
+    → Writes may out0 out1 (Err f) → Tells (fault_code f) n said0 said1 result → Ran may n out0 out1 said0 said1 result
+ran-fault may n out0 out1 said0 said1 f result did tells = by (fault_code f) result did.writes tells
+  where
+    by : (code : Option ℕ) (result : Result Outcome RunCause) → WritesFault code out0 out1 did.written → Tells code n said0 said1 result
+        → Ran may n out0 out1 said0 said1 result
+    by None (Ok ended_as) writes tells = absurd tells
+    by None (Err failed) writes tells =
+        subst (λ (o : SinkState). FailedLine may n out0 out1 said0 o failed) (sym tells.0)
+        (subst (λ (c : RunCause). FailedLine may n out0 out1 said0 said0 c) (sym tells.1)
+        (record { written = did.written; makes = did.ends; texts = (writes.0, Takes-nothing said0) }))
+    by (Some code) (Ok ended_as) writes tells = record {
+      written = did.written;
+      makes = did.ends;
+      output = writes.0;
+      messages = subst (λ (r : Option (List ℕ)). Takes said0 said1 (told n r)) (sym writes.1) tells.0;
+      count = ap refusal_count writes.1 ∙ sym (ap refusals_of tells.1);
+    }
+    by (Some code) (Err failed) writes tells =
+        subst (λ (c : RunCause). FailedLine may n out0 out1 said0 said1 c) (sym tells.1) (record {
+          written = did.written;
+          makes = did.ends;
+          texts = (writes.0, subst (λ (r : Option (List ℕ)). FailsIn said0 said1 (told n r)) (sym writes.1) tells.0);
+        })

@@ -1,5 +1,7 @@
+pub mod Streams
 pub mod Written
+pub mod Requests
+pub mod Running
 pub mod Reading
-pub mod Commands
 pub mod Scripts
 pub mod Stops

@@ -1,41 +1,21 @@
--- What a line of a script writes, and the numbers of faults.
-use Rattle.std.specs.Prelude.{ℕ, ◌+◌, ◌++◌, List, [], ◌∷◌, Option, None, Some, Result, Ok, Err, codes, decimal}
+-- What a line of a script writes.
+use Rattle.std.specs.Prelude.{ℕ, ◌+◌, ◌++◌, List, [], ◌∷◌, Option, None, Some, codes, decimal}
 use Rattle.std.specs.List.{flat_map}
-use Rattle.iv_text.specs.Fault.{fault_text, record_code}
-use Rattle.iv_view.specs.Views.{view_code}
-use Rattle.iv_state.specs.Edits.{edit_code}
-use Rattle.iv_session.specs.declared.fault.LineRefusal.{LineRefusal}
-use Rattle.iv_session.specs.declared.fault.LineRefusal.TheVariants as refusal
-
--- the number of a refusal
-abbrev pub refusal_code : LineRefusal → ℕ
-refusal_code refusal.Command = 1
-refusal_code (refusal.Record f) = record_code f
-refusal_code (refusal.Edit f) = edit_code f
-refusal_code (refusal.View f) = view_code f
-refusal_code refusal.NoView = 21
+use Rattle.std.specs.Option.{option_map}
+use Rattle.iv_text.specs.Fault.{fault_text}
 
 -- what a line writes: a text to the output, and where it is refused the reason to the messages
 pub record Written : Type 0 where
   pub output : List ℕ
   pub refusal : Option (List ℕ)
 
--- a line that writes nothing
-abbrev pub silent : Written
-silent = record { output = []; refusal = None }
-
--- a line that prints a text
+-- a line that is done, with its text
 abbrev pub printed : List ℕ → Written
 printed text = record { output = text; refusal = None }
 
--- a line that is refused
-abbrev pub refused_as : ℕ → Written
-refused_as code = record { output = []; refusal = Some (fault_text code) }
-
--- what an edit or an opening writes
-abbrev pub written_of : Result (Unit {0}) LineRefusal → Written
-written_of (Ok done) = silent
-written_of (Err fault) = refused_as (refusal_code fault)
+-- a line that is refused for the fault with this number
+abbrev pub refused_by : Option ℕ → Written
+refused_by code = record { output = []; refusal = option_map fault_text code }
 
 -- the message on line number n
 abbrev pub message : ℕ → List ℕ → List ℕ

@@ -1,62 +1,130 @@
 //! Why a line of a script is refused.
-ghost use Rattle.std.specs.Prelude.{◌≡◌, ◌≤◌};
-ghost use Rattle.iv_session.specs.Written.{refusal_code};
+ghost use Rattle.std.specs.Prelude.{◌≡◌, ◌≤◌, Some, None, IfSome};
+ghost use Rattle.iv_session.specs.Requests.{request_code, fault_code};
 
-use iv_state::EditFault;
+use iv_state::{EditFault, NoView, PrintFault};
 use iv_text::RecordFault;
 use iv_view::ViewFault;
 use thiserror::Error;
 
-/// Why a line of a script is refused.
+/// Why a line is no request.
 #[derive(Clone, Copy, Debug, PartialEq, Eq, Error)]
-pub(crate) enum LineRefusal {
-    /// E1: no such command, or another number of fields than it takes.
+pub(crate) enum RequestFault {
+    /// E1: no such command, or other fields than it takes.
     #[error("no such command or wrong fields")]
     Command,
+    /// E2 to E10: a record's fault.
     #[error("{0}")]
     Record(RecordFault),
+}
+
+impl From<RecordFault> for RequestFault {
+    ghost use Rattle.std.specs.Prelude.{◌≡◌};
+    ghost use Rattle.iv_session.specs.declared.fault.RequestFault.TheVariants.{Record};
+
+    ghost from_gives = { λ told fault. fault ≡ Record told };
+
+    fn from(told: RecordFault) -> RequestFault {
+        RequestFault::Record(told)
+    }
+}
+
+/// Why a line is not done.
+#[derive(Clone, Copy, Debug, PartialEq, Eq, Error)]
+pub(crate) enum LineFault {
+    #[error("{0}")]
+    Request(RequestFault),
     #[error("{0}")]
     Edit(EditFault),
     #[error("{0}")]
-    View(ViewFault),
-    /// E21: no view of this name is open.
-    #[error("no such view")]
-    NoView,
+    Open(ViewFault),
+    #[error("{0}")]
+    Close(NoView),
+    /// A view is not open, or the output failed.
+    #[error("{0}")]
+    Print(PrintFault),
 }
 
-impl From<RecordFault> for LineRefusal {
+impl From<RequestFault> for LineFault {
     ghost use Rattle.std.specs.Prelude.{◌≡◌};
-    ghost use Rattle.iv_session.specs.declared.fault.LineRefusal.TheVariants.{Record};
+    ghost use Rattle.iv_session.specs.declared.fault.LineFault.TheVariants.{Request};
 
-    ghost from_gives = { λ told refusal. refusal ≡ Record told };
+    ghost from_gives = { λ told fault. fault ≡ Request told };
 
-    fn from(told: RecordFault) -> LineRefusal {
-        LineRefusal::Record(told)
+    fn from(told: RequestFault) -> LineFault {
+        LineFault::Request(told)
     }
 }
 
-impl From<EditFault> for LineRefusal {
+impl From<EditFault> for LineFault {
     ghost use Rattle.std.specs.Prelude.{◌≡◌};
-    ghost use Rattle.iv_session.specs.declared.fault.LineRefusal.TheVariants.{Edit};
+    ghost use Rattle.iv_session.specs.declared.fault.LineFault.TheVariants.{Edit};
 
-    ghost from_gives = { λ told refusal. refusal ≡ Edit told };
+    ghost from_gives = { λ told fault. fault ≡ Edit told };
 
-    fn from(told: EditFault) -> LineRefusal {
-        LineRefusal::Edit(told)
+    fn from(told: EditFault) -> LineFault {
+        LineFault::Edit(told)
     }
 }
 
-impl LineRefusal {
-    pub(crate) fn code(&self) -> u8
-        ensures value { result ≡ refusal_code self.now }
+impl From<ViewFault> for LineFault {
+    ghost use Rattle.std.specs.Prelude.{◌≡◌};
+    ghost use Rattle.iv_session.specs.declared.fault.LineFault.TheVariants.{Open};
+
+    ghost from_gives = { λ told fault. fault ≡ Open told };
+
+    fn from(told: ViewFault) -> LineFault {
+        LineFault::Open(told)
+    }
+}
+
+impl From<NoView> for LineFault {
+    ghost use Rattle.std.specs.Prelude.{◌≡◌};
+    ghost use Rattle.iv_session.specs.declared.fault.LineFault.TheVariants.{Close};
+
+    ghost from_gives = { λ told fault. fault ≡ Close told };
+
+    fn from(told: NoView) -> LineFault {
+        LineFault::Close(told)
+    }
+}
+
+impl From<PrintFault> for LineFault {
+    ghost use Rattle.std.specs.Prelude.{◌≡◌};
+    ghost use Rattle.iv_session.specs.declared.fault.LineFault.TheVariants.{Print};
+
+    ghost from_gives = { λ told fault. fault ≡ Print told };
+
+    fn from(told: PrintFault) -> LineFault {
+        LineFault::Print(told)
+    }
+}
+
+impl RequestFault {
+    /// Its number in the table of faults.
+    fn code(&self) -> u8
+        ensures value { result ≡ request_code self.now }
         ensures known { (1 ≤ result) × (result ≤ 24) }
     {
         match self {
-            LineRefusal::Command => 1,
-            LineRefusal::Record(fault) => fault.code(),
-            LineRefusal::Edit(fault) => fault.code(),
-            LineRefusal::View(fault) => fault.code(),
-            LineRefusal::NoView => 21,
+            RequestFault::Command => 1,
+            RequestFault::Record(fault) => fault.code(),
+        }
+    }
+}
+
+impl LineFault {
+    /// Its number in the table of faults, `None` where the output failed.
+    pub(crate) fn code(&self) -> Option<u8>
+        ensures value { result ≡ fault_code self.now }
+        ensures known { IfSome result (λ code. (1 ≤ code) × (code ≤ 24)) }
+    {
+        match self {
+            LineFault::Request(fault) => Some(fault.code()),
+            LineFault::Edit(fault) => Some(fault.code()),
+            LineFault::Open(fault) => Some(fault.code()),
+            LineFault::Close(fault) => Some(fault.code()),
+            LineFault::Print(fault) => fault.code(),
         }
     }
 }

@@ -1,10 +1,11 @@
 //! Scripts of a session: the lines by which a curator corrects a track and prints its views.
 #![tactic(auto)]
 
-mod command;
 mod fault;
+mod fields;
 mod line;
 mod message;
+mod request;
 mod running;
 mod script;
 

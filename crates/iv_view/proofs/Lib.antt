@@ -1,1 +1,2 @@
 mod CuttingLemmas
+pub mod WordLemmas

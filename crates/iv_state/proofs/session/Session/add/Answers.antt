@@ -3,7 +3,6 @@ use Rattle.std.proofs.lemmas.Result.{err_from_is_err_and}
 use Rattle.iv_text.specs.Ordered.{copies}
 use Rattle.iv_text.specs.Read.{Fits}
 use Rattle.iv_text.specs.Row.{Row}
-use Rattle.iv_track.specs.Tracked.{Tracked}
 use Rattle.iv_track.specs.declared.fault.AddFault.{AddFault}
 use Rattle.iv_track.specs.declared.fault.AddFault.TheVariants as adding
 use Rattle.iv_state.specs.Edits.{RefusesAdd, fault_of_add}

@@ -2,7 +2,6 @@ use Rattle.std.proofs.Common.{◌≡◌, sym, subst}
 use Rattle.std.proofs.lemmas.Result.{err_from_is_err_and}
 use Rattle.iv_text.specs.Ordered.{copies}
 use Rattle.iv_text.specs.Row.{Row}
-use Rattle.iv_track.specs.Tracked.{Tracked}
 use Rattle.iv_state.specs.States.{State, IsSession}
 use Rattle.iv_state.proofs.SessionLemmas.{session-removed}
 use Rattle.iv_state.proofs.session.Session.remove.Goals as goal

@@ -1,0 +1,84 @@
+-- What a line of a script may do.
+use Rattle.std.specs.Prelude.{◌≡◌, ◌<◌, ◌⊎◌, ℕ, List, [], Option, None, Some, Result, Ok, Err, IsSome, length}
+use Rattle.iv_bytes.specs.Sinks.{SinkState, Takes, FailsIn}
+use Rattle.iv_text.specs.Fault.{fault_text}
+use Rattle.iv_text.specs.Fields.{words}
+use Rattle.iv_text.specs.Ordered.{copies}
+use Rattle.iv_view.specs.Views.{view_text}
+use Rattle.iv_state.specs.States.{State, with_record, without_record, with_replaced, without_view}
+use Rattle.iv_state.specs.Edits.{RefusesAdd, RefusesRemove, RefusesReplace}
+use Rattle.iv_state.specs.Views.{view_named, Opens, RefusesOpen, all_text}
+use Rattle.iv_state.specs.declared.views.OpenView.{OpenView}
+use Rattle.iv_state.specs.declared.fault.PrintFault.TheVariants as printing
+use Rattle.iv_session.specs.Requests.{asked, fault_code}
+use Rattle.iv_session.specs.Written.{Written, printed, refused_by}
+use Rattle.iv_session.specs.declared.fault.LineFault.{LineFault}
+use Rattle.iv_session.specs.declared.fault.LineFault.TheVariants as fault
+use Rattle.iv_session.specs.declared.fault.RequestFault.{RequestFault}
+use Rattle.iv_session.specs.declared.request.Request.{Request}
+use Rattle.iv_session.specs.declared.request.Request.TheVariants as request
+
+-- a request is done: it leads from this state to that one, and this is its text
+abbrev pub Does : Request → State → State → List ℕ → Type 0
+Does request.Nothing old new text = (new ≡ old) × (text ≡ [])
+Does (request.Add r) old new text =
+    (length old.track.rows < old.track.limit) × (new ≡ with_record old r) × (text ≡ [])
+Does (request.Remove r) old new text =
+    (0 < copies old.track.rows r) × (new ≡ without_record old r) × (text ≡ [])
+Does (request.Replace r q) old new text =
+    (0 < copies old.track.rows r) × (new ≡ with_replaced old r q) × (text ≡ [])
+Does (request.Open name said) old new text = Opens old name (words said) new × (text ≡ [])
+Does (request.Close name) old new text =
+    IsSome (view_named old.views name) × (new ≡ without_view old name) × (text ≡ [])
+Does (request.Print name) old new text =
+    (v : OpenView) × (view_named old.views name ≡ Some v) × (new ≡ old)
+    × (text ≡ view_text v.view old.genome old.track.rows)
+Does request.PrintAll old new text = (new ≡ old) × (text ≡ all_text old)
+
+-- why a request is refused
+abbrev pub Refuses : Request → State → LineFault → Type 0
+Refuses (request.Add r) s (fault.Edit f) = RefusesAdd s r f
+Refuses (request.Remove r) s (fault.Edit f) = RefusesRemove s r f
+Refuses (request.Replace r q) s (fault.Edit f) = RefusesReplace s r q f
+Refuses (request.Open name said) s (fault.Open f) = RefusesOpen s name (words said) f
+Refuses (request.Close name) s (fault.Close f) = view_named s.views name ≡ None
+Refuses (request.Print name) s (fault.Print printing.NoView) = view_named s.views name ≡ None
+Refuses other s f = ⊥
+
+-- what a line asks for is done, if it asks for anything
+abbrev pub DoesAsked : Result Request RequestFault → State → State → List ℕ → Type 0
+DoesAsked (Ok asks) old new text = Does asks old new text
+DoesAsked (Err f) old new text = ⊥
+
+-- why a line is refused: it is no request, or its request is refused
+abbrev pub RefusesAsked : Result Request RequestFault → State → LineFault → Type 0
+RefusesAsked (Ok asks) s f = Refuses asks s f
+RefusesAsked (Err told) s f = f ≡ fault.Request told
+
+-- how a line that asks for this may end: it is done, and its text is written; or it is refused: then nothing changes,
+-- and the message is that of the fault
+abbrev pub Ends : Result Request RequestFault → State → State → Written → Type 0
+Ends asks old new written =
+    ((text : List ℕ) × DoesAsked asks old new text × (written ≡ printed text))
+    ⊎ ((f : LineFault) × RefusesAsked asks old f × (new ≡ old) × (written ≡ refused_by (fault_code f)))
+
+-- what a line may do: from one state to another, with what it writes
+abbrev pub Runs : State → List ℕ → State → Written → Type 0
+Runs old line new written = Ends (asked old.genome old.track.width line) old new written
+
+-- what is written of a line that was not done, by the number of its fault: with one it is refused, and without one
+-- the output failed at its text. No part of what is promised
+abbrev pub WritesFault : Option ℕ → SinkState → SinkState → Written → Type 0
+WritesFault None out0 out1 written = FailsIn out0 out1 written.output × (written.refusal ≡ None)
+WritesFault (Some code) out0 out1 written =
+    Takes out0 out1 written.output × (written.refusal ≡ Some (fault_text code))
+
+abbrev pub WritesAs : Result (Unit {0}) LineFault → SinkState → SinkState → Written → Type 0
+WritesAs (Ok done) out0 out1 written = Takes out0 out1 written.output × (written.refusal ≡ None)
+WritesAs (Err f) out0 out1 written = WritesFault (fault_code f) out0 out1 written
+
+-- a line that may write this writes its text. No part of what is promised
+pub record Writes (may : Written → Type 0) (out0 out1 : SinkState) (result : Result (Unit {0}) LineFault) : Type 0 where
+  pub written : Written
+  pub ends : may written
+  pub writes : WritesAs result out0 out1 written

@@ -1,0 +1,120 @@
+//! What a line of a script asks for.
+ghost use Rattle.std.specs.Prelude.{◌≡◌, ◌≢◌, Err, IfOk};
+ghost use Rattle.iv_text.specs.Fields.{fields_left};
+ghost use Rattle.iv_text.specs.Read.{Fits, read_columns};
+ghost use Rattle.iv_session.specs.Requests.{asked, asked_by, both, read_two, RequestFits};
+
+use crate::fault::RequestFault;
+use crate::fields::{Field, no_field, one_field, split_columns, two_fields};
+use iv_state::Session;
+use iv_text::{RecordFault, RecordRef, split_first_column};
+use std::alloc::Allocator;
+
+/// What a line asks for. Names, words and columns lie in the line.
+#[derive(Drop)]
+pub(crate) enum Request<'a> {
+    /// Nothing: the line is empty or a comment.
+    Nothing,
+    Add(RecordRef<'a>),
+    Remove(RecordRef<'a>),
+    /// To take a copy of the first record out, and to add the second.
+    Replace(RecordRef<'a>, RecordRef<'a>),
+    /// To open a view under this name, by the words of this text.
+    Open(Field<'a>, Field<'a>),
+    Close(Field<'a>),
+    Print(Field<'a>),
+    PrintAll,
+}
+
+/// The record of the columns behind a command, or its first fault.
+fn one_row<'a, A: Allocator + Copy>(
+    session: &Session<A>,
+    fields: Option<&'a [u8]>,
+) -> Result<RecordRef<'a>, RecordFault>
+    ensures value { result ≡ read_columns session.now.genome session.now.track.width (fields_left 9 fields.entry) }
+    ensures fits { IfOk result (λ row. Fits session.now.genome session.now.track.width row) }
+{
+    session.read(fields.unwrap_or(b""))
+}
+
+/// Both records of a line, or a fault: that the second has too few or too many columns is told first, then a
+/// fault of the first record, then one of the second.
+fn both_rows<'a>(
+    first: Result<RecordRef<'a>, RecordFault>,
+    second: Result<RecordRef<'a>, RecordFault>,
+) -> Result<(RecordRef<'a>, RecordRef<'a>), RecordFault>
+    ensures columns { second.entry ≡ Err RecordFault.Columns → result ≡ Err RecordFault.Columns }
+    ensures others { second.entry ≢ Err RecordFault.Columns → result ≡ both first.entry second.entry }
+{
+    match (first, second) {
+        (_, Err(RecordFault::Columns)) => Err(RecordFault::Columns),
+        (Err(fault), _) => Err(fault),
+        (Ok(_), Err(fault)) => Err(fault),
+        (Ok(first), Ok(second)) => Ok((first, second)),
+    }
+}
+
+/// The two records of the columns behind a command, or their first fault.
+fn two_rows<'a, A: Allocator + Copy>(
+    session: &Session<A>,
+    fields: Option<&'a [u8]>,
+) -> Result<(RecordRef<'a>, RecordRef<'a>), RecordFault>
+    ensures value { result ≡ read_two session.now.genome session.now.track.width (fields_left 9 fields.entry) }
+    ensures first { IfOk result (λ rows. Fits session.now.genome session.now.track.width rows.0) }
+    ensures second { IfOk result (λ rows. Fits session.now.genome session.now.track.width rows.1) }
+{
+    let width = session.track().width();
+    match split_columns(fields.unwrap_or(b""), width) {
+        Some((old, new)) => both_rows(session.read(old), session.read(new)),
+        None => Err(RecordFault::Columns),
+    }
+}
+
+impl<'a> Request<'a> {
+    /// What a line asks for, or why it is no request: another command or other fields than it takes, or the first
+    /// fault of a record.
+    pub(crate) fn read<A: Allocator + Copy>(
+        session: &Session<A>,
+        line: &'a [u8],
+    ) -> Result<Request<'a>, RequestFault>
+        ensures value { result ≡ asked session.now.genome session.now.track.width line.now }
+        ensures fits { IfOk result (RequestFits session.now) }
+    {
+        if line.is_empty() || line[0] == b'#' {
+            return Ok(Request::Nothing);
+        }
+        let (word, fields) = split_first_column(line);
+        Request::of_command(session, word, fields)
+    }
+
+    /// What a command asks for with what stands behind its TAB, if it has one.
+    fn of_command<A: Allocator + Copy>(
+        session: &Session<A>,
+        word: &'a [u8],
+        fields: Option<&'a [u8]>,
+    ) -> Result<Request<'a>, RequestFault>
+        ensures value { result ≡ asked_by session.now.genome session.now.track.width word.now (fields_left 9 fields.entry) }
+        ensures fits { IfOk result (RequestFits session.now) }
+    {
+        if word == b"add".as_slice() {
+            Ok(Request::Add(one_row(session, fields)?))
+        } else if word == b"remove".as_slice() {
+            Ok(Request::Remove(one_row(session, fields)?))
+        } else if word == b"replace".as_slice() {
+            let (old, new) = two_rows(session, fields)?;
+            Ok(Request::Replace(old, new))
+        } else if word == b"open".as_slice() {
+            let (name, words) = two_fields(fields)?;
+            Ok(Request::Open(name, words))
+        } else if word == b"close".as_slice() {
+            Ok(Request::Close(one_field(fields)?))
+        } else if word == b"print".as_slice() {
+            Ok(Request::Print(one_field(fields)?))
+        } else if word == b"printall".as_slice() {
+            no_field(fields)?;
+            Ok(Request::PrintAll)
+        } else {
+            Err(RequestFault::Command)
+        }
+    }
+}
