@@ -1,15 +1,15 @@
 //! Each growth of a ledger's or a track's memory, refused in turn.
-ghost use Rattle.std.specs.Prelude.{◌≡◌, ◌<◌, ◌≤◌, IfOk};
+ghost use Rattle.std.specs.Prelude.{◌≡◌, IfOk};
 
 use crate::fixtures::{SIZES, genome, track_of};
 use iv_text::{Genome, LoadCause, Record, read_record};
-use iv_track::{AddFault, Ledger, Meter, ReplaceFault, Track};
+use iv_track::{Ledger, Meter, Track};
 use refusing::RefusesNth;
 use std::alloc::{AllocError, Allocator, Global};
 use std::test::Fail;
 
 /// So many that the trees split.
-pub(crate) const COUNT: u32 = 30;
+const COUNT: u32 = 30;
 
 /// What may be refused.
 #[derive(Clone, Copy, Debug)]
@@ -19,6 +19,16 @@ enum Call {
     Stage,
     Replace,
     FromRecords,
+}
+
+impl Call {
+    /// At which start the first record stands before so many edits of this kind were done, and how many there are.
+    fn before(self, done: u32) -> (u32, u32) {
+        match self {
+            Call::Replace => (done, COUNT),
+            _ => (0, done),
+        }
+    }
 }
 
 /// Whether the ledger holds the keys below the count, each with itself as its value.
@@ -34,7 +44,7 @@ fn holds_keys<A: Allocator + Clone + Drop>(ledger: &Ledger<u32, u32, A>, count: 
 }
 
 /// Whether the track holds one record at each start from the first one on, so many in all.
-pub(crate) fn holds_starts<A: Allocator + Copy>(track: &Track<A>, first: u32, count: u32) -> bool {
+fn holds_starts<A: Allocator + Copy>(track: &Track<A>, first: u32, count: u32) -> bool {
     let mut meter = Meter::new();
     let mut rows = track.walk(0, 0, &mut meter);
     for i in 0..count {
@@ -50,7 +60,7 @@ pub(crate) fn holds_starts<A: Allocator + Copy>(track: &Track<A>, first: u32, co
 }
 
 /// A line of four columns.
-pub(crate) fn line(rt: &HostRuntime, start: u32) -> Result<String, Fail> {
+fn line(rt: &HostRuntime, start: u32) -> Result<String, Fail> {
     let stop = u64::from(start) + 10;
     Ok(format!(in rt.alloc(); "chr1\t{start}\t{stop}\tname\n")?)
 }
@@ -92,96 +102,86 @@ fn refused_puts(alloc: &RefusesNth<Global>) -> Result<u32, Fail> {
     Ok(refused)
 }
 
-/// Adds or stages one record after the other, and says how many calls met the refusal. None of these changed the track.
-fn refused_adds(rt: &HostRuntime, alloc: &RefusesNth<Global>, staged: bool) -> Result<u32, Fail> {
-    let genome = genome(rt)?;
-    let mut meter = Meter::new();
-    let mut track = Track::new(alloc, 4, COUNT);
-    let mut refused = 0u32;
-    for start in 0..COUNT {
-        if put_record(&mut track, record(rt, &genome, alloc, start)?, staged)? {
-            continue;
-        }
-        refused = refused.saturating_add(1);
-        let row = record(rt, &genome, alloc, start)?;
-        if !holds_starts(&track, 0, start) || track.copies(&row, &mut meter) != 0 {
-            return Err(Fail::new("changed by a refused add"));
-        }
-        if !put_record(&mut track, row, staged)? {
-            return Err(Fail::new("refused twice"));
-        }
-    }
-    if !holds_starts(&track, 0, COUNT) {
-        return Err(Fail::new("another track"));
-    }
-    Ok(refused)
-}
-
-/// Adds or stages a record, unless memory is refused.
-fn put_record<'a>(
+/// Adds or stages the record at a start, or replaces it by the one as many bases on as there are records, unless
+/// memory is refused.
+fn is_done<'a>(
+    rt: &HostRuntime,
+    genome: &Genome,
     track: &mut Track<&'a RefusesNth<Global>>,
-    row: Record<&'a RefusesNth<Global>>,
-    staged: bool,
+    alloc: &'a RefusesNth<Global>,
+    call: Call,
+    start: u32,
 ) -> Result<bool, Fail> {
-    if row.width() != track.width() || track.len() >= track.limit() {
+    let row = record(rt, genome, alloc, start)?;
+    if track.width() != 4 || track.len() > track.limit() {
         return Err(Fail::new("another width, or no room"));
     }
     let mut meter = Meter::new();
-    if staged {
-        return Ok(track.stage(row, &mut meter).is_ok());
-    }
-    match track.add(row, &mut meter) {
-        Ok(()) => Ok(true),
-        Err(AddFault::NoMemory) => Ok(false),
-        Err(AddFault::Full) => Err(Fail::new("full")),
+    let fault = match call {
+        Call::Replace => {
+            let new = record(rt, genome, alloc, start.saturating_add(COUNT))?;
+            match track.replace(&row, new, &mut meter) {
+                Ok(()) => 0,
+                Err(fault) => fault.code(),
+            }
+        }
+        Call::Add => match track.add(row, &mut meter) {
+            Ok(()) => 0,
+            Err(fault) => fault.code(),
+        },
+        _ => match track.stage(row, &mut meter) {
+            Ok(()) => 0,
+            Err(_) => 22,
+        },
+    };
+    match fault {
+        0 => Ok(true),
+        22 => Ok(false),
+        _ => Err(Fail::new("another fault")),
     }
 }
 
-/// Replaces the first record by one behind the last, again and again, and says how many calls met the refusal.
-/// None of these changed the track.
-fn refused_replaces(rt: &HostRuntime, alloc: &RefusesNth<Global>) -> Result<u32, Fail> {
+/// Does an edit at a start, again where memory is refused. Whether it was, which must leave the track as it is.
+fn is_refused<'a>(
+    rt: &HostRuntime,
+    genome: &Genome,
+    track: &mut Track<&'a RefusesNth<Global>>,
+    alloc: &'a RefusesNth<Global>,
+    call: Call,
+    start: u32,
+) -> Result<bool, Fail> {
+    if is_done(rt, genome, track, alloc, call, start)? {
+        return Ok(false);
+    }
+    let (first, count) = call.before(start);
+    if !holds_starts(track, first, count) {
+        return Err(Fail::new("changed by a refused edit"));
+    }
+    if !is_done(rt, genome, track, alloc, call, start)? {
+        return Err(Fail::new("refused twice"));
+    }
+    Ok(true)
+}
+
+/// Edits a track at one start after the other, and says how many edits met the refusal.
+fn refused_edits<'a>(
+    rt: &HostRuntime,
+    track: &mut Track<&'a RefusesNth<Global>>,
+    alloc: &'a RefusesNth<Global>,
+    call: Call,
+) -> Result<u32, Fail> {
     let genome = genome(rt)?;
-    let mut meter = Meter::new();
-    let mut track = Track::new(alloc, 4, COUNT);
     let mut refused = 0u32;
     for start in 0..COUNT {
-        if !put_record(&mut track, record(rt, &genome, alloc, start)?, true)? {
-            put_record(&mut track, record(rt, &genome, alloc, start)?, true)?;
+        if is_refused(rt, &genome, track, alloc, call, start)? {
+            refused = refused.saturating_add(1);
         }
     }
-    for start in 0..COUNT {
-        let old = record(rt, &genome, alloc, start)?;
-        if put_other(&mut track, &old, record(rt, &genome, alloc, start + COUNT)?)? {
-            continue;
-        }
-        refused = refused.saturating_add(1);
-        let new = record(rt, &genome, alloc, start + COUNT)?;
-        if !holds_starts(&track, start, COUNT) || track.copies(&new, &mut meter) != 0 {
-            return Err(Fail::new("changed by a refused replace"));
-        }
-        if !put_other(&mut track, &old, new)? {
-            return Err(Fail::new("refused twice"));
-        }
-    }
-    if !holds_starts(&track, COUNT, COUNT) {
-        return Err(Fail::new("another track"));
-    }
-    Ok(refused)
-}
-
-/// Replaces a record, unless memory is refused.
-fn put_other<'a>(
-    track: &mut Track<&'a RefusesNth<Global>>,
-    old: &Record<&'a RefusesNth<Global>>,
-    new: Record<&'a RefusesNth<Global>>,
-) -> Result<bool, Fail> {
-    if new.width() != track.width() || track.len() > track.limit() {
-        return Err(Fail::new("another width, or no room"));
-    }
-    match track.replace(old, new, &mut Meter::new()) {
-        Ok(()) => Ok(true),
-        Err(ReplaceFault::NoMemory) => Ok(false),
-        Err(ReplaceFault::NotThere) => Err(Fail::new("not there")),
+    let (first, count) = call.before(COUNT);
+    if holds_starts(track, first, count) {
+        Ok(refused)
+    } else {
+        Err(Fail::new("another track"))
     }
 }
 
@@ -207,9 +207,15 @@ fn refused_builds(rt: &HostRuntime, alloc: &RefusesNth<Global>) -> Result<u32, F
 fn refused(rt: &HostRuntime, call: Call, alloc: &RefusesNth<Global>) -> Result<u32, Fail> {
     match call {
         Call::Put => refused_puts(alloc),
-        Call::Add => refused_adds(rt, alloc, false),
-        Call::Stage => refused_adds(rt, alloc, true),
-        Call::Replace => refused_replaces(rt, alloc),
+        Call::Add | Call::Stage => {
+            let mut track = Track::new(alloc, 4, COUNT);
+            refused_edits(rt, &mut track, alloc, call)
+        }
+        Call::Replace => {
+            let mut track = Track::new(alloc, 4, COUNT);
+            refused_edits(rt, &mut track, alloc, Call::Stage)?;
+            refused_edits(rt, &mut track, alloc, call)
+        }
         Call::FromRecords => refused_builds(rt, alloc),
     }
 }
