@@ -151,13 +151,17 @@ fn run(
 /// Two prints and two refused lines, in 35 bytes.
 const SCRIPT: &[u8] = b"open\tm\tmerge\nno\nprint\tm\nno\nprint\tm\n";
 
+/// Two views and a print of both, in 35 bytes.
+const PRINT_ALL: &[u8] = b"open\ta\tmerge\nopen\tb\tmerge\nprintall\n";
+
 /// How a script ends of whose devices these calls are bad, 0 for none, and how often each device was called.
 fn ended(
     rt: &HostRuntime,
+    script: &[u8],
     numbers: (u32, u32, u32),
     bad: Bad,
 ) -> Result<(Result<Summary, RunFault>, (u32, u32, u32)), Fail> {
-    let mut input = Device::new(SCRIPT, numbers.0, bad);
+    let mut input = Device::new(script, numbers.0, bad);
     let mut output = Device::new(b"", numbers.1, bad);
     let mut messages = Device::new(b"", numbers.2, bad);
     let done = run(rt, &mut input, &mut output, &mut messages)?;
@@ -172,7 +176,7 @@ fn scripts_over_devices_that_fail_once(rt: HostRuntime) -> Result<(), Fail> {
             ((0, 2, 0), 5, RunCause::Output, (12, 2, 2)),
             ((0, 0, 2), 4, RunCause::Messages, (9, 1, 2)),
         ] {
-            assert!(rt; ended(&rt, numbers, bad)? == (Err(RunFault { line, cause }), calls), "at {bad:?}");
+            assert!(rt; ended(&rt, SCRIPT, numbers, bad)? == (Err(RunFault { line, cause }), calls), "at {bad:?}");
         }
     }
     Ok(())
@@ -181,7 +185,15 @@ fn scripts_over_devices_that_fail_once(rt: HostRuntime) -> Result<(), Fail> {
 /// A message and the text of a view are one write each.
 #[test]
 fn writes_of_a_script(rt: HostRuntime) -> Result<(), Fail> {
-    let (done, calls) = ended(&rt, (0, 0, 0), Bad::Nothing)?;
+    let (done, calls) = ended(&rt, SCRIPT, (0, 0, 0), Bad::Nothing)?;
     assert!(rt; done == Ok(Summary { lines: 5, refused: 2 }) && calls == (13, 2, 2));
+    Ok(())
+}
+
+/// Headings and texts of all views are one write together, where they are shorter than the buffer.
+#[test]
+fn writes_of_a_print_of_all_views(rt: HostRuntime) -> Result<(), Fail> {
+    let (done, calls) = ended(&rt, PRINT_ALL, (0, 0, 0), Bad::Nothing)?;
+    assert!(rt; done == Ok(Summary { lines: 3, refused: 0 }) && calls == (13, 1, 0));
     Ok(())
 }
