@@ -18,10 +18,5 @@ pub(crate) fn track_of<A: Allocator + Copy>(
 ) -> Result<Result<Track<A>, AllocError>, LoadFault> {
     let file = BedFile::parse(alloc, genome, 3, 1_000_000, text)?;
     let width = file.width();
-    Ok(Track::from_records(
-        alloc,
-        width,
-        1_000_000,
-        file.into_records(),
-    ))
+    Ok(Track::from_records(alloc, width, 1_000_000, file.into_records()))
 }

@@ -38,7 +38,10 @@ fn texts_in_sinks(rt: HostRuntime) -> Result<(), Fail> {
     ] {
         for piece in [1, 3, 7, 100] {
             let mut sink = sink(&rt, room, piece)?;
-            assert!(rt; put_rows(&mut sink) == want, "{room} bytes in pieces of {piece}");
+            assert!(rt;
+                put_rows(&mut sink) == want,
+                "{room} bytes in pieces of {piece}"
+            );
             assert!(rt; TEXT.starts_with(sink.bytes()) && sink.bytes().len() == room.min(28));
             assert!(rt; sink.failed() == (room < 28));
             assert!(rt; (sink.push(b"x") == Err(WriteFault)) == (room <= 28));

@@ -82,7 +82,10 @@ fn limit_of_a_track(rt: HostRuntime) -> Result<(), Fail> {
         (Edit::Remove(a), 0, 1),
         (Edit::Add(c), 0, 2),
     ] {
-        assert!(rt; fault_of(&rt, &genome, &mut track, edit)? == fault, "at {edit:?}");
+        assert!(rt;
+            fault_of(&rt, &genome, &mut track, edit)? == fault,
+            "at {edit:?}"
+        );
         assert!(rt; track.len() == len, "at {edit:?}");
     }
     assert!(rt; track.limit() == 2 && track.width() == 4);

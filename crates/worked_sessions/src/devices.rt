@@ -85,8 +85,8 @@ fn sink_stays_failed(bad: Bad) -> bool {
     let mut sink = StdSink::new(&mut device);
     let before = sink.push(b"abc") == Ok(3) && !sink.failed();
     let fails = sink.push(b"abc") == Err(WriteFault) && sink.failed();
-    let stays =
-        sink.push(b"abc") == Err(WriteFault) && put_all(&mut sink, b"abc") == Err(WriteFault);
+    let stays = sink.push(b"abc") == Err(WriteFault)
+        && put_all(&mut sink, b"abc") == Err(WriteFault);
     before && fails && stays && sink.failed() && device.calls == 2
 }
 
@@ -176,7 +176,10 @@ fn scripts_over_devices_that_fail_once(rt: HostRuntime) -> Result<(), Fail> {
             ((0, 2, 0), 5, RunCause::Output, (12, 2, 2)),
             ((0, 0, 2), 4, RunCause::Messages, (9, 1, 2)),
         ] {
-            assert!(rt; ended(&rt, SCRIPT, numbers, bad)? == (Err(RunFault { line, cause }), calls), "at {bad:?}");
+            assert!(rt;
+                ended(&rt, SCRIPT, numbers, bad)? == (Err(RunFault { line, cause }), calls),
+                "at {bad:?}"
+            );
         }
     }
     Ok(())
@@ -186,7 +189,12 @@ fn scripts_over_devices_that_fail_once(rt: HostRuntime) -> Result<(), Fail> {
 #[test]
 fn writes_of_a_script(rt: HostRuntime) -> Result<(), Fail> {
     let (done, calls) = ended(&rt, SCRIPT, (0, 0, 0), Bad::Nothing)?;
-    assert!(rt; done == Ok(Summary { lines: 5, refused: 2 }) && calls == (13, 2, 2));
+    assert!(rt;
+        done == Ok(Summary {
+            lines: 5,
+            refused: 2
+        }) && calls == (13, 2, 2)
+    );
     Ok(())
 }
 
@@ -194,6 +202,11 @@ fn writes_of_a_script(rt: HostRuntime) -> Result<(), Fail> {
 #[test]
 fn writes_of_a_print_of_all_views(rt: HostRuntime) -> Result<(), Fail> {
     let (done, calls) = ended(&rt, PRINT_ALL, (0, 0, 0), Bad::Nothing)?;
-    assert!(rt; done == Ok(Summary { lines: 3, refused: 0 }) && calls == (13, 1, 0));
+    assert!(rt;
+        done == Ok(Summary {
+            lines: 3,
+            refused: 0
+        }) && calls == (13, 1, 0)
+    );
     Ok(())
 }

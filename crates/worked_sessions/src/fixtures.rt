@@ -103,10 +103,12 @@ fn holds(rt: &HostRuntime, example: &Example<'_>, piece: usize) -> Result<bool, 
         lines: example.lines,
         refused: example.refused,
     };
-    Ok(ran.output.bytes() == example.output
-        && ran.messages.bytes() == example.messages
-        && ran.done == Ok(summary)
-        && session.len() == example.left)
+    Ok(
+        ran.output.bytes() == example.output
+            && ran.messages.bytes() == example.messages
+            && ran.done == Ok(summary)
+            && session.len() == example.left,
+    )
 }
 
 /// Runs the script of each example, whole and in small pieces.

@@ -153,7 +153,10 @@ fn files_that_are_read(rt: HostRuntime) {
         (5, 9, Err(FileFault::Input)),
         (5, 4, Err(FileFault::TooLong)),
     ] {
-        assert!(rt; read(&rt, good, limit) == want, "{good} bytes, {limit} at most");
+        assert!(rt;
+            read(&rt, good, limit) == want,
+            "{good} bytes, {limit} at most"
+        );
     }
 }
 

@@ -59,7 +59,8 @@ fn files_of_megabytes(rt: HostRuntime) -> Result<(), Fail> {
         4_000_000,
     )?;
     assert!(rt; session.len() == MANY);
-    let script = b"open\tm\tmerge\nadd\tchr300000\t5\t9\tn\t0\t.\nadd\tchr300000\t5\t9\tn\t0\t.\nremove\tchr300000\t5\t9\tn\t0\t.\nreplace\tchr300000\t5\t9\tn\t0\t.\tchr300000\t15\t19\tn\t0\t.\nprint\tm\n";
+    let script =
+        b"open\tm\tmerge\nadd\tchr300000\t5\t9\tn\t0\t.\nadd\tchr300000\t5\t9\tn\t0\t.\nremove\tchr300000\t5\t9\tn\t0\t.\nreplace\tchr300000\t5\t9\tn\t0\t.\tchr300000\t15\t19\tn\t0\t.\nprint\tm\n";
     assert!(rt; prints(&rt, &mut session, script, files.rows.as_bytes())?);
     assert!(rt; session.len() == MANY + 1);
     Ok(())
@@ -108,7 +109,10 @@ fn long_lines(rt: HostRuntime) -> Result<(), Fail> {
             ],
         )?;
         let mut session = session_of(&rt, SIZES, b"4", b"", 2)?;
-        assert!(rt; prints(&rt, &mut session, script.as_slice(), b"chr1\t10\t20\n")?, "{count} bytes");
+        assert!(rt;
+            prints(&rt, &mut session, script.as_slice(), b"chr1\t10\t20\n")?,
+            "{count} bytes"
+        );
         assert!(rt; session.len() == 1);
     }
     Ok(())
@@ -157,7 +161,10 @@ fn is_read(rt: &HostRuntime, text: &[u8], piece: usize) -> Result<bool, FileFaul
 fn two_megabytes_are_read(rt: HostRuntime) -> Result<(), Fail> {
     let text = letters(&rt, 2_000_001)?;
     for piece in [1_000, 65_536, 100_000] {
-        assert!(rt; is_read(&rt, text.as_slice(), piece)?, "in pieces of {piece}");
+        assert!(rt;
+            is_read(&rt, text.as_slice(), piece)?,
+            "in pieces of {piece}"
+        );
     }
     Ok(())
 }

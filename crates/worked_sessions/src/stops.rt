@@ -135,7 +135,10 @@ fn scripts_that_stop(rt: HostRuntime) -> Result<(), Fail> {
     ] {
         for piece in [1, 2, 3, 7, 1000] {
             let (done, output) = ended(&rt, run, piece)?;
-            assert!(rt; done == Err(RunFault { line, cause }) && run_status(&done) == status, "at {run:?}");
+            assert!(rt;
+                done == Err(RunFault { line, cause }) && run_status(&done) == status,
+                "at {run:?}"
+            );
             let written = if run.output == 7 {
                 b"chr1\t10".as_slice()
             } else {

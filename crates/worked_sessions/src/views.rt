@@ -62,7 +62,8 @@ fn full_script(rt: &HostRuntime) -> Result<String, Fail> {
 fn sixty_four_views(rt: HostRuntime) -> Result<(), Fail> {
     let mut session = session(&rt, b"chr1\t10\t20\n", 9)?;
     let ran = run(&rt, &mut session, full_script(&rt)?.as_bytes(), 100, 2000)?;
-    let messages = b"line 65: too many views\nline 66: view name taken\nline 67: too many views\nline 68: bad view name\nline 70: bad options\n";
+    let messages =
+        b"line 65: too many views\nline 66: view name taken\nline 67: too many views\nline 68: bad view name\nline 70: bad options\n";
     assert!(rt; ran.messages.bytes() == messages.as_slice());
     assert!(rt; ran.output.bytes().len() == 63 * 16 + 14);
     assert!(rt; ran.output.bytes().ends_with(b"#c\nchr1\t10\t20\n"));
