@@ -6,7 +6,7 @@
 
 Writes a genome file, a BED file and two scripts into FOLDER (a temporary
 folder where none is given), the same bytes each time. One script opens a
-view and nothing else; the other opens it and then adds so many records and
+view and nothing else; the other opens it and then adds a number of records and
 removes them again, in another order. The time of an edit is the difference of
 the two runs. At the end both print the view, and the script stops with
 status 1 where what they print differs.

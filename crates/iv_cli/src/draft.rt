@@ -7,7 +7,7 @@ ghost use Rattle.iv_cli.specs.Drafts.{taken, listed};
 use crate::fault::CliFault;
 use std::marker::Model;
 
-/// The fault of words that say no run: E16.
+/// The fault of words that ask for no run: E16.
 pub(crate) const BAD_WORDS: CliFault = CliFault::Words(16);
 
 /// The width of a BED file without a record, where none is asked for.

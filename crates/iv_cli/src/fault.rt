@@ -44,7 +44,7 @@ impl From<ReadFault> for FileFault {
 /// Why a run does not come to its end.
 #[derive(Clone, Copy, Debug, PartialEq, Eq, Error)]
 pub enum CliFault {
-    /// The words say no run; the number of the fault in the table of faults.
+    /// The words on the command line are wrong; the number of the fault in the table of faults.
     #[error("E{0}")]
     Words(u8),
     /// A file is damaged: which one, and its first fault.

@@ -1,6 +1,7 @@
 -- What a line of a script asks for, and why it is refused.
 use Rattle.std.specs.Prelude.{◌+◌, ℕ, ◌==◌, ◌||◌, if◌then◌else◌, List, [], ◌∷◌, Option, Some, Result, Ok, Err, length, take, drop, codes}
 use Rattle.std.specs.Str.{bytes_eq}
+use Rattle.iv_text.specs.Bytes.{number_sign}
 use Rattle.iv_text.specs.Fields.{columns}
 use Rattle.iv_text.specs.Fault.{record_code}
 use Rattle.iv_text.specs.Genome.{Sequences}
@@ -90,7 +91,7 @@ asked_by g width word fields =
 -- first column says, with the others as fields
 abbrev pub asked : Sequences → ℕ → List ℕ → Result Request RequestFault
 asked g width text =
-    if (length text == 0) || begins_with 35 text then Ok request.Nothing
+    if (length text == 0) || begins_with number_sign text then Ok request.Nothing
     else asked_by g width (column (columns text) 0) (drop 1 (columns text))
 
 -- the records of a request fit the session

@@ -20,7 +20,7 @@ pub record State : Type 0 where
   pub bases : Option (List (List ℕ × List ℕ))
   pub views : List (List ℕ × OpenView)
 
--- the track of a file: its records in order, and so many at most
+-- the track of a file: its records in order, and how many it may hold
 abbrev pub tracked : Bed → ℕ → Tracked
 tracked file limit = record { rows = ordered file.rows; width = file.width; limit = limit }
 

@@ -1,8 +1,7 @@
 -- A record as it is printed.
 use Rattle.std.specs.Prelude.{ℕ, ◌++◌, ◌-◌, List, [], ◌∷◌, Option, None, Some, take, codes, decimal}
 use Rattle.std.specs.List.{flat_map}
-use Rattle.std.specs.Option.{unwrap_or}
-use Rattle.iv_text.specs.Genome.{Sequences, name_at}
+use Rattle.iv_text.specs.Genome.{Sequences, sequence_name}
 use Rattle.iv_text.specs.Row.{Row, strand_byte}
 use Rattle.iv_text.specs.declared.strand.Strand.{Strand}
 
@@ -21,7 +20,7 @@ rest_text r = tabbed r.width (r.name ∷ r.score ∷ strand_text r.strand ∷ []
 
 -- the first three columns of a record on this genome, with a TAB between two of them
 abbrev pub place_text : Sequences → Row → List ℕ
-place_text g r = unwrap_or (name_at g r.seq) [] ++ codes "\t" ++ decimal r.start ++ codes "\t" ++ decimal r.stop
+place_text g r = sequence_name g r.seq ++ codes "\t" ++ decimal r.start ++ codes "\t" ++ decimal r.stop
 
 -- the columns of a record on this genome, with a TAB between two of them
 abbrev pub record_text : Sequences → Row → List ℕ

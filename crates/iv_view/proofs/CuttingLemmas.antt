@@ -5,7 +5,7 @@ use Rattle.std.specs.Borrow.{Bor}
 use Rattle.std.proofs.lemmas.Bool.{cond-true, cond-false, ne_eqb, eq-eqb}
 use Rattle.std.proofs.lemmas.List.{take_more_set, map-append, length-map, length-take-le, take-append-le}
 
--- the words in an array of which so many are in use
+-- the words in an array of which the first few are in use
 abbrev pub shown : ℕ → List (Bor (List ℕ)) → List (List ℕ)
 shown count words = map (λ word. word.now) (take count words)
 

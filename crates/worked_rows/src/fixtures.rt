@@ -10,7 +10,7 @@ pub(crate) fn genome(rt: &HostRuntime) -> Result<Genome, LoadFault> {
     Genome::parse(rt.alloc(), SIZES)
 }
 
-/// The track of the records of a BED file, of which it holds at most so many.
+/// The track of the records of a BED file, which holds at most a limit of them.
 pub(crate) fn track_of<A: Allocator + Copy>(
     alloc: A,
     genome: &Genome<A>,

@@ -22,7 +22,7 @@ enum Call {
 }
 
 impl Call {
-    /// At which start the first record stands before so many edits of this kind were done, and how many there are.
+    /// At which start the first record stands before the edits of this kind that were done, and how many there are.
     fn before(self, done: u32) -> (u32, u32) {
         match self {
             Call::Replace => (done, COUNT),
@@ -43,7 +43,7 @@ fn holds_keys<A: Allocator + Clone + Drop>(ledger: &Ledger<u32, u32, A>, count: 
     walk.next(&mut meter).is_none() && ledger.len() == count as usize
 }
 
-/// Whether the track holds one record at each start from the first one on, so many in all.
+/// Whether the track holds one record at each start from the first one on, this number in all.
 fn holds_starts<A: Allocator + Copy>(track: &Track<A>, first: u32, count: u32) -> bool {
     let mut meter = Meter::new();
     let mut rows = track.walk(0, 0, &mut meter);

@@ -2,7 +2,7 @@
 use iv_text::{Buffered, MemSink, Sink, StdSink, WriteFault, put_all, put_pieces};
 use std::test::Fail;
 
-/// A sink with room for so many bytes, which takes so many at a time.
+/// A sink with room for a number of bytes, which takes at most a number at a time.
 fn sink(rt: &HostRuntime, room: usize, piece: usize) -> Result<MemSink, Fail> {
     if piece == 0 {
         return Err(Fail::new("pieces of no byte"));

@@ -7,7 +7,7 @@ use std::test::Fail;
 /// How many sequences a genome file may have.
 const SEQUENCES: u32 = 1_000_000;
 
-/// A genome file of so many sequences, eleven bytes each.
+/// A genome file of this number of sequences, eleven bytes each.
 fn genome_file(rt: &HostRuntime, count: u32) -> Result<String, Fail> {
     let mut text = String::new(rt.alloc());
     for number in 0..count {
@@ -38,7 +38,7 @@ fn sequences_up_to_the_limit_and_above(rt: HostRuntime) -> Result<(), Fail> {
 /// How many entries and records are many.
 const MANY: u32 = 100_000;
 
-/// Whether a ledger takes so many keys, the greatest first, and then walks over them in order.
+/// Whether a ledger takes this number of keys, the greatest first, and then walks over them in order.
 fn ledger_holds(rt: &HostRuntime, count: u32) -> Result<bool, Fail> {
     let mut meter = Meter::new();
     let mut ledger = Ledger::new(rt.alloc());
@@ -55,7 +55,7 @@ fn ledger_holds(rt: &HostRuntime, count: u32) -> Result<bool, Fail> {
     Ok(walk.next(&mut meter).is_none())
 }
 
-/// Whether a track holds one record at each tenth start, so many in all.
+/// Whether a track holds one record at each tenth start, this number in all.
 fn track_holds(track: &Track, count: u32) -> bool {
     let mut meter = Meter::new();
     let mut rows = track.walk(0, 0, &mut meter);

@@ -1,7 +1,7 @@
 //! Sources, and a queue of bytes in front of them.
 use iv_text::{ByteQueue, MemSource, Source};
 
-/// How many bytes each of four pulls gives from a source that gives so many in all and at a time, and whether it is
+/// How many bytes each of four pulls gives from a source that gives at most these in all and at a time, and whether it is
 /// failed then.
 fn pulled(good: usize, piece: usize) -> ([Option<usize>; 4], bool) {
     let mut source = MemSource::new(b"chr1\t100\n", good, piece.max(1));

@@ -36,7 +36,7 @@ impl<'a> Device<'a> {
         }
     }
 
-    /// One more call, for so many bytes: how many of them are taken or given.
+    /// One more call, for this number of bytes: how many of them are taken or given.
     fn call(&mut self, count: usize) -> io::Result<usize>
         ensures { IfOk result (λ n. n ≤ count) }
     {

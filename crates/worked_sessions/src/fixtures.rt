@@ -45,7 +45,7 @@ pub(crate) struct Ran {
     pub(crate) done: Result<Summary, RunFault>,
 }
 
-/// Runs a script that comes in pieces of so many bytes, over outputs with room for so many.
+/// Runs a script that comes in pieces, over outputs with room for a number of bytes.
 pub(crate) fn run(
     rt: &HostRuntime,
     session: &mut Session,
@@ -95,7 +95,7 @@ pub(crate) struct Example<'a> {
     pub(crate) left: u32,
 }
 
-/// Whether the example's script, in pieces of so many bytes, writes and leaves what it is to.
+/// Whether the example's script, in pieces of this number of bytes, writes and leaves what it is to.
 fn holds(rt: &HostRuntime, example: &Example<'_>, piece: usize) -> Result<bool, Fail> {
     let mut session = session_of(rt, SIZES, example.width, example.first, example.limit)?;
     let ran = run(rt, &mut session, example.script, piece, 1000)?;

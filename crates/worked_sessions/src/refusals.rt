@@ -19,7 +19,7 @@ enum Edit {
 }
 
 impl Edit {
-    /// At which start the first record stands before so many edits of this kind were done, and how many records there are.
+    /// At which start the first record stands before the edits of this kind that were done, and how many records there are.
     fn before(self, done: u32) -> (u32, u32) {
         match self {
             Edit::Add => (0, done),
@@ -35,7 +35,7 @@ fn line(rt: &HostRuntime, start: u32) -> Result<String, Fail> {
     Ok(format!(in rt.alloc(); "chr1\t{start}\t{stop}\tname\n")?)
 }
 
-/// Whether the session holds one record at each start from the first one on, so many in all.
+/// Whether the session holds one record at each start from the first one on, this number in all.
 fn holds_starts(session: &Session<&RefusesNth<Global>>, first: u32, count: u32) -> bool {
     let mut meter = Meter::new();
     let mut rows = session.track().walk(0, 0, &mut meter);

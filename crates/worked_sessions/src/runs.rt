@@ -131,7 +131,7 @@ fn files_that_are_damaged(rt: HostRuntime) -> Result<(), Fail> {
 
 const TEXT: &[u8] = b"chr1\t100\n";
 
-/// What reading so many bytes at most gives, from a source that gives so many of them.
+/// What reading up to a limit gives, from a source that gives this number of bytes.
 fn read(rt: &HostRuntime, good: usize, limit: u64) -> Result<usize, FileFault> {
     let bytes = read_all(rt.alloc(), &mut MemSource::new(TEXT, good, 2), limit)?;
     if bytes.as_slice() == TEXT {

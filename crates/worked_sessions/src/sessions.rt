@@ -133,7 +133,7 @@ fn with_views(rt: &HostRuntime) -> Result<Session, Fail> {
     Ok(session)
 }
 
-/// What a print of this view, or of all, writes into an output with room for so many bytes, and its fault.
+/// What a print of this view, or of all, writes into an output with room for this number of bytes, and its fault.
 fn printed(
     rt: &HostRuntime,
     session: &Session,

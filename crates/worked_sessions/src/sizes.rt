@@ -66,7 +66,7 @@ fn files_of_megabytes(rt: HostRuntime) -> Result<(), Fail> {
     Ok(())
 }
 
-/// A text of so many letters.
+/// A text of this number of letters.
 fn letters(rt: &HostRuntime, count: usize) -> Result<Vec<u8>, Fail> {
     Ok(vec![in rt.alloc(); b'n'; count]?)
 }

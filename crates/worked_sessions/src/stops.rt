@@ -5,7 +5,7 @@ use iv_session::{RunCause, RunFault, ScriptLimits, Summary, run_script};
 use iv_text::{MemSink, MemSource};
 use std::test::Fail;
 
-/// A script under limits, over an input that gives so many bytes and outputs with room for so many.
+/// A script under limits, over an input and outputs that fail after a number of bytes.
 #[derive(Clone, Copy, Debug)]
 struct Run<'a> {
     script: &'a [u8],
