@@ -1,8 +1,11 @@
-//! An allocator for tests, which refuses one growth.
+//! For tests: an allocator that refuses one growth, and a reader and writer that goes wrong at one call.
 #![tactic(auto)]
 
 ghost use Rattle.std.specs.Prelude.{IfSome, ◌≡◌, ◌<◌};
 
+mod device;
+
+pub use device::{Bad, Device, FAILURES};
 use std::alloc::{AllocError, Allocator};
 use std::cell::Cell;
 

@@ -1,6 +1,6 @@
 //! Each growth of a session's memory, refused in turn.
 use crate::fixtures::SIZES;
-use iv_session::{EditFault, Session};
+use iv_state::{EditFault, Session};
 use iv_text::{BedFile, Genome};
 use iv_track::Meter;
 use refusing::RefusesNth;

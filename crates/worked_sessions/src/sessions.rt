@@ -1,8 +1,9 @@
 //! The calls of a session, one by one.
 use crate::fixtures::{SIZES, session};
-use iv_session::{EditFault, NoView, PrintFault, Session, ViewFault};
+use iv_state::{EditFault, NoView, PrintFault, Session};
 use iv_text::{BedFile, Genome, MemSink, RecordFault};
 use iv_track::Meter;
+use iv_view::ViewFault;
 use std::test::Fail;
 
 /// An edit by the records of lines.

@@ -6,7 +6,7 @@ use std::test::Fail;
 fn commands_and_ends_of_lines(rt: HostRuntime) -> Result<(), Fail> {
     let examples = [
         Example {
-            width: b"3",
+            width: 3,
             first: b"",
             limit: 9,
             script: b"open\tm\tmerge\nadd\tchr1\t10\t20\nadd\tchr1\t15\t30\nprint\tm\n",
@@ -18,7 +18,7 @@ fn commands_and_ends_of_lines(rt: HostRuntime) -> Result<(), Fail> {
         },
         // Lines that end in CR LF, a comment, a command that does not exist, a last line without an end.
         Example {
-            width: b"3",
+            width: 3,
             first: b"",
             limit: 9,
             script: b"open\tm\tmerge\r\n# a note\r\npaint\tm\r\nadd\tchr1\t10\t20\r\nprint\tm",
@@ -29,7 +29,7 @@ fn commands_and_ends_of_lines(rt: HostRuntime) -> Result<(), Fail> {
             left: 1,
         },
         Example {
-            width: b"3",
+            width: 3,
             first: b"chr1\t50\t60\tn\t0\t+\n",
             limit: 9,
             script: b"open\tm\tmerge\nadd\tchr1\t0010\t20\tn\t0\t+\nprint\tm\n",
@@ -40,7 +40,7 @@ fn commands_and_ends_of_lines(rt: HostRuntime) -> Result<(), Fail> {
             left: 2,
         },
         Example {
-            width: b"3",
+            width: 3,
             first: b"",
             limit: 9,
             script: b"",
@@ -58,7 +58,7 @@ fn commands_and_ends_of_lines(rt: HostRuntime) -> Result<(), Fail> {
 fn refused_lines(rt: HostRuntime) -> Result<(), Fail> {
     let examples = [
         Example {
-            width: b"3",
+            width: 3,
             first: b"",
             limit: 9,
             script: b"open\tb\nopen\t\tmerge\nopen\t0123456789abcdef0123456789abcdef0\tmerge\nopen\tb\t\nprint\tzz\nprint\t\nprint\nadd\nadd\tchr9\tx\ty\n",
@@ -69,7 +69,7 @@ fn refused_lines(rt: HostRuntime) -> Result<(), Fail> {
             left: 0,
         },
         Example {
-            width: b"3",
+            width: 3,
             first: b"",
             limit: 9,
             script: b"add\tchr1\t90\t100\nadd\tchr1\t90\t101\nadd\tchr3\t0\t1\n",
@@ -80,7 +80,7 @@ fn refused_lines(rt: HostRuntime) -> Result<(), Fail> {
             left: 1,
         },
         Example {
-            width: b"6",
+            width: 6,
             first: b"",
             limit: 9,
             script: b"add\tchr1\t0010\t20\tn\t0\t+\nadd\tchr9\tx\ty\tn\t0\t+\nadd\tchr1\t-1\t20\tn\t0\t+\nadd\tchr1\t\t20\tn\t0\t+\nadd\tchr1\t00000000010\t20\tn\t0\t+\nadd\tchr1\t10\tx\tn\t0\t+\nadd\tchr1\t10\t20\t\t0\t+\nadd\tchr1\t10\t20\tn\t\t+\nadd\tchr1\t10\t20\tn\t0\t*\nadd\tchr1\t10\t20\tn\t0",

@@ -8,7 +8,7 @@ fn views_by_their_names(rt: HostRuntime) -> Result<(), Fail> {
     let examples = [
         // All views are printed in order of opening.
         Example {
-            width: b"3",
+            width: 3,
             first: b"",
             limit: 9,
             script: b"open\tb\tmerge\nopen\ta\tmerge\nadd\tchr2\t1\t2\nprintall\nclose\tb\nprintall\n",
@@ -20,7 +20,7 @@ fn views_by_their_names(rt: HostRuntime) -> Result<(), Fail> {
         },
         // A view that was closed and opened again is the last.
         Example {
-            width: b"3",
+            width: 3,
             first: b"chr1\t10\t20\n",
             limit: 9,
             script: b"open\tb\tmerge\nopen\ta\tmerge\nprintall\nclose\tb\nopen\tb\tmerge\nprintall\n",
@@ -31,7 +31,7 @@ fn views_by_their_names(rt: HostRuntime) -> Result<(), Fail> {
             left: 1,
         },
         Example {
-            width: b"3",
+            width: 3,
             first: b"",
             limit: 9,
             script: b"open\ta\tmerge\nopen\t\tmerge\nopen\t0123456789abcdef0123456789abcdef0\tmerge\nopen\ta\tmerge\nopen\tc\t\nprint\tzz\nclose\tzz\nprint\nclose\nclose\t\nprintall\t\nopen\tc\nclose\ta\tb\n",

@@ -7,7 +7,7 @@ fn copies_and_columns(rt: HostRuntime) -> Result<(), Fail> {
     let examples = [
         // Copies go one by one.
         Example {
-            width: b"4",
+            width: 4,
             first: b"",
             limit: 9,
             script: b"open\tm\tmerge\nadd\tchr1\t10\t20\ta\nadd\tchr1\t10\t20\ta\nremove\tchr1\t10\t20\ta\nprint\tm\nremove\tchr1\t10\t20\ta\nprint\tm\nremove\tchr1\t10\t20\ta\n",
@@ -19,7 +19,7 @@ fn copies_and_columns(rt: HostRuntime) -> Result<(), Fail> {
         },
         // A record is known by all its columns.
         Example {
-            width: b"3",
+            width: 3,
             first: b"chr1\t10\t20\tn\t0\t+\n",
             limit: 9,
             script: b"remove\tchr1\t10\t20\tn\t0\t-\nremove\tchr1\t10\t20\tn\t00\t+\nremove\tchr1\t10\t20\tm\t0\t+\nremove\tchr1\t10\t21\tn\t0\t+\nremove\tchr2\t10\t20\tn\t0\t+\nremove\tchr1\t010\t20\tn\t0\t+\n",
@@ -30,7 +30,7 @@ fn copies_and_columns(rt: HostRuntime) -> Result<(), Fail> {
             left: 0,
         },
         Example {
-            width: b"3",
+            width: 3,
             first: b"chr1\t10\t20\tn\n",
             limit: 9,
             script: b"replace\tchr1\t10\t20\tm\tchr1\t30\t40\tm\nreplace\tchr1\t10\t20\tn\tchr1\t30\t40\tm\nremove\tchr1\t10\t20\tn\nopen\tm\tmerge\nprint\tm\n",
@@ -41,7 +41,7 @@ fn copies_and_columns(rt: HostRuntime) -> Result<(), Fail> {
             left: 1,
         },
         Example {
-            width: b"3",
+            width: 3,
             first: b"chr1\t10\t20\n",
             limit: 9,
             script: b"open\tm\tmerge\nreplace\tchr1\t10\t20\tchr2\t0\t50\nprint\tm\n",
@@ -59,7 +59,7 @@ fn copies_and_columns(rt: HostRuntime) -> Result<(), Fail> {
 fn refused_edits_change_nothing(rt: HostRuntime) -> Result<(), Fail> {
     let examples = [
         Example {
-            width: b"3",
+            width: 3,
             first: b"chr1\t10\t20\n",
             limit: 9,
             script: b"open\tm\tmerge\nadd\tchr1\t10\t10\nprint\tm\nremove\tchr1\t10\t10\nprint\tm\nremove\tchr1\t10\t11\nprint\tm\nremove\nprint\tm\n",
@@ -70,7 +70,7 @@ fn refused_edits_change_nothing(rt: HostRuntime) -> Result<(), Fail> {
             left: 1,
         },
         Example {
-            width: b"3",
+            width: 3,
             first: b"chr1\t10\t20\n",
             limit: 9,
             script: b"open\tm\tmerge\nreplace\tchr1\t30\t40\tchr1\t50\t60\nprint\tm\nreplace\tchr1\t10\t20\tchr1\t5\t101\nprint\tm\nreplace\tchr1\t10\t20\tchr1\t5\nprint\tm\nreplace\tchr9\t10\t20\tchr1\t5\t6\t7\nprint\tm\nreplace\tchr9\t10\t20\tchr1\tx\t6\nprint\tm\nreplace\tchr1\t10\t20\tchr1\tx\t6\nprint\tm\nreplace\nprint\tm\nreplace\tchr1\t10\t20\tchr1\t10\t20\nprint\tm\n",
@@ -88,7 +88,7 @@ fn refused_edits_change_nothing(rt: HostRuntime) -> Result<(), Fail> {
 fn full_tracks(rt: HostRuntime) -> Result<(), Fail> {
     let examples = [
         Example {
-            width: b"3",
+            width: 3,
             first: b"",
             limit: 2,
             script: b"open\tm\tmerge\nadd\tchr1\t10\t20\nadd\tchr1\t30\t40\nadd\tchr1\t50\t60\nprint\tm\nreplace\tchr1\t30\t40\tchr1\t50\t60\nprint\tm\nremove\tchr1\t10\t20\nadd\tchr2\t0\t1\nprint\tm\n",
@@ -100,7 +100,7 @@ fn full_tracks(rt: HostRuntime) -> Result<(), Fail> {
         },
         // A record of more than three columns takes memory, and still it is the limit that is told.
         Example {
-            width: b"4",
+            width: 4,
             first: b"",
             limit: 1,
             script: b"add\tchr1\t10\t20\ta\nadd\tchr1\t10\t20\ta\nadd\tchr1\t30\t40\tb\nreplace\tchr1\t10\t20\ta\tchr1\t30\t40\tb\nadd\tchr1\t10\t20\ta\n",
@@ -111,7 +111,7 @@ fn full_tracks(rt: HostRuntime) -> Result<(), Fail> {
             left: 1,
         },
         Example {
-            width: b"3",
+            width: 3,
             first: b"chr1\t10\t20\ta\t0\t+\n",
             limit: 1,
             script: b"add\tchr1\t10\t20\ta\t0\t+\nadd\tchr1\t30\t40\tb\t0\t-\nremove\tchr1\t10\t20\ta\t0\t+\nadd\tchr1\t30\t40\tb\t0\t-\n",
@@ -122,7 +122,7 @@ fn full_tracks(rt: HostRuntime) -> Result<(), Fail> {
             left: 1,
         },
         Example {
-            width: b"3",
+            width: 3,
             first: b"",
             limit: 0,
             script: b"add\tchr1\t10\t20\nremove\tchr1\t10\t20\nreplace\tchr1\t10\t20\tchr1\t10\t20\n",

@@ -1,8 +1,6 @@
 //! Calls at real sizes: a body that gives up above some size and says that memory ran out is seen here alone.
 use crate::fixtures::{SIZES, run, session_of};
-use iv_cli::{FileFault, read_all};
 use iv_session::Session;
-use iv_text::{MemSource, StdSource};
 use std::test::Fail;
 
 /// How many records are many.
@@ -54,7 +52,7 @@ fn files_of_megabytes(rt: HostRuntime) -> Result<(), Fail> {
     let mut session = session_of(
         &rt,
         files.sizes.as_bytes(),
-        b"3",
+        3,
         files.first.as_bytes(),
         4_000_000,
     )?;
@@ -108,7 +106,7 @@ fn long_lines(rt: HostRuntime) -> Result<(), Fail> {
                 b"x\nopen\tm\tmerge\nprint\tm\n",
             ],
         )?;
-        let mut session = session_of(&rt, SIZES, b"4", b"", 2)?;
+        let mut session = session_of(&rt, SIZES, 4, b"", 2)?;
         assert!(rt;
             prints(&rt, &mut session, script.as_slice(), b"chr1\t10\t20\n")?,
             "{count} bytes"
@@ -137,34 +135,7 @@ fn long_names(rt: HostRuntime) -> Result<(), Fail> {
         ],
     )?;
     let rows = joined(&rt, &[seq, b"\t10\t30\n"])?;
-    let mut session = session_of(&rt, sizes.as_slice(), b"3", first.as_slice(), 2)?;
+    let mut session = session_of(&rt, sizes.as_slice(), 3, first.as_slice(), 2)?;
     assert!(rt; prints(&rt, &mut session, script.as_slice(), rows.as_slice())?);
-    Ok(())
-}
-
-/// Whether all bytes are read from both sources of them.
-fn is_read(rt: &HostRuntime, text: &[u8], piece: usize) -> Result<bool, FileFault> {
-    if piece == 0 {
-        return Ok(false);
-    }
-    let limit = text.len() as u64;
-    let from_memory = read_all(
-        rt.alloc(),
-        &mut MemSource::new(text, usize::MAX, piece),
-        limit,
-    )?;
-    let from_reader = read_all(rt.alloc(), &mut StdSource::new(text), limit)?;
-    Ok(from_memory.as_slice() == text && from_reader.as_slice() == text)
-}
-
-#[test]
-fn two_megabytes_are_read(rt: HostRuntime) -> Result<(), Fail> {
-    let text = letters(&rt, 2_000_001)?;
-    for piece in [1_000, 65_536, 100_000] {
-        assert!(rt;
-            is_read(&rt, text.as_slice(), piece)?,
-            "in pieces of {piece}"
-        );
-    }
     Ok(())
 }

@@ -1,0 +1,7 @@
+//! Tests of whole runs: reading files, words, loading and statuses.
+#![tactic(auto)]
+
+#[cfg(test)]
+mod reading;
+#[cfg(test)]
+mod runs;

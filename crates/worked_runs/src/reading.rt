@@ -1,0 +1,53 @@
+//! Reading whole files: of real sizes, and from devices that fail once.
+use iv_cli::{FileFault, read_all};
+use iv_text::{MemSource, StdSource};
+use refusing::{Bad, Device, FAILURES};
+use std::test::Fail;
+
+/// What reading a file gives that fails at its third read, and how often the file was read.
+fn read(rt: &HostRuntime, bad: Bad) -> (Result<usize, FileFault>, u32) {
+    let mut device = Device::new(b"chr1\t100\n", 3, bad);
+    let read = read_all(rt.alloc(), &mut StdSource::new(&mut device), 100);
+    (read.map(|bytes| bytes.len()), device.calls())
+}
+
+#[test]
+fn files_that_fail_once(rt: HostRuntime) {
+    for bad in FAILURES {
+        assert!(rt; read(&rt, bad) == (Err(FileFault::Input), 3), "at {bad:?}");
+    }
+    // A read of no byte is the file's end.
+    assert!(rt; read(&rt, Bad::Nothing) == (Ok(6), 3));
+}
+
+/// A text of this number of letters.
+fn letters(rt: &HostRuntime, count: usize) -> Result<Vec<u8>, Fail> {
+    Ok(vec![in rt.alloc(); b'n'; count]?)
+}
+
+/// Whether all bytes are read from both sources of them.
+fn is_read(rt: &HostRuntime, text: &[u8], piece: usize) -> Result<bool, FileFault> {
+    if piece == 0 {
+        return Ok(false);
+    }
+    let limit = text.len() as u64;
+    let from_memory = read_all(
+        rt.alloc(),
+        &mut MemSource::new(text, usize::MAX, piece),
+        limit,
+    )?;
+    let from_reader = read_all(rt.alloc(), &mut StdSource::new(text), limit)?;
+    Ok(from_memory.as_slice() == text && from_reader.as_slice() == text)
+}
+
+#[test]
+fn two_megabytes_are_read(rt: HostRuntime) -> Result<(), Fail> {
+    let text = letters(&rt, 2_000_001)?;
+    for piece in [1_000, 65_536, 100_000] {
+        assert!(rt;
+            is_read(&rt, text.as_slice(), piece)?,
+            "in pieces of {piece}"
+        );
+    }
+    Ok(())
+}

@@ -1,0 +1,17 @@
+//! Tests of scripts: examples whose answers were worked out by hand, real sizes, limits, and devices that fail.
+#![tactic(auto)]
+
+#[cfg(test)]
+mod devices;
+#[cfg(test)]
+mod edits;
+#[cfg(test)]
+mod fixtures;
+#[cfg(test)]
+mod scripts;
+#[cfg(test)]
+mod sizes;
+#[cfg(test)]
+mod stops;
+#[cfg(test)]
+mod views;
