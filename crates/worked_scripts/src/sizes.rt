@@ -42,7 +42,10 @@ fn prints(
     want: &[u8],
 ) -> Result<bool, Fail> {
     let ran = run(rt, session, script, 65_536, 8_000_000)?;
-    Ok(ran.done.is_ok_and(|summary| summary.refused == 0) && ran.output.bytes() == want)
+    let Ok(summary) = ran.done else {
+        return Ok(false);
+    };
+    Ok(summary.refused == 0 && ran.output.bytes() == want)
 }
 
 #[test]
