@@ -2,7 +2,8 @@
 ghost use Rattle.std.specs.Prelude.{◌≡◌, ◌≢◌, Err, IfOk};
 ghost use Rattle.iv_text.specs.Fields.{fields_left};
 ghost use Rattle.iv_text.specs.Read.{Fits, read_columns};
-ghost use Rattle.iv_session.specs.Requests.{asked, asked_by, both, read_two, RequestFits};
+ghost use Rattle.iv_session.specs.Requests.{asked, asked_by, both, no_fields, of_fields, of_rows, only_field, read_two, two_fields as two_fields_of, RequestFits};
+ghost use Rattle.iv_session.specs.declared.request.Request.TheVariants as request;
 
 use crate::fault::RequestFault;
 use crate::fields::{Field, no_field, one_field, split_columns, two_fields};
@@ -24,17 +25,6 @@ pub(crate) enum Request<'a> {
     Close(Field<'a>),
     Print(Field<'a>),
     PrintAll,
-}
-
-/// The record of the columns behind a command, or its first fault.
-fn one_row<'a, A: Allocator + Copy>(
-    session: &Session<A>,
-    fields: Option<&'a [u8]>,
-) -> Result<RecordRef<'a>, RecordFault>
-    ensures value { result ≡ read_columns session.now.genome session.now.track.width (fields_left 9 fields.entry) }
-    ensures fits { IfOk result (λ row. Fits session.now.genome session.now.track.width row) }
-{
-    session.read(fields.unwrap_or(b""))
 }
 
 /// Both records of a line, or a fault: that the second has too few or too many columns is told first, then a
@@ -97,24 +87,85 @@ impl<'a> Request<'a> {
         ensures fits { IfOk result (RequestFits session.now) }
     {
         if word == b"add".as_slice() {
-            Ok(Request::Add(one_row(session, fields)?))
+            Request::add(session, fields)
         } else if word == b"remove".as_slice() {
-            Ok(Request::Remove(one_row(session, fields)?))
+            Request::remove(session, fields)
         } else if word == b"replace".as_slice() {
-            let (old, new) = two_rows(session, fields)?;
-            Ok(Request::Replace(old, new))
+            Request::replace(session, fields)
         } else if word == b"open".as_slice() {
-            let (name, words) = two_fields(fields)?;
-            Ok(Request::Open(name, words))
+            Request::open(fields)
         } else if word == b"close".as_slice() {
-            Ok(Request::Close(one_field(fields)?))
+            Request::close(fields)
         } else if word == b"print".as_slice() {
-            Ok(Request::Print(one_field(fields)?))
+            Request::print(fields)
         } else if word == b"printall".as_slice() {
-            no_field(fields)?;
-            Ok(Request::PrintAll)
+            Request::print_all(fields)
         } else {
             Err(RequestFault::Command)
         }
+    }
+
+    /// To add the record of the columns behind the command.
+    fn add<A: Allocator + Copy>(
+        session: &Session<A>,
+        fields: Option<&'a [u8]>,
+    ) -> Result<Request<'a>, RequestFault>
+        ensures value { result ≡ of_rows (λ r. request.Add r) (read_columns session.now.genome session.now.track.width (fields_left 9 fields.entry)) }
+        ensures fits { IfOk result (RequestFits session.now) }
+    {
+        Ok(Request::Add(session.read(fields.unwrap_or(b""))?))
+    }
+
+    /// To remove a copy of the record of the columns behind the command.
+    fn remove<A: Allocator + Copy>(
+        session: &Session<A>,
+        fields: Option<&'a [u8]>,
+    ) -> Result<Request<'a>, RequestFault>
+        ensures value { result ≡ of_rows (λ r. request.Remove r) (read_columns session.now.genome session.now.track.width (fields_left 9 fields.entry)) }
+        ensures fits { IfOk result (RequestFits session.now) }
+    {
+        Ok(Request::Remove(session.read(fields.unwrap_or(b""))?))
+    }
+
+    /// To replace the first of the two records behind the command by the second.
+    fn replace<A: Allocator + Copy>(
+        session: &Session<A>,
+        fields: Option<&'a [u8]>,
+    ) -> Result<Request<'a>, RequestFault>
+        ensures value { result ≡ of_rows (λ rows. request.Replace rows.0 rows.1) (read_two session.now.genome session.now.track.width (fields_left 9 fields.entry)) }
+        ensures fits { IfOk result (RequestFits session.now) }
+    {
+        let (old, new) = two_rows(session, fields)?;
+        Ok(Request::Replace(old, new))
+    }
+
+    /// To open a view under the first field, by the words of the second.
+    fn open(fields: Option<&'a [u8]>) -> Result<Request<'a>, RequestFault>
+        ensures { result ≡ of_fields (λ pair. request.Open pair.0 pair.1) (two_fields_of (fields_left 9 fields.entry)) }
+    {
+        let (name, words) = two_fields(fields)?;
+        Ok(Request::Open(name, words))
+    }
+
+    /// To close the view of the one field.
+    fn close(fields: Option<&'a [u8]>) -> Result<Request<'a>, RequestFault>
+        ensures { result ≡ of_fields (λ name. request.Close name) (only_field (fields_left 9 fields.entry)) }
+    {
+        Ok(Request::Close(one_field(fields)?))
+    }
+
+    /// To print the view of the one field.
+    fn print(fields: Option<&'a [u8]>) -> Result<Request<'a>, RequestFault>
+        ensures { result ≡ of_fields (λ name. request.Print name) (only_field (fields_left 9 fields.entry)) }
+    {
+        Ok(Request::Print(one_field(fields)?))
+    }
+
+    /// To print all views; there is no field.
+    fn print_all(fields: Option<&'a [u8]>) -> Result<Request<'a>, RequestFault>
+        ensures { result ≡ of_fields (λ none. request.PrintAll) (no_fields (fields_left 9 fields.entry)) }
+    {
+        no_field(fields)?;
+        Ok(Request::PrintAll)
     }
 }

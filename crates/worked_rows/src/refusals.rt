@@ -185,16 +185,21 @@ fn refused_edits<'a>(
     }
 }
 
-/// Builds a track from records, and says how many calls met the refusal.
-fn refused_builds(rt: &HostRuntime, alloc: &RefusesNth<Global>) -> Result<u32, Fail> {
+/// The lines of all records, the last one first.
+fn lines(rt: &HostRuntime) -> Result<String, Fail> {
     let mut text = String::new(rt.alloc());
     for i in 0..COUNT {
         text.push_str(line(rt, COUNT - 1 - i)?.as_str())?;
     }
+    Ok(text)
+}
+
+/// Builds a track from the records of a text, and says how many calls met the refusal.
+fn refused_build(alloc: &RefusesNth<Global>, text: &[u8]) -> Result<u32, Fail> {
     let Ok(genome) = Genome::parse(alloc, SIZES) else {
         return Ok(0);
     };
-    match track_of(alloc, &genome, text.as_bytes()) {
+    match track_of(alloc, &genome, text) {
         Ok(Ok(track)) if holds_starts(&track, 0, COUNT) => Ok(0),
         Ok(Ok(_)) => Err(Fail::new("another track")),
         Ok(Err(_)) => Ok(1),
@@ -216,7 +221,7 @@ fn refused(rt: &HostRuntime, call: Call, alloc: &RefusesNth<Global>) -> Result<u
             refused_edits(rt, &mut track, alloc, Call::Stage)?;
             refused_edits(rt, &mut track, alloc, call)
         }
-        Call::FromRecords => refused_builds(rt, alloc),
+        Call::FromRecords => refused_build(alloc, lines(rt)?.as_bytes()),
     }
 }
 

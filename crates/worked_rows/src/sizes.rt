@@ -69,16 +69,32 @@ fn track_holds(track: &Track, count: u32) -> bool {
     rows.next(&mut meter).is_none() && track.len() == count
 }
 
-#[test]
-fn entries_and_records(rt: HostRuntime) -> Result<(), Fail> {
-    assert!(rt; ledger_holds(&rt, MANY)?);
-    let genome = Genome::parse(rt.alloc(), b"big\t1000000\n")?;
+/// A BED file of one record at each tenth start, the last one first.
+fn bed_file(rt: &HostRuntime, count: u32) -> Result<String, Fail> {
     let mut text = String::new(rt.alloc());
-    for number in 0..MANY {
-        let start = 10 * (MANY - 1 - number);
+    for number in 0..count {
+        let start = 10 * u64::from(count - 1 - number);
         text.push_str(format!(in rt.alloc(); "big\t{start}\t{}\n", start + 5)?.as_str())?;
     }
-    let track = track_of(rt.alloc(), &genome, text.as_bytes())??;
+    Ok(text)
+}
+
+/// The track of a BED file on one sequence.
+fn track_of_text(rt: &HostRuntime, text: &[u8]) -> Result<Track, Fail> {
+    let genome = Genome::parse(rt.alloc(), b"big\t1000000\n")?;
+    Ok(track_of(rt.alloc(), &genome, text)??)
+}
+
+#[test]
+fn entries(rt: HostRuntime) -> Result<(), Fail> {
+    assert!(rt; ledger_holds(&rt, MANY)?);
+    Ok(())
+}
+
+#[test]
+fn records(rt: HostRuntime) -> Result<(), Fail> {
+    let text = bed_file(&rt, MANY)?;
+    let track = track_of_text(&rt, text.as_bytes())?;
     assert!(rt; track_holds(&track, MANY));
     Ok(())
 }

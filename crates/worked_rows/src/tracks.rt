@@ -58,10 +58,8 @@ fn fault_of(
     }
 }
 
-#[test]
-fn limit_of_a_track(rt: HostRuntime) -> Result<(), Fail> {
-    let genome = genome(&rt)?;
-    let mut track = Track::new(rt.alloc(), 4, 2);
+/// Edits a track of at most two records.
+fn check_limit(rt: &HostRuntime, genome: &Genome, track: &mut Track) -> Result<(), Fail> {
     let (a, b, c) = (
         b"chr1\t10\t20\ta".as_slice(),
         b"chr1\t10\t20\tb".as_slice(),
@@ -82,13 +80,30 @@ fn limit_of_a_track(rt: HostRuntime) -> Result<(), Fail> {
         (Edit::Remove(a), 0, 1),
         (Edit::Add(c), 0, 2),
     ] {
-        assert!(rt;
-            fault_of(&rt, &genome, &mut track, edit)? == fault,
-            "at {edit:?}"
-        );
-        assert!(rt; track.len() == len, "at {edit:?}");
+        if fault_of(rt, genome, track, edit)? != fault || track.len() != len {
+            return Err(Fail::new("another outcome"));
+        }
     }
+    Ok(())
+}
+
+#[test]
+fn limit_of_a_track(rt: HostRuntime) -> Result<(), Fail> {
+    let genome = genome(&rt)?;
+    let mut track = Track::new(rt.alloc(), 4, 2);
+    check_limit(&rt, &genome, &mut track)?;
     assert!(rt; track.limit() == 2 && track.width() == 4);
+    Ok(())
+}
+
+/// Edits a track that takes no record.
+fn check_no_room(rt: &HostRuntime, genome: &Genome, track: &mut Track) -> Result<(), Fail> {
+    let line = b"chr1\t10\t20\ta".as_slice();
+    for (edit, fault) in [(Edit::Add(line), 12), (Edit::Remove(line), 11)] {
+        if fault_of(rt, genome, track, edit)? != fault || track.len() != 0 {
+            return Err(Fail::new("another outcome"));
+        }
+    }
     Ok(())
 }
 
@@ -96,11 +111,7 @@ fn limit_of_a_track(rt: HostRuntime) -> Result<(), Fail> {
 fn track_without_room(rt: HostRuntime) -> Result<(), Fail> {
     let genome = genome(&rt)?;
     let mut track = Track::new(rt.alloc(), 4, 0);
-    let line = b"chr1\t10\t20\ta".as_slice();
-    assert!(rt; fault_of(&rt, &genome, &mut track, Edit::Add(line))? == 12);
-    assert!(rt; fault_of(&rt, &genome, &mut track, Edit::Remove(line))? == 11);
-    assert!(rt; track.len() == 0);
-    Ok(())
+    check_no_room(&rt, &genome, &mut track)
 }
 
 /// The first letter of a record's name and its copies, of the record behind that of a line, or at or after its place.
@@ -129,17 +140,42 @@ fn next_to(
     }
 }
 
+/// Adds the records of lines.
+fn add_all(
+    rt: &HostRuntime,
+    genome: &Genome,
+    track: &mut Track,
+    lines: &[&[u8]],
+) -> Result<(), Fail> {
+    for line in lines {
+        if fault_of(rt, genome, track, Edit::Add(line))? != 0 {
+            return Err(Fail::new("a record is refused"));
+        }
+    }
+    Ok(())
+}
+
+/// Looks at a track to which two copies of a record and one of another come.
+fn check_copies(rt: &HostRuntime, genome: &Genome, track: &mut Track) -> Result<(), Fail> {
+    let (a, b) = (b"chr1\t10\t20\ta".as_slice(), b"chr1\t10\t20\tb".as_slice());
+    add_all(rt, genome, track, &[b, a, a])?;
+    for (line, after, want) in [
+        (b, false, Some((b'a', 2))),
+        (a, true, Some((b'b', 1))),
+        (b, true, None),
+    ] {
+        if next_to(rt, genome, track, line, after)? != want {
+            return Err(Fail::new("another record"));
+        }
+    }
+    Ok(())
+}
+
 #[test]
 fn copies_in_order(rt: HostRuntime) -> Result<(), Fail> {
     let genome = genome(&rt)?;
     let mut track = Track::new(rt.alloc(), 4, 9);
-    let (a, b) = (b"chr1\t10\t20\ta".as_slice(), b"chr1\t10\t20\tb".as_slice());
-    for line in [b, a, a] {
-        assert!(rt; fault_of(&rt, &genome, &mut track, Edit::Add(line))? == 0);
-    }
-    assert!(rt; next_to(&rt, &genome, &track, b, false)? == Some((b'a', 2)));
-    assert!(rt; next_to(&rt, &genome, &track, a, true)? == Some((b'b', 1)));
-    assert!(rt; next_to(&rt, &genome, &track, b, true)?.is_none());
+    check_copies(&rt, &genome, &mut track)?;
     assert!(rt; track.len() == 3);
     Ok(())
 }
@@ -150,13 +186,8 @@ fn rank_from(track: &Track, seq: u32, start: u64) -> Option<u32> {
     Some(row.seq())
 }
 
-#[test]
-fn starts_past_each_record(rt: HostRuntime) -> Result<(), Fail> {
-    let genome = genome(&rt)?;
-    let mut track = Track::new(rt.alloc(), 4, 9);
-    for line in [b"chr1\t99\t100\ta".as_slice(), b"chr2\t0\t1\ta"] {
-        assert!(rt; fault_of(&rt, &genome, &mut track, Edit::Add(line))? == 0);
-    }
+/// Looks behind the records of a track.
+fn check_starts(track: &Track) -> Result<(), Fail> {
     for (seq, start, want) in [
         (0, 99, Some(0)),
         (0, 100, Some(1)),
@@ -168,7 +199,22 @@ fn starts_past_each_record(rt: HostRuntime) -> Result<(), Fail> {
         (u32::MAX, 0, None),
         (u32::MAX, u64::MAX, None),
     ] {
-        assert!(rt; rank_from(&track, seq, start) == want, "at {seq} {start}");
+        if rank_from(track, seq, start) != want {
+            return Err(Fail::new("another record"));
+        }
     }
     Ok(())
+}
+
+#[test]
+fn starts_past_each_record(rt: HostRuntime) -> Result<(), Fail> {
+    let genome = genome(&rt)?;
+    let mut track = Track::new(rt.alloc(), 4, 9);
+    add_all(
+        &rt,
+        &genome,
+        &mut track,
+        &[b"chr1\t99\t100\ta", b"chr2\t0\t1\ta"],
+    )?;
+    check_starts(&track)
 }

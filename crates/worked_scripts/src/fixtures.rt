@@ -35,24 +35,34 @@ pub(crate) struct Ran {
     pub(crate) done: Result<Summary, RunFault>,
 }
 
-/// Runs a script that comes in pieces, over outputs with room for a number of bytes.
-pub(crate) fn run(
+/// A script under limits, over an input and outputs that fail after a number of bytes.
+#[derive(Clone, Copy, Debug)]
+pub(crate) struct Script<'a> {
+    pub(crate) text: &'a [u8],
+    pub(crate) good: usize,
+    pub(crate) lines: u32,
+    pub(crate) line_bytes: u32,
+    pub(crate) output: usize,
+    pub(crate) messages: usize,
+}
+
+/// Runs a script, which comes and is written in pieces of a number of bytes.
+pub(crate) fn run_within(
     rt: &HostRuntime,
     session: &mut Session,
-    script: &[u8],
+    script: Script<'_>,
     piece: usize,
-    room: usize,
 ) -> Result<Ran, Fail> {
     if piece == 0 {
         return Err(Fail::new("pieces of no byte"));
     }
-    let mut output = MemSink::new(rt.alloc(), room, piece)?;
-    let mut messages = MemSink::new(rt.alloc(), 1000, piece)?;
+    let mut output = MemSink::new(rt.alloc(), script.output, piece)?;
+    let mut messages = MemSink::new(rt.alloc(), script.messages, piece)?;
     let limits = ScriptLimits {
-        lines: 4_000_000,
-        line_bytes: 1_048_576,
+        lines: script.lines,
+        line_bytes: script.line_bytes,
     };
-    let mut source = MemSource::new(script, usize::MAX, piece);
+    let mut source = MemSource::new(script.text, script.good, piece);
     let done = run_script(
         rt.alloc(),
         session,
@@ -66,6 +76,25 @@ pub(crate) fn run(
         messages,
         done,
     })
+}
+
+/// Runs a script within the program's limits, over an output with room for a number of bytes.
+pub(crate) fn run(
+    rt: &HostRuntime,
+    session: &mut Session,
+    script: &[u8],
+    piece: usize,
+    room: usize,
+) -> Result<Ran, Fail> {
+    let script = Script {
+        text: script,
+        good: usize::MAX,
+        lines: 4_000_000,
+        line_bytes: 1_048_576,
+        output: room,
+        messages: 1000,
+    };
+    run_within(rt, session, script, piece)
 }
 
 /// A BED file, a script over the session of it, and what the script is to write.
@@ -85,20 +114,34 @@ pub(crate) struct Example<'a> {
     pub(crate) left: u32,
 }
 
-/// Whether the example's script, in pieces of this number of bytes, writes and leaves what it is to.
-fn holds(rt: &HostRuntime, example: &Example<'_>, piece: usize) -> Result<bool, Fail> {
-    let mut session = session_of(rt, SIZES, example.width, example.first, example.limit)?;
-    let ran = run(rt, &mut session, example.script, piece, 1000)?;
-    let summary = Summary {
-        lines: example.lines,
-        refused: example.refused,
-    };
+/// Whether the example's script ended as it is to.
+fn is_done(done: Result<Summary, RunFault>, example: &Example<'_>) -> bool {
+    match done {
+        Ok(summary) => summary.lines == example.lines && summary.refused == example.refused,
+        Err(_) => false,
+    }
+}
+
+/// Whether the example's script, in pieces of this number of bytes, writes over a session what it is to.
+fn writes(
+    rt: &HostRuntime,
+    session: &mut Session,
+    example: &Example<'_>,
+    piece: usize,
+) -> Result<bool, Fail> {
+    let ran = run(rt, session, example.script, piece, 1000)?;
     Ok(
         ran.output.bytes() == example.output
             && ran.messages.bytes() == example.messages
-            && ran.done == Ok(summary)
-            && session.len() == example.left,
+            && is_done(ran.done, example),
     )
+}
+
+/// Whether the example's script, in pieces of this number of bytes, writes and leaves what it is to.
+fn holds(rt: &HostRuntime, example: &Example<'_>, piece: usize) -> Result<bool, Fail> {
+    let mut session = session_of(rt, SIZES, example.width, example.first, example.limit)?;
+    let is_written = writes(rt, &mut session, example, piece)?;
+    Ok(is_written && session.len() == example.left)
 }
 
 /// Runs the script of each example, whole and in small pieces.

@@ -48,28 +48,23 @@ fn prints(
     Ok(summary.refused == 0 && ran.output.bytes() == want)
 }
 
+/// Whether a script over the records of a BED file runs to its end, and what is left.
+fn runs_over_many(rt: &HostRuntime, session: &mut Session, rows: &[u8]) -> Result<bool, Fail> {
+    let script =
+        b"open\tm\tmerge\nadd\tchr300000\t5\t9\tn\t0\t.\nadd\tchr300000\t5\t9\tn\t0\t.\nremove\tchr300000\t5\t9\tn\t0\t.\nreplace\tchr300000\t5\t9\tn\t0\t.\tchr300000\t15\t19\tn\t0\t.\nprint\tm\n";
+    let before = session.len();
+    let is_printed = prints(rt, session, script, rows)?;
+    Ok(before == MANY && is_printed && session.len() == MANY + 1)
+}
+
 #[test]
 fn files_of_megabytes(rt: HostRuntime) -> Result<(), Fail> {
     let files = many(&rt)?;
     assert!(rt; files.sizes.len() > 2_000_000);
-    let mut session = session_of(
-        &rt,
-        files.sizes.as_bytes(),
-        3,
-        files.first.as_bytes(),
-        4_000_000,
-    )?;
-    assert!(rt; session.len() == MANY);
-    let script =
-        b"open\tm\tmerge\nadd\tchr300000\t5\t9\tn\t0\t.\nadd\tchr300000\t5\t9\tn\t0\t.\nremove\tchr300000\t5\t9\tn\t0\t.\nreplace\tchr300000\t5\t9\tn\t0\t.\tchr300000\t15\t19\tn\t0\t.\nprint\tm\n";
-    assert!(rt; prints(&rt, &mut session, script, files.rows.as_bytes())?);
-    assert!(rt; session.len() == MANY + 1);
+    let (sizes, first) = (files.sizes.as_bytes(), files.first.as_bytes());
+    let mut session = session_of(&rt, sizes, 3, first, 4_000_000)?;
+    assert!(rt; runs_over_many(&rt, &mut session, files.rows.as_bytes())?);
     Ok(())
-}
-
-/// A text of this number of letters.
-fn letters(rt: &HostRuntime, count: usize) -> Result<Vec<u8>, Fail> {
-    Ok(vec![in rt.alloc(); b'n'; count]?)
 }
 
 /// Puts texts one behind the other.
@@ -81,64 +76,85 @@ fn joined(rt: &HostRuntime, texts: &[&[u8]]) -> Result<Vec<u8>, Fail> {
     Ok(all)
 }
 
+/// A script of lines with a name of this number of letters.
+fn script_with_name(rt: &HostRuntime, count: usize) -> Result<Vec<u8>, Fail> {
+    let name = vec![in rt.alloc(); b'n'; count]?;
+    let name = name.as_slice();
+    let record = b"\tchr1\t10\t20\t".as_slice();
+    joined(
+        rt,
+        &[
+            b"#",
+            name,
+            b"\nadd",
+            record,
+            name,
+            b"\nadd",
+            record,
+            name,
+            b"\nremove",
+            record,
+            name,
+            b"\nreplace",
+            record,
+            name,
+            record,
+            name,
+            b"x\nopen\tm\tmerge\nprint\tm\n",
+        ],
+    )
+}
+
+/// Whether these lines run, and leave one record.
+fn runs_with_name(rt: &HostRuntime, count: usize) -> Result<bool, Fail> {
+    let script = script_with_name(rt, count)?;
+    let mut session = session_of(rt, SIZES, 4, b"", 2)?;
+    let is_printed = prints(rt, &mut session, script.as_slice(), b"chr1\t10\t20\n")?;
+    Ok(is_printed && session.len() == 1)
+}
+
 #[test]
 fn long_lines(rt: HostRuntime) -> Result<(), Fail> {
     for count in [1_001, 10_000, 100_000] {
-        let name = letters(&rt, count)?;
-        let name = name.as_slice();
-        let record = b"\tchr1\t10\t20\t".as_slice();
-        let script = joined(
-            &rt,
-            &[
-                b"#",
-                name,
-                b"\nadd",
-                record,
-                name,
-                b"\nadd",
-                record,
-                name,
-                b"\nremove",
-                record,
-                name,
-                b"\nreplace",
-                record,
-                name,
-                record,
-                name,
-                b"x\nopen\tm\tmerge\nprint\tm\n",
-            ],
-        )?;
-        let mut session = session_of(&rt, SIZES, 4, b"", 2)?;
-        assert!(rt;
-            prints(&rt, &mut session, script.as_slice(), b"chr1\t10\t20\n")?,
-            "{count} bytes"
-        );
-        assert!(rt; session.len() == 1);
+        assert!(rt; runs_with_name(&rt, count)?, "{count} bytes");
     }
     Ok(())
 }
 
+/// A session of a genome file and a BED file, each in parts.
+fn session_of_parts(rt: &HostRuntime, sizes: &[&[u8]], first: &[&[u8]]) -> Result<Session, Fail> {
+    let sizes = joined(rt, sizes)?;
+    let first = joined(rt, first)?;
+    session_of(rt, sizes.as_slice(), 3, first.as_slice(), 2)
+}
+
+/// Whether a script in parts has no refused line, and writes these rows.
+fn prints_parts(
+    rt: &HostRuntime,
+    session: &mut Session,
+    script: &[&[u8]],
+    rows: &[&[u8]],
+) -> Result<bool, Fail> {
+    let script = joined(rt, script)?;
+    let rows = joined(rt, rows)?;
+    prints(rt, session, script.as_slice(), rows.as_slice())
+}
+
 #[test]
 fn long_names(rt: HostRuntime) -> Result<(), Fail> {
-    let (seq, name) = (letters(&rt, 300)?, letters(&rt, 100)?);
+    let (seq, name) = ([b'n'; 300], [b'n'; 100]);
     let (seq, name) = (seq.as_slice(), name.as_slice());
-    let sizes = joined(&rt, &[seq, b"\t100\n"])?;
-    let first = joined(&rt, &[seq, b"\t10\t20\t", name, b"\t", name, b"\t+\n"])?;
-    let script = joined(
-        &rt,
-        &[
-            b"add\t",
-            seq,
-            b"\t20\t30\t",
-            name,
-            b"x\t",
-            name,
-            b"x\t+\nopen\tm\tmerge\nprint\tm\n",
-        ],
-    )?;
-    let rows = joined(&rt, &[seq, b"\t10\t30\n"])?;
-    let mut session = session_of(&rt, sizes.as_slice(), 3, first.as_slice(), 2)?;
-    assert!(rt; prints(&rt, &mut session, script.as_slice(), rows.as_slice())?);
+    let first = [seq, b"\t10\t20\t", name, b"\t", name, b"\t+\n"];
+    let mut session = session_of_parts(&rt, &[seq, b"\t100\n"], &first)?;
+    let script = [
+        b"add\t",
+        seq,
+        b"\t20\t30\t",
+        name,
+        b"x\t",
+        name,
+        b"x\t+\nopen\tm\tmerge\nprint\tm\n",
+    ];
+    assert!(rt; prints_parts(&rt, &mut session, &script, &[seq, b"\t10\t30\n"])?);
     Ok(())
 }

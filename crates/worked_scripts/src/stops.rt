@@ -1,54 +1,20 @@
 //! Scripts that stop before their end: limits, an input and outputs that fail.
-use crate::fixtures::session;
-use iv_session::{RunCause, RunFault, ScriptLimits, Summary, run_script};
-use iv_text::{MemSink, MemSource};
+use crate::fixtures::{Ran, Script, run_within, session};
+use iv_session::{RunCause, RunFault, Summary};
 use std::test::Fail;
 
-/// A script under limits, over an input and outputs that fail after a number of bytes.
-#[derive(Clone, Copy, Debug)]
-struct Run<'a> {
-    script: &'a [u8],
-    good: usize,
-    lines: u32,
-    line_bytes: u32,
-    output: usize,
-    messages: usize,
-}
-
-/// How the script ends, and what it wrote to its output.
-fn ended(
-    rt: &HostRuntime,
-    run: Run<'_>,
-    piece: usize,
-) -> Result<(Result<Summary, RunFault>, MemSink), Fail> {
-    if piece == 0 {
-        return Err(Fail::new("pieces of no byte"));
-    }
+/// The script over a session without a record.
+fn ended(rt: &HostRuntime, script: Script<'_>, piece: usize) -> Result<Ran, Fail> {
     let mut session = session(rt, b"", 9)?;
-    let mut output = MemSink::new(rt.alloc(), run.output, piece)?;
-    let mut messages = MemSink::new(rt.alloc(), run.messages, piece)?;
-    let limits = ScriptLimits {
-        lines: run.lines,
-        line_bytes: run.line_bytes,
-    };
-    let mut source = MemSource::new(run.script, run.good, piece);
-    let done = run_script(
-        rt.alloc(),
-        &mut session,
-        &limits,
-        &mut source,
-        &mut output,
-        &mut messages,
-    );
-    Ok((done, output))
+    run_within(rt, &mut session, script, piece)
 }
 
 /// Lines that print, after a refused one.
 const PRINTS: &[u8] = b"open\tm\tmerge\npaint\tm\nadd\tchr1\t10\t20\nprint\tm";
 
 /// All of a script, within all limits.
-const WHOLE: Run<'static> = Run {
-    script: PRINTS,
+const WHOLE: Script<'static> = Script {
+    text: PRINTS,
     good: usize::MAX,
     lines: 9,
     line_bytes: 99,
@@ -58,10 +24,10 @@ const WHOLE: Run<'static> = Run {
 
 #[test]
 fn scripts_that_stop(rt: HostRuntime) -> Result<(), Fail> {
-    for (run, line, cause) in [
+    for (script, line, cause) in [
         (
-            Run {
-                script: b"#\n\n#\n",
+            Script {
+                text: b"#\n\n#\n",
                 lines: 2,
                 ..WHOLE
             },
@@ -69,8 +35,8 @@ fn scripts_that_stop(rt: HostRuntime) -> Result<(), Fail> {
             RunCause::TooLong,
         ),
         (
-            Run {
-                script: b"print\tm\n",
+            Script {
+                text: b"print\tm\n",
                 line_bytes: 5,
                 ..WHOLE
             },
@@ -78,8 +44,8 @@ fn scripts_that_stop(rt: HostRuntime) -> Result<(), Fail> {
             RunCause::TooLong,
         ),
         (
-            Run {
-                script: b"print\tm",
+            Script {
+                text: b"print\tm",
                 line_bytes: 6,
                 ..WHOLE
             },
@@ -87,8 +53,8 @@ fn scripts_that_stop(rt: HostRuntime) -> Result<(), Fail> {
             RunCause::TooLong,
         ),
         (
-            Run {
-                script: b"#\n#1\r\n",
+            Script {
+                text: b"#\n#1\r\n",
                 line_bytes: 2,
                 ..WHOLE
             },
@@ -96,8 +62,8 @@ fn scripts_that_stop(rt: HostRuntime) -> Result<(), Fail> {
             RunCause::TooLong,
         ),
         (
-            Run {
-                script: b"#\n#123",
+            Script {
+                text: b"#\n#123",
                 good: 4,
                 ..WHOLE
             },
@@ -105,8 +71,8 @@ fn scripts_that_stop(rt: HostRuntime) -> Result<(), Fail> {
             RunCause::Input,
         ),
         (
-            Run {
-                script: b"#\n#123",
+            Script {
+                text: b"#\n#123",
                 good: 5,
                 line_bytes: 2,
                 ..WHOLE
@@ -115,25 +81,28 @@ fn scripts_that_stop(rt: HostRuntime) -> Result<(), Fail> {
             RunCause::TooLong,
         ),
         (
-            Run {
-                script: b"#\nno\n",
+            Script {
+                text: b"#\nno\n",
                 messages: 5,
                 ..WHOLE
             },
             2,
             RunCause::Messages,
         ),
-        (Run { output: 7, ..WHOLE }, 4, RunCause::Output),
+        (Script { output: 7, ..WHOLE }, 4, RunCause::Output),
     ] {
         for piece in [1, 2, 3, 7, 1000] {
-            let (done, output) = ended(&rt, run, piece)?;
-            assert!(rt; done == Err(RunFault { line, cause }), "at {run:?}");
-            let written = if run.output == 7 {
+            let ran = ended(&rt, script, piece)?;
+            let written = if script.output == 7 {
                 b"chr1\t10".as_slice()
             } else {
                 b""
             };
-            assert!(rt; output.bytes() == written, "at {run:?}");
+            let is_written = ran.output.bytes() == written;
+            assert!(rt;
+                is_written && ran.done == Err(RunFault { line, cause }),
+                "at {script:?}"
+            );
         }
     }
     Ok(())
@@ -141,10 +110,10 @@ fn scripts_that_stop(rt: HostRuntime) -> Result<(), Fail> {
 
 #[test]
 fn scripts_within_their_limits(rt: HostRuntime) -> Result<(), Fail> {
-    for (run, lines, refused) in [
+    for (script, lines, refused) in [
         (
-            Run {
-                script: b"",
+            Script {
+                text: b"",
                 lines: 0,
                 line_bytes: 0,
                 ..WHOLE
@@ -153,8 +122,8 @@ fn scripts_within_their_limits(rt: HostRuntime) -> Result<(), Fail> {
             0,
         ),
         (
-            Run {
-                script: b"\n",
+            Script {
+                text: b"\n",
                 lines: 1,
                 line_bytes: 0,
                 ..WHOLE
@@ -163,8 +132,8 @@ fn scripts_within_their_limits(rt: HostRuntime) -> Result<(), Fail> {
             0,
         ),
         (
-            Run {
-                script: b"#1\r\n#12",
+            Script {
+                text: b"#1\r\n#12",
                 lines: 2,
                 line_bytes: 3,
                 ..WHOLE
@@ -174,8 +143,8 @@ fn scripts_within_their_limits(rt: HostRuntime) -> Result<(), Fail> {
         ),
         (WHOLE, 4, 1),
     ] {
-        let (done, _) = ended(&rt, run, 2)?;
-        assert!(rt; done == Ok(Summary { lines, refused }), "at {run:?}");
+        let done = ended(&rt, script, 2)?.done;
+        assert!(rt; done == Ok(Summary { lines, refused }), "at {script:?}");
     }
     Ok(())
 }

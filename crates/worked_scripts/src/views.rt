@@ -1,5 +1,5 @@
 //! Several views of a session: opening, closing, printing one and all.
-use crate::fixtures::{Example, SIZES, check, run, session};
+use crate::fixtures::{Example, Ran, SIZES, check, run, session};
 use iv_session::{ViewFault, ViewWords};
 use std::test::Fail;
 
@@ -58,10 +58,16 @@ fn full_script(rt: &HostRuntime) -> Result<String, Fail> {
     Ok(script)
 }
 
+/// Runs that script over a session of one record.
+fn run_full_script(rt: &HostRuntime) -> Result<Ran, Fail> {
+    let script = full_script(rt)?;
+    let mut session = session(rt, b"chr1\t10\t20\n", 9)?;
+    run(rt, &mut session, script.as_bytes(), 100, 2000)
+}
+
 #[test]
 fn sixty_four_views(rt: HostRuntime) -> Result<(), Fail> {
-    let mut session = session(&rt, b"chr1\t10\t20\n", 9)?;
-    let ran = run(&rt, &mut session, full_script(&rt)?.as_bytes(), 100, 2000)?;
+    let ran = run_full_script(&rt)?;
     let messages =
         b"line 65: too many views\nline 66: view name taken\nline 67: too many views\nline 68: bad view name\nline 70: bad options\n";
     assert!(rt; ran.messages.bytes() == messages.as_slice());

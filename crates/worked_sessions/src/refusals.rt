@@ -125,20 +125,41 @@ fn refused_edits(
     Ok(refused)
 }
 
-/// Begins a session of a text, again where memory is refused, and edits it where it begins without a record. How many
-/// calls met the refusal.
+/// A session of a text, begun again where memory is refused, and how many calls met the refusal.
+fn begun<'a>(
+    alloc: &'a RefusesNth<Global>,
+    text: &[u8],
+) -> Result<(Session<&'a RefusesNth<Global>>, u32), Fail> {
+    if let Some(session) = session_of(alloc, text) {
+        return Ok((session, 0));
+    }
+    match session_of(alloc, text) {
+        Some(session) => Ok((session, 1)),
+        None => Err(Fail::new("refused twice")),
+    }
+}
+
+/// Edits a session that begins without a record, and looks at the records of another one. How many calls met the
+/// refusal.
+fn refused_in(
+    rt: &HostRuntime,
+    session: &mut Session<&RefusesNth<Global>>,
+    is_empty: bool,
+) -> Result<u32, Fail> {
+    if is_empty {
+        return refused_edits(rt, session);
+    }
+    if holds_starts(session, 0, COUNT) {
+        Ok(0)
+    } else {
+        Err(Fail::new("other records"))
+    }
+}
+
+/// Begins a session of a text, and edits it where it begins without a record. How many calls met the refusal.
 fn refused_calls(rt: &HostRuntime, alloc: &RefusesNth<Global>, text: &[u8]) -> Result<u32, Fail> {
-    let (mut session, refused) = match session_of(alloc, text) {
-        Some(session) => (session, 0),
-        None => (session_of(alloc, text).ok_or("refused twice")?, 1),
-    };
-    if text.is_empty() {
-        return Ok(refused_edits(rt, &mut session)?.saturating_add(refused));
-    }
-    if !holds_starts(&session, 0, COUNT) {
-        return Err(Fail::new("other records"));
-    }
-    Ok(refused)
+    let (mut session, refused) = begun(alloc, text)?;
+    Ok(refused_in(rt, &mut session, text.is_empty())?.saturating_add(refused))
 }
 
 /// Whether some growth was refused, and none is any more behind the last one.

@@ -34,9 +34,8 @@ fn fault_of(session: &mut Session, edit: Edit<'_>) -> Result<Option<EditFault>, 
     Ok(done.err())
 }
 
-#[test]
-fn edits(rt: HostRuntime) -> Result<(), Fail> {
-    let mut session = session(&rt, b"chr1\t10\t20\tn\n", 2)?;
+/// Edits a session of at most two records, which has one of them.
+fn check_edits(session: &mut Session) -> Result<(), Fail> {
     for (edit, want, count) in [
         (Edit::Add(b"chr1\t10\t20\tn"), None, 2),
         (Edit::Add(b"chr1\t10\t20\tn"), Some(EditFault::Full), 2),
@@ -55,10 +54,17 @@ fn edits(rt: HostRuntime) -> Result<(), Fail> {
         (Edit::Remove(b"chr1\t10\t20\tn"), Some(EditFault::Absent), 1),
         (Edit::Remove(b"chr1\t30\t40\tm"), None, 0),
     ] {
-        assert!(rt; fault_of(&mut session, edit)? == want, "at {edit:?}");
-        assert!(rt; session.len() == count, "at {edit:?}");
+        if fault_of(session, edit)? != want || session.len() != count {
+            return Err(Fail::new("another outcome"));
+        }
     }
     Ok(())
+}
+
+#[test]
+fn edits(rt: HostRuntime) -> Result<(), Fail> {
+    let mut session = session(&rt, b"chr1\t10\t20\tn\n", 2)?;
+    check_edits(&mut session)
 }
 
 /// What the session says of a line, and whether the record is one of a session with four columns.
@@ -69,19 +75,26 @@ fn fault_of_line(session: &Session, other: &Session, line: &[u8]) -> (Option<Rec
     }
 }
 
-#[test]
-fn records_that_are_read(rt: HostRuntime) -> Result<(), Fail> {
-    let plain = session(&rt, b"", 2)?;
-    let named = session(&rt, b"chr1\t1\t2\tn\n", 2)?;
+/// Reads lines in a session of three columns, of which no record is one of a session of four.
+fn reads(plain: &Session, named: &Session) -> bool {
     for (line, want) in [
         (b"chr1\t90\t100".as_slice(), None),
         (b"chr1\t90\t101", Some(RecordFault::PastEnd)),
         (b"chr3\t0\t1", Some(RecordFault::PastEnd)),
         (b"chr1\t90\t100\tn", Some(RecordFault::Columns)),
     ] {
-        assert!(rt; fault_of_line(&plain, &named, line) == (want, false));
+        if fault_of_line(plain, named, line) != (want, false) {
+            return false;
+        }
     }
-    assert!(rt; fault_of_line(&plain, &plain, b"chr1\t90\t100") == (None, true));
+    fault_of_line(plain, plain, b"chr1\t90\t100") == (None, true)
+}
+
+#[test]
+fn records_that_are_read(rt: HostRuntime) -> Result<(), Fail> {
+    let plain = session(&rt, b"", 2)?;
+    let named = session(&rt, b"chr1\t1\t2\tn\n", 2)?;
+    assert!(rt; reads(&plain, &named));
     Ok(())
 }
 
@@ -106,6 +119,12 @@ fn session_of_a_file(rt: HostRuntime) -> Result<(), Fail> {
     Ok(())
 }
 
+/// The fault of an opening in a session without views.
+fn fault_of_opening(rt: &HostRuntime, name: &[u8], word: &[u8]) -> Result<Option<ViewFault>, Fail> {
+    let mut session = session(rt, b"", 2)?;
+    Ok(session.open_view(name, &[word]).err())
+}
+
 #[test]
 fn names_of_views(rt: HostRuntime) -> Result<(), Fail> {
     for (name, word, want) in [
@@ -120,8 +139,7 @@ fn names_of_views(rt: HostRuntime) -> Result<(), Fail> {
         (b"a b", b"merge", Some(ViewFault::BadName)),
         (b"m", b"cluster", Some(ViewFault::Words)),
     ] {
-        let mut session = session(&rt, b"", 2)?;
-        assert!(rt; session.open_view(name, &[word]).err() == want);
+        assert!(rt; fault_of_opening(&rt, name, word)? == want);
     }
     Ok(())
 }
@@ -149,9 +167,8 @@ fn printed(
     Ok((sink, done.err()))
 }
 
-#[test]
-fn prints(rt: HostRuntime) -> Result<(), Fail> {
-    let session = with_views(&rt)?;
+/// Prints the views of a session, one by one and all, into outputs with and without room.
+fn check_prints(rt: &HostRuntime, session: &Session) -> Result<(), Fail> {
     let all = b"#a\nchr1\t10\t30\nchr1\t31\t40\n#b\nchr1\t10\t30\nchr1\t31\t40\n";
     for (name, room, want, text) in [
         (Some(b"a".as_slice()), 99, None, &all[3..25]),
@@ -160,19 +177,33 @@ fn prints(rt: HostRuntime) -> Result<(), Fail> {
         (None, 99, None, all),
         (None, 28, Some(PrintFault::Write), &all[..28]),
     ] {
-        let (sink, fault) = printed(&rt, &session, name, room)?;
-        assert!(rt; fault == want && sink.bytes() == text, "into {room} bytes");
+        let (sink, fault) = printed(rt, session, name, room)?;
+        if fault != want || sink.bytes() != text {
+            return Err(Fail::new("another print"));
+        }
     }
     Ok(())
 }
 
 #[test]
+fn prints(rt: HostRuntime) -> Result<(), Fail> {
+    let session = with_views(&rt)?;
+    check_prints(&rt, &session)
+}
+
+/// Adds a record and closes a view, which alone isn't current any more.
+fn closes(session: &mut Session) -> Result<bool, Fail> {
+    let is_added = fault_of(session, Edit::Add(b"chr1\t30\t31"))?.is_none();
+    let is_current = session.is_current(b"a") && !session.is_current(b"c");
+    let is_absent = session.close_view(b"c") == Err(NoView);
+    let is_closed = session.close_view(b"a") == Ok(()) && !session.is_current(b"a");
+    Ok(is_added && is_current && is_absent && is_closed)
+}
+
+#[test]
 fn views_that_are_current(rt: HostRuntime) -> Result<(), Fail> {
     let mut session = with_views(&rt)?;
-    assert!(rt; fault_of(&mut session, Edit::Add(b"chr1\t30\t31"))?.is_none());
-    assert!(rt; session.is_current(b"a") && !session.is_current(b"c"));
-    assert!(rt; session.close_view(b"c") == Err(NoView));
-    assert!(rt; session.close_view(b"a") == Ok(()) && !session.is_current(b"a"));
+    assert!(rt; closes(&mut session)?);
     let (sink, fault) = printed(&rt, &session, None, 99)?;
     assert!(rt; fault.is_none() && sink.bytes() == b"#b\nchr1\t10\t40\n".as_slice());
     Ok(())
