@@ -2,13 +2,13 @@
 """Times edits of a session of bedkeep over a track of a million records.
 
     make build
-    python3 scripts/bench_edits.py [FOLDER] [--records N] [--columns N ..] [--edits N]
+    python3 scripts/bench_edits.py [FOLDER] [--view WORDS ..] [--records N] [--columns N ..] [--edits N]
 
 Writes a genome file, a BED file and two scripts into FOLDER (a temporary
-folder where none is given), the same bytes each time. One script opens a
-view and nothing else; the other opens it and then adds a number of records and
+folder where none is given), the same bytes each time. One script opens
+views and nothing else; the other opens them and then adds a number of records and
 removes them again, in another order. The time of an edit is the difference of
-the two runs. At the end both print the view, and the script stops with
+the two runs. At the end both print the views, and the script stops with
 status 1 where what they print differs.
 """
 
@@ -22,7 +22,7 @@ import sys
 import tempfile
 import time
 
-from bench_merge import CHROMOSOMES, TOP, places, stop_unless_done, write_data
+from bench_views import CHROMOSOMES, TOP, VIEWS, places, stop_unless_done, write_data
 
 SEED = 21
 
@@ -33,6 +33,7 @@ def main():
         sys.exit(f"{wanted.program} is not there: run `make build` first")
     print(f"{wanted.records:,} records, {wanted.edits:,} adds and {wanted.edits:,} removes, {wanted.runs} runs each, "
           f"{os.cpu_count()} processors, {platform.machine()}")
+    print(f"Open views: {', '.join(wanted.view)}")
     print("| columns | without edits | with edits | edits a second |")
     print("|---|---|---|---|")
     with tempfile.TemporaryDirectory() as temporary:
@@ -45,6 +46,7 @@ def main():
 def read_words():
     words = argparse.ArgumentParser(description=__doc__.splitlines()[0])
     words.add_argument("folder", nargs="?", help="where the data is written (default: a temporary folder)")
+    words.add_argument("--view", nargs="+", choices=VIEWS, default=["merge"], help="the views that are open")
     words.add_argument("--records", type=int, default=1_000_000)
     words.add_argument("--columns", type=int, nargs="+", choices=[3, 4, 5, 6], default=[3, 6])
     words.add_argument("--edits", type=int, default=200_000, help="how many adds, and how many removes")
@@ -55,8 +57,11 @@ def read_words():
 
 def run_case(wanted, folder, columns):
     genome, track, idle, busy = (os.path.join(folder, name) for name in ("sizes", "sorted.bed", "idle", "busy"))
-    write_data(genome, track, idle, wanted.records, columns, "sorted")
-    write_edits(busy, wanted.edits, columns)
+    write_data(genome, track, idle, "merge", wanted.records, columns, "sorted")
+    opened = "".join(f"open\tv{place}\t{view}\n" for place, view in enumerate(wanted.view))
+    write_edits(busy, opened, wanted.edits, columns)
+    with open(idle, "w") as file:
+        file.write(opened + "printall\n")
     words = [wanted.program, "session", "-g", genome, "-i", track]
     if printed(words, idle) != printed(words, busy):
         sys.exit("what the scripts print differs")
@@ -68,7 +73,7 @@ def run_case(wanted, folder, columns):
     print(f"| {columns} | {still * 1000:.0f} ms | {moved * 1000:.0f} ms | {2 * wanted.edits / (moved - still):,.0f} |", flush=True)
 
 
-def write_edits(script, edits, columns):
+def write_edits(script, opened, edits, columns):
     chance = random.Random(SEED)
     # the same places as in the track, and others: some records get a copy
     rows = []
@@ -77,11 +82,11 @@ def write_edits(script, edits, columns):
         beside = [f"gene_{number}", str(number % 1000), "+-"[number % 2]][:columns - 3]
         rows.append("\t".join([CHROMOSOMES[rank][0], str(start + shift), str(stop + shift), *beside]))
     with open(script, "w") as file:
-        file.write("open\tm\tmerge\n")
+        file.write(opened)
         file.writelines(f"add\t{row}\n" for row in rows)
         chance.shuffle(rows)
         file.writelines(f"remove\t{row}\n" for row in rows)
-        file.write("print\tm\n")
+        file.write("printall\n")
 
 
 def printed(words, script):

@@ -1,16 +1,17 @@
 #!/usr/bin/env python3
-"""Times a merge view printed by a session of bedkeep beside `bedtools merge`.
+"""Times a view printed by a session of bedkeep beside bedtools with the same words.
 
     make build
-    python3 scripts/bench_merge.py [FOLDER] [--records N ..] [--columns N ..] [--order WORD ..]
+    python3 scripts/bench_views.py [FOLDER] [--view WORDS ..] [--records N ..] [--columns N ..] [--order WORD ..]
 
 Writes genome and BED files into FOLDER (a temporary folder where none is
 given), the same bytes each time: a file for each number of records, each
 number of columns and each order asked for. Runs both programs in turn over
 each, with standard output thrown away, and prints the least and the median
 time of each, their ratios, and the most memory that each held. A shuffled
-file is sorted by `bedtools sort` in front of `bedtools merge`. Before that
-both outputs are compared; where they differ the script stops with status 1.
+file is sorted by `bedtools sort` in front of the command. Before that both
+outputs are compared; where they differ the script stops with status 1.
+`genomecov -d` runs over one sequence, of 250 bases for each record.
 """
 
 import argparse
@@ -28,8 +29,8 @@ import tempfile
 import time
 
 TOP = os.path.dirname(os.path.dirname(os.path.abspath(__file__)))
-SCRIPT = "open\tm\tmerge\nprint\tm\n"
 SEED = 20
+VIEWS = ["merge", "genomecov -bg", "genomecov -bga", "genomecov -d"]
 CHROMOSOMES = [
     ("chr1", 249250621), ("chr2", 243199373), ("chr3", 198022430), ("chr4", 191154276),
     ("chr5", 180915260), ("chr6", 171115067), ("chr7", 159138663), ("chr8", 146364022),
@@ -48,34 +49,36 @@ def main():
         sys.exit("bedtools is not installed")
     version = subprocess.run(["bedtools", "--version"], capture_output=True, text=True).stdout.strip()
     print(f"{wanted.runs} runs each, {version}, {os.cpu_count()} processors, {platform.machine()}")
-    print("| records | columns | order | bedkeep | bedtools | ratio of medians | bedkeep's bytes a record | bedtools' |")
-    print("|---|---|---|---|---|---|---|---|")
+    print("| view | records | columns | order | bedkeep | bedtools | ratio of medians | bedkeep's bytes a record | bedtools' |")
+    print("|---|---|---|---|---|---|---|---|---|")
     with tempfile.TemporaryDirectory() as temporary:
         folder = wanted.folder or temporary
         os.makedirs(folder, exist_ok=True)
-        for case in itertools.product(wanted.records, wanted.columns, wanted.order):
+        for case in itertools.product(wanted.view, wanted.records, wanted.columns, wanted.order):
             run_case(wanted, folder, *case)
 
 
-def run_case(wanted, folder, records, columns, order):
+def run_case(wanted, folder, view, records, columns, order):
     genome, track, script = (os.path.join(folder, name) for name in ("sizes", f"{order}.bed", "script"))
     # in a process of its own, so that this one stays small: a child begins with the memory of its parent
-    writer = multiprocessing.get_context("spawn").Process(target=write_data, args=(genome, track, script, records, columns, order))
+    writer = multiprocessing.get_context("spawn").Process(target=write_data, args=(genome, track, script, view, records, columns, order))
     writer.start()
     writer.join()
-    sort = "bedtools merge -i {0}" if order == "sorted" else "bedtools sort -i {0} | bedtools merge -i -"
+    sizes = "" if view == "merge" else f" -g {genome}"
+    theirs = f"bedtools {view} -i {track}{sizes}" if order == "sorted" else f"bedtools sort -i {track} | bedtools {view} -i -{sizes}"
     # each program: its words, and the file that is its standard input
     programs = {
         "bedkeep": ([wanted.program, "session", "-g", genome, "-i", track], script),
-        "bedtools": (["sh", "-c", sort.format(track)], os.devnull),
+        "bedtools": (["sh", "-c", theirs], os.devnull),
     }
     compare(programs)
-    report(records, columns, order, *measure(programs, wanted.runs))
+    report(view, records, columns, order, *measure(programs, wanted.runs))
 
 
 def read_words():
     words = argparse.ArgumentParser(description=__doc__.splitlines()[0])
     words.add_argument("folder", nargs="?", help="where the data is written (default: a temporary folder)")
+    words.add_argument("--view", nargs="+", choices=VIEWS, default=["merge"])
     words.add_argument("--records", type=int, nargs="+", default=[1_000_000])
     words.add_argument("--columns", type=int, nargs="+", choices=[3, 4, 5, 6], default=[3])
     words.add_argument("--order", nargs="+", choices=["sorted", "shuffled"], default=["sorted"])
@@ -87,24 +90,25 @@ def read_words():
 # ------------------------------------------------------------------ the data
 
 
-def write_data(genome, track, script, count, columns, order):
+def write_data(genome, track, script, view, count, columns, order):
+    chromosomes = [("chr1", 250 * count)] if view == "genomecov -d" else CHROMOSOMES
     with open(genome, "w") as file:
-        file.writelines(f"{name}\t{length}\n" for name, length in sorted(CHROMOSOMES))
-    rows = enumerate(places(count))
+        file.writelines(f"{name}\t{length}\n" for name, length in sorted(chromosomes))
+    rows = enumerate(places(count, chromosomes))
     if order == "sorted":
-        rows = sorted(rows, key=lambda row: (CHROMOSOMES[row[1][0]][0], *row[1][1:]))
+        rows = sorted(rows, key=lambda row: (chromosomes[row[1][0]][0], *row[1][1:]))
     with open(track, "w") as file:
         for number, (rank, start, stop) in rows:
             beside = [f"gene_{number}", str(number % 1000), "+-"[number % 2]][:columns - 3]
-            file.write("\t".join([CHROMOSOMES[rank][0], str(start), str(stop), *beside]) + "\n")
+            file.write("\t".join([chromosomes[rank][0], str(start), str(stop), *beside]) + "\n")
     with open(script, "w") as file:
-        file.write(SCRIPT)
+        file.write(f"open\tm\t{view}\nprint\tm\n")
 
 
-def places(count):
+def places(count, chromosomes=CHROMOSOMES):
     """Records of 125 to 875 bases, spread evenly over all chromosomes."""
     chance = random.Random(SEED)
-    lengths = [length for _, length in CHROMOSOMES]
+    lengths = [length for _, length in chromosomes]
     for rank in chance.choices(range(len(lengths)), weights=lengths, k=count):
         bases = chance.randint(125, 875)
         start = chance.randrange(lengths[rank] - bases)
@@ -156,10 +160,10 @@ def stop_unless_done(words, status):
 # ------------------------------------------------------------------ the report
 
 
-def report(records, columns, order, seconds, most):
+def report(view, records, columns, order, seconds, most):
     ours, theirs = (f"{milliseconds(min(runs))}, {milliseconds(statistics.median(runs))}" for runs in seconds.values())
     ratio = statistics.median(seconds["bedkeep"]) / statistics.median(seconds["bedtools"])
-    print(f"| {records:,} | {columns} | {order} | {ours} | {theirs} | {ratio:.2f} "
+    print(f"| {view} | {records:,} | {columns} | {order} | {ours} | {theirs} | {ratio:.2f} "
           f"| {most['bedkeep'] / records:.0f} | {most['bedtools'] / records:.0f} |", flush=True)
 
 
