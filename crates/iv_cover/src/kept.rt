@@ -9,7 +9,7 @@ ghost use Rattle.iv_bytes.specs.Sinks.{Puts};
 ghost use Rattle.iv_track.specs.Steps.{TakesUpTo};
 ghost use Rattle.iv_cover.specs.Kept.{IsRightWithout};
 
-use iv_text::{Genome, Record, Sink, WriteFault};
+use iv_text::{Genome, RecordRef, Sink, WriteFault};
 use iv_track::{Meter, Track};
 use std::alloc::{AllocError, Allocator};
 
@@ -49,7 +49,7 @@ pub trait Kept<A: Allocator + Copy> {
         &mut self,
         track: &Track<A>,
         genome: &Genome<A>,
-        row: &Record<A>,
+        row: &RecordRef<'_>,
         meter: &mut Meter,
     ) -> Result<(), AllocError>
         requires right { IsRightWithout (λ s rows. is_right s (names_of genome.now) rows) self.old track.now.rows row.now }
@@ -64,7 +64,7 @@ pub trait Kept<A: Allocator + Copy> {
         &mut self,
         track: &Track<A>,
         genome: &Genome<A>,
-        row: &Record<A>,
+        row: &RecordRef<'_>,
         meter: &mut Meter,
     ) -> Result<(), AllocError>
         requires right { is_right self.old (names_of genome.now) (with_one track.now.rows row.now) }
