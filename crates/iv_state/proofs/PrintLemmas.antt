@@ -1,7 +1,7 @@
 -- A view that is printed.
 use Rattle.std.proofs.lemmas.Option.{slice_get-map, slice_get_within, slice_get_cases, get_or_from_slice_get}
 use Rattle.std.proofs.lemmas.List.Elements.{All-from_recursion}
-use Rattle.std.proofs.Common.{◌+◌, drop, get_or, append_assoc, add-one, drop-cons, inl, inr, length, slice_get, ◌≤◌, ◌≡◌, ℕ, List, [], ◌∷◌, ◌++◌, Option, None, Some, false, true, refl, sym, ap, ap₂, subst, ◌∙◌}
+use Rattle.std.proofs.Common.{◌+◌, drop, get_or, append_assoc, add-one, drop-cons, inl, inr, length, slice_get, ◌≤◌, ◌≡◌, ℕ, List, [], ◌∷◌, ◌++◌, Option, None, Some, false, refl, sym, ap, ap₂, subst, ◌∙◌}
 use Rattle.std.specs.Prelude.{All, MatchOption, IfSome}
 use Rattle.std.specs.List.{flat_map, AllByRecursion}
 use Rattle.std.specs.Map.{lookup}
@@ -18,7 +18,7 @@ use Rattle.iv_state.specs.Keeping.{all_seen}
 use Rattle.iv_state.specs.OpenViews.{current, all_current, with_current}
 use Rattle.iv_state.specs.Prints.{with_printed, with_all_printed}
 use Rattle.iv_state.specs.States.{State}
-use Rattle.iv_state.specs.Views.{view_named, heading, headed_text, all_text}
+use Rattle.iv_state.specs.Views.{heading, headed_text, all_text}
 use Rattle.iv_state.specs.OpenViews.{Shown}
 use Rattle.iv_state.proofs.OpenViewLemmas.{current-named}
 use Rattle.iv_state.proofs.SessionLemmas.{state_of}

@@ -137,7 +137,7 @@ fn with_views(rt: &HostRuntime) -> Result<Session, Fail> {
 /// What a print of this view, or of all, writes into an output with room for this number of bytes, and its fault.
 fn printed(
     rt: &HostRuntime,
-    session: &Session,
+    session: &mut Session,
     name: Option<&[u8]>,
     room: usize,
 ) -> Result<(MemSink, Option<PrintFault>), Fail> {
@@ -151,7 +151,7 @@ fn printed(
 
 #[test]
 fn prints(rt: HostRuntime) -> Result<(), Fail> {
-    let session = with_views(&rt)?;
+    let mut session = with_views(&rt)?;
     let all = b"#a\nchr1\t10\t30\nchr1\t31\t40\n#b\nchr1\t10\t30\nchr1\t31\t40\n";
     for (name, room, want, text) in [
         (Some(b"a".as_slice()), 99, None, &all[3..25]),
@@ -160,8 +160,26 @@ fn prints(rt: HostRuntime) -> Result<(), Fail> {
         (None, 99, None, all),
         (None, 28, Some(PrintFault::Write), &all[..28]),
     ] {
-        let (sink, fault) = printed(&rt, &session, name, room)?;
+        let (sink, fault) = printed(&rt, &mut session, name, room)?;
         assert!(rt; fault == want && sink.bytes() == text, "into {room} bytes");
+    }
+    Ok(())
+}
+
+/// How many steps an edit took, and how many views were stale after it.
+fn steps_of(session: &mut Session, line: &[u8]) -> Result<(u64, u32), Fail> {
+    let row = session.read(line)?;
+    let done = session.add(&row)?;
+    Ok((done.steps, done.stale))
+}
+
+/// With ample memory no edit leaves a view stale, and views that print by a walk take no step of an edit.
+#[test]
+fn edits_with_open_views(rt: HostRuntime) -> Result<(), Fail> {
+    let mut session = with_views(&rt)?;
+    for line in [b"chr2\t0\t1".as_slice(), b"chr1\t10\t20", b"chr1\t0\t100"] {
+        let (steps, stale) = steps_of(&mut session, line)?;
+        assert!(rt; steps > 0 && steps <= 8 && stale == 0);
     }
     Ok(())
 }
@@ -173,7 +191,7 @@ fn views_that_are_current(rt: HostRuntime) -> Result<(), Fail> {
     assert!(rt; session.is_current(b"a") && !session.is_current(b"c"));
     assert!(rt; session.close_view(b"c") == Err(NoView));
     assert!(rt; session.close_view(b"a") == Ok(()) && !session.is_current(b"a"));
-    let (sink, fault) = printed(&rt, &session, None, 99)?;
+    let (sink, fault) = printed(&rt, &mut session, None, 99)?;
     assert!(rt; fault.is_none() && sink.bytes() == b"#b\nchr1\t10\t40\n".as_slice());
     Ok(())
 }
@@ -197,6 +215,7 @@ fn numbers_of_faults(rt: HostRuntime) {
     ] {
         assert!(rt; fault.code() == code);
     }
-    assert!(rt; PrintFault::NoView.code() == Some(21) && PrintFault::Write.code().is_none());
+    assert!(rt; PrintFault::NoView.code() == Some(21) && PrintFault::NoMemory.code() == Some(22));
+    assert!(rt; PrintFault::Write.code().is_none());
     assert!(rt; NoView.code() == 21);
 }

@@ -1,7 +1,6 @@
-use Rattle.std.proofs.Common.{◌∙◌, Some, refl, ap, sym, subst}
+use Rattle.std.proofs.Common.{◌∙◌, refl, ap, sym, subst}
 use Rattle.std.specs.Prelude.{IsSome}
 use Rattle.iv_text.specs.Named.{names_of}
-use Rattle.iv_state.specs.Keeping.{AreRight}
 use Rattle.iv_state.specs.States.{State, without_view}
 use Rattle.iv_state.specs.Views.{view_named}
 use Rattle.iv_state.proofs.OpenViewLemmas.{remove-right}

@@ -1,4 +1,3 @@
-use Rattle.std.proofs.Common.{◌∙◌, ap}
 use Rattle.iv_text.specs.Named.{names_of}
 use Rattle.iv_state.proofs.OpenViewLemmas.{push-right}
 use Rattle.iv_state.proofs.session.Session.open_view.Goals as goal

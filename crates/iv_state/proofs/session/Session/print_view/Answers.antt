@@ -1,7 +1,6 @@
-use Rattle.std.proofs.Common.{◌≡◌, ◌∙◌, ℕ, List, true, refl, ap, sym, subst}
+use Rattle.std.proofs.Common.{◌≡◌, ◌∙◌, true, refl, ap, sym}
 use Rattle.std.proofs.lemmas.Result.{err_from_is_err_and}
 use Rattle.iv_text.specs.Named.{names_of}
-use Rattle.iv_bytes.specs.Sinks.{Takes, FailsIn}
 use Rattle.iv_state.specs.Keeping.{seen}
 use Rattle.iv_state.specs.Keeping.{all_seen}
 use Rattle.iv_state.specs.States.{State}

@@ -1,5 +1,4 @@
-use Rattle.std.proofs.Common.{◌≡◌, ◌∙◌, ap, sym, List, slice_get, Some, None}
-use Rattle.std.specs.Option.{option_map}
+use Rattle.std.proofs.Common.{◌∙◌, ap, slice_get, Some, None}
 use Rattle.iv_state.proofs.OpenViewLemmas.{named-at}
 use Rattle.iv_state.proofs.views.Views.at.Goals as goal
 

@@ -1,4 +1,4 @@
-use Rattle.std.proofs.Common.{◌≡◌, ◌+◌, ◌≤◌, length, drop}
+use Rattle.std.proofs.Common.{◌≡◌, ◌+◌, ◌≤◌, drop}
 use Rattle.iv_state.specs.Keeping.{all_seen}
 use Rattle.iv_state.specs.OpenViews.{stale_count}
 use Rattle.iv_state.proofs.OpenViewLemmas.{named}
