@@ -3,3 +3,4 @@ pub mod TrackBlocks
 pub mod CoverRows
 pub mod Coming
 pub mod BlockLaws
+pub mod Kept

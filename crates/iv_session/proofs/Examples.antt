@@ -1,5 +1,5 @@
 -- Examples that compute.
-use Rattle.std.proofs.Common.{◌≡◌, ℕ, ◌++◌, List, [], ◌∷◌, None, Some, Ok, Err, false, refl, inl, inr, arith}
+use Rattle.std.proofs.Common.{◌≡◌, ℕ, ◌++◌, List, [], ◌∷◌, None, Some, Ok, Err, false, true, refl, inl, inr, arith}
 use Rattle.std.specs.Prelude.{codes}
 use Rattle.iv_text.specs.Genome.{Sequences}
 use Rattle.iv_text.specs.Fields.{words}
@@ -8,6 +8,7 @@ use Rattle.iv_text.specs.declared.fault.RecordFault.TheVariants as record_fault
 use Rattle.iv_session.specs.Requests.{asked}
 use Rattle.iv_session.specs.Running.{Runs}
 use Rattle.iv_session.specs.Scripts.{Steps}
+use Rattle.iv_state.specs.OpenViews.{Shown}
 use Rattle.iv_state.specs.States.{State, with_rows}
 use Rattle.iv_state.specs.Views.{opened, all_text}
 use Rattle.iv_view.specs.Views.{read_words, view_text}
@@ -15,8 +16,8 @@ use Rattle.iv_session.specs.Written.{Written, printed, refused_by}
 use Rattle.iv_session.specs.declared.request.Request.TheVariants as request
 use Rattle.iv_session.specs.declared.fault.LineFault.TheVariants as line
 use Rattle.iv_session.specs.declared.fault.RequestFault.TheVariants as request_fault
+use Rattle.iv_state.specs.declared.fault.PrintFault.TheVariants as printing
 use Rattle.iv_view.specs.declared.fault.ViewFault.TheVariants as fault
-use Rattle.iv_state.specs.declared.views.OpenView.{OpenView}
 use Rattle.iv_view.specs.declared.view.View.TheVariants as view
 
 abbrev g : Sequences
@@ -36,7 +37,7 @@ abbrev second_row : Row
 second_row = record { seq = 0; start = 15; stop = 30; name = []; score = []; strand = None; width = 3 }
 
 -- an open view that shows the merged blocks
-abbrev merging : OpenView
+abbrev merging : Shown
 merging = record { view = view.Merge; stale = false }
 
 abbrev with_a_view : State
@@ -99,10 +100,10 @@ script-steps = (
   inl ([], ((view.Merge, refl, refl), refl), refl),
   (
     with_one,
-    inl ([], (omega arith, refl, refl), refl),
+    inl ([], (omega arith, (refl, (refl, refl, (λ stale. stale), tt)), refl), refl),
     (
       with_two,
-      inl ([], (omega arith, refl, refl), refl),
+      inl ([], (omega arith, (refl, (refl, refl, (λ stale. stale), tt)), refl), refl),
       (
         with_two,
         inl (view_text view.Merge g with_two.track.rows, (merging, refl, refl, refl), refl),
@@ -111,3 +112,16 @@ script-steps = (
     ),
   ),
 )
+
+-- the add of the one record may leave the view stale; then a print may want memory, or write the text and make it current
+abbrev with_stale : State
+with_stale = record with_one { views = (codes "m", record { view = view.Merge; stale = true }) ∷ [] }
+
+pub edits-may_leave_a_view_stale : Runs with_a_view (codes "add" ++ tab ++ codes "chr1" ++ tab ++ codes "10" ++ tab ++ codes "20") with_stale silent
+edits-may_leave_a_view_stale = inl ([], (omega arith, (refl, (refl, refl, (λ stale. refl), tt)), refl), refl)
+
+pub prints-may_want_memory : Runs with_stale (codes "print" ++ tab ++ codes "m") with_stale (refused_by (Some 22))
+prints-may_want_memory = inr (line.Print printing.NoMemory, (record { view = view.Merge; stale = true }, refl, refl), refl, refl)
+
+pub prints-make_a_view_current : Runs with_stale (codes "print" ++ tab ++ codes "m") with_one (printed (view_text view.Merge g with_one.track.rows))
+prints-make_a_view_current = inl (view_text view.Merge g with_one.track.rows, (record { view = view.Merge; stale = true }, refl, refl, refl), refl)

@@ -1,21 +1,22 @@
 -- One line of a script.
-use Rattle.std.proofs.Common.{◌≡◌, ℕ, List, [], Option, Some, None, Result, Ok, Err, inl, inr, refl, sym, ap, ◌∙◌, subst, take, IfErr}
+use Rattle.std.proofs.Common.{◌≡◌, ℕ, List, [], Option, Some, None, Result, Ok, Err, inl, inr, refl, sym, ap, ◌∙◌, subst, take}
 use Rattle.std.specs.Prelude.{MatchOption, MatchResult, find}
 use Rattle.std.specs.Option.{is_some}
-use Rattle.iv_bytes.specs.Sinks.{SinkState, Takes, FailsIn, Puts}
+use Rattle.iv_bytes.specs.Sinks.{SinkState, Takes, FailsIn}
 use Rattle.iv_bytes.proofs.Putting.{Takes-nothing}
 use Rattle.iv_text.specs.Fields.{words}
 use Rattle.iv_view.specs.Views.{view_text}
 use Rattle.iv_view.specs.declared.fault.ViewFault.{ViewFault}
 use Rattle.iv_view.proofs.WordLemmas.{words-cut}
+use Rattle.iv_state.specs.OpenViews.{Shown}
+use Rattle.iv_state.specs.Prints.{PrintedView, PrintedAll}
 use Rattle.iv_state.specs.States.{State}
 use Rattle.iv_state.specs.Views.{view_named, opened, unless_fault, has_name_fault, name_faults, Opens, RefusesOpen, all_text}
-use Rattle.iv_state.specs.declared.views.OpenView.{OpenView}
 use Rattle.iv_state.specs.declared.fault.PrintFault.{PrintFault}
 use Rattle.iv_state.specs.declared.fault.PrintFault.TheVariants as printing
 use Rattle.iv_session.specs.Requests.{request_code, fault_code}
 use Rattle.iv_session.specs.Written.{Written, printed, refused_by, refusal_count, told}
-use Rattle.iv_session.specs.Running.{Ends, DoesAsked, RefusesAsked, Writes, WritesFault}
+use Rattle.iv_session.specs.Running.{Ends, DoesAsked, RefusesAsked, Leaves, Writes, WritesFault}
 use Rattle.iv_session.specs.Scripts.{RanLine, FailedLine, Tells, refusals_of}
 use Rattle.iv_session.specs.declared.request.Request.{Request}
 use Rattle.iv_session.specs.declared.request.Request.TheVariants as request
@@ -53,10 +54,10 @@ done-failed asks old new out0 out1 text does failed = record {
 
 -- a line is refused
 pub refused : (asks : Result Request RequestFault) (old new : State) (out : SinkState) (f : LineFault) (code : ℕ)
-    → fault_code f ≡ Some code → RefusesAsked asks old f → new ≡ old → Writes (Ends asks old new) out out (Err f)
-refused asks old new out f code is why same = record {
+    → fault_code f ≡ Some code → RefusesAsked asks old f → Leaves asks old new → Writes (Ends asks old new) out out (Err f)
+refused asks old new out f code is why left = record {
   written = refused_by (Some code);
-  ends = inr (f, why, same, ap refused_by (sym is));
+  ends = inr (f, why, left, ap refused_by (sym is));
   writes = subst (λ (c : Option ℕ). WritesFault c out out (refused_by (Some code))) (sym is) (Takes-nothing out, refl);
 }
 
@@ -93,42 +94,54 @@ answered None = Ok tt
 answered (Some f) = Err f
 
 -- what a print of a view says, as `print_view` has it
-abbrev pub PrintsIt : State → List ℕ → SinkState → SinkState → Result (Unit {0}) PrintFault → Type 0
-PrintsIt s name out0 out1 result = MatchOption (view_named s.views name)
-    ((result ≡ Err printing.NoView) × (out1 ≡ out0))
-    (λ v. Puts out0 out1 result (view_text v.view s.genome s.track.rows) × IfErr result (λ f. f ≡ printing.Write))
+abbrev pub PrintsIt : State → List ℕ → State → SinkState → SinkState → Result (Unit {0}) PrintFault → Type 0
+PrintsIt s name new out0 out1 result = MatchOption (view_named s.views name)
+    ((result ≡ Err printing.NoView) × (out1 ≡ out0) × (new ≡ s)) (λ v. PrintedView s name v new out0 out1 result)
 
-pub printed-view : (s : State) (name : List ℕ) (out0 out1 : SinkState)
-    → PrintsIt s name out0 out1 (Ok tt) → Writes (Ends (Ok (request.Print name)) s s) out0 out1 (Ok tt)
-printed-view s name out0 out1 it = by (view_named s.views name) refl it
+pub printed-view : (s new : State) (given name : List ℕ) (out0 out1 : SinkState) → given ≡ name
+    → PrintsIt s given new out0 out1 (Ok tt) → Writes (Ends (Ok (request.Print name)) s new) out0 out1 (Ok tt)
+printed-view s new given name out0 out1 same it =
+    by (view_named s.views name) refl (subst (λ (n : List ℕ). PrintsIt s n new out0 out1 (answered None)) same it)
   where
-    by : (o : Option OpenView) → view_named s.views name ≡ o
-        → MatchOption o ((answered None ≡ answered (Some printing.NoView)) × (out1 ≡ out0))
-        (λ v. Puts out0 out1 (answered None) (view_text v.view s.genome s.track.rows) × IfErr (answered None) (λ f. f ≡ printing.Write))
-        → Writes (Ends (Ok (request.Print name)) s s) out0 out1 (Ok tt)
+    by : (o : Option Shown) → view_named s.views name ≡ o
+        → MatchOption o ((answered None ≡ answered (Some printing.NoView)) × (out1 ≡ out0) × (new ≡ s)) (λ v. PrintedView s name v new out0 out1 (answered None))
+        → Writes (Ends (Ok (request.Print name)) s new) out0 out1 (Ok tt)
     by None is it = absurd (cc (it.0))
-    by (Some v) is it = done (Ok (request.Print name)) s s out0 out1 (view_text v.view s.genome s.track.rows) (v, is, refl, refl) it.0
+    by (Some v) is it = done (Ok (request.Print name)) s new out0 out1 (view_text v.view s.genome s.track.rows) (v, is, it.1, refl) it.0
 
-pub printed-none : (s : State) (name : List ℕ) (out0 out1 : SinkState) (f : PrintFault)
-    → PrintsIt s name out0 out1 (Err f) → Writes (Ends (Ok (request.Print name)) s s) out0 out1 (Err (line.Print f))
-printed-none s name out0 out1 f it = by f (view_named s.views name) refl it
+pub printed-none : (s new : State) (given name : List ℕ) (out0 out1 : SinkState) (f : PrintFault) → given ≡ name
+    → PrintsIt s given new out0 out1 (Err f) → Writes (Ends (Ok (request.Print name)) s new) out0 out1 (Err (line.Print f))
+printed-none s new given name out0 out1 f same it =
+    by f (view_named s.views name) refl (subst (λ (n : List ℕ). PrintsIt s n new out0 out1 (answered (Some f))) same it)
   where
-    by : (f : PrintFault) (o : Option OpenView) → view_named s.views name ≡ o
-        → MatchOption o ((answered (Some f) ≡ answered (Some printing.NoView)) × (out1 ≡ out0))
-        (λ v. Puts out0 out1 (answered (Some f)) (view_text v.view s.genome s.track.rows) × IfErr (answered (Some f)) (λ f. f ≡ printing.Write))
-        → Writes (Ends (Ok (request.Print name)) s s) out0 out1 (Err (line.Print f))
+    by : (f : PrintFault) (o : Option Shown) → view_named s.views name ≡ o
+        → MatchOption o ((answered (Some f) ≡ answered (Some printing.NoView)) × (out1 ≡ out0) × (new ≡ s)) (λ v. PrintedView s name v new out0 out1 (answered (Some f)))
+        → Writes (Ends (Ok (request.Print name)) s new) out0 out1 (Err (line.Print f))
     by printing.NoView None is it =
-        subst (λ (o : SinkState). Writes (Ends (Ok (request.Print name)) s s) out0 o (Err (line.Print printing.NoView))) (sym it.1)
-        (refused (Ok (request.Print name)) s s out0 (line.Print printing.NoView) 21 refl is refl)
-    by printing.NoView (Some v) is it = absurd (cc (it.1))
+        subst (λ (o : SinkState). Writes (Ends (Ok (request.Print name)) s new) out0 o (Err (line.Print printing.NoView))) (sym it.1)
+        (refused (Ok (request.Print name)) s new out0 (line.Print printing.NoView) 21 refl is it.2)
+    by printing.NoView (Some v) is it = absurd it
+    by printing.NoMemory None is it = absurd (cc (it.0))
+    by printing.NoMemory (Some v) is it =
+        subst (λ (o : SinkState). Writes (Ends (Ok (request.Print name)) s new) out0 o (Err (line.Print printing.NoMemory))) (sym it.1)
+        (refused (Ok (request.Print name)) s new out0 (line.Print printing.NoMemory) 22 refl (v, is, it.0) it.2)
     by printing.Write None is it = absurd (cc (it.0))
     by printing.Write (Some v) is it =
-        done-failed (Ok (request.Print name)) s s out0 out1 (view_text v.view s.genome s.track.rows) (v, is, refl, refl) it.0
+        done-failed (Ok (request.Print name)) s new out0 out1 (view_text v.view s.genome s.track.rows) (v, is, it.1, refl) it.0
 
 -- a print of all views
-pub printed-all-failed : (s : State) (out0 out1 : SinkState) (f : PrintFault) → FailsIn out0 out1 (all_text s) → f ≡ printing.Write
-    → Writes (Ends (Ok request.PrintAll) s s) out0 out1 (Err (line.Print f))
-printed-all-failed s out0 out1 f failed is = rw is (done-failed (Ok request.PrintAll) s s out0 out1 (all_text s) (refl, refl) failed)
+pub printed-all : (s new : State) (out0 out1 : SinkState) → PrintedAll s new out0 out1 (Ok tt)
+    → Writes (Ends (Ok request.PrintAll) s new) out0 out1 (Ok tt)
+printed-all s new out0 out1 it = done (Ok request.PrintAll) s new out0 out1 (all_text s) (it.1, refl) it.0
+
+pub printed-all-failed : (s new : State) (out0 out1 : SinkState) (f : PrintFault) → PrintedAll s new out0 out1 (Err f)
+    → Writes (Ends (Ok request.PrintAll) s new) out0 out1 (Err (line.Print f))
+printed-all-failed s new out0 out1 printing.NoView it = absurd it
+printed-all-failed s new out0 out1 printing.NoMemory it =
+    subst (λ (o : SinkState). Writes (Ends (Ok request.PrintAll) s new) out0 o (Err (line.Print printing.NoMemory))) (sym it.1)
+    (refused (Ok request.PrintAll) s new out0 (line.Print printing.NoMemory) 22 refl it.0 it.2)
+printed-all-failed s new out0 out1 printing.Write it =
+    done-failed (Ok request.PrintAll) s new out0 out1 (all_text s) (it.1, refl) it.0
 
 -- ---- what is told of a line
 

@@ -1,14 +1,15 @@
 -- What a line of a script may do.
-use Rattle.std.specs.Prelude.{◌≡◌, ◌<◌, ◌⊎◌, ℕ, List, [], Option, None, Some, Result, Ok, Err, IsSome, length}
+use Rattle.std.specs.Prelude.{◌≡◌, ◌<◌, ◌⊎◌, ℕ, true, List, [], Option, None, Some, Result, Ok, Err, IsSome, length}
 use Rattle.iv_bytes.specs.Sinks.{SinkState, Takes, FailsIn}
 use Rattle.iv_text.specs.Fault.{fault_text}
 use Rattle.iv_text.specs.Fields.{words}
 use Rattle.iv_text.specs.Ordered.{copies}
 use Rattle.iv_view.specs.Views.{view_text}
-use Rattle.iv_state.specs.States.{State, with_record, without_record, with_replaced, without_view}
+use Rattle.iv_state.specs.OpenViews.{Shown, stale_count}
+use Rattle.iv_state.specs.Prints.{with_printed, with_all_printed, IsButCurrent}
+use Rattle.iv_state.specs.States.{State, IsButStale, with_record, without_record, with_replaced, without_view}
 use Rattle.iv_state.specs.Edits.{RefusesAdd, RefusesRemove, RefusesReplace}
 use Rattle.iv_state.specs.Views.{view_named, Opens, RefusesOpen, all_text}
-use Rattle.iv_state.specs.declared.views.OpenView.{OpenView}
 use Rattle.iv_state.specs.declared.fault.PrintFault.TheVariants as printing
 use Rattle.iv_session.specs.Requests.{asked, fault_code}
 use Rattle.iv_session.specs.Written.{Written, printed, refused_by}
@@ -18,24 +19,25 @@ use Rattle.iv_session.specs.declared.fault.RequestFault.{RequestFault}
 use Rattle.iv_session.specs.declared.request.Request.{Request}
 use Rattle.iv_session.specs.declared.request.Request.TheVariants as request
 
--- a request is done: it leads from this state to that one, and this is its text
+-- a request is done: it leads from this state to that one, and this is its text. After an edit some views may be
+-- stale; a view that is printed is current
 abbrev pub Does : Request → State → State → List ℕ → Type 0
 Does request.Nothing old new text = (new ≡ old) × (text ≡ [])
 Does (request.Add r) old new text =
-    (length old.track.rows < old.track.limit) × (new ≡ with_record old r) × (text ≡ [])
+    (length old.track.rows < old.track.limit) × IsButStale (with_record old r) new × (text ≡ [])
 Does (request.Remove r) old new text =
-    (0 < copies old.track.rows r) × (new ≡ without_record old r) × (text ≡ [])
+    (0 < copies old.track.rows r) × IsButStale (without_record old r) new × (text ≡ [])
 Does (request.Replace r q) old new text =
-    (0 < copies old.track.rows r) × (new ≡ with_replaced old r q) × (text ≡ [])
+    (0 < copies old.track.rows r) × IsButStale (with_replaced old r q) new × (text ≡ [])
 Does (request.Open name said) old new text = Opens old name (words said) new × (text ≡ [])
 Does (request.Close name) old new text =
     IsSome (view_named old.views name) × (new ≡ without_view old name) × (text ≡ [])
 Does (request.Print name) old new text =
-    (v : OpenView) × (view_named old.views name ≡ Some v) × (new ≡ old)
+    (v : Shown) × (view_named old.views name ≡ Some v) × (new ≡ with_printed old name)
     × (text ≡ view_text v.view old.genome old.track.rows)
-Does request.PrintAll old new text = (new ≡ old) × (text ≡ all_text old)
+Does request.PrintAll old new text = (new ≡ with_all_printed old) × (text ≡ all_text old)
 
--- why a request is refused
+-- why a request is refused: a print for want of memory only where a view to be printed is stale
 abbrev pub Refuses : Request → State → LineFault → Type 0
 Refuses (request.Add r) s (fault.Edit f) = RefusesAdd s r f
 Refuses (request.Remove r) s (fault.Edit f) = RefusesRemove s r f
@@ -43,6 +45,9 @@ Refuses (request.Replace r q) s (fault.Edit f) = RefusesReplace s r q f
 Refuses (request.Open name said) s (fault.Open f) = RefusesOpen s name (words said) f
 Refuses (request.Close name) s (fault.Close f) = view_named s.views name ≡ None
 Refuses (request.Print name) s (fault.Print printing.NoView) = view_named s.views name ≡ None
+Refuses (request.Print name) s (fault.Print printing.NoMemory) =
+    (v : Shown) × (view_named s.views name ≡ Some v) × (v.stale ≡ true)
+Refuses request.PrintAll s (fault.Print printing.NoMemory) = 0 < stale_count s.views
 Refuses other s f = ⊥
 
 -- what a line asks for is done, if it asks for anything
@@ -55,12 +60,17 @@ abbrev pub RefusesAsked : Result Request RequestFault → State → LineFault �
 RefusesAsked (Ok asks) s f = Refuses asks s f
 RefusesAsked (Err told) s f = f ≡ fault.Request told
 
--- how a line that asks for this may end: it is done, and its text is written; or it is refused: then nothing changes,
--- and the message is that of the fault
+-- what a refused line leaves: all as before, but that a print of all views may have made some of them current
+abbrev pub Leaves : Result Request RequestFault → State → State → Type 0
+Leaves (Ok request.PrintAll) old new = IsButCurrent old new
+Leaves other old new = new ≡ old
+
+-- how a line that asks for this may end: it is done, and its text is written; or it is refused, and the message is
+-- that of the fault
 abbrev pub Ends : Result Request RequestFault → State → State → Written → Type 0
 Ends asks old new written =
     ((text : List ℕ) × DoesAsked asks old new text × (written ≡ printed text))
-    ⊎ ((f : LineFault) × RefusesAsked asks old f × (new ≡ old) × (written ≡ refused_by (fault_code f)))
+    ⊎ ((f : LineFault) × RefusesAsked asks old f × Leaves asks old new × (written ≡ refused_by (fault_code f)))
 
 -- what a line may do: from one state to another, with what it writes
 abbrev pub Runs : State → List ℕ → State → Written → Type 0

@@ -1,2 +1,3 @@
 mod SessionLemmas
-mod ViewLemmas
+mod OpenViewLemmas
+mod PrintLemmas

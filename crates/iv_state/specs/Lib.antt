@@ -1,3 +1,6 @@
+pub mod OpenViews
 pub mod States
 pub mod Edits
 pub mod Views
+pub mod Prints
+pub mod Keeping

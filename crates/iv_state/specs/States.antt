@@ -1,5 +1,5 @@
 -- A session as contracts see it.
-use Rattle.std.specs.Prelude.{◌≤◌, ℕ, false, List, [], ◌∷◌, ◌++◌, Option, None, All, length}
+use Rattle.std.specs.Prelude.{◌≡◌, ◌≤◌, ℕ, false, List, [], ◌∷◌, ◌++◌, Option, None, All, length}
 use Rattle.std.specs.Map.{remove_entry}
 use Rattle.std.specs.Str.{bytes_eq}
 use Rattle.iv_text.specs.Genome.{Sequences}
@@ -9,7 +9,7 @@ use Rattle.iv_text.specs.Ordered.{added, ordered}
 use Rattle.iv_text.specs.Read.{Fits}
 use Rattle.iv_track.specs.Tracked.{Tracked, removed}
 use Rattle.iv_view.specs.declared.view.View.{View}
-use Rattle.iv_state.specs.declared.views.OpenView.{OpenView}
+use Rattle.iv_state.specs.OpenViews.{Shown, Stales}
 
 -- the genome, the track, the second file as a track of its own, the bases of the sequences by name, and the open views
 -- with their names, in order of opening; a stale view has to be built anew before it is printed
@@ -18,7 +18,7 @@ pub record State : Type 0 where
   pub track : Tracked
   pub second : Option Tracked
   pub bases : Option (List (List ℕ × List ℕ))
-  pub views : List (List ℕ × OpenView)
+  pub views : List (List ℕ × Shown)
 
 -- the track of a file: its records in order, and how many it may hold
 abbrev pub tracked : Bed → ℕ → Tracked
@@ -58,3 +58,7 @@ pub record IsSession (genome : Sequences) (track : Tracked) : Type 0 where
   pub high : track.width ≤ 6
   pub fit : All (Fits genome track.width) track.rows
   pub few : length track.rows ≤ track.limit
+
+-- the session as it is to be, but that some views may have become stale
+abbrev pub IsButStale : State → State → Type 0
+IsButStale done new = (new ≡ record done { views = new.views }) × Stales done.views new.views

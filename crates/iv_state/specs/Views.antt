@@ -8,8 +8,8 @@ use Rattle.iv_view.specs.Views.{read_words, view_text}
 use Rattle.iv_view.specs.declared.view.View.{View}
 use Rattle.iv_view.specs.declared.fault.ViewFault.{ViewFault}
 use Rattle.iv_view.specs.declared.fault.ViewFault.TheVariants as fault
+use Rattle.iv_state.specs.OpenViews.{Shown}
 use Rattle.iv_state.specs.States.{State, with_view}
-use Rattle.iv_state.specs.declared.views.OpenView.{OpenView}
 use Rattle.iv_state.specs.declared.fault.PrintFault.{PrintFault}
 use Rattle.iv_state.specs.declared.fault.PrintFault.TheVariants as printing
 
@@ -22,7 +22,7 @@ abbrev pub is_view_name : List ℕ → Bool
 is_view_name name = nat_le 1 (length name) && nat_le (length name) 32 && list_all is_visible name
 
 -- the view that stands open under a name
-abbrev pub view_named : List (List ℕ × OpenView) → List ℕ → Option OpenView
+abbrev pub view_named : List (List ℕ × Shown) → List ℕ → Option Shown
 view_named views name = lookup (bytes_eq name) views
 
 -- as many views may be open
@@ -67,7 +67,7 @@ abbrev pub heading : List ℕ → List ℕ
 heading name = codes "#" ++ name ++ codes "\n"
 
 -- what a view prints under its heading
-abbrev pub headed_text : State → List ℕ × OpenView → List ℕ
+abbrev pub headed_text : State → List ℕ × Shown → List ℕ
 headed_text s v = heading v.0 ++ view_text v.1.view s.genome s.track.rows
 
 -- what all views print, in order of opening
@@ -77,4 +77,5 @@ all_text s = flat_map (headed_text s) s.views
 -- the number of a print's fault
 abbrev pub print_code : PrintFault → Option ℕ
 print_code printing.NoView = Some 21
+print_code printing.NoMemory = Some 22
 print_code printing.Write = None

@@ -92,6 +92,9 @@ pub enum PrintFault {
     /// E21: no view of this name is open. Nothing was written.
     #[error("no such view")]
     NoView,
+    /// E22: memory for a stale view was refused. Nothing was written.
+    #[error("no memory")]
+    NoMemory,
     /// The sink failed. A prefix of the text was written.
     #[error("output cannot be written")]
     Write,
@@ -108,6 +111,17 @@ impl From<WriteFault> for PrintFault {
     }
 }
 
+impl From<AllocError> for PrintFault {
+    ghost use Rattle.std.specs.Prelude.{◌≡◌};
+    ghost use Rattle.iv_state.specs.declared.fault.PrintFault.TheVariants.{NoMemory};
+
+    ghost from_gives = { λ _ fault. fault ≡ NoMemory };
+
+    fn from(_: AllocError) -> PrintFault {
+        PrintFault::NoMemory
+    }
+}
+
 impl PrintFault {
     /// Its number in the table of faults, `None` for a write fault.
     pub fn code(&self) -> Option<u8>
@@ -116,6 +130,7 @@ impl PrintFault {
     {
         match self {
             PrintFault::NoView => Some(21),
+            PrintFault::NoMemory => Some(22),
             PrintFault::Write => None,
         }
     }

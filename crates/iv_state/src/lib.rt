@@ -3,6 +3,7 @@
 
 mod fault;
 mod names;
+mod open_view;
 mod session;
 mod views;
 

@@ -1,32 +1,51 @@
 //! A session of a genome and a track, with its open views.
-ghost use Rattle.std.specs.Prelude.{◌≡◌, ◌≤◌, ◌<◌, ◌↔◌, ◌⊎◌, None, Some, All, map, length, false, not, IsTrue, IsSome, IsOk, IfOk, IfErr, OnOk, OnErr, MatchOption, Ok, Err};
-ghost use Rattle.iv_text.specs.Ordered.{copies};
+ghost use Rattle.std.specs.Prelude.{◌≡◌, ◌+◌, ◌≤◌, ◌<◌, ◌↔◌, ◌⊎◌, None, Some, All, map, length, false, not, IsTrue, IsSome, IsOk, IfOk, IfErr, OnOk, OnErr, MatchOption, Ok, Err};
+ghost use Rattle.iv_text.specs.Ordered.{added, copies};
 ghost use Rattle.iv_text.specs.Read.{read, Fits};
 ghost use Rattle.iv_bytes.specs.Sinks.{Puts};
-ghost use Rattle.iv_view.specs.Views.{view_text};
 ghost use Rattle.iv_state.specs.Edits.{RefusesAdd, RefusesRemove, RefusesReplace};
-ghost use Rattle.iv_state.specs.States.{State, begun, with_record, without_record, with_replaced, with_view, without_view};
+ghost use Rattle.iv_state.specs.Keeping.{all_seen};
+ghost use Rattle.iv_state.specs.OpenViews.{all_steps, stale_count};
+ghost use Rattle.iv_state.specs.Prints.{PrintedView, PrintedAll};
+ghost use Rattle.iv_state.specs.States.{State, IsButStale, begun, with_record, without_record, with_replaced, with_view, without_view};
 ghost use Rattle.iv_state.specs.Views.{view_named, RefusesOpen, Opens, all_text};
 
 use crate::fault::{EditFault, NoView, PrintFault};
 use crate::names::{is_view_name, put_heading};
+use crate::open_view::OpenView;
 use crate::views::Views;
 use iv_text::{BedFile, Buffered, Genome, RecordFault, RecordRef, Sink, WriteFault, read_record};
 use iv_track::{Meter, Track};
-use iv_view::{View, ViewFault, put_view};
+use iv_view::{View, ViewFault};
 use std::alloc::{AllocError, Allocator, Global};
 use std::marker::Model;
 
 /// How many views may be open.
 const MOST_VIEWS: usize = 64;
 
-/// An edit that was done.
+/// An edit that was done: how many steps it took in the track and the views, and how many open views are stale after it.
 #[derive(Clone, Copy, Debug, PartialEq, Eq)]
-pub struct Accepted {}
+pub struct Accepted {
+    pub steps: u64,
+    pub stale: u32,
+}
+
+impl Accepted {
+    /// What an edit answers: the reading of its meter, and how many of the views are stale.
+    fn of<A: Allocator + Copy>(meter: &Meter, views: &Views<A>) -> Accepted
+        ensures { result ≡ record { steps = meter.now; stale = stale_count (all_seen views.now) } }
+    {
+        Accepted {
+            steps: meter.steps(),
+            stale: views.stale(),
+        }
+    }
+}
 
 /// A genome, a track of records on it, and the open views in order of opening.
 ///
-/// All records fit the genome and have the track's width, and there are not more of them than its limit.
+/// All records fit the genome and have the track's width, and there are not more of them than its limit. The state of
+/// each open view that has one is right for them.
 #[derive(Drop)]
 pub struct Session<A: Allocator + Copy = Global> {
     alloc: A,
@@ -37,13 +56,15 @@ pub struct Session<A: Allocator + Copy = Global> {
 
 impl<A: Allocator + Copy> Model for Session<A> {
     ghost use Rattle.std.specs.Prelude.{None};
+    ghost use Rattle.iv_text.specs.Named.{names_of};
+    ghost use Rattle.iv_state.specs.Keeping.{AreRight, all_seen};
     ghost use Rattle.iv_state.specs.States.{State, IsSession};
 
     ghost Value = { State };
 
-    ghost view = { λ s. record { genome = s.genome; track = s.track; second = None; bases = None; views = s.views } };
+    ghost view = { λ s. record { genome = s.genome; track = s.track; second = None; bases = None; views = all_seen s.views } };
 
-    ghost invariant = { λ s. IsSession s.genome s.track };
+    ghost invariant = { λ s. IsSession s.genome s.track × AreRight s.views (names_of s.genome) s.track.rows };
 }
 
 impl<A: Allocator + Copy> Session<A> {
@@ -100,41 +121,49 @@ impl<A: Allocator + Copy> Session<A> {
         &self.track
     }
 
-    /// Adds a record.
+    /// Adds a record, and then repairs each view. A view whose repair is refused memory becomes stale.
     ///
     /// `Full` comes exactly where the track holds its limit, unless memory runs out. A record of width 3 needs no
     /// memory for its own copy, and the track needs none for a record that is there. A refusal changes nothing.
     pub fn add(&mut self, row: &RecordRef<'_>) -> Result<Accepted, EditFault>
         requires { Fits self.old.genome self.old.track.width row.now }
         ensures room { OnOk result (length self.old.track.rows < self.old.track.limit) }
-        ensures ok { OnOk result (self.new ≡ with_record self.old row.now) }
+        ensures ok { OnOk result (IsButStale (with_record self.old row.now) self.new) }
+        ensures steps { IfOk result (λ a. a.steps ≤ 8 + all_steps self.old.views (added self.old.track.rows row.now) row.now) }
+        ensures stale { IfOk result (λ a. a.stale ≡ stale_count self.new.views) }
         ensures why { IfErr result (RefusesAdd self.old row.now) }
         ensures err { OnErr result (self.new ≡ self.old) }
     {
         let record = row.to_record(self.alloc)?;
         let mut meter = Meter::new();
         self.track.add(record, &mut meter)?;
-        Ok(Accepted {})
+        self.views.added(&self.track, &self.genome, row, &mut meter);
+        Ok(Accepted::of(&meter, &self.views))
     }
 
-    /// Takes one copy of a record out.
+    /// Takes one copy of a record out, and then repairs each view. A view whose repair is refused memory becomes stale.
     ///
     /// `Absent` comes exactly where there is no copy, unless memory runs out, and that is told only for the copy of
     /// the record that is searched for, never at width 3. A refusal changes nothing.
     pub fn remove(&mut self, row: &RecordRef<'_>) -> Result<Accepted, EditFault>
         requires { Fits self.old.genome self.old.track.width row.now }
         ensures there { OnOk result (0 < copies self.old.track.rows row.now) }
-        ensures ok { OnOk result (self.new ≡ without_record self.old row.now) }
+        ensures ok { OnOk result (IsButStale (without_record self.old row.now) self.new) }
+        ensures steps { IfOk result (λ a. a.steps ≤ 8 + all_steps self.old.views self.old.track.rows row.now) }
+        ensures stale { IfOk result (λ a. a.stale ≡ stale_count self.new.views) }
         ensures why { IfErr result (RefusesRemove self.old row.now) }
         ensures err { OnErr result (self.new ≡ self.old) }
     {
         let record = row.to_record(self.alloc)?;
         let mut meter = Meter::new();
         self.track.remove(&record, &mut meter)?;
-        Ok(Accepted {})
+        self.views
+            .removed(&self.track, &self.genome, row, &mut meter);
+        Ok(Accepted::of(&meter, &self.views))
     }
 
-    /// Takes one copy of the old record out and adds the new one, in a full track too.
+    /// Adds the new record, in a full track too, and repairs each view; then takes one copy of the old record out, and
+    /// repairs each view again. A view whose repair is refused memory becomes stale.
     ///
     /// `Absent` comes exactly where there is no copy of the old record, unless memory runs out. A record that is
     /// there can be replaced by itself. A refusal changes nothing.
@@ -146,15 +175,28 @@ impl<A: Allocator + Copy> Session<A> {
         requires old { Fits self.old.genome self.old.track.width old.now }
         requires new { Fits self.old.genome self.old.track.width new.now }
         ensures there { OnOk result (0 < copies self.old.track.rows old.now) }
-        ensures ok { OnOk result (self.new ≡ with_replaced self.old old.now new.now) }
+        ensures ok { OnOk result (IsButStale (with_replaced self.old old.now new.now) self.new) }
+        ensures steps { IfOk result (λ a. a.steps ≤ 8
+            + all_steps self.old.views (added self.old.track.rows new.now) new.now
+            + all_steps self.old.views (added self.old.track.rows new.now) old.now) }
+        ensures stale { IfOk result (λ a. a.stale ≡ stale_count self.new.views) }
         ensures why { IfErr result (RefusesReplace self.old old.now new.now) }
         ensures err { OnErr result (self.new ≡ self.old) }
     {
         let before = old.to_record(self.alloc)?;
         let after = new.to_record(self.alloc)?;
         let mut meter = Meter::new();
-        self.track.replace(&before, after, &mut meter)?;
-        Ok(Accepted {})
+        if self.track.copies(&before, &mut meter) == 0 {
+            return Err(EditFault::Absent);
+        }
+        self.track.stage(after, &mut meter)?;
+        self.views.added(&self.track, &self.genome, new, &mut meter);
+        let Ok(()) = self.track.remove(&before, &mut meter) else {
+            unreachable!()
+        };
+        self.views
+            .removed(&self.track, &self.genome, old, &mut meter);
+        Ok(Accepted::of(&meter, &self.views))
     }
 
     /// Opens a view of these words, the last, which is current. A refusal changes nothing.
@@ -170,14 +212,16 @@ impl<A: Allocator + Copy> Session<A> {
         if !is_view_name(name) {
             return Err(ViewFault::BadName);
         }
-        if self.views.find(name).is_some() {
+        if self.views.contains(name) {
             return Err(ViewFault::Taken);
         }
         if self.views.len() >= MOST_VIEWS {
             return Err(ViewFault::TooMany);
         }
         let view = View::read(self.alloc, self.track.width(), false, false, words)?;
-        self.views.push(self.alloc, name, view)?;
+        let mut meter = Meter::new();
+        let open = OpenView::build(self.alloc, view, &self.track, &self.genome, &mut meter)?;
+        self.views.push(self.alloc, name, open)?;
         Ok(())
     }
 
@@ -192,9 +236,9 @@ impl<A: Allocator + Copy> Session<A> {
         ensures absent { OnErr result (view_named self.old.views name.now ≡ None) }
         ensures err { OnErr result (self.new ≡ self.old) }
     {
-        if self.views.find(name).is_none() {
+        let Some(_) = self.views.find(name) else {
             return Err(NoView);
-        }
+        };
         self.views.remove(name);
         Ok(())
     }
@@ -204,71 +248,74 @@ impl<A: Allocator + Copy> Session<A> {
         ensures { MatchOption (view_named self.now.views name.now) (result ≡ false) (λ v. result ≡ not v.stale) }
     {
         match self.views.find(name) {
-            Some(shown) => !shown.stale,
+            Some(view) => !view.is_stale(),
             None => false,
         }
     }
 
-    /// Prints the view of this name: the text of its definition for the records as they are.
+    /// Prints the view of this name: the text of its definition for the records as they are. A stale view is built anew
+    /// first, and is then current.
     ///
     /// # Errors
     ///
-    /// `NoView` exactly where none is open, and then nothing was written; `Write`, and then a prefix was.
-    pub fn print_view<S: Sink>(&self, name: &[u8], sink: &mut S) -> Result<(), PrintFault>
-        ensures { MatchOption (view_named self.now.views name.now)
-            ((result ≡ Err PrintFault.NoView) × (S.state sink.new ≡ S.state sink.old))
-            (λ v. Puts (S.state sink.old) (S.state sink.new) result (view_text v.view self.now.genome self.now.track.rows)
-            × IfErr result (λ f. f ≡ PrintFault.Write)) }
+    /// `NoView` exactly where none is open, and `NoMemory` only for a stale view, which stays stale: then nothing was
+    /// written. `Write`, and then a prefix was.
+    pub fn print_view<S: Sink>(&mut self, name: &[u8], sink: &mut S) -> Result<(), PrintFault>
+        ensures { MatchOption (view_named self.old.views name.now)
+            ((result ≡ Err PrintFault.NoView) × (S.state sink.new ≡ S.state sink.old) × (self.new ≡ self.old))
+            (λ v. PrintedView self.old name.now v self.new (S.state sink.old) (S.state sink.new) result) }
     {
-        let Some(shown) = self.views.find(name) else {
+        let Some(_) = self.views.find(name) else {
             return Err(PrintFault::NoView);
         };
-        self.put_one(shown.view, sink)?;
+        let mut meter = Meter::new();
+        self.views
+            .refresh(name, self.alloc, &self.track, &self.genome, &mut meter)?;
+        let Some(view) = self.views.find(name) else {
+            unreachable!()
+        };
+        view.print(&self.track, &self.genome, &mut meter, sink)?;
         Ok(())
     }
 
-    /// Prints all views in order of opening, each under a line `#NAME`.
+    /// Prints all views in order of opening, each under a line `#NAME`. Stale views are built anew before the first
+    /// byte, and are then current.
     ///
     /// # Errors
     ///
+    /// `NoMemory` only where a view is stale: then nothing was written, and some stale views may have become current.
     /// `Write`, and then a prefix was written.
-    pub fn print_all<S: Sink>(&self, sink: &mut S) -> Result<(), PrintFault>
-        ensures { Puts (S.state sink.old) (S.state sink.new) result (all_text self.now) × IfErr result (λ f. f ≡ PrintFault.Write) }
+    pub fn print_all<S: Sink>(&mut self, sink: &mut S) -> Result<(), PrintFault>
+        ensures { PrintedAll self.old self.new (S.state sink.old) (S.state sink.new) result }
     {
-        self.put_all(sink)?;
+        let mut meter = Meter::new();
+        self.views
+            .refresh_all(self.alloc, &self.track, &self.genome, &mut meter)?;
+        self.put_all(&mut meter, sink)?;
         Ok(())
     }
 
-    /// Puts the text of a view through one buffer.
-    fn put_one<S: Sink>(&self, view: View, sink: &mut S) -> Result<(), WriteFault>
-        ensures { Puts (S.state sink.old) (S.state sink.new) result (view_text view self.now.genome self.now.track.rows) }
-    {
-        let mut meter = Meter::new();
-        let mut buffer = Buffered::new(sink);
-        put_view(view, &self.track, &self.genome, &mut meter, &mut buffer)?;
-        buffer.finish()
-    }
-
-    /// Puts the headings and texts of all views through one buffer.
-    fn put_all<S: Sink>(&self, sink: &mut S) -> Result<(), WriteFault>
+    /// Puts the headings and texts of all views, which are current, through one buffer.
+    fn put_all<S: Sink>(&self, meter: &mut Meter, sink: &mut S) -> Result<(), WriteFault>
+        requires { All (λ v. v.1.stale ≡ false) self.now.views }
         ensures { Puts (S.state sink.old) (S.state sink.new) result (all_text self.now) }
     {
-        let mut meter = Meter::new();
         let mut buffer = Buffered::new(sink);
-        self.put_views(&mut meter, &mut buffer)?;
+        self.put_views(meter, &mut buffer)?;
         buffer.finish()
     }
 
-    /// Puts the headings and texts of all views, straight into the sink.
+    /// Puts the headings and texts of all views, which are current, straight into the sink.
     fn put_views<S: Sink>(&self, meter: &mut Meter, sink: &mut S) -> Result<(), WriteFault>
+        requires { All (λ v. v.1.stale ≡ false) self.now.views }
         ensures { Puts (S.state sink.old) (S.state sink.new) result (all_text self.now) }
     {
         for place in 0..self.views.len() {
-            let Some((name, shown)) = self.views.at(place) else {
+            let Some((name, view)) = self.views.at(place) else {
                 break;
             };
             put_heading(sink, name)?;
-            put_view(shown.view, &self.track, &self.genome, meter, sink)?;
+            view.put(&self.track, &self.genome, meter, sink)?;
         }
         Ok(())
     }

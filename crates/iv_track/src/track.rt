@@ -217,6 +217,7 @@ impl<A: Allocator + Copy> Track<A> {
         ensures found { OnOk result (0 < copies self.old.rows row.now) }
         ensures absent { OnErr result (copies self.old.rows row.now ≡ 0) }
         ensures err { OnErr result (self.new ≡ self.old) }
+        ensures was_ordered { AreInOrder self.old.rows }
         ensures steps { TakesUpTo meter.old meter.new 3 }
     {
         let Some(count) = self.ledger.get(row, meter).copied() else {

@@ -2,10 +2,12 @@
 #![tactic(auto)]
 
 mod fault;
+mod kept_state;
 mod merge;
 mod view;
 mod words;
 
 pub use fault::ViewFault;
-pub use view::{View, put_view};
+pub use kept_state::KeptState;
+pub use view::View;
 pub use words::Words;

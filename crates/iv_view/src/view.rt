@@ -1,13 +1,9 @@
 //! The kinds of view.
-ghost use Rattle.std.specs.Prelude.{◌≡◌, All, map};
-ghost use Rattle.iv_bytes.specs.Sinks.{Puts};
-ghost use Rattle.iv_text.specs.Read.{LiesOn};
-ghost use Rattle.iv_view.specs.Views.{read_words, view_text};
+ghost use Rattle.std.specs.Prelude.{◌≡◌, map};
+ghost use Rattle.iv_view.specs.Views.{read_words};
 
 use crate::fault::ViewFault;
-use crate::merge::{asks_merge, put_merge_view};
-use iv_text::{Genome, Sink, WriteFault};
-use iv_track::{Meter, Track};
+use crate::merge::asks_merge;
 use std::alloc::Allocator;
 
 /// A view of a track, with its options.
@@ -39,23 +35,5 @@ impl View {
         } else {
             Err(ViewFault::Words)
         }
-    }
-}
-
-/// Puts the text that a view stands for, straight into the sink. The records lie on the genome.
-///
-/// Rows are 0-based and half-open. On a fault the sink has taken a prefix of the text.
-pub fn put_view<A: Allocator + Copy, S: Sink>(
-    view: View,
-    track: &Track<A>,
-    genome: &Genome<A>,
-    meter: &mut Meter,
-    sink: &mut S,
-) -> Result<(), WriteFault>
-    requires { All (LiesOn genome.now) track.now.rows }
-    ensures { Puts (S.state sink.old) (S.state sink.new) result (view_text view genome.now track.now.rows) }
-{
-    match view {
-        View::Merge => put_merge_view(track, genome, meter, sink),
     }
 }

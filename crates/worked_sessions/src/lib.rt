@@ -7,3 +7,5 @@ mod fixtures;
 mod refusals;
 #[cfg(test)]
 mod sessions;
+#[cfg(test)]
+mod stale_views;

@@ -155,7 +155,7 @@ fn with_views(rt: &HostRuntime) -> Result<Session, Fail> {
 /// What a print of this view, or of all, writes into an output with room for this number of bytes, and its fault.
 fn printed(
     rt: &HostRuntime,
-    session: &Session,
+    session: &mut Session,
     name: Option<&[u8]>,
     room: usize,
 ) -> Result<(MemSink, Option<PrintFault>), Fail> {
@@ -168,7 +168,7 @@ fn printed(
 }
 
 /// Prints the views of a session, one by one and all, into outputs with and without room.
-fn check_prints(rt: &HostRuntime, session: &Session) -> Result<(), Fail> {
+fn check_prints(rt: &HostRuntime, session: &mut Session) -> Result<(), Fail> {
     let all = b"#a\nchr1\t10\t30\nchr1\t31\t40\n#b\nchr1\t10\t30\nchr1\t31\t40\n";
     for (name, room, want, text) in [
         (Some(b"a".as_slice()), 99, None, &all[3..25]),
@@ -182,6 +182,38 @@ fn check_prints(rt: &HostRuntime, session: &Session) -> Result<(), Fail> {
             return Err(Fail::new("another print"));
         }
     }
+    Ok(())
+}
+
+#[test]
+fn prints(rt: HostRuntime) -> Result<(), Fail> {
+    let mut session = with_views(&rt)?;
+    check_prints(&rt, &mut session)
+}
+
+/// How many steps an edit took, and how many views were stale after it.
+fn steps_of(session: &mut Session, line: &[u8]) -> Result<(u64, u32), Fail> {
+    let row = session.read(line)?;
+    let done = session.add(&row)?;
+    Ok((done.steps, done.stale))
+}
+
+/// Adds records beside views that print by a walk, which take no step of an edit.
+fn adds_in_few_steps(session: &mut Session) -> Result<bool, Fail> {
+    for line in [b"chr2\t0\t1".as_slice(), b"chr1\t10\t20", b"chr1\t0\t100"] {
+        let (steps, stale) = steps_of(session, line)?;
+        if steps == 0 || steps > 8 || stale != 0 {
+            return Ok(false);
+        }
+    }
+    Ok(true)
+}
+
+/// With ample memory no edit leaves a view stale.
+#[test]
+fn edits_with_open_views(rt: HostRuntime) -> Result<(), Fail> {
+    let mut session = with_views(&rt)?;
+    assert!(rt; adds_in_few_steps(&mut session)?);
     Ok(())
 }
 
@@ -204,7 +236,7 @@ fn closes(session: &mut Session) -> Result<bool, Fail> {
 fn views_that_are_current(rt: HostRuntime) -> Result<(), Fail> {
     let mut session = with_views(&rt)?;
     assert!(rt; closes(&mut session)?);
-    let (sink, fault) = printed(&rt, &session, None, 99)?;
+    let (sink, fault) = printed(&rt, &mut session, None, 99)?;
     assert!(rt; fault.is_none() && sink.bytes() == b"#b\nchr1\t10\t40\n".as_slice());
     Ok(())
 }
@@ -228,6 +260,7 @@ fn numbers_of_faults(rt: HostRuntime) {
     ] {
         assert!(rt; fault.code() == code);
     }
-    assert!(rt; PrintFault::NoView.code() == Some(21) && PrintFault::Write.code().is_none());
+    assert!(rt; PrintFault::NoView.code() == Some(21) && PrintFault::NoMemory.code() == Some(22));
+    assert!(rt; PrintFault::Write.code().is_none());
     assert!(rt; NoView.code() == 21);
 }

@@ -2,7 +2,7 @@ use Rattle.std.proofs.Common.{Ok, refl}
 use Rattle.std.proofs.lemmas.Result.{err_from_is_err_and}
 use Rattle.iv_session.specs.declared.fault.LineFault.TheVariants as line
 use Rattle.iv_session.specs.declared.request.Request.TheVariants as request
-use Rattle.iv_session.proofs.RunLemmas.{done, done-silent, refused, Opens-cut, RefusesOpen-cut, printed-view, printed-none, printed-all-failed}
+use Rattle.iv_session.proofs.RunLemmas.{done-silent, refused, Opens-cut, RefusesOpen-cut, printed-view, printed-none, printed-all, printed-all-failed}
 use Rattle.iv_session.proofs.running.run_request.Goals as goal
 
 pub returns-in-Nothing : goal.returns-in-Nothing
@@ -67,17 +67,17 @@ pub returns-in_err-print_view-in-Print : goal.returns-in_err-print_view-in-Print
 returns-in_err-print_view-in-Print g c =
     let p = err_from_is_err_and c.from_residual-in_err-print_view-in-Print.result c.from_residual-in_err-print_view-in-Print.ensures.1 in
     rw (p.1, p.2, c.in-Print.is)
-    (printed-none _ c.in-Print.name _ _ c.in_err-print_view-in-Print.field-0.0 (rw c.bytes-in-Print.ensures at c.in_err-print_view-in-Print.ensures))
+    (printed-none c.args.session.now _ c.bytes-in-Print.result.now c.in-Print.name _ _ c.in_err-print_view-in-Print.field-0.0 c.bytes-in-Print.ensures c.in_err-print_view-in-Print.ensures)
 
 pub returns-in_ok-print_view-in-Print : goal.returns-in_ok-print_view-in-Print
 returns-in_ok-print_view-in-Print g c =
-    rw c.in-Print.is (printed-view _ c.in-Print.name _ _ (rw c.bytes-in-Print.ensures at c.in_ok-print_view-in-Print.ensures))
+    rw c.in-Print.is (printed-view c.args.session.now _ c.bytes-in-Print.result.now c.in-Print.name _ _ c.bytes-in-Print.ensures c.in_ok-print_view-in-Print.ensures)
 
 pub returns-in_err-print_all-in-PrintAll : goal.returns-in_err-print_all-in-PrintAll
 returns-in_err-print_all-in-PrintAll g c =
     let p = err_from_is_err_and c.from_residual-in_err-print_all-in-PrintAll.result c.from_residual-in_err-print_all-in-PrintAll.ensures.1 in
-    rw (p.1, p.2, c.in-PrintAll.is) (printed-all-failed _ _ _ c.in_err-print_all-in-PrintAll.field-0.0 c.in_err-print_all-in-PrintAll.ensures.0 c.in_err-print_all-in-PrintAll.ensures.1)
+    rw (p.1, p.2, c.in-PrintAll.is) (printed-all-failed c.args.session.now _ _ _ c.in_err-print_all-in-PrintAll.field-0.0 c.in_err-print_all-in-PrintAll.ensures)
 
 pub returns-in_ok-print_all-in-PrintAll : goal.returns-in_ok-print_all-in-PrintAll
 returns-in_ok-print_all-in-PrintAll g c =
-    rw c.in-PrintAll.is (done (Ok request.PrintAll) _ _ _ _ _ (refl, refl) c.in_ok-print_all-in-PrintAll.ensures.0)
+    rw c.in-PrintAll.is (printed-all c.args.session.now _ _ _ c.in_ok-print_all-in-PrintAll.ensures)

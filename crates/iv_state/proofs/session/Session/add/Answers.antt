@@ -1,13 +1,19 @@
-use Rattle.std.proofs.Common.{◌≡◌, ◌≤◌, Result, Err, inr, length, refl, sym, subst}
+use Rattle.std.specs.Prelude.{All}
+use Rattle.std.proofs.Common.{◌≡◌, ◌≤◌, ◌∙◌, Result, Err, inr, length, arith, refl, sym, ap, subst}
 use Rattle.std.proofs.lemmas.Result.{err_from_is_err_and}
-use Rattle.iv_text.specs.Ordered.{copies}
+use Rattle.iv_text.specs.Ordered.{added, copies}
 use Rattle.iv_text.specs.Read.{Fits}
 use Rattle.iv_text.specs.Row.{Row}
+use Rattle.iv_track.specs.Tracked.{Tracked}
 use Rattle.iv_track.specs.declared.fault.AddFault.{AddFault}
 use Rattle.iv_track.specs.declared.fault.AddFault.TheVariants as adding
 use Rattle.iv_state.specs.Edits.{RefusesAdd, fault_of_add}
+use Rattle.iv_state.specs.Keeping.{all_seen}
+use Rattle.iv_state.specs.OpenViews.{all_steps}
 use Rattle.iv_state.specs.States.{State, IsSession}
-use Rattle.iv_state.proofs.SessionLemmas.{below-unless, session-added}
+use Rattle.iv_state.specs.declared.session.Accepted.{Accepted}
+use Rattle.iv_state.proofs.OpenViewLemmas.{repaired-right, repaired-stales, repaired-steps}
+use Rattle.iv_state.proofs.SessionLemmas.{below-unless, edited, fit-added, session-added}
 use Rattle.iv_state.proofs.session.Session.add.Goals as goal
 
 -- what a track answers
@@ -26,15 +32,57 @@ refused inside s copied r told same is full memory =
     by adding.Full full memory = full.0 refl
     by adding.NoMemory full memory = inr (below-unless (length inside.track.rows) inside.track.limit _ _ full.1 (λ e. cc), memory refl)
 
+pub added-requires-clause-right : goal.added-requires-clause-right
+added-requires-clause-right g c = record {
+  others = c.self.inside.track.rows;
+  right = c.self.invariant.1;
+  rows_are = ap (λ (t : Tracked). t.rows) c.in_ok-add.ensures.ok ∙ ap (added c.self.inside.track.rows) c.in_ok-record.ensures.ok;
+}
+
+pub added-requires-clause-fit : goal.added-requires-clause-fit
+added-requires-clause-fit g c =
+    let inside = c.self.inside in
+    let F : State → Type 0 = λ s. Fits s.genome s.track.width c.args.row.now in
+    let fits : Fits inside.genome inside.track.width c.in_ok-record.record =
+    subst (λ (r : Row). Fits inside.genome inside.track.width r) (sym c.in_ok-record.ensures.ok) (subst F (sym c.self.view_is) c.requires) in
+    subst (λ (t : Tracked). All (Fits inside.genome t.width) t.rows) (sym c.in_ok-add.ensures.ok)
+    (fit-added inside.genome inside.track c.in_ok-record.record c.self.invariant.0 fits)
+
+pub added-requires-clause-fits : goal.added-requires-clause-fits
+added-requires-clause-fits g c =
+    let F : State → Type 0 = λ s. Fits s.genome s.track.width c.args.row.now in
+    subst (λ (t : Tracked). Fits c.self.inside.genome t.width c.args.row.now) (sym c.in_ok-add.ensures.ok) (subst F (sym c.self.view_is) c.requires)
+
 pub invariant_of-self-2 : goal.invariant_of-self-2
 invariant_of-self-2 g c =
     let inside = c.self.inside in
     let F : State → Type 0 = λ s. Fits s.genome s.track.width c.args.row.now in
     let fits : Fits inside.genome inside.track.width c.in_ok-record.record =
-    subst (λ (r : Row). Fits inside.genome inside.track.width r) (sym c.in_ok-record.ensures.ok) (subst F (sym c.self.view_is) c.requires) in
-    subst (IsSession inside.genome) (sym c.in_ok-add.ensures.ok)
-    (session-added inside.genome inside.track c.in_ok-record.record c.self.invariant fits
-    (below-unless (length inside.track.rows) inside.track.limit _ _ c.in_ok-add.ensures.full.1 (λ e. cc)))
+    subst (λ (r : Row). Fits inside.genome inside.track.width r) (sym c.in_ok-record.ensures.ok) (subst F (sym c.self.view_is) c.requires) in (
+      subst (IsSession inside.genome) (sym c.in_ok-add.ensures.ok)
+          (session-added inside.genome inside.track c.in_ok-record.record c.self.invariant.0 fits
+          (below-unless (length inside.track.rows) inside.track.limit _ _ c.in_ok-add.ensures.full.1 (λ e. cc))),
+      repaired-right _ _ _ _ _ _ _ _ c.added.ensures,
+    )
+
+pub returns-clause-ok : goal.returns-clause-ok
+returns-clause-ok g c =
+    edited (λ rows. added rows c.args.row.now) _ c.self.inside.track c.add.new.self _ _ _ c.self.view_is
+    (c.in_ok-add.ensures.ok ∙ ap (λ (r : Row). record c.self.inside.track { rows = added c.self.inside.track.rows r }) c.in_ok-record.ensures.ok)
+    (repaired-stales _ _ _ _ _ _ _ _ c.added.ensures)
+
+pub returns-clause-steps : goal.returns-clause-steps
+returns-clause-steps g c =
+    let inside = c.self.inside in
+    let same : all_steps (all_seen inside.views) c.add.new.self.rows c.args.row.now ≡ all_steps c.args.self.now.views (added c.args.self.now.track.rows c.args.row.now) c.args.row.now =
+    ap (λ (t : Tracked). all_steps (all_seen inside.views) t.rows c.args.row.now) c.in_ok-add.ensures.ok
+    ∙ ap (λ (r : Row). all_steps (all_seen inside.views) (added inside.track.rows r) c.args.row.now) c.in_ok-record.ensures.ok
+    ∙ ap (λ (s : State). all_steps s.views (added s.track.rows c.args.row.now) c.args.row.now) c.self.view_is in
+    let more = repaired-steps _ _ _ _ _ _ _ _ c.added.ensures in
+    omega (arith, same, more.at_most, c.in_ok-add.ensures.steps.at_most, c.new-meter.ensures, ap (λ (a : Accepted). a.steps) c.of.ensures)
+
+pub returns-clause-stale : goal.returns-clause-stale
+returns-clause-stale g c = ap (λ (a : Accepted). a.stale) c.of.ensures
 
 pub returns-in_err-add-clause-why : goal.returns-in_err-add-clause-why
 returns-in_err-add-clause-why g c =

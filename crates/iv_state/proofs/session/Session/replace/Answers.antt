@@ -1,50 +1,106 @@
-use Rattle.std.proofs.Common.{◌≡◌, ℕ, ◌<◌, Result, Err, inr, refl, sym, subst, arith}
+use Rattle.std.specs.Prelude.{All}
+use Rattle.std.proofs.Common.{◌≡◌, ◌∙◌, ◌<◌, List, inr, arith, ap, sym, subst}
 use Rattle.std.proofs.lemmas.Result.{err_from_is_err_and}
-use Rattle.iv_text.specs.Ordered.{copies}
+use Rattle.iv_text.specs.Named.{names_of}
+use Rattle.iv_text.specs.Ordered.{added, copies}
 use Rattle.iv_text.specs.Read.{Fits}
 use Rattle.iv_text.specs.Row.{Row}
-use Rattle.iv_track.specs.declared.fault.ReplaceFault.{ReplaceFault}
-use Rattle.iv_track.specs.declared.fault.ReplaceFault.TheVariants as replacing
-use Rattle.iv_state.specs.Edits.{RefusesReplace, fault_of_replace}
-use Rattle.iv_state.specs.States.{State, IsSession}
-use Rattle.iv_state.proofs.SessionLemmas.{below-unless, session-replaced}
+use Rattle.iv_track.specs.Tracked.{Tracked, removed}
+use Rattle.iv_state.specs.Keeping.{AreRight, all_seen}
+use Rattle.iv_state.specs.OpenViews.{all_steps}
+use Rattle.iv_state.specs.States.{State}
+use Rattle.iv_state.specs.declared.session.Accepted.{Accepted}
+use Rattle.iv_state.proofs.OpenViewLemmas.{repaired-right, repaired-stales, repaired-steps, stales-trans, stales-steps}
+use Rattle.iv_state.proofs.SessionLemmas.{edited, fit-added, replaced-in, staged-there}
 use Rattle.iv_state.proofs.session.Session.replace.Goals as goal
 
--- what a track answers
-abbrev answers : ReplaceFault → Result (Unit {0}) ReplaceFault
-answers told = Err told
-
--- a track that does not answer that a record is absent has a copy
-there : {X : Type 0} (n : ℕ) (answer absent : X) → (n ≡ 0 → answer ≡ absent) → (answer ≡ absent → ⊥) → 0 < n
-there n answer absent at = below-unless 0 n answer absent (λ low. at (omega (arith, low)))
-
--- what the track refuses is refused for the same reason
-refused : (inside s : State) (before r after q : Row) (told : ReplaceFault) → inside ≡ s → before ≡ r → after ≡ q
-    → (answers told ≡ answers replacing.NotThere → copies inside.track.rows before ≡ 0) × (copies inside.track.rows before ≡ 0 → answers told ≡ answers replacing.NotThere)
-    → (answers told ≡ answers replacing.NoMemory → copies inside.track.rows after ≡ 0) → RefusesReplace s r q (fault_of_replace told)
-refused inside s before r after q told same first second absent memory =
-    subst (λ (t : State). RefusesReplace t r q (fault_of_replace told)) same
-    (subst (λ (x : Row). RefusesReplace inside x q (fault_of_replace told)) first (subst (λ (y : Row). RefusesReplace inside before y (fault_of_replace told)) second (by told absent memory)))
-  where
-    by : (told : ReplaceFault)
-        → (answers told ≡ answers replacing.NotThere → copies inside.track.rows before ≡ 0) × (copies inside.track.rows before ≡ 0 → answers told ≡ answers replacing.NotThere)
-        → (answers told ≡ answers replacing.NoMemory → copies inside.track.rows after ≡ 0) → RefusesReplace inside before after (fault_of_replace told)
-    by replacing.NotThere absent memory = absent.0 refl
-    by replacing.NoMemory absent memory = inr (there (copies inside.track.rows before) _ _ absent.1 (λ e. cc), memory refl)
-
-pub invariant_of-self-2 : goal.invariant_of-self-2
-invariant_of-self-2 g c =
+pub returns-in_err-stage-clause-why : goal.returns-in_err-stage-clause-why
+returns-in_err-stage-clause-why g c =
+    let p = err_from_is_err_and c.from_residual-in_err-stage.result c.from_residual-in_err-stage.ensures.1 in
     let inside = c.self.inside in
-    let e = c.in_ok-replace.ensures in
+    let there : 0 < copies c.self.inside.track.rows c.in_ok-before.before = omega (arith, c.copies.ensures.value) in
+    let first : 0 < copies c.args.self.now.track.rows c.args.old.now =
+    subst (λ (s : State). 0 < copies s.track.rows c.args.old.now) c.self.view_is (subst (λ (r : Row). 0 < copies inside.track.rows r) c.in_ok-before.ensures.ok there) in
+    let none : copies c.args.self.now.track.rows c.args.new.now ≡ 0 =
+    subst (λ (s : State). copies s.track.rows c.args.new.now ≡ 0) c.self.view_is (subst (λ (r : Row). copies inside.track.rows r ≡ 0) c.in_ok-after.ensures.ok c.in_err-stage.ensures.memory) in
+    rw (p.1, p.2) (inr (first, none))
+
+pub added-requires-clause-fit : goal.added-requires-clause-fit
+added-requires-clause-fit g c =
+    let inside = c.self.inside in
     let F : State → Type 0 = λ s. Fits s.genome s.track.width c.args.new.now in
     let fits : Fits inside.genome inside.track.width c.in_ok-after.after =
     subst (λ (r : Row). Fits inside.genome inside.track.width r) (sym c.in_ok-after.ensures.ok) (subst F (sym c.self.view_is) c.requires.new) in
-    subst (IsSession inside.genome) (sym e.ok)
-    (session-replaced inside.genome inside.track c.in_ok-before.before c.in_ok-after.after c.self.invariant
-    (there (copies inside.track.rows c.in_ok-before.before) _ _ e.absent.1 (λ same. cc)) fits)
+    subst (λ (t : Tracked). All (Fits inside.genome t.width) t.rows) (sym c.in_ok-stage.ensures.ok) (fit-added inside.genome inside.track c.in_ok-after.after c.self.invariant.0 fits)
 
-pub returns-in_err-replace-clause-why : goal.returns-in_err-replace-clause-why
-returns-in_err-replace-clause-why g c =
-    let p = err_from_is_err_and c.from_residual-in_err-replace.result c.from_residual-in_err-replace.ensures.1 in
-    let e = c.in_err-replace.ensures in
-    rw (p.1, p.2) (refused _ _ _ _ _ _ c.in_err-replace.field-0.0 c.self.view_is c.in_ok-before.ensures.ok c.in_ok-after.ensures.ok e.absent e.memory)
+pub unreachable-requires : goal.unreachable-requires
+unreachable-requires g c =
+    let there : 0 < copies c.self.inside.track.rows c.in_ok-before.before = omega (arith, c.copies.ensures.value) in
+    let again = staged-there c.self.inside.track c.stage.new.self c.in_ok-before.before c.in_ok-after.after there c.in_ok-stage.ensures.ok in
+    omega (arith, again, c.in_default.ensures.absent)
+
+pub removed-requires-clause-right : goal.removed-requires-clause-right
+removed-requires-clause-right g c =
+    let there : 0 < copies c.self.inside.track.rows c.in_ok-before.before = omega (arith, c.copies.ensures.value) in
+    let whole = replaced-in _ _ _ _ _ _ _ _ _ _ c.self.view_is c.in_ok-before.ensures.ok c.in_ok-after.ensures.ok c.self.invariant.0 c.copies.ensures.ordered there c.requires.new
+    c.in_ok-stage.ensures.ok c.in-Ok.ensures.ok in
+    subst (λ (l : List Row). AreRight c.added.new.self (names_of c.self.inside.genome) l) whole.again (repaired-right _ _ _ _ _ _ _ _ c.added.ensures)
+
+pub removed-requires-clause-fit : goal.removed-requires-clause-fit
+removed-requires-clause-fit g c =
+    let there : 0 < copies c.self.inside.track.rows c.in_ok-before.before = omega (arith, c.copies.ensures.value) in
+    let whole = replaced-in _ _ _ _ _ _ _ _ _ _ c.self.view_is c.in_ok-before.ensures.ok c.in_ok-after.ensures.ok c.self.invariant.0 c.copies.ensures.ordered there c.requires.new
+    c.in_ok-stage.ensures.ok c.in-Ok.ensures.ok in
+    whole.session.fit
+
+pub removed-requires-clause-fits : goal.removed-requires-clause-fits
+removed-requires-clause-fits g c =
+    let there : 0 < copies c.self.inside.track.rows c.in_ok-before.before = omega (arith, c.copies.ensures.value) in
+    let whole = replaced-in _ _ _ _ _ _ _ _ _ _ c.self.view_is c.in_ok-before.ensures.ok c.in_ok-after.ensures.ok c.self.invariant.0 c.copies.ensures.ordered there c.requires.new
+    c.in_ok-stage.ensures.ok c.in-Ok.ensures.ok in
+    rw whole.width (subst (λ (s : State). Fits s.genome s.track.width c.args.old.now) (sym c.self.view_is) c.requires.old)
+
+pub invariant_of-self-2 : goal.invariant_of-self-2
+invariant_of-self-2 g c =
+    let there : 0 < copies c.self.inside.track.rows c.in_ok-before.before = omega (arith, c.copies.ensures.value) in
+    let whole = replaced-in _ _ _ _ _ _ _ _ _ _ c.self.view_is c.in_ok-before.ensures.ok c.in_ok-after.ensures.ok c.self.invariant.0 c.copies.ensures.ordered there c.requires.new
+    c.in_ok-stage.ensures.ok c.in-Ok.ensures.ok in
+    (whole.session, repaired-right _ _ _ _ _ _ _ _ c.removed.ensures)
+
+pub returns-clause-ok : goal.returns-clause-ok
+returns-clause-ok g c =
+    let there : 0 < copies c.self.inside.track.rows c.in_ok-before.before = omega (arith, c.copies.ensures.value) in
+    let whole = replaced-in _ _ _ _ _ _ _ _ _ _ c.self.view_is c.in_ok-before.ensures.ok c.in_ok-after.ensures.ok c.self.invariant.0 c.copies.ensures.ordered there c.requires.new
+    c.in_ok-stage.ensures.ok c.in-Ok.ensures.ok in
+    edited (λ rows. added (removed rows c.args.old.now) c.args.new.now) _ c.self.inside.track c.remove.new.self _ _ _ c.self.view_is whole.is
+    (stales-trans _ _ _ (repaired-stales _ _ _ _ _ _ _ _ c.added.ensures) (repaired-stales _ _ _ _ _ _ _ _ c.removed.ensures))
+
+pub returns-clause-steps : goal.returns-clause-steps
+returns-clause-steps g c =
+    let inside = c.self.inside in
+    let there : 0 < copies c.self.inside.track.rows c.in_ok-before.before = omega (arith, c.copies.ensures.value) in
+    let whole = replaced-in _ _ _ _ _ _ _ _ _ _ c.self.view_is c.in_ok-before.ensures.ok c.in_ok-after.ensures.ok c.self.invariant.0 c.copies.ensures.ordered there c.requires.new
+    c.in_ok-stage.ensures.ok c.in-Ok.ensures.ok in
+    let bound : (r : Row) → all_steps (all_seen inside.views) c.stage.new.self.rows r ≡ all_steps c.args.self.now.views (added c.args.self.now.track.rows c.args.new.now) r = λ r.
+    ap (λ (t : Tracked). all_steps (all_seen inside.views) t.rows r) c.in_ok-stage.ensures.ok
+    ∙ ap (λ (q : Row). all_steps (all_seen inside.views) (added inside.track.rows q) r) c.in_ok-after.ensures.ok
+    ∙ ap (λ (s : State). all_steps s.views (added s.track.rows c.args.new.now) r) c.self.view_is in
+    let second : all_steps (all_seen inside.views) (added c.remove.new.self.rows c.args.old.now) c.args.old.now
+    ≡ all_steps c.args.self.now.views (added c.args.self.now.track.rows c.args.new.now) c.args.old.now =
+    ap (λ (l : List Row). all_steps (all_seen inside.views) l c.args.old.now) (sym whole.again) ∙ bound c.args.old.now in
+    let less = stales-steps _ _ (added c.remove.new.self.rows c.args.old.now) c.args.old.now (repaired-stales _ _ _ _ _ _ _ _ c.added.ensures) in
+    let one = repaired-steps _ _ _ _ _ _ _ _ c.added.ensures in
+    let two = repaired-steps _ _ _ _ _ _ _ _ c.removed.ensures in
+    omega (
+      arith,
+      bound c.args.new.now,
+      second,
+      less,
+      one.at_most,
+      two.at_most,
+      c.copies.ensures.steps.at_most,
+      c.in_ok-stage.ensures.steps.at_most,
+      c.in-Ok.ensures.steps.at_most,
+      c.new-meter.ensures,
+      ap (λ (a : Accepted). a.steps) c.of.ensures,
+    )

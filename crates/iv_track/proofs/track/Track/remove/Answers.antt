@@ -1,9 +1,10 @@
 use Rattle.std.proofs.Common.{◌≡◌, ℕ, ◌<◌, ◌-◌, ◌∙◌, sym, ap, arith, List, Some, subst}
 use Rattle.std.specs.Prelude.{unwrap_or}
-use Rattle.iv_text.specs.Row.{Row, row_cmp}
+use Rattle.iv_text.specs.Row.{Row, row_cmp, rows_total}
 use Rattle.iv_track.specs.Entries.{value_at}
-use Rattle.iv_text.specs.Ordered.{copies}
+use Rattle.iv_text.specs.Ordered.{AreInOrder, copies}
 use Rattle.iv_track.specs.Tracked.{Tracked, IsTrack, removed}
+use Rattle.iv_track.proofs.Counts.{in_order-expanded}
 use Rattle.iv_track.proofs.TrackLemmas.{count_here, found, count-pos, len-pos, IsLowered, lowered_by_take, lowered_by_set, lowered_track, set_gives}
 use Rattle.iv_track.proofs.track.Track.remove.Given as given
 use Rattle.iv_track.proofs.track.Track.remove.Goals as goal
@@ -78,3 +79,11 @@ returns-clause-found g c =
     let count : value_at row_cmp i.ledger c.args.row.now ≡ Some c.in-Some.count = sym c.get.ensures.value ∙ sym c.copied.ensures ∙ c.in-Some.is in
     subst (λ (t : Tracked). 0 < copies t.rows c.args.row.now) c.self.view_is
     (found i.ledger i.ledger i.len i.width i.limit c.args.row.now c.self.invariant c.in-Some.count count)
+
+pub returns-in_default-clause-was_ordered : goal.returns-in_default-clause-was_ordered
+returns-in_default-clause-was_ordered g c =
+    subst (λ (t : Tracked). AreInOrder t.rows) c.self.view_is (in_order-expanded row_cmp rows_total c.self.inside.ledger c.self.invariant.ordered)
+
+pub returns-clause-was_ordered : goal.returns-clause-was_ordered
+returns-clause-was_ordered g c =
+    subst (λ (t : Tracked). AreInOrder t.rows) c.self.view_is (in_order-expanded row_cmp rows_total c.self.inside.ledger c.self.invariant.ordered)

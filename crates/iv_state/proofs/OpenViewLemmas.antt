@@ -1,0 +1,461 @@
+-- The open views, one after another.
+use denote.Ref.{Bor}
+use Rattle.std.proofs.Common.{◌≡◌, ℕ, suc, ◌+◌, ◌<◌, ◌≤◌, ◌++◌, Bool, true, false, cond, List, [], ◌∷◌, Option, None, Some, length, map, slice_get, drop, add-one, zero, refl, sym, ap, ap₂, subst, ◌∙◌, append_assoc, append-nil, arith, if◌then◌else◌}
+use Rattle.std.specs.Prelude.{IfSome}
+use Rattle.std.specs.List.{AllByRecursion}
+use Rattle.std.specs.Map.{values_of, lookup, set_value, remove_entry}
+use Rattle.std.specs.Option.{is_none, is_some, option_map, option_copied}
+use Rattle.std.specs.Str.{bytes_eq}
+use Rattle.std.proofs.lemmas.Option.{slice_get-map}
+use Rattle.std.proofs.lemmas.List.{length-append, length-map, map-append}
+use Rattle.indexmap.specs.Layout.{set_value_at}
+use Rattle.iv_text.specs.Row.{Row}
+use Rattle.iv_text.proofs.NamedLemmas.{lookup-is}
+use Rattle.iv_track.specs.Steps.{TakesUpTo}
+use Rattle.iv_view.specs.KeptStates.{repair_steps}
+use Rattle.iv_state.specs.Keeping.{seen, IsCurrentRight, IsRepaired, IsRefreshed}
+use Rattle.iv_state.specs.OpenViews.{view_steps}
+use Rattle.iv_state.specs.Keeping.{all_seen, AreRight, EachChanges}
+use Rattle.iv_state.specs.OpenViews.{Stales, current, all_current, with_current, stale_count, all_steps}
+use Rattle.iv_state.specs.OpenViews.{Shown}
+use Rattle.iv_state.specs.declared.open_view.OpenView.{OpenView}
+use Rattle.iv_view.specs.declared.view.View.{View}
+
+-- ---- a walk over the places of a map, each of which is written
+
+-- the entries as contracts see them
+abbrev pub named : {K V : Type 0} → (K → List ℕ) → List (K × V) → List (List ℕ × V)
+named {K} {V} items es = map {B = List ℕ × V} (λ e. (items e.0, e.1)) es
+
+pub named-length : {K V : Type 0} (items : K → List ℕ) (es : List (K × V)) → length (named items es) ≡ length es
+named-length {K} {V} items es = length-map {B = List ℕ × V} es (λ e. (items e.0, e.1))
+
+-- the entries before a place are done
+pub record Midway {V : Type 0} (Done : List (List ℕ × V) → List (List ℕ × V) → Type 0) (old now : List (List ℕ × V)) (place : ℕ) : Type 0 where
+  pub front : List (List ℕ × V)
+  pub done : List (List ℕ × V)
+  pub rest : List (List ℕ × V)
+  pub old_is : old ≡ front ++ rest
+  pub now_is : now ≡ done ++ rest
+  pub front_is : place ≡ length front
+  pub done_is : place ≡ length done
+  pub does : Done front done
+
+pub midway-begin : {V : Type 0} (Done : List (List ℕ × V) → List (List ℕ × V) → Type 0) (old now : List (List ℕ × V)) → now ≡ old → Done [] [] → Midway Done old now 0
+midway-begin Done old now same does = record { front = []; done = []; rest = old; old_is = refl; now_is = same; front_is = refl; done_is = refl; does = does }
+
+-- the entry at a place, once it is written
+written : {K V : Type 0} (items : K → List ℕ) (es : List (K × V)) (done rest : List (List ℕ × V)) (place : ℕ) (v w : V)
+    → named items es ≡ done ++ rest → place ≡ length done → slice_get (values_of es) place ≡ Some v
+    → (n : List ℕ) × (more : List (List ℕ × V)) × (rest ≡ (n, v) ∷ more) × (named items (set_value_at es place w) ≡ done ++ (n, w) ∷ more)
+written {K} {V} items es done rest place v w are at found =
+    subst (λ (i : ℕ). (n : List ℕ) × (more : List (List ℕ × V)) × (rest ≡ (n, v) ∷ more) × (named items (set_value_at es i w) ≡ done ++ (n, w) ∷ more)) (sym at)
+    (by es done are (subst (λ (i : ℕ). slice_get (values_of es) i ≡ Some v) at found))
+  where
+    by : (es : List (K × V)) (done : List (List ℕ × V)) → named items es ≡ done ++ rest → slice_get (values_of es) (length done) ≡ Some v
+        → (n : List ℕ) × (more : List (List ℕ × V)) × (rest ≡ (n, v) ∷ more) × (named items (set_value_at es (length done) w) ≡ done ++ (n, w) ∷ more)
+    by [] done are found = absurd (cc (found))
+    by (e ∷ es) [] are found =
+        let is : e.1 ≡ v = cc (found) in
+        (items e.0, named items es, sym are ∙ ap (λ (u : V). (items e.0, u) ∷ named items es) is, refl)
+    by (e ∷ es) (d ∷ done) are found =
+        let first : (items e.0, e.1) ≡ d = cc (are) in
+        let tail : named items es ≡ done ++ rest = cc (are) in
+        let more = by es done tail found in
+        (more.0, more.1, more.2, ap₂ (λ (x : List ℕ × V) (l : List (List ℕ × V)). x ∷ l) first more.3)
+
+-- one more entry is done
+pub midway-next : {K V : Type 0} (items : K → List ℕ) (Done Then : List (List ℕ × V) → List (List ℕ × V) → Type 0) (old : List (List ℕ × V)) (es : List (K × V)) (place : ℕ) (v w : V)
+    → Midway Done old (named items es) place → slice_get (values_of es) place ≡ Some v
+    → ((front done more : List (List ℕ × V)) (n : List ℕ) → old ≡ front ++ (n, v) ∷ more → Done front done → Then (front ++ (n, v) ∷ []) (done ++ (n, w) ∷ []))
+    → Midway Then old (named items (set_value_at es place w)) (place + 1)
+midway-next {K} {V} items Done Then old es place v w mid found step =
+    let p = written items es mid.done mid.rest place v w mid.now_is mid.done_is found in
+    let old_is : old ≡ mid.front ++ (p.0, v) ∷ p.1 = mid.old_is ∙ ap (λ (l : List (List ℕ × V)). mid.front ++ l) p.2 in
+    record {
+      front = mid.front ++ (p.0, v) ∷ [];
+      done = mid.done ++ (p.0, w) ∷ [];
+      rest = p.1;
+      old_is = old_is ∙ sym (append_assoc mid.front ((p.0, v) ∷ []) p.1);
+      now_is = p.3 ∙ sym (append_assoc mid.done ((p.0, w) ∷ []) p.1);
+      front_is = omega (arith, mid.front_is, length-append mid.front ((p.0, v) ∷ []));
+      done_is = omega (arith, mid.done_is, length-append mid.done ((p.0, w) ∷ []));
+      does = step mid.front mid.done p.1 p.0 old_is mid.does;
+    }
+
+-- all entries are done
+pub midway-end : {V : Type 0} (Done : List (List ℕ × V) → List (List ℕ × V) → Type 0) (old now : List (List ℕ × V)) (place : ℕ) → Midway Done old now place → length now ≤ place → Done old now
+midway-end {V} Done old now place mid past =
+    let none : mid.rest ≡ [] = nil_of mid.rest (omega (arith, mid.done_is, past, ap length mid.now_is, length-append mid.done mid.rest)) in
+    let old_is : old ≡ mid.front = mid.old_is ∙ ap (λ (l : List (List ℕ × V)). mid.front ++ l) none ∙ append-nil mid.front in
+    let now_is : now ≡ mid.done = mid.now_is ∙ ap (λ (l : List (List ℕ × V)). mid.done ++ l) none ∙ append-nil mid.done in
+    subst (λ (l : List (List ℕ × V)). Done l now) (sym old_is) (subst (λ (l : List (List ℕ × V)). Done mid.front l) (sym now_is) mid.does)
+  where
+    nil_of : (xs : List (List ℕ × V)) → length xs ≡ 0 → xs ≡ []
+    nil_of [] e = refl
+    nil_of (x ∷ xs) e = absurd (omega arith)
+
+-- ---- repairs
+
+-- one more view is changed
+pub changes-push : {V : Type 0} (change : V → V → ℕ → ℕ → Type 0) (old new : List (List ℕ × V)) (n : List ℕ) (v w : V) (before mid after : ℕ)
+    → EachChanges change old new before mid → change v w mid after → EachChanges change (old ++ (n, v) ∷ []) (new ++ (n, w) ∷ []) before after
+changes-push change [] [] n v w before mid after all one = (after, refl, subst (λ (k : ℕ). change v w k after) all one, refl)
+changes-push change [] (y ∷ new) n v w before mid after all one = absurd all
+changes-push change (x ∷ old) [] n v w before mid after all one = absurd all
+changes-push change (x ∷ old) (y ∷ new) n v w before mid after all one = (all.0, all.1, all.2, changes-push change old new n v w all.0 mid after all.3 one)
+
+module _ {A : Type 0} (names : List (List ℕ)) (rows with_r : List Row) (r : Row) where
+  -- repaired views are right
+  pub repaired-right : (old new : List (List ℕ × OpenView A)) (before after : ℕ) → EachChanges (IsRepaired names rows with_r r) old new before after → AreRight new names rows
+  repaired-right [] [] before after all = tt
+  repaired-right [] (w ∷ new) before after all = absurd all
+  repaired-right (v ∷ old) [] before after all = absurd all
+  repaired-right (v ∷ old) (w ∷ new) before after all = (all.2.right, repaired-right old new all.0 after all.3)
+
+  -- they are the same, but that some may have become stale
+  pub repaired-stales : (old new : List (List ℕ × OpenView A)) (before after : ℕ) → EachChanges (IsRepaired names rows with_r r) old new before after → Stales (all_seen old) (all_seen new)
+  repaired-stales [] [] before after all = tt
+  repaired-stales [] (w ∷ new) before after all = absurd all
+  repaired-stales (v ∷ old) [] before after all = absurd all
+  repaired-stales (v ∷ old) (w ∷ new) before after all =
+      (all.1, all.2.same, λ stale. none_again w.1.state (all.2.stays (none_of v.1.state stale)), repaired-stales old new all.0 after all.3)
+    where
+      none_of : {X : Type 0} (o : Option X) → is_none o ≡ true → o ≡ None
+      none_of None e = refl
+      none_of (Some x) e = absurd (cc (e))
+
+      none_again : {X : Type 0} (o : Option X) → o ≡ None → is_none o ≡ true
+      none_again o e = ap is_none e
+
+  -- and took few steps
+  pub repaired-steps : (old new : List (List ℕ × OpenView A)) (before after : ℕ) → EachChanges (IsRepaired names rows with_r r) old new before after
+      → TakesUpTo before after (all_steps (all_seen old) with_r r)
+  repaired-steps [] [] before after all = record { no_less = omega (arith, all); at_most = omega (arith, all) }
+  repaired-steps [] (w ∷ new) before after all = absurd all
+  repaired-steps (v ∷ old) [] before after all = absurd all
+  repaired-steps (v ∷ old) (w ∷ new) before after all =
+      let one = all.2.steps in
+      let more = repaired-steps old new all.0 after all.3 in
+      record { no_less = omega (arith, one, more); at_most = omega (arith, one, more) }
+
+-- views of which more are stale take no more steps
+pub stales-steps : (old new : List (List ℕ × Shown)) (rows : List Row) (r : Row) → Stales old new → all_steps new rows r ≤ all_steps old rows r
+stales-steps [] [] rows r less = omega arith
+stales-steps [] (w ∷ new) rows r less = absurd less
+stales-steps (v ∷ old) [] rows r less = absurd less
+stales-steps (v ∷ old) (w ∷ new) rows r less =
+    omega (arith, one v.1 w.1 less.1 less.2, stales-steps old new rows r less.3)
+  where
+    one : (v w : Shown) → w.view ≡ v.view → (v.stale ≡ true → w.stale ≡ true) → view_steps w rows r ≤ view_steps v rows r
+    one v w view stays = by v.stale w.stale _ _ (ap (λ (s : View). repair_steps s rows r) view) stays
+      where
+        by : (b c : Bool) (m n : ℕ) → n ≡ m → (b ≡ true → c ≡ true) → (if c then 0 else n) ≤ (if b then 0 else m)
+        by true true m n same stays = omega arith
+        by true false m n same stays = absurd (cc (stays refl))
+        by false true m n same stays = omega arith
+        by false false m n same stays = omega (arith, same)
+
+pub stales-trans : (old mid new : List (List ℕ × Shown)) → Stales old mid → Stales mid new → Stales old new
+stales-trans [] [] new first second = second
+stales-trans [] (m ∷ mid) new first second = absurd first
+stales-trans (v ∷ old) [] new first second = absurd first
+stales-trans (v ∷ old) (m ∷ mid) [] first second = absurd second
+stales-trans (v ∷ old) (m ∷ mid) (w ∷ new) first second =
+    (second.0 ∙ first.0, second.1 ∙ first.1, λ stale. second.2 (first.2 stale), stales-trans old mid new first.3 second.3)
+
+-- ---- the view at a place
+
+-- what the stale views from a place on are
+pub stale-next : {K A : Type 0} (items : K → List ℕ) (es : List (K × OpenView A)) (i : ℕ) (v : OpenView A) → slice_get (values_of es) i ≡ Some v
+    → stale_count (all_seen (drop i (named items es))) ≡ (if is_none v.state then 1 else 0) + stale_count (all_seen (drop (i + 1) (named items es)))
+stale-next {K} {A} items es i v found = subst (λ (k : ℕ). stale_count (all_seen (drop i (named items es))) ≡ (if is_none v.state then 1 else 0) + stale_count (all_seen (drop k (named items es)))) (sym (add-one i)) (by es i found)
+  where
+    by : (es : List (K × OpenView A)) (i : ℕ) → slice_get (values_of es) i ≡ Some v
+        → stale_count (all_seen (drop i (named items es))) ≡ (if is_none v.state then 1 else 0) + stale_count (all_seen (drop (suc i) (named items es)))
+    by [] i found = absurd (cc (found))
+    by (e ∷ es) zero found = let is : e.1 ≡ v = cc (found) in ap (λ (u : OpenView A). (if is_none u.state then 1 else 0) + stale_count (all_seen (named items es))) is
+    by (e ∷ es) (suc i) found = by es i found
+
+all-append : {X : Type 0} (P : X → Type 0) (xs ys : List X) → AllByRecursion P xs → AllByRecursion P ys → AllByRecursion P (xs ++ ys)
+all-append P [] ys a b = b
+all-append P (x ∷ xs) ys a b = (a.0, all-append P xs ys a.1 b)
+
+all-back : {X : Type 0} (P : X → Type 0) (xs ys : List X) → AllByRecursion P (xs ++ ys) → AllByRecursion P ys
+all-back P [] ys a = a
+all-back P (x ∷ xs) ys a = all-back P xs ys a.1
+
+-- the view at a place, where all were right before
+pub midway-at : {K V : Type 0} (items : K → List ℕ) (Done : List (List ℕ × V) → List (List ℕ × V) → Type 0) (P : V → Type 0) (old : List (List ℕ × V)) (es : List (K × V)) (place : ℕ) (v : V)
+    → Midway Done old (named items es) place → slice_get (values_of es) place ≡ Some v → AllByRecursion (λ e. P e.1) old → P v
+midway-at {K} {V} items Done P old es place v mid found all =
+    let p = written items es mid.done mid.rest place v v mid.now_is mid.done_is found in
+    let old_is : old ≡ mid.front ++ (p.0, v) ∷ p.1 = mid.old_is ∙ ap (λ (l : List (List ℕ × V)). mid.front ++ l) p.2 in
+    (all-back (λ e. P e.1) mid.front ((p.0, v) ∷ p.1) (subst (λ (l : List (List ℕ × V)). AllByRecursion (λ e. P e.1) l) old_is all)).0
+
+-- in the midst of repairs
+pub record Repairing {A : Type 0} (names : List (List ℕ)) (rows with_r : List Row) (r : Row) (old now : List (List ℕ × OpenView A)) (place before after : ℕ) : Type 0 where
+  pub mid : Midway (λ front done. EachChanges (IsRepaired names rows with_r r) front done before after) old now place
+
+module _ {A : Type 0} (names : List (List ℕ)) (rows with_r : List Row) (r : Row) (old : List (List ℕ × OpenView A)) where
+  pub repairs-begin : (now : List (List ℕ × OpenView A)) (before : ℕ) → now ≡ old → Repairing names rows with_r r old now 0 before before
+  repairs-begin now before same = record { mid = midway-begin _ old now same refl }
+
+  pub repairs-end : (now : List (List ℕ × OpenView A)) (place before after : ℕ) → Repairing names rows with_r r old now place before after → length now ≤ place
+      → EachChanges (IsRepaired names rows with_r r) old now before after
+  repairs-end now place before after u past = midway-end (λ front done. EachChanges (IsRepaired names rows with_r r) front done before after) old now place u.mid past
+
+module _ {K A : Type 0} (items : K → List ℕ) (names : List (List ℕ)) (rows with_r : List Row) (r : Row) (old : List (List ℕ × OpenView A)) where
+  pub repairs-at : (P : OpenView A → Type 0) (es : List (K × OpenView A)) (place before mid : ℕ) (v : OpenView A)
+      → Repairing names rows with_r r old (named items es) place before mid → slice_get (values_of es) place ≡ Some v → AllByRecursion (λ e. P e.1) old → P v
+  repairs-at P es place before mid v u found all = midway-at items _ P old es place v u.mid found all
+
+  pub repairs-next : (es : List (K × OpenView A)) (place before mid after : ℕ) (v w : OpenView A)
+      → Repairing names rows with_r r old (named items es) place before mid → slice_get (values_of es) place ≡ Some v → IsRepaired names rows with_r r v w mid after
+      → Repairing names rows with_r r old (named items (set_value_at es place w)) (place + 1) before after
+  repairs-next es place before mid after v w u found one = record {
+    mid = midway-next items
+        (λ front done. EachChanges (IsRepaired names rows with_r r) front done before mid) (λ front done. EachChanges (IsRepaired names rows with_r r) front done before after)
+        old es place v w u.mid found (λ front done more n old_is all. changes-push (IsRepaired names rows with_r r) front done n v w before mid after all one);
+  }
+
+-- ---- views that are built anew
+
+pub stales-same : (views : List (List ℕ × Shown)) → Stales views views
+stales-same [] = tt
+stales-same (v ∷ views) = (refl, refl, λ stale. stale, stales-same views)
+
+stales-append : (old new old2 new2 : List (List ℕ × Shown)) → Stales old new → Stales old2 new2 → Stales (old ++ old2) (new ++ new2)
+stales-append [] [] old2 new2 a b = b
+stales-append [] (w ∷ new) old2 new2 a b = absurd a
+stales-append (v ∷ old) [] old2 new2 a b = absurd a
+stales-append (v ∷ old) (w ∷ new) old2 new2 a b = (a.0, a.1, a.2, stales-append old new old2 new2 a.3 b)
+
+stales-current : (views : List (List ℕ × Shown)) → Stales (all_current views) views
+stales-current [] = tt
+stales-current (v ∷ views) = (refl, refl, λ e. absurd (cc (e)), stales-current views)
+
+pub seen-append : {A : Type 0} (xs ys : List (List ℕ × OpenView A)) → all_seen (xs ++ ys) ≡ all_seen xs ++ all_seen ys
+seen-append xs ys = map-append _ xs ys
+
+count-append : (xs ys : List (List ℕ × Shown)) → stale_count (xs ++ ys) ≡ stale_count xs + stale_count ys
+count-append [] ys = omega arith
+count-append (x ∷ xs) ys = omega (arith, count-append xs ys)
+
+current-append : (xs ys : List (List ℕ × Shown)) → all_current (xs ++ ys) ≡ all_current xs ++ all_current ys
+current-append xs ys = map-append _ xs ys
+
+-- in the midst of building views anew
+pub record Refreshing {A : Type 0} (names : List (List ℕ)) (rows : List Row) (old now : List (List ℕ × OpenView A)) (place : ℕ) : Type 0 where
+  pub mid : Midway (λ front done. (all_seen done ≡ all_current (all_seen front)) × AreRight done names rows) old now place
+
+module _ {A : Type 0} (names : List (List ℕ)) (rows : List Row) (old : List (List ℕ × OpenView A)) where
+  pub refresh-begin : (now : List (List ℕ × OpenView A)) → now ≡ old → Refreshing names rows old now 0
+  refresh-begin now same = record { mid = midway-begin _ old now same (refl, tt) }
+
+  pub refresh-end : (now : List (List ℕ × OpenView A)) (place : ℕ) → Refreshing names rows old now place → length now ≤ place
+      → (all_seen now ≡ all_current (all_seen old)) × AreRight now names rows
+  refresh-end now place u past = midway-end (λ front done. (all_seen done ≡ all_current (all_seen front)) × AreRight done names rows) old now place u.mid past
+
+module _ {K A : Type 0} (items : K → List ℕ) (names : List (List ℕ)) (rows : List Row) (old : List (List ℕ × OpenView A)) where
+  pub refresh-at : (P : OpenView A → Type 0) (es : List (K × OpenView A)) (place : ℕ) (v : OpenView A)
+      → Refreshing names rows old (named items es) place → slice_get (values_of es) place ≡ Some v → AllByRecursion (λ e. P e.1) old → P v
+  refresh-at P es place v u found all = midway-at items _ P old es place v u.mid found all
+
+  pub refresh-next : (es : List (K × OpenView A)) (place : ℕ) (v w : OpenView A)
+      → Refreshing names rows old (named items es) place → slice_get (values_of es) place ≡ Some v → IsRefreshed names rows v w
+      → Refreshing names rows old (named items (set_value_at es place w)) (place + 1)
+  refresh-next es place v w u found one =
+      let Done : List (List ℕ × OpenView A) → List (List ℕ × OpenView A) → Type 0 = λ front done. (all_seen done ≡ all_current (all_seen front)) × AreRight done names rows in
+      record {
+        mid = midway-next items Done Done old es place v w u.mid found (λ front done more n old_is all. (
+          seen-append done ((n, w) ∷ []) ∙ ap₂ (λ (a b : List (List ℕ × Shown)). a ++ b) all.0 (ap (λ (s : Shown). (n, s) ∷ []) one.sees)
+              ∙ sym (current-append (all_seen front) ((n, seen v) ∷ [])) ∙ ap all_current (sym (seen-append front ((n, v) ∷ []))),
+          all-append (λ e. IsCurrentRight e.1 names rows) done ((n, w) ∷ []) all.1 (one.right, tt),
+        ));
+      }
+
+  -- memory was refused for a view, which stays as it was
+  pub refresh-stops : (es : List (K × OpenView A)) (place : ℕ) (v w : OpenView A)
+      → Refreshing names rows old (named items es) place → slice_get (values_of es) place ≡ Some v → w ≡ v → (seen v).stale ≡ true → AreRight old names rows
+      → AreRight (named items (set_value_at es place w)) names rows × Stales (all_seen (named items (set_value_at es place w))) (all_seen old) × (0 < stale_count (all_seen old))
+  refresh-stops es place v w u found same stale right =
+      let m = u.mid in
+      let p = written items es m.done m.rest place v w m.now_is m.done_is found in
+      let now_is : named items (set_value_at es place w) ≡ m.done ++ m.rest = p.3 ∙ ap (λ (x : OpenView A). m.done ++ (p.0, x) ∷ p.1) same ∙ ap (λ (l : List (List ℕ × OpenView A)). m.done ++ l) (sym p.2) in
+      let back : AreRight m.rest names rows = all-back (λ e. IsCurrentRight e.1 names rows) m.front m.rest (subst (λ (l : List (List ℕ × OpenView A)). AreRight l names rows) m.old_is right) in
+      let old_seen : all_seen old ≡ all_seen m.front ++ all_seen m.rest = ap all_seen m.old_is ∙ seen-append m.front m.rest in
+      let now_seen : all_seen (named items (set_value_at es place w)) ≡ all_current (all_seen m.front) ++ all_seen m.rest =
+      ap all_seen now_is ∙ seen-append m.done m.rest ∙ ap (λ (l : List (List ℕ × Shown)). l ++ all_seen m.rest) m.does.0 in
+      let here : stale_count (all_seen m.rest) ≡ 1 + stale_count (all_seen p.1) =
+      ap (λ (l : List (List ℕ × OpenView A)). stale_count (all_seen l)) p.2 ∙ ap (λ (b : Bool). (if b then 1 else 0) + stale_count (all_seen p.1)) stale in (
+        subst (λ (l : List (List ℕ × OpenView A)). AreRight l names rows) (sym now_is) (all-append (λ e. IsCurrentRight e.1 names rows) m.done m.rest m.does.1 back),
+        subst (λ (l : List (List ℕ × Shown)). Stales l (all_seen old)) (sym now_seen)
+            (subst (λ (l : List (List ℕ × Shown)). Stales (all_current (all_seen m.front) ++ all_seen m.rest) l) (sym old_seen)
+            (stales-append (all_current (all_seen m.front)) (all_seen m.front) (all_seen m.rest) (all_seen m.rest) (stales-current (all_seen m.front)) (stales-same (all_seen m.rest)))),
+        omega (arith, here, ap stale_count old_seen, count-append (all_seen m.front) (all_seen m.rest)),
+      )
+
+  module _ (name : List ℕ) where
+    -- the view of a name is built anew
+    pub refresh-named : (es : List (K × OpenView A)) (v w : OpenView A) → lookup (λ k. bytes_eq name (items k)) es ≡ Some v → IsRefreshed names rows v w
+        → AreRight (named items es) names rows
+        → (all_seen (named items (set_value (λ k. bytes_eq name (items k)) es w)) ≡ with_current (all_seen (named items es)) name)
+        × AreRight (named items (set_value (λ k. bytes_eq name (items k)) es w)) names rows
+    refresh-named [] v w found one right = absurd (cc (found))
+    refresh-named (e ∷ es) v w found one right =
+        by (bytes_eq name (items e.0)) found (λ there. refresh-named es v w there one right.1)
+      where
+        rest : List (K × OpenView A)
+        rest = set_value (λ k. bytes_eq name (items k)) es w
+
+        by : (b : Bool) → cond b (Some e.1) (lookup (λ k. bytes_eq name (items k)) es) ≡ Some v
+            → (lookup (λ k. bytes_eq name (items k)) es ≡ Some v → (all_seen (named items rest) ≡ with_current (all_seen (named items es)) name) × AreRight (named items rest) names rows)
+            → (all_seen (named items (cond b ((e.0, w) ∷ es) (e ∷ rest))) ≡ cond b ((items e.0, current (seen e.1)) ∷ all_seen (named items es)) ((items e.0, seen e.1) ∷ with_current (all_seen (named items es)) name))
+            × AreRight (named items (cond b ((e.0, w) ∷ es) (e ∷ rest))) names rows
+        by true found more =
+            let is : e.1 ≡ v = cc (found) in
+            (ap (λ (s : Shown). (items e.0, s) ∷ all_seen (named items es)) (one.sees ∙ ap (λ (u : OpenView A). current (seen u)) (sym is)), (one.right, right.1))
+        by false found more = let m = more found in (ap (λ (l : List (List ℕ × Shown)). (items e.0, seen e.1) ∷ l) m.0, (right.0, m.1))
+
+    -- memory was refused for it, and it stays as it was
+    pub refused-named : (es : List (K × OpenView A)) (v w : OpenView A) → lookup (λ k. bytes_eq name (items k)) es ≡ Some v → w ≡ v
+        → named items (set_value (λ k. bytes_eq name (items k)) es w) ≡ named items es
+    refused-named [] v w found same = refl
+    refused-named (e ∷ es) v w found same = by (bytes_eq name (items e.0)) found (λ there. refused-named es v w there same)
+      where
+        by : (b : Bool) → cond b (Some e.1) (lookup (λ k. bytes_eq name (items k)) es) ≡ Some v
+            → (lookup (λ k. bytes_eq name (items k)) es ≡ Some v → named items (set_value (λ k. bytes_eq name (items k)) es w) ≡ named items es)
+            → named items (cond b ((e.0, w) ∷ es) (e ∷ set_value (λ k. bytes_eq name (items k)) es w)) ≡ named items (e ∷ es)
+        by true found more = let is : e.1 ≡ v = cc (found) in ap (λ (u : OpenView A). (items e.0, u) ∷ named items es) (same ∙ sym is)
+        by false found more = ap (λ (l : List (List ℕ × OpenView A)). (items e.0, e.1) ∷ l) (more found)
+
+    -- no view has the name
+    pub absent-named : (es : List (K × OpenView A)) → lookup (λ k. bytes_eq name (items k)) es ≡ None → all_seen (named items es) ≡ with_current (all_seen (named items es)) name
+    absent-named [] none = refl
+    absent-named (e ∷ es) none = by (bytes_eq name (items e.0)) none (λ there. absent-named es there)
+      where
+        by : (b : Bool) → cond b (Some e.1) (lookup (λ k. bytes_eq name (items k)) es) ≡ None
+            → (lookup (λ k. bytes_eq name (items k)) es ≡ None → all_seen (named items es) ≡ with_current (all_seen (named items es)) name)
+            → (items e.0, seen e.1) ∷ all_seen (named items es) ≡ cond b ((items e.0, current (seen e.1)) ∷ all_seen (named items es)) ((items e.0, seen e.1) ∷ with_current (all_seen (named items es)) name)
+        by true none more = absurd (cc (none))
+        by false none more = ap (λ (l : List (List ℕ × Shown)). (items e.0, seen e.1) ∷ l) (more none)
+
+-- what stands under a name, as contracts see it
+pub seen-lookup : {A : Type 0} (name : List ℕ) (views : List (List ℕ × OpenView A)) → lookup (bytes_eq name) (all_seen views) ≡ option_map seen (lookup (bytes_eq name) views)
+seen-lookup name [] = refl
+seen-lookup {A} name (v ∷ views) = elim (bytes_eq name v.0) as (λ b. cond b (Some (seen v.1)) (lookup (bytes_eq name) (all_seen views)) ≡ option_map seen (cond b (Some v.1) (lookup (bytes_eq name) views))) [
+  | true ↦ refl
+  | false ↦ seen-lookup name views
+]
+
+-- the entry at a place of what a map is seen as
+pub named-at : {K V : Type 0} (items : K → List ℕ) (es : List (K × V)) (seen_as : List (List ℕ × V)) (i : ℕ) (o : Option (K × V))
+    → named items es ≡ seen_as → o ≡ slice_get es i → option_map (λ e. (items e.0, e.1)) o ≡ slice_get seen_as i
+named-at {K} {V} items es seen_as i o same is =
+    ap (option_map (λ e. (items e.0, e.1))) is ∙ sym (slice_get-map (λ e. (items e.0, e.1)) es i) ∙ ap (λ (l : List (List ℕ × V)). slice_get l i) same
+
+-- the same, at the place where the loop is
+pub stale-yes : {K A : Type 0} (items : K → List ℕ) (es : List (K × OpenView A)) (i : ℕ) (v : OpenView A) → slice_get (values_of es) i ≡ Some v → is_none v.state ≡ true
+    → stale_count (all_seen (drop i (named items es))) ≡ 1 + stale_count (all_seen (drop (i + 1) (named items es)))
+stale-yes items es i v found is = stale-next items es i v found ∙ ap (λ (b : Bool). (if b then 1 else 0) + stale_count (all_seen (drop (i + 1) (named items es)))) is
+
+pub stale-no : {K A : Type 0} (items : K → List ℕ) (es : List (K × OpenView A)) (i : ℕ) (v : OpenView A) → slice_get (values_of es) i ≡ Some v → is_none v.state ≡ false
+    → stale_count (all_seen (drop i (named items es))) ≡ 0 + stale_count (all_seen (drop (i + 1) (named items es)))
+stale-no items es i v found is = stale-next items es i v found ∙ ap (λ (b : Bool). (if b then 1 else 0) + stale_count (all_seen (drop (i + 1) (named items es)))) is
+
+-- the view of a name, and the map in which it was written
+module _ {K A : Type 0} (items : K → List ℕ) (names : List (List ℕ)) (rows : List Row) (name : List ℕ) (es : List (K × OpenView A)) (old : List (List ℕ × OpenView A)) (same : named items es ≡ old) where
+  value-right : (P : OpenView A → Type 0) (es : List (K × OpenView A)) (v : OpenView A) → lookup (λ k. bytes_eq name (items k)) es ≡ Some v → AllByRecursion (λ e. P e.1) (named items es) → P v
+  value-right P [] v found all = absurd (cc (found))
+  value-right P (e ∷ es) v found all = by (bytes_eq name (items e.0)) found (λ there. value-right P es v there all.1)
+    where
+      by : (b : Bool) → cond b (Some e.1) (lookup (λ k. bytes_eq name (items k)) es) ≡ Some v → (lookup (λ k. bytes_eq name (items k)) es ≡ Some v → P v) → P v
+      by true found more = let is : e.1 ≡ v = cc (found) in subst P is all.0
+      by false found more = more found
+
+  pub named-right : (v : OpenView A) → Some v ≡ lookup (λ k. bytes_eq name (items k)) es → AreRight old names rows → IsCurrentRight v names rows
+  named-right v found right = value-right (λ u. IsCurrentRight u names rows) es v (sym found) (subst (λ (l : List (List ℕ × OpenView A)). AreRight l names rows) (sym same) right)
+
+  pub named-refreshed : (es2 : List (K × OpenView A)) (v w : OpenView A) → Some v ≡ lookup (λ k. bytes_eq name (items k)) es → es2 ≡ set_value (λ k. bytes_eq name (items k)) es w → IsRefreshed names rows v w → AreRight old names rows
+      → (all_seen (named items es2) ≡ with_current (all_seen old) name) × AreRight (named items es2) names rows
+  named-refreshed es2 v w found is one right =
+      let both = refresh-named items names rows old name es v w (sym found) one (subst (λ (l : List (List ℕ × OpenView A)). AreRight l names rows) (sym same) right) in (
+        ap (λ (l : List (K × OpenView A)). all_seen (named items l)) is ∙ both.0 ∙ ap (λ (l : List (List ℕ × OpenView A)). with_current (all_seen l) name) same,
+        subst (λ (l : List (K × OpenView A)). AreRight (named items l) names rows) (sym is) both.1,
+      )
+
+  pub named-refused : (es2 : List (K × OpenView A)) (v w : OpenView A) → Some v ≡ lookup (λ k. bytes_eq name (items k)) es → es2 ≡ set_value (λ k. bytes_eq name (items k)) es w → w ≡ v → named items es2 ≡ old
+  named-refused es2 v w found is kept = ap (named items) is ∙ refused-named items names rows old name es v w (sym found) kept ∙ same
+
+  pub named-absent : None ≡ lookup (λ k. bytes_eq name (items k)) es → all_seen old ≡ with_current (all_seen old) name
+  named-absent none = subst (λ (l : List (List ℕ × OpenView A)). all_seen l ≡ with_current (all_seen l) name) same (absent-named items names rows old name es (sym none))
+
+  pub named-stale : (v : OpenView A) → Some v ≡ lookup (λ k. bytes_eq name (items k)) es → (seen v).stale ≡ true → IfSome (lookup (bytes_eq name) (all_seen old)) (λ u. u.stale ≡ true)
+  named-stale v found stale =
+      let at : Some (seen v) ≡ lookup (bytes_eq name) (all_seen old) =
+      ap (option_map seen) (found ∙ lookup-is items name es ∙ ap (lookup (bytes_eq name)) same) ∙ sym (seen-lookup name old) in
+      subst (λ (o : Option Shown). IfSome o (λ u. u.stale ≡ true)) at stale
+
+-- what a look-up under a name gives, as contracts see it
+pub named-seen : {K A : Type 0} (items : K → List ℕ) (name : List ℕ) (es : List (K × OpenView A)) (old : List (List ℕ × OpenView A)) (o : Option (Bor (OpenView A)))
+    → named items es ≡ old → option_copied o ≡ lookup (λ k. bytes_eq name (items k)) es → option_map (λ v. seen v.now) o ≡ lookup (bytes_eq name) (all_seen old)
+named-seen {K} {A} items name es old o same found =
+    copied o ∙ ap (option_map seen) (found ∙ lookup-is items name es ∙ ap (lookup (bytes_eq name)) same) ∙ sym (seen-lookup name old)
+  where
+    copied : (o : Option (Bor (OpenView A))) → option_map (λ v. seen v.now) o ≡ option_map seen (option_copied o)
+    copied None = refl
+    copied (Some v) = refl
+
+-- without the view of a name
+pub remove-seen : {A : Type 0} (name : List ℕ) (views : List (List ℕ × OpenView A)) → all_seen (remove_entry (bytes_eq name) views) ≡ remove_entry (bytes_eq name) (all_seen views)
+remove-seen name [] = refl
+remove-seen {A} name (v ∷ views) =
+    elim (bytes_eq name v.0) as (λ b. all_seen (cond b views (v ∷ remove_entry (bytes_eq name) views)) ≡ cond b (all_seen views) ((v.0, seen v.1) ∷ remove_entry (bytes_eq name) (all_seen views))) [
+      | true ↦ refl
+      | false ↦ ap (λ (l : List (List ℕ × Shown)). (v.0, seen v.1) ∷ l) (remove-seen name views)
+    ]
+
+pub remove-right : {A : Type 0} (name : List ℕ) (names : List (List ℕ)) (rows : List Row) (views : List (List ℕ × OpenView A)) → AreRight views names rows → AreRight (remove_entry (bytes_eq name) views) names rows
+remove-right name names rows [] right = tt
+remove-right {A} name names rows (v ∷ views) right =
+    elim (bytes_eq name v.0) as (λ b. AreRight (cond b views (v ∷ remove_entry (bytes_eq name) views)) names rows) [
+      | true ↦ right.1
+      | false ↦ (right.0, remove-right name names rows views right.1)
+    ]
+
+-- with one more
+pub push-right : {A : Type 0} (name : List ℕ) (names : List (List ℕ)) (rows : List Row) (views : List (List ℕ × OpenView A)) (v : OpenView A)
+    → AreRight views names rows → IsCurrentRight v names rows → AreRight (views ++ (name, v) ∷ []) names rows
+push-right name names rows views v right one = all-append (λ e. IsCurrentRight e.1 names rows) views ((name, v) ∷ []) right (one, tt)
+
+-- the view at a place of a list, and the view of a name
+pub right-at : {A : Type 0} (names : List (List ℕ)) (rows : List Row) (views : List (List ℕ × OpenView A)) (i : ℕ) (e : List ℕ × OpenView A) → slice_get views i ≡ Some e → AreRight views names rows → IsCurrentRight e.1 names rows
+right-at names rows [] i e found right = absurd (cc (found))
+right-at {A} names rows (v ∷ views) zero e found right = let is : v ≡ e = cc (found) in subst (λ (u : List ℕ × OpenView A). IsCurrentRight u.1 names rows) is right.0
+right-at names rows (v ∷ views) (suc i) e found right = right-at names rows views i e found right.1
+
+pub right-named : {A : Type 0} (name : List ℕ) (names : List (List ℕ)) (rows : List Row) (views : List (List ℕ × OpenView A)) (v : OpenView A) → lookup (bytes_eq name) views ≡ Some v → AreRight views names rows → IsCurrentRight v names rows
+right-named name names rows [] v found right = absurd (cc (found))
+right-named {A} name names rows (e ∷ views) v found right = by (bytes_eq name e.0) found (λ there. right-named name names rows views v there right.1)
+  where
+    by : (b : Bool) → cond b (Some e.1) (lookup (bytes_eq name) views) ≡ Some v → (lookup (bytes_eq name) views ≡ Some v → IsCurrentRight v names rows) → IsCurrentRight v names rows
+    by true found more = let is : e.1 ≡ v = cc (found) in subst (λ (u : OpenView A). IsCurrentRight u names rows) is right.0
+    by false found more = more found
+
+-- the view of a name that is made current
+pub current-named : (name : List ℕ) (views : List (List ℕ × Shown)) → lookup (bytes_eq name) (with_current views name) ≡ option_map current (lookup (bytes_eq name) views)
+current-named name [] = refl
+current-named name (v ∷ views) = by (bytes_eq name v.0) refl (current-named name views)
+  where
+    by : (b : Bool) → bytes_eq name v.0 ≡ b → lookup (bytes_eq name) (with_current views name) ≡ option_map current (lookup (bytes_eq name) views)
+        → lookup (bytes_eq name) (cond b ((v.0, current v.1) ∷ views) (v ∷ with_current views name)) ≡ option_map current (cond b (Some v.1) (lookup (bytes_eq name) views))
+    by true is more = ap (λ (b : Bool). cond b (Some (current v.1)) (lookup (bytes_eq name) views)) is
+    by false is more = ap (λ (b : Bool). cond b (Some v.1) (lookup (bytes_eq name) (with_current views name))) is ∙ more
+
+pub some-seen : {A : Type 0} (b : Bool) (o : Option (Bor (OpenView A))) (found : Option Shown) → b ≡ is_some o → option_map (λ v. seen v.now) o ≡ found → b ≡ is_some found
+some-seen {A} b o found is same = is ∙ by o ∙ ap is_some same
+  where
+    by : (o : Option (Bor (OpenView A))) → is_some o ≡ is_some (option_map (λ v. seen v.now) o)
+    by None = refl
+    by (Some v) = refl

@@ -1,0 +1,34 @@
+use Rattle.std.proofs.Common.{◌∙◌, ◌<◌, refl, ap, subst}
+use Rattle.std.proofs.lemmas.Result.{err_from_is_err_and}
+use Rattle.iv_state.specs.Keeping.{all_seen}
+use Rattle.iv_state.specs.OpenViews.{Stales, stale_count}
+use Rattle.iv_state.specs.States.{State}
+use Rattle.iv_state.specs.Views.{all_text}
+use Rattle.iv_state.proofs.PrintLemmas.{all-fresh, now-all_printed, same-all_text, Takes-text, FailsIn-text}
+use Rattle.iv_state.proofs.session.Session.print_all.Goals as goal
+
+pub returns-in_err-refresh_all : goal.returns-in_err-refresh_all
+returns-in_err-refresh_all g c =
+    let p = err_from_is_err_and c.from_residual.result c.from_residual.ensures.1 in
+    let more = all_seen c.refresh_all.new.self in
+    rw (p.1, p.2) (
+      subst (λ (s : State). 0 < stale_count s.views) c.self.view_is c.in_err-refresh_all.ensures.stale,
+      refl,
+      (ap (λ (s : State). record s { views = more }) c.self.view_is, subst (λ (s : State). Stales more s.views) c.self.view_is c.in_err-refresh_all.ensures.err),
+    )
+
+pub put_all-requires : goal.put_all-requires
+put_all-requires g c = all-fresh (all_seen c.self.inside.views) (all_seen c.refresh_all.new.self) c.in_ok-refresh_all.ensures.ok
+
+pub returns-in_err-put_all : goal.returns-in_err-put_all
+returns-in_err-put_all g c =
+    let p = err_from_is_err_and c.from_residual-in_err-put_all.result c.from_residual-in_err-put_all.ensures.1 in
+    let inside = c.self.inside in
+    let new = now-all_printed inside.genome inside.track (all_seen inside.views) (all_seen c.refresh_all.new.self) c.args.self.now c.self.view_is c.in_ok-refresh_all.ensures.ok in
+    rw (p.1, p.2) (FailsIn-text _ _ _ _ (ap all_text new ∙ same-all_text c.args.self.now) c.in_err-put_all.ensures, new)
+
+pub returns : goal.returns
+returns g c =
+    let inside = c.self.inside in
+    let new = now-all_printed inside.genome inside.track (all_seen inside.views) (all_seen c.refresh_all.new.self) c.args.self.now c.self.view_is c.in_ok-refresh_all.ensures.ok in
+    (Takes-text _ _ _ _ (ap all_text new ∙ same-all_text c.args.self.now) c.in_ok-put_all.ensures, new)

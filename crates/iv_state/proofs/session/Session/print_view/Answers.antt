@@ -1,0 +1,62 @@
+use Rattle.std.proofs.Common.{◌≡◌, ◌∙◌, true, refl, ap, sym}
+use Rattle.std.proofs.lemmas.Result.{err_from_is_err_and}
+use Rattle.iv_text.specs.Named.{names_of}
+use Rattle.iv_state.specs.Keeping.{seen}
+use Rattle.iv_state.specs.Keeping.{all_seen}
+use Rattle.iv_state.specs.States.{State}
+use Rattle.iv_state.specs.Views.{view_named}
+use Rattle.iv_state.proofs.OpenViewLemmas.{right-named}
+use Rattle.iv_state.proofs.PrintLemmas.{match-none, match-some, if-some, found-again, found-not, same-text, now-printed, Takes-text, FailsIn-text}
+use Rattle.iv_state.proofs.SessionLemmas.{state_of}
+use Rattle.iv_state.proofs.session.Session.print_view.Goals as goal
+
+pub returns-in_default : goal.returns-in_default
+returns-in_default g c =
+    match-none _ _ _ (c.in_default.ensures.seen ∙ ap (λ (s : State). view_named s.views c.args.name.now) c.self.view_is) (refl, refl, refl)
+
+pub returns-in_err-refresh : goal.returns-in_err-refresh
+returns-in_err-refresh g c =
+    let p = err_from_is_err_and c.from_residual.result c.from_residual.ensures.1 in
+    let inside = c.self.inside in
+    let stale = if-some _ (λ v. v.stale ≡ true) (seen c.in-Some.field-0.now) c.in-Some.ensures.seen c.in_err-refresh.ensures.stale in
+    let same = ap (λ views. state_of inside.genome inside.track (all_seen views)) c.in_err-refresh.ensures.err ∙ c.self.view_is in
+    rw (p.1, p.2)
+    (match-some _ _ _ (seen c.in-Some.field-0.now) (c.in-Some.ensures.seen ∙ ap (λ (s : State). view_named s.views c.args.name.now) c.self.view_is) (stale, refl, same))
+
+pub unreachable-requires : goal.unreachable-requires
+unreachable-requires g c =
+    found-not c.args.name.now (all_seen c.self.inside.views) (all_seen c.refresh.new.self) _ c.in-Some.ensures.seen c.in_ok-refresh.ensures.ok c.in_default-find.ensures.seen
+
+pub print-requires-clause-current : goal.print-requires-clause-current
+print-requires-clause-current g c =
+    ap (λ w. w.stale)
+    (found-again c.args.name.now (all_seen c.self.inside.views) (all_seen c.refresh.new.self) (seen c.in-Some.field-0.now) (seen c.in-Some-find.view.now)
+    c.in-Some.ensures.seen c.in_ok-refresh.ensures.ok c.in-Some-find.ensures.seen)
+
+pub print-requires-clause-right : goal.print-requires-clause-right
+print-requires-clause-right g c =
+    right-named c.args.name.now (names_of c.self.inside.genome) c.self.inside.track.rows c.refresh.new.self c.in-Some-find.view.now (sym c.in-Some-find.ensures.value) c.refresh.ensures.right
+
+pub returns-in_err-print : goal.returns-in_err-print
+returns-in_err-print g c =
+    let p = err_from_is_err_and c.from_residual-in_err-print.result c.from_residual-in_err-print.ensures.1 in
+    let inside = c.self.inside in
+    let v = seen c.in-Some.field-0.now in
+    let again = found-again c.args.name.now (all_seen inside.views) (all_seen c.refresh.new.self) v (seen c.in-Some-find.view.now)
+    c.in-Some.ensures.seen c.in_ok-refresh.ensures.ok c.in-Some-find.ensures.seen in
+    let text = same-text inside.genome inside.track (all_seen inside.views) c.args.self.now v (seen c.in-Some-find.view.now) c.self.view_is again in
+    let put = FailsIn-text _ _ _ _ text c.in_err-print.ensures in
+    rw (p.1, p.2)
+    (match-some _ _ _ v (c.in-Some.ensures.seen ∙ ap (λ (s : State). view_named s.views c.args.name.now) c.self.view_is)
+    (put, now-printed inside.genome inside.track (all_seen inside.views) (all_seen c.refresh.new.self) c.args.self.now c.args.name.now c.self.view_is c.in_ok-refresh.ensures.ok))
+
+pub returns : goal.returns
+returns g c =
+    let inside = c.self.inside in
+    let v = seen c.in-Some.field-0.now in
+    let again = found-again c.args.name.now (all_seen inside.views) (all_seen c.refresh.new.self) v (seen c.in-Some-find.view.now)
+    c.in-Some.ensures.seen c.in_ok-refresh.ensures.ok c.in-Some-find.ensures.seen in
+    let text = same-text inside.genome inside.track (all_seen inside.views) c.args.self.now v (seen c.in-Some-find.view.now) c.self.view_is again in
+    let put = Takes-text _ _ _ _ text c.in_ok-print.ensures in
+    match-some _ _ _ v (c.in-Some.ensures.seen ∙ ap (λ (s : State). view_named s.views c.args.name.now) c.self.view_is)
+    (put, now-printed inside.genome inside.track (all_seen inside.views) (all_seen c.refresh.new.self) c.args.self.now c.args.name.now c.self.view_is c.in_ok-refresh.ensures.ok)

@@ -1,0 +1,81 @@
+//! The state that is kept of a view, of whatever kind.
+ghost use Rattle.iv_view.specs.KeptStates.{shown_by, IsRight, repair_steps};
+ghost use Rattle.iv_view.specs.Views.{view_text};
+
+use crate::view::View;
+use iv_cover::{Kept, Merge};
+use iv_text::{Genome, RecordRef, Sink, WriteFault};
+use iv_track::{Meter, Track};
+use std::alloc::{AllocError, Allocator, Global};
+use std::marker::PhantomData;
+
+/// What is kept of a view, so that an edit of the track costs it little. Each kind hands on to its own state.
+#[derive(Drop)]
+pub enum KeptState<A: Allocator + Copy = Global> {
+    Merge(Merge, PhantomData<A>),
+}
+
+impl<A: Allocator + Copy> Kept<A> for KeptState<A> {
+    type Settings = View;
+
+    ghost built_for = { shown_by };
+
+    ghost suits = { λ _ _. Unit {0} };
+
+    ghost is_right = { IsRight };
+
+    ghost text = { view_text };
+
+    ghost repair_steps = { repair_steps };
+
+    fn build(
+        alloc: A,
+        view: View,
+        track: &Track<A>,
+        genome: &Genome<A>,
+        meter: &mut Meter,
+    ) -> Result<KeptState<A>, AllocError> {
+        match view {
+            View::Merge => {
+                let merge = Merge::build(alloc, 0, track, genome, meter)?;
+                Ok(KeptState::Merge(merge, PhantomData))
+            }
+        }
+    }
+
+    fn added(
+        &mut self,
+        track: &Track<A>,
+        genome: &Genome<A>,
+        row: &RecordRef<'_>,
+        meter: &mut Meter,
+    ) -> Result<(), AllocError> {
+        match self {
+            KeptState::Merge(merge, _) => merge.added(track, genome, row, meter),
+        }
+    }
+
+    fn removed(
+        &mut self,
+        track: &Track<A>,
+        genome: &Genome<A>,
+        row: &RecordRef<'_>,
+        meter: &mut Meter,
+    ) -> Result<(), AllocError> {
+        match self {
+            KeptState::Merge(merge, _) => merge.removed(track, genome, row, meter),
+        }
+    }
+
+    fn print<S: Sink>(
+        &self,
+        track: &Track<A>,
+        genome: &Genome<A>,
+        meter: &mut Meter,
+        sink: &mut S,
+    ) -> Result<(), WriteFault> {
+        match self {
+            KeptState::Merge(merge, _) => merge.print(track, genome, meter, sink),
+        }
+    }
+}

@@ -1,0 +1,230 @@
+//! Open views, while each growth of memory is refused in turn.
+use crate::fixtures::SIZES;
+use iv_state::{Accepted, EditFault, PrintFault, Session};
+use iv_text::{BedFile, Genome, MemSink};
+use iv_view::ViewFault;
+use refusing::RefusesNth;
+use std::alloc::Global;
+use std::test::Fail;
+
+/// The views that are open: the name and the words of each, and its text before the edits and after them.
+const VIEWS: [(&[u8], &[&[u8]], &[u8], &[u8]); 2] = [
+    (b"a", &[b"merge"], b"chr1\t0\t30\n", b"chr1\t20\t40\n"),
+    (b"b", &[b"merge"], b"chr1\t0\t30\n", b"chr1\t20\t40\n"),
+];
+
+/// What all views print after the edits.
+const ALL: &[u8] = b"#a\nchr1\t20\t40\n#b\nchr1\t20\t40\n";
+
+/// What is done to the session, each with the record of a line.
+const EDITS: [Edit; 3] = [
+    Edit::Add(b"chr1\t30\t40\tn"),
+    Edit::Replace(b"chr1\t0\t30\tn", b"chr1\t20\t25\tm"),
+    Edit::Remove(b"chr1\t10\t20\tn"),
+];
+
+/// An edit by the records of lines.
+#[derive(Clone, Copy, Debug)]
+enum Edit {
+    Add(&'static [u8]),
+    Remove(&'static [u8]),
+    Replace(&'static [u8], &'static [u8]),
+}
+
+/// The session of three records, unless memory is refused.
+fn session_of(alloc: &RefusesNth<Global>) -> Option<Session<&RefusesNth<Global>>> {
+    let text = b"chr1\t0\t30\tn\nchr1\t10\t20\tn\nchr1\t20\t30\tn\n";
+    let genome = Genome::parse(alloc, SIZES).ok()?;
+    let file = BedFile::parse(alloc, &genome, 4, 9, text).ok()?;
+    Session::new(alloc, genome, file, 9).ok()
+}
+
+/// How many of the views are not current.
+fn count_stale(session: &Session<&RefusesNth<Global>>) -> u32 {
+    let mut count = 0u32;
+    for (name, _, _, _) in VIEWS {
+        if !session.is_current(name) {
+            count = count.saturating_add(1);
+        }
+    }
+    count
+}
+
+/// Opens a view, whether or not memory is refused; then it isn't open. Whether it was refused.
+fn is_opening_refused(
+    session: &mut Session<&RefusesNth<Global>>,
+    name: &[u8],
+    words: &[&[u8]],
+) -> Result<bool, Fail> {
+    let before = count_stale(session);
+    match session.open_view(name, words) {
+        Ok(()) if session.is_current(name) => Ok(false),
+        Err(ViewFault::NoMemory) if count_stale(session) == before => Ok(true),
+        _ => Err(Fail::new("another answer to an opening")),
+    }
+}
+
+/// What an edit answers.
+fn answer(
+    session: &mut Session<&RefusesNth<Global>>,
+    edit: Edit,
+) -> Result<Result<Accepted, EditFault>, Fail> {
+    Ok(match edit {
+        Edit::Add(line) => {
+            let row = session.read(line)?;
+            session.add(&row)
+        }
+        Edit::Remove(line) => {
+            let row = session.read(line)?;
+            session.remove(&row)
+        }
+        Edit::Replace(old, new) => {
+            let old = session.read(old)?;
+            let new = session.read(new)?;
+            session.replace(&old, &new)
+        }
+    })
+}
+
+/// Does an edit, and gives how many views are stale after it; `None` where memory is refused, and all is as before.
+fn stale_after(
+    session: &mut Session<&RefusesNth<Global>>,
+    edit: Edit,
+) -> Result<Option<u32>, Fail> {
+    let (len, stale) = (session.len(), count_stale(session));
+    match answer(session, edit)? {
+        Ok(done) if done.stale == count_stale(session) => Ok(Some(done.stale)),
+        Err(EditFault::NoMemory) if session.len() == len && count_stale(session) == stale => {
+            Ok(None)
+        }
+        _ => Err(Fail::new("another answer to an edit")),
+    }
+}
+
+/// Prints a view, or all, which must write this text or, where memory is refused, nothing. Whether it was refused.
+fn is_print_refused(
+    rt: &HostRuntime,
+    session: &mut Session<&RefusesNth<Global>>,
+    name: Option<&[u8]>,
+    want: &[u8],
+) -> Result<bool, Fail> {
+    let mut sink = MemSink::new(rt.alloc(), 99, 99)?;
+    let done = match name {
+        Some(name) => session.print_view(name, &mut sink),
+        None => session.print_all(&mut sink),
+    };
+    match done {
+        Ok(()) if sink.bytes() == want => Ok(false),
+        Err(PrintFault::NoMemory) if sink.bytes().is_empty() => Ok(true),
+        _ => Err(Fail::new("another print")),
+    }
+}
+
+/// Opens each view and prints it, each again where memory is refused. How often it was.
+fn refused_openings(
+    rt: &HostRuntime,
+    session: &mut Session<&RefusesNth<Global>>,
+) -> Result<u32, Fail> {
+    let mut refused = 0u32;
+    for (name, words, text, _) in VIEWS {
+        if is_opening_refused(session, name, words)? {
+            refused = refused.saturating_add(1);
+            if is_opening_refused(session, name, words)? {
+                return Err(Fail::new("refused twice"));
+            }
+        }
+        if is_print_refused(rt, session, Some(name), text)? {
+            return Err(Fail::new("a current view wants memory"));
+        }
+    }
+    Ok(refused)
+}
+
+/// Does each edit, again where memory is refused. How often it was, and the most views that were stale.
+fn refused_edits(session: &mut Session<&RefusesNth<Global>>) -> Result<(u32, u32), Fail> {
+    let mut refused = 0u32;
+    let mut most = 0u32;
+    for edit in EDITS {
+        let stale = match stale_after(session, edit)? {
+            Some(stale) => stale,
+            None => {
+                refused = refused.saturating_add(1);
+                stale_after(session, edit)?.ok_or("refused twice")?
+            }
+        };
+        most = most.max(stale);
+    }
+    Ok((refused, most))
+}
+
+/// Prints a view, or all, again where memory is refused. How often it was.
+fn refused_prints(
+    rt: &HostRuntime,
+    session: &mut Session<&RefusesNth<Global>>,
+    name: Option<&[u8]>,
+    want: &[u8],
+) -> Result<u32, Fail> {
+    if !is_print_refused(rt, session, name, want)? {
+        return Ok(0);
+    }
+    if is_print_refused(rt, session, name, want)? {
+        return Err(Fail::new("refused twice"));
+    }
+    Ok(1)
+}
+
+/// Opens the views, does the edits, and prints all views at once or each by itself. How many calls met the refusal,
+/// and the most views that were stale.
+fn refused_calls(
+    rt: &HostRuntime,
+    alloc: &RefusesNth<Global>,
+    at_once: bool,
+) -> Result<(u32, u32), Fail> {
+    let (mut session, begun) = match session_of(alloc) {
+        Some(session) => (session, 0u32),
+        None => (session_of(alloc).ok_or("refused twice")?, 1),
+    };
+    let opened = refused_openings(rt, &mut session)?;
+    let (edited, stale) = refused_edits(&mut session)?;
+    let mut printed = 0u32;
+    if at_once {
+        printed = refused_prints(rt, &mut session, None, ALL)?;
+    }
+    for (name, _, _, text) in VIEWS {
+        printed = printed.saturating_add(refused_prints(rt, &mut session, Some(name), text)?);
+    }
+    if count_stale(&session) > 0 {
+        return Err(Fail::new("stale behind its print"));
+    }
+    let refused = begun.saturating_add(opened).saturating_add(edited);
+    Ok((refused.saturating_add(printed), stale))
+}
+
+/// Refuses each growth in turn, until none is refused any more. How many calls met the refusal, and the most views
+/// that were stale.
+fn refused_in_turn(rt: &HostRuntime, at_once: bool) -> Result<(u32, u32), Fail> {
+    let mut refused = 0u32;
+    let mut most = 0u32;
+    for number in 1..10_000u64 {
+        let alloc = RefusesNth::new(rt.alloc(), number);
+        let (met, stale) = refused_calls(rt, &alloc, at_once)?;
+        refused = refused.saturating_add(met);
+        most = most.max(stale);
+        if !alloc.has_refused() {
+            return Ok((refused, most));
+        }
+    }
+    Err(Fail::new("refused without end"))
+}
+
+#[test]
+fn views_under_refused_growths(rt: HostRuntime) -> Result<(), Fail> {
+    for at_once in [false, true] {
+        let (refused, stale) = refused_in_turn(&rt, at_once)?;
+        assert!(rt;
+            refused > 0 && stale == 0,
+            "{refused} refused, {stale} stale"
+        );
+    }
+    Ok(())
+}
