@@ -3,3 +3,5 @@ pub mod TrackBlocks
 pub mod CoverRows
 pub mod Coming
 pub mod BlockLaws
+pub mod Runs
+pub mod Depth
