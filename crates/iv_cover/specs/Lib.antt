@@ -5,3 +5,4 @@ pub mod Coming
 pub mod BlockLaws
 pub mod Runs
 pub mod Depth
+pub mod Kept

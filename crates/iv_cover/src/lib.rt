@@ -3,13 +3,15 @@
 
 mod block;
 mod blocks;
+mod kept;
 mod laws;
 mod merge;
 
 pub use block::Block;
 pub use blocks::Blocks;
+pub use kept::Kept;
 pub use laws::{
     blocks_start_after_gaps, blocks_stop_with_their_last_record, gaps_part_blocks,
     records_belong_to_one_block, runs_are_the_tiling,
 };
-pub use merge::put_merge;
+pub use merge::{Merge, put_merge};

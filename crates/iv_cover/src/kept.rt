@@ -1,0 +1,88 @@
+//! States that are kept under edits.
+ghost use Rattle.std.specs.Prelude.{◌≡◌, ℕ, List, All, IfOk, OnOk};
+ghost use Rattle.iv_text.specs.Genome.{Sequences};
+ghost use Rattle.iv_text.specs.Named.{names_of};
+ghost use Rattle.iv_text.specs.Ordered.{added as with_one};
+ghost use Rattle.iv_text.specs.Read.{Fits};
+ghost use Rattle.iv_text.specs.Row.{Row};
+ghost use Rattle.iv_bytes.specs.Sinks.{Puts};
+ghost use Rattle.iv_track.specs.Steps.{TakesUpTo};
+ghost use Rattle.iv_cover.specs.Kept.{IsRightWithout};
+
+use iv_text::{Genome, RecordRef, Sink, WriteFault};
+use iv_track::{Meter, Track};
+use std::alloc::{AllocError, Allocator};
+
+/// What is kept of a view, so that an edit of the track costs it little.
+///
+/// The records of the track, and the one that is added or removed, fit the genome throughout. The genome may be
+/// another one at each call, as long as its names are those at `build`.
+pub trait Kept<A: Allocator + Copy> {
+    type Settings;
+
+    /// What the state was built for.
+    ghost built_for: { Self → Self.Settings };
+    /// Whether settings serve a track of this width.
+    ghost suits: { Self.Settings → ℕ → Type 0 };
+    /// Whether the state is right for a genome of these names and these records in order.
+    ghost is_right: { Self → List (List ℕ) → List Row → Type 0 };
+    /// What a view of these settings prints.
+    ghost text: { Self.Settings → Sequences → List Row → List ℕ };
+    /// How many steps a repair takes at most, with the record among the records.
+    ghost repair_steps: { Self.Settings → List Row → Row → ℕ };
+
+    /// The state for a track as it is.
+    fn build(
+        alloc: A,
+        settings: Self::Settings,
+        track: &Track<A>,
+        genome: &Genome<A>,
+        meter: &mut Meter,
+    ) -> Result<Self, AllocError>
+        requires suits { suits settings track.now.width }
+        requires fit { All (Fits genome.now track.now.width) track.now.rows }
+        ensures right { IfOk result (λ s. is_right s (names_of genome.now) track.now.rows) }
+        ensures built_for { IfOk result (λ s. built_for s ≡ settings) };
+
+    /// Repairs the state after the record was added to the track. After a refusal it has to be built anew.
+    fn added(
+        &mut self,
+        track: &Track<A>,
+        genome: &Genome<A>,
+        row: &RecordRef<'_>,
+        meter: &mut Meter,
+    ) -> Result<(), AllocError>
+        requires right { IsRightWithout (λ s rows. is_right s (names_of genome.now) rows) self.old track.now.rows row.now }
+        requires fit { All (Fits genome.now track.now.width) track.now.rows }
+        requires fits { Fits genome.now track.now.width row.now }
+        ensures right { OnOk result (is_right self.new (names_of genome.now) track.now.rows) }
+        ensures built_for { OnOk result (built_for self.new ≡ built_for self.old) }
+        ensures steps { TakesUpTo meter.old meter.new (repair_steps (built_for self.old) track.now.rows row.now) };
+
+    /// Repairs the state after one copy of the record was taken out of the track. After a refusal it has to be built anew.
+    fn removed(
+        &mut self,
+        track: &Track<A>,
+        genome: &Genome<A>,
+        row: &RecordRef<'_>,
+        meter: &mut Meter,
+    ) -> Result<(), AllocError>
+        requires right { is_right self.old (names_of genome.now) (with_one track.now.rows row.now) }
+        requires fit { All (Fits genome.now track.now.width) track.now.rows }
+        requires fits { Fits genome.now track.now.width row.now }
+        ensures right { OnOk result (is_right self.new (names_of genome.now) track.now.rows) }
+        ensures built_for { OnOk result (built_for self.new ≡ built_for self.old) }
+        ensures steps { TakesUpTo meter.old meter.new (repair_steps (built_for self.old) (with_one track.now.rows row.now) row.now) };
+
+    /// Prints the view. It takes no memory; on a fault the sink has taken a prefix of the text.
+    fn print<S: Sink>(
+        &self,
+        track: &Track<A>,
+        genome: &Genome<A>,
+        meter: &mut Meter,
+        sink: &mut S,
+    ) -> Result<(), WriteFault>
+        requires right { is_right self.now (names_of genome.now) track.now.rows }
+        requires fit { All (Fits genome.now track.now.width) track.now.rows }
+        ensures { Puts (S.state sink.old) (S.state sink.new) result (text (built_for self.now) genome.now track.now.rows) };
+}
