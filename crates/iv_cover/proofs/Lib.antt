@@ -9,3 +9,4 @@ pub mod Comings
 pub mod Meanings
 pub mod Examples
 pub mod BlockLemmas
+pub mod RunsLemmas

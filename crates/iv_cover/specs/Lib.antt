@@ -3,4 +3,6 @@ pub mod TrackBlocks
 pub mod CoverRows
 pub mod Coming
 pub mod BlockLaws
+pub mod Runs
+pub mod Depth
 pub mod Kept

@@ -12,6 +12,6 @@ pub use blocks::Blocks;
 pub use kept::Kept;
 pub use laws::{
     blocks_start_after_gaps, blocks_stop_with_their_last_record, gaps_part_blocks,
-    records_belong_to_one_block,
+    records_belong_to_one_block, runs_are_the_tiling,
 };
 pub use merge::{Merge, put_merge};

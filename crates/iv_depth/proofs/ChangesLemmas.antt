@@ -1,0 +1,266 @@
+-- Net changes under an edit.
+use Rattle.std.proofs.Common.{◌≡◌, ◌≢◌, All, sym, ap, ◌∙◌, ℕ, ◌+◌, ◌<◌, ◌≤◌, List, [], ◌∷◌, ◌⊎◌, refl, arith, leb, ltb, eqb, true, false, Bool, ◌&&◌, cond, Ordering, Less, Equal, Greater, nat_cmp, Some, None, inl, inr, Result, Ok, Err, Option, OnOk, IfErr}
+use Rattle.std.specs.Prelude.{ℤ, pos, negsuc, ◌+ℤ◌, if◌then◌else◌}
+use Rattle.std.proofs.lemmas.Int.{ints}
+use Rattle.std.proofs.lemmas.Bool.{cases_lt, lt-leb, le-leb, lt-ltb, le-ltb, false≢true}
+use Rattle.std.proofs.lemmas.List.Sums.{sum_by-cons}
+use Rattle.iv_text.specs.Row.{Row}
+use Rattle.iv_cover.specs.Depth.{covers, depth}
+use Rattle.std.specs.Map.{lookup, remove_entry, set_value, values_of}
+use Rattle.std.specs.Cmp.{IsTotalOrder}
+use Rattle.std.specs.List.Sorted.{IsStrictlySortedBy}
+use Rattle.std.proofs.lemmas.Cmp.{ranked, nat_cmp_total, then_total, on_total}
+use Rattle.std.proofs.lemmas.Map.{lookup-none}
+use Rattle.std.proofs.lemmas.Map.Entries.{none_below_head}
+use Rattle.std.proofs.lemmas.List.Elements.{All-head, All-tail, All-cons}
+use Rattle.std.proofs.lemmas.Map.Views.{All-values-insert_entry, All-values-set_value}
+use Rattle.std.specs.BTreeMap.{is_at, insert_entry}
+use Rattle.iv_track.specs.Entries.{IsLedger, value_at}
+use Rattle.iv_depth.specs.Changes.{Place, Entries, place_cmp, total, reaches, AreChangesOf, Bumps}
+
+module _ {K : Type 0} (passes : K → Bool) where
+  -- a new entry
+  pub total-insert_entry : (cmp : K → K → Ordering) (entries : List (K × ℤ)) (k : K) (z : ℤ)
+      → lookup (is_at (cmp k)) entries ≡ None
+      → total passes (insert_entry cmp entries k z) ≡ total passes entries +ℤ (if passes k then z else pos 0)
+  total-insert_entry cmp [] k z absent = omega (arith, ints)
+  total-insert_entry cmp (e ∷ entries) k z absent = go (λ none. total-insert_entry cmp entries k z none) (cmp k e.0) refl
+    where
+      go : (lookup (is_at (cmp k)) entries ≡ None → total passes (insert_entry cmp entries k z) ≡ total passes entries +ℤ (if passes k then z else pos 0))
+          → (o : Ordering) → cmp k e.0 ≡ o
+          → total passes (insert_entry cmp (e ∷ entries) k z) ≡ total passes (e ∷ entries) +ℤ (if passes k then z else pos 0)
+      go further Less is = rw is (omega (arith, ints))
+      go further Equal is = let none : Some e.1 ≡ None = rw is at absent in cc
+      go further Greater is =
+          let rest = further (rw is at absent) in
+          rw is (omega (arith, ints, rest))
+
+  pub total-set_value : (test : K → Bool) (entries : List (K × ℤ)) (k : K) (old new : ℤ)
+      → ((x : K) → test x ≡ true → x ≡ k)
+      → lookup test entries ≡ Some old
+      → total passes (set_value test entries new) +ℤ (if passes k then old else pos 0) ≡ total passes entries +ℤ (if passes k then new else pos 0)
+  total-set_value test [] k old new same found = cc
+  total-set_value test (e ∷ entries) k old new same found = go (λ there. total-set_value test entries k old new same there) (test e.0) refl
+    where
+      go : (lookup test entries ≡ Some old → total passes (set_value test entries new) +ℤ (if passes k then old else pos 0)
+          ≡ total passes entries +ℤ (if passes k then new else pos 0))
+          → (b : Bool) → test e.0 ≡ b
+          → total passes (set_value test (e ∷ entries) new) +ℤ (if passes k then old else pos 0)
+          ≡ total passes (e ∷ entries) +ℤ (if passes k then new else pos 0)
+      go further true is =
+          let here : Some e.1 ≡ Some old = rw is at found in
+          let value : e.1 ≡ old = cc in
+          rw (is, value, same e.0 is) (omega (arith, ints))
+      go further false is =
+          let rest = further (rw is at found) in
+          rw is (omega (arith, ints, rest))
+
+  pub total-remove_entry : (test : K → Bool) (entries : List (K × ℤ)) (k : K) (old : ℤ)
+      → ((x : K) → test x ≡ true → x ≡ k)
+      → lookup test entries ≡ Some old
+      → total passes (remove_entry test entries) +ℤ (if passes k then old else pos 0) ≡ total passes entries
+  total-remove_entry test [] k old same found = cc
+  total-remove_entry test (e ∷ entries) k old same found = go (λ there. total-remove_entry test entries k old same there) (test e.0) refl
+    where
+      go : (lookup test entries ≡ Some old → total passes (remove_entry test entries) +ℤ (if passes k then old else pos 0) ≡ total passes entries)
+          → (b : Bool) → test e.0 ≡ b
+          → total passes (remove_entry test (e ∷ entries)) +ℤ (if passes k then old else pos 0) ≡ total passes (e ∷ entries)
+      go further true is =
+          let here : Some e.1 ≡ Some old = rw is at found in
+          let value : e.1 ≡ old = cc in
+          rw (is, value, same e.0 is) (omega (arith, ints))
+      go further false is =
+          let rest = further (rw is at found) in
+          rw is (omega (arith, ints, rest))
+
+-- a record reaches from its start on, and no more from its stop on
+reaches-covers : (r : Row) (rank p : ℕ) → r.start < r.stop
+    → (if reaches rank p (r.seq, r.start) then pos 1 else pos 0)
+    ≡ (if reaches rank p (r.seq, r.stop) then pos 1 else pos 0) +ℤ pos (cond (covers rank p r) 1 0)
+reaches-covers r rank p h = go (eqb r.seq rank) (cases_lt p r.start) (cases_lt p r.stop)
+  where
+    go : (on_s : Bool) → (p < r.start) ⊎ (r.start ≤ p) → (p < r.stop) ⊎ (r.stop ≤ p)
+        → (if on_s && leb r.start p then pos 1 else pos 0)
+        ≡ (if on_s && leb r.stop p then pos 1 else pos 0) +ℤ pos (cond (on_s && (leb r.start p && ltb p r.stop)) 1 0)
+    go false a b = refl
+    go true (inl before) b = rw (lt-leb r.start p before, lt-leb r.stop p (omega arith)) refl
+    go true (inr since) (inl within) = rw (le-leb r.start p since, lt-leb r.stop p within, lt-ltb p r.stop within) refl
+    go true (inr since) (inr past) = rw (le-leb r.start p since, le-leb r.stop p past, le-ltb p r.stop past) refl
+
+pub depth-cons : (r : Row) (records : List Row) (rank p : ℕ) → depth (r ∷ records) rank p ≡ cond (covers rank p r) 1 0 + depth records rank p
+depth-cons r records rank p = sum_by-cons (λ x. cond (covers rank p x) 1 0) r records
+
+cancels : (b : Bool) → (if b then negsuc 0 else pos 0) +ℤ (if b then pos 1 else pos 0) ≡ pos 0
+cancels true = refl
+cancels false = refl
+
+-- one more record: one more from its start on, one less from its stop on
+pub AreChangesOf-added : (r : Row) (records : List Row) (entries between after : Entries) → r.start < r.stop
+    → AreChangesOf records entries
+    → Bumps entries between (r.seq, r.start) (pos 1) → Bumps between after (r.seq, r.stop) (negsuc 0)
+    → AreChangesOf (r ∷ records) after
+AreChangesOf-added r records entries between after h old first second = record {
+  ordered = second.ordered;
+  changes = second.changes (first.changes old.changes);
+  depths = λ rank p.
+      let e = reaches-covers r rank p h in
+      let d = depth-cons r records rank p in
+      let minus : (if reaches rank p (r.seq, r.stop) then negsuc 0 else pos 0) +ℤ (if reaches rank p (r.seq, r.stop) then pos 1 else pos 0) ≡ pos 0
+      = cancels (reaches rank p (r.seq, r.stop)) in
+      omega (arith, ints, old.depths rank p, first.sums (reaches rank p), second.sums (reaches rank p), e, d, minus);
+}
+
+-- and one record less
+pub AreChangesOf-removed : (r : Row) (records : List Row) (entries between after : Entries) → r.start < r.stop
+    → AreChangesOf (r ∷ records) entries
+    → Bumps entries between (r.seq, r.start) (negsuc 0) → Bumps between after (r.seq, r.stop) (pos 1)
+    → AreChangesOf records after
+AreChangesOf-removed r records entries between after h old first second = record {
+  ordered = second.ordered;
+  changes = second.changes (first.changes old.changes);
+  depths = λ rank p.
+      let e = reaches-covers r rank p h in
+      let d = depth-cons r records rank p in
+      let minus : (if reaches rank p (r.seq, r.start) then negsuc 0 else pos 0) +ℤ (if reaches rank p (r.seq, r.start) then pos 1 else pos 0) ≡ pos 0
+      = cancels (reaches rank p (r.seq, r.start)) in
+      omega (arith, ints, old.depths rank p, first.sums (reaches rank p), second.sums (reaches rank p), e, d, minus);
+}
+
+-- only equal places tie
+pub place-same : (k x : Place) → is_at (place_cmp k) x ≡ true → x ≡ k
+place-same k x tie = go (nat_cmp k.0 x.0) refl (nat_cmp k.1 x.1) refl
+  where
+    go : (o : Ordering) → nat_cmp k.0 x.0 ≡ o → (o' : Ordering) → nat_cmp k.1 x.1 ≡ o' → x ≡ k
+    go Equal is Equal is' =
+        let rank : k.0 ≡ x.0 = ranked k.0 x.0 Equal (sym is) in
+        let position : k.1 ≡ x.1 = ranked k.1 x.1 Equal (sym is') in
+        rw (rank, position) refl
+    go Equal is Less is' = absurd (false≢true (rw (is, is') at tie))
+    go Equal is Greater is' = absurd (false≢true (rw (is, is') at tie))
+    go Less is o' is' = absurd (false≢true (rw is at tie))
+    go Greater is o' is' = absurd (false≢true (rw is at tie))
+
+All-values-remove_entry : {K : Type 0} (test : K → Bool) (P : ℤ → Type 0) (entries : List (K × ℤ)) → All P (values_of entries) → All P (values_of (remove_entry test entries))
+All-values-remove_entry test P [] all = all
+All-values-remove_entry test P (e ∷ entries) all = go (All-values-remove_entry test P entries (All-tail P e.1 (values_of entries) all)) (test e.0) refl
+  where
+    go : All P (values_of (remove_entry test entries)) → (b : Bool) → test e.0 ≡ b → All P (values_of (remove_entry test (e ∷ entries)))
+    go rest true is = rw is (All-tail P e.1 (values_of entries) all)
+    go rest false is = rw is (All-cons P e.1 (values_of (remove_entry test entries)) (All-head P e.1 (values_of entries) all) rest)
+
+-- a place without a change gets one
+pub Bumps-insert_entry : (entries : Entries) (place : Place) (by : ℤ) → lookup (is_at (place_cmp place)) entries ≡ None
+    → by ≢ pos 0 → IsLedger place_cmp (insert_entry place_cmp entries place by) → Bumps entries (insert_entry place_cmp entries place by) place by
+Bumps-insert_entry entries place by absent other ordered = record {
+  ordered = ordered;
+  sums = λ passes. total-insert_entry passes place_cmp entries place by absent;
+  changes = λ all. All-values-insert_entry place_cmp place by (λ (z : ℤ). z ≢ pos 0) entries all other;
+}
+
+-- a change that becomes 0 is taken out
+pub Bumps-remove_entry : (entries : Entries) (place : Place) (old by : ℤ) → lookup (is_at (place_cmp place)) entries ≡ Some old
+    → old +ℤ by ≡ pos 0 → IsLedger place_cmp (remove_entry (is_at (place_cmp place)) entries)
+    → Bumps entries (remove_entry (is_at (place_cmp place)) entries) place by
+Bumps-remove_entry entries place old by found none ordered = record {
+  ordered = ordered;
+  sums = λ passes. sums _ (total passes entries) (passes place) (total-remove_entry passes (is_at (place_cmp place)) entries place old (place-same place) found);
+  changes = All-values-remove_entry (is_at (place_cmp place)) (λ (z : ℤ). z ≢ pos 0) entries;
+}
+  where
+    sums : (a b : ℤ) (here : Bool) → a +ℤ (if here then old else pos 0) ≡ b → a ≡ b +ℤ (if here then by else pos 0)
+    sums a b true e = omega (arith, ints, none)
+    sums a b false e = omega (arith, ints)
+
+-- another change is set
+pub Bumps-set_value : (entries : Entries) (place : Place) (old by : ℤ) → lookup (is_at (place_cmp place)) entries ≡ Some old
+    → old +ℤ by ≢ pos 0 → IsLedger place_cmp (set_value (is_at (place_cmp place)) entries (old +ℤ by))
+    → Bumps entries (set_value (is_at (place_cmp place)) entries (old +ℤ by)) place by
+Bumps-set_value entries place old by found other ordered = record {
+  ordered = ordered;
+  sums = λ passes. sums _ (total passes entries) (passes place) (total-set_value passes (is_at (place_cmp place)) entries place old (old +ℤ by) (place-same place) found);
+  changes = λ all. All-values-set_value (is_at (place_cmp place)) (λ (z : ℤ). z ≢ pos 0) entries (old +ℤ by) all other;
+}
+  where
+    sums : (a b : ℤ) (here : Bool) → a +ℤ (if here then old else pos 0) ≡ b +ℤ (if here then old +ℤ by else pos 0) → a ≡ b +ℤ (if here then by else pos 0)
+    sums a b true e = omega (arith, ints)
+    sums a b false e = omega (arith, ints)
+
+pub place_total : IsTotalOrder place_cmp
+place_total = then_total (on_total (λ (p : Place). p.0) nat_cmp_total) (on_total (λ (p : Place). p.1) nat_cmp_total)
+
+-- ---- a change that is put where one is, and then taken out or set
+
+module _ {K : Type 0} (cmp : K → K → Ordering) (total_order : IsTotalOrder cmp) where
+  -- what is put at a key that is there takes the place of its value
+  insert_entry-found : (entries : List (K × ℤ)) (k : K) (old new : ℤ) → IsLedger cmp entries → lookup (is_at (cmp k)) entries ≡ Some old
+      → insert_entry cmp entries k new ≡ set_value (is_at (cmp k)) entries new
+  unfolding IsStrictlySortedBy
+  insert_entry-found [] k old new sorted found = cc
+  insert_entry-found (e ∷ entries) k old new sorted found = go (λ there. insert_entry-found entries k old new sorted.1 there) (cmp k e.0) refl
+    where
+      go : (lookup (is_at (cmp k)) entries ≡ Some old → insert_entry cmp entries k new ≡ set_value (is_at (cmp k)) entries new)
+          → (o : Ordering) → cmp k e.0 ≡ o → insert_entry cmp (e ∷ entries) k new ≡ set_value (is_at (cmp k)) (e ∷ entries) new
+      go further Less is =
+          let none : lookup (is_at (cmp k)) (e ∷ entries) ≡ None = lookup-none (is_at (cmp k)) (e ∷ entries) (none_below_head total_order k e entries sorted is) in
+          let never : Some old ≡ None = sym found ∙ none in
+          cc
+      go further Equal is = rw is refl
+      go further Greater is = rw is (ap (λ (l : List (K × ℤ)). e ∷ l) (further (rw is at found)))
+
+set_value-twice : {K : Type 0} (test : K → Bool) (entries : List (K × ℤ)) (a b : ℤ) → set_value test (set_value test entries a) b ≡ set_value test entries b
+set_value-twice test [] a b = refl
+set_value-twice test (e ∷ entries) a b = go (set_value-twice test entries a b) (test e.0) refl
+  where
+    go : set_value test (set_value test entries a) b ≡ set_value test entries b → (here : Bool) → test e.0 ≡ here
+        → set_value test (set_value test (e ∷ entries) a) b ≡ set_value test (e ∷ entries) b
+    go rest true is = rw (is, is) refl
+    go rest false is = rw (is, is, rest) refl
+
+remove_entry-set_value : {K : Type 0} (test : K → Bool) (entries : List (K × ℤ)) (a : ℤ) → remove_entry test (set_value test entries a) ≡ remove_entry test entries
+remove_entry-set_value test [] a = refl
+remove_entry-set_value test (e ∷ entries) a = go (remove_entry-set_value test entries a) (test e.0) refl
+  where
+    go : remove_entry test (set_value test entries a) ≡ remove_entry test entries → (here : Bool) → test e.0 ≡ here
+        → remove_entry test (set_value test (e ∷ entries) a) ≡ remove_entry test (e ∷ entries)
+    go rest true is = rw (is, is) refl
+    go rest false is = rw (is, is, rest) refl
+
+lookup-set : {K : Type 0} (test : K → Bool) (entries : List (K × ℤ)) (old new : ℤ) → lookup test entries ≡ Some old → lookup test (set_value test entries new) ≡ Some new
+lookup-set test [] old new found = cc
+lookup-set test (e ∷ entries) old new found = go (λ there. lookup-set test entries old new there) (test e.0) refl
+  where
+    go : (lookup test entries ≡ Some old → lookup test (set_value test entries new) ≡ Some new) → (here : Bool) → test e.0 ≡ here
+        → lookup test (set_value test (e ∷ entries) new) ≡ Some new
+    go further true is = rw (is, is) refl
+    go further false is = rw (is, is) (further (rw is at found))
+
+module _ (entries between after : Entries) (place : Place) (before by : ℤ) (ordered : IsLedger place_cmp entries)
+    (found : value_at place_cmp entries place ≡ Some before) (put : between ≡ insert_entry place_cmp entries place by) where
+  between-is : between ≡ set_value (is_at (place_cmp place)) entries by
+  between-is = put ∙ insert_entry-found place_cmp place_total entries place before by ordered found
+
+  -- what was put is found
+  pub found-put : value_at place_cmp between place ≡ Some by
+  found-put = rw between-is (lookup-set (is_at (place_cmp place)) entries before by found)
+
+  -- the two changes at the place cancel
+  pub Bumps-taken : before +ℤ by ≡ pos 0 → after ≡ remove_entry (is_at (place_cmp place)) between → IsLedger place_cmp after → Bumps entries after place by
+  Bumps-taken none taken sorted =
+      let is : after ≡ remove_entry (is_at (place_cmp place)) entries
+      = taken ∙ ap (remove_entry (is_at (place_cmp place))) between-is ∙ remove_entry-set_value (is_at (place_cmp place)) entries by in
+      rw is (Bumps-remove_entry entries place before by found none (rw is at sorted))
+
+  -- or their sum is set
+  pub Bumps-set : before +ℤ by ≢ pos 0 → after ≡ set_value (is_at (place_cmp place)) between (before +ℤ by) → IsLedger place_cmp after → Bumps entries after place by
+  Bumps-set other set sorted =
+      let is : after ≡ set_value (is_at (place_cmp place)) entries (before +ℤ by)
+      = set ∙ ap (λ (l : Entries). set_value (is_at (place_cmp place)) l (before +ℤ by)) between-is ∙ set_value-twice (is_at (place_cmp place)) entries by (before +ℤ by) in
+      rw is (Bumps-set_value entries place before by found other (rw is at sorted))
+
+-- a write of a change that is there is done
+pub set_gives : (res : Result ℤ ℤ) (at : Option ℤ) (n m : ℤ) (P : Type 0) → at ≡ Some n → OnOk res P → IfErr res (λ back. back ≡ m × (at ≡ None)) → P
+set_gives (Ok x) at n m P here done absent = done
+set_gives (Err x) at n m P here done absent = let none : at ≡ None = absent.1 in absurd (some_not_none n (sym here ∙ none))
+  where
+    some_not_none : (n : ℤ) → Some n ≡ None → ⊥
+    some_not_none n e = cc

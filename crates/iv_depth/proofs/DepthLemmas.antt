@@ -1,0 +1,173 @@
+-- The records' depth, and what their changes say of it.
+use Rattle.std.proofs.Common.{◌≡◌, ℕ, ◌+◌, ◌*◌, ◌<◌, ◌≤◌, ◌^◌, ◌++◌, List, [], ◌∷◌, refl, sym, ◌∙◌, ap, subst, arith, leb, true, false, Bool, ◌&&◌, cond, rules, get_or, length, length-append, append_assoc, append-nil, inl, inr}
+use Rattle.std.specs.Prelude.{pos, All}
+use lib.IntN.{nat_abs}
+use Rattle.std.proofs.lemmas.Bool.{le-ltb}
+use Rattle.std.proofs.lemmas.Bool.Decides.{eqb_tells}
+use Rattle.std.proofs.lemmas.List.Elements.{All-head, All-tail}
+use Rattle.std.proofs.lemmas.List.Sums.{count_by-le-length, sum_by-append}
+use Rattle.std.specs.List.Sorted.{IsStrictlySortedBy}
+use Rattle.std.specs.Ordering.{is_le}
+use Rattle.iv_text.specs.Genome.{Sequences, seq_count, sequence_length}
+use Rattle.iv_text.specs.Ordered.{added}
+use Rattle.iv_text.specs.Read.{Fits}
+use Rattle.iv_text.specs.Row.{Row, row_cmp}
+use Rattle.iv_text.proofs.OrderedLemmas.{length-added}
+use Rattle.iv_cover.specs.Depth.{covers, depth}
+use Rattle.iv_depth.specs.Changes.{Entries, AreChanges, AreChangesOf}
+use Rattle.iv_depth.specs.DepthRows.{covered_runs, all_covered_runs, text_by, depth_text}
+use Rattle.iv_depth.specs.declared.depth_rows.DepthRows.{DepthRows}
+use Rattle.iv_depth.specs.Walks.{AreOnGenome, depth_by}
+use Rattle.iv_cover.proofs.RunsLemmas.{runs-none}
+use Rattle.iv_depth.proofs.ChangesLemmas.{depth-cons}
+use Rattle.iv_depth.proofs.Breaks.{on, AreBreaks-on, Follows-on}
+use Rattle.iv_depth.proofs.Counts.{breaks-few, entries-few}
+
+-- ---- the depth is the same whatever the order of the records
+
+-- the changes of records are those of others of the same depth
+AreChangesOf-same : (xs ys : List Row) (entries : Entries) → ((rank p : ℕ) → depth ys rank p ≡ depth xs rank p) → AreChangesOf xs entries → AreChangesOf ys entries
+AreChangesOf-same xs ys entries same h = record {
+  ordered = h.ordered;
+  changes = h.changes;
+  depths = λ rank p. h.depths rank p ∙ ap pos (sym (same rank p));
+}
+
+depth-with : (rows : List Row) (r : Row) (rank p : ℕ) → depth (added rows r) rank p ≡ depth (r ∷ rows) rank p
+depth-with [] r rank p = refl
+depth-with (q ∷ rows) r rank p = go (is_le (row_cmp r q)) refl (depth-with rows r rank p)
+  where
+    go : (b : Bool) → is_le (row_cmp r q) ≡ b → depth (added rows r) rank p ≡ depth (r ∷ rows) rank p → depth (added (q ∷ rows) r) rank p ≡ depth (r ∷ q ∷ rows) rank p
+    go true is rest = rw is refl
+    go false is rest =
+        let kept : depth (q ∷ added rows r) rank p ≡ depth (r ∷ q ∷ rows) rank p = omega (
+          arith,
+          rest,
+          depth-cons q (added rows r) rank p,
+          depth-cons r rows rank p,
+          depth-cons r (q ∷ rows) rank p,
+          depth-cons q rows rank p,
+        ) in
+        rw is kept
+
+-- a record in its place, or in front
+pub AreChangesOf-placed : (rows : List Row) (r : Row) (entries : Entries) → AreChangesOf (r ∷ rows) entries → AreChangesOf (added rows r) entries
+AreChangesOf-placed rows r entries h = AreChangesOf-same (r ∷ rows) (added rows r) entries (depth-with rows r) h
+
+pub AreChangesOf-in_front : (rows : List Row) (r : Row) (entries : Entries) → AreChangesOf (added rows r) entries → AreChangesOf (r ∷ rows) entries
+AreChangesOf-in_front rows r entries h = AreChangesOf-same (added rows r) (r ∷ rows) entries (λ rank p. sym (depth-with rows r rank p)) h
+
+-- or behind
+pub AreChangesOf-behind : (rows : List Row) (r : Row) (entries : Entries) → AreChangesOf (r ∷ rows) entries → AreChangesOf (rows ++ r ∷ []) entries
+AreChangesOf-behind rows r entries h = AreChangesOf-same (r ∷ rows) (rows ++ r ∷ []) entries (λ rank p.
+    let back : depth (rows ++ r ∷ []) rank p ≡ depth rows rank p + depth (r ∷ []) rank p = sum_by-append (λ x. cond (covers rank p x) 1 0) rows (r ∷ []) in
+    omega (arith, back, depth-cons r rows rank p, depth-cons r [] rank p)) h
+
+-- no record, no change
+AreChangesOf-none : AreChangesOf [] []
+unfolding IsStrictlySortedBy
+AreChangesOf-none = record { ordered = search rules; changes = search rules; depths = λ rank p. refl }
+
+-- ---- the depth of records on a genome
+
+-- past the stops there is no depth
+depth-past : (rows : List Row) (rank to p : ℕ) → All (λ r. r.seq ≡ rank → r.stop ≤ to) rows → to ≤ p → depth rows rank p ≡ 0
+depth-past [] rank to p fit past = refl
+depth-past (r ∷ rows) rank to p fit past =
+    let rest : depth rows rank p ≡ 0 = depth-past rows rank to p (All-tail (λ (r : Row). r.seq ≡ rank → r.stop ≤ to) r rows fit) past in
+    let first : r.seq ≡ rank → r.stop ≤ to = All-head (λ (r : Row). r.seq ≡ rank → r.stop ≤ to) r rows fit in
+    let cases = eqb_tells r.seq rank in
+    let none : cond {A = ℕ} (covers rank p r) 1 0 ≡ 0 = elim cases [
+      | inl here ↦ let stops : r.stop ≤ to = first here.1 in
+          rw (here.0, le-ltb p r.stop (omega arith)) (cond-and_false (leb r.start p))
+      | inr off ↦ rw off.0 refl
+    ] in
+    omega (arith, depth-cons r rows rank p)
+  where
+    cond-and_false : (b : Bool) → cond {A = ℕ} (b && false) 1 0 ≡ 0
+    cond-and_false true = refl
+    cond-and_false false = refl
+
+module _ (g : Sequences) (width : ℕ) (rows : List Row) (entries : Entries) (fit : All (Fits g width) rows) (h : AreChangesOf rows entries) where
+  depth-by : (rank p : ℕ) → depth_by entries rank p ≡ depth rows rank p
+  depth-by rank p = ap nat_abs (h.depths rank p)
+
+  ends : (rank p : ℕ) → sequence_length g rank ≤ p → depth rows rank p ≡ 0
+  ends rank p past = depth-past rows rank (sequence_length g rank) p
+      (λ k d within is. subst (λ (s : ℕ). (get_or rows k d).stop ≤ sequence_length g s) is (fit k d within).lies.within.1) past
+
+  pub AreOnGenome-of : length rows < 2 ^ 32 → AreOnGenome g entries
+  AreOnGenome-of few = record {
+    ordered = h.ordered;
+    changes = h.changes;
+    depths = λ rank p. h.depths rank p ∙ ap pos (sym (depth-by rank p));
+    small = λ rank p. let low : depth rows rank p ≤ length rows = count_by-le-length (covers rank p) rows in omega (arith, depth-by rank p, low);
+    ends = λ rank p past. depth-by rank p ∙ ends rank p past;
+  }
+
+  -- the text by changes is that of the definition
+  pub text-of : (shown : DepthRows) → text_by shown g (depth_by entries) ≡ depth_text shown g rows
+  text-of shown = ap (text_by shown g) (λ k rank p. depth-by rank p k)
+
+  -- two changes for each row of a depth above 0
+  pub entries-of : length entries ≤ 2 * length (all_covered_runs g rows)
+  entries-of = entries-few entries (λ rank. covered_runs (depth rows rank) 0 (sequence_length g rank)) (seq_count g)
+      (λ rank. breaks-few (depth rows rank) (sequence_length g rank) (on rank entries)
+      (AreBreaks-on rank (sequence_length g rank) entries h.ordered h.changes (λ p past. h.depths rank p ∙ ap pos (ends rank p past)))
+      (Follows-on rank (depth rows rank) entries (h.depths rank)) (ends rank))
+      (λ rank high.
+      let none : (p : ℕ) → 0 ≤ p → depth rows rank p ≡ 0 = λ p past. depth-past rows rank 0 p
+      (λ k d within is. let low : (get_or rows k d).seq < length g = (fit k d within).lies.within.0 in absurd (omega (arith, low, is))) past in
+      let few : length (on rank entries) ≤ 2 * length (covered_runs (depth rows rank) 0 0) = breaks-few (depth rows rank) 0 (on rank entries)
+      (AreBreaks-on rank 0 entries h.ordered h.changes (λ p past. h.depths rank p ∙ ap pos (none p past)))
+      (Follows-on rank (depth rows rank) entries (h.depths rank)) none in
+      let empty : length (covered_runs (depth rows rank) 0 0) ≡ 0 = rw (runs-none (depth rows rank) 0 0 (omega arith)) refl in
+      omega (arith, few, empty))
+
+-- ---- the changes of a list of records, one after another
+
+-- these changes are those of the records up to the ones that are left
+pub record IsBuilt (rows left : List Row) (entries : Entries) : Type 0 where
+  pub done : List Row
+  pub all : rows ≡ done ++ left
+  pub right : AreChangesOf done entries
+
+pub IsBuilt-begin : (rows left : List Row) (entries : Entries) → entries ≡ [] → left ≡ rows → IsBuilt rows left entries
+IsBuilt-begin rows left entries none all = record { done = []; all = sym all; right = rw none AreChangesOf-none }
+
+pub IsBuilt-known : (rows left : List Row) (entries : Entries) → length rows < 2 ^ 32 → IsBuilt rows left entries → AreChanges entries
+IsBuilt-known rows left entries few b = record {
+  rows = b.done;
+  right = b.right;
+  few = omega (arith, few, ap (λ (l : List Row). length l) b.all, length-append b.done left);
+}
+
+pub IsBuilt-next : (rows left after : List Row) (r : Row) (entries new : Entries) → IsBuilt rows left entries → left ≡ r ∷ after
+    → ((xs : List Row) → AreChangesOf xs entries → AreChangesOf (r ∷ xs) new) → IsBuilt rows after new
+IsBuilt-next rows left after r entries new b is step = record {
+  done = b.done ++ r ∷ [];
+  all = b.all ∙ ap (λ (l : List Row). b.done ++ l) is ∙ sym (append_assoc b.done (r ∷ []) after);
+  right = AreChangesOf-behind b.done r new (step b.done b.right);
+}
+
+pub IsBuilt-end : (rows left : List Row) (entries : Entries) → left ≡ [] → IsBuilt rows left entries → AreChangesOf rows entries
+IsBuilt-end rows left entries none b =
+    let all : rows ≡ b.done = b.all ∙ ap (λ (l : List Row). b.done ++ l) none ∙ append-nil b.done in
+    subst (λ (l : List Row). AreChangesOf l entries) (sym all) b.right
+
+-- ---- before an edit
+
+pub AreChanges-without : (rows others : List Row) (r : Row) (entries : Entries) → rows ≡ added others r → length rows < 2 ^ 32
+    → AreChangesOf others entries → AreChanges entries
+AreChanges-without rows others r entries is few h = record {
+  rows = others;
+  right = h;
+  few = omega (arith, few, ap (λ (l : List Row). length l) is, length-added row_cmp others r);
+}
+
+pub AreChanges-with : (rows : List Row) (r : Row) (entries : Entries) → length rows + 1 < 2 ^ 32 → AreChangesOf (added rows r) entries → AreChanges entries
+AreChanges-with rows r entries few h = record {
+  rows = added rows r;
+  right = h;
+  few = omega (arith, few, length-added row_cmp rows r);
+}

@@ -1,0 +1,9 @@
+pub mod ChangesLemmas
+pub mod BoundLemmas
+pub mod Stretches
+pub mod Comings
+pub mod Breaks
+pub mod Sequences
+pub mod Genomes
+pub mod Counts
+pub mod DepthLemmas

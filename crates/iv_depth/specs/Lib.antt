@@ -1,0 +1,3 @@
+pub mod DepthRows
+pub mod Changes
+pub mod Walks

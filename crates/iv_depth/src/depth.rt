@@ -1,0 +1,117 @@
+//! What is kept of rows of depth.
+ghost use Rattle.std.specs.Prelude.{◌≡◌, ◌+◌, ◌*◌, [], All, length, OnOk};
+ghost use Rattle.iv_bytes.specs.Sinks.{Puts};
+ghost use Rattle.iv_text.specs.Read.{Fits};
+ghost use Rattle.iv_track.specs.Steps.{TakesUpTo};
+ghost use Rattle.iv_depth.specs.Changes.{AreChangesOf};
+ghost use Rattle.iv_depth.specs.DepthRows.{depth_text, all_covered_runs};
+
+use crate::changing::{Changes, add_record, take_record};
+use crate::depth_rows::DepthRows;
+use crate::printing::put_genome;
+use iv_cover::Kept;
+use iv_text::{Genome, RecordRef, Sink, WriteFault};
+use iv_track::{Ledger, Meter, Track};
+use std::alloc::{AllocError, Allocator, Global};
+use std::marker::Model;
+
+/// The net changes of depth at each place where some record starts or stops, and which rows are shown.
+///
+/// A change of 0 is not kept. It is one ledger, beside the settings, and knows no length of a sequence.
+#[derive(Drop)]
+pub struct Depth<A: Allocator + Copy = Global> {
+    shown: DepthRows,
+    changes: Changes<A>,
+}
+
+impl<A: Allocator + Copy> Model for Depth<A> {
+    ghost use Rattle.iv_depth.specs.Changes.{KeptDepth};
+
+    ghost Value = { KeptDepth };
+
+    ghost view = { λ d. record { shown = d.shown; entries = d.changes } };
+}
+
+impl<A: Allocator + Copy> Kept<A> for Depth<A> {
+    type Settings = DepthRows;
+
+    ghost built_for = { λ depth. depth.shown };
+
+    ghost suits = { λ _ _. Unit {0} };
+
+    ghost is_right = { λ depth _ rows. AreChangesOf rows depth.entries };
+
+    ghost text = { depth_text };
+
+    ghost repair_steps = { λ _ _ _. 8 };
+
+    /// One entry for each place where the depth changes. Nothing grows but the ledger.
+    fn build(
+        alloc: A,
+        shown: DepthRows,
+        track: &Track<A>,
+        _genome: &Genome<A>,
+        meter: &mut Meter,
+    ) -> Result<Depth<A>, AllocError> {
+        let mut changes = Ledger::new(alloc);
+        add_records(&mut changes, track, meter)?;
+        Ok(Depth { shown, changes })
+    }
+
+    fn added(
+        &mut self,
+        track: &Track<A>,
+        _genome: &Genome<A>,
+        row: &RecordRef<'_>,
+        meter: &mut Meter,
+    ) -> Result<(), AllocError> {
+        // A track holds so few records that no change leaves 64 bits.
+        let _few = track.len();
+        add_record(&mut self.changes, row, meter)
+    }
+
+    fn removed(
+        &mut self,
+        track: &Track<A>,
+        _genome: &Genome<A>,
+        row: &RecordRef<'_>,
+        meter: &mut Meter,
+    ) -> Result<(), AllocError> {
+        let _few = track.len();
+        take_record(&mut self.changes, row, meter)
+    }
+
+    /// Prints the rows in one walk over the changes: at most 2 steps, and 2 more for each row of a depth above 0.
+    fn print<S: Sink>(
+        &self,
+        track: &Track<A>,
+        genome: &Genome<A>,
+        meter: &mut Meter,
+        sink: &mut S,
+    ) -> Result<(), WriteFault>
+        requires right { AreChangesOf track.now.rows self.now.entries }
+        requires fit { All (Fits genome.now track.now.width) track.now.rows }
+        ensures text { Puts (S.state sink.old) (S.state sink.new) result (depth_text self.now.shown genome.now track.now.rows) }
+        ensures steps { TakesUpTo meter.old meter.new (2 + 2 * length (all_covered_runs genome.now track.now.rows)) }
+    {
+        let _few = track.len();
+        put_genome(self.shown, &self.changes, genome, meter, sink)
+    }
+}
+
+/// Adds the changes of a track's records, where there are none.
+fn add_records<A: Allocator + Copy>(
+    changes: &mut Changes<A>,
+    track: &Track<A>,
+    meter: &mut Meter,
+) -> Result<(), AllocError>
+    requires { changes.old ≡ [] }
+    ensures { OnOk result (AreChangesOf track.now.rows changes.new) }
+{
+    let _few = track.len();
+    let mut rows = track.walk(0, 0, meter);
+    while let Some(row) = rows.next(meter) {
+        add_record(changes, &row.as_ref(), meter)?;
+    }
+    Ok(())
+}

@@ -1,0 +1,11 @@
+//! How many records cover each position: rows of depth, and the changes of depth that are kept for them.
+#![tactic(auto)]
+
+mod changing;
+mod coming;
+mod depth;
+mod depth_rows;
+mod printing;
+
+pub use depth::Depth;
+pub use depth_rows::DepthRows;

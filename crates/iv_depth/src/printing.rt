@@ -1,0 +1,158 @@
+//! Rows of depth, put into a sink.
+ghost use Rattle.std.specs.Prelude.{ℕ, ◌++◌, ◌+◌, ◌-◌, ◌<◌, length, codes, decimal, OnOk};
+ghost use Rattle.std.specs.List.{flat_map, range_with_len};
+ghost use Rattle.iv_bytes.specs.Sinks.{Puts};
+ghost use Rattle.iv_cover.specs.Runs.{Run, runs};
+ghost use Rattle.iv_depth.specs.DepthRows.{run_row, position_row, rows_between, text_by};
+ghost use Rattle.iv_depth.specs.Walks.{AreFrom, AreOnGenome, IsPast, TakesForEach, depth_by};
+ghost use Rattle.iv_track.specs.Steps.{TakesUpTo};
+
+use crate::changing::Changes;
+use crate::coming::Coming;
+use crate::depth_rows::DepthRows;
+use iv_text::{Genome, Sink, WriteFault, put_pieces};
+use iv_track::Meter;
+use std::alloc::Allocator;
+
+/// Puts the rows of the positions from `start` to `stop`, not included, which are all of this depth.
+pub(crate) fn put_stretch<S: Sink>(
+    shown: DepthRows,
+    name: &[u8],
+    start: u64,
+    stop: u64,
+    depth: u64,
+    sink: &mut S,
+) -> Result<(), WriteFault>
+    ensures { Puts (S.state sink.old) (S.state sink.new) result (rows_between shown name.now (λ _. depth) start stop) }
+{
+    if start >= stop {
+        return Ok(());
+    }
+    match shown {
+        DepthRows::Covered => {
+            if depth == 0 {
+                Ok(())
+            } else {
+                put_run(name, start, stop, depth, sink)
+            }
+        }
+        DepthRows::All => put_run(name, start, stop, depth, sink),
+        DepthRows::EachPosition => put_positions(name, start, stop, depth, sink),
+    }
+}
+
+/// Puts the row of a run: name, start, stop and depth.
+fn put_run<S: Sink>(
+    name: &[u8],
+    start: u64,
+    stop: u64,
+    depth: u64,
+    sink: &mut S,
+) -> Result<(), WriteFault>
+    ensures { Puts (S.state sink.old) (S.state sink.new) result (run_row name.now (record { start = start; stop = stop; value = depth })) }
+{
+    let mut starts = itoa::Buffer::new();
+    let mut stops = itoa::Buffer::new();
+    let mut depths = itoa::Buffer::new();
+    put_pieces(
+        sink,
+        &[
+            name,
+            b"\t",
+            starts.format(start).as_bytes(),
+            b"\t",
+            stops.format(stop).as_bytes(),
+            b"\t",
+            depths.format(depth).as_bytes(),
+            b"\n",
+        ],
+    )
+}
+
+/// Puts a row for each of the positions, which are all of this depth. The depth is made to text once.
+fn put_positions<S: Sink>(
+    name: &[u8],
+    start: u64,
+    stop: u64,
+    depth: u64,
+    sink: &mut S,
+) -> Result<(), WriteFault>
+    ensures { Puts (S.state sink.old) (S.state sink.new) result (flat_map (λ p. position_row name.now p depth) (range_with_len start (stop - start))) }
+{
+    let mut depths = itoa::Buffer::new();
+    let depth_text = depths.format(depth).as_bytes();
+    for position in start..stop {
+        put_position(name, position + 1, depth_text, sink)?;
+    }
+    Ok(())
+}
+
+/// Puts the row of a position: name, position counted from 1, and depth.
+fn put_position<S: Sink>(
+    name: &[u8],
+    number: u64,
+    depth: &[u8],
+    sink: &mut S,
+) -> Result<(), WriteFault>
+    ensures { Puts (S.state sink.old) (S.state sink.new) result (name.now ++ codes "\t" ++ decimal number ++ codes "\t" ++ depth.now ++ codes "\n") }
+{
+    let mut numbers = itoa::Buffer::new();
+    put_pieces(
+        sink,
+        &[
+            name,
+            b"\t",
+            numbers.format(number).as_bytes(),
+            b"\t",
+            depth,
+            b"\n",
+        ],
+    )
+}
+
+/// Puts the rows of one sequence, and goes past its changes. At most one step for each of them.
+fn put_sequence<S: Sink>(
+    shown: DepthRows,
+    name: &[u8],
+    rank: u32,
+    length: u64,
+    coming: &mut Coming<'_>,
+    meter: &mut Meter,
+    sink: &mut S,
+) -> Result<(), WriteFault>
+    requires { AreFrom rank length coming.old }
+    ensures text { Puts (S.state sink.old) (S.state sink.new) result (rows_between shown name.now (depth_by coming.old rank) 0 length) }
+    ensures past { OnOk result (IsPast rank coming.old coming.new) }
+    ensures steps { TakesForEach meter.old meter.new coming.old coming.new }
+{
+    let mut start: u64 = 0;
+    let mut depth: i64 = 0;
+    while let Some((position, change)) = coming.next_on(rank, meter) {
+        let stop = u64::from(position);
+        put_stretch(shown, name, start, stop, depth.unsigned_abs(), sink)?;
+        start = stop;
+        depth += change;
+    }
+    put_stretch(shown, name, start, length, depth.unsigned_abs(), sink)
+}
+
+/// Puts the rows of all sequences, by rank. At most two steps more than there are changes, and no memory.
+pub(crate) fn put_genome<A: Allocator + Copy, S: Sink>(
+    shown: DepthRows,
+    changes: &Changes<A>,
+    genome: &Genome<A>,
+    meter: &mut Meter,
+    sink: &mut S,
+) -> Result<(), WriteFault>
+    requires { AreOnGenome genome.now changes.now }
+    ensures text { Puts (S.state sink.old) (S.state sink.new) result (text_by shown genome.now (depth_by changes.now)) }
+    ensures steps { TakesUpTo meter.old meter.new (2 + length changes.now) }
+{
+    let mut coming = Coming::of(changes, meter);
+    for rank in 0..genome.count() {
+        let name = genome.name(rank).unwrap_or(b"");
+        let length = genome.length(rank).unwrap_or(0);
+        put_sequence(shown, name, rank, length, &mut coming, meter, sink)?;
+    }
+    Ok(())
+}
