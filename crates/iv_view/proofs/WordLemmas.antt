@@ -7,4 +7,5 @@ pub words-cut : (width : ℕ) (has_second has_bases : Bool) (words : List (List 
     → read_words width has_second has_bases (take 9 words) ≡ read_words width has_second has_bases words
 words-cut width has_second has_bases [] = refl
 words-cut width has_second has_bases (word ∷ []) = refl
-words-cut width has_second has_bases (word ∷ next ∷ words) = refl
+words-cut width has_second has_bases (word ∷ next ∷ []) = refl
+words-cut width has_second has_bases (word ∷ next ∷ third ∷ words) = refl

@@ -1,3 +1,4 @@
 pub mod Merge
+pub mod Genomecov
 pub mod Views
 pub mod KeptStates

@@ -4,6 +4,7 @@ ghost use Rattle.iv_view.specs.Views.{view_text};
 
 use crate::view::View;
 use iv_cover::{Kept, Merge};
+use iv_depth::Depth;
 use iv_text::{Genome, RecordRef, Sink, WriteFault};
 use iv_track::{Meter, Track};
 use std::alloc::{AllocError, Allocator, Global};
@@ -13,6 +14,7 @@ use std::marker::PhantomData;
 #[derive(Drop)]
 pub enum KeptState<A: Allocator + Copy = Global> {
     Merge(Merge, PhantomData<A>),
+    Depth(Depth<A>),
 }
 
 impl<A: Allocator + Copy> Kept<A> for KeptState<A> {
@@ -40,6 +42,10 @@ impl<A: Allocator + Copy> Kept<A> for KeptState<A> {
                 let merge = Merge::build(alloc, 0, track, genome, meter)?;
                 Ok(KeptState::Merge(merge, PhantomData))
             }
+            View::Genomecov(shown) => {
+                let depth = Depth::build(alloc, shown, track, genome, meter)?;
+                Ok(KeptState::Depth(depth))
+            }
         }
     }
 
@@ -52,6 +58,7 @@ impl<A: Allocator + Copy> Kept<A> for KeptState<A> {
     ) -> Result<(), AllocError> {
         match self {
             KeptState::Merge(merge, _) => merge.added(track, genome, row, meter),
+            KeptState::Depth(depth) => depth.added(track, genome, row, meter),
         }
     }
 
@@ -64,6 +71,7 @@ impl<A: Allocator + Copy> Kept<A> for KeptState<A> {
     ) -> Result<(), AllocError> {
         match self {
             KeptState::Merge(merge, _) => merge.removed(track, genome, row, meter),
+            KeptState::Depth(depth) => depth.removed(track, genome, row, meter),
         }
     }
 
@@ -76,6 +84,7 @@ impl<A: Allocator + Copy> Kept<A> for KeptState<A> {
     ) -> Result<(), WriteFault> {
         match self {
             KeptState::Merge(merge, _) => merge.print(track, genome, meter, sink),
+            KeptState::Depth(depth) => depth.print(track, genome, meter, sink),
         }
     }
 }

@@ -2,6 +2,7 @@
 #![tactic(auto)]
 
 mod fault;
+mod genomecov;
 mod kept_state;
 mod merge;
 mod view;

@@ -3,7 +3,9 @@ ghost use Rattle.std.specs.Prelude.{◌≡◌, map};
 ghost use Rattle.iv_view.specs.Views.{read_words};
 
 use crate::fault::ViewFault;
+use crate::genomecov::asks_genomecov;
 use crate::merge::asks_merge;
+use iv_depth::DepthRows;
 use std::alloc::Allocator;
 
 /// A view of a track, with its options.
@@ -11,6 +13,8 @@ use std::alloc::Allocator;
 pub enum View {
     /// `merge` without options: the blocks of overlapping and book-ended records.
     Merge,
+    /// `genomecov`: how many records cover each position.
+    Genomecov(DepthRows),
 }
 
 impl View {
@@ -18,8 +22,8 @@ impl View {
     ///
     /// # Errors
     ///
-    /// `Words` where they ask for no view. No other fault comes: the one view that there is asks for no column, no strand
-    /// and no file, and reading its words takes no memory.
+    /// `Words` where they ask for no view. No other fault comes: the views that there are ask for no column, no strand
+    /// and no file, and reading their words takes no memory.
     pub fn read<A: Allocator + Copy>(
         _alloc: A,
         width: u8,
@@ -31,9 +35,11 @@ impl View {
     {
         let _ = (width, has_second, has_bases);
         if asks_merge(words) {
-            Ok(View::Merge)
-        } else {
-            Err(ViewFault::Words)
+            return Ok(View::Merge);
+        }
+        match asks_genomecov(words) {
+            Some(rows) => Ok(View::Genomecov(rows)),
+            None => Err(ViewFault::Words),
         }
     }
 }
