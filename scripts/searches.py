@@ -8,7 +8,7 @@ AllocError may stand in patterns, comparisons, types, declarations and `use` lin
 alone. AllocError itself is made in `refusing` alone, the allocator that refuses on purpose.
 
 Meter: steps are counted by the meter that is handed in; a call that made a meter of its own would hide its steps.
-So `Meter::new` stands never in iv_cover; in iv_track only in `from_records`; in the session's crates at most once in
+So `Meter::new` stands never in iv_cover or iv_depth; in iv_track only in `from_records`; in the session's crates at most once in
 a function, and in no loop; elsewhere not at all.
 
 The crates of tests, worked_*, may name such faults as values that they expect, and make meters.
@@ -210,6 +210,7 @@ PLANTED = [
     ("iv_cli", "impl From<Why> for Fault { fn from(why: Why) -> Fault { match why { Why::Memory => Fault::Memory, _ => Fault::Other } } }", None),
     ("iv_cli", "fn f(why: Why) -> bool { why == Why::Memory || matches!(why, Why::Memory | Why::Other) }", None),
     ("worked_rows", "fn f() -> bool { g() == Err(EditFault::NoMemory) }", None),
+    ("iv_depth", "fn f() -> u64 { let meter = Meter::new(); meter.steps() }", METERS),
     ("iv_cover", "fn f() -> u64 { let mut meter = Meter::new(); meter.steps() }", METERS),
     ("iv_cover", "fn f() -> u64 { <Meter>::new().steps() }", METERS),
     ("iv_cover", "type Count = iv_track::Meter;", OTHER_NAME),
