@@ -217,12 +217,6 @@ fn edits_with_open_views(rt: HostRuntime) -> Result<(), Fail> {
     Ok(())
 }
 
-#[test]
-fn prints(rt: HostRuntime) -> Result<(), Fail> {
-    let session = with_views(&rt)?;
-    check_prints(&rt, &session)
-}
-
 /// Adds a record and closes a view, which alone isn't current any more.
 fn closes(session: &mut Session) -> Result<bool, Fail> {
     let is_added = fault_of(session, Edit::Add(b"chr1\t30\t31"))?.is_none();
