@@ -7,3 +7,4 @@ pub mod Sequences
 pub mod Genomes
 pub mod Counts
 pub mod DepthLemmas
+pub mod Covered

@@ -67,7 +67,8 @@ fn bump<A: Allocator + Copy>(
         return Ok(());
     };
     let change = before + by;
-    if change == 0 {
+    let cancels = change == 0;
+    if cancels {
         changes.take(&place, meter);
     } else {
         let _ = changes.set(&place, change, meter);

@@ -5,7 +5,9 @@ mod changing;
 mod coming;
 mod depth;
 mod depth_rows;
+mod laws;
 mod printing;
 
 pub use depth::Depth;
 pub use depth_rows::DepthRows;
+pub use laws::{covered_rows_hold_covered_positions, depth_rows_tile_a_sequence};

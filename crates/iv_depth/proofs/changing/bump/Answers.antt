@@ -21,25 +21,25 @@ overflow_add-change g c =
     let small = c.requires.small c.in-Some.before found in
     omega (arith, ints, small, c.requires.by)
 
-pub returns-then-change-eq0-clause-ok : goal.returns-then-change-eq0-clause-ok
-returns-then-change-eq0-clause-ok g c =
+pub returns-then-cancels-clause-ok : goal.returns-then-cancels-clause-ok
+returns-then-cancels-clause-ok g c =
     let fits : SFits w64 c.in-Some.before = search rules in
     let same : to_z w64 (of_z w64 c.args.by) ≡ c.args.by = to_z-of_z w64 c.args.by c.ranges.by in
     let put : c.put.new.self ≡ insert_entry place_cmp c.args.changes.now c.args.place c.args.by = rw same at c.in_ok-before.ensures.ok in
     let found : value_at place_cmp c.args.changes.now c.args.place ≡ Some c.in-Some.before = sym c.in_ok-before.ensures.before ∙ c.in-Some.is in
     let small = c.requires.small c.in-Some.before found in
-    let test = c.if-change-eq0.true in
+    let test = c.if-cancels.true in
     let none : c.in-Some.before +ℤ c.args.by ≡ pos 0 = omega (arith, ints, small, c.requires.by, test) in
     Bumps-taken c.args.changes.now c.put.new.self c.take.new.self c.args.place c.in-Some.before c.args.by c.put.ensures.was_ordered found put none c.take.ensures.rest c.take.ensures.ordered
 
-pub returns-else-change-eq0-clause-ok : goal.returns-else-change-eq0-clause-ok
-returns-else-change-eq0-clause-ok g c =
+pub returns-else-cancels-clause-ok : goal.returns-else-cancels-clause-ok
+returns-else-cancels-clause-ok g c =
     let fits : SFits w64 c.in-Some.before = search rules in
     let same : to_z w64 (of_z w64 c.args.by) ≡ c.args.by = to_z-of_z w64 c.args.by c.ranges.by in
     let put : c.put.new.self ≡ insert_entry place_cmp c.args.changes.now c.args.place c.args.by = rw same at c.in_ok-before.ensures.ok in
     let found : value_at place_cmp c.args.changes.now c.args.place ≡ Some c.in-Some.before = sym c.in_ok-before.ensures.before ∙ c.in-Some.is in
     let small = c.requires.small c.in-Some.before found in
-    let test = c.if-change-eq0.false in
+    let test = c.if-cancels.false in
     let other : c.in-Some.before +ℤ c.args.by ≢ pos 0 = λ e. test (omega (arith, ints, small, c.requires.by, e)) in
     let sum : to_z w64 (of_z w64 (to_z w64 (of_z w64 c.in-Some.before) +ℤ to_z w64 (of_z w64 c.args.by))) ≡ c.in-Some.before +ℤ c.args.by = omega (arith, ints, small, c.requires.by) in
     let there = found-put c.args.changes.now c.put.new.self c.set.new.self c.args.place c.in-Some.before c.args.by c.put.ensures.was_ordered found put in

@@ -1,0 +1,14 @@
+use Rattle.iv_cover.specs.Depth.{depth}
+use Rattle.iv_cover.proofs.Tests.{contains-mem, mem-contains}
+use Rattle.iv_depth.specs.DepthRows.{covered_runs}
+use Rattle.iv_depth.proofs.Covered.{covered-held, covered-run}
+use Rattle.iv_depth.proofs.laws.covered_rows_hold_covered_positions.Goals as goal
+
+pub returns-clause-held : goal.returns-clause-held
+returns-clause-held c = λ rows rank length p low some.
+    let h = covered-held (depth rows rank) length p low some in
+    (h.0, mem-contains (covered_runs (depth rows rank) 0 length) h.0 h.1, h.2, h.3)
+
+pub returns-clause-covered : goal.returns-clause-covered
+returns-clause-covered c = λ rows rank length run there.
+    covered-run (depth rows rank) length run (contains-mem (covered_runs (depth rows rank) 0 length) run there)
