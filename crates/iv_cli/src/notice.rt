@@ -55,7 +55,10 @@ Lines of a script, their fields parted by one TAB:
 Empty lines and lines that begin with # are skipped.
 
 Views:
-  merge     the blocks of records that overlap or are book-ended
+  merge             the blocks of records that overlap or are book-ended
+  genomecov -bg     depth above 0: a row for each interval of one depth
+  genomecov -bga    the same, also where the depth is 0
+  genomecov -d      depth at each position, counted from 1
 
 example:
   printf 'open\\tm\\tmerge\\nadd\\tchr1\\t10\\t20\\nprint\\tm\\n' |

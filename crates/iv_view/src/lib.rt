@@ -9,6 +9,7 @@ mod view;
 mod words;
 
 pub use fault::ViewFault;
+pub use iv_depth::DepthRows;
 pub use kept_state::KeptState;
 pub use view::View;
 pub use words::Words;

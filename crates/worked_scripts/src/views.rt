@@ -1,6 +1,6 @@
 //! Several views of a session: opening, closing, printing one and all.
 use crate::fixtures::{Example, Ran, SIZES, check, run, session};
-use iv_session::{ViewFault, ViewWords};
+use iv_session::{DepthRows, ViewFault, ViewWords};
 use std::test::Fail;
 
 #[test]
@@ -45,6 +45,23 @@ fn views_by_their_names(rt: HostRuntime) -> Result<(), Fail> {
     check(&rt, &examples)
 }
 
+/// Genomecov in its three ways, one opened before the records and two behind them, over a sequence of length 0 too.
+#[test]
+fn depth_of_records(rt: HostRuntime) -> Result<(), Fail> {
+    let examples = [Example {
+        width: 3,
+        first: b"",
+        limit: 9,
+        script: b"open\tg\tgenomecov -bg\nadd\tchr1\t10\t20\nadd\tchr1\t15\t30\nadd\tchr1\t15\t30\nopen\ta\tgenomecov -bga\nprintall\nremove\tchr1\t15\t30\nreplace\tchr1\t15\t30\tchr2\t0\t50\nprintall\n",
+        output: b"#g\nchr1\t10\t15\t1\nchr1\t15\t20\t3\nchr1\t20\t30\t2\n#a\nchr1\t0\t10\t0\nchr1\t10\t15\t1\nchr1\t15\t20\t3\nchr1\t20\t30\t2\nchr1\t30\t100\t0\nchr2\t0\t50\t0\n#g\nchr1\t10\t20\t1\nchr2\t0\t50\t1\n#a\nchr1\t0\t10\t0\nchr1\t10\t20\t1\nchr1\t20\t100\t0\nchr2\t0\t50\t1\n",
+        messages: b"",
+        lines: 9,
+        refused: 0,
+        left: 2,
+    }];
+    check(&rt, &examples)
+}
+
 /// A script that opens 64 views, what is refused then, a close and an open, and a print of all views.
 fn full_script(rt: &HostRuntime) -> Result<String, Fail> {
     let mut script = String::new(rt.alloc());
@@ -83,8 +100,28 @@ fn view_of(rt: &HostRuntime, words: &[&[u8]]) -> Result<ViewWords, ViewFault> {
 
 #[test]
 fn words_of_views(rt: HostRuntime) {
-    assert!(rt; view_of(&rt, &[b"merge"]) == Ok(ViewWords::Merge));
-    assert!(rt; view_of(&rt, &[b"Merge"]) == Err(ViewFault::Words));
-    assert!(rt; view_of(&rt, &[b"merge", b"-s"]) == Err(ViewFault::Words));
-    assert!(rt; view_of(&rt, &[]) == Err(ViewFault::Words));
+    for (words, want) in [
+        ([b"merge".as_slice()].as_slice(), Ok(ViewWords::Merge)),
+        (
+            &[b"genomecov", b"-bg"],
+            Ok(ViewWords::Genomecov(DepthRows::Covered)),
+        ),
+        (
+            &[b"genomecov", b"-bga"],
+            Ok(ViewWords::Genomecov(DepthRows::All)),
+        ),
+        (
+            &[b"genomecov", b"-d"],
+            Ok(ViewWords::Genomecov(DepthRows::EachPosition)),
+        ),
+        (&[b"Merge"], Err(ViewFault::Words)),
+        (&[b"merge", b"-s"], Err(ViewFault::Words)),
+        (&[b"genomecov"], Err(ViewFault::Words)),
+        (&[b"genomecov", b"-dz"], Err(ViewFault::Words)),
+        (&[b"-bg", b"genomecov"], Err(ViewFault::Words)),
+        (&[b"genomecov", b"-bg", b"-bg"], Err(ViewFault::Words)),
+        (&[], Err(ViewFault::Words)),
+    ] {
+        assert!(rt; view_of(&rt, words) == want);
+    }
 }

@@ -198,22 +198,30 @@ fn steps_of(session: &mut Session, line: &[u8]) -> Result<(u64, u32), Fail> {
     Ok((done.steps, done.stale))
 }
 
-/// Adds records beside views that print by a walk, which take no step of an edit.
-fn adds_in_few_steps(session: &mut Session) -> Result<bool, Fail> {
+/// Adds records, each in at most this number of steps, and no view becomes stale.
+fn adds_in_steps(session: &mut Session, most: u64) -> Result<bool, Fail> {
     for line in [b"chr2\t0\t1".as_slice(), b"chr1\t10\t20", b"chr1\t0\t100"] {
         let (steps, stale) = steps_of(session, line)?;
-        if steps == 0 || steps > 8 || stale != 0 {
+        if steps == 0 || steps > most || stale != 0 {
             return Ok(false);
         }
     }
     Ok(true)
 }
 
+/// Adds records beside views that print by a walk, which take no step of an edit, and then beside one that keeps depth
+/// too, which takes 8 steps at most.
+fn adds_beside_views(session: &mut Session) -> Result<bool, Fail> {
+    let is_cheap = adds_in_steps(session, 8)?;
+    session.open_view(b"c", &[b"genomecov", b"-bga"])?;
+    Ok(is_cheap && adds_in_steps(session, 16)?)
+}
+
 /// With ample memory no edit leaves a view stale.
 #[test]
 fn edits_with_open_views(rt: HostRuntime) -> Result<(), Fail> {
     let mut session = with_views(&rt)?;
-    assert!(rt; adds_in_few_steps(&mut session)?);
+    assert!(rt; adds_beside_views(&mut session)?);
     Ok(())
 }
 
