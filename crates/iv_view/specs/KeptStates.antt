@@ -9,12 +9,12 @@ use Rattle.iv_view.specs.declared.view.View.TheVariants as view
 
 -- the view that a state is kept of
 abbrev pub shown_by : {A : Type 0} → KeptState A → View
-shown_by (state.Merge m a) = view.Merge
+shown_by (state.Merge m) = view.Merge
 shown_by (state.Depth d) = view.Genomecov d.shown
 
 -- the state is right for a genome of these names and these records
 abbrev pub IsRight : {A : Type 0} → KeptState A → List (List ℕ) → List Row → Type 0
-IsRight (state.Merge m a) names rows = m.distance ≡ 0
+IsRight (state.Merge m) names rows = m.distance ≡ 0
 IsRight (state.Depth d) names rows = AreChangesOf rows d.entries
 
 -- how many steps a repair of a view's state takes at most, with the record among the records

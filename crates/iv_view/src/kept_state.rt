@@ -8,12 +8,11 @@ use iv_depth::Depth;
 use iv_text::{Genome, RecordRef, Sink, WriteFault};
 use iv_track::{Meter, Track};
 use std::alloc::{AllocError, Allocator, Global};
-use std::marker::PhantomData;
 
 /// What is kept of a view, so that an edit of the track costs it little. Each kind hands on to its own state.
 #[derive(Drop)]
 pub enum KeptState<A: Allocator + Copy = Global> {
-    Merge(Merge, PhantomData<A>),
+    Merge(Merge),
     Depth(Depth<A>),
 }
 
@@ -40,7 +39,7 @@ impl<A: Allocator + Copy> Kept<A> for KeptState<A> {
         match view {
             View::Merge => {
                 let merge = Merge::build(alloc, 0, track, genome, meter)?;
-                Ok(KeptState::Merge(merge, PhantomData))
+                Ok(KeptState::Merge(merge))
             }
             View::Genomecov(shown) => {
                 let depth = Depth::build(alloc, shown, track, genome, meter)?;
@@ -57,7 +56,7 @@ impl<A: Allocator + Copy> Kept<A> for KeptState<A> {
         meter: &mut Meter,
     ) -> Result<(), AllocError> {
         match self {
-            KeptState::Merge(merge, _) => merge.added(track, genome, row, meter),
+            KeptState::Merge(merge) => merge.added(track, genome, row, meter),
             KeptState::Depth(depth) => depth.added(track, genome, row, meter),
         }
     }
@@ -70,7 +69,7 @@ impl<A: Allocator + Copy> Kept<A> for KeptState<A> {
         meter: &mut Meter,
     ) -> Result<(), AllocError> {
         match self {
-            KeptState::Merge(merge, _) => merge.removed(track, genome, row, meter),
+            KeptState::Merge(merge) => merge.removed(track, genome, row, meter),
             KeptState::Depth(depth) => depth.removed(track, genome, row, meter),
         }
     }
@@ -83,7 +82,7 @@ impl<A: Allocator + Copy> Kept<A> for KeptState<A> {
         sink: &mut S,
     ) -> Result<(), WriteFault> {
         match self {
-            KeptState::Merge(merge, _) => merge.print(track, genome, meter, sink),
+            KeptState::Merge(merge) => merge.print(track, genome, meter, sink),
             KeptState::Depth(depth) => depth.print(track, genome, meter, sink),
         }
     }
