@@ -35,16 +35,21 @@ fn edited<'a>(
     Ok(Some(watched))
 }
 
-/// How many repairs met the refusal: the depth was then built anew. None did where the genome or the track met it.
-/// `None` where other rows are printed.
+/// How many repairs and builds met the refusal: after a repair the depth was built anew. None did where the genome or the
+/// track met it. `None` where other rows are printed.
 fn refused(rt: &HostRuntime, alloc: &RefusesNth<Global>) -> Result<Option<u32>, Fail> {
     let Some(watched) = edited(rt, alloc)? else {
         return Ok(Some(0));
     };
-    if watched.prints(rt, b"chr1\t580\t1000\t1\n")? {
-        Ok(Some(watched.refused))
-    } else {
-        Ok(None)
+    let want = b"chr1\t580\t1000\t1\n".as_slice();
+    if !watched.prints(rt, want)? {
+        return Ok(None);
+    }
+    let refused = watched.refused;
+    match watched.built_anew() {
+        Some(new) if new.prints(rt, want)? => Ok(Some(refused)),
+        Some(_) => Ok(None),
+        None => Ok(Some(refused.saturating_add(1))),
     }
 }
 

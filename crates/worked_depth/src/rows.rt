@@ -46,7 +46,7 @@ impl Edits<'_> {
         if watched.refused > 0 || !watched.prints(rt, want)? {
             return Ok(false);
         }
-        watched.built_anew()?.prints(rt, want)
+        had(watched.built_anew())?.prints(rt, want)
     }
 }
 

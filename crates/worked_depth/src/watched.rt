@@ -132,8 +132,8 @@ impl<'a> Watched<'a> {
         Ok(text.bytes() == want)
     }
 
-    /// The same, with the depth built anew.
-    pub(crate) fn built_anew(self) -> Result<Watched<'a>, Fail> {
+    /// The same track, with its depth built anew. `None` where memory is refused.
+    pub(crate) fn built_anew(self) -> Option<Watched<'a>> {
         let Watched {
             alloc,
             genome,
@@ -143,14 +143,17 @@ impl<'a> Watched<'a> {
             most,
             ..
         } = self;
-        Ok(Watched {
+        let Ok(depth) = Depth::build(alloc, shown, &track, &genome, &mut Meter::new()) else {
+            return None;
+        };
+        Some(Watched {
             alloc,
-            shown,
-            depth: Depth::build(alloc, shown, &track, &genome, &mut Meter::new())?,
-            refused,
-            most,
             genome,
             track,
+            shown,
+            depth,
+            refused,
+            most,
         })
     }
 }
