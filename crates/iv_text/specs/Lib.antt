@@ -12,3 +12,4 @@ pub mod BedFile
 pub mod Ordered
 pub mod RecordText
 pub mod OnePass
+pub mod Texts

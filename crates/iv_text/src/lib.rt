@@ -8,12 +8,14 @@ mod genome;
 mod genome_file;
 mod laws;
 mod lines;
+mod long_texts;
 mod number;
 mod reading;
 mod record;
 mod record_reader;
 mod record_ref;
 mod record_text;
+mod short_texts;
 mod strand;
 mod texts;
 

@@ -150,5 +150,5 @@ fn order_of_records(rt: HostRuntime) -> Result<(), Fail> {
 #[test]
 fn records_are_small(rt: HostRuntime) {
     let size = size_of::<Record>();
-    assert!(rt; size <= 48, "a record has {size} bytes");
+    assert!(rt; size <= 32, "a record has {size} bytes");
 }

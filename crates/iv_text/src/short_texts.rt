@@ -1,0 +1,55 @@
+//! Two short texts in one block.
+ghost use Rattle.std.specs.Prelude.{◌≡◌, ◌≤◌, ◌<◌, ◌+◌, ◌^◌, length};
+
+use std::marker::Model;
+
+/// A name and a score of at most `N` bytes together. The bytes after them are 0.
+#[derive(Drop)]
+pub(crate) struct ShortTexts<const N: usize> {
+    bytes: [u8; N],
+    name_len: u8,
+    score_len: u8,
+}
+
+impl<const N: usize> Model for ShortTexts<N> {
+    ghost use Rattle.std.specs.Prelude.{List, ℕ, take, drop, ◌+◌, ◌≤◌};
+
+    ghost Value = { List ℕ × List ℕ };
+
+    ghost view = { λ t. (take t.name_len t.bytes, take t.score_len (drop t.name_len t.bytes)) };
+
+    ghost invariant = { λ t. t.name_len + t.score_len ≤ N };
+}
+
+impl<const N: usize> ShortTexts<N> {
+    pub(crate) fn copy_of(name: &[u8], score: &[u8]) -> Self
+        requires fit { length name.now + length score.now ≤ N }
+        requires small { N < 2 ^ 8 }
+        ensures { result ≡ (name.now, score.now) }
+    {
+        let mut bytes = [0; N];
+        let (front, rest) = bytes.split_at_mut(name.len());
+        let (middle, _free) = rest.split_at_mut(score.len());
+        front.copy_from_slice(name);
+        middle.copy_from_slice(score);
+        ShortTexts {
+            bytes,
+            name_len: name.len() as u8,
+            score_len: score.len() as u8,
+        }
+    }
+
+    pub(crate) fn name(&self) -> &[u8]
+        ensures { result.now ≡ self.now.0 }
+    {
+        &self.bytes[..usize::from(self.name_len)]
+    }
+
+    pub(crate) fn score(&self) -> &[u8]
+        ensures { result.now ≡ self.now.1 }
+    {
+        let bytes = &self.bytes[..];
+        let start = usize::from(self.name_len);
+        &bytes[start..start + usize::from(self.score_len)]
+    }
+}
