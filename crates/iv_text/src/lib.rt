@@ -2,6 +2,7 @@
 #![tactic(auto)]
 
 mod bed_file;
+mod bounded_texts;
 mod fault;
 mod fields;
 mod genome;
@@ -15,7 +16,6 @@ mod record;
 mod record_reader;
 mod record_ref;
 mod record_text;
-mod short_texts;
 mod strand;
 mod texts;
 

@@ -147,6 +147,25 @@ fn order_of_records(rt: HostRuntime) -> Result<(), Fail> {
     Ok(())
 }
 
+/// Whether a record keeps a name of so many letters, and a score of one.
+fn keeps_name(rt: &HostRuntime, genome: &Genome, letters: usize) -> Result<bool, Fail> {
+    let name = "n".repeat(rt.alloc(), letters)?;
+    let line = format!(in rt.alloc(); "chr1\t10\t20\t{name}\t0\t+")?;
+    let texts = (name.as_bytes(), b"0".as_slice());
+    let cells = (6, (0, 10, 20), texts, Some(Strand::Plus));
+    has_cells(rt, genome, line.as_bytes(), cells)
+}
+
+/// Both sides of each size of a block, and far beyond.
+#[test]
+fn texts_of_each_size(rt: HostRuntime) -> Result<(), Fail> {
+    let genome = genome(&rt)?;
+    for letters in [1, 21, 22, 37, 38, 300] {
+        assert!(rt; keeps_name(&rt, &genome, letters)?);
+    }
+    Ok(())
+}
+
 #[test]
 fn records_are_small(rt: HostRuntime) {
     let size = size_of::<Record>();

@@ -1,17 +1,17 @@
-//! Two short texts in one block.
+//! Two texts that fit one block of a fixed size.
 ghost use Rattle.std.specs.Prelude.{◌≡◌, ◌≤◌, ◌<◌, ◌+◌, ◌^◌, length};
 
 use std::marker::Model;
 
-/// A name and a score of at most `N` bytes together. The bytes after them are 0.
+/// A name and a score of at most `N` bytes together, one after the other. The bytes beyond are 0.
 #[derive(Drop)]
-pub(crate) struct ShortTexts<const N: usize> {
+pub(crate) struct BoundedTexts<const N: usize> {
     bytes: [u8; N],
     name_len: u8,
     score_len: u8,
 }
 
-impl<const N: usize> Model for ShortTexts<N> {
+impl<const N: usize> Model for BoundedTexts<N> {
     ghost use Rattle.std.specs.Prelude.{List, ℕ, take, drop, ◌+◌, ◌≤◌};
 
     ghost Value = { List ℕ × List ℕ };
@@ -21,18 +21,19 @@ impl<const N: usize> Model for ShortTexts<N> {
     ghost invariant = { λ t. t.name_len + t.score_len ≤ N };
 }
 
-impl<const N: usize> ShortTexts<N> {
+impl<const N: usize> BoundedTexts<N> {
+    /// The two copied.
     pub(crate) fn copy_of(name: &[u8], score: &[u8]) -> Self
         requires fit { length name.now + length score.now ≤ N }
-        requires small { N < 2 ^ 8 }
+        requires lengths { N < 2 ^ 8 }
         ensures { result ≡ (name.now, score.now) }
     {
         let mut bytes = [0; N];
-        let (front, rest) = bytes.split_at_mut(name.len());
-        let (middle, _free) = rest.split_at_mut(score.len());
-        front.copy_from_slice(name);
-        middle.copy_from_slice(score);
-        ShortTexts {
+        let (first, rest) = bytes.split_at_mut(name.len());
+        let (second, _beyond) = rest.split_at_mut(score.len());
+        first.copy_from_slice(name);
+        second.copy_from_slice(score);
+        BoundedTexts {
             bytes,
             name_len: name.len() as u8,
             score_len: score.len() as u8,
