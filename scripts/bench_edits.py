@@ -25,12 +25,15 @@ import time
 from bench_views import CHROMOSOMES, TOP, VIEWS, places, stop_unless_done, write_data
 
 SEED = 21
+MOST_RECORDS = 4_000_000
 
 
 def main():
     wanted = read_words()
     if not os.access(wanted.program, os.X_OK):
         sys.exit(f"{wanted.program} is not there: run `make build` first")
+    if wanted.records + wanted.edits > MOST_RECORDS:
+        sys.exit(f"a track takes at most {MOST_RECORDS:,} records, and the adds are {wanted.edits:,} of them")
     print(f"{wanted.records:,} records, {wanted.edits:,} adds and {wanted.edits:,} removes, {wanted.runs} runs each, "
           f"{os.cpu_count()} processors, {platform.machine()}")
     print(f"Open views: {', '.join(wanted.view)}")
