@@ -3,6 +3,7 @@ use Rattle.std.proofs.Common.{◌≡◌, ℕ, ◌+◌, ◌-◌, ◌*◌, ◌<◌
 use Rattle.std.proofs.lemmas.Bool.{cond-true, cond-false, eq-eqb, ne_eqb, false≢true, lt-ltb}
 use Rattle.std.proofs.lemmas.Bool.Decides.{nat_tests}
 use Rattle.std.proofs.lemmas.Grind.{common_steps}
+use Rattle.std.proofs.Math.Nat.{pow-le-pow_right}
 use Rattle.std.proofs.lemmas.List.Elements.{All-nil, All-cons}
 use Rattle.std.proofs.lemmas.List.Splits.{slice_split_none, slice_split_at}
 use Rattle.std.specs.Char.{is_ascii_digit}
@@ -74,6 +75,9 @@ digit-bound b is = grind (arith, nat_tests, is)
 
 pub bound-more : (v b k : ℕ) → v < 10 ^ k → b ≤ 57 → v * 10 + (b - 48) < 10 ^ (k + 1)
 bound-more v b k low few = rw add-one (grind arith)
+
+pub powers-grow : (i j : ℕ) → i ≤ j → 10 ^ i ≤ 10 ^ j
+powers-grow i j le = pow-le-pow_right (omega arith) le
 
 pub rest-whole : (text : List ℕ) (at : ℕ) → text ≡ take at text ++ take (length text - at) (drop at text)
 rest-whole text at =

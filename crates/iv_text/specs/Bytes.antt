@@ -27,3 +27,6 @@ minus_sign = 45
 
 abbrev pub full_stop : ℕ
 full_stop = 46
+
+abbrev pub comma : ℕ
+comma = 44

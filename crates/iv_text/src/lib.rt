@@ -29,9 +29,9 @@ pub use iv_bytes::{
 };
 pub use laws::{first_line_ends_at_feed, last_line_ends_at_end, one_ordered_list};
 pub use lines::lines_of;
-pub use number::read_number;
+pub use number::{read_digits, read_number};
 pub use reading::read_record;
 pub use record::Record;
 pub use record_ref::RecordRef;
-pub use record_text::put_record;
+pub use record_text::{put_record, strand_bytes};
 pub use strand::{Strand, read_strand};

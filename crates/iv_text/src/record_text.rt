@@ -10,7 +10,7 @@ use iv_bytes::{Sink, WriteFault, put_pieces};
 use std::alloc::Allocator;
 
 /// The sixth column: `+`, `-`, `.`, or nothing.
-fn strand_bytes<'t>(strand: Option<Strand>) -> &'t [u8]
+pub fn strand_bytes<'t>(strand: Option<Strand>) -> &'t [u8]
     ensures { result.now ≡ strand_text strand }
 {
     match strand {

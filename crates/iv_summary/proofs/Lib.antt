@@ -1,0 +1,3 @@
+mod TakingLemmas
+mod JoinLemmas
+pub mod DifferentLemmas

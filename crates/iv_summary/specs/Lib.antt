@@ -1,0 +1,4 @@
+pub mod Takings
+pub mod Summaries
+pub mod Columns
+pub mod Values

@@ -1,0 +1,21 @@
+-- How two numbers are taken together.
+use Rattle.std.specs.Prelude.{ℕ, ℤ, ◌+ℤ◌, unsigned_abs, Option, None, Some}
+use Rattle.std.specs.Int.{int_min, int_max}
+use Rattle.iv_summary.specs.declared.taking.Taking.{Taking}
+use Rattle.iv_summary.specs.declared.taking.Taking.TheVariants.{Sum, Least, Greatest}
+
+-- two numbers taken together
+abbrev pub both_of : Taking → ℤ → ℤ → ℤ
+both_of Sum = ◌+ℤ◌
+both_of Least = int_min
+both_of Greatest = int_max
+
+-- what was taken together before, if anything was, with one number more
+abbrev pub with_number : (ℤ → ℤ → ℤ) → Option ℤ → ℤ → ℤ
+with_number both None number = number
+with_number both (Some before) number = both before number
+
+-- how great it is, whatever its sign
+abbrev pub size : Option ℤ → ℕ
+size None = 0
+size (Some number) = unsigned_abs number

@@ -1,0 +1,40 @@
+//! Columns of a BED file, and what is asked of them.
+ghost use Rattle.std.specs.Prelude.{◌≡◌};
+ghost use Rattle.iv_summary.specs.Columns.{column_numbered};
+
+use crate::op::Op;
+
+/// A column of a BED file.
+#[derive(Clone, Copy, Debug, PartialEq, Eq)]
+pub enum Column {
+    Sequence,
+    Start,
+    Stop,
+    Name,
+    Score,
+    Strand,
+}
+
+impl Column {
+    /// The column of this number, from 1 to 6.
+    pub fn numbered(number: u64) -> Option<Column>
+        ensures { result ≡ column_numbered number }
+    {
+        match number {
+            1 => Some(Column::Sequence),
+            2 => Some(Column::Start),
+            3 => Some(Column::Stop),
+            4 => Some(Column::Name),
+            5 => Some(Column::Score),
+            6 => Some(Column::Strand),
+            _ => None,
+        }
+    }
+}
+
+/// What is asked of the records of a block: an operation over the values of a column.
+#[derive(Clone, Copy, Debug, PartialEq, Eq)]
+pub struct Summary {
+    pub column: Column,
+    pub op: Op,
+}
