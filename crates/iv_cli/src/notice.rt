@@ -55,7 +55,12 @@ Lines of a script, their fields parted by one TAB:
 Empty lines and lines that begin with # are skipped.
 
 Views:
-  merge             the blocks of records that overlap or are book-ended
+  merge             the blocks of records that overlap or are book-ended;
+                    -d N joins over gaps of up to N bases, -s keeps strands apart,
+                    -c LIST -o LIST add summaries of columns (count, sum, min, max,
+                    collapse, distinct)
+  cluster           every record with the number of its block; -d N
+  complement        what no record covers; -L on sequences with a record alone
   genomecov -bg     depth above 0: a row for each interval of one depth
   genomecov -bga    the same, also where the depth is 0
   genomecov -d      depth at each position, counted from 1

@@ -10,3 +10,5 @@ pub mod Meanings
 pub mod Examples
 pub mod BlockLemmas
 pub mod RunsLemmas
+pub mod TilesLemmas
+pub mod EmptyLemmas

@@ -1,6 +1,5 @@
 pub mod Blocks
 pub mod TrackBlocks
-pub mod CoverRows
 pub mod Coming
 pub mod BlockLaws
 pub mod Runs

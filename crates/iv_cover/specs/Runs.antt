@@ -15,7 +15,7 @@ joined p value (run ∷ runs) =
     then record run { start = p } ∷ runs
     else record { start = p; stop = p + 1; value = value } ∷ run ∷ runs
 
--- the maximal runs of f over so many positions from p on
+-- the maximal runs of f over this number of positions from p on
 unfoldable pub runs_over : (ℕ → ℕ) → ℕ → ℕ → List Run
 runs_over f p zero = []
 runs_over f p (suc count) = joined p (f p) (runs_over f (p + 1) count)

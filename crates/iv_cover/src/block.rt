@@ -8,8 +8,8 @@ use std::alloc::Allocator;
 #[derive(Clone, Copy, Debug, PartialEq, Eq)]
 pub struct Block {
     pub sequence: u32,
-    pub start: u64,
-    pub stop: u64,
+    pub start: u32,
+    pub stop: u32,
 }
 
 impl Block {
@@ -17,10 +17,11 @@ impl Block {
     pub(crate) fn of<A: Allocator>(next: &Record<A>) -> Block
         ensures { result ≡ record { sequence = next.now.seq; start = next.now.start; stop = next.now.stop } }
     {
+        next.law_of_place();
         Block {
             sequence: next.seq(),
-            start: next.start(),
-            stop: next.stop(),
+            start: next.start() as u32,
+            stop: next.stop() as u32,
         }
     }
 
@@ -28,7 +29,7 @@ impl Block {
     pub(crate) fn is_joined_by<A: Allocator>(self, next: &Record<A>, distance: u32) -> bool
         ensures { result ≡ ((next.now.seq == self.sequence) && nat_le next.now.start (self.stop + distance)) }
     {
-        let gap = next.start().saturating_sub(self.stop);
+        let gap = next.start().saturating_sub(u64::from(self.stop));
         next.seq() == self.sequence && gap <= u64::from(distance)
     }
 
@@ -36,10 +37,11 @@ impl Block {
     pub(crate) fn with<A: Allocator>(self, next: &Record<A>) -> Block
         ensures { result ≡ record { sequence = self.sequence; start = self.start; stop = max self.stop next.now.stop } }
     {
+        next.law_of_place();
         Block {
             sequence: self.sequence,
             start: self.start,
-            stop: self.stop.max(next.stop()),
+            stop: self.stop.max(next.stop() as u32),
         }
     }
 }

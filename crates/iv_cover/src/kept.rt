@@ -22,8 +22,6 @@ pub trait Kept<A: Allocator + Copy> {
 
     /// What the state was built for.
     ghost built_for: { Self → Self.Settings };
-    /// Whether settings serve a track of this width.
-    ghost suits: { Self.Settings → ℕ → Type 0 };
     /// Whether the state is right for a genome of these names and these records in order.
     ghost is_right: { Self → List (List ℕ) → List Row → Type 0 };
     /// What a view of these settings prints.
@@ -39,7 +37,6 @@ pub trait Kept<A: Allocator + Copy> {
         genome: &Genome<A>,
         meter: &mut Meter,
     ) -> Result<Self, AllocError>
-        requires suits { suits settings track.now.width }
         requires fit { All (Fits genome.now track.now.width) track.now.rows }
         ensures right { IfOk result (λ s. is_right s (names_of genome.now) track.now.rows) }
         ensures built_for { IfOk result (λ s. built_for s ≡ settings) };

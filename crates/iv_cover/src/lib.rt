@@ -1,11 +1,10 @@
-//! What records cover: their blocks.
+//! What records cover: blocks, depth, runs of positions; and the law of states that are kept of views.
 #![tactic(auto)]
 
 mod block;
 mod blocks;
 mod kept;
 mod laws;
-mod merge;
 
 pub use block::Block;
 pub use blocks::Blocks;
@@ -14,4 +13,3 @@ pub use laws::{
     blocks_start_after_gaps, blocks_stop_with_their_last_record, gaps_part_blocks,
     records_belong_to_one_block, runs_are_the_tiling,
 };
-pub use merge::{Merge, put_merge};

@@ -16,7 +16,7 @@ use Rattle.std.proofs.lemmas.List.Elements.{All-head, All-tail, All-cons}
 use Rattle.std.proofs.lemmas.Map.Views.{All-values-insert_entry, All-values-set_value}
 use Rattle.std.specs.BTreeMap.{is_at, insert_entry}
 use Rattle.iv_track.specs.Entries.{IsLedger, value_at}
-use Rattle.iv_depth.specs.Changes.{Place, Entries, place_cmp, total, reaches, AreChangesOf, Bumps}
+use Rattle.iv_depth.specs.Changes.{Place, Entries, place_cmp, total, reaches, AreChangesOf, Bumps, Shifts}
 
 module _ {K : Type 0} (passes : K → Bool) where
   -- a new entry
@@ -73,58 +73,61 @@ module _ {K : Type 0} (passes : K → Bool) where
           let rest = further (rw is at found) in
           rw is (omega (arith, ints, rest))
 
--- a record reaches from its start on, and no more from its stop on
-reaches-covers : (r : Row) (rank p : ℕ) → r.start < r.stop
-    → (if reaches rank p (r.seq, r.start) then pos 1 else pos 0)
-    ≡ (if reaches rank p (r.seq, r.stop) then pos 1 else pos 0) +ℤ pos (cond (covers rank p r) 1 0)
-reaches-covers r rank p h = go (eqb r.seq rank) (cases_lt p r.start) (cases_lt p r.stop)
+-- a change at a record's start and the opposite one at its stop change the sums at the positions that it covers
+shifted : (r : Row) (rank p : ℕ) (by back : ℤ) → r.start < r.stop → back +ℤ by ≡ pos 0
+    → (if reaches rank p (r.seq, r.start) then by else pos 0) +ℤ (if reaches rank p (r.seq, r.stop) then back else pos 0)
+    ≡ (if covers rank p r then by else pos 0)
+shifted r rank p by back h none = go (eqb r.seq rank) (cases_lt p r.start) (cases_lt p r.stop)
   where
     go : (on_s : Bool) → (p < r.start) ⊎ (r.start ≤ p) → (p < r.stop) ⊎ (r.stop ≤ p)
-        → (if on_s && leb r.start p then pos 1 else pos 0)
-        ≡ (if on_s && leb r.stop p then pos 1 else pos 0) +ℤ pos (cond (on_s && (leb r.start p && ltb p r.stop)) 1 0)
+        → (if on_s && leb r.start p then by else pos 0) +ℤ (if on_s && leb r.stop p then back else pos 0)
+        ≡ (if on_s && (leb r.start p && ltb p r.stop) then by else pos 0)
     go false a b = refl
     go true (inl before) b = rw (lt-leb r.start p before, lt-leb r.stop p (omega arith)) refl
-    go true (inr since) (inl within) = rw (le-leb r.start p since, lt-leb r.stop p within, lt-ltb p r.stop within) refl
-    go true (inr since) (inr past) = rw (le-leb r.start p since, le-leb r.stop p past, le-ltb p r.stop past) refl
+    go true (inr since) (inl within) = rw (le-leb r.start p since, lt-leb r.stop p within, lt-ltb p r.stop within) (omega (arith, ints))
+    go true (inr since) (inr past) = rw (le-leb r.start p since, le-leb r.stop p past, le-ltb p r.stop past) (omega (arith, ints, none))
 
 pub depth-cons : (r : Row) (records : List Row) (rank p : ℕ) → depth (r ∷ records) rank p ≡ cond (covers rank p r) 1 0 + depth records rank p
 depth-cons r records rank p = sum_by-cons (λ x. cond (covers rank p x) 1 0) r records
 
-cancels : (b : Bool) → (if b then negsuc 0 else pos 0) +ℤ (if b then pos 1 else pos 0) ≡ pos 0
-cancels true = refl
-cancels false = refl
+-- such two changes
+pub Shifts-of : (r : Row) (by back : ℤ) (entries between after : Entries) (rank stop : ℕ) → r.start < r.stop
+    → Bumps entries between (r.seq, r.start) by → Bumps between after (rank, stop) back → rank ≡ r.seq → stop ≡ r.stop → back +ℤ by ≡ pos 0
+    → Shifts r by entries after
+Shifts-of r by back entries between after rank stop h first last same_rank same_stop none =
+    let second : Bumps between after (r.seq, r.stop) back = rw (← same_rank, ← same_stop) last in record {
+      ordered = second.ordered;
+      changes = λ all. second.changes (first.changes all);
+      sums = λ rank p.
+          let e = shifted r rank p by back h none in
+          omega (arith, ints, first.sums (reaches rank p), second.sums (reaches rank p), e);
+    }
 
--- one more record: one more from its start on, one less from its stop on
-pub AreChangesOf-added : (r : Row) (records : List Row) (entries between after : Entries) → r.start < r.stop
-    → AreChangesOf records entries
-    → Bumps entries between (r.seq, r.start) (pos 1) → Bumps between after (r.seq, r.stop) (negsuc 0)
-    → AreChangesOf (r ∷ records) after
-AreChangesOf-added r records entries between after h old first second = record {
-  ordered = second.ordered;
-  changes = second.changes (first.changes old.changes);
-  depths = λ rank p.
-      let e = reaches-covers r rank p h in
-      let d = depth-cons r records rank p in
-      let minus : (if reaches rank p (r.seq, r.stop) then negsuc 0 else pos 0) +ℤ (if reaches rank p (r.seq, r.stop) then pos 1 else pos 0) ≡ pos 0
-      = cancels (reaches rank p (r.seq, r.stop)) in
-      omega (arith, ints, old.depths rank p, first.sums (reaches rank p), second.sums (reaches rank p), e, d, minus);
+-- one more at each position that a record covers is one more record
+pub AreChangesOf-added : (r : Row) (records : List Row) (entries after : Entries) → Shifts r (pos 1) entries after
+    → AreChangesOf records entries → AreChangesOf (r ∷ records) after
+AreChangesOf-added r records entries after shift old = record {
+  ordered = shift.ordered;
+  changes = shift.changes old.changes;
+  depths = λ rank p. more (covers rank p r) _ _ _ _ (old.depths rank p) (shift.sums rank p) (depth-cons r records rank p);
 }
+  where
+    more : (here : Bool) (a b : ℤ) (n m : ℕ) → a ≡ pos n → b ≡ a +ℤ (if here then pos 1 else pos 0) → m ≡ cond here 1 0 + n → b ≡ pos m
+    more true a b n m e f h = omega (arith, ints)
+    more false a b n m e f h = omega (arith, ints)
 
--- and one record less
-pub AreChangesOf-removed : (r : Row) (records : List Row) (entries between after : Entries) → r.start < r.stop
-    → AreChangesOf (r ∷ records) entries
-    → Bumps entries between (r.seq, r.start) (negsuc 0) → Bumps between after (r.seq, r.stop) (pos 1)
-    → AreChangesOf records after
-AreChangesOf-removed r records entries between after h old first second = record {
-  ordered = second.ordered;
-  changes = second.changes (first.changes old.changes);
-  depths = λ rank p.
-      let e = reaches-covers r rank p h in
-      let d = depth-cons r records rank p in
-      let minus : (if reaches rank p (r.seq, r.start) then negsuc 0 else pos 0) +ℤ (if reaches rank p (r.seq, r.start) then pos 1 else pos 0) ≡ pos 0
-      = cancels (reaches rank p (r.seq, r.start)) in
-      omega (arith, ints, old.depths rank p, first.sums (reaches rank p), second.sums (reaches rank p), e, d, minus);
+-- and one less is one record less
+pub AreChangesOf-removed : (r : Row) (records : List Row) (entries after : Entries) → Shifts r (negsuc 0) entries after
+    → AreChangesOf (r ∷ records) entries → AreChangesOf records after
+AreChangesOf-removed r records entries after shift old = record {
+  ordered = shift.ordered;
+  changes = shift.changes old.changes;
+  depths = λ rank p. less (covers rank p r) _ _ _ _ (old.depths rank p) (shift.sums rank p) (depth-cons r records rank p);
 }
+  where
+    less : (here : Bool) (a b : ℤ) (n m : ℕ) → a ≡ pos m → b ≡ a +ℤ (if here then negsuc 0 else pos 0) → m ≡ cond here 1 0 + n → b ≡ pos n
+    less true a b n m e f h = omega (arith, ints)
+    less false a b n m e f h = omega (arith, ints)
 
 -- only equal places tie
 pub place-same : (k x : Place) → is_at (place_cmp k) x ≡ true → x ≡ k

@@ -1,29 +1,12 @@
 -- The runs of a depth above 0.
-use Rattle.std.proofs.Common.{◌≡◌, ℕ, ◌<◌, ◌≤◌, List, [], ◌∷◌, ◌⊎◌, refl, subst, arith, inl, inr, nat_lt, true}
+use Rattle.std.proofs.Common.{◌≡◌, ℕ, ◌<◌, ◌≤◌, arith, nat_lt, true}
 use borrow.Author.Tests.{ltb-true}
-use Rattle.std.proofs.lemmas.Bool.{cases_lt, lt-ltb}
-use Rattle.iv_cover.specs.Runs.{Run, runs, Tiles}
+use Rattle.std.proofs.lemmas.Bool.{lt-ltb}
+use Rattle.iv_cover.specs.Runs.{Run, runs}
 use Rattle.iv_cover.proofs.RunsLemmas.{Tiles-runs}
+use Rattle.iv_cover.proofs.TilesLemmas.{tiles-position, tiles-run}
 use Rattle.iv_cover.proofs.Tests.{Mem, mem-filter, mem-filter_from}
 use Rattle.iv_depth.specs.DepthRows.{covered_runs}
-
--- each position is in a run
-tiles-position : (f : ℕ → ℕ) (from to p : ℕ) (xs : List Run) → Tiles f from to xs → from ≤ p → p < to
-    → (run : Run) × Mem run xs × (run.start ≤ p) × (p < run.stop) × (f p ≡ run.value)
-tiles-position f from to p [] t low high = absurd (omega (arith, t))
-tiles-position f from to p (x ∷ xs) t low high = go (cases_lt p x.stop) (λ past. tiles-position f x.stop to p xs t.4 past high)
-  where
-    go : (p < x.stop) ⊎ (x.stop ≤ p) → (x.stop ≤ p → (run : Run) × Mem run xs × (run.start ≤ p) × (p < run.stop) × (f p ≡ run.value))
-        → (run : Run) × Mem run (x ∷ xs) × (run.start ≤ p) × (p < run.stop) × (f p ≡ run.value)
-    go (inl within) later = (x, inl refl, omega (arith, t.0), within, t.2 p (omega (arith, t.0)) within)
-    go (inr past) later = let l = later past in (l.0, inr l.1, l.2, l.3, l.4)
-
--- a run has its value at each of its positions
-tiles-run : (f : ℕ → ℕ) (from to : ℕ) (xs : List Run) (run : Run) → Tiles f from to xs → Mem run xs
-    → (p : ℕ) → run.start ≤ p → p < run.stop → f p ≡ run.value
-tiles-run f from to [] run t m = absurd m
-tiles-run f from to (x ∷ xs) run t (inl is) = subst (λ (r : Run). (p : ℕ) → r.start ≤ p → p < r.stop → f p ≡ r.value) is t.2
-tiles-run f from to (x ∷ xs) run t (inr m) = tiles-run f x.stop to xs run t.4 m
 
 pub covered-held : (f : ℕ → ℕ) (to p : ℕ) → p < to → 0 < f p → (run : Run) × Mem run (covered_runs f 0 to) × (run.start ≤ p) × (p < run.stop)
 covered-held f to p low some =

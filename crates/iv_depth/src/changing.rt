@@ -3,7 +3,7 @@ ghost use Rattle.std.specs.Prelude.{◌≡◌, ◌≢◌, ℤ, pos, negsuc, ◌�
 ghost use Rattle.iv_text.specs.Row.{Row};
 ghost use Rattle.iv_track.specs.Entries.{value_at};
 ghost use Rattle.iv_track.specs.Steps.{TakesUpTo};
-ghost use Rattle.iv_depth.specs.Changes.{place_cmp, AreChanges, AreChangesOf, Bumps};
+ghost use Rattle.iv_depth.specs.Changes.{place_cmp, AreChanges, AreChangesOf, Bumps, Shifts};
 
 use iv_text::RecordRef;
 use iv_track::{Ledger, Meter};
@@ -24,9 +24,7 @@ pub(crate) fn add_record<A: Allocator + Copy>(
     ensures ok { OnOk result ((rows : List Row) → AreChangesOf rows changes.old → AreChangesOf (row.now ∷ rows) changes.new) }
     ensures steps { TakesUpTo meter.old meter.new 4 }
 {
-    row.law_of_place();
-    bump(changes, (row.seq(), row.start() as u32), 1, meter)?;
-    bump(changes, (row.seq(), row.stop() as u32), -1, meter)
+    shift(changes, row, 1, meter)
 }
 
 /// One record less. At most 4 steps.
@@ -41,9 +39,24 @@ pub(crate) fn take_record<A: Allocator + Copy>(
     ensures ok { OnOk result ((rows : List Row) → AreChangesOf (row.now ∷ rows) changes.old → AreChangesOf rows changes.new) }
     ensures steps { TakesUpTo meter.old meter.new 4 }
 {
+    shift(changes, row, -1, meter)
+}
+
+/// Adds 1 or -1 to the depth of each position that the record covers. At most 4 steps.
+fn shift<A: Allocator + Copy>(
+    changes: &mut Changes<A>,
+    row: &RecordRef<'_>,
+    by: i64,
+    meter: &mut Meter,
+) -> Result<(), AllocError>
+    requires known { AreChanges changes.old }
+    requires by { (negsuc 0 ≤ℤ by) × (by ≤ℤ pos 1) × (by ≢ pos 0) }
+    ensures ok { OnOk result (Shifts row.now by changes.old changes.new) }
+    ensures steps { TakesUpTo meter.old meter.new 4 }
+{
     row.law_of_place();
-    bump(changes, (row.seq(), row.start() as u32), -1, meter)?;
-    bump(changes, (row.seq(), row.stop() as u32), 1, meter)
+    bump(changes, (row.seq(), row.start() as u32), by, meter)?;
+    bump(changes, (row.seq(), row.stop() as u32), -by, meter)
 }
 
 /// Adds 1 or -1 to the change at a place. An entry that becomes 0 is taken out. At most 2 steps.

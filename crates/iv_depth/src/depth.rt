@@ -37,8 +37,6 @@ impl<A: Allocator + Copy> Kept<A> for Depth<A> {
 
     ghost built_for = { λ depth. depth.shown };
 
-    ghost suits = { λ _ _. Unit {0} };
-
     ghost is_right = { λ depth _ rows. AreChangesOf rows depth.entries };
 
     ghost text = { depth_text };

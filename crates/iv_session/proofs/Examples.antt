@@ -18,6 +18,8 @@ use Rattle.iv_session.specs.declared.fault.LineFault.TheVariants as line
 use Rattle.iv_session.specs.declared.fault.RequestFault.TheVariants as request_fault
 use Rattle.iv_state.specs.declared.fault.PrintFault.TheVariants as printing
 use Rattle.iv_view.specs.declared.fault.ViewFault.TheVariants as fault
+use Rattle.iv_blocks.specs.Groups.{filled}
+use Rattle.iv_view.specs.declared.view.View.{View}
 use Rattle.iv_view.specs.declared.view.View.TheVariants as view
 
 abbrev g : Sequences
@@ -36,9 +38,13 @@ first_row = record { seq = 0; start = 10; stop = 20; name = []; score = []; stra
 abbrev second_row : Row
 second_row = record { seq = 0; start = 15; stop = 30; name = []; score = []; strand = None; width = 3 }
 
+-- a merge without options
+abbrev plain_merge : View
+plain_merge = view.Merge (record { distance = 0; stranded = false; summaries = filled [] })
+
 -- an open view that shows the merged blocks
 abbrev merging : Shown
-merging = record { view = view.Merge; stale = false }
+merging = record { view = plain_merge; stale = false }
 
 abbrev with_a_view : State
 with_a_view = record empty { views = (codes "m", merging) ∷ [] }
@@ -64,7 +70,7 @@ printall-takes_no_field = refl
 pub records-stand_behind_add : asked g 3 (codes "add" ++ tab ++ codes "chr1" ++ tab ++ codes "10" ++ tab ++ codes "20") ≡ Ok (request.Add first_row)
 records-stand_behind_add = refl
 
-pub spaces-are_no_words : read_words 3 false false (words (codes "  merge ")) ≡ Ok view.Merge
+pub spaces-are_no_words : read_words 3 false false (words (codes "  merge ")) ≡ Ok plain_merge
 spaces-are_no_words = refl
 
 pub no_words-are_no_view : read_words 3 false false (words []) ≡ Err fault.Words
@@ -94,10 +100,10 @@ script =
 abbrev silent : Written
 silent = printed []
 
-pub script-steps : Steps Runs empty script (silent ∷ silent ∷ silent ∷ printed (view_text view.Merge g with_two.track.rows) ∷ refused_by (Some 7) ∷ []) with_two
+pub script-steps : Steps Runs empty script (silent ∷ silent ∷ silent ∷ printed (view_text plain_merge g with_two.track.rows) ∷ refused_by (Some 7) ∷ []) with_two
 script-steps = (
   with_a_view,
-  inl ([], ((view.Merge, refl, refl), refl), refl),
+  inl ([], ((plain_merge, refl, refl), refl), refl),
   (
     with_one,
     inl ([], (omega arith, (refl, (refl, refl, (λ stale. stale), tt)), refl), refl),
@@ -106,7 +112,7 @@ script-steps = (
       inl ([], (omega arith, (refl, (refl, refl, (λ stale. stale), tt)), refl), refl),
       (
         with_two,
-        inl (view_text view.Merge g with_two.track.rows, (merging, refl, refl, refl), refl),
+        inl (view_text plain_merge g with_two.track.rows, (merging, refl, refl, refl), refl),
         (with_two, inr (line.Request (request_fault.Record record_fault.PastEnd), refl, refl, refl), refl),
       ),
     ),
@@ -115,13 +121,13 @@ script-steps = (
 
 -- the add of the one record may leave the view stale; then a print may want memory, or write the text and make it current
 abbrev with_stale : State
-with_stale = record with_one { views = (codes "m", record { view = view.Merge; stale = true }) ∷ [] }
+with_stale = record with_one { views = (codes "m", record { view = plain_merge; stale = true }) ∷ [] }
 
 pub edits-may_leave_a_view_stale : Runs with_a_view (codes "add" ++ tab ++ codes "chr1" ++ tab ++ codes "10" ++ tab ++ codes "20") with_stale silent
 edits-may_leave_a_view_stale = inl ([], (omega arith, (refl, (refl, refl, (λ stale. refl), tt)), refl), refl)
 
 pub prints-may_want_memory : Runs with_stale (codes "print" ++ tab ++ codes "m") with_stale (refused_by (Some 22))
-prints-may_want_memory = inr (line.Print printing.NoMemory, (record { view = view.Merge; stale = true }, refl, refl), refl, refl)
+prints-may_want_memory = inr (line.Print printing.NoMemory, (record { view = plain_merge; stale = true }, refl, refl), refl, refl)
 
-pub prints-make_a_view_current : Runs with_stale (codes "print" ++ tab ++ codes "m") with_one (printed (view_text view.Merge g with_one.track.rows))
-prints-make_a_view_current = inl (view_text view.Merge g with_one.track.rows, (record { view = view.Merge; stale = true }, refl, refl, refl), refl)
+pub prints-make_a_view_current : Runs with_stale (codes "print" ++ tab ++ codes "m") with_one (printed (view_text plain_merge g with_one.track.rows))
+prints-make_a_view_current = inl (view_text plain_merge g with_one.track.rows, (record { view = plain_merge; stale = true }, refl, refl, refl), refl)

@@ -1,17 +1,23 @@
 -- The records of a session.
 use Rattle.std.specs.Prelude.{All}
-use Rattle.std.proofs.Common.{◌≡◌, ◌∙◌, ℕ, ◌<◌, ◌≤◌, inl, inr, List, None, length, arith, refl, sym, ap, subst}
-use Rattle.std.proofs.lemmas.Bool.{cases_lt}
-use Rattle.std.proofs.lemmas.List.Elements.{All-from_recursion, recursion_from_All}
+use Rattle.std.proofs.Common.{◌≡◌, ◌∙◌, ℕ, ◌<◌, ◌≤◌, inl, inr, true, false, List, [], ◌∷◌, ◌++◌, None, Ok, length, arith, refl, sym, ap, subst}
+use Rattle.std.specs.Option.{is_some}
+use Rattle.std.proofs.lemmas.Bool.{cases_lt, lt-leb}
+use Rattle.std.proofs.lemmas.List.{map-append}
 use Rattle.iv_text.specs.Genome.{Sequences}
 use Rattle.iv_text.specs.Ordered.{copies, added, AreInOrder}
 use Rattle.iv_text.specs.Read.{Fits}
 use Rattle.iv_text.specs.Row.{Row, row_cmp, rows_total}
 use Rattle.iv_text.proofs.RowLemmas.{rows_exact}
-use Rattle.iv_text.proofs.OrderedLemmas.{all-added, length-added, in_order-added, copies-added, rows-alone}
+use Rattle.iv_text.proofs.OrderedLemmas.{length-added, in_order-added, copies-added}
 use Rattle.iv_track.specs.Tracked.{Tracked, removed}
-use Rattle.iv_track.proofs.Counts.{all-removed, length-removed, in_order-removed, copies-removed, removed-added}
+use Rattle.iv_track.proofs.Counts.{length-removed, removed-added}
+use Rattle.iv_track.proofs.Edits.{All-added, All-removed, added-removed}
+use Rattle.iv_view.specs.declared.view.View.{View}
+use Rattle.iv_state.specs.Keeping.{all_seen, seen}
 use Rattle.iv_state.specs.OpenViews.{Shown, Stales}
+use Rattle.iv_state.specs.Views.{is_view_name, view_named, words_said, opened}
+use Rattle.iv_state.specs.declared.open_view.OpenView.{OpenView}
 use Rattle.iv_state.specs.States.{State, IsSession, IsButStale, with_rows}
 
 -- where a number from the limit on is refused, one that is not refused is below it
@@ -23,9 +29,7 @@ below-unless n limit answer refusal at other = elim (cases_lt n limit) [
 
 -- the records fit with one more that fits
 pub fit-added : (g : Sequences) (t : Tracked) (r : Row) → IsSession g t → Fits g t.width r → All (Fits g t.width) (added t.rows r)
-fit-added g t r is fits =
-    All-from_recursion (Fits g t.width) (added t.rows r)
-    (all-added row_cmp (Fits g t.width) t.rows r fits (recursion_from_All (Fits g t.width) t.rows is.fit))
+fit-added g t r is fits = All-added (Fits g t.width) t.rows r is.fit fits
 
 -- with one more record that fits there is still a session, where there was room
 pub session-added : (g : Sequences) (t : Tracked) (r : Row)
@@ -43,8 +47,7 @@ pub session-removed : (g : Sequences) (t : Tracked) (r : Row)
 session-removed g t r is there = record {
   low = is.low;
   high = is.high;
-  fit = All-from_recursion (Fits g t.width) (removed t.rows r)
-      (all-removed row_cmp (Fits g t.width) t.rows r (recursion_from_All (Fits g t.width) t.rows is.fit));
+  fit = All-removed (Fits g t.width) t.rows r is.fit;
   few = omega (arith, length-removed row_cmp t.rows r there, is.few);
 }
 
@@ -54,12 +57,6 @@ pub session-replaced : (g : Sequences) (t : Tracked) (r q : Row)
 session-replaced g t r q is there fits =
     session-added g (record t { rows = removed t.rows r }) q (session-removed g t r is there) fits
     (omega (arith, length-removed row_cmp t.rows r there, is.few))
-
--- a record that was taken out and is put in again
-pub added-removed : (rows : List Row) (r : Row) → AreInOrder rows → 0 < copies rows r → rows ≡ added (removed rows r) r
-added-removed rows r order there =
-    rows-alone rows (added (removed rows r) r) order (in_order-added row_cmp rows_total (removed rows r) r (in_order-removed row_cmp rows r order))
-    (λ q. omega (arith, copies-added row_cmp (removed rows r) r q, copies-removed row_cmp rows_total rows r q there))
 
 -- a session of these parts
 abbrev pub state_of : Sequences → Tracked → List (List ℕ × Shown) → State
@@ -108,3 +105,15 @@ replaced-in g old mid new views s before r after q same first second session ord
     replaced g old mid new r q session order (subst (λ (x : Row). 0 < copies old.rows x) first there) inside
     (staged ∙ ap (λ (x : Row). record old { rows = added old.rows x }) second)
     (taken ∙ ap (λ (x : Row). record mid { rows = removed mid.rows x }) first)
+
+-- a name without a fault leaves it to the words
+pub no-name_fault : (s : State) (name : List ℕ) (words : List (List ℕ)) (v : View) → is_view_name name ≡ true → is_some (view_named s.views name) ≡ false → length s.views < 64
+    → words_said s words ≡ Ok v → opened s name words ≡ Ok v
+no-name_fault s name words v good free few said = rw (good, free, lt-leb 64 (length s.views) few) said
+
+-- one more view that is current
+pub pushed-last : {A : Type 0} (name : List ℕ) (views : List (List ℕ × OpenView A)) (shows : OpenView A) (v : View) → seen shows ≡ record { view = v; stale = false }
+    → all_seen (views ++ (name, shows) ∷ []) ≡ all_seen views ++ (name, record { view = v; stale = false }) ∷ []
+pushed-last name views shows v sees =
+    map-append (λ w. (w.0, seen w.1)) views ((name, shows) ∷ [])
+    ∙ ap (λ (s : Shown). all_seen views ++ (name, s) ∷ []) sees

@@ -39,6 +39,8 @@ has_name_fault s name fault.BadName = not (is_view_name name)
 has_name_fault s name fault.Taken = is_some (view_named s.views name)
 has_name_fault s name fault.TooMany = nat_le most_views (length s.views)
 has_name_fault s name fault.Words = false
+has_name_fault s name fault.Column = false
+has_name_fault s name fault.NoStrand = false
 has_name_fault s name fault.NoMemory = false
 
 -- the faults of a name, in the order in which they are told

@@ -1,2 +1,5 @@
 mod CuttingLemmas
+mod ListLemmas
+mod SaidLemmas
+mod SummaryLemmas
 pub mod WordLemmas

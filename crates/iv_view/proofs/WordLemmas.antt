@@ -1,11 +1,105 @@
 -- The words of a view.
-use Rattle.std.proofs.Common.{◌≡◌, ℕ, Bool, List, [], ◌∷◌, take, refl}
+use Rattle.std.proofs.Common.{◌≡◌, ◌∙◌, ℕ, zero, suc, ◌+◌, ◌<◌, ◌≤◌, Bool, true, false, inl, inr, List, [], ◌∷◌, Option, Some, None, length, take, refl, sym, ap, arith}
+use Rattle.std.specs.Prelude.{if◌then◌else◌, option_and_then, codes}
+use Rattle.std.specs.Str.{bytes_eq}
+use Rattle.std.proofs.lemmas.List.{take_all, length-take-le}
+use Rattle.std.proofs.lemmas.Bool.{cases_lt}
+use Rattle.iv_view.specs.Merge.{Said, said_by, with_flag, with_value, with_value_of, option_of, unless_given, nothing_said}
+use Rattle.iv_view.specs.Complement.{is_limited}
+use Rattle.iv_view.specs.Genomecov.{genomecov_rows}
+use Rattle.iv_view.specs.declared.options.ValuedOption.{ValuedOption}
+use Rattle.iv_view.specs.declared.options.ValuedOption.TheVariants as option
 use Rattle.iv_view.specs.Views.{read_words}
+
+some-same : (a b : Said) → Some a ≡ Some b → a ≡ b
+some-same a b is = cc
+
+none-some : (a : Said) → ◌≡◌ {A = Option Said} None (Some a) → ⊥
+none-some a is = cc
+
+-- how many words may still come: an option and its value for each that has none, and a flag
+abbrev pub room : Option (List ℕ) → ℕ
+room None = 2
+room (Some value) = 0
+
+abbrev pub flag_room : Bool → ℕ
+flag_room true = 0
+flag_room false = 1
+
+abbrev pub rooms : Said → ℕ
+rooms said = flag_room said.stranded + (room said.distance + (room said.columns + room said.ops))
+
+-- a value takes the room of two words
+value-room : (option : Option ValuedOption) (value : List ℕ) (said next : Said) → with_value_of option value said ≡ Some next → rooms next + 2 ≤ rooms said
+value-room None value said next is = absurd (none-some next is)
+value-room (Some option.Distance) value said next is = given said.distance refl is
+  where
+    given : (d : Option (List ℕ)) → said.distance ≡ d → unless_given d (record said { distance = Some value }) ≡ Some next → rooms next + 2 ≤ rooms said
+    given None at is = let same = some-same _ _ is in omega (arith, ap room at, ap rooms same)
+    given (Some v) at is = absurd (none-some next is)
+value-room (Some option.Columns) value said next is = given said.columns refl is
+  where
+    given : (d : Option (List ℕ)) → said.columns ≡ d → unless_given d (record said { columns = Some value }) ≡ Some next → rooms next + 2 ≤ rooms said
+    given None at is = let same = some-same _ _ is in omega (arith, ap room at, ap rooms same)
+    given (Some v) at is = absurd (none-some next is)
+value-room (Some option.Ops) value said next is = given said.ops refl is
+  where
+    given : (d : Option (List ℕ)) → said.ops ≡ d → unless_given d (record said { ops = Some value }) ≡ Some next → rooms next + 2 ≤ rooms said
+    given None at is = let same = some-same _ _ is in omega (arith, ap room at, ap rooms same)
+    given (Some v) at is = absurd (none-some next is)
+
+-- a flag takes the room of one
+flag-takes : (said next : Said) → with_flag said ≡ Some next → rooms next + 1 ≤ rooms said
+flag-takes said next is = go said.stranded refl is
+  where
+    go : (b : Bool) → said.stranded ≡ b → (if b then None else Some (record said { stranded = true })) ≡ Some next → rooms next + 1 ≤ rooms said
+    go true at is = absurd (none-some next is)
+    go false at is = let same = some-same _ _ is in omega (arith, ap flag_room at, ap rooms same)
+
+-- more words than there is room for say nothing
+too-many : (n : ℕ) (words : List (List ℕ)) (said : Said) → length words ≤ n → rooms said < length words → said_by words said ≡ None
+too-many n [] said size more = absurd (omega arith)
+too-many n (word ∷ []) said size more = go (bytes_eq word (codes "-s")) (with_flag said) refl
+  where
+    go : (b : Bool) (o : Option Said) → with_flag said ≡ o → (if b then o else None) ≡ None
+    go false o is = refl
+    go true None is = refl
+    go true (Some next) is = let less = flag-takes said next is in absurd (omega (arith, less, more))
+too-many zero (word ∷ next ∷ words) said size more = absurd (omega arith)
+too-many (suc n) (word ∷ next ∷ words) said size more =
+    go (λ after less. too-many n (next ∷ words) after (omega arith) (omega (arith, less, more)))
+    (λ after less. too-many n words after (omega arith) (omega (arith, less, more)))
+    (bytes_eq word (codes "-s")) (with_flag said) refl (with_value word next said) refl
+  where
+    go : ((after : Said) → rooms after + 1 ≤ rooms said → said_by (next ∷ words) after ≡ None) → ((after : Said) → rooms after + 2 ≤ rooms said → said_by words after ≡ None)
+        → (b : Bool) (flag : Option Said) → with_flag said ≡ flag → (value : Option Said) → with_value word next said ≡ value
+        → (if b then option_and_then (said_by (next ∷ words)) flag else option_and_then (said_by words) value) ≡ None
+    go one two true None is value at = refl
+    go one two true (Some after) is value at = one after (flag-takes said after is)
+    go one two false flag is None at = refl
+    go one two false flag is (Some after) at = two after (value-room (option_of word) next said after at)
+
+-- words behind the eighth change nothing
+options-cut : (words : List (List ℕ)) → said_by (take 8 words) nothing_said ≡ said_by words nothing_said
+options-cut words = elim (cases_lt 8 (length words)) [
+  | inr few ↦ ap (λ (l : List (List ℕ)). said_by l nothing_said) (take_all 8 words few)
+  | inl many ↦
+      too-many 8 (take 8 words) nothing_said (omega (arith, length-take-le 8 words (omega arith))) (omega (arith, length-take-le 8 words (omega arith)))
+      ∙ sym (too-many (length words) words nothing_said (omega arith) (omega arith))
+]
+
+limited-cut : (words : List (List ℕ)) → is_limited (take 8 words) ≡ is_limited words
+limited-cut [] = refl
+limited-cut (word ∷ []) = refl
+limited-cut (word ∷ next ∷ words) = refl
+
+rows-cut : (words : List (List ℕ)) → genomecov_rows (take 8 words) ≡ genomecov_rows words
+rows-cut [] = refl
+rows-cut (word ∷ []) = refl
+rows-cut (word ∷ next ∷ words) = refl
 
 -- words behind the ninth change nothing: no view has as many
 pub words-cut : (width : ℕ) (has_second has_bases : Bool) (words : List (List ℕ))
     → read_words width has_second has_bases (take 9 words) ≡ read_words width has_second has_bases words
 words-cut width has_second has_bases [] = refl
-words-cut width has_second has_bases (word ∷ []) = refl
-words-cut width has_second has_bases (word ∷ next ∷ []) = refl
-words-cut width has_second has_bases (word ∷ next ∷ third ∷ words) = refl
+words-cut width has_second has_bases (word ∷ words) = rw (options-cut words, limited-cut words, rows-cut words) refl

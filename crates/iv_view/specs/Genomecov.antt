@@ -12,9 +12,8 @@ rows_of_option word =
     else if bytes_eq word (codes "-d") then Some rows.EachPosition
     else None
 
--- the rows that words ask for: they are `genomecov` and one option
+-- the rows that the words behind `genomecov` ask for: they are one option
 abbrev pub genomecov_rows : List (List ℕ) → Option DepthRows
 genomecov_rows [] = None
-genomecov_rows (word ∷ []) = None
-genomecov_rows (word ∷ option ∷ []) = if bytes_eq word (codes "genomecov") then rows_of_option option else None
-genomecov_rows (word ∷ option ∷ next ∷ words) = None
+genomecov_rows (option ∷ []) = rows_of_option option
+genomecov_rows (option ∷ next ∷ words) = None

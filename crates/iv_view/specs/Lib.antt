@@ -1,4 +1,6 @@
+pub mod Lists
 pub mod Merge
+pub mod Complement
 pub mod Genomecov
 pub mod Views
 pub mod KeptStates

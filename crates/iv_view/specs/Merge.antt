@@ -1,16 +1,126 @@
--- The view `merge`: its words and its text.
-use Rattle.std.specs.Prelude.{ℕ, Bool, false, List, [], ◌∷◌, codes}
+-- The views `merge` and `cluster`: their words.
+use Rattle.std.specs.Prelude.{ℕ, Bool, true, false, nat_le, nat_lt, ◌&&◌, ◌||◌, if◌then◌else◌, List, [], ◌∷◌, map, Option, None, Some, Result, Ok, Err, codes, option_and_then}
+use Rattle.std.specs.Option.{option_map, is_some}
 use Rattle.std.specs.Str.{bytes_eq}
-use Rattle.iv_text.specs.Genome.{Sequences}
-use Rattle.iv_text.specs.Row.{Row}
-use Rattle.iv_cover.specs.CoverRows.{merge_text}
+use Rattle.iv_text.specs.Number.{number}
+use Rattle.iv_summary.specs.Columns.{column_numbered}
+use Rattle.iv_summary.specs.Summaries.{op_named}
+use Rattle.iv_summary.specs.declared.column.Column.{Column}
+use Rattle.iv_summary.specs.declared.column.Summary.{Summary}
+use Rattle.iv_summary.specs.declared.op.Op.{Op}
+use Rattle.iv_summary.specs.declared.op.Op.TheVariants.{Sum}
+use Rattle.iv_blocks.specs.Groups.{filled}
+use Rattle.iv_blocks.specs.declared.options.Options.{Options}
+use Rattle.iv_blocks.specs.declared.options.Summaries.{Summaries}
+use Rattle.iv_view.specs.Lists.{all_some, items_in, pairs}
+use Rattle.iv_view.specs.declared.options.ValuedOption.{ValuedOption}
+use Rattle.iv_view.specs.declared.options.ValuedOption.TheVariants as option
+use Rattle.iv_view.specs.declared.fault.ViewFault.{ViewFault}
+use Rattle.iv_view.specs.declared.fault.ViewFault.TheVariants as fault
 
--- the words are the one word `merge`
-abbrev pub are_merge : List (List ℕ) → Bool
-are_merge [] = false
-are_merge (word ∷ []) = bytes_eq word (codes "merge")
-are_merge (word ∷ next ∷ words) = false
+-- what options say: the values of `-d`, `-c` and `-o` as they stand, and whether `-s` is there
+pub record Said : Type 0 where
+  pub distance : Option (List ℕ)
+  pub columns : Option (List ℕ)
+  pub ops : Option (List ℕ)
+  pub stranded : Bool
 
--- its text: the rows of the blocks of records that overlap or are book-ended
-abbrev pub merge_view_text : Sequences → List Row → List ℕ
-merge_view_text g rows = merge_text 0 g rows
+-- no option yet
+abbrev pub nothing_said : Said
+nothing_said = record { distance = None; columns = None; ops = None; stranded = false }
+
+-- with `-s`, unless it was there before
+abbrev pub with_flag : Said → Option Said
+with_flag said = if said.stranded then None else Some (record said { stranded = true })
+
+-- this, unless a value was given before
+abbrev pub unless_given : Option (List ℕ) → Said → Option Said
+unless_given None said = Some said
+unless_given (Some value) said = None
+
+-- the option with a value that a word is
+abbrev pub option_of : List ℕ → Option ValuedOption
+option_of word =
+    if bytes_eq word (codes "-d") then Some option.Distance
+    else if bytes_eq word (codes "-c") then Some option.Columns
+    else if bytes_eq word (codes "-o") then Some option.Ops
+    else None
+
+-- with a value for an option, unless that had one before
+abbrev pub with_value_of : Option ValuedOption → List ℕ → Said → Option Said
+with_value_of None value said = None
+with_value_of (Some option.Distance) value said = unless_given said.distance (record said { distance = Some value })
+with_value_of (Some option.Columns) value said = unless_given said.columns (record said { columns = Some value })
+with_value_of (Some option.Ops) value said = unless_given said.ops (record said { ops = Some value })
+
+-- with a value for the option that a word is
+abbrev pub with_value : List ℕ → List ℕ → Said → Option Said
+with_value word value said = with_value_of (option_of word) value said
+
+-- what words say beside what was said before them: each is `-s`, or an option with its value behind it, and none stands twice
+abbrev pub said_by : List (List ℕ) → Said → Option Said
+said_by [] said = Some said
+said_by (word ∷ []) said = if bytes_eq word (codes "-s") then with_flag said else None
+said_by (word ∷ next ∷ words) said =
+    if bytes_eq word (codes "-s")
+    then option_and_then (said_by (next ∷ words)) (with_flag said)
+    else option_and_then (said_by words) (with_value word next said)
+
+-- the distance that a value says: a number up to 1,000,000,000, and 0 where there is none
+abbrev pub distance_of : Option (List ℕ) → Option ℕ
+distance_of None = Some 0
+distance_of (Some value) = option_and_then (λ n. if nat_le n 1000000000 then Some n else None) (number value)
+
+-- the columns and operations that the values of `-c` and `-o` say: the operation left out is `sum`, and there is none without a column
+abbrev pub lists_of : Option (List ℕ) → Option (List ℕ) → Option (List ℕ × List Op)
+lists_of None None = Some ([], [])
+lists_of None (Some ops) = None
+lists_of (Some columns) None = option_map (λ numbers. (numbers, Sum ∷ [])) (items_in number columns)
+lists_of (Some columns) (Some ops) = option_and_then (λ numbers. option_map (λ named. (numbers, named)) (items_in op_named ops)) (items_in number columns)
+
+-- the column of this number, if a track of this width has it
+abbrev pub column_within : ℕ → ℕ → Option Column
+column_within width n = if nat_le n width then column_numbered n else None
+
+-- the summary that a column's number and an operation ask for, if a track of this width has the column
+abbrev pub summary_within : ℕ → ℕ × Op → Option Summary
+summary_within width asked = option_map (λ column. record { column = column; op = asked.1 }) (column_within width asked.0)
+
+-- the summaries in their places; a fault where one asks for a column that isn't there
+abbrev pub filled_or_fault : Option (List Summary) → Result Summaries ViewFault
+filled_or_fault None = Err fault.Column
+filled_or_fault (Some summaries) = Ok (filled summaries)
+
+-- the summaries that pairs of columns and operations ask for on a track of this width; bad words where they don't pair off
+abbrev pub asked_summaries : ℕ → Option (List (ℕ × Op)) → Result Summaries ViewFault
+asked_summaries width None = Err fault.Words
+asked_summaries width (Some asked) = filled_or_fault (all_some (map (summary_within width) asked))
+
+-- the options with these summaries on a track of this width; a fault where there are no strands to keep apart
+abbrev pub options_within : ℕ → Bool → ℕ → Result Summaries ViewFault → Result Options ViewFault
+options_within width stranded distance (Err why) = Err why
+options_within width stranded distance (Ok summaries) =
+    if stranded && nat_lt width 6
+    then Err fault.NoStrand
+    else Ok (record { distance = distance; stranded = stranded; summaries = summaries })
+
+-- the same, where the distance may be missing
+abbrev pub options_with : ℕ → Bool → Option ℕ → Result Summaries ViewFault → Result Options ViewFault
+options_with width stranded None summaries = Err fault.Words
+options_with width stranded (Some distance) summaries = options_within width stranded distance summaries
+
+-- pairs of the columns and the operations of two lists
+abbrev pub pairs_of : Option (List ℕ × List Op) → Option (List (ℕ × Op))
+pairs_of None = None
+pairs_of (Some lists) = pairs lists.0 lists.1
+
+-- the options of a merge on a track of this width that words behind `merge` say, or their first fault
+abbrev pub merge_options : ℕ → Option Said → Result Options ViewFault
+merge_options width None = Err fault.Words
+merge_options width (Some said) =
+    options_with width said.stranded (distance_of said.distance) (asked_summaries width (pairs_of (lists_of said.columns said.ops)))
+
+-- the distance of a cluster that words behind `cluster` say: they are `-d` and its value, or none
+abbrev pub cluster_distance : Option Said → Option ℕ
+cluster_distance None = None
+cluster_distance (Some said) = if said.stranded || is_some said.columns || is_some said.ops then None else distance_of said.distance

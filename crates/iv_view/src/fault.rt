@@ -20,6 +20,12 @@ pub enum ViewFault {
     /// E16: the words say no view.
     #[error("bad options")]
     Words,
+    /// E17: a number of `-c` is 0, or greater than the width of the track.
+    #[error("no such column")]
+    Column,
+    /// E18: `-s` on a track of fewer than six columns.
+    #[error("strand needs six columns")]
+    NoStrand,
     /// E22: memory was refused.
     #[error("no memory")]
     NoMemory,
@@ -47,6 +53,8 @@ impl ViewFault {
             ViewFault::Taken => 14,
             ViewFault::TooMany => 15,
             ViewFault::Words => 16,
+            ViewFault::Column => 17,
+            ViewFault::NoStrand => 18,
             ViewFault::NoMemory => 22,
         }
     }

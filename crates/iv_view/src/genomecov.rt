@@ -4,14 +4,13 @@ ghost use Rattle.iv_view.specs.Genomecov.{genomecov_rows, rows_of_option};
 
 use iv_depth::DepthRows;
 
-/// The rows that words ask for: the word `genomecov`, and `-bg`, `-bga` or `-d`.
-pub(crate) fn asks_genomecov(words: &[&[u8]]) -> Option<DepthRows>
+/// The rows that the words behind `genomecov` ask for: `-bg`, `-bga` or `-d`.
+pub(crate) fn read_genomecov(words: &[&[u8]]) -> Option<DepthRows>
     ensures { result ≡ genomecov_rows (map (λ word. word.now) words.now) }
 {
-    if words.len() == 2 && words[0] == b"genomecov".as_slice() {
-        rows_of(words[1])
-    } else {
-        None
+    match words {
+        [option] => rows_of(option),
+        _ => None,
     }
 }
 

@@ -3,7 +3,8 @@ ghost use Rattle.iv_view.specs.KeptStates.{shown_by, IsRight, repair_steps};
 ghost use Rattle.iv_view.specs.Views.{view_text};
 
 use crate::view::View;
-use iv_cover::{Kept, Merge};
+use iv_blocks::{ClusterView, ComplementView, MergeView};
+use iv_cover::Kept;
 use iv_depth::Depth;
 use iv_text::{Genome, RecordRef, Sink, WriteFault};
 use iv_track::{Meter, Track};
@@ -12,7 +13,9 @@ use std::alloc::{AllocError, Allocator, Global};
 /// What is kept of a view, so that an edit of the track costs it little. Each kind hands on to its own state.
 #[derive(Drop)]
 pub enum KeptState<A: Allocator + Copy = Global> {
-    Merge(Merge),
+    Merge(MergeView<A>),
+    Cluster(ClusterView<A>),
+    Complement(ComplementView<A>),
     Depth(Depth<A>),
 }
 
@@ -20,8 +23,6 @@ impl<A: Allocator + Copy> Kept<A> for KeptState<A> {
     type Settings = View;
 
     ghost built_for = { shown_by };
-
-    ghost suits = { λ _ _. Unit {0} };
 
     ghost is_right = { IsRight };
 
@@ -37,9 +38,17 @@ impl<A: Allocator + Copy> Kept<A> for KeptState<A> {
         meter: &mut Meter,
     ) -> Result<KeptState<A>, AllocError> {
         match view {
-            View::Merge => {
-                let merge = Merge::build(alloc, 0, track, genome, meter)?;
+            View::Merge(options) => {
+                let merge = MergeView::build(alloc, options, track, genome, meter)?;
                 Ok(KeptState::Merge(merge))
+            }
+            View::Cluster(distance) => {
+                let cluster = ClusterView::build(alloc, distance, track, genome, meter)?;
+                Ok(KeptState::Cluster(cluster))
+            }
+            View::Complement(limited) => {
+                let complement = ComplementView::build(alloc, limited, track, genome, meter)?;
+                Ok(KeptState::Complement(complement))
             }
             View::Genomecov(shown) => {
                 let depth = Depth::build(alloc, shown, track, genome, meter)?;
@@ -57,6 +66,8 @@ impl<A: Allocator + Copy> Kept<A> for KeptState<A> {
     ) -> Result<(), AllocError> {
         match self {
             KeptState::Merge(merge) => merge.added(track, genome, row, meter),
+            KeptState::Cluster(cluster) => cluster.added(track, genome, row, meter),
+            KeptState::Complement(complement) => complement.added(track, genome, row, meter),
             KeptState::Depth(depth) => depth.added(track, genome, row, meter),
         }
     }
@@ -70,6 +81,8 @@ impl<A: Allocator + Copy> Kept<A> for KeptState<A> {
     ) -> Result<(), AllocError> {
         match self {
             KeptState::Merge(merge) => merge.removed(track, genome, row, meter),
+            KeptState::Cluster(cluster) => cluster.removed(track, genome, row, meter),
+            KeptState::Complement(complement) => complement.removed(track, genome, row, meter),
             KeptState::Depth(depth) => depth.removed(track, genome, row, meter),
         }
     }
@@ -83,6 +96,8 @@ impl<A: Allocator + Copy> Kept<A> for KeptState<A> {
     ) -> Result<(), WriteFault> {
         match self {
             KeptState::Merge(merge) => merge.print(track, genome, meter, sink),
+            KeptState::Cluster(cluster) => cluster.print(track, genome, meter, sink),
+            KeptState::Complement(complement) => complement.print(track, genome, meter, sink),
             KeptState::Depth(depth) => depth.print(track, genome, meter, sink),
         }
     }

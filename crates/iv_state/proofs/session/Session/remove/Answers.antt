@@ -10,7 +10,8 @@ use Rattle.iv_state.specs.OpenViews.{all_steps}
 use Rattle.iv_state.specs.States.{State, IsSession}
 use Rattle.iv_state.specs.declared.session.Accepted.{Accepted}
 use Rattle.iv_state.proofs.OpenViewLemmas.{repaired-right, repaired-stales, repaired-steps}
-use Rattle.iv_state.proofs.SessionLemmas.{added-removed, edited, session-removed}
+use Rattle.iv_track.proofs.Edits.{added-removed}
+use Rattle.iv_state.proofs.SessionLemmas.{edited, session-removed}
 use Rattle.iv_state.proofs.session.Session.remove.Goals as goal
 
 -- the records before, by those after and the one that was taken out

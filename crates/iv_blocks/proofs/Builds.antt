@@ -1,0 +1,164 @@
+-- The blocks of all records, sequence by sequence.
+use Rattle.std.proofs.Common.{ℕ, ◌+◌, ◌<◌, ◌≤◌, ◌≡◌, inl, inr, Bool, true, false, ◌==◌, List, [], length, All, Option, Some, None, refl, sym, ap, subst, ◌∙◌, arith, eqb-true}
+use Rattle.std.specs.List.Sorted.{IsStrictlySortedBy}
+use Rattle.std.specs.Option.{option_map, option_or}
+use Rattle.std.proofs.lemmas.Bool.{cases_eq, cases_lt, and_parts, and_from, and_right, false_from_ne_true}
+use Rattle.iv_text.specs.Genome.{Sequences, sequence_length}
+use Rattle.iv_text.specs.Named.{names_of}
+use Rattle.iv_text.specs.Read.{Fits}
+use Rattle.iv_text.specs.Row.{Row}
+use Rattle.iv_track.specs.Entries.{IsLedger, value_at}
+use Rattle.iv_cover.specs.Blocks.{block_at}
+use Rattle.iv_cover.specs.TrackBlocks.{start_of, stop_of}
+use Rattle.iv_cover.proofs.Tests.{Mem, filter-agree, filter-filter, filter-none, all-mem, mem-all}
+use Rattle.iv_cover.proofs.Cover.{same_tests}
+use Rattle.iv_blocks.specs.Groups.{is_in_group, is_on_side, group, starts_between, between, members_between, listed}
+use Rattle.iv_blocks.specs.KeptBlocks.{Key, key_cmp, Kept, Entries, KeptBlocks, kept_block, kept_at, name_of, AreBlocksOf}
+use Rattle.iv_blocks.specs.Putting.{ArePut, ArePutOn}
+use Rattle.iv_blocks.specs.declared.group.Group.{Group}
+use Rattle.iv_blocks.specs.declared.options.Options.{Options}
+use Rattle.iv_blocks.proofs.GroupSweeps.{member-in}
+use Rattle.iv_blocks.proofs.Walks.{between-from}
+
+-- the sequences below this rank have their blocks, and the others have none yet
+pub record IsBuiltTo (genome : Sequences) (rows : List Row) (options : Options) (rank : ℕ) (now : KeptBlocks) : Type 0 where
+  pub for_options : now.options ≡ options
+  pub ordered : IsLedger key_cmp now.entries
+  pub below : (k : Key) → k.0 < rank → value_at key_cmp now.entries k ≡ kept_at options (names_of genome) rows k
+  pub from : (k : Key) → rank ≤ k.0 → value_at key_cmp now.entries k ≡ None
+
+no_entries : IsLedger {V = Kept} key_cmp []
+unfolding IsStrictlySortedBy
+no_entries = tt
+
+-- no block is kept yet
+pub built-none : (genome : Sequences) (rows : List Row) (now : KeptBlocks) → now.entries ≡ [] → IsBuiltTo genome rows now.options 0 now
+built-none genome rows now none = record {
+  for_options = refl;
+  ordered = subst (λ (l : Entries). IsLedger key_cmp l) (sym none) no_entries;
+  below = λ k low. absurd (omega arith);
+  from = λ k high. ap (λ (l : Entries). value_at key_cmp l k) none;
+}
+
+module _ (genome : Sequences) (width : ℕ) (rows : List Row) (fit : All (Fits genome width) rows) where
+  fits : (q : Row) → Mem q rows → Fits genome width q
+  fits = all-mem (Fits genome width) rows fit
+
+  -- no record of a sequence stops past its end
+  pub all-stops : (g : Group) (end : ℕ) → end ≡ sequence_length genome g.rank → All (λ r. r.stop ≤ end) (members_between g 0 end rows)
+  all-stops g end is = mem-all (λ r. r.stop ≤ end) _ (λ q m.
+      let member = member-in g 0 end rows q m in
+      let within : q.stop ≤ sequence_length genome q.seq = (fits q member.0).lies.within.1 in
+      omega (arith, is, ap (sequence_length genome) member.1))
+
+  in_group-rank : (s : Bool) (rank : ℕ) (minus : Bool) (q : Row) → is_in_group s rank minus q ≡ true → q.seq ≡ rank
+  in_group-rank s rank minus q e = eqb-true _ _ (and_parts (q.seq == rank) (is_on_side s minus q) e).0
+
+  -- so all records of a sequence are between its ends
+  pub group-whole : (s : Bool) (rank : ℕ) (minus : Bool) → group s rank minus (between 0 (sequence_length genome rank) rows) ≡ group s rank minus rows
+  group-whole s rank minus =
+      filter-filter (is_in_group s rank minus) (starts_between 0 (sequence_length genome rank)) rows
+      ∙ filter-agree _ _ rows (λ q m. same_tests _ _
+      (λ e. (and_parts (starts_between 0 (sequence_length genome rank) q) (is_in_group s rank minus q) e).1)
+      (λ e.
+      let lies = (fits q m).lies in
+      let at : sequence_length genome q.seq ≡ sequence_length genome rank = ap (sequence_length genome) (in_group-rank s rank minus q e) in
+      and_from _ _ (between-from 0 (sequence_length genome rank) q (omega arith) (omega (arith, lies.some, lies.within.1, at))) e))
+
+  pub kept-whole : (o : Options) (rank : ℕ) (minus : Bool) (x : ℕ)
+      → kept_at o (names_of genome) (between 0 (sequence_length genome rank) rows) (rank, minus, x) ≡ kept_at o (names_of genome) rows (rank, minus, x)
+  kept-whole o rank minus x =
+      ap (λ (l : List Row). option_map (kept_block (name_of (names_of genome) rank) (listed o.summaries)) (block_at start_of stop_of o.distance l x)) (group-whole o.stranded rank minus)
+
+  -- without strands there is nothing on the other side
+  pub kept-one_side : (o : Options) (rank x : ℕ) → o.stranded ≡ false → kept_at o (names_of genome) rows (rank, true, x) ≡ None
+  kept-one_side o rank x one =
+      ap (λ (s : Bool). option_map (kept_block (name_of (names_of genome) rank) (listed o.summaries)) (block_at start_of stop_of o.distance (group s rank true rows) x)) one
+      ∙ ap (λ (l : List Row). option_map (kept_block (name_of (names_of genome) rank) (listed o.summaries)) (block_at start_of stop_of o.distance l x))
+      (filter-none (is_in_group false rank true) rows (λ q m. and_right (q.seq == rank) false refl))
+
+  -- nor past the last sequence
+  pub kept-past : (o : Options) (k : Key) → length genome ≤ k.0 → kept_at o (names_of genome) rows k ≡ None
+  kept-past o k past =
+      ap (λ (l : List Row). option_map (kept_block (name_of (names_of genome) k.0) (listed o.summaries)) (block_at start_of stop_of o.distance l k.2))
+      (filter-none (is_in_group o.stranded k.0 k.1) rows (λ q m. false_from_ne_true _ (λ e.
+      let low = (fits q m).lies.within.0 in
+      let at = in_group-rank o.stranded k.0 k.1 q e in
+      omega (arith, low, at))))
+
+  module _ (rank end : ℕ) (is : end ≡ sequence_length genome rank) (old : KeptBlocks) where
+    -- a side's blocks are put, as they are to be
+    put-whole : (minus : Bool) (now next : KeptBlocks) → now.options ≡ old.options
+        → ArePut (record { rank = rank; stranded = old.options.stranded; minus = minus }) (names_of genome) (between 0 end rows) now next
+        → (x : ℕ) → value_at key_cmp next.entries (rank, minus, x) ≡ option_or (kept_at old.options (names_of genome) rows (rank, minus, x)) (value_at key_cmp now.entries (rank, minus, x))
+    put-whole minus now next same put x =
+        put.here x
+        ∙ ap (λ o. option_or (kept_at o (names_of genome) (between 0 end rows) (rank, minus, x)) (value_at key_cmp now.entries (rank, minus, x))) same
+        ∙ ap (λ (n : ℕ). option_or (kept_at old.options (names_of genome) (between 0 n rows) (rank, minus, x)) (value_at key_cmp now.entries (rank, minus, x))) is
+        ∙ ap (λ o. option_or o (value_at key_cmp now.entries (rank, minus, x))) (kept-whole old.options rank minus x)
+
+    -- without strands one side is all
+    pub put-one : (new : KeptBlocks) → old.options.stranded ≡ false
+        → ArePut (record { rank = rank; stranded = old.options.stranded; minus = false }) (names_of genome) (between 0 end rows) old new
+        → ArePutOn rank (names_of genome) rows old new
+    put-one new one put = record {
+      options = put.options;
+      ordered = put.ordered;
+      here = both;
+      others = λ k other. put.others k (inl other);
+    }
+      where
+        both : (minus : Bool) (x : ℕ) → value_at key_cmp new.entries (rank, minus, x) ≡ option_or (kept_at old.options (names_of genome) rows (rank, minus, x)) (value_at key_cmp old.entries (rank, minus, x))
+        both false x = put-whole false old new refl put x
+        both true x =
+            put.others (rank, true, x) (inr (λ same. cc))
+            ∙ sym (ap (λ o. option_or o (value_at key_cmp old.entries (rank, true, x))) (kept-one_side old.options rank x one))
+
+    -- with strands both sides are all
+    pub put-both : (now new : KeptBlocks)
+        → ArePut (record { rank = rank; stranded = old.options.stranded; minus = false }) (names_of genome) (between 0 end rows) old now
+        → ArePut (record { rank = rank; stranded = old.options.stranded; minus = true }) (names_of genome) (between 0 end rows) now new
+        → ArePutOn rank (names_of genome) rows old new
+    put-both now new first second = record {
+      options = second.options ∙ first.options;
+      ordered = second.ordered;
+      here = both;
+      others = λ k other. second.others k (inl other) ∙ first.others k (inl other);
+    }
+      where
+        both : (minus : Bool) (x : ℕ) → value_at key_cmp new.entries (rank, minus, x) ≡ option_or (kept_at old.options (names_of genome) rows (rank, minus, x)) (value_at key_cmp old.entries (rank, minus, x))
+        both false x = second.others (rank, false, x) (inr (λ same. cc)) ∙ put-whole false old now refl first x
+        both true x =
+            put-whole true now new first.options second x
+            ∙ ap (option_or (kept_at old.options (names_of genome) rows (rank, true, x))) (first.others (rank, true, x) (inr (λ same. cc)))
+
+  option_or-none : {V : Type 0} (o : Option V) → option_or o None ≡ o
+  option_or-none None = refl
+  option_or-none (Some v) = refl
+
+  pub built-next : (options : Options) (rank : ℕ) (now next : KeptBlocks) → IsBuiltTo genome rows options rank now → ArePutOn rank (names_of genome) rows now next → IsBuiltTo genome rows options (rank + 1) next
+  built-next options rank now next built put = record {
+    for_options = put.options ∙ built.for_options;
+    ordered = put.ordered;
+    below = λ k low. elim (cases_eq k.0 rank) [
+      | inl at ↦
+          let key : k ≡ (rank, k.1, k.2) = λ i. (at i, k.1, k.2) in
+          ap (value_at key_cmp next.entries) key
+          ∙ put.here k.1 k.2
+          ∙ ap (option_or (kept_at now.options (names_of genome) rows (rank, k.1, k.2))) (built.from (rank, k.1, k.2) (omega arith))
+          ∙ option_or-none _
+          ∙ ap (λ o. kept_at o (names_of genome) rows (rank, k.1, k.2)) built.for_options
+          ∙ sym (ap (kept_at options (names_of genome) rows) key)
+      | inr ne ↦ put.others k ne ∙ built.below k (omega arith)
+    ];
+    from = λ k high. put.others k (λ at. omega arith) ∙ built.from k (omega arith);
+  }
+
+  pub built-all : (options : Options) (rank : ℕ) (now : KeptBlocks) → IsBuiltTo genome rows options rank now → length genome ≤ rank → AreBlocksOf options (names_of genome) rows now.entries
+  built-all options rank now built past = record {
+    ordered = built.ordered;
+    blocks = λ k. elim (cases_lt k.0 rank) [
+      | inl low ↦ built.below k low
+      | inr high ↦ built.from k high ∙ sym (kept-past options k (omega arith))
+    ];
+  }

@@ -1,0 +1,270 @@
+-- The numbers of the records' blocks.
+use Rattle.std.proofs.Common.{◌≡◌, ℕ, zero, suc, ◌+◌, ◌<◌, ◌≤◌, ◌++◌, ◌==◌, ◌&&◌, ◌||◌, nat_le, nat_lt, Bool, true, false, List, [], ◌∷◌, map, filter, length, Option, Some, None, refl, sym, ◌∙◌, ap, ap₂, subst, inl, inr, arith, All, append_assoc, append-nil, length-append, eqb-true, ltb-true, leb-true}
+use Rattle.std.specs.Option.{option_map}
+use Rattle.std.specs.Prelude.{codes, decimal, sum}
+use Rattle.std.specs.declared.cmp.Ordering.{Ordering}
+use Rattle.std.specs.declared.cmp.Ordering.TheVariants.{Less, Equal, Greater}
+use Rattle.std.specs.List.{flat_map, take_while, prefix_len, range_with_len, sum_by, AllByRecursion}
+use Rattle.std.specs.Ordering.{is_le, nat_cmp, bool_cmp, ordering_then}
+use Rattle.std.specs.Cmp.{nat_cmp_is, nat_cmp_total, tied_itself}
+use Rattle.std.proofs.lemmas.Bool.{and_from, and_parts, or_cases, or_left, or_right, false_from_ne_true, lt-ltb, le-leb, eq-eqb, cases_lt}
+use Rattle.std.proofs.Math.Bool.{and-true}
+use Rattle.std.proofs.lemmas.List.{map-append, length-map, take-append-drop}
+use Rattle.std.proofs.lemmas.List.Concat.{length-flat_map}
+use Rattle.std.proofs.lemmas.List.Sums.{sum-map}
+use Rattle.iv_text.specs.Genome.{Sequences, sequence_length}
+use Rattle.iv_text.specs.Named.{names_of}
+use Rattle.iv_text.specs.Ordered.{AreInOrder}
+use Rattle.iv_text.specs.Read.{Fits}
+use Rattle.iv_text.specs.RecordText.{record_text}
+use Rattle.iv_text.specs.Row.{Row, row_cmp}
+use Rattle.iv_cover.specs.Blocks.{blocks_below, block_at}
+use Rattle.iv_cover.specs.TrackBlocks.{start_of, stop_of, on}
+use Rattle.iv_cover.specs.declared.block.Block.{Block}
+use Rattle.iv_cover.proofs.Groups.{mem-append}
+use Rattle.iv_cover.proofs.Merging.{Precedes, precedes-from}
+use Rattle.iv_cover.proofs.Tests.{Mem, filter-agree, mem-filter}
+use Rattle.iv_blocks.specs.Ahead.{lies_at, starts_until, drop_while, BeginsElse}
+use Rattle.iv_blocks.specs.ClusterRows.{blocks_before, block_number, cluster_row, cluster_text}
+use Rattle.iv_blocks.specs.Groups.{is_in_group, group, listed}
+use Rattle.iv_blocks.specs.KeptBlocks.{Key, Kept, Entries, AreBlocksOf, key_cmp, kept_at, kept_block, name_of}
+use Rattle.iv_blocks.specs.declared.options.Options.{Options}
+use Rattle.iv_blocks.proofs.AheadLemmas.{take-all, begins-else, take-first, take-none, drop-first, drop-none}
+use Rattle.iv_blocks.proofs.EntryLemmas.{from, entry-found, side_entries, rank_entries, all_entries, walked-on, ranks-all}
+use Rattle.iv_blocks.proofs.KeptLemmas.{none-past, side-is, side-other, entry_of, group-other}
+use Rattle.iv_blocks.proofs.ComplementLemmas.{mem-values}
+
+pub row-parts : (text : List ℕ) (number : ℕ) → text ++ codes "\t" ++ decimal number ++ codes "\n" ≡ text ++ (codes "\t" ++ decimal number ++ codes "\n")
+row-parts text number = append_assoc (text ++ codes "\t") (decimal number) (codes "\n") ∙ append_assoc text (codes "\t") (decimal number ++ codes "\n")
+    ∙ ap (λ (l : List ℕ). text ++ l) (sym (append_assoc (codes "\t") (decimal number) (codes "\n")))
+
+-- ---- blocks up to a record
+
+-- a later record has all blocks before it that an earlier one has
+until-later : (q r : Row) (b : Block) → Precedes q r → starts_until q.seq q.start b ≡ true → starts_until r.seq r.start b ≡ true
+until-later q r b precedes passes = elim (or_cases (nat_lt b.sequence q.seq) ((b.sequence == q.seq) && nat_le b.start q.start) passes) [
+  | inl lower ↦
+      let low : b.sequence < q.seq = ltb-true _ _ lower in
+      elim precedes [
+        | inl less ↦ or_left (nat_lt b.sequence r.seq) _ (lt-ltb b.sequence r.seq (omega (arith, less)))
+        | inr same ↦ or_left (nat_lt b.sequence r.seq) _ (lt-ltb b.sequence r.seq (omega (arith, same.0)))
+      ]
+  | inr here ↦
+      let both = and_parts (b.sequence == q.seq) (nat_le b.start q.start) here in
+      let rank : b.sequence ≡ q.seq = eqb-true _ _ both.0 in
+      let start : b.start ≤ q.start = leb-true _ _ both.1 in
+      elim precedes [
+        | inl less ↦ or_left (nat_lt b.sequence r.seq) _ (lt-ltb b.sequence r.seq (omega (arith, rank, less)))
+        | inr same ↦ or_right (nat_lt b.sequence r.seq) _ (and_from _ _ (eq-eqb b.sequence r.seq (omega (arith, rank, same.0))) (le-leb b.start r.start (omega (arith, start, same.1))))
+      ]
+]
+
+later-rows : (r : Row) (rows : List Row) → AllByRecursion (λ y. is_le (row_cmp r y) ≡ true) rows → (q : Row) → Mem q rows → Precedes r q
+later-rows r [] all q m = absurd m
+later-rows r (x ∷ rows) all q (inl at) = subst (λ y. Precedes r y) at (precedes-from r x all.0)
+later-rows r (x ∷ rows) all q (inr m) = later-rows r rows all.1 q m
+
+-- these are the blocks that the walk has gone past: each starts up to each record that is still to come
+pub record IsPassed (number : ℕ) (all left : List Block) (rows : List Row) : Type 0 where
+  pub passed : List Block
+  pub whole : all ≡ passed ++ left
+  pub count : number ≡ length passed
+  pub until : (r : Row) → Mem r rows → (b : Block) → Mem b passed → starts_until r.seq r.start b ≡ true
+
+pub IsPassed-begin : (all left : List Block) (rows : List Row) → left ≡ all → IsPassed 0 all left rows
+IsPassed-begin all left rows same = record { passed = []; whole = sym same; count = refl; until = λ r m b never. absurd never }
+
+split : (test : Block → Bool) (blocks : List Block) → blocks ≡ take_while test blocks ++ drop_while test blocks
+split test blocks = sym (take-append-drop (prefix_len test blocks) blocks)
+
+take-passes : (test : Block → Bool) (blocks : List Block) (b : Block) → Mem b (take_while test blocks) → test b ≡ true
+take-passes test [] b m = absurd m
+take-passes test (x ∷ blocks) b m = go (λ later. take-passes test blocks b later) (test x) refl
+  where
+    go : (Mem b (take_while test blocks) → test b ≡ true) → (p : Bool) → test x ≡ p → test b ≡ true
+    go rest true is = elim (subst (λ (l : List Block). Mem b l) (take-first test (x ∷ blocks) blocks x refl is) m) [
+      | inl at ↦ ap test (sym at) ∙ is
+      | inr later ↦ rest later
+    ]
+    go rest false is = absurd (subst (λ (l : List Block). Mem b l) (take-none test (x ∷ blocks) is) m)
+
+drop-begins : (test : Block → Bool) (blocks : List Block) → BeginsElse test (drop_while test blocks)
+drop-begins test [] = tt
+drop-begins test (x ∷ blocks) = go (drop-begins test blocks) (test x) refl
+  where
+    go : BeginsElse test (drop_while test blocks) → (p : Bool) → test x ≡ p → BeginsElse test (drop_while test (x ∷ blocks))
+    go rest true is = subst (λ (l : List Block). BeginsElse test l) (sym (drop-first test (x ∷ blocks) blocks x refl is)) rest
+    go rest false is = subst (λ (l : List Block). BeginsElse test l) (sym (drop-none test (x ∷ blocks) is)) is
+
+module _ (number more : ℕ) (all left after : List Block) (rows rest : List Row) (r : Row) (h : IsPassed number all left rows) (first : rows ≡ r ∷ rest)
+    (counted : more ≡ length (take_while (starts_until r.seq r.start) left)) (past : after ≡ drop_while (starts_until r.seq r.start) left) where
+  passes : (b : Block) → Mem b (h.passed ++ take_while (starts_until r.seq r.start) left) → starts_until r.seq r.start b ≡ true
+  passes b m = elim (mem-append h.passed (take_while (starts_until r.seq r.start) left) b m) [
+    | inl before ↦ h.until r (subst (λ (l : List Row). Mem r l) (sym first) (inl refl)) b before
+    | inr now ↦ take-passes (starts_until r.seq r.start) left b now
+  ]
+
+  pub IsPassed-next : AreInOrder rows → IsPassed (number + more) all after rest
+  IsPassed-next ordered =
+      let sorted : AreInOrder (r ∷ rest) = subst (λ (l : List Row). AreInOrder l) first ordered in
+      record {
+        passed = h.passed ++ take_while (starts_until r.seq r.start) left;
+        whole = h.whole ∙ ap (λ (l : List Block). h.passed ++ l) (split (starts_until r.seq r.start) left)
+            ∙ sym (append_assoc h.passed (take_while (starts_until r.seq r.start) left) (drop_while (starts_until r.seq r.start) left))
+            ∙ ap (λ (l : List Block). (h.passed ++ take_while (starts_until r.seq r.start) left) ++ l) (sym past);
+        count = omega (arith, h.count, counted, length-append h.passed (take_while (starts_until r.seq r.start) left));
+        until = λ q m b here. until-later r q b (later-rows r rest sorted.0 q m) (passes b here);
+      }
+
+  -- the number is that of all blocks up to the record
+  pub number-is : number + more ≡ length (take_while (starts_until r.seq r.start) all)
+  number-is =
+      let parts : all ≡ (h.passed ++ take_while (starts_until r.seq r.start) left) ++ drop_while (starts_until r.seq r.start) left
+      = h.whole ∙ ap (λ (l : List Block). h.passed ++ l) (split (starts_until r.seq r.start) left)
+      ∙ sym (append_assoc h.passed (take_while (starts_until r.seq r.start) left) (drop_while (starts_until r.seq r.start) left)) in
+      let same = ap (take_while (starts_until r.seq r.start)) parts
+      ∙ take-all (starts_until r.seq r.start) (h.passed ++ take_while (starts_until r.seq r.start) left) (drop_while (starts_until r.seq r.start) left) passes (drop-begins (starts_until r.seq r.start) left) in
+      omega (arith, h.count, counted, length-append h.passed (take_while (starts_until r.seq r.start) left), ap (λ (l : List Block). length l) same)
+
+pub IsPassed-few : (number more : ℕ) (all left : List Block) (rows : List Row) (r : Row) → IsPassed number all left rows → more ≡ length (take_while (starts_until r.seq r.start) left)
+    → (number + more ≤ length all) × (length left ≤ length all)
+IsPassed-few number more all left rows r h counted =
+    let whole : length all ≡ length h.passed + length left = ap (λ (l : List Block). length l) h.whole ∙ length-append h.passed left in
+    let part : length left ≡ length (take_while (starts_until r.seq r.start) left) + length (drop_while (starts_until r.seq r.start) left)
+    = ap (λ (l : List Block). length l) (split (starts_until r.seq r.start) left) ∙ length-append (take_while (starts_until r.seq r.start) left) (drop_while (starts_until r.seq r.start) left) in
+    (omega (arith, h.count, counted, whole, part), omega (arith, whole))
+
+-- ---- the number by the definition
+
+-- what a sequence's own list has
+mem-ranks : {X : Type 0} (own : ℕ → List X) (n rank : ℕ) (x : X) → Mem x (flat_map own (range_with_len rank n)) → (s : ℕ) × (s < rank + n) × Mem x (own s)
+mem-ranks own zero rank x m = absurd m
+mem-ranks own (suc n) rank x m = elim (mem-append (own rank) (flat_map own (range_with_len (rank + 1) n)) x m) [
+  | inl here ↦ (rank, omega arith, here)
+  | inr later ↦ let found = mem-ranks own n (rank + 1) x later in (found.0, omega (arith, found.1), found.2)
+]
+
+mem-side : (look : Key → Option Kept) (s : ℕ) (t : Bool) (n : ℕ) (e : Key × Kept) → Mem e (side_entries look s t n) → (e.0.0 ≡ s) × (e.0.2 < n)
+mem-side look s t n e m =
+    let found = mem-values (λ p. option_map (λ v. ((s, t, p), v)) (look (s, t, p))) n e m in
+    let lies = of_side found.0 (look (s, t, found.0)) found.2 in
+    (lies.0, omega (arith, lies.1, found.1))
+  where
+    of_side : (p : ℕ) (o : Option Kept) → option_map (λ v. ((s, t, p), v)) o ≡ Some e → (e.0.0 ≡ s) × (e.0.2 ≡ p)
+    of_side p None is = cc
+    of_side p (Some v) is = let same : ((s, t, p), v) ≡ e = some-is ((s, t, p), v) e is in (ap (λ (x : Key × Kept). x.0.0) (sym same), ap (λ (x : Key × Kept). x.0.2) (sym same))
+      where
+        some-is : (x y : Key × Kept) → Some x ≡ Some y → x ≡ y
+        some-is x y is = cc
+
+mem-map : {X Y : Type 0} (f : X → Y) (xs : List X) (y : Y) → Mem y (map f xs) → (x : X) × Mem x xs × (f x ≡ y)
+mem-map f [] y m = absurd m
+mem-map f (x ∷ xs) y (inl at) = (x, inl refl, at)
+mem-map f (x ∷ xs) y (inr m) = let found = mem-map f xs y m in (found.0, inr found.1, found.2)
+
+-- an entry past the position isn't up to it
+past-key : (s p : ℕ) (x : Key) (v : Kept) → is_le (key_cmp (s, false, p + 1) x) ≡ true → x.1 ≡ false → starts_until s p (lies_at (x, v)) ≡ false
+past-key s p x v after side = false_from_ne_true _ (λ e. elim (or_cases (nat_lt x.0 s) ((x.0 == s) && nat_le x.2 p) e) [
+  | inl lower ↦
+      let low : x.0 < s = ltb-true _ _ lower in
+      let rank : Greater ≡ nat_cmp s x.0 = nat_cmp_is s x.0 Greater low in
+      let never : false ≡ true = ap (λ o. is_le (ordering_then (ordering_then o (bool_cmp false x.1)) (nat_cmp (p + 1) x.2))) rank ∙ after in
+      cc
+  | inr here ↦
+      let both = and_parts (x.0 == s) (nat_le x.2 p) here in
+      let rank : s ≡ x.0 = sym (eqb-true _ _ both.0) in
+      let start : x.2 ≤ p = leb-true _ _ both.1 in
+      let same : nat_cmp s x.0 ≡ Equal = ap (nat_cmp s) (sym rank) ∙ tied_itself nat_cmp_total s in
+      let past : Greater ≡ nat_cmp (p + 1) x.2 = nat_cmp_is (p + 1) x.2 Greater (omega (arith, start)) in
+      let never : false ≡ true = rw (same, side, ← past) at after in
+      cc
+])
+
+on-is : (s : ℕ) (rows : List Row) → group false s false rows ≡ on s rows
+on-is s rows = filter-agree (is_in_group false s false) (λ r. r.seq == s) rows (λ q m. and-true (q.seq == s))
+
+module _ (o : Options) (g : Sequences) (width : ℕ) (rows : List Row) (entries : Entries) (right : AreBlocksOf o (names_of g) rows entries) (fit : All (Fits g width) rows)
+    (together : o.stranded ≡ false) where
+  abbrev look : Key → Option Kept
+  look = kept_at o (names_of g) rows
+
+  -- no block is on the other side
+  no-other : (s p : ℕ) → look (s, true, p) ≡ None
+  no-other s p =
+      let none : group o.stranded s true rows ≡ [] = ap (λ b. group b s true rows) together ∙ group-other s rows in
+      ap (λ (l : List Row). option_map (kept_block (name_of (names_of g) s) (listed o.summaries)) (block_at start_of stop_of o.distance l p)) none
+
+  -- how many entries stand below a position
+  side-count : (s n : ℕ) → length (side_entries look s false n) ≡ blocks_before o.distance rows s n
+  side-count s n =
+      ap (λ (l : Entries). length l) (side-is o g rows s false n)
+      ∙ length-map (blocks_below start_of stop_of o.distance (group o.stranded s false rows) n) (entry_of o g s false)
+      ∙ ap (λ (b : Bool). length (blocks_below start_of stop_of o.distance (group b s false rows) n)) together
+      ∙ ap (λ (l : List Row). length (blocks_below start_of stop_of o.distance l n)) (on-is s rows)
+
+  rank-count : (s : ℕ) → length (rank_entries look (sequence_length g) s) ≡ blocks_before o.distance rows s (sequence_length g s)
+  rank-count s =
+      ap (λ (l : Entries). length (side_entries look s false (sequence_length g s) ++ l)) (side-other o g rows s (sequence_length g s) together)
+      ∙ ap (λ (l : Entries). length l) (append-nil (side_entries look s false (sequence_length g s)))
+      ∙ side-count s (sequence_length g s)
+
+  ranks-count : (n : ℕ) → length (all_entries look (sequence_length g) n) ≡ sum (map (λ s. blocks_before o.distance rows s (sequence_length g s)) (range_with_len 0 n))
+  ranks-count n =
+      length-flat_map (rank_entries look (sequence_length g)) (range_with_len 0 n)
+      ∙ ap (λ (f : ℕ → ℕ). sum_by f (range_with_len 0 n)) (λ i s. rank-count s i)
+      ∙ sym (sum-map (λ s. blocks_before o.distance rows s (sequence_length g s)) (range_with_len 0 n))
+
+  -- the blocks up to a position of a sequence
+  pub count-until : (s p : ℕ) → length (take_while (starts_until s p) (map lies_at entries))
+      ≡ sum (map (λ rank. blocks_before o.distance rows rank (sequence_length g rank)) (range_with_len 0 s)) + blocks_before o.distance rows s (p + 1)
+  count-until s p =
+      let lower : Entries = all_entries look (sequence_length g) s in
+      let here : Entries = side_entries look s false (p + 1) in
+      let later : Entries = from (s, false, p + 1) entries in
+      let past = none-past o g width rows fit in
+      let parts : entries ≡ (lower ++ here) ++ later
+      = ranks-all look (sequence_length g) entries right.ordered right.blocks past s
+      ∙ ap (λ (l : Entries). lower ++ l) (walked-on look (sequence_length g) entries right.ordered right.blocks past s false (p + 1))
+      ∙ sym (append_assoc lower here later) in
+      let same : take_while (starts_until s p) (map lies_at entries) ≡ map lies_at (lower ++ here)
+      = ap (λ (l : Entries). take_while (starts_until s p) (map lies_at l)) parts
+      ∙ ap (take_while (starts_until s p)) (map-append lies_at (lower ++ here) later)
+      ∙ take-all (starts_until s p) (map lies_at (lower ++ here)) (map lies_at later) (before s p) (begins-else (starts_until s p) (map lies_at later) (after s p)) in
+      let long : length (map lies_at (lower ++ here)) ≡ length lower + length here = length-map (lower ++ here) lies_at ∙ length-append lower here in
+      omega (arith, ap (λ (l : List Block). length l) same, long, ranks-count s, side-count s (p + 1))
+    where
+      before : (s p : ℕ) (b : Block) → Mem b (map lies_at (all_entries look (sequence_length g) s ++ side_entries look s false (p + 1))) → starts_until s p b ≡ true
+      before s p b m =
+          let found = mem-map lies_at (all_entries look (sequence_length g) s ++ side_entries look s false (p + 1)) b m in
+          rw (← found.2) (elim (mem-append (all_entries look (sequence_length g) s) (side_entries look s false (p + 1)) found.0 found.1) [
+            | inl lower ↦
+                let at = mem-ranks (rank_entries look (sequence_length g)) s 0 found.0 lower in
+                let rank : found.0.0.0 ≡ at.0 = elim (mem-append (side_entries look at.0 false (sequence_length g at.0)) (side_entries look at.0 true (sequence_length g at.0)) found.0 at.2) [
+                  | inl first ↦ (mem-side look at.0 false (sequence_length g at.0) found.0 first).0
+                  | inr other ↦ (mem-side look at.0 true (sequence_length g at.0) found.0 other).0
+                ] in
+                or_left (nat_lt found.0.0.0 s) _ (lt-ltb found.0.0.0 s (omega (arith, rank, at.1)))
+            | inr here ↦
+                let at = mem-side look s false (p + 1) found.0 here in
+                or_right (nat_lt found.0.0.0 s) _ (and_from _ _ (eq-eqb found.0.0.0 s at.0) (le-leb found.0.0.2 p (omega (arith, at.1))))
+          ])
+
+      after : (s p : ℕ) (b : Block) → Mem b (map lies_at (from (s, false, p + 1) entries)) → starts_until s p b ≡ false
+      after s p b m =
+          let found = mem-map lies_at (from (s, false, p + 1) entries) b m in
+          let e = found.0 in
+          let both = mem-filter (λ (x : Key × Kept). is_le (key_cmp (s, false, p + 1) x.0)) entries e found.1 in
+          let side : e.0.1 ≡ false = false_from_ne_true e.0.1 (λ other.
+          let key : e.0 ≡ (e.0.0, true, e.0.2) = ap (λ (t : Bool). (e.0.0, t, e.0.2)) other in
+          entry-found entries e both.0 (right.blocks e.0 ∙ ap look key ∙ no-other e.0.0 e.0.2)) in
+          rw (← found.2) (past-key s p e.0 e.1 both.1 side)
+
+  -- the row of a record
+  pub row-is : (r : Row) (number : ℕ) → number ≡ length (take_while (starts_until r.seq r.start) (map lies_at entries))
+      → cluster_row o.distance g rows r ≡ record_text g r ++ codes "\t" ++ decimal number ++ codes "\n"
+  row-is r number is = rw (is ∙ count-until r.seq r.start) refl
+
+  -- the row of the next record, and those of the others
+  pub rows-next : (left rest : List Row) (r : Row) (number : ℕ) → left ≡ r ∷ rest → number ≡ length (take_while (starts_until r.seq r.start) (map lies_at entries))
+      → flat_map (cluster_row o.distance g rows) left ≡ (record_text g r ++ codes "\t" ++ decimal number ++ codes "\n") ++ flat_map (cluster_row o.distance g rows) rest
+  rows-next left rest r number first is = rw first (ap (λ (l : List ℕ). l ++ flat_map (cluster_row o.distance g rows) rest) (row-is r number is))

@@ -1,0 +1,258 @@
+-- The rows of the gaps are those of the complement.
+use Rattle.std.proofs.Common.{◌≡◌, ◌≢◌, ℕ, zero, suc, ◌+◌, ◌-◌, ◌<◌, ◌≤◌, ◌++◌, ◌==◌, ◌||◌, ◌&&◌, nat_le, nat_lt, Bool, true, false, not, cond, List, [], ◌∷◌, map, filter, filter_map, length, Option, Some, None, refl, sym, ◌∙◌, ap, ap₂, subst, inl, inr, arith, All, eqb-true, eq-eqb, le-ltb, leb-true, ltb-true, append-nil}
+use Rattle.std.specs.List.{flat_map, take_while, range_with_len, list_any, cons_option}
+use Rattle.std.specs.Option.{option_map}
+use Rattle.std.proofs.lemmas.Bool.{and_from, and_left, and_parts, cases_eq, false_from_ne_true, or_right, cases_Bool, cond-true, cond-false, lt-ltb, le-leb, ne_eqb}
+use Rattle.std.proofs.lemmas.List.{map-append}
+use Rattle.std.proofs.lemmas.List.Concat.{flat_map-append}
+use Rattle.std.proofs.lemmas.List.Sums.{length-filter}
+use Rattle.iv_text.specs.Genome.{Sequences, seq_count, sequence_name, sequence_length}
+use Rattle.iv_text.specs.Named.{names_of}
+use Rattle.iv_text.specs.Read.{Fits}
+use Rattle.iv_text.specs.Row.{Row}
+use Rattle.iv_cover.specs.Blocks.{is_block_start, block_stop, block_at, blocks_below}
+use Rattle.iv_cover.specs.Depth.{covers, depth}
+use Rattle.iv_cover.specs.Runs.{Run, empty_runs}
+use Rattle.iv_cover.specs.TrackBlocks.{start_of, stop_of}
+use Rattle.iv_cover.specs.declared.block.Block.{Block}
+use Rattle.iv_cover.proofs.Cover.{Free, Covered, Lasting, some_start, block_at_start, block_at-some}
+use Rattle.iv_cover.proofs.Groups.{mem-left, mem-right, mem-append}
+use Rattle.iv_cover.proofs.Positions.{values, values-none, values-some, values-agree, values-none_from}
+use Rattle.iv_cover.proofs.Tests.{Mem, mem-filter, mem-filter_from, all-mem, filter-none, any-found, any-none, any-from_none, mem-place}
+use Rattle.iv_blocks.specs.Ahead.{lies_at, gap_between, gaps_between, starts_until, drop_while, BeginsElse}
+use Rattle.iv_blocks.specs.ComplementRows.{gap_row, gap_rows, is_shown, complement_text}
+use Rattle.iv_blocks.specs.Groups.{is_in_group, group, sides}
+use Rattle.iv_blocks.specs.KeptBlocks.{Key, Kept, Entries, AreBlocksOf}
+use Rattle.iv_blocks.specs.declared.options.Options.{Options}
+use Rattle.iv_blocks.proofs.AheadLemmas.{take-all, drop-all, begins-else}
+use Rattle.iv_blocks.proofs.GapLemmas.{all_gaps-are}
+use Rattle.iv_blocks.proofs.KeptLemmas.{group-in, entry_of, side_blocks, entries-are, flat_map-agree, map-filter_map}
+
+-- ---- one block after another
+
+-- the rows up to the next block, and the others
+pub gaps-next : (name : List ℕ) (shown : Bool) (start length : ℕ) (blocks after : List Block) (b : Block) → blocks ≡ b ∷ after
+    → flat_map (gap_row name) (gaps_between shown start length blocks)
+    ≡ flat_map (gap_row name) (gap_between start b.start) ++ flat_map (gap_row name) (gaps_between true b.stop length after)
+gaps-next name shown start length blocks after b first = rw first (flat_map-append (gap_row name) (gap_between start b.start) (gaps_between true b.stop length after))
+
+-- the row past the last block
+pub gaps-last : (name : List ℕ) (shown : Bool) (start length : ℕ) (blocks : List Block) → shown ≡ true → blocks ≡ []
+    → flat_map (gap_row name) (gaps_between shown start length blocks) ≡ flat_map (gap_row name) (gap_between start length)
+gaps-last name shown start length blocks is none = rw (is, none) refl
+
+-- ---- one sequence after another
+
+-- the rows of one sequence, with these blocks on it
+abbrev pub sequence_text : Bool → Sequences → ℕ → List Block → List ℕ
+sequence_text wanted g rank blocks = flat_map (gap_row (sequence_name g rank)) (gaps_between wanted 0 (sequence_length g rank) blocks)
+
+-- the rows of so many sequences from this rank on, with the blocks that are still to come
+pub texts : Bool → Sequences → ℕ → ℕ → List Block → List ℕ
+texts wanted g rank zero blocks = []
+texts wanted g rank (suc n) blocks =
+    sequence_text wanted g rank (take_while (starts_until rank (sequence_length g rank)) blocks)
+    ++ texts wanted g (rank + 1) n (drop_while (starts_until rank (sequence_length g rank)) blocks)
+
+-- each block is on its sequence
+abbrev AreOwn : Sequences → (ℕ → List Block) → Type 0
+AreOwn g own = (s : ℕ) (b : Block) → Mem b (own s) → (b.sequence ≡ s) × (b.start ≤ sequence_length g s)
+
+later : (g : Sequences) (own : ℕ → List Block) → AreOwn g own → (rank n low : ℕ) → low < rank → (b : Block) → Mem b (flat_map own (range_with_len rank n)) → starts_until low (sequence_length g low) b ≡ false
+later g own are rank zero low high b m = absurd m
+later g own are rank (suc n) low high b m = elim (mem-append (own rank) (flat_map own (range_with_len (rank + 1) n)) b m) [
+  | inl here ↦
+      let at = (are rank b here).0 in
+      rw (le-ltb b.sequence low (omega (arith, at)), ne_eqb b.sequence low (λ is. absurd (omega (arith, is, at)))) refl
+  | inr rest ↦ later g own are (rank + 1) n low (omega arith) b rest
+]
+
+-- the sequences' own blocks give their rows
+pub texts-are : (wanted : Bool) (g : Sequences) (own : ℕ → List Block) → AreOwn g own → (n rank : ℕ)
+    → texts wanted g rank n (flat_map own (range_with_len rank n)) ≡ flat_map (λ s. sequence_text wanted g s (own s)) (range_with_len rank n)
+unfolding texts
+texts-are wanted g own are zero rank = refl
+texts-are wanted g own are (suc n) rank =
+    let test : Block → Bool = starts_until rank (sequence_length g rank) in
+    let rest : List Block = flat_map own (range_with_len (rank + 1) n) in
+    let all : (b : Block) → Mem b (own rank) → test b ≡ true = λ b m.
+    let at = are rank b m in
+    let same : (b.sequence == rank) ≡ true = eq-eqb b.sequence rank at.0 in
+    or_right _ _ (and_from _ _ same (le-leb b.start (sequence_length g rank) at.1)) in
+    let else : BeginsElse test rest = begins-else test rest (later g own are (rank + 1) n rank (omega arith)) in
+    ap₂ (λ (l m : List Block). sequence_text wanted g rank l ++ texts wanted g (rank + 1) n m) (take-all test (own rank) rest all else) (drop-all test (own rank) rest all else)
+    ∙ ap (λ (l : List ℕ). sequence_text wanted g rank (own rank) ++ l) (texts-are wanted g own are n (rank + 1))
+
+-- the rows of the next sequence, and those of the others
+pub texts-next : (wanted : Bool) (g : Sequences) (rank length : ℕ) (name : List ℕ) (blocks after : List Block) → rank < seq_count g
+    → name ≡ sequence_name g rank → length ≡ sequence_length g rank → after ≡ drop_while (starts_until rank length) blocks
+    → texts wanted g rank (seq_count g - rank) blocks
+    ≡ flat_map (gap_row name) (gaps_between wanted 0 length (take_while (starts_until rank length) blocks)) ++ texts wanted g (rank + 1) (seq_count g - (rank + 1)) after
+unfolding texts
+texts-next wanted g rank length name blocks after low named long past =
+    let e : seq_count g - rank ≡ suc (seq_count g - (rank + 1)) = omega arith in
+    rw (past, named, long, e) refl
+
+pub texts-none : (wanted : Bool) (g : Sequences) (rank : ℕ) (blocks : List Block) → seq_count g ≤ rank → texts wanted g rank (seq_count g - rank) blocks ≡ []
+unfolding texts
+texts-none wanted g rank blocks high = let e : seq_count g - rank ≡ zero = omega arith in rw e refl
+
+-- ---- values at positions
+
+pub mem-values : {Y : Type 0} (f : ℕ → Option Y) (n : ℕ) (y : Y) → Mem y (values f n) → (x : ℕ) × (x < n) × (f x ≡ Some y)
+mem-values f zero y m = absurd m
+mem-values {Y} f (suc n) y m = go (λ before. mem-values f n y before) (f n) refl
+  where
+    go : (Mem y (values f n) → (x : ℕ) × (x < n) × (f x ≡ Some y)) → (o : Option Y) → f n ≡ o → (x : ℕ) × (x < suc n) × (f x ≡ Some y)
+    go rest None is = let found = rest (subst (λ l. Mem y l) (values-none f n is) m) in (found.0, omega (arith, found.1), found.2)
+    go rest (Some z) is = elim (mem-append (values f n) (z ∷ []) y (subst (λ l. Mem y l) (values-some f n z is) m)) [
+      | inl before ↦ let found = rest before in (found.0, omega (arith, found.1), found.2)
+      | inr last ↦ elim last [ inl at ↦ (n, omega arith, is ∙ ap Some at) | inr never ↦ absurd never ]
+    ]
+
+value-mem : {Y : Type 0} (f : ℕ → Option Y) (n x : ℕ) (y : Y) → x < n → f x ≡ Some y → Mem y (values f n)
+value-mem f zero x y low is = absurd (omega arith)
+value-mem {Y} f (suc n) x y low is = go (λ before. value-mem f n x y before is) (f n) refl
+  where
+    go : (x < n → Mem y (values f n)) → (o : Option Y) → f n ≡ o → Mem y (values f (suc n))
+    go rest None e = elim (cases_eq x n) [
+      | inl at ↦ let never : Some y ≡ None = sym is ∙ ap f at ∙ e in cc
+      | inr ne ↦ subst (λ l. Mem y l) (sym (values-none f n e)) (rest (omega arith))
+    ]
+    go rest (Some z) e = subst (λ l. Mem y l) (sym (values-some f n z e)) (elim (cases_eq x n) [
+      | inl at ↦ let same : Some z ≡ Some y = sym e ∙ ap f (sym at) ∙ is in let alike : z ≡ y = cc in mem-right (values f n) (z ∷ []) y (inl alike)
+      | inr ne ↦ mem-left (values f n) (z ∷ []) y (rest (omega arith))
+    ])
+
+-- ---- the depth
+
+depth-counts : (rows : List Row) (s p : ℕ) → depth rows s p ≡ length (filter (covers s p) rows)
+depth-counts rows s p = sym (length-filter (covers s p) rows)
+
+in-group : (s : ℕ) (rows : List Row) (q : Row) → Mem q rows → q.seq ≡ s → Mem q (group false s false rows)
+in-group s rows q m rank = mem-filter_from (is_in_group false s false) rows q m (and_from _ _ (eq-eqb q.seq s rank) refl)
+
+-- a covered position has a depth
+depth-some : (rows : List Row) (s p : ℕ) → Covered start_of stop_of 0 (group false s false rows) (suc p) → depth rows s p ≢ 0
+depth-some rows s p c none =
+    let both = group-in false s false rows c.0 c.1 in
+    let covers_it : covers s p c.0 ≡ true = and_from _ _ (eq-eqb c.0.seq s both.1) (and_from _ _ (le-leb c.0.start p (omega (arith, c.2))) (lt-ltb p c.0.stop (omega (arith, c.3)))) in
+    let at = mem-place (filter (covers s p) rows) c.0 c.0 (mem-filter_from (covers s p) rows c.0 both.0 covers_it) in
+    omega (arith, depth-counts rows s p, none, at.1)
+
+-- and a free one has none
+depth-none : (rows : List Row) (s p : ℕ) → Free start_of stop_of 0 (group false s false rows) (suc p) → depth rows s p ≡ 0
+depth-none rows s p free =
+    depth-counts rows s p
+    ∙ ap (λ (l : List Row). length l) (filter-none (covers s p) rows (λ q m. false_from_ne_true _ (λ e.
+    let first = and_parts (q.seq == s) (nat_le q.start p && nat_lt p q.stop) e in
+    let rest = and_parts (nat_le q.start p) (nat_lt p q.stop) first.1 in
+    omega (arith, free q (in-group s rows q m (eqb-true _ _ first.0)) (omega (arith, leb-true _ _ rest.0)), ltb-true _ _ rest.1))))
+
+-- ---- the blocks of a sequence
+
+-- where a block lies that starts at b.0 and stops at b.1.0
+abbrev place_of : ℕ → ℕ → Option (ℕ × List Row) → Option Block
+place_of s x at = option_map (λ (b : ℕ × List Row). record { sequence = s; start = x; stop = b.0 }) at
+
+place-of : (o : Options) (g : Sequences) (s x : ℕ) (at : Option (ℕ × List Row))
+    → option_map lies_at (option_map (entry_of o g s false) (option_map (λ b. (x, b)) at)) ≡ place_of s x at
+place-of o g s x None = refl
+place-of o g s x (Some b) = refl
+
+place-lies : (s x : ℕ) (at : Option (ℕ × List Row)) (b : Block) → place_of s x at ≡ Some b → (b.sequence ≡ s) × (b.start ≡ x)
+place-lies s x None b is = cc
+place-lies s x (Some p) b is = (cc, cc)
+
+map-flat_map : {X Y Z : Type 0} (h : Y → Z) (f : X → List Y) (xs : List X) → map h (flat_map f xs) ≡ flat_map (λ x. map h (f x)) xs
+map-flat_map h f [] = refl
+map-flat_map {Z} h f (x ∷ xs) = map-append h (f x) (flat_map f xs) ∙ ap (λ (l : List Z). map h (f x) ++ l) (map-flat_map h f xs)
+
+-- where a block is, the gaps are shown
+shown-some : (from to : ℕ) (blocks : List Block) → blocks ≢ [] → gaps_between false from to blocks ≡ gaps_between true from to blocks
+shown-some from to [] some = absurd (some refl)
+shown-some from to (b ∷ blocks) some = refl
+
+module _ (o : Options) (g : Sequences) (width : ℕ) (rows : List Row) (entries : Entries) (right : AreBlocksOf o (names_of g) rows entries) (fit : All (Fits g width) rows)
+    (distance : o.distance ≡ 0) (together : o.stranded ≡ false) where
+  -- the block that starts at a position
+  abbrev at : ℕ → ℕ → Option Block
+  at s x = place_of s x (block_at start_of stop_of 0 (group false s false rows) x)
+
+  -- the blocks on a sequence
+  abbrev own : ℕ → List Block
+  own s = values (at s) (sequence_length g s)
+
+  -- where the entries of a sequence lie
+  abbrev own_entries : ℕ → Entries
+  own_entries s = flat_map (λ t. map (entry_of o g s t) (side_blocks o g rows s t)) (sides o.stranded)
+
+  own-are : (s : ℕ) → map lies_at (own_entries s) ≡ own s
+  own-are s =
+      let n : ℕ = sequence_length g s in
+      ap₂ (λ (d : ℕ) (apart : Bool). map lies_at (flat_map (λ t. map (entry_of o g s t) (blocks_below start_of stop_of d (group apart s t rows) n)) (sides apart))) distance together
+      ∙ ap (map lies_at) (append-nil (map (entry_of o g s false) (blocks_below start_of stop_of 0 (group false s false rows) n)))
+      ∙ ap (map lies_at) (map-filter_map (entry_of o g s false) (λ x. option_map (λ b. (x, b)) (block_at start_of stop_of 0 (group false s false rows) x)) (range_with_len 0 n))
+      ∙ map-filter_map lies_at (λ x. option_map (entry_of o g s false) (option_map (λ b. (x, b)) (block_at start_of stop_of 0 (group false s false rows) x))) (range_with_len 0 n)
+      ∙ values-agree (λ x. option_map lies_at (option_map (entry_of o g s false) (option_map (λ b. (x, b)) (block_at start_of stop_of 0 (group false s false rows) x)))) (at s) n
+      (λ x below. place-of o g s x (block_at start_of stop_of 0 (group false s false rows) x))
+
+  lies-all : map lies_at entries ≡ flat_map own (range_with_len 0 (seq_count g))
+  lies-all =
+      ap (map lies_at) (entries-are o g width rows fit entries right)
+      ∙ map-flat_map lies_at own_entries (range_with_len 0 (seq_count g))
+      ∙ flat_map-agree (λ s. map lies_at (own_entries s)) own (range_with_len 0 (seq_count g)) own-are
+
+  are-own : AreOwn g own
+  are-own s b m =
+      let found = mem-values (at s) (sequence_length g s) b m in
+      let lies = place-lies s found.0 (block_at start_of stop_of 0 (group false s false rows) found.0) b found.2 in
+      (lies.0, omega (arith, lies.1, found.1))
+
+  -- the records of a sequence end on it
+  within : (s : ℕ) (q : Row) → Mem q (group false s false rows) → (q.start < q.stop) × (q.stop ≤ sequence_length g s)
+  within s q m =
+      let both = group-in false s false rows q m in
+      let lies = (all-mem (Fits g width) rows fit q both.0).lies in
+      (lies.some, rw both.1 at lies.within.1)
+
+  runs-are : (s : ℕ) → gaps_between true 0 (sequence_length g s) (own s) ≡ empty_runs (depth rows s) 0 (sequence_length g s)
+  runs-are s = all_gaps-are (group false s false rows) (depth rows s) s (sequence_length g s)
+      (λ q m. (within s q m).0) (λ q m. (within s q m).1) (depth-some rows s) (depth-none rows s)
+
+  -- a sequence with a record has a block
+  own-some : (s : ℕ) → list_any (λ r. r.seq == s) rows ≡ true → own s ≢ []
+  own-some s e none =
+      let found = any-found (λ (r : Row). r.seq == s) rows e in
+      let m = in-group s rows found.0 found.1 (eqb-true _ _ found.2) in
+      let first = some_start start_of stop_of 0 (group false s false rows) found.0.start found.0 m (omega arith) in
+      let fits = within s found.0 m in
+      let stop : ℕ = block_stop start_of stop_of 0 (group false s false rows) first.0 in
+      let block = block_at-some start_of stop_of 0 (group false s false rows) first.0 stop (λ q m. (within s q m).0)
+      (block_at_start start_of stop_of 0 (group false s false rows) first.0 (λ q m. (within s q m).0) first.2) in
+      let b : Block = record { sequence = s; start = first.0; stop = stop } in
+      let there = value-mem (at s) (sequence_length g s) first.0 b (omega (arith, first.1, fits)) (ap (place_of s first.0) block) in
+      subst (λ (l : List Block). Mem b l) none there
+
+  -- and one without has none
+  own-none : (s : ℕ) → list_any (λ r. r.seq == s) rows ≡ false → own s ≡ []
+  own-none s e =
+      let empty : group false s false rows ≡ [] = filter-none (is_in_group false s false) rows (λ q m. and_left _ _ (any-none (λ (r : Row). r.seq == s) rows e q m)) in
+      values-none_from (at s) (sequence_length g s) 0 (omega arith)
+      (λ x from below. ap (λ (l : List Row). place_of s x (block_at start_of stop_of 0 l x)) empty)
+
+  sequence-is : (limited : Bool) (s : ℕ) → sequence_text (not limited) g s (own s) ≡ gap_rows limited g rows s
+  sequence-is false s = ap (flat_map (gap_row (sequence_name g s))) (runs-are s)
+  sequence-is true s = go (list_any (λ r. r.seq == s) rows) refl
+    where
+      go : (b : Bool) → list_any (λ r. r.seq == s) rows ≡ b → sequence_text false g s (own s) ≡ gap_rows true g rows s
+      go true e = ap (flat_map (gap_row (sequence_name g s))) (shown-some 0 (sequence_length g s) (own s) (own-some s e) ∙ runs-are s)
+          ∙ sym (cond-true (is_shown true rows s) _ _ e)
+      go false e = ap (sequence_text false g s) (own-none s e) ∙ sym (cond-false (is_shown true rows s) _ _ e)
+
+  -- the rows of all gaps
+  pub gaps-are : (limited : Bool) → texts (not limited) g 0 (seq_count g) (map lies_at entries) ≡ complement_text limited g rows
+  gaps-are limited =
+      ap (texts (not limited) g 0 (seq_count g)) lies-all
+      ∙ texts-are (not limited) g own are-own (seq_count g) 0
+      ∙ flat_map-agree (λ s. sequence_text (not limited) g s (own s)) (gap_rows limited g rows) (range_with_len 0 (seq_count g)) (sequence-is limited)

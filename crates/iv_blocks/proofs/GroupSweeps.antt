@@ -1,0 +1,319 @@
+-- The state of a sweep over a group's records of a range, whose blocks are put one after another, and its steps.
+use Rattle.std.proofs.Common.{ℕ, ◌+◌, ◌*◌, ◌<◌, ◌≤◌, max, ◌≡◌, ◌⊎◌, inl, inr, Bool, false, ◌&&◌, ◌==◌, if◌then◌else◌, List, [], ◌∷◌, ◌++◌, length, filter, All, Option, Some, refl, sym, ap, ap₂, subst, ◌∙◌, arith, append-nil, append_assoc, eq-eqb}
+use Rattle.std.specs.Option.{option_map, option_or}
+use Rattle.std.proofs.lemmas.Bool.{cond-true, cond-false, cases_Bool, cases_lt, and_parts, and_from, and_left, and_right, false_from_ne_true}
+use Rattle.std.proofs.lemmas.List.Elements.{filter-append}
+use Rattle.iv_text.specs.Genome.{Sequences, sequence_name}
+use Rattle.iv_text.specs.Named.{names_of}
+use Rattle.iv_text.specs.Ordered.{AreInOrder}
+use Rattle.iv_text.specs.Read.{Fits}
+use Rattle.iv_text.specs.Row.{Row, row_cmp}
+use Rattle.iv_track.specs.Entries.{IsLedger, value_at}
+use Rattle.iv_cover.specs.Blocks.{block_at}
+use Rattle.iv_cover.specs.TrackBlocks.{start_of, stop_of}
+use Rattle.iv_cover.proofs.Tests.{Mem, mem-filter, mem-filter_from, filter-agree, filter-filter, filter-none, all-mem}
+use Rattle.iv_cover.proofs.Groups.{mem-left, mem-right, mem-append}
+use Rattle.iv_cover.proofs.Cover.{same_tests, Lasting, starts_in}
+use Rattle.iv_blocks.specs.Groups.{is_in_group, group, starts_between, between, between_on, members_between, listed}
+use Rattle.iv_blocks.specs.KeptBlocks.{Key, key_cmp, Kept, Entries, KeptBlocks, kept_block, kept_at}
+use Rattle.iv_blocks.specs.Putting.{key_of, IsOfOther, with_block, ArePut}
+use Rattle.iv_blocks.specs.declared.group.Group.{Group}
+use Rattle.iv_blocks.specs.declared.options.Options.{Options}
+use Rattle.iv_blocks.proofs.Keys.{look-put, look-put_other}
+use Rattle.iv_blocks.proofs.Names.{name-same}
+use Rattle.iv_blocks.proofs.Sweeping.{shown, IsPut, put-first, put-join, put-open, put-all}
+use Rattle.iv_blocks.proofs.Walks.{between-true, between-from, in_group-on, in_order-filter, in_order-parts}
+
+-- ---- records of a range
+
+-- a member of a range is a record of the track, in the group and in the range
+pub member-in : (g : Group) (from to : ℕ) (rows : List Row) (q : Row) → Mem q (members_between g from to rows)
+    → Mem q rows × (q.seq ≡ g.rank) × (from ≤ q.start) × (q.start < to)
+member-in g from to rows q m =
+    let both = mem-filter (λ r. is_in_group g.stranded g.rank g.minus r && starts_between from to r) rows q m in
+    let tests = and_parts (is_in_group g.stranded g.rank g.minus q) (starts_between from to q) both.1 in
+    let range = between-true from to q tests.1 in
+    (both.0, in_group-on g q tests.0, range.0, range.1)
+
+-- the members of a range within another
+pub members-narrow : (g : Group) (from to x s : ℕ) (rows : List Row) → from ≤ x → s ≤ to → filter (starts_between x s) (members_between g from to rows) ≡ members_between g x s rows
+members-narrow g from to x s rows above within =
+    filter-filter (starts_between x s) (λ r. is_in_group g.stranded g.rank g.minus r && starts_between from to r) rows
+    ∙ filter-agree _ _ rows (λ q m. same_tests _ _
+    (λ e.
+    let both = and_parts (is_in_group g.stranded g.rank g.minus q && starts_between from to q) (starts_between x s q) e in
+    and_from _ _ (and_parts (is_in_group g.stranded g.rank g.minus q) (starts_between from to q) both.0).0 both.1)
+    (λ e.
+    let both = and_parts (is_in_group g.stranded g.rank g.minus q) (starts_between x s q) e in
+    let range = between-true x s q both.1 in
+    and_from _ _ (and_from _ _ both.0 (between-from from to q (omega (arith, range.0)) (omega (arith, range.1)))) both.1))
+
+-- the group's records of a range
+pub members-group : (g : Group) (from to : ℕ) (rows : List Row) → group g.stranded g.rank g.minus (between from to rows) ≡ members_between g from to rows
+members-group g from to rows =
+    filter-filter (is_in_group g.stranded g.rank g.minus) (starts_between from to) rows
+    ∙ filter-agree _ _ rows (λ q m. same_tests _ _
+    (λ e. let both = and_parts (starts_between from to q) (is_in_group g.stranded g.rank g.minus q) e in and_from _ _ both.1 both.0)
+    (λ e. let both = and_parts (is_in_group g.stranded g.rank g.minus q) (starts_between from to q) e in and_from _ _ both.1 both.0))
+
+-- ---- how many there are
+
+-- those of a range are those of its two parts
+pub count-parts : (rank from mid to : ℕ) (rows : List Row) → from ≤ mid → mid ≤ to
+    → length (between_on rank from to rows) ≡ length (between_on rank from mid rows) + length (between_on rank mid to rows)
+count-parts rank from mid to [] low high = refl
+count-parts rank from mid to (r ∷ rows) low high =
+    let rest = count-parts rank from mid to rows low high in
+    let whole : Bool = (r.seq == rank) && starts_between from to r in
+    let first : Bool = (r.seq == rank) && starts_between from mid r in
+    let second : Bool = (r.seq == rank) && starts_between mid to r in
+    elim (cases_Bool (r.seq == rank)) [
+      | inr off ↦ omega (
+        arith,
+        rest,
+        ap length (cond-false ((r.seq == rank) && starts_between from to r) (r ∷ between_on rank from to rows) (between_on rank from to rows) (and_left _ _ off)),
+        ap length (cond-false ((r.seq == rank) && starts_between from mid r) (r ∷ between_on rank from mid rows) (between_on rank from mid rows) (and_left _ _ off)),
+        ap length (cond-false ((r.seq == rank) && starts_between mid to r) (r ∷ between_on rank mid to rows) (between_on rank mid to rows) (and_left _ _ off)),
+      )
+      | inl on ↦ elim (cases_lt r.start from) [
+        | inl before ↦ omega (
+          arith,
+          rest,
+          ap length (cond-false ((r.seq == rank) && starts_between from to r) (r ∷ between_on rank from to rows) (between_on rank from to rows) (and_right _ _ (out from to r (inl before)))),
+          ap length (cond-false ((r.seq == rank) && starts_between from mid r) (r ∷ between_on rank from mid rows) (between_on rank from mid rows) (and_right _ _ (out from mid r (inl before)))),
+          ap length (cond-false ((r.seq == rank) && starts_between mid to r) (r ∷ between_on rank mid to rows) (between_on rank mid to rows) (and_right _ _ (out mid to r (inl (omega arith))))),
+        )
+        | inr after ↦ elim (cases_lt r.start mid) [
+          | inl below ↦ omega (
+            arith,
+            rest,
+            ap length (cond-true ((r.seq == rank) && starts_between from to r) (r ∷ between_on rank from to rows) (between_on rank from to rows) (and_from _ _ on (between-from from to r after (omega arith)))),
+            ap length (cond-true ((r.seq == rank) && starts_between from mid r) (r ∷ between_on rank from mid rows) (between_on rank from mid rows) (and_from _ _ on (between-from from mid r after below))),
+            ap length (cond-false ((r.seq == rank) && starts_between mid to r) (r ∷ between_on rank mid to rows) (between_on rank mid to rows) (and_right _ _ (out mid to r (inl below)))),
+          )
+          | inr above ↦ elim (cases_lt r.start to) [
+            | inl within ↦ omega (
+              arith,
+              rest,
+              ap length (cond-true ((r.seq == rank) && starts_between from to r) (r ∷ between_on rank from to rows) (between_on rank from to rows) (and_from _ _ on (between-from from to r after within))),
+              ap length (cond-false ((r.seq == rank) && starts_between from mid r) (r ∷ between_on rank from mid rows) (between_on rank from mid rows) (and_right _ _ (out from mid r (inr above)))),
+              ap length (cond-true ((r.seq == rank) && starts_between mid to r) (r ∷ between_on rank mid to rows) (between_on rank mid to rows) (and_from _ _ on (between-from mid to r above within))),
+            )
+            | inr past ↦ omega (
+              arith,
+              rest,
+              ap length (cond-false ((r.seq == rank) && starts_between from to r) (r ∷ between_on rank from to rows) (between_on rank from to rows) (and_right _ _ (out from to r (inr past)))),
+              ap length (cond-false ((r.seq == rank) && starts_between from mid r) (r ∷ between_on rank from mid rows) (between_on rank from mid rows) (and_right _ _ (out from mid r (inr above)))),
+              ap length (cond-false ((r.seq == rank) && starts_between mid to r) (r ∷ between_on rank mid to rows) (between_on rank mid to rows) (and_right _ _ (out mid to r (inr past)))),
+            )
+          ]
+        ]
+      ]
+    ]
+  where
+    out : (from to : ℕ) (q : Row) → (q.start < from) ⊎ (to ≤ q.start) → starts_between from to q ≡ false
+    out from to q (inl before) = false_from_ne_true _ (λ e. let range = between-true from to q e in omega arith)
+    out from to q (inr past) = false_from_ne_true _ (λ e. let range = between-true from to q e in omega arith)
+
+pub count-within : (rank from to end : ℕ) (rows : List Row) → from ≤ to → to ≤ end → length (between_on rank from to rows) ≤ length (between_on rank from end rows)
+count-within rank from to end rows low high = omega (arith, count-parts rank from to end rows low high)
+
+-- a range that some record opens has one at least
+pub count-some : (rank from to : ℕ) (rows : List Row) (q : Row) → Mem q rows → q.seq ≡ rank → from ≤ q.start → q.start < to → 1 ≤ length (between_on rank from to rows)
+count-some rank from to rows q m at above below =
+    some (between_on rank from to rows) (mem-filter_from (λ r. (r.seq == rank) && starts_between from to r) rows q m (and_from _ _ (eq-eqb _ _ at) (between-from from to q above below)))
+  where
+    some : (xs : List Row) → Mem q xs → 1 ≤ length xs
+    some [] m = absurd m
+    some (x ∷ xs) m = omega arith
+
+-- ---- the sweep
+
+-- what is kept at the positions of a group
+abbrev pub look : Group → Entries → ℕ → Option Kept
+look g entries x = value_at key_cmp entries (key_of g x)
+
+module _ (o : KeptBlocks) (genome : Sequences) (rows : List Row) (g : Group) (from to : ℕ) where
+  -- a block of the group, as it is kept
+  abbrev pub kept : ℕ × List Row → Kept
+  kept = kept_block (sequence_name genome g.rank) (listed o.options.summaries)
+
+  -- the open block starts and stops here: those before it are put, and these members are left
+  pub record IsSweeping (now : KeptBlocks) (start stop : ℕ) (left : List Row) : Type 0 where
+    pub passed : List Row
+    pub all : members_between g from to rows ≡ passed ++ left
+    pub put : IsPut start_of stop_of o.options.distance kept passed start stop (look g o.entries) (look g now.entries)
+    pub above : from ≤ start
+    pub within : stop ≤ to
+    pub options : now.options ≡ o.options
+    pub others : (k : Key) → IsOfOther g k → value_at key_cmp now.entries k ≡ value_at key_cmp o.entries k
+
+  -- what the sweep knows of the records
+  pub record IsSwept : Type 0 where
+    pub ordered : AreInOrder rows
+    pub lasting : (q : Row) → Mem q rows → q.start < q.stop
+    pub stops : (q : Row) → Mem q (members_between g from to rows) → q.stop ≤ to
+
+  module _ (known : IsSwept) where
+    -- a member that was passed or is next
+    member : (passed left : List Row) (r : Row) → members_between g from to rows ≡ passed ++ r ∷ left → (q : Row) → Mem q (passed ++ r ∷ []) → Mem q (members_between g from to rows)
+    member passed left r all q m = subst (λ (l : List Row). Mem q l) (sym all) (elim (mem-append passed (r ∷ []) q m) [
+      | inl old ↦ mem-left passed (r ∷ left) q old
+      | inr new ↦ mem-right passed (r ∷ left) q (elim new [ inl at ↦ inl at | inr none ↦ absurd none ])
+    ])
+
+    lasts : (passed left : List Row) (r : Row) → members_between g from to rows ≡ passed ++ r ∷ left → Lasting start_of stop_of o.options.distance (passed ++ r ∷ [])
+    lasts passed left r all q m = known.lasting q (member-in g from to rows q (member passed left r all q m)).0
+
+    -- each that was passed starts no later than each that is left
+    in_order : (passed left : List Row) → members_between g from to rows ≡ passed ++ left → (q r : Row) → Mem q passed → Mem r left → q.start ≤ r.start
+    in_order passed left all q r m n =
+        let order : AreInOrder (passed ++ left) = subst (λ (l : List Row). AreInOrder l) all (in_order-filter row_cmp _ rows known.ordered) in
+        let at_q = (member-in g from to rows q (subst (λ (l : List Row). Mem q l) (sym all) (mem-left passed left q m))).1 in
+        let at_r = (member-in g from to rows r (subst (λ (l : List Row). Mem r l) (sym all) (mem-right passed left r n))).1 in
+        elim (in_order-parts passed left order q r m n) [
+          | inl less ↦ omega (arith, at_q, at_r)
+          | inr equal ↦ equal.1
+        ]
+
+    -- the first member opens a block
+    pub sweep-first : (r : Row) (left : List Row) → members_between g from to rows ≡ r ∷ left → IsSweeping o r.start r.stop left
+    sweep-first r left all =
+        let here : Mem r (members_between g from to rows) = member [] left r all r (inl refl) in
+        let is = member-in g from to rows r here in
+        record {
+          passed = r ∷ [];
+          all = all;
+          put = put-first start_of stop_of o.options.distance kept r (look g o.entries) (known.lasting r is.0);
+          above = is.2;
+          within = known.stops r here;
+          options = refl;
+          others = λ k other. refl;
+        }
+
+    module _ (now : KeptBlocks) (start stop : ℕ) (r : Row) (left : List Row) (s : IsSweeping now start stop (r ∷ left)) where
+      here : Mem r (members_between g from to rows)
+      here = member s.passed left r s.all r (mem-right s.passed (r ∷ []) r (inl refl))
+
+      all-more : members_between g from to rows ≡ (s.passed ++ r ∷ []) ++ left
+      all-more = s.all ∙ sym (append_assoc s.passed (r ∷ []) left)
+
+      before : (q : Row) → Mem q s.passed → q.start ≤ r.start
+      before q m = in_order s.passed (r ∷ left) s.all q r m (inl refl)
+
+      -- a member joins the open block
+      pub sweep-join : r.start ≤ stop + o.options.distance → IsSweeping now start (max stop r.stop) left
+      sweep-join joins = record {
+        passed = s.passed ++ r ∷ [];
+        all = all-more;
+        put = put-join start_of stop_of o.options.distance kept s.passed r start stop (look g o.entries) (look g now.entries) (lasts s.passed left r s.all) before s.put joins;
+        above = s.above;
+        within = omega (arith, s.within, known.stops r here);
+        options = s.options;
+        others = s.others;
+      }
+
+    -- the members of the open block
+    own : (now : KeptBlocks) (start stop : ℕ) (left : List Row) → (s : IsSweeping now start stop left) → ((q : Row) → Mem q left → stop ≤ q.start)
+        → filter (starts_in start_of stop_of o.options.distance start stop) s.passed ≡ members_between g start stop rows
+    own now start stop left s past =
+        let test = starts_between start stop in
+        sym (append-nil (filter test s.passed))
+        ∙ ap (λ (l : List Row). filter test s.passed ++ l) (sym (filter-none test left (λ q m. false_from_ne_true (test q) (λ e. let range = between-true start stop q e in let late = past q m in omega arith))))
+        ∙ sym (filter-append test s.passed left)
+        ∙ ap (filter test) (sym s.all)
+        ∙ members-narrow g from to start stop rows s.above s.within
+
+    -- the open block, once it is put
+    step : (now next : KeptBlocks) (start stop : ℕ) (left : List Row) → (s : IsSweeping now start stop left) → ((q : Row) → Mem q left → stop ≤ q.start)
+        → next ≡ with_block now genome rows g start stop
+        → (x : ℕ) → look g next.entries x ≡ (if x == start then Some (kept (stop, filter (starts_in start_of stop_of o.options.distance start stop) s.passed)) else look g now.entries x)
+    step now next start stop left s past is x =
+        ap (λ (b : KeptBlocks). look g b.entries x) is
+        ∙ look-put now.entries g start _ x
+        ∙ ap₂ (λ (options : Options) (l : List Row). if x == start then Some (kept_block (sequence_name genome g.rank) (listed options.summaries) (stop, l)) else look g now.entries x)
+        s.options (sym (own now start stop left s past))
+
+    step_others : (now next : KeptBlocks) (start stop : ℕ) (left : List Row) → IsSweeping now start stop left → next ≡ with_block now genome rows g start stop
+        → (k : Key) → IsOfOther g k → value_at key_cmp next.entries k ≡ value_at key_cmp o.entries k
+    step_others now next start stop left s is k other =
+        ap (λ (b : KeptBlocks). value_at key_cmp b.entries k) is ∙ look-put_other now.entries g start _ k other ∙ s.others k other
+
+    -- the open block is put, and a member opens the next
+    pub sweep-open : (now next : KeptBlocks) (start stop : ℕ) (r : Row) (left : List Row) → (s : IsSweeping now start stop (r ∷ left)) → stop + o.options.distance < r.start
+        → next ≡ with_block now genome rows g start stop → IsSweeping next r.start r.stop left
+    sweep-open now next start stop r left s parts is =
+        let opens : Mem r (members_between g from to rows) = here now start stop r left s in
+        let late : (q : Row) → Mem q (r ∷ left) → stop ≤ q.start =
+        λ q m. elim m [
+          | inl at ↦ omega (arith, ap start_of at)
+          | inr rest ↦ omega (arith, in_order (s.passed ++ r ∷ []) left (all-more now start stop r left s) r q (mem-right s.passed (r ∷ []) r (inl refl)) rest)
+        ] in
+        record {
+          passed = s.passed ++ r ∷ [];
+          all = all-more now start stop r left s;
+          put = put-open start_of stop_of o.options.distance kept s.passed r start stop (look g o.entries) (look g now.entries) (lasts s.passed left r s.all)
+              (before now start stop r left s) s.put parts (look g next.entries) (step now next start stop (r ∷ left) s late is);
+          above = (member-in g from to rows r opens).2;
+          within = known.stops r opens;
+          options = ap (λ (b : KeptBlocks). b.options) is ∙ s.options;
+          others = step_others now next start stop (r ∷ left) s is;
+        }
+
+    -- what is kept of the group's records of the range
+    shown-kept : g.stranded ≡ o.options.stranded → (x : ℕ)
+        → shown start_of stop_of o.options.distance kept (members_between g from to rows) x ≡ kept_at o.options (names_of genome) (between from to rows) (key_of g x)
+    shown-kept apart x =
+        ap₂ (λ (name : List ℕ) (l : List Row). option_map (kept_block name (listed o.options.summaries)) (block_at start_of stop_of o.options.distance l x))
+        (sym (name-same genome g.rank))
+        (sym (members-group g from to rows) ∙ ap (λ (b : Bool). group b g.rank g.minus (between from to rows)) apart)
+
+    -- after the last member the open block is put, and all are
+    pub sweep-all : (now next : KeptBlocks) (start stop : ℕ) → IsSweeping now start stop [] → g.stranded ≡ o.options.stranded → next ≡ with_block now genome rows g start stop
+        → IsLedger key_cmp next.entries → ArePut g (names_of genome) (between from to rows) o next
+    sweep-all now next start stop s apart is ledger =
+        let whole : members_between g from to rows ≡ s.passed = s.all ∙ append-nil s.passed in
+        let lasting : Lasting start_of stop_of o.options.distance s.passed =
+        λ q m. known.lasting q (member-in g from to rows q (subst (λ (l : List Row). Mem q l) (sym whole) m)).0 in
+        record {
+          options = ap (λ (b : KeptBlocks). b.options) is ∙ s.options;
+          ordered = ledger;
+          here = λ x.
+              put-all start_of stop_of o.options.distance kept s.passed start stop (look g o.entries) (look g now.entries) (look g next.entries) lasting s.put
+              (step now next start stop [] s (λ q m. absurd m) is) x
+              ∙ ap (λ (v : Option Kept). option_or v (look g o.entries x))
+              (ap (λ (l : List Row). shown start_of stop_of o.options.distance kept l x) (sym whole) ∙ shown-kept apart x);
+          others = step_others now next start stop [] s is;
+        }
+
+    -- where there is no member, nothing is put
+    pub sweep-none : g.stranded ≡ o.options.stranded → members_between g from to rows ≡ [] → IsLedger key_cmp o.entries → ArePut g (names_of genome) (between from to rows) o o
+    sweep-none apart none ledger = record {
+      options = refl;
+      ordered = ledger;
+      here = λ x. ap (λ (v : Option Kept). option_or v (look g o.entries x))
+          (sym (ap (λ (l : List Row). shown start_of stop_of o.options.distance kept l x) none) ∙ shown-kept apart x);
+      others = λ k other. refl;
+    }
+
+    -- a block is put in so many steps, which its records pay for
+    pub sweep-pays : (now : KeptBlocks) (start stop : ℕ) (left : List Row) → IsSweeping now start stop left
+        → 4 * length (between_on g.rank from start rows) + (3 + length (between_on g.rank start stop rows)) ≤ 4 * length (between_on g.rank from stop rows)
+    sweep-pays now start stop left s =
+        let first = s.put.last.block.starts in
+        let is = member-in g from to rows first.0 (subst (λ (l : List Row). Mem first.0 l) (sym s.all) (mem-left s.passed left first.0 first.1)) in
+        let long : start < stop = s.put.last.block.long in
+        omega (
+          arith,
+          count-parts g.rank from start stop rows s.above (omega arith),
+          count-some g.rank start stop rows first.0 is.0 is.1 (omega (arith, first.2)) (omega (arith, first.2)),
+        )
+
+-- what a sweep knows of a track's records
+pub swept-from : (o : KeptBlocks) (genome : Sequences) (rows : List Row) (g : Group) (from to width : ℕ) → AreInOrder rows → All (Fits genome width) rows
+    → All (λ r. r.stop ≤ to) (members_between g from to rows) → IsSwept o genome rows g from to
+swept-from o genome rows g from to width order fit stops = record {
+  ordered = order;
+  lasting = λ q m. (all-mem (Fits genome width) rows fit q m).lies.some;
+  stops = all-mem (λ r. r.stop ≤ to) (members_between g from to rows) stops;
+}

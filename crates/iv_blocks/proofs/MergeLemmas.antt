@@ -1,0 +1,48 @@
+-- The rows of the entries are those of the merge.
+use Rattle.std.proofs.Common.{◌≡◌, ℕ, ◌+◌, ◌++◌, Bool, List, [], ◌∷◌, map, length, refl, sym, ◌∙◌, ap, arith, All, length-append}
+use Rattle.std.specs.Prelude.{codes, decimal}
+use Rattle.std.specs.List.{flat_map, range_with_len}
+use Rattle.std.proofs.lemmas.List.Folds.{flat_map-map}
+use Rattle.std.proofs.lemmas.List.{length-map}
+use Rattle.iv_text.specs.Genome.{Sequences, seq_count, sequence_name}
+use Rattle.iv_text.specs.Named.{names_of}
+use Rattle.iv_text.specs.Read.{Fits}
+use Rattle.iv_text.specs.Row.{Row}
+use Rattle.iv_blocks.specs.Groups.{sides}
+use Rattle.iv_blocks.specs.KeptBlocks.{Key, Kept, Entries, AreBlocksOf}
+use Rattle.iv_blocks.specs.MergeRows.{side_rows, merge_text, all_blocks}
+use Rattle.iv_blocks.specs.declared.options.Options.{Options}
+use Rattle.iv_blocks.proofs.KeptLemmas.{entries-are, entry_of, side_blocks, flat_map-agree, flat_map-flat_map}
+
+-- the row of an entry
+abbrev pub entry_row : Sequences → Key × Kept → List ℕ
+entry_row g e = sequence_name g e.0.0 ++ codes "\t" ++ decimal e.0.2 ++ codes "\t" ++ decimal e.1.stop ++ e.1.results ++ codes "\n"
+
+-- the row of the first entry, and those of the others
+pub rows-next : (g : Sequences) (name : List ℕ) (k : Key) (v : Kept) (entries rest : Entries) → name ≡ sequence_name g k.0 → entries ≡ (k, v) ∷ rest
+    → flat_map (entry_row g) entries ≡ (name ++ codes "\t" ++ decimal k.2 ++ codes "\t" ++ decimal v.stop ++ v.results ++ codes "\n") ++ flat_map (entry_row g) rest
+rows-next g name k v entries rest named first = rw (named, first) refl
+
+length-same : {X Y Z : Type 0} (f : X → List Y) (h : X → List Z) (xs : List X) → ((x : X) → length (f x) ≡ length (h x)) → length (flat_map f xs) ≡ length (flat_map h xs)
+length-same f h [] same = refl
+length-same f h (x ∷ xs) same =
+    omega (arith, length-append (f x) (flat_map f xs), length-append (h x) (flat_map h xs), same x, length-same f h xs same)
+
+module _ (o : Options) (g : Sequences) (width : ℕ) (rows : List Row) (entries : Entries) (right : AreBlocksOf o (names_of g) rows entries) (fit : All (Fits g width) rows) where
+  pub rows-are : flat_map (entry_row g) entries ≡ merge_text o g rows
+  rows-are =
+      let ranks : List ℕ = range_with_len 0 (seq_count g) in
+      let own : ℕ → Bool → Entries = λ s t. map (entry_of o g s t) (side_blocks o g rows s t) in
+      ap (flat_map (entry_row g)) (entries-are o g width rows fit entries right)
+      ∙ flat_map-flat_map (entry_row g) (λ s. flat_map (own s) (sides o.stranded)) ranks
+      ∙ flat_map-agree (λ s. flat_map (entry_row g) (flat_map (own s) (sides o.stranded))) (λ s. flat_map (side_rows o g rows s) (sides o.stranded)) ranks
+      (λ s. flat_map-flat_map (entry_row g) (own s) (sides o.stranded)
+      ∙ flat_map-agree (λ t. flat_map (entry_row g) (own s t)) (side_rows o g rows s) (sides o.stranded)
+      (λ t. flat_map-map (entry_row g) (entry_of o g s t) (side_blocks o g rows s t)))
+
+  pub count-is : length entries ≡ length (all_blocks o g rows)
+  count-is =
+      ap (λ (l : Entries). length l) (entries-are o g width rows fit entries right)
+      ∙ length-same (λ s. flat_map (λ t. map (entry_of o g s t) (side_blocks o g rows s t)) (sides o.stranded)) (λ s. flat_map (side_blocks o g rows s) (sides o.stranded)) (range_with_len 0 (seq_count g))
+      (λ s. length-same (λ t. map (entry_of o g s t) (side_blocks o g rows s t)) (side_blocks o g rows s) (sides o.stranded)
+      (λ t. length-map (side_blocks o g rows s t) (entry_of o g s t)))

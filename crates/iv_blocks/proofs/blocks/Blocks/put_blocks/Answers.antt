@@ -1,0 +1,141 @@
+use Rattle.std.proofs.Common.{◌≡◌, ◌+◌, ◌<◌, ℕ, List, [], ◌∷◌, length, ap, sym, subst, ◌∙◌, arith, Result, Ok, Err, OnOk}
+use Rattle.iv_text.specs.Row.{Row}
+use Rattle.iv_blocks.specs.Coming.{Coming}
+use Rattle.iv_blocks.specs.Groups.{between_on, members_between}
+use Rattle.iv_track.specs.Entries.{IsLedger}
+use Rattle.iv_blocks.specs.KeptBlocks.{KeptBlocks, key_cmp}
+use Rattle.iv_blocks.proofs.GroupSweeps.{IsSweeping, swept-from, sweep-first, sweep-join, sweep-open, sweep-all, sweep-none, sweep-pays, count-within}
+use Rattle.iv_blocks.proofs.blocks.Blocks.put_blocks.Goals as goal
+
+-- two facts at one `Ok`
+on_ok_both : {T E P Q R : Type 0} (r : Result T E) → OnOk r P → OnOk r Q → (P → Q → R) → OnOk r R
+on_ok_both (Ok x) p q both = both p q
+on_ok_both (Err e) p q both = tt
+
+pub returns-in_default-clause-ok : goal.returns-in_default-clause-ok
+returns-in_default-clause-ok g c =
+    let a = c.args in
+    let known = swept-from a.self.now a.genome.now a.track.now.rows a.group a.from a.to a.track.now.width c.of-members.ensures.ordered c.requires.fit c.requires.stops in
+    sweep-none a.self.now a.genome.now a.track.now.rows a.group a.from a.to known c.requires.apart
+    (sym (ap (λ (m : Coming). m.members) c.of-members.ensures.members) ∙ c.in_default.ensures.member.0)
+    (subst (λ (b : KeptBlocks). IsLedger key_cmp b.entries) c.self.view_is c.len-ordered.ensures.ordered)
+
+pub loop-row-init : goal.loop-row-init
+loop-row-init g c =
+    let a = c.args in
+    let known = swept-from a.self.now a.genome.now a.track.now.rows a.group a.from a.to a.track.now.width c.of-members.ensures.ordered c.requires.fit c.requires.stops in
+    let steps = c.in-Some.ensures.steps in
+    let all : members_between a.group a.from a.to a.track.now.rows ≡ c.in-Some.first.now ∷ c.next.new.self.members =
+    sym (ap (λ (m : Coming). m.members) c.of-members.ensures.members) ∙ c.in-Some.ensures.member in
+    let records : c.of-members.result.records ≡ length (between_on a.group.rank a.from a.to a.track.now.rows) = ap (λ (m : Coming). m.records) c.of-members.ensures.members in
+    record {
+      sweep = rw c.place-start.ensures (sweep-first a.self.now a.genome.now a.track.now.rows a.group a.from a.to known c.in-Some.first.now c.next.new.self.members all);
+      no_less = omega (arith, c.of-members.ensures.steps.no_less, steps.no_less);
+      paid = omega (arith, c.of-members.ensures.steps.at_most, steps.at_most, records);
+    }
+
+pub overflow_add-from : goal.overflow_add-from
+overflow_add-from g c =
+    let i = c.loop-row.invariant in
+    omega (arith, i.sweep.within, c.from-in-Some-next.ensures, c.from-distance.ensures, c.ranges.to.fits)
+
+pub loop-row-smaller-then-from-distance : goal.loop-row-smaller-then-from-distance
+loop-row-smaller-then-from-distance g c = omega (arith, ap length c.in-Some-next.ensures.member)
+
+pub loop-row-preserved-then-from-distance : goal.loop-row-preserved-then-from-distance
+loop-row-preserved-then-from-distance g c =
+    let a = c.args in
+    let i = c.loop-row.invariant in
+    let known = swept-from a.self.now a.genome.now a.track.now.rows a.group a.from a.to a.track.now.width c.of-members.ensures.ordered c.requires.fit c.requires.stops in
+    let r = c.in-Some-next.row.now in
+    let rest = c.next-in-loop-row.new.self.members in
+    let steps = c.in-Some-next.ensures.steps in
+    let s : IsSweeping a.self.now a.genome.now a.track.now.rows a.group a.from a.to c.loop-row.self c.loop-row.start c.loop-row.stop (r ∷ rest) =
+    subst (λ (l : List Row). IsSweeping a.self.now a.genome.now a.track.now.rows a.group a.from a.to c.loop-row.self c.loop-row.start c.loop-row.stop l) c.in-Some-next.ensures.member i.sweep in
+    let distance : c.from-distance.result ≡ a.self.now.options.distance = c.from-distance.ensures ∙ ap (λ (b : KeptBlocks). b.options.distance) c.self.view_is in
+    let starts = ap (λ (p : ℕ × ℕ). p.0) c.place-next_start.ensures in
+    record {
+      sweep = rw (c.max-stop.ensures, c.place-next_start.ensures)
+          (sweep-join a.self.now a.genome.now a.track.now.rows a.group a.from a.to known c.loop-row.self c.loop-row.start c.loop-row.stop r rest s
+          (omega (arith, c.if-from-distance.true, c.from.ensures, c.from-in-Some-next.ensures, distance, starts)));
+      no_less = omega (arith, i.no_less, steps.no_less);
+      paid = omega (arith, i.paid, steps.at_most);
+    }
+
+pub returns-in_err-put_block-clause-steps : goal.returns-in_err-put_block-clause-steps
+returns-in_err-put_block-clause-steps g c =
+    let a = c.args in
+    let i = c.loop-row.invariant in
+    let known = swept-from a.self.now a.genome.now a.track.now.rows a.group a.from a.to a.track.now.width c.of-members.ensures.ordered c.requires.fit c.requires.stops in
+    let long : c.loop-row.start < c.loop-row.stop = i.sweep.put.last.block.long in
+    let next = c.in-Some-next.ensures.steps in
+    record {
+      no_less = omega (arith, i.no_less, next.no_less, c.put_block.ensures.steps.no_less);
+      at_most = omega (
+        arith,
+        i.paid,
+        next.at_most,
+        c.put_block.ensures.steps.at_most,
+        sweep-pays a.self.now a.genome.now a.track.now.rows a.group a.from a.to known c.loop-row.self c.loop-row.start c.loop-row.stop c.loop-row.members.members i.sweep,
+        count-within a.group.rank a.from c.loop-row.stop a.to a.track.now.rows (omega (arith, i.sweep.above, long)) i.sweep.within,
+      );
+    }
+
+pub loop-row-smaller : goal.loop-row-smaller
+loop-row-smaller g c = omega (arith, ap length c.in-Some-next.ensures.member)
+
+pub loop-row-preserved : goal.loop-row-preserved
+loop-row-preserved g c =
+    let a = c.args in
+    let i = c.loop-row.invariant in
+    let known = swept-from a.self.now a.genome.now a.track.now.rows a.group a.from a.to a.track.now.width c.of-members.ensures.ordered c.requires.fit c.requires.stops in
+    let r = c.in-Some-next.row.now in
+    let rest = c.next-in-loop-row.new.self.members in
+    let next = c.in-Some-next.ensures.steps in
+    let s : IsSweeping a.self.now a.genome.now a.track.now.rows a.group a.from a.to c.loop-row.self c.loop-row.start c.loop-row.stop (r ∷ rest) =
+    subst (λ (l : List Row). IsSweeping a.self.now a.genome.now a.track.now.rows a.group a.from a.to c.loop-row.self c.loop-row.start c.loop-row.stop l) c.in-Some-next.ensures.member i.sweep in
+    let distance : c.from-distance.result ≡ a.self.now.options.distance = c.from-distance.ensures ∙ ap (λ (b : KeptBlocks). b.options.distance) c.self.view_is in
+    let starts : c.place-next_start.result.0 ≡ r.start = ap (λ (p : ℕ × ℕ). p.0) c.place-next_start.ensures in
+    let parts : c.loop-row.stop + a.self.now.options.distance < r.start = omega (arith, c.if-from-distance.false, c.from.ensures, c.from-in-Some-next.ensures, distance, starts) in
+    let long : c.loop-row.start < c.loop-row.stop = i.sweep.put.last.block.long in
+    record {
+      sweep = rw c.place-next_start.ensures
+          (sweep-open a.self.now a.genome.now a.track.now.rows a.group a.from a.to known c.loop-row.self c.put_block.new.self c.loop-row.start c.loop-row.stop r rest s parts c.in_ok-put_block.ensures.ok);
+      no_less = omega (arith, i.no_less, next.no_less, c.put_block.ensures.steps.no_less);
+      paid = omega (
+        arith,
+        i.paid,
+        next.at_most,
+        c.put_block.ensures.steps.at_most,
+        sweep-pays a.self.now a.genome.now a.track.now.rows a.group a.from a.to known c.loop-row.self c.loop-row.start c.loop-row.stop c.loop-row.members.members i.sweep,
+        count-within a.group.rank a.from c.loop-row.stop c.place-next_start.result.0 a.track.now.rows (omega (arith, i.sweep.above, long)) (omega (arith, parts, starts)),
+      );
+    }
+
+pub returns-clause-ok : goal.returns-clause-ok
+returns-clause-ok g c =
+    let a = c.args in
+    let known = swept-from a.self.now a.genome.now a.track.now.rows a.group a.from a.to a.track.now.width c.of-members.ensures.ordered c.requires.fit c.requires.stops in
+    let s : IsSweeping a.self.now a.genome.now a.track.now.rows a.group a.from a.to c.loop-row.self c.loop-row.start c.loop-row.stop [] =
+    subst (λ (l : List Row). IsSweeping a.self.now a.genome.now a.track.now.rows a.group a.from a.to c.loop-row.self c.loop-row.start c.loop-row.stop l) c.in_default-next.ensures.member.0 c.loop-row.invariant.sweep in
+    on_ok_both c.put_block-2.result c.put_block-2.ensures.ok c.put_block-2.ensures.ordered (λ put ordered.
+    sweep-all a.self.now a.genome.now a.track.now.rows a.group a.from a.to known c.loop-row.self c.put_block-2.new.self c.loop-row.start c.loop-row.stop s c.requires.apart put ordered)
+
+pub returns-clause-steps : goal.returns-clause-steps
+returns-clause-steps g c =
+    let a = c.args in
+    let i = c.loop-row.invariant in
+    let known = swept-from a.self.now a.genome.now a.track.now.rows a.group a.from a.to a.track.now.width c.of-members.ensures.ordered c.requires.fit c.requires.stops in
+    let long : c.loop-row.start < c.loop-row.stop = i.sweep.put.last.block.long in
+    let next = c.in_default-next.ensures.steps in
+    record {
+      no_less = omega (arith, i.no_less, next.no_less, c.put_block-2.ensures.steps.no_less);
+      at_most = omega (
+        arith,
+        i.paid,
+        next.at_most,
+        c.put_block-2.ensures.steps.at_most,
+        sweep-pays a.self.now a.genome.now a.track.now.rows a.group a.from a.to known c.loop-row.self c.loop-row.start c.loop-row.stop c.loop-row.members.members i.sweep,
+        count-within a.group.rank a.from c.loop-row.stop a.to a.track.now.rows (omega (arith, i.sweep.above, long)) i.sweep.within,
+      );
+    }

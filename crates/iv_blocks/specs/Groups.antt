@@ -1,0 +1,66 @@
+-- Which records of a track may be in one block.
+use Rattle.std.specs.Prelude.{ℕ, ◌+◌, ◌-◌, ◌++◌, length, replicate, slice_set, ◌==◌, ◌&&◌, nat_le, nat_lt, Bool, true, false, not, List, [], ◌∷◌, filter, take, Option, None, Some, if◌then◌else◌}
+use Rattle.iv_text.specs.Row.{Row}
+use Rattle.iv_text.specs.declared.strand.Strand.{Strand}
+use Rattle.iv_summary.specs.declared.column.Column.TheVariants.{Sequence}
+use Rattle.iv_summary.specs.declared.column.Summary.{Summary}
+use Rattle.iv_blocks.specs.declared.group.Group.{Group}
+use Rattle.iv_summary.specs.declared.op.Op.TheVariants.{Count}
+use Rattle.iv_blocks.specs.declared.options.Summaries.{Summaries}
+use Rattle.iv_text.specs.declared.strand.Strand.TheVariants.{Plus, Minus, Dot}
+
+-- the strand is the minus strand, or the plus strand
+abbrev pub is_strand : Bool → Option Strand → Bool
+is_strand minus None = false
+is_strand minus (Some Plus) = not minus
+is_strand minus (Some Minus) = minus
+is_strand minus (Some Dot) = false
+
+-- the record is on this side: all are on the first side, or with strands apart, those of `+` on the first and those of `-` on
+-- the other
+abbrev pub is_on_side : Bool → Bool → Row → Bool
+is_on_side stranded minus r = if stranded then is_strand minus r.strand else not minus
+
+-- the record is on the sequence of this rank, and on this side
+abbrev pub is_in_group : Bool → ℕ → Bool → Row → Bool
+is_in_group stranded rank minus r = (r.seq == rank) && is_on_side stranded minus r
+
+-- the records on the sequence of this rank and on this side
+abbrev pub group : Bool → ℕ → Bool → List Row → List Row
+group stranded rank minus rows = filter (is_in_group stranded rank minus) rows
+
+-- the record starts at `from` or after, and below `to`
+abbrev pub starts_between : ℕ → ℕ → Row → Bool
+starts_between from to r = nat_le from r.start && nat_lt r.start to
+
+-- the records that start at `from` or after and below `to`
+abbrev pub between : ℕ → ℕ → List Row → List Row
+between from to rows = filter (starts_between from to) rows
+
+-- those of them on the sequence of this rank, of any strand
+abbrev pub between_on : ℕ → ℕ → ℕ → List Row → List Row
+between_on rank from to rows = filter (λ r. (r.seq == rank) && starts_between from to r) rows
+
+-- those of them in the group
+abbrev pub members_between : Group → ℕ → ℕ → List Row → List Row
+members_between g from to rows = filter (λ r. is_in_group g.stranded g.rank g.minus r && starts_between from to r) rows
+
+-- the sides whose blocks are printed, in order: with strands apart, `+` and then `-`
+abbrev pub sides : Bool → List Bool
+sides stranded = if stranded then false ∷ true ∷ [] else false ∷ []
+
+-- the summaries that are asked, in order
+abbrev pub listed : Summaries → List Summary
+listed s = take s.count s.summaries
+
+-- a place that holds no summary
+abbrev pub unused : Summary
+unused = record { column = Sequence; op = Count }
+
+-- the summaries of a list of at most 16
+abbrev pub filled : List Summary → Summaries
+filled summaries = record { summaries = summaries ++ replicate (16 - length summaries) unused; count = length summaries }
+
+-- one more summary at the end
+abbrev pub pushed : Summaries → Summary → Summaries
+pushed s summary = record { summaries = slice_set s.summaries s.count summary; count = s.count + 1 }

@@ -1,0 +1,12 @@
+pub mod Groups
+pub mod Plain
+pub mod Coming
+pub mod KeptBlocks
+pub mod Putting
+pub mod Lookups
+pub mod Repairs
+pub mod Ahead
+pub mod JoinedBlocks
+pub mod MergeRows
+pub mod ClusterRows
+pub mod ComplementRows

@@ -1,0 +1,54 @@
+-- Blocks of one group by position, before and after an edit. These are words for clauses of private functions, and no part of what is
+-- promised.
+use Rattle.std.specs.Prelude.{◌≡◌, ◌⊎◌, ℕ, zero, suc, ◌+◌, ◌<◌, ◌≤◌, ◌==◌, max, Option, None, Some, if◌then◌else◌}
+use Rattle.std.specs.Option.{is_some}
+use Rattle.std.specs.Map.{remove_entry}
+use Rattle.std.specs.BTreeMap.{is_at}
+use Rattle.iv_track.specs.Entries.{IsLedger, value_at}
+use Rattle.iv_blocks.specs.KeptBlocks.{Key, key_cmp, Kept, KeptBlocks}
+use Rattle.iv_blocks.specs.Lookups.{IsLastBlock}
+use Rattle.iv_blocks.specs.Putting.{key_of, IsOfOther}
+use Rattle.iv_blocks.specs.declared.group.Group.{Group}
+
+-- what is kept, without the group's block that starts at x
+abbrev pub without_block : KeptBlocks → Group → ℕ → KeptBlocks
+without_block kept g x = record kept { entries = remove_entry (is_at (key_cmp (key_of g x))) kept.entries }
+
+-- nothing but blocks of this group may have changed
+pub record KeepsOthers (g : Group) (old new : KeptBlocks) : Type 0 where
+  pub options : new.options ≡ old.options
+  pub ordered : IsLedger key_cmp new.entries
+  pub others : (k : Key) → IsOfOther g k → value_at key_cmp new.entries k ≡ value_at key_cmp old.entries k
+
+-- the last block that starts at `start` or before it reaches it, over a gap of at most d. It is taken out and joined with the
+-- interval from `start` to `stop`
+pub record JoinsOne (d : ℕ) (old new : ℕ → Option Kept) (start stop : ℕ) (joined : ℕ × ℕ) : Type 0 where
+  pub stops : ℕ
+  pub last : IsLastBlock old start (joined.0, stops)
+  pub reaches : start ≤ stops + d
+  pub high : joined.1 ≡ max stops stop
+  pub taken : (x : ℕ) → new x ≡ (if x == joined.0 then None else old x)
+
+-- the last block that starts at `start` or before it doesn't reach it, or there is none. Nothing is changed
+pub record JoinsNone (d : ℕ) (old new : ℕ → Option Kept) (start stop : ℕ) (joined : ℕ × ℕ) : Type 0 where
+  pub same : (x : ℕ) → new x ≡ old x
+  pub joined_is : joined ≡ (start, stop)
+  pub apart : ((x : ℕ) → x ≤ start → old x ≡ None) ⊎ ((b : ℕ × ℕ) × IsLastBlock old start b × (b.1 + d < start))
+
+-- the interval from `start` to `stop` is joined with the block before it, if that reaches it
+abbrev pub JoinsBefore : ℕ → (ℕ → Option Kept) → (ℕ → Option Kept) → ℕ → ℕ → ℕ × ℕ → Type 0
+JoinsBefore d old new start stop joined = JoinsOne d old new start stop joined ⊎ JoinsNone d old new start stop joined
+
+-- the blocks that start at `from` or after it, and that an interval up to `high` reaches, each making it longer, are taken out; at
+-- last it goes up to `to`
+pub record JoinsAfter (d : ℕ) (old new : ℕ → Option Kept) (from high to : ℕ) : Type 0 where
+  pub no_less : high ≤ to
+  pub clear : (x : ℕ) → from ≤ x → x ≤ to + d → new x ≡ None
+  pub others : (x : ℕ) → (x < from) ⊎ (to + d < x) → new x ≡ old x
+  pub within : (x : ℕ) (b : Kept) → from ≤ x → x ≤ to + d → old x ≡ Some b → b.stop ≤ to
+  pub reached : (y : ℕ) → high + d < y → y ≤ to + d → (x : ℕ) × (b : Kept) × (old x ≡ Some b) × (x < y) × (y ≤ b.stop + d)
+
+-- how many blocks start at one of the n positions from p on
+unfoldable pub count_from : (ℕ → Option Kept) → ℕ → ℕ → ℕ
+count_from look p zero = 0
+count_from look p (suc n) = (if is_some (look (p + n)) then 1 else 0) + count_from look p n

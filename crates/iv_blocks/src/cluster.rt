@@ -1,0 +1,85 @@
+//! The rows of a cluster.
+ghost use Rattle.std.specs.Prelude.{◌≡◌, ◌<◌, ◌+◌, ◌^◌, ◌++◌, false, All, length, codes, decimal};
+ghost use Rattle.std.specs.List.{take_while};
+ghost use Rattle.iv_bytes.specs.Sinks.{Puts};
+ghost use Rattle.iv_text.specs.Named.{names_of};
+ghost use Rattle.iv_text.specs.Read.{Fits};
+ghost use Rattle.iv_text.specs.RecordText.{record_text};
+ghost use Rattle.iv_track.specs.Steps.{TakesUpTo};
+ghost use Rattle.iv_blocks.specs.Ahead.{starts_until, drop_while, TakesForEach};
+ghost use Rattle.iv_blocks.specs.ClusterRows.{cluster_text};
+ghost use Rattle.iv_blocks.specs.KeptBlocks.{AreBlocksOf};
+
+use crate::ahead::Ahead;
+use crate::blocks::Blocks;
+use iv_text::{Genome, Record, Sink, WriteFault, put_pieces, put_record};
+use iv_track::{Meter, Track};
+use std::alloc::Allocator;
+
+/// Puts a row for each record: its columns, and the number of its block, counted from 1 over the whole track.
+///
+/// One walk over the track, and one over the blocks beside it: at most one step for each record and each block, and four more.
+pub(crate) fn put_cluster<A: Allocator + Copy, S: Sink>(
+    blocks: &Blocks<A>,
+    track: &Track<A>,
+    genome: &Genome<A>,
+    meter: &mut Meter,
+    sink: &mut S,
+) -> Result<(), WriteFault>
+    requires together { blocks.now.options.stranded ≡ false }
+    requires right { AreBlocksOf blocks.now.options (names_of genome.now) track.now.rows blocks.now.entries }
+    requires fit { All (Fits genome.now track.now.width) track.now.rows }
+    ensures text { Puts (S.state sink.old) (S.state sink.new) result (cluster_text blocks.now.options.distance genome.now track.now.rows) }
+    ensures steps { TakesUpTo meter.old meter.new (4 + length track.now.rows + length blocks.now.entries) }
+{
+    // So few blocks are kept that 64 bits number them.
+    let _few = blocks.ledger.len();
+    let mut ahead = Ahead::of(blocks, meter);
+    let mut number: u64 = 0;
+    let mut rows = track.walk(0, 0, meter);
+    while let Some(row) = rows.next(meter) {
+        number += count_until(&mut ahead, row.seq(), row.start(), meter);
+        put_row(row, number, genome, sink)?;
+    }
+    Ok(())
+}
+
+/// Goes past the blocks that start at this position of the sequence of this rank, or before it, and counts them.
+fn count_until<A: Allocator + Copy>(
+    ahead: &mut Ahead<'_, A>,
+    rank: u32,
+    position: u64,
+    meter: &mut Meter,
+) -> u64
+    requires few { length ahead.old < 2 ^ 64 }
+    ensures count { result ≡ length (take_while (starts_until rank position) ahead.old) }
+    ensures past { ahead.new ≡ drop_while (starts_until rank position) ahead.old }
+    ensures steps { TakesForEach meter.old meter.new ahead.old ahead.new }
+{
+    let mut count: u64 = 0;
+    while ahead.next_until(rank, position, meter).is_some() {
+        count += 1;
+    }
+    count
+}
+
+/// Puts the row of a record, with this number behind its columns.
+fn put_row<A: Allocator + Copy, S: Sink>(
+    row: &Record<A>,
+    number: u64,
+    genome: &Genome<A>,
+    sink: &mut S,
+) -> Result<(), WriteFault>
+    ensures { Puts (S.state sink.old) (S.state sink.new) result (record_text genome.now row.now ++ codes "\t" ++ decimal number ++ codes "\n") }
+{
+    put_record(sink, genome, &row.as_ref())?;
+    put_number(number, sink)
+}
+
+/// Puts the last column of a row, and the end of the line.
+fn put_number<S: Sink>(number: u64, sink: &mut S) -> Result<(), WriteFault>
+    ensures { Puts (S.state sink.old) (S.state sink.new) result (codes "\t" ++ decimal number ++ codes "\n") }
+{
+    let mut text = itoa::Buffer::new();
+    put_pieces(sink, &[b"\t", text.format(number).as_bytes(), b"\n"])
+}

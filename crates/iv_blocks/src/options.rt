@@ -1,0 +1,76 @@
+//! What is asked of blocks.
+ghost use Rattle.std.specs.Prelude.{◌≡◌, [], false, nat_lt, IsTrue, IsFalse};
+ghost use Rattle.iv_blocks.specs.Groups.{listed, filled, pushed};
+
+use iv_summary::{Column, Op, Summary};
+
+/// The summaries that are asked of each block, at most 16, in the order of their columns of output.
+#[derive(Clone, Copy, Debug, PartialEq, Eq, Drop)]
+pub struct Summaries {
+    // Those from `count` on mean nothing.
+    summaries: [Summary; 16],
+    count: u8,
+}
+
+impl Summaries {
+    /// None.
+    pub fn none() -> Summaries
+        ensures { result ≡ filled [] }
+    {
+        let unused = Summary {
+            column: Column::Sequence,
+            op: Op::Count,
+        };
+        Summaries {
+            summaries: [unused; 16],
+            count: 0,
+        }
+    }
+
+    /// One more summary at the end. Whether there was room for it; else nothing is changed.
+    pub fn push(&mut self, summary: Summary) -> bool
+        ensures room { result ≡ nat_lt self.old.count 16 }
+        ensures pushed { IsTrue result → self.new ≡ pushed self.old summary }
+        ensures full { IsFalse result → self.new ≡ self.old }
+    {
+        if self.count >= 16 {
+            return false;
+        }
+        self.summaries[usize::from(self.count)] = summary;
+        self.count += 1;
+        true
+    }
+
+    /// The summaries, in order.
+    pub fn as_slice(&self) -> &[Summary]
+        ensures { result.now ≡ listed self.now }
+    {
+        &self.summaries[..usize::from(self.count).min(16)]
+    }
+}
+
+/// Which records are joined into one block, and what is asked of its records.
+#[derive(Clone, Copy, Debug, PartialEq, Eq, Drop)]
+pub struct Options {
+    /// Records at most this many bases apart are joined.
+    pub distance: u32,
+    /// Whether only records of one strand are joined.
+    pub stranded: bool,
+    /// What is asked of the records of each block.
+    pub summaries: Summaries,
+}
+
+impl Options {
+    /// Records of both strands are joined, at most this many bases apart, and nothing is asked of a block.
+    pub fn joined(distance: u32) -> Options
+        ensures distance { result.distance ≡ distance }
+        ensures together { result.stranded ≡ false }
+        ensures summaries { listed result.summaries ≡ [] }
+    {
+        Options {
+            distance,
+            stranded: false,
+            summaries: Summaries::none(),
+        }
+    }
+}

@@ -1,0 +1,145 @@
+//! Blocks that are put over those that are kept.
+ghost use Rattle.std.specs.Prelude.{◌≡◌, ◌+◌, ◌*◌, ◌≤◌, ℕ, List, All, IfOk, OnOk, OnErr, length, map};
+ghost use Rattle.iv_text.specs.Genome.{sequence_name};
+ghost use Rattle.iv_text.specs.Named.{names_of};
+ghost use Rattle.iv_text.specs.Read.{Fits};
+ghost use Rattle.iv_track.specs.Entries.{IsLedger};
+ghost use Rattle.iv_track.specs.Steps.{TakesUpTo};
+ghost use Rattle.iv_summary.specs.Columns.{results_over};
+ghost use Rattle.iv_blocks.specs.Groups.{between, between_on, members_between, listed};
+ghost use Rattle.iv_blocks.specs.KeptBlocks.{key_cmp, results_of};
+ghost use Rattle.iv_blocks.specs.Putting.{ArePut, with_block};
+
+use crate::blocks::{Blocks, KeptBlock};
+use crate::group::Group;
+use crate::members::Members;
+use iv_summary::results;
+use iv_text::{Genome, Record};
+use iv_track::{Meter, Track};
+use std::alloc::{AllocError, Allocator};
+
+impl<A: Allocator + Copy> Blocks<A> {
+    /// Puts the blocks of a group's records that start at `from` or after and below `to`, over what is there: they are the
+    /// blocks of these records alone.
+    ///
+    /// None of these records stops past `to`. At most 2 steps, and 5 for each record, of any strand, that starts there.
+    ///
+    /// # Errors
+    ///
+    /// Memory was refused. Some of the blocks may be put.
+    pub(crate) fn put_blocks(
+        &mut self,
+        track: &Track<A>,
+        genome: &Genome<A>,
+        group: Group,
+        from: u32,
+        to: u32,
+        meter: &mut Meter,
+    ) -> Result<(), AllocError>
+        requires apart { group.stranded ≡ self.old.options.stranded }
+        requires fit { All (Fits genome.now track.now.width) track.now.rows }
+        requires stops { All (λ r. r.stop ≤ to) (members_between group from to track.now.rows) }
+        ensures ok { OnOk result (ArePut group (names_of genome.now) (between from to track.now.rows) self.old self.new) }
+        ensures steps { TakesUpTo meter.old meter.new (2 + 5 * length (between_on group.rank from to track.now.rows)) }
+    {
+        // The ledger tells that its keys ascend, also where nothing is put.
+        let _ordered = self.ledger.len();
+        let distance = u64::from(self.options.distance);
+        let mut members = Members::of(track, group, from, to, meter);
+        let Some(first) = members.next(meter) else {
+            return Ok(());
+        };
+        let (mut start, mut stop) = place(first);
+        while let Some(row) = members.next(meter) {
+            let (next_start, next_stop) = place(row);
+            if u64::from(next_start) <= u64::from(stop) + distance {
+                stop = stop.max(next_stop);
+            } else {
+                self.put_block(track, genome, group, start, stop, meter)?;
+                (start, stop) = (next_start, next_stop);
+            }
+        }
+        self.put_block(track, genome, group, start, stop, meter)
+    }
+
+    /// Puts the block of a group's records that start at `start` or after and below `stop`, over what is there.
+    ///
+    /// At most 3 steps, and one for each record, of any strand, that starts there.
+    ///
+    /// # Errors
+    ///
+    /// Memory was refused. The blocks are as before.
+    pub(crate) fn put_block(
+        &mut self,
+        track: &Track<A>,
+        genome: &Genome<A>,
+        group: Group,
+        start: u32,
+        stop: u32,
+        meter: &mut Meter,
+    ) -> Result<(), AllocError>
+        ensures ok { OnOk result (self.new ≡ with_block self.old genome.now track.now.rows group start stop) }
+        ensures err { OnErr result (self.new ≡ self.old) }
+        ensures was_ordered { OnOk result (IsLedger key_cmp self.old.entries) }
+        ensures ordered { OnOk result (IsLedger key_cmp self.new.entries) }
+        ensures steps { TakesUpTo meter.old meter.new (3 + length (between_on group.rank start stop track.now.rows)) }
+    {
+        let results = self.results(track, genome, group, start, stop, meter)?;
+        let key = (group.rank, group.minus, start);
+        self.ledger.put(key, KeptBlock { stop, results }, meter)?;
+        Ok(())
+    }
+
+    /// The results of a block, `None` where nothing is asked.
+    ///
+    /// At most 2 steps, and one for each record, of any strand, that starts in the block.
+    fn results(
+        &self,
+        track: &Track<A>,
+        genome: &Genome<A>,
+        group: Group,
+        start: u32,
+        stop: u32,
+        meter: &mut Meter,
+    ) -> Result<Option<Box<Vec<u8, A>, A>>, AllocError>
+        ensures value { IfOk result (λ r. results_of r ≡ results_over (sequence_name genome.now group.rank) (listed self.now.options.summaries) (members_between group start stop track.now.rows)) }
+        ensures steps { TakesUpTo meter.old meter.new (2 + length (between_on group.rank start stop track.now.rows)) }
+    {
+        let summaries = self.options.summaries.as_slice();
+        if summaries.is_empty() {
+            return Ok(None);
+        }
+        let members = Members::of(track, group, start, stop, meter);
+        let rows = gather(self.alloc, members, meter)?;
+        let name = genome.name(group.rank).unwrap_or(b"");
+        let results = results(self.alloc, summaries, name, rows.as_slice())?;
+        Ok(Some(Box::new(self.alloc, results)?))
+    }
+}
+
+/// The members that a walk has left, in order.
+///
+/// At most one step, and one for each record that the walk goes past.
+fn gather<'a, A: Allocator + Copy>(
+    alloc: A,
+    members: Members<'a, A>,
+    meter: &mut Meter,
+) -> Result<Vec<&'a Record<A>, A>, AllocError>
+    ensures rows { IfOk result (λ v. map (λ row. row.now) v.items ≡ members.entry.members) }
+    ensures steps { TakesUpTo meter.old meter.new (1 + members.entry.records) }
+{
+    let mut members = members;
+    let mut rows = Vec::new(alloc);
+    while let Some(row) = members.next(meter) {
+        rows.push(row)?;
+    }
+    Ok(rows)
+}
+
+/// Where a record starts and stops.
+fn place<A: Allocator>(row: &Record<A>) -> (u32, u32)
+    ensures { result ≡ (row.now.start, row.now.stop) }
+{
+    row.law_of_place();
+    (row.start() as u32, row.stop() as u32)
+}

@@ -1,0 +1,176 @@
+//! Blocks that are repaired around an edit.
+ghost use Rattle.std.specs.Prelude.{◌≡◌, ◌+◌, ◌-◌, ◌*◌, ◌≤◌, All, OnOk, length};
+ghost use Rattle.iv_text.specs.Named.{names_of};
+ghost use Rattle.iv_text.specs.Ordered.{added as with_one};
+ghost use Rattle.iv_text.specs.Read.{Fits};
+ghost use Rattle.iv_track.specs.Entries.{IsLedger};
+ghost use Rattle.iv_track.specs.Steps.{TakesUpTo};
+ghost use Rattle.iv_cover.specs.Kept.{IsRightWithout};
+ghost use Rattle.iv_blocks.specs.Groups.{between, between_on, members_between};
+ghost use Rattle.iv_blocks.specs.KeptBlocks.{KeptBlocks, AreBlocksOf, key_cmp, block_steps};
+ghost use Rattle.iv_blocks.specs.Lookups.{kept_in};
+ghost use Rattle.iv_blocks.specs.Putting.{ArePut};
+ghost use Rattle.iv_blocks.specs.Repairs.{without_block, KeepsOthers, JoinsBefore, JoinsAfter, count_from};
+
+use crate::blocks::Blocks;
+use crate::group::Group;
+use iv_text::{Genome, RecordRef};
+use iv_track::{Meter, Track};
+use std::alloc::{AllocError, Allocator};
+
+impl<A: Allocator + Copy> Blocks<A> {
+    /// Repairs the blocks after the record was added to the track: those that it reaches become one with it.
+    ///
+    /// At most 16 steps, and 8 for each record around it.
+    ///
+    /// # Errors
+    ///
+    /// Memory was refused. The blocks have to be built anew.
+    pub(crate) fn added(
+        &mut self,
+        track: &Track<A>,
+        genome: &Genome<A>,
+        row: &RecordRef<'_>,
+        meter: &mut Meter,
+    ) -> Result<(), AllocError>
+        requires right { IsRightWithout (λ (b : KeptBlocks) rows. AreBlocksOf b.options (names_of genome.now) rows b.entries) self.old track.now.rows row.now }
+        requires fit { All (Fits genome.now track.now.width) track.now.rows }
+        requires fits { Fits genome.now track.now.width row.now }
+        ensures right { OnOk result (AreBlocksOf self.old.options (names_of genome.now) track.now.rows self.new.entries) }
+        ensures options { OnOk result (self.new.options ≡ self.old.options) }
+        ensures steps { TakesUpTo meter.old meter.new (block_steps self.old.options track.now.rows row.now) }
+    {
+        let Some(group) = Group::of(self.options.stranded, row) else {
+            return Ok(());
+        };
+        let (start, stop) = place(row);
+        let (low, high) = self.join_before(group, start, stop, meter);
+        let high = self.join_after(group, start, high, meter);
+        self.put_block(track, genome, group, low, high, meter)
+    }
+
+    /// Repairs the blocks after one copy of the record was taken out of the track: its block is made anew from the others that
+    /// were in it.
+    ///
+    /// At most 16 steps, and 8 for each record around it.
+    ///
+    /// # Errors
+    ///
+    /// Memory was refused. The blocks have to be built anew.
+    pub(crate) fn removed(
+        &mut self,
+        track: &Track<A>,
+        genome: &Genome<A>,
+        row: &RecordRef<'_>,
+        meter: &mut Meter,
+    ) -> Result<(), AllocError>
+        requires right { AreBlocksOf self.old.options (names_of genome.now) (with_one track.now.rows row.now) self.old.entries }
+        requires fit { All (Fits genome.now track.now.width) track.now.rows }
+        requires fits { Fits genome.now track.now.width row.now }
+        ensures right { OnOk result (AreBlocksOf self.old.options (names_of genome.now) track.now.rows self.new.entries) }
+        ensures options { OnOk result (self.new.options ≡ self.old.options) }
+        ensures steps { TakesUpTo meter.old meter.new (block_steps self.old.options (with_one track.now.rows row.now) row.now) }
+    {
+        let Some(group) = Group::of(self.options.stranded, row) else {
+            return Ok(());
+        };
+        let (start, _) = place(row);
+        let Some((start, stop)) = self.before(group, start, meter) else {
+            unreachable!()
+        };
+        self.rebuild(track, genome, group, start, stop, meter)
+    }
+
+    /// Replaces the block of the group from `start` to `stop` by the blocks of the group's records that start there.
+    ///
+    /// None of these records stops past `stop`. At most 3 steps, and 5 for each record, of any strand, that starts there.
+    ///
+    /// # Errors
+    ///
+    /// Memory was refused. Some of the blocks may be put.
+    fn rebuild(
+        &mut self,
+        track: &Track<A>,
+        genome: &Genome<A>,
+        group: Group,
+        start: u32,
+        stop: u32,
+        meter: &mut Meter,
+    ) -> Result<(), AllocError>
+        requires apart { group.stranded ≡ self.old.options.stranded }
+        requires fit { All (Fits genome.now track.now.width) track.now.rows }
+        requires stops { All (λ r. r.stop ≤ stop) (members_between group start stop track.now.rows) }
+        ensures ok { OnOk result (ArePut group (names_of genome.now) (between start stop track.now.rows) (without_block self.old group start) self.new) }
+        ensures steps { TakesUpTo meter.old meter.new (3 + 5 * length (between_on group.rank start stop track.now.rows)) }
+    {
+        self.take(group, start, meter);
+        self.put_blocks(track, genome, group, start, stop, meter)
+    }
+
+    /// Joins the interval from `start` to `stop` with the group's last block that starts at `start` or before it, if that
+    /// reaches it. The block is taken out.
+    ///
+    /// Gives the start and the stop of the two together. At most 2 steps.
+    fn join_before(&mut self, group: Group, start: u32, stop: u32, meter: &mut Meter) -> (u32, u32)
+        requires { IsLedger key_cmp self.old.entries }
+        ensures kept { KeepsOthers group self.old self.new }
+        ensures joined { JoinsBefore self.old.options.distance (kept_in self.old.entries group) (kept_in self.new.entries group) start stop result }
+        ensures steps { TakesUpTo meter.old meter.new 2 }
+    {
+        let Some((low, last)) = self.before(group, start, meter) else {
+            return (start, stop);
+        };
+        if u64::from(start) > self.reach(last) {
+            return (start, stop);
+        }
+        self.take(group, low, meter);
+        (low, last.max(stop))
+    }
+
+    /// Joins an interval up to `high` with the group's blocks that start at `from` or after it and that it reaches, one after
+    /// another. They are taken out.
+    ///
+    /// Gives the stop of all together. At most one step, and 2 for each of these blocks.
+    fn join_after(&mut self, group: Group, from: u32, high: u32, meter: &mut Meter) -> u32
+        requires ordered { IsLedger key_cmp self.old.entries }
+        requires upward { from ≤ high }
+        ensures kept { KeepsOthers group self.old self.new }
+        ensures joined { JoinsAfter self.old.options.distance (kept_in self.old.entries group) (kept_in self.new.entries group) from high result }
+        ensures steps { TakesUpTo meter.old meter.new (1 + 2 * count_from (kept_in self.old.entries group) from (result + self.old.options.distance + 1 - from)) }
+    {
+        let mut high = high;
+        'gather: while let Some((start, stop)) = self.from(group, from, meter) {
+            if u64::from(start) > self.reach(high) {
+                break;
+            }
+            self.take(group, start, meter);
+            high = high.max(stop);
+        }
+        high
+    }
+
+    /// The last position that an interval up to `stop` reaches.
+    fn reach(&self, stop: u32) -> u64
+        ensures { result ≡ stop + self.now.options.distance }
+    {
+        let distance = self.options.distance;
+        u64::from(stop) + u64::from(distance)
+    }
+
+    /// Takes out the block of the group that starts here, if there is one. One step.
+    fn take(&mut self, group: Group, start: u32, meter: &mut Meter)
+        ensures taken { self.new ≡ without_block self.old group start }
+        ensures ordered { IsLedger key_cmp self.new.entries }
+        ensures steps { TakesUpTo meter.old meter.new 1 }
+    {
+        self.ledger.take(&(group.rank, group.minus, start), meter);
+    }
+}
+
+/// Where a record starts and stops.
+fn place(row: &RecordRef<'_>) -> (u32, u32)
+    ensures { result ≡ (row.now.start, row.now.stop) }
+{
+    row.law_of_place();
+    (row.start() as u32, row.stop() as u32)
+}
