@@ -8,7 +8,7 @@ use std::test::Fail;
 /// How many records there are.
 const COUNT: u32 = 1000;
 
-/// Records of 10 bases, each so many bases behind the one before.
+/// Records of 10 bases, each this number of bases behind the one before.
 fn watched_of<'a>(
     rt: &HostRuntime,
     alloc: &'a RefusesNth<Global>,

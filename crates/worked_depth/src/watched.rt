@@ -101,8 +101,6 @@ impl<'a> Watched<'a> {
             most,
         } = self;
         let row = read_record(&genome, 3, line)?;
-        // The records are in order.
-        let _len = track.len();
         track.remove(&row.to_record(alloc)?, &mut Meter::new())?;
         let mut meter = Meter::new();
         let repaired = depth.removed(&track, &genome, &row, &mut meter);

@@ -3,6 +3,8 @@
 #![tactic(auto)]
 
 #[cfg(test)]
+mod blocks;
+#[cfg(test)]
 mod bytes;
 #[cfg(test)]
 mod devices;
@@ -12,8 +14,6 @@ mod files;
 mod fixtures;
 #[cfg(test)]
 mod ledgers;
-#[cfg(test)]
-mod merging;
 #[cfg(test)]
 mod records;
 #[cfg(test)]

@@ -147,7 +147,7 @@ fn order_of_records(rt: HostRuntime) -> Result<(), Fail> {
     Ok(())
 }
 
-/// Whether a record keeps a name of so many letters, and a score of one.
+/// Whether a record keeps a name of this number of letters, and a score of one.
 fn keeps_name(rt: &HostRuntime, genome: &Genome, letters: usize) -> Result<bool, Fail> {
     let name = "n".repeat(rt.alloc(), letters)?;
     let line = format!(in rt.alloc(); "chr1\t10\t20\t{name}\t0\t+")?;

@@ -45,7 +45,7 @@ fn views_by_their_names(rt: HostRuntime) -> Result<(), Fail> {
     check(&rt, &examples)
 }
 
-/// Genomecov in its three ways, one opened before the records and two behind them, over a sequence of length 0 too.
+/// Depth in two views, one opened before the records and one behind them, over a sequence of length 0 too.
 #[test]
 fn depth_of_records(rt: HostRuntime) -> Result<(), Fail> {
     let examples = [Example {
@@ -101,7 +101,13 @@ fn view_of(rt: &HostRuntime, words: &[&[u8]]) -> Result<ViewWords, ViewFault> {
 #[test]
 fn words_of_views(rt: HostRuntime) {
     for (words, want) in [
-        ([b"merge".as_slice()].as_slice(), Ok(ViewWords::Merge)),
+        (
+            [b"cluster".as_slice()].as_slice(),
+            Ok(ViewWords::Cluster(0)),
+        ),
+        (&[b"cluster", b"-d", b"0100"], Ok(ViewWords::Cluster(100))),
+        (&[b"complement"], Ok(ViewWords::Complement(false))),
+        (&[b"complement", b"-L"], Ok(ViewWords::Complement(true))),
         (
             &[b"genomecov", b"-bg"],
             Ok(ViewWords::Genomecov(DepthRows::Covered)),
@@ -115,7 +121,9 @@ fn words_of_views(rt: HostRuntime) {
             Ok(ViewWords::Genomecov(DepthRows::EachPosition)),
         ),
         (&[b"Merge"], Err(ViewFault::Words)),
-        (&[b"merge", b"-s"], Err(ViewFault::Words)),
+        (&[b"merge", b"-s"], Err(ViewFault::NoStrand)),
+        (&[b"merge", b"-c", b"4"], Err(ViewFault::Column)),
+        (&[b"cluster", b"-s"], Err(ViewFault::Words)),
         (&[b"genomecov"], Err(ViewFault::Words)),
         (&[b"genomecov", b"-dz"], Err(ViewFault::Words)),
         (&[b"-bg", b"genomecov"], Err(ViewFault::Words)),

@@ -1,6 +1,7 @@
 //! What several tests begin with.
-use iv_state::Session;
-use iv_text::{BedFile, Genome};
+use iv_state::{Accepted, EditFault, Session};
+use iv_text::{BedFile, Genome, RecordFault};
+use std::alloc::Allocator;
 use std::test::Fail;
 
 /// A genome of three sequences, of 100 bases, of 50 and of none.
@@ -14,4 +15,34 @@ pub(crate) fn session(rt: &HostRuntime, first: &[u8], limit: u32) -> Result<Sess
     let genome = Genome::parse(rt.alloc(), SIZES)?;
     let file = BedFile::parse(rt.alloc(), &genome, 3, limit, first)?;
     Ok(Session::new(rt.alloc(), genome, file, limit)?)
+}
+
+/// An edit by the records of lines.
+#[derive(Clone, Copy, Debug)]
+pub(crate) enum Edit<'a> {
+    Add(&'a [u8]),
+    Remove(&'a [u8]),
+    Replace(&'a [u8], &'a [u8]),
+}
+
+/// What an edit answers.
+pub(crate) fn answer<A: Allocator + Copy>(
+    session: &mut Session<A>,
+    edit: Edit<'_>,
+) -> Result<Result<Accepted, EditFault>, RecordFault> {
+    Ok(match edit {
+        Edit::Add(line) => {
+            let row = session.read(line)?;
+            session.add(&row)
+        }
+        Edit::Remove(line) => {
+            let row = session.read(line)?;
+            session.remove(&row)
+        }
+        Edit::Replace(old, new) => {
+            let old = session.read(old)?;
+            let new = session.read(new)?;
+            session.replace(&old, &new)
+        }
+    })
 }

@@ -6,6 +6,8 @@ mod fixtures;
 #[cfg(test)]
 mod refusals;
 #[cfg(test)]
+mod repairs;
+#[cfg(test)]
 mod sessions;
 #[cfg(test)]
 mod stale_views;

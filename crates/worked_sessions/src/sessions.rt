@@ -1,37 +1,14 @@
 //! The calls of a session, one by one.
-use crate::fixtures::{SIZES, session};
+use crate::fixtures::{Edit, SIZES, answer, session};
 use iv_state::{EditFault, NoView, PrintFault, Session};
 use iv_text::{BedFile, Genome, MemSink, RecordFault};
 use iv_track::Meter;
 use iv_view::ViewFault;
 use std::test::Fail;
 
-/// An edit by the records of lines.
-#[derive(Clone, Copy, Debug)]
-enum Edit<'a> {
-    Add(&'a [u8]),
-    Remove(&'a [u8]),
-    Replace(&'a [u8], &'a [u8]),
-}
-
 /// The fault of an edit.
 fn fault_of(session: &mut Session, edit: Edit<'_>) -> Result<Option<EditFault>, RecordFault> {
-    let done = match edit {
-        Edit::Add(line) => {
-            let row = session.read(line)?;
-            session.add(&row)
-        }
-        Edit::Remove(line) => {
-            let row = session.read(line)?;
-            session.remove(&row)
-        }
-        Edit::Replace(old, new) => {
-            let old = session.read(old)?;
-            let new = session.read(new)?;
-            session.replace(&old, &new)
-        }
-    };
-    Ok(done.err())
+    Ok(answer(session, edit)?.err())
 }
 
 /// Edits a session of at most two records, which has one of them.
@@ -137,7 +114,7 @@ fn names_of_views(rt: HostRuntime) -> Result<(), Fail> {
             Some(ViewFault::BadName),
         ),
         (b"a b", b"merge", Some(ViewFault::BadName)),
-        (b"m", b"cluster", Some(ViewFault::Words)),
+        (b"m", b"paint", Some(ViewFault::Words)),
     ] {
         assert!(rt; fault_of_opening(&rt, name, word)? == want);
     }
@@ -191,40 +168,6 @@ fn prints(rt: HostRuntime) -> Result<(), Fail> {
     check_prints(&rt, &mut session)
 }
 
-/// How many steps an edit took, and how many views were stale after it.
-fn steps_of(session: &mut Session, line: &[u8]) -> Result<(u64, u32), Fail> {
-    let row = session.read(line)?;
-    let done = session.add(&row)?;
-    Ok((done.steps, done.stale))
-}
-
-/// Adds records, each in at most this number of steps, and no view becomes stale.
-fn adds_in_steps(session: &mut Session, most: u64) -> Result<bool, Fail> {
-    for line in [b"chr2\t0\t1".as_slice(), b"chr1\t10\t20", b"chr1\t0\t100"] {
-        let (steps, stale) = steps_of(session, line)?;
-        if steps == 0 || steps > most || stale != 0 {
-            return Ok(false);
-        }
-    }
-    Ok(true)
-}
-
-/// Adds records beside views that print by a walk, which take no step of an edit, and then beside one that keeps depth
-/// too, which takes 8 steps at most.
-fn adds_beside_views(session: &mut Session) -> Result<bool, Fail> {
-    let is_cheap = adds_in_steps(session, 8)?;
-    session.open_view(b"c", &[b"genomecov", b"-bga"])?;
-    Ok(is_cheap && adds_in_steps(session, 16)?)
-}
-
-/// With ample memory no edit leaves a view stale.
-#[test]
-fn edits_with_open_views(rt: HostRuntime) -> Result<(), Fail> {
-    let mut session = with_views(&rt)?;
-    assert!(rt; adds_beside_views(&mut session)?);
-    Ok(())
-}
-
 /// Adds a record and closes a view, which alone isn't current any more.
 fn closes(session: &mut Session) -> Result<bool, Fail> {
     let is_added = fault_of(session, Edit::Add(b"chr1\t30\t31"))?.is_none();
@@ -258,6 +201,8 @@ fn numbers_of_faults(rt: HostRuntime) {
         (ViewFault::Taken, 14),
         (ViewFault::TooMany, 15),
         (ViewFault::Words, 16),
+        (ViewFault::Column, 17),
+        (ViewFault::NoStrand, 18),
         (ViewFault::NoMemory, 22),
     ] {
         assert!(rt; fault.code() == code);

@@ -1,6 +1,6 @@
 //! Open views, while each growth of memory is refused in turn.
-use crate::fixtures::SIZES;
-use iv_state::{Accepted, EditFault, PrintFault, Session};
+use crate::fixtures::{Edit, SIZES, answer};
+use iv_state::{EditFault, PrintFault, Session};
 use iv_text::{BedFile, Genome, MemSink};
 use iv_view::ViewFault;
 use refusing::RefusesNth;
@@ -8,7 +8,7 @@ use std::alloc::Global;
 use std::test::Fail;
 
 /// The views that are open: the name and the words of each, and its text before the edits and after them.
-const VIEWS: [(&[u8], &[&[u8]], &[u8], &[u8]); 2] = [
+const VIEWS: [(&[u8], &[&[u8]], &[u8], &[u8]); 5] = [
     (
         b"a",
         &[b"merge"],
@@ -21,26 +21,32 @@ const VIEWS: [(&[u8], &[&[u8]], &[u8], &[u8]); 2] = [
         b"chr1\t0\t10\t1\nchr1\t10\t30\t2\nchr2\t1\t2\t1\nchr2\t3\t4\t1\nchr2\t5\t6\t1\nchr2\t7\t8\t1\nchr2\t9\t10\t1\nchr2\t11\t12\t1\n",
         b"chr1\t20\t25\t2\nchr1\t25\t40\t1\nchr2\t1\t2\t1\nchr2\t3\t4\t1\nchr2\t5\t6\t1\nchr2\t7\t8\t1\nchr2\t9\t10\t1\nchr2\t11\t12\t1\n",
     ),
+    (
+        b"c",
+        &[b"merge", b"-c", b"4", b"-o", b"collapse"],
+        b"chr1\t0\t30\tn,n,n\nchr2\t1\t2\tn\nchr2\t3\t4\tn\nchr2\t5\t6\tn\nchr2\t7\t8\tn\nchr2\t9\t10\tn\nchr2\t11\t12\tn\n",
+        b"chr1\t20\t40\tm,n,n\nchr2\t1\t2\tn\nchr2\t3\t4\tn\nchr2\t5\t6\tn\nchr2\t7\t8\tn\nchr2\t9\t10\tn\nchr2\t11\t12\tn\n",
+    ),
+    (
+        b"d",
+        &[b"cluster"],
+        b"chr1\t0\t30\tn\t1\nchr1\t10\t20\tn\t1\nchr1\t20\t30\tn\t1\nchr2\t1\t2\tn\t2\nchr2\t3\t4\tn\t3\nchr2\t5\t6\tn\t4\nchr2\t7\t8\tn\t5\nchr2\t9\t10\tn\t6\nchr2\t11\t12\tn\t7\n",
+        b"chr1\t20\t25\tm\t1\nchr1\t20\t30\tn\t1\nchr1\t30\t40\tn\t1\nchr2\t1\t2\tn\t2\nchr2\t3\t4\tn\t3\nchr2\t5\t6\tn\t4\nchr2\t7\t8\tn\t5\nchr2\t9\t10\tn\t6\nchr2\t11\t12\tn\t7\n",
+    ),
+    (
+        b"e",
+        &[b"complement", b"-L"],
+        b"chr1\t30\t100\nchr2\t0\t1\nchr2\t2\t3\nchr2\t4\t5\nchr2\t6\t7\nchr2\t8\t9\nchr2\t10\t11\nchr2\t12\t50\n",
+        b"chr1\t0\t20\nchr1\t40\t100\nchr2\t0\t1\nchr2\t2\t3\nchr2\t4\t5\nchr2\t6\t7\nchr2\t8\t9\nchr2\t10\t11\nchr2\t12\t50\n",
+    ),
 ];
 
-/// What all views print after the edits.
-const ALL: &[u8] =
-    b"#a\nchr1\t20\t40\nchr2\t1\t2\nchr2\t3\t4\nchr2\t5\t6\nchr2\t7\t8\nchr2\t9\t10\nchr2\t11\t12\n#b\nchr1\t20\t25\t2\nchr1\t25\t40\t1\nchr2\t1\t2\t1\nchr2\t3\t4\t1\nchr2\t5\t6\t1\nchr2\t7\t8\t1\nchr2\t9\t10\t1\nchr2\t11\t12\t1\n";
-
 /// What is done to the session, each with the record of a line.
-const EDITS: [Edit; 3] = [
+const EDITS: [Edit<'static>; 3] = [
     Edit::Add(b"chr1\t30\t40\tn"),
     Edit::Replace(b"chr1\t0\t30\tn", b"chr1\t20\t25\tm"),
     Edit::Remove(b"chr1\t10\t20\tn"),
 ];
-
-/// An edit by the records of lines.
-#[derive(Clone, Copy, Debug)]
-enum Edit {
-    Add(&'static [u8]),
-    Remove(&'static [u8]),
-    Replace(&'static [u8], &'static [u8]),
-}
 
 /// The session of nine records, unless memory is refused. Depth changes at fifteen places, which fill one node of a
 /// tree: the first edit has to split it.
@@ -50,6 +56,18 @@ fn session_of(alloc: &RefusesNth<Global>) -> Option<Session<&RefusesNth<Global>>
     let genome = Genome::parse(alloc, SIZES).ok()?;
     let file = BedFile::parse(alloc, &genome, 4, 12, text).ok()?;
     Session::new(alloc, genome, file, 12).ok()
+}
+
+/// What all views print after the edits.
+fn all_texts(rt: &HostRuntime) -> Result<Vec<u8>, Fail> {
+    let mut all = Vec::new(rt.alloc());
+    for (name, _, _, text) in VIEWS {
+        all.extend_from_slice(b"#")?;
+        all.extend_from_slice(name)?;
+        all.extend_from_slice(b"\n")?;
+        all.extend_from_slice(text)?;
+    }
+    Ok(all)
 }
 
 /// How many of the views are not current.
@@ -77,32 +95,10 @@ fn is_opening_refused(
     }
 }
 
-/// What an edit answers.
-fn answer(
-    session: &mut Session<&RefusesNth<Global>>,
-    edit: Edit,
-) -> Result<Result<Accepted, EditFault>, Fail> {
-    Ok(match edit {
-        Edit::Add(line) => {
-            let row = session.read(line)?;
-            session.add(&row)
-        }
-        Edit::Remove(line) => {
-            let row = session.read(line)?;
-            session.remove(&row)
-        }
-        Edit::Replace(old, new) => {
-            let old = session.read(old)?;
-            let new = session.read(new)?;
-            session.replace(&old, &new)
-        }
-    })
-}
-
 /// Does an edit, and gives how many views are stale after it; `None` where memory is refused, and all is as before.
 fn stale_after(
     session: &mut Session<&RefusesNth<Global>>,
-    edit: Edit,
+    edit: Edit<'_>,
 ) -> Result<Option<u32>, Fail> {
     let (len, stale) = (session.len(), count_stale(session));
     match answer(session, edit)? {
@@ -121,7 +117,7 @@ fn is_print_refused(
     name: Option<&[u8]>,
     want: &[u8],
 ) -> Result<bool, Fail> {
-    let mut sink = MemSink::new(rt.alloc(), 300, 99)?;
+    let mut sink = MemSink::new(rt.alloc(), 1000, 99)?;
     let done = match name {
         Some(name) => session.print_view(name, &mut sink),
         None => session.print_all(&mut sink),
@@ -201,7 +197,8 @@ fn refused_calls(
     let (edited, stale) = refused_edits(&mut session)?;
     let mut printed = 0u32;
     if at_once {
-        printed = refused_prints(rt, &mut session, None, ALL)?;
+        let all = all_texts(rt)?;
+        printed = refused_prints(rt, &mut session, None, all.as_slice())?;
     }
     for (name, _, _, text) in VIEWS {
         printed = printed.saturating_add(refused_prints(rt, &mut session, Some(name), text)?);

@@ -3,7 +3,8 @@ use Rattle.iv_text.specs.Ordered.{copies, added}
 use Rattle.iv_text.specs.Row.{Row}
 use Rattle.iv_track.specs.Tracked.{Tracked, removed}
 use Rattle.iv_depth.specs.Changes.{AreChangesOf}
-use Rattle.worked_depth.proofs.Fitting.{fit-removed, added-removed}
+use Rattle.iv_track.proofs.Edits.{added-removed}
+use Rattle.worked_depth.proofs.Fitting.{fit-removed}
 use Rattle.worked_depth.proofs.watched.Watched.without.Goals as goal
 
 pub removed-repaired-requires-clause-right : goal.removed-repaired-requires-clause-right
@@ -13,7 +14,7 @@ removed-repaired-requires-clause-right c =
     let same = c.in_ok-to_record.ensures.ok in
     let left : c.remove.new.self.rows ≡ removed t.rows row = ap (λ (u : Tracked). u.rows) c.in_ok-remove.ensures.ok ∙ ap (removed t.rows) same in
     let there : 0 < copies t.rows row = subst (λ (r : Row). 0 < copies t.rows r) same c.in_ok-remove.ensures.found in
-    let again : t.rows ≡ added c.remove.new.self.rows row = rw left (added-removed t.rows row c.len-len.ensures.ordered there) in
+    let again : t.rows ≡ added c.remove.new.self.rows row = rw left (added-removed t.rows row c.remove.ensures.was_ordered there) in
     subst (λ (rows : List Row). AreChangesOf rows c.self.inside.depth.entries) again c.self.invariant.2
 
 pub removed-repaired-requires-clause-fit : goal.removed-repaired-requires-clause-fit
