@@ -30,7 +30,7 @@ import time
 
 TOP = os.path.dirname(os.path.dirname(os.path.abspath(__file__)))
 SEED = 20
-VIEWS = ["merge", "genomecov -bg", "genomecov -bga", "genomecov -d"]
+VIEWS = ["merge", "merge -d 100", "complement", "cluster", "merge -c 4 -o collapse", "merge -c 5 -o sum", "genomecov -bg", "genomecov -bga", "genomecov -d"]
 CHROMOSOMES = [
     ("chr1", 249250621), ("chr2", 243199373), ("chr3", 198022430), ("chr4", 191154276),
     ("chr5", 180915260), ("chr6", 171115067), ("chr7", 159138663), ("chr8", 146364022),
@@ -64,7 +64,7 @@ def run_case(wanted, folder, view, records, columns, order):
     writer = multiprocessing.get_context("spawn").Process(target=write_data, args=(genome, track, script, view, records, columns, order))
     writer.start()
     writer.join()
-    sizes = "" if view == "merge" else f" -g {genome}"
+    sizes = f" -g {genome}" if view.startswith(("complement", "genomecov")) else ""
     theirs = f"bedtools {view} -i {track}{sizes}" if order == "sorted" else f"bedtools sort -i {track} | bedtools {view} -i -{sizes}"
     # each program: its words, and the file that is its standard input
     programs = {

@@ -8,7 +8,7 @@ AllocError may stand in patterns, comparisons, types, declarations and `use` lin
 alone. AllocError itself is made in `refusing` alone, the allocator that refuses on purpose.
 
 Meter: steps are counted by the meter that is handed in; a call that made a meter of its own would hide its steps.
-So `Meter::new` stands never in iv_cover or iv_depth; in iv_track only in `from_records`; in the session's crates at most once in
+So `Meter::new` stands never in a crate of kept views; in iv_track only in `from_records`; in the session's crates at most once in
 a function, and in no loop; elsewhere not at all.
 
 The crates of tests, worked_*, may name such faults as values that they expect, and make meters.
