@@ -205,4 +205,14 @@ impl<'a, K, V> Walk<'a, K, V> {
         meter.tick();
         self.entries.next()
     }
+
+    /// The same walk once more, from where it is now. It is no step, and takes no memory.
+    pub fn again(&self) -> Walk<'a, K, V>
+        ensures { result ≡ self.now }
+    {
+        match self.entries.clone() {
+            Ok(entries) => Walk { entries },
+            Err(_) => unreachable!(),
+        }
+    }
 }

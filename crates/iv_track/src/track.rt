@@ -315,4 +315,14 @@ impl<'a, A: Allocator + Copy> Rows<'a, A> {
         self.held = Some((row, *count - 1));
         Some(row)
     }
+
+    /// The same walk once more, from where it is now. It is no step, and takes no memory.
+    pub fn again(&self) -> Rows<'a, A>
+        ensures { result ≡ self.now }
+    {
+        Rows {
+            entries: self.entries.again(),
+            held: self.held,
+        }
+    }
 }
