@@ -8,8 +8,9 @@ AllocError may stand in patterns, comparisons, types, declarations and `use` lin
 alone. AllocError itself is made in `refusing` alone, the allocator that refuses on purpose.
 
 Meter: steps are counted by the meter that is handed in; a call that made a meter of its own would hide its steps.
-So `Meter::new` stands never in a crate of kept views; in iv_track only in `from_records`; in the session's crates at most once in
-a function, and in no loop; elsewhere not at all.
+So `Meter::new` stands never in a crate of kept views; in iv_track only in `from_records`; in iv_pair, which counts no steps, only where
+a `Second`, a `Finder` or `Hits` is made, in functions `new`, `of` and `hits`, at most once in each; in the session's crates at most
+once in a function, and in no loop; elsewhere not at all.
 
 The crates of tests, worked_*, may name such faults as values that they expect, and make meters.
 
@@ -157,9 +158,12 @@ def meters_made(crate, code):
     for m in METER.finditer(code):
         around = [(start, head) for head, (start, end) in functions if start <= m.start() < end]
         start, head = max(around, default=(0, ""))
-        in_session = crate in ("iv_session", "iv_state") and around and start not in seen
-        in_track = crate == "iv_track" and head.split("(")[0].split("<")[0].strip() == "from_records"
-        if not (in_session and not is_in(m.start(), loops)) and not in_track:
+        name = head.split("(")[0].split("<")[0].strip()
+        once = around and start not in seen and not is_in(m.start(), loops)
+        in_session = crate in ("iv_session", "iv_state") and once
+        in_pair = crate == "iv_pair" and name in ("new", "of", "hits") and once
+        in_track = crate == "iv_track" and name == "from_records"
+        if not in_session and not in_pair and not in_track:
             yield m.start(), "a meter of its own"
         seen.add(start)
 
@@ -219,7 +223,11 @@ PLANTED = [
     ("iv_session", "fn f() { for _ in 0..9 { g(Meter::new()); } }", METERS),
     ("iv_session", "const MAKE: fn() -> Meter = Meter::new;", METERS),
     ("iv_cli", "fn f() -> Meter { Meter::new() }", METERS),
+    ("iv_pair", "fn print_intersect() { g(Meter::new()); }", METERS),
+    ("iv_pair", "fn hits<A>() { g(Meter::new()); g(Meter::new()); }", METERS),
+    ("iv_pair", "fn hits(n: u8) { for _ in 0..n { g(Meter::new()); } }", METERS),
     ("iv_track", "fn from_records<A>(a: A) -> Meter { Meter::new() }", None),
+    ("iv_pair", "fn hits<A>(&self) { g(Meter::new()); }\nfn of() { g(Meter::new()); }", None),
     ("iv_session", "fn f() { g(Meter::new()); }\nfn h() { g(Meter::new()); }", None),
     ("worked_rows", "fn f() { g(Meter::new()); g(Meter::new()); }", None),
 ]

@@ -12,3 +12,4 @@ pub mod BlockLemmas
 pub mod RunsLemmas
 pub mod TilesLemmas
 pub mod EmptyLemmas
+pub mod EmptyMeanings

@@ -1,5 +1,5 @@
 -- The columns of records, and the results over a block's records.
-use Rattle.std.specs.Prelude.{ℕ, ◌==◌, ◌++◌, if◌then◌else◌, List, [], ◌∷◌, length, map, Option, None, Some, codes, decimal}
+use Rattle.std.specs.Prelude.{ℕ, ◌==◌, ◌++◌, if◌then◌else◌, List, map, Option, None, Some, codes, decimal}
 use Rattle.std.specs.List.{flat_map}
 use Rattle.iv_text.specs.Row.{Row}
 use Rattle.iv_text.specs.RecordText.{strand_text}
@@ -7,7 +7,6 @@ use Rattle.iv_summary.specs.Summaries.{summary_of}
 use Rattle.iv_summary.specs.declared.column.Column.{Column}
 use Rattle.iv_summary.specs.declared.column.Column.TheVariants.{Sequence, Start, Stop, Name, Score, Strand}
 use Rattle.iv_summary.specs.declared.column.Summary.{Summary}
-use Rattle.iv_summary.specs.declared.op.Op.{Op}
 
 -- the column of this number, from 1
 abbrev pub column_numbered : ℕ → Option Column
@@ -36,16 +35,3 @@ result_over sequence rows s = summary_of s.op (map (column_value sequence s.colu
 -- all results over records on a sequence of this name, each with a TAB in front of it
 abbrev pub results_over : List ℕ → List Summary → List Row → List ℕ
 results_over sequence summaries rows = flat_map (λ s. codes "\t" ++ result_over sequence rows s) summaries
-
--- columns and operations, one with one
-abbrev pub one_by_one : List Column → List Op → List Summary
-one_by_one [] ops = []
-one_by_one (column ∷ columns) [] = []
-one_by_one (column ∷ columns) (op ∷ ops) = record { column = column; op = op } ∷ one_by_one columns ops
-
--- columns and operations as they pair off: each column with the one operation, the one column with each operation, or one with
--- one where there are as many of both; else they don't
-abbrev pub paired : List Column → List Op → Option (List Summary)
-paired columns (op ∷ []) = Some (map (λ column. record { column = column; op = op }) columns)
-paired (column ∷ []) ops = Some (map (λ op. record { column = column; op = op }) ops)
-paired columns ops = if length columns == length ops then Some (one_by_one columns ops) else None

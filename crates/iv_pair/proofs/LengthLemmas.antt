@@ -1,0 +1,242 @@
+-- The lengths of records, counted in a map.
+use Rattle.std.proofs.Common.{◌≡◌, ℕ, ◌+◌, ◌-◌, ◌<◌, ◌≤◌, ◌^◌, Bool, true, false, cond, List, [], ◌∷◌, ◌++◌, Option, Some, None, refl, sym, ap, ◌∙◌, subst, arith, length, length-drop, drop, drop-cons, get_or, add-one}
+use Rattle.std.specs.Prelude.{All, count_by, unwrap_or, find, fold, reverse, IfSome}
+use Rattle.std.specs.List.{AllByRecursion}
+use Rattle.std.specs.Option.{option_or}
+use Rattle.std.specs.declared.cmp.Ordering.{Ordering}
+use Rattle.std.specs.declared.cmp.Ordering.TheVariants.{Less}
+use Rattle.std.specs.Ordering.{is_eq, is_le, is_ge, nat_cmp, ordering_then}
+use Rattle.std.specs.Cmp.{IsTotalOrder, nat_cmp_total, on_total, then_total, tied_itself, Equal-is}
+use Rattle.std.specs.Map.{keys_of, values_of, lookup}
+use Rattle.std.specs.BTreeMap.{insert_entry, is_at}
+use Rattle.std.specs.List.Sorted.{IsStrictlySortedBy}
+use Rattle.std.proofs.lemmas.List.{reverse-append}
+use Rattle.std.proofs.lemmas.List.Elements.{All-nil, All-cons, All-head, All-tail}
+use Rattle.std.proofs.lemmas.List.Folds.{find-append}
+use Rattle.std.proofs.lemmas.List.Sums.{sum_by-cons, count_by-le-length}
+use Rattle.std.proofs.lemmas.Map.Keys.{sorted_head, sorted_tail}
+use Rattle.std.proofs.lemmas.Map.Lookups.{CmpEqualImpliesEq, exact_pairs, exact_unsigned}
+use Rattle.std.proofs.lemmas.Map.Views.{All-keys-insert_entry, All-values-insert_entry}
+use Rattle.iv_text.specs.Ordered.{copies_by, added_by, ordered}
+use Rattle.iv_text.specs.Row.{Row, row_cmp}
+use Rattle.iv_text.proofs.OrderedLemmas.{copies-added}
+use Rattle.iv_track.specs.Copies.{expanded}
+use Rattle.iv_track.specs.Entries.{IsLedger, value_at, last_until}
+use Rattle.iv_track.proofs.Counts.{copies-expanded, expanded-insert}
+use Rattle.iv_pair.specs.Lengths.{length_of, length_cmp, with_length, IsTally, AreLengths, AreUpTo}
+use Rattle.iv_pair.proofs.PlaceLemmas.{le_pair, ge_pair, pair_ge}
+
+pub lengths_total : IsTotalOrder length_cmp
+lengths_total = then_total (on_total (λ (k : ℕ × ℕ). k.0) nat_cmp_total) (on_total (λ (k : ℕ × ℕ). k.1) nat_cmp_total)
+
+lengths_exact : CmpEqualImpliesEq length_cmp
+lengths_exact = exact_pairs nat_cmp nat_cmp exact_unsigned exact_unsigned
+
+-- ---- how many pass a test, with one more in order
+
+module _ {K : Type 0} (cmp : K → K → Ordering) (p : K → Bool) where
+  count_step : (b : Bool) (x q : K) (xs ys : List K) → count_by p ys ≡ cond (p x) 1 0 + count_by p xs → count_by p (cond b (x ∷ q ∷ xs) (q ∷ ys)) ≡ cond (p x) 1 0 + count_by p (q ∷ xs)
+  count_step true x q xs ys h = sum_by-cons (λ k. cond (p k) 1 0) x (q ∷ xs)
+  count_step false x q xs ys h = omega (arith, sum_by-cons (λ k. cond (p k) 1 0) q ys, sum_by-cons (λ k. cond (p k) 1 0) q xs, h)
+
+  count-added : (xs : List K) (x : K) → count_by p (added_by cmp xs x) ≡ cond (p x) 1 0 + count_by p xs
+  count-added [] x = sum_by-cons (λ k. cond (p k) 1 0) x []
+  count-added (q ∷ xs) x = count_step (is_le (cmp x q)) x q xs (added_by cmp xs x) (count-added xs x)
+
+  pub count-all_added : (xs start : List K) → count_by p (fold (added_by cmp) start xs) ≡ count_by p start + count_by p xs
+  count-all_added [] start = omega arith
+  count-all_added (x ∷ xs) start = omega (arith, count-all_added xs (added_by cmp start x), count-added start x, sum_by-cons (λ k. cond (p k) 1 0) x xs)
+
+-- ---- one more length in the map
+
+module _ (es fs : List ((ℕ × ℕ) × ℕ)) (k : ℕ × ℕ) (t : IsTally es) where
+  pub count_at : copies_by length_cmp (expanded es) k ≡ unwrap_or (value_at length_cmp es k) 0
+  count_at = copies-expanded length_cmp lengths_total es k t.ordered
+
+  -- a count above 0 is there
+  some_is : 0 < copies_by length_cmp (expanded es) k → value_at length_cmp es k ≡ Some (unwrap_or (value_at length_cmp es k) 0)
+  some_is some = go (value_at length_cmp es k) (omega (arith, some, count_at))
+    where
+      go : (o : Option ℕ) → 0 < unwrap_or o 0 → o ≡ Some (unwrap_or o 0)
+      go None e = absurd (omega arith)
+      go (Some m) e = refl
+
+  module _ (n : ℕ) (count : n ≡ unwrap_or (value_at length_cmp es k) 0) (put : fs ≡ insert_entry length_cmp es k (n + 1)) where
+    pub raised_rows : expanded fs ≡ added_by length_cmp (expanded es) k
+    raised_rows =
+        ap expanded (put ∙ ap (λ m. insert_entry length_cmp es k (m + 1)) count)
+        ∙ expanded-insert length_cmp lengths_total lengths_exact es k t.ordered t.present
+
+    pub raised_tally : IsLedger length_cmp fs → k.1 < 2 ^ 32 → IsTally fs
+    raised_tally ordered fits = record {
+      ordered = ordered;
+      present = subst (λ gs. All (λ m. 0 < m) (values_of gs)) (sym put) (All-values-insert_entry length_cmp k (n + 1) (λ m. 0 < m) es t.present (omega arith));
+      small = subst (λ gs. All (λ (q : ℕ × ℕ). q.1 < 2 ^ 32) (keys_of gs)) (sym put) (All-keys-insert_entry length_cmp k (n + 1) (λ (q : ℕ × ℕ). q.1 < 2 ^ 32) es t.small fits);
+    }
+
+-- ---- the lengths of records, one after another
+
+with_length-cons : (r : Row) (rows : List Row) (k : ℕ × ℕ) → with_length (r ∷ rows) k ≡ cond (is_eq (length_cmp k (length_of r))) 1 0 + with_length rows k
+with_length-cons r rows k = sum_by-cons (λ q. cond (is_eq (length_cmp k (length_of q))) 1 0) r rows
+
+-- the map has the lengths of all records but those that are left
+pub record IsCounted (es : List ((ℕ × ℕ) × ℕ)) (left rows : List Row) : Type 0 where
+  pub tally : IsTally es
+  pub counts : (k : ℕ × ℕ) → copies_by length_cmp (expanded es) k + with_length left k ≡ with_length rows k
+
+no_lengths : IsLedger {V = ℕ} length_cmp []
+unfolding IsStrictlySortedBy
+no_lengths = tt
+
+pub IsCounted-begin : (es : List ((ℕ × ℕ) × ℕ)) (rows : List Row) → es ≡ [] → IsCounted es rows rows
+IsCounted-begin es rows none = rw none record {
+  tally = record { ordered = no_lengths; present = All-nil (λ n. 0 < n); small = All-nil (λ (k : ℕ × ℕ). k.1 < 2 ^ 32) };
+  counts = λ k. omega arith;
+}
+
+pub IsCounted-room : (es : List ((ℕ × ℕ) × ℕ)) (left rows : List Row) (k : ℕ × ℕ) → IsCounted es left rows → copies_by length_cmp (expanded es) k ≤ length rows
+IsCounted-room es left rows k c = omega (arith, c.counts k, count_by-le-length (λ r. is_eq (length_cmp k (length_of r))) rows)
+
+IsCounted-next : (es fs : List ((ℕ × ℕ) × ℕ)) (left after rows : List Row) (r : Row) → IsCounted es left rows → left ≡ r ∷ after
+    → IsTally fs → expanded fs ≡ added_by length_cmp (expanded es) (length_of r) → IsCounted fs after rows
+IsCounted-next es fs left after rows r c first t up = record {
+  tally = t;
+  counts = λ k. omega (
+    arith,
+    c.counts k,
+    ap (λ (l : List Row). with_length l k) first,
+    with_length-cons r after k,
+    ap (λ (l : List (ℕ × ℕ)). copies_by length_cmp l k) up,
+    copies-added length_cmp (expanded es) (length_of r) k,
+  );
+}
+
+IsCounted-all : (es : List ((ℕ × ℕ) × ℕ)) (left rows : List Row) → IsCounted es left rows → left ≡ [] → AreLengths es rows
+IsCounted-all es left rows c none = record {
+  tally = c.tally;
+  counts = λ k. omega (arith, c.counts k, ap (λ (l : List Row). with_length l k) none);
+}
+
+drop-at : (rows : List Row) (i : ℕ) (d : Row) → i < length rows → drop i rows ≡ get_or rows i d ∷ drop (i + 1) rows
+drop-at rows i d low = rw (drop-cons rows i d low, add-one) refl
+
+-- the record at the index is counted
+pub IsCounted-at : (es fs : List ((ℕ × ℕ) × ℕ)) (rows : List Row) (i : ℕ) (d : Row) → i < length rows → IsCounted es (drop i rows) rows
+    → IsTally fs → expanded fs ≡ added_by length_cmp (expanded es) (length_of (get_or rows i d)) → IsCounted fs (drop (i + 1) rows) rows
+IsCounted-at es fs rows i d low c t up = IsCounted-next es fs (drop i rows) (drop (i + 1) rows) rows (get_or rows i d) c (drop-at rows i d low) t up
+
+drop-end : (rows : List Row) (i : ℕ) → length rows ≤ i → drop i rows ≡ []
+drop-end rows i past = go (drop i rows) (omega (arith, length-drop i rows))
+  where
+    go : (l : List Row) → length l ≤ 0 → l ≡ []
+    go [] h = refl
+    go (r ∷ l) h = absurd (omega arith)
+
+pub IsCounted-end : (es : List ((ℕ × ℕ) × ℕ)) (rows : List Row) (i : ℕ) → length rows ≤ i → IsCounted es (drop i rows) rows → AreLengths es rows
+IsCounted-end es rows i past c = IsCounted-all es (drop i rows) rows c (drop-end rows i past)
+
+-- they don't depend on the order
+pub AreLengths-ordered : (es : List ((ℕ × ℕ) × ℕ)) (rows : List Row) → AreLengths es rows → AreLengths es (ordered rows)
+AreLengths-ordered es rows a = record {
+  tally = a.tally;
+  counts = λ k. omega (arith, a.counts k, count-all_added row_cmp (λ r. is_eq (length_cmp k (length_of r))) rows []);
+}
+
+-- a bound of all lengths of a sequence is one of its records
+up_to : (rows : List Row) (seq n : ℕ) → ((k : ℕ × ℕ) → k.0 ≡ seq → 0 < with_length rows k → k.1 ≤ n) → AreUpTo seq n rows
+up_to [] seq n h = All-nil (λ (q : Row). q.seq ≡ seq → q.stop ≤ q.start + n)
+up_to (r ∷ rows) seq n h =
+    All-cons (λ (q : Row). q.seq ≡ seq → q.stop ≤ q.start + n) r rows
+    (λ is.
+    let own = ap {B = ℕ} (λ (o : Ordering). cond (is_eq o) 1 0) (tied_itself lengths_total (length_of r)) in
+    let long : r.stop - r.start ≤ n = h (length_of r) is (omega (arith, with_length-cons r rows (length_of r), own)) in
+    omega arith)
+    (up_to rows seq n (λ k is some. h k is (omega (arith, some, with_length-cons r rows k))))
+
+pub AreLengths-up_to : (es : List ((ℕ × ℕ) × ℕ)) (rows : List Row) (seq n : ℕ) → AreLengths es rows
+    → ((k : ℕ × ℕ) → k.0 ≡ seq → 0 < copies_by length_cmp (expanded es) k → k.1 ≤ n) → AreUpTo seq n rows
+AreLengths-up_to es rows seq n a bound = up_to rows seq n (λ k is some. bound k is (omega (arith, a.counts k, some)))
+
+-- ---- the last length of a sequence
+
+module _ {X : Type 0} (p : X → Bool) where
+  find-reverse : (e : X) (es : List X) → find p (reverse (e ∷ es)) ≡ option_or (find p (reverse es)) (cond (p e) (Some e) None)
+  find-reverse e es = ap (find p) (reverse-append (e ∷ []) es) ∙ find-append p (reverse es) (e ∷ [])
+
+module _ {K V : Type 0} (p : K × V → Bool) (Q : K → Type 0) where
+  found_here : (e : K × V) → Q e.0 → (b : Bool) → p e ≡ b → IfSome (cond b (Some e) None) (λ f. Q f.0 × (p f ≡ true))
+  found_here e q true is = (q, is)
+  found_here e q false is = tt
+
+  found_or : (e : K × V) → Q e.0 → (o : Option (K × V)) → IfSome o (λ f. Q f.0 × (p f ≡ true)) → IfSome (option_or o (cond (p e) (Some e) None)) (λ f. Q f.0 × (p f ≡ true))
+  found_or e q (Some f) h = h
+  found_or e q None h = found_here e q (p e) refl
+
+  found_last : (es : List (K × V)) → AllByRecursion Q (keys_of es) → IfSome (find p (reverse es)) (λ f. Q f.0 × (p f ≡ true))
+  found_last [] h = tt
+  found_last (e ∷ es) h = subst (λ o. IfSome o (λ f. Q f.0 × (p f ≡ true))) (sym (find-reverse p e es)) (found_or e h.0 (find p (reverse es)) (found_last es h.1))
+
+-- the key is at k or after it, and passes
+abbrev Reaches : (ℕ × ℕ → Bool) → ℕ × ℕ → Option ((ℕ × ℕ) × ℕ) → Type 0
+Reaches p k None = ⊥
+Reaches p k (Some e) = (is_le (length_cmp k e.0) ≡ true) × (p e.0 ≡ true)
+
+reaches_here : (p : ℕ × ℕ → Bool) (k : ℕ × ℕ) (e : (ℕ × ℕ) × ℕ) → is_le (length_cmp k e.0) ≡ true → (b : Bool) → p e.0 ≡ b → b ≡ true → Reaches p k (cond b (Some e) None)
+reaches_here p k e le true is h = (le, is)
+reaches_here p k e le false is h = absurd cc
+
+reaches_same : (p : ℕ × ℕ → Bool) (k : ℕ × ℕ) (e : (ℕ × ℕ) × ℕ) → k ≡ e.0 → is_le (length_cmp k e.0) ≡ true → p e.0 ≡ true → (o : Option ((ℕ × ℕ) × ℕ))
+    → IfSome o (λ f. (length_cmp e.0 f.0 ≡ Less) × (p f.0 ≡ true)) → Reaches p k (option_or o (cond (p e.0) (Some e) None))
+reaches_same p k e same le is (Some f) h = (ap (λ x. is_le (length_cmp x f.0)) same ∙ ap is_le h.0, h.1)
+reaches_same p k e same le is None h = reaches_here p k e le (p e.0) refl is
+
+reaches_past : (p : ℕ × ℕ → Bool) (k : ℕ × ℕ) (e : (ℕ × ℕ) × ℕ) → (o : Option ((ℕ × ℕ) × ℕ)) → Reaches p k o → Reaches p k (option_or o (cond (p e.0) (Some e) None))
+reaches_past p k e (Some f) h = h
+reaches_past p k e None h = absurd h
+
+none_some : {X : Type 0} (x : X) → None ≡ Some x → ⊥
+none_some x e = cc
+
+reaches : (p : ℕ × ℕ → Bool) (es : List ((ℕ × ℕ) × ℕ)) (k : ℕ × ℕ) (n : ℕ) → IsLedger length_cmp es → p k ≡ true → lookup (is_at (length_cmp k)) es ≡ Some n → Reaches p k (find (λ e. p e.0) (reverse es))
+reaches p [] k n s is h = absurd (none_some n h)
+reaches p (e ∷ es) k n s is h =
+    subst (Reaches p k) (sym (find-reverse (λ f. p f.0) e es))
+    ((elim (is_eq (length_cmp k e.0)) as (λ b. is_eq (length_cmp k e.0) ≡ b → cond b (Some e.1) (lookup (is_at (length_cmp k)) es) ≡ Some n → Reaches p k (option_or (find (λ f. p f.0) (reverse es)) (cond (p e.0) (Some e) None))) [
+      | true ↦ λ here _.
+          let tied = (Equal-is (length_cmp k e.0)).0 here in
+          let same : k ≡ e.0 = lengths_exact k e.0 tied in
+          reaches_same p k e same (ap is_le tied) (ap p (sym same) ∙ is) (find (λ f. p f.0) (reverse es))
+          (found_last (λ f. p f.0) (λ y. length_cmp e.0 y ≡ Less) es (sorted_head length_cmp e.0 (keys_of es) s))
+      | false ↦ λ past there. reaches_past p k e (find (λ f. p f.0) (reverse es)) (reaches p es k n (sorted_tail length_cmp e.0 (keys_of es) s) is there)
+    ]) refl h)
+
+key_holds : (P : ℕ × ℕ → Type 0) (es : List ((ℕ × ℕ) × ℕ)) (k : ℕ × ℕ) (n : ℕ) → All P (keys_of es) → lookup (is_at (length_cmp k)) es ≡ Some n → P k
+key_holds P [] k n a h = absurd (none_some n h)
+key_holds P (e ∷ es) k n a h =
+    (elim (is_eq (length_cmp k e.0)) as (λ b. is_eq (length_cmp k e.0) ≡ b → cond b (Some e.1) (lookup (is_at (length_cmp k)) es) ≡ Some n → P k) [
+      | true ↦ λ here _. subst P (sym (lengths_exact k e.0 ((Equal-is (length_cmp k e.0)).0 here))) (All-head P e.0 (keys_of es) a)
+      | false ↦ λ past there. key_holds P es k n (All-tail P e.0 (keys_of es) a) there
+    ]) refl h
+
+-- what the last key of a sequence says of the length k
+abbrev pub Bounds : ℕ → ℕ × ℕ → Option ((ℕ × ℕ) × ℕ) → Type 0
+Bounds seq k None = ⊥
+Bounds seq k (Some e) = (e.0.0 ≡ seq) × (k.1 ≤ e.0.1)
+
+bounds_from : (seq : ℕ) (k : ℕ × ℕ) → k.0 ≡ seq → (o : Option ((ℕ × ℕ) × ℕ)) → Reaches (λ q. is_ge (length_cmp (seq, 2 ^ 32 - 1) q)) k o → Bounds seq k o
+bounds_from seq k is None h = absurd h
+bounds_from seq k is (Some e) h =
+    let low = le_pair k.0 e.0.0 k.1 e.0.1 h.0 in
+    let high : e.0.0 ≤ seq = ge_pair seq e.0.0 (2 ^ 32 - 1) e.0.1 h.1 in
+    let low_seq : k.0 ≤ e.0.0 = low.0 in
+    let one : e.0.0 ≡ seq = omega arith in
+    (one, low.1 (is ∙ sym one))
+
+pub length_bound : (es : List ((ℕ × ℕ) × ℕ)) (seq : ℕ) (k : ℕ × ℕ) → IsTally es → k.0 ≡ seq → 0 < copies_by length_cmp (expanded es) k → Bounds seq k (last_until length_cmp es (seq, 2 ^ 32 - 1))
+length_bound es seq k t is some =
+    let there : value_at length_cmp es k ≡ Some (unwrap_or (value_at length_cmp es k) 0) = some_is es es k t some in
+    let small : k.1 < 2 ^ 32 = key_holds (λ (q : ℕ × ℕ). q.1 < 2 ^ 32) es k _ t.small there in
+    let fits : k.1 ≤ 2 ^ 32 - 1 = omega arith in
+    bounds_from seq k is (last_until length_cmp es (seq, 2 ^ 32 - 1))
+    (reaches (λ q. is_ge (length_cmp (seq, 2 ^ 32 - 1) q)) es k _ t.ordered
+    (subst (λ (s : ℕ). is_ge (ordering_then (nat_cmp seq s) (nat_cmp (2 ^ 32 - 1) k.1)) ≡ true) (sym is) (pair_ge seq (2 ^ 32 - 1) k.1 fits)) there)

@@ -1,0 +1,5 @@
+pub mod PlaceLemmas
+pub mod LengthLemmas
+pub mod HitsLemmas
+pub mod UncoveredLemmas
+pub mod LineLemmas

@@ -1,0 +1,106 @@
+-- Orders of pairs of numbers, as numbers; and records from a place on.
+use Rattle.std.proofs.Common.{◌≡◌, ℕ, ◌+◌, ◌<◌, ◌≤◌, ◌&&◌, Bool, true, false, List, [], ◌∷◌, refl, sym, ap, ◌∙◌, arith, inl, inr}
+use Rattle.std.specs.Prelude.{filter}
+use Rattle.std.specs.declared.cmp.Ordering.{Ordering}
+use Rattle.std.specs.declared.cmp.Ordering.TheVariants.{Less, Equal, Greater}
+use Rattle.std.specs.Ordering.{is_le, is_ge, nat_cmp, ordering_then}
+use Rattle.std.specs.Cmp.{ranked}
+use Rattle.std.proofs.lemmas.List.Elements.{All-from_recursion}
+use Rattle.iv_text.specs.Ordered.{AreInOrder}
+use Rattle.iv_text.specs.Row.{Row, row_cmp}
+use Rattle.iv_track.specs.Tracked.{is_from}
+use Rattle.iv_cover.proofs.Merging.{precedes-from}
+use Rattle.iv_cover.proofs.Tests.{Mem, all-mem, filter-agree, filter-all, filter-filter}
+
+nat_le_is : (c d : ℕ) → c ≤ d → is_le (nat_cmp c d) ≡ true
+nat_le_is c d h = go (nat_cmp c d) refl
+  where
+    go : (o : Ordering) → o ≡ nat_cmp c d → is_le o ≡ true
+    go Less e = refl
+    go Equal e = refl
+    go Greater e = let r : d < c = ranked c d Greater e in absurd (omega arith)
+
+le_is_nat : (c d : ℕ) → is_le (nat_cmp c d) ≡ true → c ≤ d
+le_is_nat c d h = go (nat_cmp c d) refl h
+  where
+    go : (o : Ordering) → o ≡ nat_cmp c d → is_le o ≡ true → c ≤ d
+    go Less e h = let r : c < d = ranked c d Less e in omega arith
+    go Equal e h = let r : c ≡ d = ranked c d Equal e in omega arith
+    go Greater e h = absurd cc
+
+pub le_pair : (a b c d : ℕ) → is_le (ordering_then (nat_cmp a b) (nat_cmp c d)) ≡ true → (a ≤ b) × (a ≡ b → c ≤ d)
+le_pair a b c d h = go (nat_cmp a b) refl h
+  where
+    go : (o : Ordering) → o ≡ nat_cmp a b → is_le (ordering_then o (nat_cmp c d)) ≡ true → (a ≤ b) × (a ≡ b → c ≤ d)
+    go Less e h = let r : a < b = ranked a b Less e in (omega arith, λ q. absurd (omega (arith, r, q)))
+    go Equal e h = let r : a ≡ b = ranked a b Equal e in (omega arith, λ q. le_is_nat c d h)
+    go Greater e h = absurd cc
+
+pub pair_le : (a b c d : ℕ) → a ≤ b → (a ≡ b → c ≤ d) → is_le (ordering_then (nat_cmp a b) (nat_cmp c d)) ≡ true
+pair_le a b c d low next = go (nat_cmp a b) refl
+  where
+    go : (o : Ordering) → o ≡ nat_cmp a b → is_le (ordering_then o (nat_cmp c d)) ≡ true
+    go Less e = refl
+    go Equal e = nat_le_is c d (next (ranked a b Equal e))
+    go Greater e = let r : b < a = ranked a b Greater e in absurd (omega arith)
+
+pub ge_pair : (a b c d : ℕ) → is_ge (ordering_then (nat_cmp a b) (nat_cmp c d)) ≡ true → b ≤ a
+ge_pair a b c d h = go (nat_cmp a b) refl h
+  where
+    go : (o : Ordering) → o ≡ nat_cmp a b → is_ge (ordering_then o (nat_cmp c d)) ≡ true → b ≤ a
+    go Less e h = absurd cc
+    go Equal e h = let r : a ≡ b = ranked a b Equal e in omega arith
+    go Greater e h = let r : b < a = ranked a b Greater e in omega arith
+
+nat_ge_is : (c d : ℕ) → d ≤ c → is_ge (nat_cmp c d) ≡ true
+nat_ge_is c d h = go (nat_cmp c d) refl
+  where
+    go : (o : Ordering) → o ≡ nat_cmp c d → is_ge o ≡ true
+    go Less e = let r : c < d = ranked c d Less e in absurd (omega arith)
+    go Equal e = refl
+    go Greater e = refl
+
+pub pair_ge : (a c d : ℕ) → d ≤ c → is_ge (ordering_then (nat_cmp a a) (nat_cmp c d)) ≡ true
+pair_ge a c d h = go (nat_cmp a a) refl
+  where
+    go : (o : Ordering) → o ≡ nat_cmp a a → is_ge (ordering_then o (nat_cmp c d)) ≡ true
+    go Less e = let r : a < a = ranked a a Less e in absurd (omega arith)
+    go Equal e = nat_ge_is c d h
+    go Greater e = let r : a < a = ranked a a Greater e in absurd (omega arith)
+
+-- ---- records from a place on
+
+-- a test that implies another takes the same behind it
+pub filter-implied : {X : Type 0} (p t : X → Bool) (xs : List X) → ((q : X) → Mem q xs → p q ≡ true → t q ≡ true) → filter p (filter t xs) ≡ filter p xs
+filter-implied p t xs h = filter-filter p t xs ∙ filter-agree (λ q. t q && p q) p xs (λ q m. agree (p q) (t q) (h q m))
+  where
+    agree : (a b : Bool) → (a ≡ true → b ≡ true) → (b && a) ≡ a
+    agree true b h = ap (λ c. c && true) (h refl)
+    agree false true h = refl
+    agree false false h = refl
+
+-- from an earlier start on there are all from a later one on
+pub from-on : (seq at from : ℕ) (rows : List Row) → at ≤ from → filter (is_from seq from) (filter (is_from seq at) rows) ≡ filter (is_from seq from) rows
+from-on seq at from rows low = filter-implied (is_from seq from) (is_from seq at) rows (λ q m is.
+    let place = le_pair seq q.seq from q.start is in
+    pair_le seq q.seq at q.start place.0 (λ e. let r : from ≤ q.start = place.1 e in omega arith))
+
+from_next : (seq p : ℕ) (x y : Row) → is_from seq p x ≡ true → is_le (row_cmp x y) ≡ true → is_from seq p y ≡ true
+from_next seq p x y h le =
+    let a = le_pair seq x.seq p x.start h in
+    let low : seq ≤ x.seq = a.0 in
+    elim (precedes-from x y le) [
+      | inl later ↦ pair_le seq y.seq p y.start (omega arith) (λ e. absurd (omega (arith, e, low, later)))
+      | inr same ↦
+          let rank : x.seq ≡ y.seq = same.0 in
+          let on : x.start ≤ y.start = same.1 in
+          pair_le seq y.seq p y.start (omega arith) (λ e. let m : p ≤ x.start = a.1 (omega (arith, e, rank)) in omega arith)
+    ]
+
+-- where the first of records in order is from there on, all are
+pub from_all : (seq p : ℕ) (r : Row) (rows : List Row) → AreInOrder (r ∷ rows) → is_from seq p r ≡ true → (q : Row) → Mem q (r ∷ rows) → is_from seq p q ≡ true
+from_all seq p r rows o h q (inl is) = ap (is_from seq p) (sym is) ∙ h
+from_all seq p r rows o h q (inr m) = from_next seq p r q h (all-mem (λ y. is_le (row_cmp r y) ≡ true) rows (All-from_recursion (λ y. is_le (row_cmp r y) ≡ true) rows o.0) q m)
+
+pub from_whole : (seq p : ℕ) (r : Row) (rows : List Row) → AreInOrder (r ∷ rows) → is_from seq p r ≡ true → filter (is_from seq p) (r ∷ rows) ≡ r ∷ rows
+from_whole seq p r rows o h = filter-all (is_from seq p) (r ∷ rows) (from_all seq p r rows o h)

@@ -1,0 +1,221 @@
+-- The parts of a record that no hit covers, found hit by hit.
+use Rattle.std.proofs.Common.{◌≡◌, ◌≢◌, ℕ, ◌+◌, ◌<◌, ◌≤◌, ◌&&◌, Bool, true, false, cond, if◌then◌else◌, List, [], ◌∷◌, ◌++◌, refl, sym, ap, ◌∙◌, subst, arith, inl, inr, append-nil}
+use Rattle.std.specs.Prelude.{◌==◌, filter, max, nat_lt, nat_le}
+use Rattle.std.specs.List.{AllByRecursion, flat_map}
+use Rattle.std.specs.Ordering.{is_le}
+use Rattle.std.proofs.lemmas.Bool.{cases_lt, lt-ltb, le-ltb}
+use Rattle.std.proofs.lemmas.List.Concat.{flat_map-append}
+use Rattle.std.proofs.lemmas.List.Sums.{sum_by-cons}
+use Rattle.iv_bytes.specs.Sinks.{SinkState, Takes, FailsIn}
+use Rattle.iv_bytes.proofs.Putting.{Underway, Underway-begin, Underway-fails, Underway-more}
+use Rattle.iv_text.specs.Ordered.{AreInOrder}
+use Rattle.iv_text.specs.Row.{Row, row_cmp}
+use Rattle.iv_cover.specs.Depth.{covers, depth}
+use Rattle.iv_cover.specs.Runs.{Run, empty_runs}
+use Rattle.iv_cover.proofs.EmptyLemmas.{empty_runs-skip, empty_runs-run}
+use Rattle.iv_cover.proofs.Merging.{precedes-from}
+use Rattle.iv_cover.proofs.RunsLemmas.{runs-none}
+use Rattle.iv_pair.specs.Hits.{overlaps, hits, hits_of}
+use Rattle.iv_pair.proofs.HitsLemmas.{overlaps_parts, overlaps_from, covers_parts, covers_from}
+
+-- the run of value 0 from one position to another, if it has a position
+gap : ℕ → ℕ → List Run
+gap from to = if nat_lt from to then record { start = from; stop = to; value = 0 } ∷ [] else []
+
+empty_runs-none : (f : ℕ → ℕ) (from to : ℕ) → to ≤ from → empty_runs f from to ≡ []
+empty_runs-none f from to h = rw (runs-none f from to h) refl
+
+covered : (f : ℕ → ℕ) (from stop to : ℕ) → from ≤ stop → ((p : ℕ) → from ≤ p → p < stop → p < to → f p ≢ 0) → empty_runs f from to ≡ empty_runs f stop to
+covered f from stop to le on = elim (cases_lt stop to) [
+  | inl within ↦ empty_runs-skip f from stop to le (omega arith) (λ q ql qh. on q ql qh (omega arith))
+  | inr past ↦ elim (cases_lt from to) [
+    | inl inside ↦ empty_runs-skip f from to to (omega arith) (omega arith) (λ q ql qh. on q ql (omega arith) qh) ∙ empty_runs-none f to to (omega arith) ∙ sym (empty_runs-none f stop to past)
+    | inr outside ↦ empty_runs-none f from to outside ∙ sym (empty_runs-none f stop to past)
+  ]
+]
+
+-- one hit: what is empty before it, and then what is empty behind it
+empty_runs-hit : (f : ℕ → ℕ) (from start stop to : ℕ) → start < stop → start < to
+    → ((p : ℕ) → from ≤ p → p < start → f p ≡ 0) → ((p : ℕ) → start ≤ p → p < stop → from ≤ p → p < to → f p ≢ 0)
+    → empty_runs f from to ≡ gap from start ++ empty_runs f (max from stop) to
+unfolding gap
+empty_runs-hit f from start stop to some low before on = elim (cases_lt from start) [
+  | inl left ↦
+      let first = empty_runs-run f from start to left (omega arith) before (λ h e. on start (omega arith) some (omega arith) low (sym e)) in
+      let m : max from stop ≡ stop = omega arith in
+      rw (lt-ltb from start left, m) (first ∙ ap (λ runs. record { start = from; stop = start; value = 0 } ∷ runs) (covered f start stop to (omega arith) (λ p l h t. on p l h (omega arith) t)))
+  | inr none ↦ rw (le-ltb from start none) (elim (cases_lt from stop) [
+    | inl inside ↦
+        let m : max from stop ≡ stop = omega arith in
+        rw m (covered f from stop to (omega arith) (λ p l h t. on p (omega arith) h l t))
+    | inr behind ↦ let m : max from stop ≡ from = omega arith in rw m refl
+  ])
+]
+
+-- no more hits: what is left is empty
+empty_runs-rest : (f : ℕ → ℕ) (from to : ℕ) → ((p : ℕ) → from ≤ p → p < to → f p ≡ 0) → empty_runs f from to ≡ gap from to
+unfolding gap
+empty_runs-rest f from to none = elim (cases_lt from to) [
+  | inl some ↦ rw (lt-ltb from to some) (empty_runs-run f from to to some (omega arith) none (λ h. absurd (omega arith)) ∙ ap (λ runs. record { start = from; stop = to; value = 0 } ∷ runs) (empty_runs-none f to to (omega arith)))
+  | inr past ↦ rw (le-ltb from to past) (empty_runs-none f from to past)
+]
+
+-- the text of such a run
+abbrev pub gap_text : (Run → List ℕ) → ℕ → ℕ → List ℕ
+gap_text row from to = if nat_lt from to then row (record { start = from; stop = to; value = 0 }) else []
+
+gap-text : (row : Run → List ℕ) (from to : ℕ) → flat_map row (gap from to) ≡ gap_text row from to
+unfolding gap
+gap-text row from to = go (nat_lt from to)
+  where
+    go : (b : Bool) → flat_map row (if b then record { start = from; stop = to; value = 0 } ∷ [] else []) ≡ (if b then row (record { start = from; stop = to; value = 0 }) else [])
+    go true = append-nil (row (record { start = from; stop = to; value = 0 }))
+    go false = refl
+
+-- ---- the depth of the records, and of the hits that are left
+
+depth-cons : (seq p : ℕ) (b : Row) (rows : List Row) → depth (b ∷ rows) seq p ≡ cond (covers seq p b) 1 0 + depth rows seq p
+depth-cons seq p b rows = sum_by-cons (λ r. cond (covers seq p r) 1 0) b rows
+
+-- a record that begins behind a position or ends before it does not cover it
+off : (seq p : ℕ) (b : Row) → (covers seq p b ≡ true → ⊥) → covers seq p b ≡ false
+off seq p b never = go (covers seq p b) refl
+  where
+    go : (c : Bool) → covers seq p b ≡ c → c ≡ false
+    go false e = refl
+    go true e = absurd (never e)
+
+off_before : (seq p : ℕ) (b : Row) → p < b.start → covers seq p b ≡ false
+off_before seq p b h = off seq p b (λ e. let r : b.start ≤ p = (covers_parts seq p b e).1 in omega arith)
+
+off_behind : (seq p : ℕ) (b : Row) → b.stop ≤ p → covers seq p b ≡ false
+off_behind seq p b h = off seq p b (λ e. let r : p < b.stop = (covers_parts seq p b e).2 in omega arith)
+
+off_apart : (seq start stop p : ℕ) (b : Row) → start ≤ p → p < stop → overlaps seq start stop b ≡ false → covers seq p b ≡ false
+off_apart seq start stop p b l h none = off seq p b (λ e.
+    let c = covers_parts seq p b e in
+    let low : b.start ≤ p = c.1 in
+    let high : p < b.stop = c.2 in
+    let on : overlaps seq start stop b ≡ true = overlaps_from seq start stop b c.0 (omega arith) (omega arith) in
+    cc)
+
+-- only the hits cover a position of the interval
+depth-hits : (rows : List Row) (seq start stop p : ℕ) → start ≤ p → p < stop → depth rows seq p ≡ depth (hits rows seq start stop) seq p
+depth-hits [] seq start stop p l h = refl
+depth-hits (b ∷ rows) seq start stop p l h =
+    depth-cons seq p b rows ∙ ap (λ n. cond (covers seq p b) 1 0 + n) (depth-hits rows seq start stop p l h)
+    ∙ (elim (overlaps seq start stop b) as (λ o. overlaps seq start stop b ≡ o → cond (covers seq p b) 1 0 + depth (hits rows seq start stop) seq p ≡ depth (cond o (b ∷ hits rows seq start stop) (hits rows seq start stop)) seq p) [
+      | true ↦ λ is. sym (depth-cons seq p b (hits rows seq start stop))
+      | false ↦ λ is. let none : covers seq p b ≡ false = off_apart seq start stop p b l h is in rw none (omega arith)
+    ]) refl
+
+-- the hits that are left: each is on the sequence, begins at `low` or behind it and before the stop, and they begin in order
+abbrev pub HitsFrom : ℕ → ℕ → ℕ → List Row → Type 0
+HitsFrom seq low to [] = Unit {0}
+HitsFrom seq low to (b ∷ rows) = (b.seq ≡ seq) × (b.start < to) × (low ≤ b.start) × HitsFrom seq b.start to rows
+
+none_before : (seq low to p : ℕ) (rows : List Row) → HitsFrom seq low to rows → p < low → depth rows seq p ≡ 0
+none_before seq low to p [] h l = refl
+none_before seq low to p (b ∷ rows) h l = omega (arith, depth-cons seq p b rows, ap {B = ℕ} (λ c. cond c 1 0) (off_before seq p b (omega (arith, h.2))), none_before seq b.start to p rows h.3 (omega (arith, h.2)))
+
+-- in the midst: from here on the depth is that of the hits that are left
+pub record Left (f : ℕ → ℕ) (seq from to : ℕ) (rows : List Row) : Type 0 where
+  pub low : ℕ
+  pub found : HitsFrom seq low to rows
+  pub same : (p : ℕ) → from ≤ p → p < to → f p ≡ depth rows seq p
+
+Left-next : (f : ℕ → ℕ) (seq from to : ℕ) (b : Row) (rows : List Row) → b.start < b.stop → Left f seq from to (b ∷ rows)
+    → (empty_runs f from to ≡ gap from b.start ++ empty_runs f (max from b.stop) to) × Left f seq (max from b.stop) to rows
+Left-next f seq from to b rows some l =
+    let h = l.found in
+    let within : b.start < to = h.1 in (
+      empty_runs-hit f from b.start b.stop to some within
+          (λ p low high. let here : p < to = omega arith in omega (arith, l.same p low here, depth-cons seq p b rows, ap {B = ℕ} (λ c. cond c 1 0) (off_before seq p b high), none_before seq b.start to p rows h.3 high))
+          (λ p low high past end none. let on : covers seq p b ≡ true = covers_from seq p b h.0 low high in
+          absurd (omega (arith, l.same p past end, depth-cons seq p b rows, ap {B = ℕ} (λ c. cond c 1 0) on, none))),
+      record {
+        low = b.start;
+        found = h.3;
+        same = λ p low high. let past : from ≤ p = omega (arith, low) in let behind : b.stop ≤ p = omega (arith, low) in omega (arith, l.same p past high, depth-cons seq p b rows, ap {B = ℕ} (λ c. cond c 1 0) (off_behind seq p b behind));
+      },
+    )
+
+-- ---- the hits of a file in order
+
+later_starts : (b : Row) (rows : List Row) → AllByRecursion (λ y. is_le (row_cmp b y) ≡ true) rows → AllByRecursion (λ y. y.seq ≡ b.seq → b.start ≤ y.start) rows
+later_starts b [] h = tt
+later_starts b (y ∷ rows) h = (
+  λ e. elim (precedes-from b y h.0) [
+    | inl later ↦ absurd (omega (arith, e, later))
+    | inr same ↦ same.1
+  ],
+  later_starts b rows h.1,
+)
+
+hits_found : (rows : List Row) (seq start stop low : ℕ) → AreInOrder rows
+    → AllByRecursion (λ b. b.seq ≡ seq → low ≤ b.start) rows → HitsFrom seq low stop (hits rows seq start stop)
+hits_found [] seq start stop low o a = tt
+hits_found (b ∷ rows) seq start stop low o a =
+    (elim (overlaps seq start stop b) as (λ c. overlaps seq start stop b ≡ c → HitsFrom seq low stop (cond c (b ∷ hits rows seq start stop) (hits rows seq start stop))) [
+      | true ↦ λ is.
+          let parts = overlaps_parts seq start stop b is in (
+            parts.0,
+            parts.1,
+            a.0 parts.0,
+            hits_found rows seq start stop b.start o.1 (subst (λ (s : ℕ). AllByRecursion (λ y. y.seq ≡ s → b.start ≤ y.start) rows) parts.0 (later_starts b rows o.0)),
+          )
+      | false ↦ λ is. hits_found rows seq start stop low o.1 a.1
+    ]) refl
+
+all_low : (seq : ℕ) (rows : List Row) → AllByRecursion (λ b. b.seq ≡ seq → 0 ≤ b.start) rows
+all_low seq [] = tt
+all_low seq (b ∷ rows) = (λ _. omega arith, all_low seq rows)
+
+Left-begin : (rows : List Row) (seq start stop : ℕ) → AreInOrder rows → Left (depth rows seq) seq start stop (hits rows seq start stop)
+Left-begin rows seq start stop o = record {
+  low = 0;
+  found = hits_found rows seq start stop 0 o (all_low seq rows);
+  same = λ p low high. depth-hits rows seq start stop p low high;
+}
+
+-- ---- their text
+
+-- the text of the parts before `from` was put, and from there on the depth of the file is that of the hits that are left
+pub record Remains (row : Run → List ℕ) (second : List Row) (seq start from to : ℕ) (found : List Row) (begun now : SinkState) : Type 0 where
+  pub put : Underway begun now (flat_map row (empty_runs (depth second seq) from to)) (flat_map row (empty_runs (depth second seq) start to))
+  pub left : Left (depth second seq) seq from to found
+
+module _ (row : Run → List ℕ) (second : List Row) (seq start to : ℕ) (begun : SinkState) where
+  pub Remains-begin : (found : List Row) → AreInOrder second → found ≡ hits second seq start to → Remains row second seq start start to found begun begun
+  Remains-begin found order all = rw all record { put = Underway-begin _ _; left = Left-begin second seq start to order }
+
+  module _ (from : ℕ) (b : Row) (found rest : List Row) (mid : SinkState) (first : found ≡ b ∷ rest) (some : b.start < b.stop) (r : Remains row second seq start from to found begun mid) where
+    next : Left (depth second seq) seq from to (b ∷ rest)
+    next = subst (Left (depth second seq) seq from to) first r.left
+
+    pub within : b.start < to
+    within = next.found.1
+
+    begin_next : Underway begun mid (gap_text row from b.start ++ flat_map row (empty_runs (depth second seq) (max from b.stop) to)) (flat_map row (empty_runs (depth second seq) start to))
+    begin_next =
+        subst (λ t. Underway begun mid t (flat_map row (empty_runs (depth second seq) start to)))
+        (ap (flat_map row) (Left-next (depth second seq) seq from to b rest some next).0 ∙ flat_map-append row (gap from b.start) (empty_runs (depth second seq) (max from b.stop) to)
+        ∙ ap (λ (t : List ℕ). t ++ flat_map row (empty_runs (depth second seq) (max from b.stop) to)) (gap-text row from b.start))
+        r.put
+
+    pub Remains-next : (now : SinkState) → Takes mid now (gap_text row from b.start) → Remains row second seq start (max from b.stop) to rest begun now
+    Remains-next now took = record {
+      put = Underway-more _ _ _ _ _ _ begin_next took;
+      left = (Left-next (depth second seq) seq from to b rest some next).1;
+    }
+
+    pub Remains-fails : (now : SinkState) → FailsIn mid now (gap_text row from b.start) → FailsIn begun now (flat_map row (empty_runs (depth second seq) start to))
+    Remains-fails now fails = Underway-fails _ _ _ _ _ _ begin_next fails
+
+  -- no more hits: what is left is one part, or none
+  pub Remains-last : (from : ℕ) (found : List Row) (mid : SinkState) → found ≡ [] → Remains row second seq start from to found begun mid
+      → Underway begun mid (gap_text row from to) (flat_map row (empty_runs (depth second seq) start to))
+  Remains-last from found mid none r =
+      subst (λ t. Underway begun mid t (flat_map row (empty_runs (depth second seq) start to)))
+      (ap (flat_map row) (empty_runs-rest (depth second seq) from to (λ p low high. r.left.same p low high ∙ ap (λ xs. depth xs seq p) none)) ∙ gap-text row from to)
+      r.put

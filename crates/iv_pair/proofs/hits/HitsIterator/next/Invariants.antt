@@ -1,0 +1,15 @@
+use Rattle.std.proofs.Common.{◌≡◌, ℕ, ◌<◌, ◌^◌, length}
+use Rattle.iv_text.specs.Ordered.{AreInOrder}
+use Rattle.iv_pair.specs.Hits.{hits}
+use Rattle.iv_pair.proofs.hits.HitsIterator.next.Given as goal
+
+-- the records left are in order and few, and the hits among them are all that were left
+abbrev pub invariant-loop-row : goal.invariant-loop-row
+invariant-loop-row g l = record {
+  ordered : AreInOrder l.self-inside.rows;
+  few : length l.self-inside.rows < 2 ^ 32;
+  same : hits l.self-inside.rows l.self-inside.seq l.self-inside.start l.self-inside.stop ≡ l.fn.self;
+}
+
+abbrev pub decreases-loop-row : goal.decreases-loop-row
+decreases-loop-row g l = length l.self-inside.rows

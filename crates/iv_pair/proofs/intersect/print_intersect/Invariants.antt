@@ -1,0 +1,18 @@
+use Rattle.std.proofs.Common.{◌≡◌, length}
+use Rattle.std.specs.List.{flat_map}
+use Rattle.iv_bytes.proofs.Putting.{Underway}
+use Rattle.iv_pair.proofs.intersect.print_intersect.Given as goal
+use Rattle.iv_pair.specs.Hits.{hits_of}
+use Rattle.iv_pair.specs.IntersectRows.{intersect_rows, intersect_text}
+
+-- the rows of the records that are left are to come
+abbrev pub invariant-loop-row : goal.invariant-loop-row
+invariant-loop-row g l = record {
+  finder : l.finder ≡ l.second.rows;
+  put : Underway (g.S.Sink.state l.fn.sink) (g.S.Sink.state l.sink)
+      (flat_map (λ a. intersect_rows l.shown l.genome a (hits_of l.second.rows a)) l.rows)
+      (intersect_text l.shown l.genome l.track.rows l.second.rows);
+}
+
+abbrev pub decreases-loop-row : goal.decreases-loop-row
+decreases-loop-row g l = length l.rows

@@ -1,0 +1,45 @@
+-- The rows of an intersect.
+use Rattle.std.specs.Prelude.{ℕ, ◌++◌, List, [], ◌∷◌, min, max, length, codes, decimal}
+use Rattle.std.specs.List.{flat_map}
+use Rattle.iv_text.specs.Genome.{Sequences}
+use Rattle.iv_text.specs.RecordText.{record_text}
+use Rattle.iv_text.specs.Row.{Row, part}
+use Rattle.iv_pair.specs.Hits.{hits_of}
+use Rattle.iv_pair.specs.declared.intersect.IntersectRows.{IntersectRows}
+use Rattle.iv_pair.specs.declared.intersect.IntersectRows.TheVariants.{Shared, SharedAndHit, Whole, WholeAndHit, IfHit, IfNoHit, Count}
+
+-- the line of a record: its columns and a line feed
+abbrev pub record_line : Sequences → Row → List ℕ
+record_line g r = record_text g r ++ codes "\n"
+
+-- the line of a record with another behind it
+abbrev pub pair_line : Sequences → Row → Row → List ℕ
+pair_line g a b = record_text g a ++ (codes "\t" ++ record_line g b)
+
+-- the part of a that it shares with b
+abbrev pub shared : Row → Row → Row
+shared a b = part a (max a.start b.start) (min a.stop b.stop)
+
+-- a record where it has a hit
+abbrev pub any_line : Sequences → Row → List Row → List ℕ
+any_line g a [] = []
+any_line g a (b ∷ found) = record_line g a
+
+-- a record where it has none
+abbrev pub none_line : Sequences → Row → List Row → List ℕ
+none_line g a [] = record_line g a
+none_line g a (b ∷ found) = []
+
+-- the rows of a record and its hits
+abbrev pub intersect_rows : IntersectRows → Sequences → Row → List Row → List ℕ
+intersect_rows Shared g a found = flat_map (λ b. record_line g (shared a b)) found
+intersect_rows SharedAndHit g a found = flat_map (λ b. pair_line g (shared a b) b) found
+intersect_rows Whole g a found = flat_map (λ b. record_line g a) found
+intersect_rows WholeAndHit g a found = flat_map (λ b. pair_line g a b) found
+intersect_rows IfHit g a found = any_line g a found
+intersect_rows IfNoHit g a found = none_line g a found
+intersect_rows Count g a found = record_text g a ++ (codes "\t" ++ (decimal (length found) ++ codes "\n"))
+
+-- all rows: those of each record of the first list, in its order
+abbrev pub intersect_text : IntersectRows → Sequences → List Row → List Row → List ℕ
+intersect_text shown g rows second = flat_map (λ a. intersect_rows shown g a (hits_of second a)) rows

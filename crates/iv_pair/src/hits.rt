@@ -1,0 +1,95 @@
+//! The records that share a position with an interval.
+ghost use Rattle.std.specs.Prelude.{◌≡◌, ◌<◌, ◌^◌, length};
+ghost use Rattle.std.specs.Iterator.{YieldsFirstRef, item_count};
+ghost use Rattle.iv_text.specs.Ordered.{AreInOrder};
+ghost use Rattle.iv_track.specs.Tracked.{is_from};
+ghost use Rattle.iv_pair.specs.Hits.{overlaps, hits};
+
+use iv_text::Record;
+use iv_track::{Meter, Rows};
+use std::alloc::{Allocator, Global};
+use std::marker::Model;
+
+/// The records of a second file that share a position with an interval, in the order of a track: an iterator.
+///
+/// A record comes once for each of its copies. Its model is the list of the records that are left.
+#[derive(Drop)]
+pub struct Hits<'a, A: Allocator + Copy = Global> {
+    rows: Rows<'a, A>,
+    meter: Meter,
+    seq: u32,
+    start: u64,
+    stop: u64,
+}
+
+impl<'a, A: Allocator + Copy> Model for Hits<'a, A> {
+    ghost use Rattle.std.specs.Prelude.{◌<◌, ◌^◌, List, length};
+    ghost use Rattle.iv_text.specs.Ordered.{AreInOrder};
+    ghost use Rattle.iv_text.specs.Row.{Row};
+    ghost use Rattle.iv_pair.specs.Hits.{hits};
+
+    ghost Value = { List Row };
+
+    ghost view = { λ h. hits h.rows h.seq h.start h.stop };
+
+    ghost invariant = { λ h. AreInOrder h.rows × (length h.rows < 2 ^ 32) };
+}
+
+impl<'a, A: Allocator + Copy> Hits<'a, A> {
+    /// Those among the records of a walk.
+    pub(crate) fn of(rows: Rows<'a, A>, seq: u32, start: u64, stop: u64) -> Self
+        requires ordered { AreInOrder rows }
+        requires few { length rows < 2 ^ 32 }
+        ensures { result ≡ hits rows.entry seq start stop }
+    {
+        Hits {
+            rows,
+            meter: Meter::new(),
+            seq,
+            start,
+            stop,
+        }
+    }
+
+    /// A law for callers' proofs: 32 bits count those that are left. The call does nothing.
+    pub(crate) fn law_of_few(&self)
+        ensures { length self.now < 2 ^ 32 }
+    {
+        // What is read has its invariant.
+        let _seq = self.seq;
+    }
+}
+
+impl<'a, A: Allocator + Copy> Iterator for Hits<'a, A> {
+    type Item = &'a Record<A>;
+
+    ghost next_gives = { YieldsFirstRef (λ h. h) };
+
+    ghost remaining = { item_count (λ h. h) };
+
+    fn next(&mut self) -> Option<&'a Record<A>> {
+        while let Some(row) = self.rows.next(&mut self.meter) {
+            if overlaps(row, self.seq, self.start, self.stop) {
+                return Some(row);
+            }
+            if is_from(row, self.seq, self.stop) {
+                return None;
+            }
+        }
+        None
+    }
+}
+
+/// Whether a record lies on this sequence from this start on, or on a later sequence.
+pub(crate) fn is_from<A: Allocator + Copy>(row: &Record<A>, seq: u32, start: u64) -> bool
+    ensures { result ≡ is_from seq start row.now }
+{
+    seq.cmp(&row.seq()).then(start.cmp(&row.start())).is_le()
+}
+
+/// Whether a record is on this sequence and shares a position with the interval.
+fn overlaps<A: Allocator + Copy>(row: &Record<A>, seq: u32, start: u64, stop: u64) -> bool
+    ensures { result ≡ overlaps seq start stop row.now }
+{
+    row.seq() == seq && row.start() < stop && start < row.stop()
+}

@@ -1,0 +1,68 @@
+//! How many records there are of each length.
+ghost use Rattle.std.specs.Prelude.{◌≡◌, ℕ, ◌+◌, ◌-◌, ◌<◌, ◌≤◌, ◌^◌, length, OnOk, IfOk};
+ghost use Rattle.iv_text.specs.Ordered.{added_by, copies_by};
+ghost use Rattle.iv_text.specs.Row.{Row};
+ghost use Rattle.iv_track.specs.Copies.{expanded};
+ghost use Rattle.iv_pair.specs.Lengths.{AreLengths, IsTally, length_cmp, length_of};
+
+use iv_text::Record;
+use iv_track::{Ledger, Meter};
+use std::alloc::{AllocError, Allocator};
+
+/// The lengths of records, by the rank of their sequence, with how many records have each.
+pub(crate) type Lengths<A> = Ledger<(u32, u32), u32, A>;
+
+/// The rank of a record's sequence, and how many positions the record has.
+fn length_of<A: Allocator + Copy>(row: &Record<A>) -> (u32, u32)
+    ensures is { result ≡ length_of row.now }
+    ensures small { result.1 < 2 ^ 32 }
+{
+    row.law_of_place();
+    (row.seq(), (row.stop() - row.start()) as u32)
+}
+
+/// One record more of this length.
+fn raise<A: Allocator + Copy>(
+    lengths: &mut Lengths<A>,
+    key: (u32, u32),
+    meter: &mut Meter,
+) -> Result<(), AllocError>
+    requires tally { IsTally lengths.old }
+    requires small { key.1 < 2 ^ 32 }
+    requires room { copies_by length_cmp (expanded lengths.old) key < 2 ^ 32 - 1 }
+    ensures { OnOk result (IsTally lengths.new × (expanded lengths.new ≡ added_by length_cmp (expanded lengths.old) key)) }
+{
+    let count = lengths.get(&key, meter).copied().unwrap_or(0);
+    lengths.put(key, count + 1, meter)?;
+    Ok(())
+}
+
+/// The lengths of these records. Nothing grows but the ledger.
+pub(crate) fn lengths_of<A: Allocator + Copy>(
+    alloc: A,
+    records: &[Record<A>],
+    meter: &mut Meter,
+) -> Result<Lengths<A>, AllocError>
+    requires { length records.now < 2 ^ 32 - 1 }
+    ensures { IfOk result (λ lengths. AreLengths lengths records.now) }
+{
+    let mut lengths = Ledger::new(alloc);
+    for record in records {
+        raise(&mut lengths, length_of(record), meter)?;
+    }
+    Ok(lengths)
+}
+
+/// A number of positions that no record on the sequence of this rank has more than: the greatest that is counted.
+pub(crate) fn longest<A: Allocator + Copy>(lengths: &Lengths<A>, seq: u32, meter: &mut Meter) -> u64
+    requires { IsTally lengths.now }
+    ensures { (k : ℕ × ℕ) → k.0 ≡ seq → 0 < copies_by length_cmp (expanded lengths.now) k → k.1 ≤ result }
+{
+    match lengths.at_or_before(&(seq, u32::MAX), meter) {
+        Some((key, _)) => {
+            let (rank, most) = *key;
+            if rank == seq { u64::from(most) } else { 0 }
+        }
+        None => 0,
+    }
+}

@@ -1,0 +1,128 @@
+//! The second file: its records in track order, and how long they are.
+ghost use Rattle.std.specs.Prelude.{◌≡◌, ◌+◌, ◌-◌, ◌^◌, ◌<◌, ◌≤◌, length, filter, min, All, IfOk, vec_len};
+ghost use Rattle.iv_text.specs.Ordered.{AreInOrder, ordered};
+ghost use Rattle.iv_track.specs.Tracked.{is_from, most_records};
+ghost use Rattle.iv_pair.specs.Hits.{hits};
+ghost use Rattle.iv_pair.specs.Lengths.{AreUpTo};
+
+use crate::hits::Hits;
+use crate::lengths::{Lengths, lengths_of, longest};
+use iv_text::Record;
+use iv_track::{Meter, Rows, Track};
+use std::alloc::{AllocError, Allocator, Global};
+use std::marker::Model;
+
+/// The second file: its records in the order of a track, with their copies, and how many there are of each length.
+///
+/// Its model is that of its track.
+#[derive(Drop)]
+pub struct Second<A: Allocator + Copy = Global> {
+    track: Track<A>,
+    lengths: Lengths<A>,
+}
+
+impl<A: Allocator + Copy> Model for Second<A> {
+    ghost use Rattle.iv_track.specs.Tracked.{Tracked};
+    ghost use Rattle.iv_pair.specs.Lengths.{AreLengths};
+
+    ghost Value = { Tracked };
+
+    ghost view = { λ s. s.track };
+
+    ghost invariant = { λ s. AreLengths s.lengths s.track.rows };
+}
+
+impl<A: Allocator + Copy> Second<A> {
+    /// The second file of these records.
+    ///
+    /// The limit is at most 4,000,000 records. There are no more records than the limit, and each has the width, 3 to 6.
+    ///
+    /// # Errors
+    ///
+    /// Memory was refused.
+    pub fn new(
+        alloc: A,
+        width: u8,
+        limit: u32,
+        records: Vec<Record<A>, A>,
+    ) -> Result<Self, AllocError>
+        requires limit { limit ≤ most_records }
+        requires few { vec_len records ≤ limit }
+        requires width { All (λ r. r.width ≡ width) records.items }
+        ensures { IfOk result (λ s. s ≡ record { rows = ordered records.items; width = width; limit = limit }) }
+    {
+        let mut meter = Meter::new();
+        let lengths = lengths_of(alloc, &records, &mut meter)?;
+        let track = Track::from_records(alloc, width, limit, records)?;
+        Ok(Second { track, lengths })
+    }
+
+    /// How many records there are, copies counted.
+    pub fn len(&self) -> u32
+        ensures len { result ≡ length self.now.rows }
+        ensures ordered { AreInOrder self.now.rows }
+        ensures room { result ≤ self.now.limit + 1 }
+        ensures bounded { self.now.limit ≤ most_records }
+    {
+        self.track.len()
+    }
+
+    /// How many columns each record has.
+    pub fn width(&self) -> u8
+        ensures { result ≡ self.now.width }
+    {
+        self.track.width()
+    }
+
+    /// How many records there may be, at most 4,000,000.
+    pub fn limit(&self) -> u32
+        ensures { result ≡ self.now.limit }
+    {
+        self.track.limit()
+    }
+
+    /// The records on the sequence of this rank that share a position with an interval, in the order of a track, copies again.
+    ///
+    /// The interval is 0-based and half-open, and has a position. Records that end where it starts, or start where it ends,
+    /// are none of them. It copies no record, and takes no memory.
+    pub fn hits(&self, seq: u32, start: u64, stop: u64) -> Hits<'_, A>
+        requires { start < stop }
+        ensures hits { result ≡ hits self.now.rows seq start stop }
+        ensures ordered { AreInOrder self.now.rows }
+    {
+        let mut meter = Meter::new();
+        let from = first_start(start, self.longest(seq, &mut meter));
+        Hits::of(self.walk(seq, from, &mut meter), seq, start, stop)
+    }
+
+    /// A number of positions that no record on the sequence of this rank has more than.
+    pub(crate) fn longest(&self, seq: u32, meter: &mut Meter) -> u64
+        ensures { AreUpTo seq result self.now.rows }
+    {
+        longest(&self.lengths, seq, meter)
+    }
+
+    /// The records on the sequence of this rank from this start on, and on later sequences.
+    pub(crate) fn walk(&self, seq: u32, start: u64, meter: &mut Meter) -> Rows<'_, A>
+        requires { start < 2 ^ 32 - 1 }
+        ensures rows { result ≡ filter (is_from seq start) self.now.rows }
+        ensures ordered { AreInOrder self.now.rows }
+        ensures few { length self.now.rows < 2 ^ 32 }
+    {
+        // 32 bits count the records of a track.
+        let _few = self.track.len();
+        self.track.walk(seq, start, meter)
+    }
+}
+
+/// A start that no record starts before which reaches past a position, where none has more than `longest` positions.
+///
+/// It is one that a walk may begin at.
+pub(crate) fn first_start(position: u64, longest: u64) -> u64
+    requires { position < 2 ^ 64 - 1 }
+    ensures { result ≡ min (position + 1 - longest) (2 ^ 32 - 2) }
+{
+    (position + 1)
+        .saturating_sub(longest)
+        .min(u64::from(u32::MAX) - 1)
+}
