@@ -21,6 +21,11 @@ use Rattle.iv_view.specs.declared.fault.ViewFault.TheVariants as fault
 use Rattle.iv_blocks.specs.Groups.{filled}
 use Rattle.iv_view.specs.declared.view.View.{View}
 use Rattle.iv_view.specs.declared.view.View.TheVariants as view
+use Rattle.iv_view.specs.declared.view.KeptView.TheVariants as kept
+use Rattle.iv_view.specs.declared.written_view.WrittenView.TheVariants as written
+use Rattle.iv_pair.specs.Hits.{hits_of}
+use Rattle.iv_pair.specs.declared.intersect.IntersectRows.TheVariants as rows
+use Rattle.iv_track.specs.Tracked.{Tracked}
 
 abbrev g : Sequences
 g = (codes "chr1", 100) ∷ (codes "chr2", 50) ∷ (codes "chr3", 0) ∷ []
@@ -40,7 +45,7 @@ second_row = record { seq = 0; start = 15; stop = 30; name = []; score = []; str
 
 -- a merge without options
 abbrev plain_merge : View
-plain_merge = view.Merge (record { distance = 0; stranded = false; summaries = filled [] })
+plain_merge = view.Kept (kept.Merge (record { distance = 0; stranded = false; summaries = filled [] }))
 
 -- an open view that shows the merged blocks
 abbrev merging : Shown
@@ -100,7 +105,7 @@ script =
 abbrev silent : Written
 silent = printed []
 
-pub script-steps : Steps Runs empty script (silent ∷ silent ∷ silent ∷ printed (view_text plain_merge g with_two.track.rows) ∷ refused_by (Some 7) ∷ []) with_two
+pub script-steps : Steps Runs empty script (silent ∷ silent ∷ silent ∷ printed (view_text plain_merge g with_two.track.rows []) ∷ refused_by (Some 7) ∷ []) with_two
 script-steps = (
   with_a_view,
   inl ([], ((plain_merge, refl, refl), refl), refl),
@@ -112,7 +117,7 @@ script-steps = (
       inl ([], (omega arith, (refl, (refl, refl, (λ stale. stale), tt)), refl), refl),
       (
         with_two,
-        inl (view_text plain_merge g with_two.track.rows, (merging, refl, refl, refl), refl),
+        inl (view_text plain_merge g with_two.track.rows [], (merging, refl, refl, refl), refl),
         (with_two, inr (line.Request (request_fault.Record record_fault.PastEnd), refl, refl, refl), refl),
       ),
     ),
@@ -129,5 +134,34 @@ edits-may_leave_a_view_stale = inl ([], (omega arith, (refl, (refl, refl, (λ st
 pub prints-may_want_memory : Runs with_stale (codes "print" ++ tab ++ codes "m") with_stale (refused_by (Some 22))
 prints-may_want_memory = inr (line.Print printing.NoMemory, (record { view = plain_merge; stale = true }, refl, refl), refl, refl)
 
-pub prints-make_a_view_current : Runs with_stale (codes "print" ++ tab ++ codes "m") with_one (printed (view_text plain_merge g with_one.track.rows))
-prints-make_a_view_current = inl (view_text plain_merge g with_one.track.rows, (record { view = plain_merge; stale = true }, refl, refl, refl), refl)
+pub prints-make_a_view_current : Runs with_stale (codes "print" ++ tab ++ codes "m") with_one (printed (view_text plain_merge g with_one.track.rows []))
+prints-make_a_view_current = inl (view_text plain_merge g with_one.track.rows [], (record { view = plain_merge; stale = true }, refl, refl, refl), refl)
+
+-- ---- a second file
+
+-- three records, two of them copies
+abbrev other : Tracked
+other = record {
+  rows = record first_row { start = 15; stop = 18 } ∷ record first_row { start = 15; stop = 18 } ∷ record first_row { start = 20; stop = 30 } ∷ [];
+  width = 3;
+  limit = 9;
+}
+
+abbrev beside : State
+beside = record with_one { second = Some other; views = (codes "v", record { view = view.Written (written.Intersect rows.IfNoHit); stale = false }) ∷ [] }
+
+pub bad_words-come_before_the_file : opened empty (codes "i") (codes "intersect" ∷ codes "-u" ∷ codes "-v" ∷ []) ≡ Err fault.Words
+bad_words-come_before_the_file = refl
+
+pub no_second-is_told : opened empty (codes "i") (codes "intersect" ∷ codes "-c" ∷ codes "-wa" ∷ []) ≡ Err fault.NoSecond
+no_second-is_told = refl
+
+pub options-go_in_any_order : opened (record empty { second = Some other }) (codes "i") (codes "intersect" ∷ codes "-wb" ∷ codes "-wa" ∷ []) ≡ Ok (view.Written (written.Intersect rows.WholeAndHit))
+options-go_in_any_order = refl
+
+pub records_with_a_hit-are_left_out : all_text beside ≡ codes "#v\n"
+records_with_a_hit-are_left_out = refl
+
+-- a record that only touches is no hit
+pub hits-are_no_neighbours : hits_of other.rows (record first_row { start = 18; stop = 20 }) ≡ []
+hits-are_no_neighbours = refl

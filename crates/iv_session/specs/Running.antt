@@ -7,7 +7,7 @@ use Rattle.iv_text.specs.Ordered.{copies}
 use Rattle.iv_view.specs.Views.{view_text}
 use Rattle.iv_state.specs.OpenViews.{Shown, stale_count}
 use Rattle.iv_state.specs.Prints.{with_printed, with_all_printed, IsButCurrent}
-use Rattle.iv_state.specs.States.{State, IsButStale, with_record, without_record, with_replaced, without_view}
+use Rattle.iv_state.specs.States.{State, IsButStale, second_rows, with_record, without_record, with_replaced, without_view}
 use Rattle.iv_state.specs.Edits.{RefusesAdd, RefusesRemove, RefusesReplace}
 use Rattle.iv_state.specs.Views.{view_named, Opens, RefusesOpen, all_text}
 use Rattle.iv_state.specs.declared.fault.PrintFault.TheVariants as printing
@@ -34,7 +34,7 @@ Does (request.Close name) old new text =
     IsSome (view_named old.views name) × (new ≡ without_view old name) × (text ≡ [])
 Does (request.Print name) old new text =
     (v : Shown) × (view_named old.views name ≡ Some v) × (new ≡ with_printed old name)
-    × (text ≡ view_text v.view old.genome old.track.rows)
+    × (text ≡ view_text v.view old.genome old.track.rows (second_rows old.second))
 Does request.PrintAll old new text = (new ≡ with_all_printed old) × (text ≡ all_text old)
 
 -- why a request is refused: a print for want of memory only where a view to be printed is stale

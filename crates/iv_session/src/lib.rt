@@ -10,5 +10,5 @@ mod running;
 mod script;
 
 pub use iv_state::{Accepted, EditFault, NoView, PrintFault, Session};
-pub use iv_view::{DepthRows, View as ViewWords, ViewFault};
+pub use iv_view::{DepthRows, IntersectRows, KeptView, View as ViewWords, ViewFault, WrittenView};
 pub use script::{RunCause, RunFault, ScriptLimits, Summary, run_script};

@@ -1,7 +1,7 @@
 -- The open views, one after another.
 use denote.Ref.{Bor}
 use Rattle.std.proofs.Common.{◌≡◌, ℕ, suc, ◌+◌, ◌<◌, ◌≤◌, ◌++◌, Bool, true, false, cond, List, [], ◌∷◌, Option, None, Some, length, map, slice_get, drop, add-one, zero, refl, sym, ap, ap₂, subst, ◌∙◌, append_assoc, append-nil, arith, if◌then◌else◌}
-use Rattle.std.specs.Prelude.{IfSome}
+use Rattle.std.specs.Prelude.{IfSome, ◌&&◌}
 use Rattle.std.specs.List.{AllByRecursion}
 use Rattle.std.specs.Map.{values_of, lookup, set_value, remove_entry}
 use Rattle.std.specs.Option.{is_none, is_some, option_map, option_copied}
@@ -12,13 +12,15 @@ use Rattle.indexmap.specs.Layout.{set_value_at}
 use Rattle.iv_text.specs.Row.{Row}
 use Rattle.iv_text.proofs.NamedLemmas.{lookup-is}
 use Rattle.iv_track.specs.Steps.{TakesUpTo}
-use Rattle.iv_view.specs.KeptStates.{repair_steps}
+use Rattle.iv_view.specs.KeptStates.{repair_steps_of}
+use Rattle.iv_view.specs.Views.{is_kept}
 use Rattle.iv_state.specs.Keeping.{seen, IsCurrentRight, IsRepaired, IsRefreshed}
 use Rattle.iv_state.specs.OpenViews.{view_steps}
 use Rattle.iv_state.specs.Keeping.{all_seen, AreRight, EachChanges}
 use Rattle.iv_state.specs.OpenViews.{Stales, current, all_current, with_current, stale_count, all_steps}
 use Rattle.iv_state.specs.OpenViews.{Shown}
 use Rattle.iv_state.specs.declared.open_view.OpenView.{OpenView}
+use Rattle.iv_view.specs.declared.kept_state.KeptState.{KeptState}
 use Rattle.iv_view.specs.declared.view.View.{View}
 
 -- ---- a walk over the places of a map, each of which is written
@@ -119,14 +121,17 @@ module _ {A : Type 0} (names : List (List ℕ)) (rows with_r : List Row) (r : Ro
   repaired-stales [] (w ∷ new) before after all = absurd all
   repaired-stales (v ∷ old) [] before after all = absurd all
   repaired-stales (v ∷ old) (w ∷ new) before after all =
-      (all.1, all.2.same, λ stale. none_again w.1.state (all.2.stays (none_of v.1.state stale)), repaired-stales old new all.0 after all.3)
+      (all.1, all.2.same, stale-again v.1 w.1 all.2.same all.2.stays, repaired-stales old new all.0 after all.3)
     where
-      none_of : {X : Type 0} (o : Option X) → is_none o ≡ true → o ≡ None
-      none_of None e = refl
-      none_of (Some x) e = absurd (cc (e))
+      none_of : {X : Type 0} (b : Bool) (o : Option X) → b && is_none o ≡ true → o ≡ None
+      none_of b None e = refl
+      none_of true (Some x) e = absurd (cc (e))
+      none_of false (Some x) e = absurd (cc (e))
 
-      none_again : {X : Type 0} (o : Option X) → o ≡ None → is_none o ≡ true
-      none_again o e = ap is_none e
+      stale-again : (v w : OpenView A) → w.view ≡ v.view → (v.state ≡ None → w.state ≡ None) → (seen v).stale ≡ true → (seen w).stale ≡ true
+      stale-again v w same stays stale =
+          let none : v.state ≡ None = none_of (is_kept v.view) v.state stale in
+          ap₂ (λ (s : View) (o : Option (KeptState A)). is_kept s && is_none o) same (stays none ∙ sym none) ∙ stale
 
   -- and took few steps
   pub repaired-steps : (old new : List (List ℕ × OpenView A)) (before after : ℕ) → EachChanges (IsRepaired names rows with_r r) old new before after
@@ -148,7 +153,7 @@ stales-steps (v ∷ old) (w ∷ new) rows r less =
     omega (arith, one v.1 w.1 less.1 less.2, stales-steps old new rows r less.3)
   where
     one : (v w : Shown) → w.view ≡ v.view → (v.stale ≡ true → w.stale ≡ true) → view_steps w rows r ≤ view_steps v rows r
-    one v w view stays = by v.stale w.stale _ _ (ap (λ (s : View). repair_steps s rows r) view) stays
+    one v w view stays = by v.stale w.stale _ _ (ap (λ (s : View). repair_steps_of s rows r) view) stays
       where
         by : (b c : Bool) (m n : ℕ) → n ≡ m → (b ≡ true → c ≡ true) → (if c then 0 else n) ≤ (if b then 0 else m)
         by true true m n same stays = omega arith
@@ -168,13 +173,13 @@ stales-trans (v ∷ old) (m ∷ mid) (w ∷ new) first second =
 
 -- what the stale views from a place on are
 pub stale-next : {K A : Type 0} (items : K → List ℕ) (es : List (K × OpenView A)) (i : ℕ) (v : OpenView A) → slice_get (values_of es) i ≡ Some v
-    → stale_count (all_seen (drop i (named items es))) ≡ (if is_none v.state then 1 else 0) + stale_count (all_seen (drop (i + 1) (named items es)))
-stale-next {K} {A} items es i v found = subst (λ (k : ℕ). stale_count (all_seen (drop i (named items es))) ≡ (if is_none v.state then 1 else 0) + stale_count (all_seen (drop k (named items es)))) (sym (add-one i)) (by es i found)
+    → stale_count (all_seen (drop i (named items es))) ≡ (if (seen v).stale then 1 else 0) + stale_count (all_seen (drop (i + 1) (named items es)))
+stale-next {K} {A} items es i v found = subst (λ (k : ℕ). stale_count (all_seen (drop i (named items es))) ≡ (if (seen v).stale then 1 else 0) + stale_count (all_seen (drop k (named items es)))) (sym (add-one i)) (by es i found)
   where
     by : (es : List (K × OpenView A)) (i : ℕ) → slice_get (values_of es) i ≡ Some v
-        → stale_count (all_seen (drop i (named items es))) ≡ (if is_none v.state then 1 else 0) + stale_count (all_seen (drop (suc i) (named items es)))
+        → stale_count (all_seen (drop i (named items es))) ≡ (if (seen v).stale then 1 else 0) + stale_count (all_seen (drop (suc i) (named items es)))
     by [] i found = absurd (cc (found))
-    by (e ∷ es) zero found = let is : e.1 ≡ v = cc (found) in ap (λ (u : OpenView A). (if is_none u.state then 1 else 0) + stale_count (all_seen (named items es))) is
+    by (e ∷ es) zero found = let is : e.1 ≡ v = cc (found) in ap (λ (u : OpenView A). (if (seen u).stale then 1 else 0) + stale_count (all_seen (named items es))) is
     by (e ∷ es) (suc i) found = by es i found
 
 all-append : {X : Type 0} (P : X → Type 0) (xs ys : List X) → AllByRecursion P xs → AllByRecursion P ys → AllByRecursion P (xs ++ ys)
@@ -231,7 +236,7 @@ stales-append [] (w ∷ new) old2 new2 a b = absurd a
 stales-append (v ∷ old) [] old2 new2 a b = absurd a
 stales-append (v ∷ old) (w ∷ new) old2 new2 a b = (a.0, a.1, a.2, stales-append old new old2 new2 a.3 b)
 
-stales-current : (views : List (List ℕ × Shown)) → Stales (all_current views) views
+pub stales-current : (views : List (List ℕ × Shown)) → Stales (all_current views) views
 stales-current [] = tt
 stales-current (v ∷ views) = (refl, refl, λ e. absurd (cc (e)), stales-current views)
 
@@ -356,11 +361,11 @@ named-at {K} {V} items es seen_as i o same is =
     ap (option_map (λ e. (items e.0, e.1))) is ∙ sym (slice_get-map (λ e. (items e.0, e.1)) es i) ∙ ap (λ (l : List (List ℕ × V)). slice_get l i) same
 
 -- the same, at the place where the loop is
-pub stale-yes : {K A : Type 0} (items : K → List ℕ) (es : List (K × OpenView A)) (i : ℕ) (v : OpenView A) → slice_get (values_of es) i ≡ Some v → is_none v.state ≡ true
+pub stale-yes : {K A : Type 0} (items : K → List ℕ) (es : List (K × OpenView A)) (i : ℕ) (v : OpenView A) → slice_get (values_of es) i ≡ Some v → (seen v).stale ≡ true
     → stale_count (all_seen (drop i (named items es))) ≡ 1 + stale_count (all_seen (drop (i + 1) (named items es)))
 stale-yes items es i v found is = stale-next items es i v found ∙ ap (λ (b : Bool). (if b then 1 else 0) + stale_count (all_seen (drop (i + 1) (named items es)))) is
 
-pub stale-no : {K A : Type 0} (items : K → List ℕ) (es : List (K × OpenView A)) (i : ℕ) (v : OpenView A) → slice_get (values_of es) i ≡ Some v → is_none v.state ≡ false
+pub stale-no : {K A : Type 0} (items : K → List ℕ) (es : List (K × OpenView A)) (i : ℕ) (v : OpenView A) → slice_get (values_of es) i ≡ Some v → (seen v).stale ≡ false
     → stale_count (all_seen (drop i (named items es))) ≡ 0 + stale_count (all_seen (drop (i + 1) (named items es)))
 stale-no items es i v found is = stale-next items es i v found ∙ ap (λ (b : Bool). (if b then 1 else 0) + stale_count (all_seen (drop (i + 1) (named items es)))) is
 
@@ -416,32 +421,42 @@ remove-seen {A} name (v ∷ views) =
       | false ↦ ap (λ (l : List (List ℕ × Shown)). (v.0, seen v.1) ∷ l) (remove-seen name views)
     ]
 
-pub remove-right : {A : Type 0} (name : List ℕ) (names : List (List ℕ)) (rows : List Row) (views : List (List ℕ × OpenView A)) → AreRight views names rows → AreRight (remove_entry (bytes_eq name) views) names rows
-remove-right name names rows [] right = tt
-remove-right {A} name names rows (v ∷ views) right =
-    elim (bytes_eq name v.0) as (λ b. AreRight (cond b views (v ∷ remove_entry (bytes_eq name) views)) names rows) [
-      | true ↦ right.1
-      | false ↦ (right.0, remove-right name names rows views right.1)
+-- what holds of each view holds without the view of a name
+pub all-removed : {V : Type 0} (P : V → Type 0) (name : List ℕ) (views : List (List ℕ × V)) → AllByRecursion (λ v. P v.1) views → AllByRecursion (λ v. P v.1) (remove_entry (bytes_eq name) views)
+all-removed P name [] all = tt
+all-removed P name (v ∷ views) all =
+    elim (bytes_eq name v.0) as (λ b. AllByRecursion (λ w. P w.1) (cond b views (v ∷ remove_entry (bytes_eq name) views))) [
+      | true ↦ all.1
+      | false ↦ (all.0, all-removed P name views all.1)
     ]
 
 -- with one more
-pub push-right : {A : Type 0} (name : List ℕ) (names : List (List ℕ)) (rows : List Row) (views : List (List ℕ × OpenView A)) (v : OpenView A)
-    → AreRight views names rows → IsCurrentRight v names rows → AreRight (views ++ (name, v) ∷ []) names rows
-push-right name names rows views v right one = all-append (λ e. IsCurrentRight e.1 names rows) views ((name, v) ∷ []) right (one, tt)
+pub all-pushed : {V : Type 0} (P : V → Type 0) (name : List ℕ) (views : List (List ℕ × V)) (v : V)
+    → AllByRecursion (λ w. P w.1) views → P v → AllByRecursion (λ w. P w.1) (views ++ (name, v) ∷ [])
+all-pushed P name views v all one = all-append (λ e. P e.1) views ((name, v) ∷ []) all (one, tt)
 
--- the view at a place of a list, and the view of a name
-pub right-at : {A : Type 0} (names : List (List ℕ)) (rows : List Row) (views : List (List ℕ × OpenView A)) (i : ℕ) (e : List ℕ × OpenView A) → slice_get views i ≡ Some e → AreRight views names rows → IsCurrentRight e.1 names rows
-right-at names rows [] i e found right = absurd (cc (found))
-right-at {A} names rows (v ∷ views) zero e found right = let is : v ≡ e = cc (found) in subst (λ (u : List ℕ × OpenView A). IsCurrentRight u.1 names rows) is right.0
-right-at names rows (v ∷ views) (suc i) e found right = right-at names rows views i e found right.1
+-- of the view at a place of a list, and of the view of a name
+pub all-at : {V : Type 0} (P : V → Type 0) (views : List (List ℕ × V)) (i : ℕ) (e : List ℕ × V) → slice_get views i ≡ Some e → AllByRecursion (λ v. P v.1) views → P e.1
+all-at P [] i e found all = absurd (cc (found))
+all-at {V} P (v ∷ views) zero e found all = let is : v ≡ e = cc (found) in subst (λ (u : List ℕ × V). P u.1) is all.0
+all-at P (v ∷ views) (suc i) e found all = all-at P views i e found all.1
 
-pub right-named : {A : Type 0} (name : List ℕ) (names : List (List ℕ)) (rows : List Row) (views : List (List ℕ × OpenView A)) (v : OpenView A) → lookup (bytes_eq name) views ≡ Some v → AreRight views names rows → IsCurrentRight v names rows
-right-named name names rows [] v found right = absurd (cc (found))
-right-named {A} name names rows (e ∷ views) v found right = by (bytes_eq name e.0) found (λ there. right-named name names rows views v there right.1)
+pub all-named : {V : Type 0} (P : V → Type 0) (name : List ℕ) (views : List (List ℕ × V)) (v : V) → lookup (bytes_eq name) views ≡ Some v → AllByRecursion (λ w. P w.1) views → P v
+all-named P name [] v found all = absurd (cc (found))
+all-named P name (e ∷ views) v found all = by (bytes_eq name e.0) found (λ there. all-named P name views v there all.1)
   where
-    by : (b : Bool) → cond b (Some e.1) (lookup (bytes_eq name) views) ≡ Some v → (lookup (bytes_eq name) views ≡ Some v → IsCurrentRight v names rows) → IsCurrentRight v names rows
-    by true found more = let is : e.1 ≡ v = cc (found) in subst (λ (u : OpenView A). IsCurrentRight u names rows) is right.0
+    by : (b : Bool) → cond b (Some e.1) (lookup (bytes_eq name) views) ≡ Some v → (lookup (bytes_eq name) views ≡ Some v → P v) → P v
+    by true found more = let is : e.1 ≡ v = cc (found) in subst P is all.0
     by false found more = more found
+
+-- and of the views of which that of a name is current
+pub all-current : (P : View → Type 0) (name : List ℕ) (views : List (List ℕ × Shown)) → AllByRecursion (λ v. P v.1.view) views → AllByRecursion (λ v. P v.1.view) (with_current views name)
+all-current P name [] all = tt
+all-current P name (v ∷ views) all =
+    elim (bytes_eq name v.0) as (λ b. AllByRecursion (λ w. P w.1.view) (cond b ((v.0, current v.1) ∷ views) (v ∷ with_current views name))) [
+      | true ↦ all
+      | false ↦ (all.0, all-current P name views all.1)
+    ]
 
 -- the view of a name that is made current
 pub current-named : (name : List ℕ) (views : List (List ℕ × Shown)) → lookup (bytes_eq name) (with_current views name) ≡ option_map current (lookup (bytes_eq name) views)

@@ -1,16 +1,18 @@
 -- The states of open views, and their repairs. No part of what is promised.
-use Rattle.std.specs.Prelude.{◌≡◌, ℕ, List, [], ◌∷◌, None, IfSome, map}
+use Rattle.std.specs.Prelude.{◌≡◌, ℕ, ◌&&◌, List, [], ◌∷◌, None, IfSome, map}
 use Rattle.std.specs.List.{AllByRecursion}
 use Rattle.std.specs.Option.{is_none}
 use Rattle.iv_text.specs.Row.{Row}
 use Rattle.iv_track.specs.Steps.{TakesUpTo}
 use Rattle.iv_view.specs.KeptStates.{shown_by, IsRight}
+use Rattle.iv_view.specs.Views.{is_kept}
+use Rattle.iv_view.specs.declared.view.View.TheVariants as view
 use Rattle.iv_state.specs.OpenViews.{Shown, current, view_steps}
 use Rattle.iv_state.specs.declared.open_view.OpenView.{OpenView}
 
--- an open view as contracts see it: without a state it is stale
+-- an open view as contracts see it: without the state that is kept of such a view it is stale
 abbrev pub seen : {A : Type 0} → OpenView A → Shown
-seen v = record { view = v.view; stale = is_none v.state }
+seen v = record { view = v.view; stale = is_kept v.view && is_none v.state }
 
 -- open views as contracts see them
 abbrev pub all_seen : {A : Type 0} → List (List ℕ × OpenView A) → List (List ℕ × Shown)
@@ -18,7 +20,7 @@ all_seen views = map {B = List ℕ × Shown} (λ v. (v.0, seen v.1)) views
 
 -- the state of an open view, if it has one, is its own and is right
 abbrev pub IsCurrentRight : {A : Type 0} → OpenView A → List (List ℕ) → List Row → Type 0
-IsCurrentRight v names rows = IfSome v.state (λ k. (shown_by k ≡ v.view) × IsRight k names rows)
+IsCurrentRight v names rows = IfSome v.state (λ k. (view.Kept (shown_by k) ≡ v.view) × IsRight k names rows)
 
 -- the states of the views that have one are right
 abbrev pub AreRight : {A : Type 0} → List (List ℕ × OpenView A) → List (List ℕ) → List Row → Type 0

@@ -2,7 +2,7 @@
 use Rattle.std.specs.Prelude.{◌≡◌, ℕ, ◌+◌, Bool, true, false, if◌then◌else◌, List, [], ◌∷◌, map}
 use Rattle.std.specs.Str.{bytes_eq}
 use Rattle.iv_text.specs.Row.{Row}
-use Rattle.iv_view.specs.KeptStates.{repair_steps}
+use Rattle.iv_view.specs.KeptStates.{repair_steps_of}
 use Rattle.iv_view.specs.declared.view.View.{View}
 
 -- an open view: which one it is, and whether it has to be built anew before it is printed
@@ -35,9 +35,10 @@ abbrev pub stale_count : List (List ℕ × Shown) → ℕ
 stale_count [] = 0
 stale_count (v ∷ views) = (if v.1.stale then 1 else 0) + stale_count views
 
--- how many steps the repair of an open view takes at most, with the record among the records: none of a stale one
+-- how many steps the repair of an open view takes at most, with the record among the records: none of a stale one, and none of
+-- one of which nothing is kept
 abbrev pub view_steps : Shown → List Row → Row → ℕ
-view_steps v rows r = if v.stale then 0 else repair_steps v.view rows r
+view_steps v rows r = if v.stale then 0 else repair_steps_of v.view rows r
 
 -- how many steps the repairs of all views take at most, with the record among the records
 abbrev pub all_steps : List (List ℕ × Shown) → List Row → Row → ℕ

@@ -1,5 +1,6 @@
 -- A session as contracts see it.
-use Rattle.std.specs.Prelude.{◌≡◌, ◌≤◌, ℕ, false, List, [], ◌∷◌, ◌++◌, Option, None, All, length}
+use Rattle.std.specs.Prelude.{◌≡◌, ◌≤◌, ℕ, false, List, [], ◌∷◌, ◌++◌, Option, None, Some, All, IsTrue, IsSome, IfSome, length, option_map}
+use Rattle.std.specs.List.{AllByRecursion}
 use Rattle.std.specs.Map.{remove_entry}
 use Rattle.std.specs.Str.{bytes_eq}
 use Rattle.iv_text.specs.Genome.{Sequences}
@@ -8,6 +9,7 @@ use Rattle.iv_text.specs.Row.{Row}
 use Rattle.iv_text.specs.Ordered.{added, ordered}
 use Rattle.iv_text.specs.Read.{Fits}
 use Rattle.iv_track.specs.Tracked.{Tracked, removed}
+use Rattle.iv_view.specs.Views.{needs_second}
 use Rattle.iv_view.specs.declared.view.View.{View}
 use Rattle.iv_state.specs.OpenViews.{Shown, Stales}
 
@@ -24,9 +26,20 @@ pub record State : Type 0 where
 abbrev pub tracked : Bed → ℕ → Tracked
 tracked file limit = record { rows = ordered file.rows; width = file.width; limit = limit }
 
--- the session of a genome and a first file, with no other file and no view
-abbrev pub begun : Sequences → Bed → ℕ → State
-begun g first limit = record { genome = g; track = tracked first limit; second = None; bases = None; views = [] }
+-- the session of a genome, a first file and a second one or none, with no view
+abbrev pub begun : Sequences → Bed → Option Bed → ℕ → State
+begun g first second limit = record {
+  genome = g;
+  track = tracked first limit;
+  second = option_map (λ file. tracked file limit) second;
+  bases = None;
+  views = [];
+}
+
+-- the records of the second file: none without one
+abbrev pub second_rows : Option Tracked → List Row
+second_rows None = []
+second_rows (Some second) = second.rows
 
 -- the session with these records in its track
 abbrev pub with_rows : State → List Row → State
@@ -52,12 +65,27 @@ with_view s name view = record s { views = s.views ++ (name, record { view = vie
 abbrev pub without_view : State → List ℕ → State
 without_view s name = record s { views = remove_entry (bytes_eq name) s.views }
 
--- what each session keeps true: its width is one of a BED file, and its records fit its genome and are not above the limit
-pub record IsSession (genome : Sequences) (track : Tracked) : Type 0 where
+-- what each session keeps true of each of its tracks: the width is one of a BED file, and the records fit the genome and are not
+-- above the limit
+pub record IsTrackOn (genome : Sequences) (track : Tracked) : Type 0 where
   pub low : 3 ≤ track.width
   pub high : track.width ≤ 6
   pub fit : All (Fits genome track.width) track.rows
   pub few : length track.rows ≤ track.limit
+
+-- a view that needs a second file stands beside one
+abbrev pub IsServed : Option Tracked → View → Type 0
+IsServed second view = IsTrue (needs_second view) → IsSome second
+
+-- each of the views does
+abbrev pub AreServed : Option Tracked → List (List ℕ × Shown) → Type 0
+AreServed second views = AllByRecursion (λ v. IsServed second v.1.view) views
+
+-- what each session keeps true
+pub record IsSession (genome : Sequences) (track : Tracked) (second : Option Tracked) (views : List (List ℕ × Shown)) : Type 0 where
+  pub track_is : IsTrackOn genome track
+  pub second_is : IfSome second (IsTrackOn genome)
+  pub served : AreServed second views
 
 -- the session as it is to be, but that some views may have become stale
 abbrev pub IsButStale : State → State → Type 0

@@ -9,7 +9,7 @@ use Rattle.iv_view.specs.declared.view.View.{View}
 use Rattle.iv_view.specs.declared.fault.ViewFault.{ViewFault}
 use Rattle.iv_view.specs.declared.fault.ViewFault.TheVariants as fault
 use Rattle.iv_state.specs.OpenViews.{Shown}
-use Rattle.iv_state.specs.States.{State, with_view}
+use Rattle.iv_state.specs.States.{State, second_rows, with_view}
 use Rattle.iv_state.specs.declared.fault.PrintFault.{PrintFault}
 use Rattle.iv_state.specs.declared.fault.PrintFault.TheVariants as printing
 
@@ -41,6 +41,7 @@ has_name_fault s name fault.TooMany = nat_le most_views (length s.views)
 has_name_fault s name fault.Words = false
 has_name_fault s name fault.Column = false
 has_name_fault s name fault.NoStrand = false
+has_name_fault s name fault.NoSecond = false
 has_name_fault s name fault.NoMemory = false
 
 -- the faults of a name, in the order in which they are told
@@ -70,7 +71,7 @@ heading name = codes "#" ++ name ++ codes "\n"
 
 -- what a view prints under its heading
 abbrev pub headed_text : State → List ℕ × Shown → List ℕ
-headed_text s v = heading v.0 ++ view_text v.1.view s.genome s.track.rows
+headed_text s v = heading v.0 ++ view_text v.1.view s.genome s.track.rows (second_rows s.second)
 
 -- what all views print, in order of opening
 abbrev pub all_text : State → List ℕ

@@ -1,6 +1,5 @@
 //! An open view.
-ghost use Rattle.std.specs.Prelude.{◌≡◌, IsSome, All, OnOk, OnErr, IfOk, true, false};
-ghost use Rattle.std.specs.Option.{is_none};
+ghost use Rattle.std.specs.Prelude.{◌≡◌, All, OnOk, OnErr, IfOk, true, false, option_copied};
 ghost use Rattle.iv_bytes.specs.Sinks.{Puts};
 ghost use Rattle.iv_text.specs.Named.{names_of};
 ghost use Rattle.iv_text.specs.Ordered.{added as with_one};
@@ -8,15 +7,17 @@ ghost use Rattle.iv_text.specs.Read.{Fits};
 ghost use Rattle.iv_cover.specs.Kept.{IsRightWithout};
 ghost use Rattle.iv_view.specs.Views.{view_text};
 ghost use Rattle.iv_state.specs.Keeping.{IsCurrentRight, IsRepaired, IsRefreshed, seen};
+ghost use Rattle.iv_state.specs.States.{IsServed, second_rows};
 
 use iv_cover::Kept;
+use iv_pair::Second;
 use iv_text::{Buffered, Genome, RecordRef, Sink, WriteFault};
 use iv_track::{Meter, Track};
 use iv_view::{KeptState, View};
 use std::alloc::{AllocError, Allocator, Global};
 
-/// An open view, and the state that is kept of it. Without a state it is stale: it has to be built anew before it is
-/// printed.
+/// An open view, and the state that is kept of it, if it is of that kind. Without a state such a view is stale: it has to be
+/// built anew before it is printed.
 #[derive(Drop)]
 pub(crate) struct OpenView<A: Allocator + Copy = Global> {
     view: View,
@@ -36,17 +37,17 @@ impl<A: Allocator + Copy> OpenView<A> {
         ensures sees { IfOk result (λ v. seen v ≡ record { view = view; stale = false }) }
         ensures right { IfOk result (λ v. IsCurrentRight v (names_of genome.now) track.now.rows) }
     {
-        let state = KeptState::build(alloc, view, track, genome, meter)?;
-        Ok(OpenView {
-            view,
-            state: Some(state),
-        })
+        let state = match view {
+            View::Kept(kept) => Some(KeptState::build(alloc, kept, track, genome, meter)?),
+            View::Written(_) => None,
+        };
+        Ok(OpenView { view, state })
     }
 
     pub(crate) fn is_stale(&self) -> bool
         ensures { result ≡ (seen self.now).stale }
     {
-        self.state.is_none()
+        self.view.is_kept() && self.state.is_none()
     }
 
     /// Repairs the view after the record was added to the track. It becomes stale where memory is refused.
@@ -107,9 +108,11 @@ impl<A: Allocator + Copy> OpenView<A> {
         ensures err { OnErr result (self.new ≡ self.old) }
         ensures stale { OnErr result ((seen self.old).stale ≡ true) }
     {
-        if self.state.is_none() {
-            let state = KeptState::build(alloc, self.view, track, genome, meter)?;
-            self.state = Some(state);
+        if let View::Kept(kept) = self.view {
+            if self.state.is_none() {
+                let state = KeptState::build(alloc, kept, track, genome, meter)?;
+                self.state = Some(state);
+            }
         }
         Ok(())
     }
@@ -118,17 +121,19 @@ impl<A: Allocator + Copy> OpenView<A> {
     pub(crate) fn print<S: Sink>(
         &self,
         track: &Track<A>,
+        second: Option<&Second<A>>,
         genome: &Genome<A>,
         meter: &mut Meter,
         sink: &mut S,
     ) -> Result<(), WriteFault>
         requires current { (seen self.now).stale ≡ false }
+        requires served { IsServed (option_copied second) self.now.view }
         requires right { IsCurrentRight self.now (names_of genome.now) track.now.rows }
         requires fit { All (Fits genome.now track.now.width) track.now.rows }
-        ensures { Puts (S.state sink.old) (S.state sink.new) result (view_text self.now.view genome.now track.now.rows) }
+        ensures { Puts (S.state sink.old) (S.state sink.new) result (view_text self.now.view genome.now track.now.rows (second_rows (option_copied second.entry))) }
     {
         let mut buffer = Buffered::new(sink);
-        self.put(track, genome, meter, &mut buffer)?;
+        self.put(track, second, genome, meter, &mut buffer)?;
         buffer.finish()
     }
 
@@ -136,18 +141,26 @@ impl<A: Allocator + Copy> OpenView<A> {
     pub(crate) fn put<S: Sink>(
         &self,
         track: &Track<A>,
+        second: Option<&Second<A>>,
         genome: &Genome<A>,
         meter: &mut Meter,
         sink: &mut S,
     ) -> Result<(), WriteFault>
         requires current { (seen self.now).stale ≡ false }
+        requires served { IsServed (option_copied second) self.now.view }
         requires right { IsCurrentRight self.now (names_of genome.now) track.now.rows }
         requires fit { All (Fits genome.now track.now.width) track.now.rows }
-        ensures { Puts (S.state sink.old) (S.state sink.new) result (view_text self.now.view genome.now track.now.rows) }
+        ensures { Puts (S.state sink.old) (S.state sink.new) result (view_text self.now.view genome.now track.now.rows (second_rows (option_copied second.entry))) }
     {
-        match &self.state {
-            Some(state) => state.print(track, genome, meter, sink),
-            None => unreachable!(),
+        match self.view {
+            View::Kept(_) => match &self.state {
+                Some(state) => state.print(track, genome, meter, sink),
+                None => unreachable!(),
+            },
+            View::Written(view) => match second {
+                Some(second) => view.print(track, second, genome, meter, sink),
+                None => unreachable!(),
+            },
         }
     }
 }

@@ -1,5 +1,5 @@
 //! A session of a genome and a track, with its open views.
-ghost use Rattle.std.specs.Prelude.{◌≡◌, ◌+◌, ◌≤◌, ◌<◌, ◌↔◌, ◌⊎◌, None, Some, All, map, length, false, not, IsTrue, IsSome, IsOk, IfOk, IfErr, OnOk, OnErr, MatchOption, Ok, Err};
+ghost use Rattle.std.specs.Prelude.{◌≡◌, ◌+◌, ◌≤◌, ◌<◌, ◌↔◌, ◌⊎◌, None, Some, All, map, length, false, not, IsTrue, IsSome, IsOk, IfOk, IfErr, IfSome, option_map, OnOk, OnErr, MatchOption, Ok, Err};
 ghost use Rattle.iv_text.specs.Ordered.{added, copies};
 ghost use Rattle.iv_text.specs.Read.{read, Fits};
 ghost use Rattle.iv_bytes.specs.Sinks.{Puts};
@@ -7,13 +7,14 @@ ghost use Rattle.iv_state.specs.Edits.{RefusesAdd, RefusesRemove, RefusesReplace
 ghost use Rattle.iv_state.specs.Keeping.{all_seen};
 ghost use Rattle.iv_state.specs.OpenViews.{all_steps, stale_count};
 ghost use Rattle.iv_state.specs.Prints.{PrintedView, PrintedAll};
-ghost use Rattle.iv_state.specs.States.{State, IsButStale, begun, with_record, without_record, with_replaced, with_view, without_view};
+ghost use Rattle.iv_state.specs.States.{State, IsButStale, begun, tracked, with_record, without_record, with_replaced, with_view, without_view};
 ghost use Rattle.iv_state.specs.Views.{view_named, RefusesOpen, Opens, all_text};
 
 use crate::fault::{EditFault, NoView, PrintFault};
 use crate::names::{is_view_name, put_heading};
 use crate::open_view::OpenView;
 use crate::views::Views;
+use iv_pair::Second;
 use iv_text::{BedFile, Buffered, Genome, RecordFault, RecordRef, Sink, WriteFault, read_record};
 use iv_track::{Meter, Track};
 use iv_view::{View, ViewFault};
@@ -42,15 +43,17 @@ impl Accepted {
     }
 }
 
-/// A genome, a track of records on it, and the open views in order of opening.
+/// A genome, a track of records on it, a second file or none, and the open views in order of opening.
 ///
-/// All records fit the genome and have the track's width, and there are not more of them than its limit. The state of
-/// each open view that has one is right for them.
+/// All records of the track and of the second file fit the genome and have the width of theirs, and there are not more of
+/// them than the limit. The state of each open view that has one is right for the track's records, and a view that needs a
+/// second file stands beside one.
 #[derive(Drop)]
 pub struct Session<A: Allocator + Copy = Global> {
     alloc: A,
     genome: Genome<A>,
     track: Track<A>,
+    second: Option<Second<A>>,
     views: Views<A>,
 }
 
@@ -62,30 +65,55 @@ impl<A: Allocator + Copy> Model for Session<A> {
 
     ghost Value = { State };
 
-    ghost view = { λ s. record { genome = s.genome; track = s.track; second = None; bases = None; views = all_seen s.views } };
+    ghost view = { λ s. record { genome = s.genome; track = s.track; second = s.second; bases = None; views = all_seen s.views } };
 
-    ghost invariant = { λ s. IsSession s.genome s.track × AreRight s.views (names_of s.genome) s.track.rows };
+    ghost invariant = { λ s. IsSession s.genome s.track s.second (all_seen s.views) × AreRight s.views (names_of s.genome) s.track.rows };
+}
+
+/// The second file of the records of a BED file, if there is one.
+fn second_of<A: Allocator + Copy>(
+    alloc: A,
+    file: Option<BedFile<A>>,
+    limit: u32,
+) -> Result<Option<Second<A>>, AllocError>
+    requires widths { IfSome file (λ f. All (λ r. r.width ≡ f.width) f.rows) }
+    requires few { IfSome file (λ f. length f.rows ≤ limit) }
+    requires bounded { limit ≤ 4000000 }
+    ensures value { IfOk result (λ second. second ≡ option_map (λ f. tracked f limit) file) }
+    ensures known { IfSome file (λ f. (3 ≤ f.width) × (f.width ≤ 6)) }
+{
+    let Some(file) = file else {
+        return Ok(None);
+    };
+    let width = file.width();
+    let second = Second::new(alloc, width, limit, file.into_records())?;
+    Ok(Some(second))
 }
 
 impl<A: Allocator + Copy> Session<A> {
-    /// A session of the records of a file, with no view open. Copies are kept.
+    /// A session of the records of a file, and of a second file or none, with no view open. Copies are kept.
     pub fn new(
         alloc: A,
         genome: Genome<A>,
         first: BedFile<A>,
+        second: Option<BedFile<A>>,
         limit: u32,
     ) -> Result<Session<A>, AllocError>
         requires fit { All (Fits genome first.width) first.rows }
         requires few { length first.rows ≤ limit }
+        requires second_fit { IfSome second (λ file. All (Fits genome file.width) file.rows) }
+        requires second_few { IfSome second (λ file. length file.rows ≤ limit) }
         requires bounded { limit ≤ 4000000 }
-        ensures { IfOk result (λ s. s ≡ begun genome first limit) }
+        ensures { IfOk result (λ s. s ≡ begun genome first second limit) }
     {
         let width = first.width();
         let track = Track::from_records(alloc, width, limit, first.into_records())?;
+        let second = second_of(alloc, second, limit)?;
         Ok(Session {
             alloc,
             genome,
             track,
+            second,
             views: Views::new(alloc),
         })
     }
@@ -203,7 +231,8 @@ impl<A: Allocator + Copy> Session<A> {
     ///
     /// # Errors
     ///
-    /// `BadName`, `Taken`, `TooMany` where 64 views are open, then the fault of the words, then `NoMemory`.
+    /// `BadName`, `Taken`, `TooMany` where 64 views are open, then the fault of the words, of which `NoSecond` comes exactly
+    /// where they ask for a view that needs a second file, and there is none; then `NoMemory`.
     pub fn open_view(&mut self, name: &[u8], words: &[&[u8]]) -> Result<(), ViewFault>
         ensures ok { OnOk result (Opens self.old name.now (map (λ word. word.now) words.now) self.new) }
         ensures why { IfErr result (RefusesOpen self.old name.now (map (λ word. word.now) words.now)) }
@@ -218,7 +247,8 @@ impl<A: Allocator + Copy> Session<A> {
         if self.views.len() >= MOST_VIEWS {
             return Err(ViewFault::TooMany);
         }
-        let view = View::read(self.alloc, self.track.width(), false, false, words)?;
+        let has_second = self.second.is_some();
+        let view = View::read(self.alloc, self.track.width(), has_second, false, words)?;
         let mut meter = Meter::new();
         let open = OpenView::build(self.alloc, view, &self.track, &self.genome, &mut meter)?;
         self.views.push(self.alloc, name, open)?;
@@ -274,7 +304,8 @@ impl<A: Allocator + Copy> Session<A> {
         let Some(view) = self.views.find(name) else {
             unreachable!()
         };
-        view.print(&self.track, &self.genome, &mut meter, sink)?;
+        let second = self.second.as_ref();
+        view.print(&self.track, second, &self.genome, &mut meter, sink)?;
         Ok(())
     }
 
@@ -315,7 +346,8 @@ impl<A: Allocator + Copy> Session<A> {
                 break;
             };
             put_heading(sink, name)?;
-            view.put(&self.track, &self.genome, meter, sink)?;
+            let second = self.second.as_ref();
+            view.put(&self.track, second, &self.genome, meter, sink)?;
         }
         Ok(())
     }

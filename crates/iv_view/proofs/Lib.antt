@@ -1,4 +1,5 @@
 mod CuttingLemmas
+mod IntersectLemmas
 mod ListLemmas
 mod SaidLemmas
 mod SummaryLemmas

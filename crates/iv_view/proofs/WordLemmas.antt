@@ -1,6 +1,6 @@
 -- The words of a view.
-use Rattle.std.proofs.Common.{◌≡◌, ◌∙◌, ℕ, zero, suc, ◌+◌, ◌<◌, ◌≤◌, Bool, true, false, inl, inr, List, [], ◌∷◌, Option, Some, None, length, take, refl, sym, ap, arith}
-use Rattle.std.specs.Prelude.{if◌then◌else◌, option_and_then, codes}
+use Rattle.std.proofs.Common.{◌≡◌, ◌∙◌, ℕ, zero, suc, ◌+◌, ◌<◌, ◌≤◌, Bool, true, false, inl, inr, List, [], ◌∷◌, Option, Some, None, length, take, refl, sym, ap, subst, arith}
+use Rattle.std.specs.Prelude.{IsTrue, IfOk, Result, Ok, Err, if◌then◌else◌, option_and_then, codes}
 use Rattle.std.specs.Str.{bytes_eq}
 use Rattle.std.proofs.lemmas.List.{take_all, length-take-le}
 use Rattle.std.proofs.lemmas.Bool.{cases_lt}
@@ -9,7 +9,14 @@ use Rattle.iv_view.specs.Complement.{is_limited}
 use Rattle.iv_view.specs.Genomecov.{genomecov_rows}
 use Rattle.iv_view.specs.declared.options.ValuedOption.{ValuedOption}
 use Rattle.iv_view.specs.declared.options.ValuedOption.TheVariants as option
-use Rattle.iv_view.specs.Views.{read_words}
+use Rattle.iv_view.specs.Subtract.{is_whole}
+use Rattle.iv_view.specs.Views.{read_words, or_bad_words, as_merge, beside_second, needs_second}
+use Rattle.iv_blocks.specs.declared.options.Options.{Options}
+use Rattle.iv_view.specs.declared.fault.ViewFault.{ViewFault}
+use Rattle.iv_view.specs.declared.view.View.{View}
+use Rattle.iv_view.specs.declared.view.KeptView.{KeptView}
+use Rattle.iv_view.specs.declared.written_view.WrittenView.{WrittenView}
+use Rattle.iv_view.proofs.IntersectLemmas.{said-cut}
 
 some-same : (a b : Said) → Some a ≡ Some b → a ≡ b
 some-same a b is = cc
@@ -98,8 +105,49 @@ rows-cut [] = refl
 rows-cut (word ∷ []) = refl
 rows-cut (word ∷ next ∷ words) = refl
 
+whole-cut : (words : List (List ℕ)) → is_whole (take 8 words) ≡ is_whole words
+whole-cut [] = refl
+whole-cut (word ∷ []) = refl
+whole-cut (word ∷ next ∷ words) = refl
+
 -- words behind the ninth change nothing: no view has as many
 pub words-cut : (width : ℕ) (has_second has_bases : Bool) (words : List (List ℕ))
     → read_words width has_second has_bases (take 9 words) ≡ read_words width has_second has_bases words
 words-cut width has_second has_bases [] = refl
-words-cut width has_second has_bases (word ∷ words) = rw (options-cut words, limited-cut words, rows-cut words) refl
+words-cut width has_second has_bases (word ∷ words) = rw (options-cut words, limited-cut words, rows-cut words, said-cut words, whole-cut words) refl
+
+-- a view that needs a second file is read only beside one
+abbrev IsServed : Bool → Result View ViewFault → Type 0
+IsServed has_second said = IfOk said (λ v. IsTrue (needs_second v) → IsTrue has_second)
+
+served-either : (has_second b : Bool) (first second : Result View ViewFault) → IsServed has_second first → IsServed has_second second
+    → IsServed has_second (if b then first else second)
+served-either has_second true first second one two = one
+served-either has_second false first second one two = two
+
+served-merge : (has_second : Bool) (said : Result Options ViewFault) → IsServed has_second (as_merge said)
+served-merge has_second (Err why) = tt
+served-merge has_second (Ok options) = λ needs. absurd (cc needs)
+
+served-kept : (has_second : Bool) (asked : Option KeptView) → IsServed has_second (or_bad_words asked)
+served-kept has_second None = tt
+served-kept has_second (Some v) = λ needs. absurd (cc needs)
+
+served-written : (has_second : Bool) (asked : Option WrittenView) → IsServed has_second (beside_second has_second asked)
+served-written has_second None = tt
+served-written true (Some v) = λ needs. refl
+served-written false (Some v) = tt
+
+served : (width : ℕ) (has_second has_bases : Bool) (words : List (List ℕ)) → IsServed has_second (read_words width has_second has_bases words)
+served width has_second has_bases [] = tt
+served width has_second has_bases (word ∷ words) =
+    served-either has_second (bytes_eq word (codes "merge")) _ _ (served-merge has_second _)
+    (served-either has_second (bytes_eq word (codes "cluster")) _ _ (served-kept has_second _)
+    (served-either has_second (bytes_eq word (codes "complement")) _ _ (served-kept has_second _)
+    (served-either has_second (bytes_eq word (codes "genomecov")) _ _ (served-kept has_second _)
+    (served-either has_second (bytes_eq word (codes "intersect")) _ _ (served-written has_second _)
+    (served-either has_second (bytes_eq word (codes "subtract")) _ _ (served-written has_second _) tt)))))
+
+pub needs-there : (width : ℕ) (has_second has_bases : Bool) (words : List (List ℕ)) (v : View)
+    → read_words width has_second has_bases words ≡ Ok v → IsTrue (needs_second v) → IsTrue has_second
+needs-there width has_second has_bases words v is = subst (IsServed has_second) is (served width has_second has_bases words)

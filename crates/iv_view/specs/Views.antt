@@ -1,5 +1,5 @@
 -- The views: the words that ask for one, its text, and the numbers of the faults.
-use Rattle.std.specs.Prelude.{ℕ, Bool, if◌then◌else◌, List, [], ◌∷◌, Option, None, Some, Result, Ok, Err, codes}
+use Rattle.std.specs.Prelude.{ℕ, Bool, true, false, if◌then◌else◌, List, [], ◌∷◌, Option, None, Some, Result, Ok, Err, codes}
 use Rattle.std.specs.Option.{ok_or, option_map}
 use Rattle.std.specs.Str.{bytes_eq}
 use Rattle.iv_text.specs.Genome.{Sequences}
@@ -9,39 +9,75 @@ use Rattle.iv_blocks.specs.ComplementRows.{complement_text}
 use Rattle.iv_blocks.specs.MergeRows.{merge_text}
 use Rattle.iv_blocks.specs.declared.options.Options.{Options}
 use Rattle.iv_depth.specs.DepthRows.{depth_text}
+use Rattle.iv_pair.specs.IntersectRows.{intersect_text}
+use Rattle.iv_pair.specs.SubtractRows.{subtract_text}
 use Rattle.iv_view.specs.Complement.{is_limited}
 use Rattle.iv_view.specs.Genomecov.{genomecov_rows}
+use Rattle.iv_view.specs.Intersect.{intersect_rows_said}
 use Rattle.iv_view.specs.Merge.{said_by, nothing_said, merge_options, cluster_distance}
+use Rattle.iv_view.specs.Subtract.{is_whole}
 use Rattle.iv_view.specs.declared.view.View.{View}
 use Rattle.iv_view.specs.declared.view.View.TheVariants as view
+use Rattle.iv_view.specs.declared.view.KeptView.{KeptView}
+use Rattle.iv_view.specs.declared.view.KeptView.TheVariants as kept
+use Rattle.iv_view.specs.declared.written_view.WrittenView.{WrittenView}
+use Rattle.iv_view.specs.declared.written_view.WrittenView.TheVariants as written
 use Rattle.iv_view.specs.declared.fault.ViewFault.{ViewFault}
 use Rattle.iv_view.specs.declared.fault.ViewFault.TheVariants as fault
 
--- the view, or bad words where there is none
-abbrev pub or_bad_words : Option View → Result View ViewFault
-or_bad_words asked = ok_or asked fault.Words
+-- a state is kept of the view
+abbrev pub is_kept : View → Bool
+is_kept (view.Kept v) = true
+is_kept (view.Written v) = false
+
+-- the view is written with the records of a second file
+abbrev pub needs_second : View → Bool
+needs_second (view.Kept v) = false
+needs_second (view.Written (written.Intersect shown)) = true
+needs_second (view.Written (written.Subtract whole)) = true
+
+-- the view of which a state is kept, or bad words where there is none
+abbrev pub or_bad_words : Option KeptView → Result View ViewFault
+or_bad_words asked = ok_or (option_map view.Kept asked) fault.Words
 
 -- the view of a merge with these options
 abbrev pub as_merge : Result Options ViewFault → Result View ViewFault
 as_merge (Err why) = Err why
-as_merge (Ok options) = Ok (view.Merge options)
+as_merge (Ok options) = Ok (view.Kept (kept.Merge options))
+
+-- the view that needs a second file: bad words where there is none, and then a fault where there is no such file
+abbrev pub beside_second : Bool → Option WrittenView → Result View ViewFault
+beside_second has_second None = Err fault.Words
+beside_second has_second (Some asked) = if has_second then Ok (view.Written asked) else Err fault.NoSecond
 
 -- the view that words ask for on a track of this width, beside a second file and a FASTA file or without, or their first fault
 abbrev pub read_words : ℕ → Bool → Bool → List (List ℕ) → Result View ViewFault
 read_words width has_second has_bases [] = Err fault.Words
 read_words width has_second has_bases (word ∷ words) =
     if bytes_eq word (codes "merge") then as_merge (merge_options width (said_by words nothing_said))
-    else if bytes_eq word (codes "cluster") then or_bad_words (option_map view.Cluster (cluster_distance (said_by words nothing_said)))
-    else if bytes_eq word (codes "complement") then or_bad_words (option_map view.Complement (is_limited words))
-    else if bytes_eq word (codes "genomecov") then or_bad_words (option_map view.Genomecov (genomecov_rows words))
+    else if bytes_eq word (codes "cluster") then or_bad_words (option_map kept.Cluster (cluster_distance (said_by words nothing_said)))
+    else if bytes_eq word (codes "complement") then or_bad_words (option_map kept.Complement (is_limited words))
+    else if bytes_eq word (codes "genomecov") then or_bad_words (option_map kept.Genomecov (genomecov_rows words))
+    else if bytes_eq word (codes "intersect") then beside_second has_second (option_map written.Intersect (intersect_rows_said words))
+    else if bytes_eq word (codes "subtract") then beside_second has_second (option_map written.Subtract (is_whole words))
     else Err fault.Words
 
--- the text that a view stands for, on this genome for these records
-abbrev pub view_text : View → Sequences → List Row → List ℕ
-view_text (view.Merge options) g rows = merge_text options g rows
-view_text (view.Cluster distance) g rows = cluster_text distance g rows
-view_text (view.Complement limited) g rows = complement_text limited g rows
-view_text (view.Genomecov shown) g rows = depth_text shown g rows
+-- the text of a view of which a state is kept, on this genome for these records
+abbrev pub kept_text : KeptView → Sequences → List Row → List ℕ
+kept_text (kept.Merge options) g rows = merge_text options g rows
+kept_text (kept.Cluster distance) g rows = cluster_text distance g rows
+kept_text (kept.Complement limited) g rows = complement_text limited g rows
+kept_text (kept.Genomecov shown) g rows = depth_text shown g rows
+
+-- the text of a view that is written from these records and those of the second file
+abbrev pub written_text : WrittenView → Sequences → List Row → List Row → List ℕ
+written_text (written.Intersect shown) g rows second = intersect_text shown g rows second
+written_text (written.Subtract whole) g rows second = subtract_text whole g rows second
+
+-- the text that a view stands for, on this genome for these records, beside the records of the second file, if there is one
+abbrev pub view_text : View → Sequences → List Row → List Row → List ℕ
+view_text (view.Kept v) g rows second = kept_text v g rows
+view_text (view.Written v) g rows second = written_text v g rows second
 
 -- the number of a view's fault
 abbrev pub view_code : ViewFault → ℕ
@@ -51,4 +87,5 @@ view_code fault.TooMany = 15
 view_code fault.Words = 16
 view_code fault.Column = 17
 view_code fault.NoStrand = 18
+view_code fault.NoSecond = 19
 view_code fault.NoMemory = 22

@@ -26,6 +26,9 @@ pub enum ViewFault {
     /// E18: `-s` on a track of fewer than six columns.
     #[error("strand needs six columns")]
     NoStrand,
+    /// E19: the view needs a second file, and there is none.
+    #[error("no second file")]
+    NoSecond,
     /// E22: memory was refused.
     #[error("no memory")]
     NoMemory,
@@ -55,6 +58,7 @@ impl ViewFault {
             ViewFault::Words => 16,
             ViewFault::Column => 17,
             ViewFault::NoStrand => 18,
+            ViewFault::NoSecond => 19,
             ViewFault::NoMemory => 22,
         }
     }

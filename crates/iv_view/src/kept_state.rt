@@ -1,8 +1,8 @@
 //! The state that is kept of a view, of whatever kind.
 ghost use Rattle.iv_view.specs.KeptStates.{shown_by, IsRight, repair_steps};
-ghost use Rattle.iv_view.specs.Views.{view_text};
+ghost use Rattle.iv_view.specs.Views.{kept_text};
 
-use crate::view::View;
+use crate::view::KeptView;
 use iv_blocks::{ClusterView, ComplementView, MergeView};
 use iv_cover::Kept;
 use iv_depth::Depth;
@@ -20,37 +20,37 @@ pub enum KeptState<A: Allocator + Copy = Global> {
 }
 
 impl<A: Allocator + Copy> Kept<A> for KeptState<A> {
-    type Settings = View;
+    type Settings = KeptView;
 
     ghost built_for = { shown_by };
 
     ghost is_right = { IsRight };
 
-    ghost text = { view_text };
+    ghost text = { kept_text };
 
     ghost repair_steps = { repair_steps };
 
     fn build(
         alloc: A,
-        view: View,
+        view: KeptView,
         track: &Track<A>,
         genome: &Genome<A>,
         meter: &mut Meter,
     ) -> Result<KeptState<A>, AllocError> {
         match view {
-            View::Merge(options) => {
+            KeptView::Merge(options) => {
                 let merge = MergeView::build(alloc, options, track, genome, meter)?;
                 Ok(KeptState::Merge(merge))
             }
-            View::Cluster(distance) => {
+            KeptView::Cluster(distance) => {
                 let cluster = ClusterView::build(alloc, distance, track, genome, meter)?;
                 Ok(KeptState::Cluster(cluster))
             }
-            View::Complement(limited) => {
+            KeptView::Complement(limited) => {
                 let complement = ComplementView::build(alloc, limited, track, genome, meter)?;
                 Ok(KeptState::Complement(complement))
             }
-            View::Genomecov(shown) => {
+            KeptView::Genomecov(shown) => {
                 let depth = Depth::build(alloc, shown, track, genome, meter)?;
                 Ok(KeptState::Depth(depth))
             }

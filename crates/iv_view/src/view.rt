@@ -1,12 +1,15 @@
 //! The kinds of view.
 ghost use Rattle.std.specs.Prelude.{◌≡◌, map};
-ghost use Rattle.iv_view.specs.Views.{read_words};
+ghost use Rattle.iv_view.specs.Views.{read_words, or_bad_words as kept_or_bad_words, beside_second as beside_a_second, is_kept as has_state, needs_second as wants_second};
 
 use crate::cluster::read_cluster;
 use crate::complement::read_complement;
 use crate::fault::ViewFault;
 use crate::genomecov::read_genomecov;
+use crate::intersect::read_intersect;
 use crate::merge::read_merge;
+use crate::subtract::read_subtract;
+use crate::written_view::WrittenView;
 use iv_blocks::Options;
 use iv_depth::DepthRows;
 use std::alloc::Allocator;
@@ -14,6 +17,15 @@ use std::alloc::Allocator;
 /// A view of a track, with its options.
 #[derive(Clone, Copy, Debug, PartialEq, Eq)]
 pub enum View {
+    /// A view of which a state is kept between prints, so that an edit of the track costs it little.
+    Kept(KeptView),
+    /// A view that is written from the records at each print.
+    Written(WrittenView),
+}
+
+/// A view of which a state is kept between prints.
+#[derive(Clone, Copy, Debug, PartialEq, Eq)]
+pub enum KeptView {
     /// `merge`: the blocks of records that lie near one another, and summaries of their columns.
     Merge(Options),
     /// `cluster`: every record with the number of its block. Records at most this many bases apart are in one block.
@@ -29,8 +41,8 @@ impl View {
     ///
     /// # Errors
     ///
-    /// `Words` where they ask for no view, then `Column`, then `NoStrand`. No other fault comes: the views that there are
-    /// ask for no file, and reading their words takes no memory.
+    /// `Words` where they ask for no view, then `Column`, then `NoStrand`, then `NoSecond`. No other fault comes: the views
+    /// that there are ask for no FASTA file, and reading their words takes no memory.
     pub fn read<A: Allocator + Copy>(
         _alloc: A,
         width: u8,
@@ -40,19 +52,67 @@ impl View {
     ) -> Result<View, ViewFault>
         ensures { result ≡ read_words width has_second has_bases (map (λ word. word.now) words.now) }
     {
-        let _ = (has_second, has_bases);
+        let _ = has_bases;
         let (word, options) = words.split_first().ok_or(ViewFault::Words)?;
-        let view = if *word == b"merge".as_slice() {
-            return Ok(View::Merge(read_merge(width, options)?));
+        if *word == b"merge".as_slice() {
+            Ok(View::Kept(KeptView::Merge(read_merge(width, options)?)))
         } else if *word == b"cluster".as_slice() {
-            read_cluster(options).map(View::Cluster)
+            or_bad_words(read_cluster(options).map(KeptView::Cluster))
         } else if *word == b"complement".as_slice() {
-            read_complement(options).map(View::Complement)
+            or_bad_words(read_complement(options).map(KeptView::Complement))
         } else if *word == b"genomecov".as_slice() {
-            read_genomecov(options).map(View::Genomecov)
+            or_bad_words(read_genomecov(options).map(KeptView::Genomecov))
+        } else if *word == b"intersect".as_slice() {
+            beside_second(
+                has_second,
+                read_intersect(options).map(WrittenView::Intersect),
+            )
+        } else if *word == b"subtract".as_slice() {
+            beside_second(
+                has_second,
+                read_subtract(options).map(WrittenView::Subtract),
+            )
         } else {
-            None
-        };
-        view.ok_or(ViewFault::Words)
+            Err(ViewFault::Words)
+        }
+    }
+
+    /// Whether a state is kept of the view between prints.
+    pub fn is_kept(&self) -> bool
+        ensures { result ≡ has_state self.now }
+    {
+        matches!(self, View::Kept(_))
+    }
+
+    /// Whether the view is written with the records of a second file.
+    pub fn needs_second(&self) -> bool
+        ensures { result ≡ wants_second self.now }
+    {
+        match self {
+            View::Kept(_) => false,
+            View::Written(WrittenView::Intersect(_) | WrittenView::Subtract(_)) => true,
+        }
+    }
+}
+
+/// The view of which a state is kept, or a fault of the words where they ask for none.
+fn or_bad_words(view: Option<KeptView>) -> Result<View, ViewFault>
+    ensures { result ≡ kept_or_bad_words view }
+{
+    Ok(View::Kept(view.ok_or(ViewFault::Words)?))
+}
+
+/// The view that needs a second file: a fault of the words where they ask for none, and then one where there is no second
+/// file.
+fn beside_second(has_second: bool, view: Option<WrittenView>) -> Result<View, ViewFault>
+    ensures { result ≡ beside_a_second has_second view }
+{
+    let Some(asked) = view else {
+        return Err(ViewFault::Words);
+    };
+    if has_second {
+        Ok(View::Written(asked))
+    } else {
+        Err(ViewFault::NoSecond)
     }
 }

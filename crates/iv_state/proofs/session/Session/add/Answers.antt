@@ -10,10 +10,10 @@ use Rattle.iv_track.specs.declared.fault.AddFault.TheVariants as adding
 use Rattle.iv_state.specs.Edits.{RefusesAdd, fault_of_add}
 use Rattle.iv_state.specs.Keeping.{all_seen}
 use Rattle.iv_state.specs.OpenViews.{all_steps}
-use Rattle.iv_state.specs.States.{State, IsSession}
+use Rattle.iv_state.specs.States.{State, IsTrackOn}
 use Rattle.iv_state.specs.declared.session.Accepted.{Accepted}
 use Rattle.iv_state.proofs.OpenViewLemmas.{repaired-right, repaired-stales, repaired-steps}
-use Rattle.iv_state.proofs.SessionLemmas.{below-unless, edited, fit-added, session-added}
+use Rattle.iv_state.proofs.SessionLemmas.{below-unless, edited, fit-added, track-added, served-stales}
 use Rattle.iv_state.proofs.session.Session.add.Goals as goal
 
 -- what a track answers
@@ -46,7 +46,7 @@ added-requires-clause-fit g c =
     let fits : Fits inside.genome inside.track.width c.in_ok-record.record =
     subst (λ (r : Row). Fits inside.genome inside.track.width r) (sym c.in_ok-record.ensures.ok) (subst F (sym c.self.view_is) c.requires) in
     subst (λ (t : Tracked). All (Fits inside.genome t.width) t.rows) (sym c.in_ok-add.ensures.ok)
-    (fit-added inside.genome inside.track c.in_ok-record.record c.self.invariant.0 fits)
+    (fit-added inside.genome inside.track c.in_ok-record.record c.self.invariant.0.track_is fits)
 
 pub added-requires-clause-fits : goal.added-requires-clause-fits
 added-requires-clause-fits g c =
@@ -59,15 +59,19 @@ invariant_of-self-2 g c =
     let F : State → Type 0 = λ s. Fits s.genome s.track.width c.args.row.now in
     let fits : Fits inside.genome inside.track.width c.in_ok-record.record =
     subst (λ (r : Row). Fits inside.genome inside.track.width r) (sym c.in_ok-record.ensures.ok) (subst F (sym c.self.view_is) c.requires) in (
-      subst (IsSession inside.genome) (sym c.in_ok-add.ensures.ok)
-          (session-added inside.genome inside.track c.in_ok-record.record c.self.invariant.0 fits
-          (below-unless (length inside.track.rows) inside.track.limit _ _ c.in_ok-add.ensures.full.1 (λ e. cc))),
+      record {
+        track_is = subst (IsTrackOn inside.genome) (sym c.in_ok-add.ensures.ok)
+            (track-added inside.genome inside.track c.in_ok-record.record c.self.invariant.0.track_is fits
+            (below-unless (length inside.track.rows) inside.track.limit _ _ c.in_ok-add.ensures.full.1 (λ e. cc)));
+        second_is = c.self.invariant.0.second_is;
+        served = served-stales inside.second _ _ (repaired-stales _ _ _ _ _ _ _ _ c.added.ensures) c.self.invariant.0.served;
+      },
       repaired-right _ _ _ _ _ _ _ _ c.added.ensures,
     )
 
 pub returns-clause-ok : goal.returns-clause-ok
 returns-clause-ok g c =
-    edited (λ rows. added rows c.args.row.now) _ c.self.inside.track c.add.new.self _ _ _ c.self.view_is
+    edited (λ rows. added rows c.args.row.now) _ c.self.inside.track c.add.new.self _ _ _ _ c.self.view_is
     (c.in_ok-add.ensures.ok ∙ ap (λ (r : Row). record c.self.inside.track { rows = added c.self.inside.track.rows r }) c.in_ok-record.ensures.ok)
     (repaired-stales _ _ _ _ _ _ _ _ c.added.ensures)
 

@@ -1,9 +1,10 @@
 use Rattle.std.proofs.Common.{◌∙◌, refl, ap, sym, subst}
 use Rattle.std.specs.Prelude.{IsSome}
 use Rattle.iv_text.specs.Named.{names_of}
-use Rattle.iv_state.specs.States.{State, without_view}
+use Rattle.iv_state.specs.Keeping.{IsCurrentRight, all_seen}
+use Rattle.iv_state.specs.States.{State, IsServed, without_view}
 use Rattle.iv_state.specs.Views.{view_named}
-use Rattle.iv_state.proofs.OpenViewLemmas.{remove-right}
+use Rattle.iv_state.proofs.OpenViewLemmas.{all-removed}
 use Rattle.iv_state.proofs.SessionLemmas.{state_of}
 use Rattle.iv_state.proofs.session.Session.close_view.Goals as goal
 
@@ -12,11 +13,18 @@ returns-in_default-clause-absent g c = sym (c.in_default.ensures.seen ∙ ap (λ
 
 pub invariant_of-self : goal.invariant_of-self
 invariant_of-self g c =
-    (c.self.invariant.0, rw c.remove.ensures.value (remove-right c.args.name.now (names_of c.self.inside.genome) c.self.inside.track.rows c.self.inside.views c.self.invariant.1))
+    let i = c.self.inside in (
+      record {
+        track_is = c.self.invariant.0.track_is;
+        second_is = c.self.invariant.0.second_is;
+        served = rw c.remove.ensures.seen (all-removed (λ v. IsServed i.second v.view) c.args.name.now (all_seen i.views) c.self.invariant.0.served);
+      },
+      rw c.remove.ensures.value (all-removed (λ v. IsCurrentRight v (names_of i.genome) i.track.rows) c.args.name.now i.views c.self.invariant.1),
+    )
 
 pub returns-clause-there : goal.returns-clause-there
 returns-clause-there g c = subst (λ o. IsSome o) (c.in-Some.ensures.seen ∙ ap (λ (s : State). view_named s.views c.args.name.now) c.self.view_is) refl
 
 pub returns-clause-ok : goal.returns-clause-ok
 returns-clause-ok g c =
-    ap (λ views. state_of c.self.inside.genome c.self.inside.track views) c.remove.ensures.seen ∙ ap (λ (s : State). without_view s c.args.name.now) c.self.view_is
+    ap (λ views. state_of c.self.inside.genome c.self.inside.track c.self.inside.second views) c.remove.ensures.seen ∙ ap (λ (s : State). without_view s c.args.name.now) c.self.view_is

@@ -1,13 +1,12 @@
 use Rattle.std.proofs.Common.{◌≡◌, ◌∙◌, true, refl, ap, sym}
 use Rattle.std.proofs.lemmas.Result.{err_from_is_err_and}
 use Rattle.iv_text.specs.Named.{names_of}
-use Rattle.iv_state.specs.Keeping.{seen}
-use Rattle.iv_state.specs.Keeping.{all_seen}
-use Rattle.iv_state.specs.States.{State}
+use Rattle.iv_state.specs.Keeping.{IsCurrentRight, all_seen, seen}
+use Rattle.iv_state.specs.States.{State, IsServed}
 use Rattle.iv_state.specs.Views.{view_named}
-use Rattle.iv_state.proofs.OpenViewLemmas.{right-named}
+use Rattle.iv_state.proofs.OpenViewLemmas.{all-named}
 use Rattle.iv_state.proofs.PrintLemmas.{match-none, match-some, if-some, found-again, found-not, same-text, now-printed, Takes-text, FailsIn-text}
-use Rattle.iv_state.proofs.SessionLemmas.{state_of}
+use Rattle.iv_state.proofs.SessionLemmas.{state_of, served-current}
 use Rattle.iv_state.proofs.session.Session.print_view.Goals as goal
 
 pub returns-in_default : goal.returns-in_default
@@ -19,7 +18,7 @@ returns-in_err-refresh g c =
     let p = err_from_is_err_and c.from_residual.result c.from_residual.ensures.1 in
     let inside = c.self.inside in
     let stale = if-some _ (λ v. v.stale ≡ true) (seen c.in-Some.field-0.now) c.in-Some.ensures.seen c.in_err-refresh.ensures.stale in
-    let same = ap (λ views. state_of inside.genome inside.track (all_seen views)) c.in_err-refresh.ensures.err ∙ c.self.view_is in
+    let same = ap (λ views. state_of inside.genome inside.track inside.second (all_seen views)) c.in_err-refresh.ensures.err ∙ c.self.view_is in
     rw (p.1, p.2)
     (match-some _ _ _ (seen c.in-Some.field-0.now) (c.in-Some.ensures.seen ∙ ap (λ (s : State). view_named s.views c.args.name.now) c.self.view_is) (stale, refl, same))
 
@@ -35,7 +34,7 @@ print-requires-clause-current g c =
 
 pub print-requires-clause-right : goal.print-requires-clause-right
 print-requires-clause-right g c =
-    right-named c.args.name.now (names_of c.self.inside.genome) c.self.inside.track.rows c.refresh.new.self c.in-Some-find.view.now (sym c.in-Some-find.ensures.value) c.refresh.ensures.right
+    all-named (λ v. IsCurrentRight v (names_of c.self.inside.genome) c.self.inside.track.rows) c.args.name.now c.refresh.new.self c.in-Some-find.view.now (sym c.in-Some-find.ensures.value) c.refresh.ensures.right
 
 pub returns-in_err-print : goal.returns-in_err-print
 returns-in_err-print g c =
@@ -44,11 +43,11 @@ returns-in_err-print g c =
     let v = seen c.in-Some.field-0.now in
     let again = found-again c.args.name.now (all_seen inside.views) (all_seen c.refresh.new.self) v (seen c.in-Some-find.view.now)
     c.in-Some.ensures.seen c.in_ok-refresh.ensures.ok c.in-Some-find.ensures.seen in
-    let text = same-text inside.genome inside.track (all_seen inside.views) c.args.self.now v (seen c.in-Some-find.view.now) c.self.view_is again in
-    let put = FailsIn-text _ _ _ _ text c.in_err-print.ensures in
+    let text = same-text inside.genome inside.track inside.second (all_seen inside.views) c.args.self.now v (seen c.in-Some-find.view.now) c.self.view_is again in
+    let put = FailsIn-text _ _ _ _ text (rw c.as_ref-second.ensures.value at c.in_err-print.ensures) in
     rw (p.1, p.2)
     (match-some _ _ _ v (c.in-Some.ensures.seen ∙ ap (λ (s : State). view_named s.views c.args.name.now) c.self.view_is)
-    (put, now-printed inside.genome inside.track (all_seen inside.views) (all_seen c.refresh.new.self) c.args.self.now c.args.name.now c.self.view_is c.in_ok-refresh.ensures.ok))
+    (put, now-printed inside.genome inside.track inside.second (all_seen inside.views) (all_seen c.refresh.new.self) c.args.self.now c.args.name.now c.self.view_is c.in_ok-refresh.ensures.ok))
 
 pub returns : goal.returns
 returns g c =
@@ -56,7 +55,35 @@ returns g c =
     let v = seen c.in-Some.field-0.now in
     let again = found-again c.args.name.now (all_seen inside.views) (all_seen c.refresh.new.self) v (seen c.in-Some-find.view.now)
     c.in-Some.ensures.seen c.in_ok-refresh.ensures.ok c.in-Some-find.ensures.seen in
-    let text = same-text inside.genome inside.track (all_seen inside.views) c.args.self.now v (seen c.in-Some-find.view.now) c.self.view_is again in
-    let put = Takes-text _ _ _ _ text c.in_ok-print.ensures in
+    let text = same-text inside.genome inside.track inside.second (all_seen inside.views) c.args.self.now v (seen c.in-Some-find.view.now) c.self.view_is again in
+    let put = Takes-text _ _ _ _ text (rw c.as_ref-second.ensures.value at c.in_ok-print.ensures) in
     match-some _ _ _ v (c.in-Some.ensures.seen ∙ ap (λ (s : State). view_named s.views c.args.name.now) c.self.view_is)
-    (put, now-printed inside.genome inside.track (all_seen inside.views) (all_seen c.refresh.new.self) c.args.self.now c.args.name.now c.self.view_is c.in_ok-refresh.ensures.ok)
+    (put, now-printed inside.genome inside.track inside.second (all_seen inside.views) (all_seen c.refresh.new.self) c.args.self.now c.args.name.now c.self.view_is c.in_ok-refresh.ensures.ok)
+
+pub print-requires-clause-served : goal.print-requires-clause-served
+print-requires-clause-served g c =
+    let inside = c.self.inside in
+    let name = c.args.name.now in
+    let served = served-current inside.second name (all_seen inside.views) (all_seen c.refresh.new.self) c.in_ok-refresh.ensures.ok c.self.invariant.0.served in
+    rw c.as_ref-second.ensures.value
+    (all-named (λ v. IsServed inside.second v.view) name (all_seen c.refresh.new.self) (seen c.in-Some-find.view.now) (sym c.in-Some-find.ensures.seen) served)
+
+pub invariant_of-self-in_err-print : goal.invariant_of-self-in_err-print
+invariant_of-self-in_err-print g c = (
+  record {
+    track_is = c.self.invariant.0.track_is;
+    second_is = c.self.invariant.0.second_is;
+    served = served-current c.self.inside.second c.args.name.now (all_seen c.self.inside.views) (all_seen c.refresh.new.self) c.in_ok-refresh.ensures.ok c.self.invariant.0.served;
+  },
+  c.refresh.ensures.right,
+)
+
+pub invariant_of-self-2 : goal.invariant_of-self-2
+invariant_of-self-2 g c = (
+  record {
+    track_is = c.self.invariant.0.track_is;
+    second_is = c.self.invariant.0.second_is;
+    served = served-current c.self.inside.second c.args.name.now (all_seen c.self.inside.views) (all_seen c.refresh.new.self) c.in_ok-refresh.ensures.ok c.self.invariant.0.served;
+  },
+  c.refresh.ensures.right,
+)

@@ -1,9 +1,9 @@
 use Rattle.std.proofs.Common.{◌≡◌, false, refl, sym, arith}
 use Rattle.iv_text.specs.Named.{names_of}
 use Rattle.iv_bytes.proofs.Putting.{Underway-begin, Underway-fails, Underway-more, Puts-err}
-use Rattle.iv_state.specs.Keeping.{seen}
-use Rattle.iv_state.specs.Keeping.{all_seen}
-use Rattle.iv_state.proofs.OpenViewLemmas.{right-at}
+use Rattle.iv_state.specs.Keeping.{IsCurrentRight, all_seen, seen}
+use Rattle.iv_state.specs.States.{IsServed}
+use Rattle.iv_state.proofs.OpenViewLemmas.{all-at}
 use Rattle.iv_state.proofs.PrintLemmas.{seen-at, all-get, shown-text, past-views, views-next, Takes-text, FailsIn-text}
 use Rattle.iv_state.proofs.session.Session.put_views.Goals as goal
 
@@ -14,7 +14,7 @@ pub returns-in_err-put_heading : goal.returns-in_err-put_heading
 returns-in_err-put_heading g c =
     let inside = c.self.inside in
     let next = views-next _ _ c.self.view_is c.loop-place.place (c.in-Some.name.now, seen c.in-Some.view.now)
-    (seen-at inside.genome inside.track inside.views _ c.loop-place.place c.in-Some.name.now c.in-Some.view.now refl c.in-Some.ensures) in
+    (seen-at inside.genome inside.track inside.second inside.views _ c.loop-place.place c.in-Some.name.now c.in-Some.view.now refl c.in-Some.ensures) in
     Puts-err _ _ c.from_residual.result _ c.from_residual.ensures.0
     (Underway-fails _ _ _ _ _ _ (rw next at c.loop-place.invariant) c.in_err-put_heading.ensures)
 
@@ -22,32 +22,40 @@ pub put-requires-clause-current : goal.put-requires-clause-current
 put-requires-clause-current g c =
     let inside = c.self.inside in
     all-get (λ v. v.1.stale ≡ false) c.args.self.now.views c.loop-place.place (c.in-Some.name.now, seen c.in-Some.view.now)
-    (seen-at inside.genome inside.track inside.views _ c.loop-place.place c.in-Some.name.now c.in-Some.view.now c.self.view_is c.in-Some.ensures) c.requires
+    (seen-at inside.genome inside.track inside.second inside.views _ c.loop-place.place c.in-Some.name.now c.in-Some.view.now c.self.view_is c.in-Some.ensures) c.requires
 
 pub put-requires-clause-right : goal.put-requires-clause-right
 put-requires-clause-right g c =
-    right-at (names_of c.self.inside.genome) c.self.inside.track.rows c.self.inside.views c.loop-place.place (c.in-Some.name.now, c.in-Some.view.now) (sym c.in-Some.ensures) c.self.invariant.1
+    all-at (λ v. IsCurrentRight v (names_of c.self.inside.genome) c.self.inside.track.rows) c.self.inside.views c.loop-place.place (c.in-Some.name.now, c.in-Some.view.now) (sym c.in-Some.ensures) c.self.invariant.1
 
 pub returns-in_err-put : goal.returns-in_err-put
 returns-in_err-put g c =
     let inside = c.self.inside in
     let next = views-next _ _ c.self.view_is c.loop-place.place (c.in-Some.name.now, seen c.in-Some.view.now)
-    (seen-at inside.genome inside.track inside.views _ c.loop-place.place c.in-Some.name.now c.in-Some.view.now refl c.in-Some.ensures) in
-    let text = shown-text inside.genome inside.track (all_seen inside.views) c.args.self.now c.in-Some.view.now.view c.self.view_is in
+    (seen-at inside.genome inside.track inside.second inside.views _ c.loop-place.place c.in-Some.name.now c.in-Some.view.now refl c.in-Some.ensures) in
+    let text = shown-text inside.genome inside.track inside.second (all_seen inside.views) c.args.self.now c.in-Some.view.now.view c.self.view_is in
     let headed = Underway-more _ _ _ _ _ _ (rw next at c.loop-place.invariant) c.in_ok-put_heading.ensures in
     Puts-err _ _ c.from_residual-in_err-put.result _ c.from_residual-in_err-put.ensures.0
-    (Underway-fails _ _ _ _ _ _ headed (FailsIn-text _ _ _ _ text c.in_err-put.ensures))
+    (Underway-fails _ _ _ _ _ _ headed (FailsIn-text _ _ _ _ text (rw c.as_ref-second.ensures.value at c.in_err-put.ensures)))
 
 pub loop-place-preserved : goal.loop-place-preserved
 loop-place-preserved g c =
     let inside = c.self.inside in
     let next = views-next _ _ c.self.view_is c.loop-place.place (c.in-Some.name.now, seen c.in-Some.view.now)
-    (seen-at inside.genome inside.track inside.views _ c.loop-place.place c.in-Some.name.now c.in-Some.view.now refl c.in-Some.ensures) in
-    let text = shown-text inside.genome inside.track (all_seen inside.views) c.args.self.now c.in-Some.view.now.view c.self.view_is in
+    (seen-at inside.genome inside.track inside.second inside.views _ c.loop-place.place c.in-Some.name.now c.in-Some.view.now refl c.in-Some.ensures) in
+    let text = shown-text inside.genome inside.track inside.second (all_seen inside.views) c.args.self.now c.in-Some.view.now.view c.self.view_is in
     let headed = Underway-more _ _ _ _ _ _ (rw next at c.loop-place.invariant) c.in_ok-put_heading.ensures in
-    Underway-more _ _ _ _ _ _ headed (Takes-text _ _ _ _ text c.in_ok-put.ensures)
+    Underway-more _ _ _ _ _ _ headed (Takes-text _ _ _ _ text (rw c.as_ref-second.ensures.value at c.in_ok-put.ensures))
 
 pub returns-in_default : goal.returns-in_default
 returns-in_default g c =
     let past = past-views c.self.inside.views c.loop-place.place c.in_default.ensures in
     absurd (omega (arith, past, c.loop-place-test.true, c.len-place-end.ensures.value))
+
+pub put-requires-clause-served : goal.put-requires-clause-served
+put-requires-clause-served g c =
+    let inside = c.self.inside in
+    let view = c.in-Some.view.now in
+    let found = seen-at inside.genome inside.track inside.second inside.views _ c.loop-place.place c.in-Some.name.now view refl c.in-Some.ensures in
+    rw c.as_ref-second.ensures.value
+    (all-at (λ v. IsServed inside.second v.view) (all_seen inside.views) c.loop-place.place (c.in-Some.name.now, seen view) (sym found) c.self.invariant.0.served)

@@ -7,11 +7,11 @@ use Rattle.iv_text.specs.Row.{Row}
 use Rattle.iv_track.specs.Tracked.{Tracked, removed}
 use Rattle.iv_state.specs.Keeping.{AreRight, all_seen}
 use Rattle.iv_state.specs.OpenViews.{all_steps}
-use Rattle.iv_state.specs.States.{State, IsSession}
+use Rattle.iv_state.specs.States.{State, IsTrackOn}
 use Rattle.iv_state.specs.declared.session.Accepted.{Accepted}
 use Rattle.iv_state.proofs.OpenViewLemmas.{repaired-right, repaired-stales, repaired-steps}
 use Rattle.iv_track.proofs.Edits.{added-removed}
-use Rattle.iv_state.proofs.SessionLemmas.{edited, session-removed}
+use Rattle.iv_state.proofs.SessionLemmas.{edited, track-removed, served-stales}
 use Rattle.iv_state.proofs.session.Session.remove.Goals as goal
 
 -- the records before, by those after and the one that was taken out
@@ -29,8 +29,8 @@ removed-requires-clause-right g c =
 pub removed-requires-clause-fit : goal.removed-requires-clause-fit
 removed-requires-clause-fit g c =
     let inside = c.self.inside in
-    let whole : IsSession inside.genome c.remove.new.self = subst (IsSession inside.genome) (sym c.in_ok-remove.ensures.ok)
-    (session-removed inside.genome inside.track c.in_ok-record.record c.self.invariant.0 c.in_ok-remove.ensures.found) in
+    let whole : IsTrackOn inside.genome c.remove.new.self = subst (IsTrackOn inside.genome) (sym c.in_ok-remove.ensures.ok)
+    (track-removed inside.genome inside.track c.in_ok-record.record c.self.invariant.0.track_is c.in_ok-remove.ensures.found) in
     whole.fit
 
 pub removed-requires-clause-fits : goal.removed-requires-clause-fits
@@ -41,14 +41,18 @@ removed-requires-clause-fits g c =
 pub invariant_of-self-2 : goal.invariant_of-self-2
 invariant_of-self-2 g c =
     let inside = c.self.inside in (
-      subst (IsSession inside.genome) (sym c.in_ok-remove.ensures.ok)
-          (session-removed inside.genome inside.track c.in_ok-record.record c.self.invariant.0 c.in_ok-remove.ensures.found),
+      record {
+        track_is = subst (IsTrackOn inside.genome) (sym c.in_ok-remove.ensures.ok)
+            (track-removed inside.genome inside.track c.in_ok-record.record c.self.invariant.0.track_is c.in_ok-remove.ensures.found);
+        second_is = c.self.invariant.0.second_is;
+        served = served-stales inside.second _ _ (repaired-stales _ _ _ _ _ _ _ _ c.removed.ensures) c.self.invariant.0.served;
+      },
       repaired-right _ _ _ _ _ _ _ _ c.removed.ensures,
     )
 
 pub returns-clause-ok : goal.returns-clause-ok
 returns-clause-ok g c =
-    edited (λ rows. removed rows c.args.row.now) _ c.self.inside.track c.remove.new.self _ _ _ c.self.view_is
+    edited (λ rows. removed rows c.args.row.now) _ c.self.inside.track c.remove.new.self _ _ _ _ c.self.view_is
     (c.in_ok-remove.ensures.ok ∙ ap (λ (r : Row). record c.self.inside.track { rows = removed c.self.inside.track.rows r }) c.in_ok-record.ensures.ok)
     (repaired-stales _ _ _ _ _ _ _ _ c.removed.ensures)
 

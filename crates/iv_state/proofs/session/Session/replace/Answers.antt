@@ -11,7 +11,7 @@ use Rattle.iv_state.specs.OpenViews.{all_steps}
 use Rattle.iv_state.specs.States.{State}
 use Rattle.iv_state.specs.declared.session.Accepted.{Accepted}
 use Rattle.iv_state.proofs.OpenViewLemmas.{repaired-right, repaired-stales, repaired-steps, stales-trans, stales-steps}
-use Rattle.iv_state.proofs.SessionLemmas.{edited, fit-added, replaced-in, staged-there}
+use Rattle.iv_state.proofs.SessionLemmas.{edited, fit-added, replaced-in, served-stales, staged-there}
 use Rattle.iv_state.proofs.session.Session.replace.Goals as goal
 
 pub returns-in_err-stage-clause-why : goal.returns-in_err-stage-clause-why
@@ -31,7 +31,7 @@ added-requires-clause-fit g c =
     let F : State → Type 0 = λ s. Fits s.genome s.track.width c.args.new.now in
     let fits : Fits inside.genome inside.track.width c.in_ok-after.after =
     subst (λ (r : Row). Fits inside.genome inside.track.width r) (sym c.in_ok-after.ensures.ok) (subst F (sym c.self.view_is) c.requires.new) in
-    subst (λ (t : Tracked). All (Fits inside.genome t.width) t.rows) (sym c.in_ok-stage.ensures.ok) (fit-added inside.genome inside.track c.in_ok-after.after c.self.invariant.0 fits)
+    subst (λ (t : Tracked). All (Fits inside.genome t.width) t.rows) (sym c.in_ok-stage.ensures.ok) (fit-added inside.genome inside.track c.in_ok-after.after c.self.invariant.0.track_is fits)
 
 pub unreachable-requires : goal.unreachable-requires
 unreachable-requires g c =
@@ -42,44 +42,51 @@ unreachable-requires g c =
 pub removed-requires-clause-right : goal.removed-requires-clause-right
 removed-requires-clause-right g c =
     let there : 0 < copies c.self.inside.track.rows c.in_ok-before.before = omega (arith, c.copies.ensures.value) in
-    let whole = replaced-in _ _ _ _ _ _ _ _ _ _ c.self.view_is c.in_ok-before.ensures.ok c.in_ok-after.ensures.ok c.self.invariant.0 c.copies.ensures.ordered there c.requires.new
+    let whole = replaced-in _ _ _ _ _ _ _ _ _ _ _ c.self.view_is c.in_ok-before.ensures.ok c.in_ok-after.ensures.ok c.self.invariant.0.track_is c.copies.ensures.ordered there c.requires.new
     c.in_ok-stage.ensures.ok c.in-Ok.ensures.ok in
     subst (λ (l : List Row). AreRight c.added.new.self (names_of c.self.inside.genome) l) whole.again (repaired-right _ _ _ _ _ _ _ _ c.added.ensures)
 
 pub removed-requires-clause-fit : goal.removed-requires-clause-fit
 removed-requires-clause-fit g c =
     let there : 0 < copies c.self.inside.track.rows c.in_ok-before.before = omega (arith, c.copies.ensures.value) in
-    let whole = replaced-in _ _ _ _ _ _ _ _ _ _ c.self.view_is c.in_ok-before.ensures.ok c.in_ok-after.ensures.ok c.self.invariant.0 c.copies.ensures.ordered there c.requires.new
+    let whole = replaced-in _ _ _ _ _ _ _ _ _ _ _ c.self.view_is c.in_ok-before.ensures.ok c.in_ok-after.ensures.ok c.self.invariant.0.track_is c.copies.ensures.ordered there c.requires.new
     c.in_ok-stage.ensures.ok c.in-Ok.ensures.ok in
-    whole.session.fit
+    whole.track_is.fit
 
 pub removed-requires-clause-fits : goal.removed-requires-clause-fits
 removed-requires-clause-fits g c =
     let there : 0 < copies c.self.inside.track.rows c.in_ok-before.before = omega (arith, c.copies.ensures.value) in
-    let whole = replaced-in _ _ _ _ _ _ _ _ _ _ c.self.view_is c.in_ok-before.ensures.ok c.in_ok-after.ensures.ok c.self.invariant.0 c.copies.ensures.ordered there c.requires.new
+    let whole = replaced-in _ _ _ _ _ _ _ _ _ _ _ c.self.view_is c.in_ok-before.ensures.ok c.in_ok-after.ensures.ok c.self.invariant.0.track_is c.copies.ensures.ordered there c.requires.new
     c.in_ok-stage.ensures.ok c.in-Ok.ensures.ok in
     rw whole.width (subst (λ (s : State). Fits s.genome s.track.width c.args.old.now) (sym c.self.view_is) c.requires.old)
 
 pub invariant_of-self-2 : goal.invariant_of-self-2
 invariant_of-self-2 g c =
     let there : 0 < copies c.self.inside.track.rows c.in_ok-before.before = omega (arith, c.copies.ensures.value) in
-    let whole = replaced-in _ _ _ _ _ _ _ _ _ _ c.self.view_is c.in_ok-before.ensures.ok c.in_ok-after.ensures.ok c.self.invariant.0 c.copies.ensures.ordered there c.requires.new
+    let whole = replaced-in _ _ _ _ _ _ _ _ _ _ _ c.self.view_is c.in_ok-before.ensures.ok c.in_ok-after.ensures.ok c.self.invariant.0.track_is c.copies.ensures.ordered there c.requires.new
     c.in_ok-stage.ensures.ok c.in-Ok.ensures.ok in
-    (whole.session, repaired-right _ _ _ _ _ _ _ _ c.removed.ensures)
+    let less = stales-trans _ _ _ (repaired-stales _ _ _ _ _ _ _ _ c.added.ensures) (repaired-stales _ _ _ _ _ _ _ _ c.removed.ensures) in (
+      record {
+        track_is = whole.track_is;
+        second_is = c.self.invariant.0.second_is;
+        served = served-stales c.self.inside.second _ _ less c.self.invariant.0.served;
+      },
+      repaired-right _ _ _ _ _ _ _ _ c.removed.ensures,
+    )
 
 pub returns-clause-ok : goal.returns-clause-ok
 returns-clause-ok g c =
     let there : 0 < copies c.self.inside.track.rows c.in_ok-before.before = omega (arith, c.copies.ensures.value) in
-    let whole = replaced-in _ _ _ _ _ _ _ _ _ _ c.self.view_is c.in_ok-before.ensures.ok c.in_ok-after.ensures.ok c.self.invariant.0 c.copies.ensures.ordered there c.requires.new
+    let whole = replaced-in _ _ _ _ _ _ _ _ _ _ _ c.self.view_is c.in_ok-before.ensures.ok c.in_ok-after.ensures.ok c.self.invariant.0.track_is c.copies.ensures.ordered there c.requires.new
     c.in_ok-stage.ensures.ok c.in-Ok.ensures.ok in
-    edited (λ rows. added (removed rows c.args.old.now) c.args.new.now) _ c.self.inside.track c.remove.new.self _ _ _ c.self.view_is whole.is
+    edited (λ rows. added (removed rows c.args.old.now) c.args.new.now) _ c.self.inside.track c.remove.new.self _ _ _ _ c.self.view_is whole.is
     (stales-trans _ _ _ (repaired-stales _ _ _ _ _ _ _ _ c.added.ensures) (repaired-stales _ _ _ _ _ _ _ _ c.removed.ensures))
 
 pub returns-clause-steps : goal.returns-clause-steps
 returns-clause-steps g c =
     let inside = c.self.inside in
     let there : 0 < copies c.self.inside.track.rows c.in_ok-before.before = omega (arith, c.copies.ensures.value) in
-    let whole = replaced-in _ _ _ _ _ _ _ _ _ _ c.self.view_is c.in_ok-before.ensures.ok c.in_ok-after.ensures.ok c.self.invariant.0 c.copies.ensures.ordered there c.requires.new
+    let whole = replaced-in _ _ _ _ _ _ _ _ _ _ _ c.self.view_is c.in_ok-before.ensures.ok c.in_ok-after.ensures.ok c.self.invariant.0.track_is c.copies.ensures.ordered there c.requires.new
     c.in_ok-stage.ensures.ok c.in-Ok.ensures.ok in
     let bound : (r : Row) → all_steps (all_seen inside.views) c.stage.new.self.rows r ≡ all_steps c.args.self.now.views (added c.args.self.now.track.rows c.args.new.now) r = λ r.
     ap (λ (t : Tracked). all_steps (all_seen inside.views) t.rows r) c.in_ok-stage.ensures.ok
