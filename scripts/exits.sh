@@ -13,6 +13,7 @@ failed=0
 printf 'chr1\t100\nchr2\t50\n' > sizes
 printf 'chr1\t10\t20\n' > records.bed
 printf 'chr1\t10\t20\nchr1\t1\t101\n' > past_end.bed
+printf 'chr1\t0\t5\n\nchr1\t30\t30\n' > no_base.bed
 printf 'chr1\t12x\n' > bad_sizes
 printf 'open\tm\tmerge\nprint\tm\n' > prints
 printf 'open\tm\tmerge\nadd\tchr1\t90\t101\nprint\tm\n' > refused
@@ -48,7 +49,7 @@ session -g sizes -i records.bed < refused
 ends 'a refused line' 1 "line 2: end past the sequence's end\n"
 prints 'a refused line' 'chr1\t10\t20\n'
 
-for words in '' 'merge' 'session' 'session -g sizes' 'session -g sizes -i records.bed -width 7' '--help me' '--help --version' '-help'; do
+for words in '' 'merge' 'session' 'session -g sizes' 'session -g sizes -i records.bed -width 7' 'session -g sizes -i records.bed -b' 'session -b b -g sizes -i records.bed -b b' 'session -g sizes -b records.bed' '--help me' '--help --version' '-help'; do
     # shellcheck disable=SC2086 # the words are to be parted
     "$program" $words > out 2> err < prints
     ends "words: $words" 2 'bedkeep: bad options\n'
@@ -62,8 +63,18 @@ ends 'a damaged BED file' 3 "bedkeep: past_end.bed: line 2: end past the sequenc
 session -g bad_sizes -i past_end.bed < prints
 ends 'a damaged genome file comes first' 3 'bedkeep: bad_sizes: line 1: bad length\n'
 
+session -b no_base.bed -g sizes -i records.bed < prints
+ends 'a damaged second file' 3 'bedkeep: no_base.bed: line 3: start not below end\n'
+prints 'a damaged second file' ''
+session -b no_base.bed -g sizes -i past_end.bed < prints
+ends 'a damaged first file comes before a damaged second one' 3 "bedkeep: past_end.bed: line 2: end past the sequence's end\n"
+
 session -g none -i past_end.bed < prints
 ends 'a file that is not there comes before a damaged one' 4 'bedkeep: none: cannot be read\n'
+session -g sizes -i past_end.bed -b none < prints
+ends 'a second file that is not there comes before a damaged first one' 4 'bedkeep: none: cannot be read\n'
+session -b nowhere -i none -g sizes < prints
+ends 'a first file that is not there comes before the second' 4 'bedkeep: none: cannot be read\n'
 session -g sizes -i directory < prints
 ends 'a directory' 4 'bedkeep: directory: cannot be read\n'
 
@@ -96,7 +107,7 @@ ends 'the version' 0 ''
 prints 'the version' 'bedkeep 0.1.0\n'
 "$program" --help > out 2> err
 ends 'the help' 0 ''
-for word in 'usage: bedkeep session -g GENOME -i BED' --help --version -width open add remove replace close print printall merge; do
+for word in 'usage: bedkeep session -g GENOME -i BED' --help --version '-b BED' -width open add remove replace close print printall merge intersect subtract; do
     if ! grep -q -e "$word" out; then
         echo "the help does not speak of $word" >&2
         failed=1

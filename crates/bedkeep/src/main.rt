@@ -1,4 +1,4 @@
-//! `bedkeep session -g GENOME -i RECORDS`: keeps a track of records by a script on standard input.
+//! `bedkeep session -g GENOME -i RECORDS [-b RECORDS]`: keeps a track of records by a script on standard input.
 //!
 //! It opens files, hands over and exits. What the words mean, how a run ends and what is said of it stands in `iv_cli`.
 #![tactic(auto)]
@@ -51,17 +51,17 @@ fn read_file(rt: &(impl Files + AllocGlobal), name: &[u8]) -> Result<Vec<u8>, Fi
     read_all(rt.alloc(), &mut StdSource::new(file), MOST_FILE_BYTES)
 }
 
-/// The bytes of a file of the plan; nothing where it names none.
+/// The bytes of a file of the plan, where it names one.
 fn read_slot(
     rt: &(impl Files + AllocGlobal),
     plan: &Plan<'_>,
     slot: Slot,
-) -> Result<Vec<u8>, Ending> {
+) -> Result<Option<Vec<u8>>, Ending> {
     let Some(name) = plan.file(slot) else {
-        return Ok(Vec::new(rt.alloc()));
+        return Ok(None);
     };
     match read_file(rt, name) {
-        Ok(bytes) => Ok(bytes),
+        Ok(bytes) => Ok(Some(bytes)),
         Err(fault) => Err(Ending::from((slot, fault))),
     }
 }
@@ -70,9 +70,12 @@ fn read_slot(
 fn files_of(rt: &(impl Files + AllocGlobal), plan: &Plan<'_>) -> Result<ParsedFiles, Ending> {
     let sizes = read_slot(rt, plan, Slot::Sizes)?;
     let first = read_slot(rt, plan, Slot::First)?;
+    let other = read_slot(rt, plan, Slot::Other)?;
+    let other_text = other.as_deref();
     let inputs = Inputs {
-        sizes: sizes.as_slice(),
-        first: first.as_slice(),
+        sizes: sizes.as_deref().unwrap_or(b""),
+        first: first.as_deref().unwrap_or(b""),
+        other: other_text,
     };
     Ok(ParsedFiles::parse(rt.alloc(), plan, &inputs, MOST_RECORDS)?)
 }

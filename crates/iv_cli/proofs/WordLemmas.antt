@@ -1,7 +1,7 @@
 -- The words of a run, setting by setting.
 use Rattle.std.proofs.Common.{◌≡◌, ℕ, ◌+◌, ◌<◌, ◌≤◌, Bool, true, false, cond, List, [], ◌∷◌, ◌++◌, Option, Some, None, length, map, take, drop, ◌-◌, ◌==◌, refl, sym, ap, ◌∙◌, subst, arith, append-nil, append_assoc, length-append}
 use Rattle.std.specs.Prelude.{All, IsSome, filter, codes}
-use Rattle.std.specs.Option.{option_map, is_some}
+use Rattle.std.specs.Option.{option_map, option_to_list, is_some}
 use Rattle.std.specs.Str.{bytes_eq}
 use Rattle.std.proofs.lemmas.List.{map-append, take_all}
 use lib.ListN.{get_or}
@@ -11,34 +11,50 @@ use Rattle.std.proofs.lemmas.Bool.{cond-true, eqb-true, true≢false}
 use Rattle.iv_cli.specs.declared.draft.RunOption.{RunOption}
 use Rattle.iv_cli.specs.declared.draft.RunOption.TheVariants as option
 use Rattle.iv_cli.specs.Words.{Setting, RunPlan, IsPlan, paired, option_of, values_of, is_of, width_said}
-use Rattle.iv_cli.specs.Drafts.{Said, listed, taken, taken_at, unless_given}
+use Rattle.iv_cli.specs.Drafts.{Said, taken, taken_at, unless_given}
 
 -- the option of a setting is a known one
 abbrev pub IsKnown : Setting → Type 0
 IsKnown setting = IsSome (option_of setting.0)
+
+-- the word of an option
+abbrev pub word_of : RunOption → List ℕ
+word_of option.Sizes = codes "-g"
+word_of option.First = codes "-i"
+word_of option.Other = codes "-b"
+word_of option.Width = codes "-width"
+
+-- the value given for an option
+abbrev pub said_of : Said → RunOption → Option (List ℕ)
+said_of said option.Sizes = said.sizes
+said_of said option.First = said.first
+said_of said option.Other = said.other
+said_of said option.Width = said.width
 
 -- in the midst of the settings: what the settings so far say, and the words to come
 pub record Going (options rest : List (List ℕ)) (said : Said) : Type 0 where
   pub done : List Setting
   pub are : paired options ≡ option_map (λ more. done ++ more) (paired rest)
   pub known : All IsKnown done
-  pub sizes : values_of (codes "-g") done ≡ listed said.sizes
-  pub first : values_of (codes "-i") done ≡ listed said.first
-  pub width : values_of (codes "-width") done ≡ listed said.width
+  pub values : (k : RunOption) → values_of (word_of k) done ≡ option_to_list (said_of said k)
 
-pub Going-begin : (options : List (List ℕ)) → Going options options (record { sizes = None; first = None; width = None })
+pub Going-begin : (options : List (List ℕ)) → Going options options (record { sizes = None; first = None; other = None; width = None })
 Going-begin options = record {
   done = [];
   are = same (paired options);
   known = All-nil IsKnown;
-  sizes = refl;
-  first = refl;
-  width = refl;
+  values = none;
 }
   where
     same : (o : Option (List Setting)) → o ≡ option_map (λ more. [] ++ more) o
     same None = refl
     same (Some more) = refl
+
+    none : (k : RunOption) → values_of (word_of k) [] ≡ option_to_list (said_of (record { sizes = None; first = None; other = None; width = None }) k)
+    none option.Sizes = refl
+    none option.First = refl
+    none option.Other = refl
+    none option.Width = refl
 
 none≢some : {A : Type 0} (a : A) → None ≡ Some a → ⊥
 none≢some a e = cc
@@ -55,68 +71,75 @@ values-append word xs ys =
 
 -- ---- one more setting
 
--- the word of an option
-abbrev word_of : RunOption → List ℕ
-word_of option.Sizes = codes "-g"
-word_of option.First = codes "-i"
-word_of option.Width = codes "-width"
-
 -- a word is that of its option
 named : (word : List ℕ) (k : RunOption) → option_of word ≡ Some k → word ≡ word_of k
-named word k is = by (bytes_eq word (codes "-g")) (bytes_eq word (codes "-i")) (bytes_eq word (codes "-width")) refl refl refl is
+named word k is = by (bytes_eq word (codes "-g")) (bytes_eq word (codes "-i")) (bytes_eq word (codes "-b")) (bytes_eq word (codes "-width")) refl refl refl refl is
   where
-    by : (a b c : Bool) → bytes_eq word (codes "-g") ≡ a → bytes_eq word (codes "-i") ≡ b → bytes_eq word (codes "-width") ≡ c
-        → cond a (Some option.Sizes) (cond b (Some option.First) (cond c (Some option.Width) None)) ≡ Some k → word ≡ word_of k
-    by true b c at_g at_i at_width is = (bytes_eq-Decides word (codes "-g")).0 at_g ∙ ap word_of (some-same option.Sizes k is)
-    by false true c at_g at_i at_width is = (bytes_eq-Decides word (codes "-i")).0 at_i ∙ ap word_of (some-same option.First k is)
-    by false false true at_g at_i at_width is = (bytes_eq-Decides word (codes "-width")).0 at_width ∙ ap word_of (some-same option.Width k is)
-    by false false false at_g at_i at_width is = absurd (none≢some k is)
+    by : (a b c d : Bool) → bytes_eq word (codes "-g") ≡ a → bytes_eq word (codes "-i") ≡ b → bytes_eq word (codes "-b") ≡ c → bytes_eq word (codes "-width") ≡ d
+        → cond a (Some option.Sizes) (cond b (Some option.First) (cond c (Some option.Other) (cond d (Some option.Width) None))) ≡ Some k → word ≡ word_of k
+    by true b c d at_g at_i at_b at_width is = (bytes_eq-Decides word (codes "-g")).0 at_g ∙ ap word_of (some-same option.Sizes k is)
+    by false true c d at_g at_i at_b at_width is = (bytes_eq-Decides word (codes "-i")).0 at_i ∙ ap word_of (some-same option.First k is)
+    by false false true d at_g at_i at_b at_width is = (bytes_eq-Decides word (codes "-b")).0 at_b ∙ ap word_of (some-same option.Other k is)
+    by false false false true at_g at_i at_b at_width is = (bytes_eq-Decides word (codes "-width")).0 at_width ∙ ap word_of (some-same option.Width k is)
+    by false false false false at_g at_i at_b at_width is = absurd (none≢some k is)
 
 unless-some : (o : Option (List ℕ)) (said new : Said) → unless_given o said ≡ Some new → (o ≡ None) × (new ≡ said)
 unless-some None said new h = (refl, cc)
 unless-some (Some value) said new h = absurd (none≢some new h)
 
--- what a setting that can be taken says
-record Says (old new : Said) (one : List Setting) : Type 0 where
-  sizes : listed new.sizes ≡ listed old.sizes ++ values_of (codes "-g") one
-  first : listed new.first ≡ listed old.first ++ values_of (codes "-i") one
-  width : listed new.width ≡ listed old.width ++ values_of (codes "-width") one
+-- what is said with a value for an option
+abbrev with_value : RunOption → List ℕ → Said → Said
+with_value option.Sizes value said = record said { sizes = Some value }
+with_value option.First value said = record said { first = Some value }
+with_value option.Other value said = record said { other = Some value }
+with_value option.Width value said = record said { width = Some value }
+
+-- where a value can be taken there was none before
+taken-new : (k : RunOption) (old new : Said) (value : List ℕ) → taken_at (Some k) old value ≡ Some new → (said_of old k ≡ None) × (new ≡ with_value k value old)
+taken-new option.Sizes old new value h = unless-some old.sizes (record old { sizes = Some value }) new h
+taken-new option.First old new value h = unless-some old.first (record old { first = Some value }) new h
+taken-new option.Other old new value h = unless-some old.other (record old { other = Some value }) new h
+taken-new option.Width old new value h = unless-some old.width (record old { width = Some value }) new h
 
 -- the value that was not given is given
-given-first : (old new : Option (List ℕ)) (value : List ℕ) → old ≡ None → new ≡ Some value → listed new ≡ listed old ++ (value ∷ [])
-given-first old new value none some = ap listed some ∙ ap (λ (o : Option (List ℕ)). listed o ++ (value ∷ [])) (sym none)
+given : (old : Option (List ℕ)) (value : List ℕ) → old ≡ None → value ∷ [] ≡ option_to_list old ++ (value ∷ [])
+given old value none = ap (λ (o : Option (List ℕ)). option_to_list o ++ (value ∷ [])) (sym none)
 
 -- another stays as it is
-as-before : (old new : Option (List ℕ)) → new ≡ old → listed new ≡ listed old ++ []
-as-before old new same = ap listed same ∙ sym (append-nil (listed old))
+kept : (old : Option (List ℕ)) → option_to_list old ≡ option_to_list old ++ []
+kept old = sym (append-nil (option_to_list old))
 
-says : (k : RunOption) (old new : Said) (value : List ℕ) → taken_at (Some k) old value ≡ Some new → Says old new ((word_of k, value) ∷ [])
-says option.Sizes old new value h =
-    let given = unless-some old.sizes (record old { sizes = Some value }) new h in
-    record {
-      sizes = given-first old.sizes new.sizes value given.0 (ap (λ (s : Said). s.sizes) given.1);
-      first = as-before old.first new.first (ap (λ (s : Said). s.first) given.1);
-      width = as-before old.width new.width (ap (λ (s : Said). s.width) given.1);
-    }
-says option.First old new value h =
-    let given = unless-some old.first (record old { first = Some value }) new h in
-    record {
-      sizes = as-before old.sizes new.sizes (ap (λ (s : Said). s.sizes) given.1);
-      first = given-first old.first new.first value given.0 (ap (λ (s : Said). s.first) given.1);
-      width = as-before old.width new.width (ap (λ (s : Said). s.width) given.1);
-    }
-says option.Width old new value h =
-    let given = unless-some old.width (record old { width = Some value }) new h in
-    record {
-      sizes = as-before old.sizes new.sizes (ap (λ (s : Said). s.sizes) given.1);
-      first = as-before old.first new.first (ap (λ (s : Said). s.first) given.1);
-      width = given-first old.width new.width value given.0 (ap (λ (s : Said). s.width) given.1);
-    }
+-- what a setting says for each option
+abbrev Says : Said → Said → List ℕ → List ℕ → RunOption → Type 0
+Says old new word value j = option_to_list (said_of new j) ≡ option_to_list (said_of old j) ++ values_of (word_of j) ((word, value) ∷ [])
+
+said-with : (k j : RunOption) (old : Said) (value : List ℕ) → said_of old k ≡ None → Says old (with_value k value old) (word_of k) value j
+said-with option.Sizes option.Sizes old value none = given old.sizes value none
+said-with option.Sizes option.First old value none = kept old.first
+said-with option.Sizes option.Other old value none = kept old.other
+said-with option.Sizes option.Width old value none = kept old.width
+said-with option.First option.Sizes old value none = kept old.sizes
+said-with option.First option.First old value none = given old.first value none
+said-with option.First option.Other old value none = kept old.other
+said-with option.First option.Width old value none = kept old.width
+said-with option.Other option.Sizes old value none = kept old.sizes
+said-with option.Other option.First old value none = kept old.first
+said-with option.Other option.Other old value none = given old.other value none
+said-with option.Other option.Width old value none = kept old.width
+said-with option.Width option.Sizes old value none = kept old.sizes
+said-with option.Width option.First old value none = kept old.first
+said-with option.Width option.Other old value none = kept old.other
+said-with option.Width option.Width old value none = given old.width value none
+
+says : (k : RunOption) (old new : Said) (value : List ℕ) → taken_at (Some k) old value ≡ Some new → (j : RunOption) → Says old new (word_of k) value j
+says k old new value h j =
+    let at = taken-new k old new value h in
+    subst (λ (s : Said). Says old s (word_of k) value j) (sym at.1) (said-with k j old value at.0)
 
 -- a setting that can be taken is of a known option
 record IsTaken (old new : Said) (word value : List ℕ) : Type 0 where
   known : IsSome (option_of word)
-  told : Says old new ((word, value) ∷ [])
+  told : (j : RunOption) → Says old new word value j
 
 is-taken : (old new : Said) (word value : List ℕ) → taken old word value ≡ Some new → IsTaken old new word value
 is-taken old new word value h = by (option_of word) refl h
@@ -125,7 +148,7 @@ is-taken old new word value h = by (option_of word) refl h
     by None is h = absurd (none≢some new h)
     by (Some k) is h = record {
       known = ap is_some is;
-      told = subst (λ (w : List ℕ). Says old new ((w, value) ∷ [])) (sym (named word k is)) (says k old new value h);
+      told = λ j. subst (λ (w : List ℕ). Says old new w value j) (sym (named word k is)) (says k old new value h j);
     }
 
 pub Going-more : (options others : List (List ℕ)) (word value : List ℕ) (old new : Said)
@@ -133,15 +156,11 @@ pub Going-more : (options others : List (List ℕ)) (word value : List ℕ) (old
 Going-more options others word value old new going h =
     let one : List Setting = (word, value) ∷ [] in
     let is = is-taken old new word value h in
-    let more : (option : List ℕ) (before after : List (List ℕ)) → values_of option going.done ≡ before → after ≡ before ++ values_of option one → values_of option (going.done ++ one) ≡ after =
-    λ option before after was then. values-append option going.done one ∙ ap (λ (l : List (List ℕ)). l ++ values_of option one) was ∙ sym then in
     record {
       done = going.done ++ one;
       are = going.are ∙ shifted (paired others);
       known = All-append IsKnown going.done one going.known (All-cons IsKnown (word, value) [] is.known (All-nil IsKnown));
-      sizes = more (codes "-g") (listed old.sizes) (listed new.sizes) going.sizes is.told.sizes;
-      first = more (codes "-i") (listed old.first) (listed new.first) going.first is.told.first;
-      width = more (codes "-width") (listed old.width) (listed new.width) going.width is.told.width;
+      values = λ j. values-append (word_of j) going.done one ∙ ap (λ (l : List (List ℕ)). l ++ values_of (word_of j) one) (going.values j) ∙ sym (is.told j);
     }
   where
     shifted : (o : Option (List Setting))
@@ -201,37 +220,34 @@ width-once [] width h = omega arith
 width-once (value ∷ []) width h = omega arith
 width-once (value ∷ next ∷ values) width h = absurd (none≢some width h)
 
+-- a value that may be left out is one at most
+few-listed : (o : Option (List ℕ)) → length (option_to_list o) ≤ 1
+few-listed None = omega arith
+few-listed (Some value) = omega arith
+
 -- each option is given once at most in a plan
 once : (words : List (List ℕ)) (plan : RunPlan) (is : IsPlan words plan) (k : RunOption) → length (values_of (word_of k) is.settings) ≤ 1
 once words plan is option.Sizes = omega (arith, ap (λ (l : List (List ℕ)). length l) is.sizes)
 once words plan is option.First = omega (arith, ap (λ (l : List (List ℕ)). length l) is.first)
+once words plan is option.Other = omega (arith, ap (λ (l : List (List ℕ)). length l) is.other, few-listed plan.other)
 once words plan is option.Width = width-once (values_of (codes "-width") is.settings) plan.width is.width
 
--- the value given for an option, and that it is what was said
-abbrev said_of : Said → RunOption → Option (List ℕ)
-said_of said option.Sizes = said.sizes
-said_of said option.First = said.first
-said_of said option.Width = said.width
-
-values-done : (options rest : List (List ℕ)) (said : Said) (going : Going options rest said) (k : RunOption) → values_of (word_of k) going.done ≡ listed (said_of said k)
-values-done options rest said going option.Sizes = going.sizes
-values-done options rest said going option.First = going.first
-values-done options rest said going option.Width = going.width
-
-given_before : (o : Option (List ℕ)) (said : Said) → unless_given o said ≡ None → 1 ≤ length (listed o)
+given_before : (o : Option (List ℕ)) (said : Said) → unless_given o said ≡ None → 1 ≤ length (option_to_list o)
 given_before None said h = absurd (none≢some said (sym h))
 given_before (Some value) said h = omega arith
 
 -- an option whose value cannot be taken has one
-refused : (k : RunOption) (said : Said) (value : List ℕ) → taken_at (Some k) said value ≡ None → 1 ≤ length (listed (said_of said k))
+refused : (k : RunOption) (said : Said) (value : List ℕ) → taken_at (Some k) said value ≡ None → 1 ≤ length (option_to_list (said_of said k))
 refused option.Sizes said value h = given_before said.sizes _ h
 refused option.First said value h = given_before said.first _ h
+refused option.Other said value h = given_before said.other _ h
 refused option.Width said value h = given_before said.width _ h
 
 -- a setting is of its own option
 own : (k : RunOption) (value : List ℕ) → is_of (word_of k) (word_of k, value) ≡ true
 own option.Sizes value = refl
 own option.First value = refl
+own option.Other value = refl
 own option.Width value = refl
 
 -- the words to come begin with a setting
@@ -260,7 +276,7 @@ refuse-taken options others option value said word going h plan is = by (option_
     by : (o : Option RunOption) → option_of option ≡ o → taken_at o said value ≡ None → ⊥
     by None at h = true≢false (sym (known-behind going.done first.0 (option, value) (subst (λ (l : List Setting). All IsKnown l) all is.known)) ∙ ap is_some at)
     by (Some k) at h =
-        twice (word_of k) option value going.done first.0 is.settings (listed (said_of said k)) all (values-done options (option ∷ value ∷ others) said going k)
+        twice (word_of k) option value going.done first.0 is.settings (option_to_list (said_of said k)) all (going.values k)
         (once (word ∷ options) plan is k) (ap (λ (w : List ℕ). is_of (word_of k) (w, value)) (named option k at) ∙ own k value) (refused k said value h)
 
 -- where no words are to come, the settings are those so far
@@ -275,11 +291,11 @@ settings-done options said word plan going is =
 
 -- the values of an option in a plan are what was said of it
 plan-said : (options : List (List ℕ)) (said : Said) (word : List ℕ) (plan : RunPlan) (going : Going options [] said)
-    → (is : IsPlan (word ∷ options) plan) (k : RunOption) → values_of (word_of k) is.settings ≡ listed (said_of said k)
+    → (is : IsPlan (word ∷ options) plan) (k : RunOption) → values_of (word_of k) is.settings ≡ option_to_list (said_of said k)
 plan-said options said word plan going is k =
-    ap (values_of (word_of k)) (settings-done options said word plan going is) ∙ values-done options [] said going k
+    ap (values_of (word_of k)) (settings-done options said word plan going is) ∙ going.values k
 
-no_value : (x : List ℕ) (o : Option (List ℕ)) → o ≡ None → listed o ≡ x ∷ [] → ⊥
+no_value : (x : List ℕ) (o : Option (List ℕ)) → o ≡ None → option_to_list o ≡ x ∷ [] → ⊥
 no_value x None none h = cc
 no_value x (Some value) none h = none≢some value (sym none)
 
@@ -293,23 +309,24 @@ pub refuse-first : (options : List (List ℕ)) (said : Said) (word : List ℕ) �
 refuse-first options said word going none plan is =
     no_value plan.first said.first none (sym (plan-said options said word plan going is option.First) ∙ is.first)
 
-pub refuse-width : (options : List (List ℕ)) (said : Said) (word : List ℕ) → Going options [] said → width_said (listed said.width) ≡ None
+pub refuse-width : (options : List (List ℕ)) (said : Said) (word : List ℕ) → Going options [] said → width_said (option_to_list said.width) ≡ None
     → (plan : RunPlan) → ¬ IsPlan (word ∷ options) plan
 refuse-width options said word going none plan is =
     none≢some plan.width (sym none ∙ ap width_said (sym (plan-said options said word plan going is option.Width)) ∙ is.width)
 
 -- ---- words that are a plan
 
-pub accept : (options : List (List ℕ)) (said : Said) (word sizes first : List ℕ) (width : ℕ) → Going options [] said
-    → bytes_eq word (codes "session") ≡ true → Some sizes ≡ said.sizes → Some first ≡ said.first → Some width ≡ width_said (listed said.width)
-    → IsPlan (word ∷ options) (record { sizes = sizes; first = first; width = width })
-accept options said word sizes first width going is sizes_is first_is width_is = record {
+pub accept : (options : List (List ℕ)) (said : Said) (word sizes first : List ℕ) (other : Option (List ℕ)) (width : ℕ) → Going options [] said
+    → bytes_eq word (codes "session") ≡ true → Some sizes ≡ said.sizes → Some first ≡ said.first → other ≡ said.other → Some width ≡ width_said (option_to_list said.width)
+    → IsPlan (word ∷ options) (record { sizes = sizes; first = first; other = other; width = width })
+accept options said word sizes first other width going is sizes_is first_is other_is width_is = record {
   settings = going.done;
   are = cond-true _ _ _ is ∙ going.are ∙ ap Some (append-nil going.done);
   known = going.known;
-  sizes = going.sizes ∙ ap listed (sym sizes_is);
-  first = going.first ∙ ap listed (sym first_is);
-  width = ap width_said going.width ∙ sym width_is;
+  sizes = going.values option.Sizes ∙ ap option_to_list (sym sizes_is);
+  first = going.values option.First ∙ ap option_to_list (sym first_is);
+  other = going.values option.Other ∙ ap option_to_list (sym other_is);
+  width = ap width_said (going.values option.Width) ∙ sym width_is;
 }
 
 -- ---- lists of references

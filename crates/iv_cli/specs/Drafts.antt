@@ -1,5 +1,5 @@
 -- What the settings of a run have said so far. It is what the reader of the words keeps, and no part of what is promised.
-use Rattle.std.specs.Prelude.{List, [], ◌∷◌, ℕ, Option, None, Some}
+use Rattle.std.specs.Prelude.{List, ℕ, Option, None, Some}
 use Rattle.iv_cli.specs.declared.draft.RunOption.{RunOption}
 use Rattle.iv_cli.specs.declared.draft.RunOption.TheVariants as option
 use Rattle.iv_cli.specs.Words.{option_of}
@@ -8,12 +8,8 @@ use Rattle.iv_cli.specs.Words.{option_of}
 pub record Said : Type 0 where
   pub sizes : Option (List ℕ)
   pub first : Option (List ℕ)
+  pub other : Option (List ℕ)
   pub width : Option (List ℕ)
-
--- a value that may be given, as the list of the values given
-abbrev pub listed : Option (List ℕ) → List (List ℕ)
-listed None = []
-listed (Some value) = value ∷ []
 
 -- a value, unless one was given before
 abbrev pub unless_given : Option (List ℕ) → Said → Option Said
@@ -25,6 +21,7 @@ abbrev pub taken_at : Option RunOption → Said → List ℕ → Option Said
 taken_at None said value = None
 taken_at (Some option.Sizes) said value = unless_given said.sizes (record said { sizes = Some value })
 taken_at (Some option.First) said value = unless_given said.first (record said { first = Some value })
+taken_at (Some option.Other) said value = unless_given said.other (record said { other = Some value })
 taken_at (Some option.Width) said value = unless_given said.width (record said { width = Some value })
 
 -- what is said after one more setting, where it can be

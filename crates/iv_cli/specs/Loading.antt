@@ -1,5 +1,6 @@
 -- The session that the files of a run begin.
-use Rattle.std.specs.Prelude.{ℕ, ◌≤◌, List, All, length, Result, Ok, Err}
+use Rattle.std.specs.Prelude.{ℕ, ◌≤◌, List, Option, IfSome, All, length, Result, Ok, Err}
+use Rattle.std.specs.Option.{option_map, option_transpose}
 use Rattle.iv_text.specs.Read.{Fits}
 use Rattle.iv_text.specs.Genome.{Sequences}
 use Rattle.iv_text.specs.GenomeFile.{genome_of}
@@ -11,7 +12,7 @@ use Rattle.iv_state.specs.States.{State, begun}
 use Rattle.iv_cli.specs.declared.fault.CliFault.{CliFault}
 use Rattle.iv_cli.specs.declared.fault.CliFault.TheVariants.{Damaged, Memory}
 use Rattle.iv_cli.specs.declared.plan.Slot.{Slot}
-use Rattle.iv_cli.specs.declared.plan.Slot.TheVariants.{Sizes, First}
+use Rattle.iv_cli.specs.declared.plan.Slot.TheVariants.{Sizes, First, Other}
 
 -- how a fault of a file is told: want of memory is no damage
 abbrev pub fault_of : LoadCause → CliFault → CliFault
@@ -21,38 +22,50 @@ fault_of other damaged = damaged
 abbrev pub damage_of : Slot → LoadFault → CliFault
 damage_of slot f = fault_of f.cause (Damaged slot f)
 
--- what the files of a run say, and how many records a track of them may hold
+-- what the files of a run say, and how many records each track of them may hold
 pub record Parsed : Type 0 where
   pub genome : Sequences
   pub first : Bed
+  pub second : Option Bed
   pub limit : ℕ
 
--- the records of the first file fit the genome and are not more than the limit, and that is one of a track
-pub record FitTogether (genome : Sequences) (first : Bed) (limit : ℕ) : Type 0 where
+-- the records of each BED file fit the genome at the file's width and are not more than the limit, and that is one of a track
+pub record FitTogether (genome : Sequences) (first : Bed) (second : Option Bed) (limit : ℕ) : Type 0 where
   pub fit : All (Fits genome first.width) first.rows
   pub few : length first.rows ≤ limit
+  pub second_fit : IfSome second (λ file. All (Fits genome file.width) file.rows)
+  pub second_few : IfSome second (λ file. length file.rows ≤ limit)
   pub bounded : limit ≤ 4000000
 
--- a genome and the first file, or the fault of that
-abbrev pub with_first : Sequences → ℕ → Result Bed LoadFault → Result Parsed CliFault
-with_first g limit (Err f) = Err (Damaged First f)
-with_first g limit (Ok first) = Ok (record { genome = g; first = first; limit = limit })
+-- what a BED file says that may be left out
+abbrev pub second_of : Sequences → ℕ → ℕ → Option (List ℕ) → Result (Option Bed) LoadFault
+second_of g width limit text = option_transpose (option_map (bed_of g width limit) text)
 
--- the genome and the first file, or the fault of the first damaged one
-abbrev pub with_genome : ℕ → List ℕ → ℕ → Result Sequences LoadFault → Result Parsed CliFault
-with_genome width first limit (Err f) = Err (Damaged Sizes f)
-with_genome width first limit (Ok g) = with_first g limit (bed_of g width limit first)
+-- the files once the second BED file is read, or the fault of that
+abbrev pub with_second : Sequences → Bed → ℕ → Result (Option Bed) LoadFault → Result Parsed CliFault
+with_second g first limit (Err f) = Err (Damaged Other f)
+with_second g first limit (Ok second) = Ok (record { genome = g; first = first; second = second; limit = limit })
 
--- what the bytes of the genome file and of the first file say, where a file without a record has this width and a track
--- holds at most as many records as the limit; or the fault of the first damaged file
-abbrev pub parsed : ℕ → List ℕ → List ℕ → ℕ → Result Parsed CliFault
-parsed width sizes first limit = with_genome width first limit (genome_of sizes)
+-- the files once the first BED file is read, or the fault of the first damaged one from there on
+abbrev pub with_first : Sequences → ℕ → Option (List ℕ) → ℕ → Result Bed LoadFault → Result Parsed CliFault
+with_first g width other limit (Err f) = Err (Damaged First f)
+with_first g width other limit (Ok first) = with_second g first limit (second_of g width limit other)
+
+-- the files once the genome file is read, or the fault of the first damaged one
+abbrev pub with_genome : ℕ → List ℕ → Option (List ℕ) → ℕ → Result Sequences LoadFault → Result Parsed CliFault
+with_genome width first other limit (Err f) = Err (Damaged Sizes f)
+with_genome width first other limit (Ok g) = with_first g width other limit (bed_of g width limit first)
+
+-- what the bytes of the genome file, of the first BED file and of the second, where there is one, say: a BED file without
+-- a record has this width, and a track holds at most as many records as the limit; or the fault of the first damaged file
+abbrev pub parsed : ℕ → List ℕ → List ℕ → Option (List ℕ) → ℕ → Result Parsed CliFault
+parsed width sizes first other limit = with_genome width first other limit (genome_of sizes)
 
 -- the session that files begin, unless they are damaged
 abbrev pub session_of : Result Parsed CliFault → Result State CliFault
 session_of (Err f) = Err f
-session_of (Ok files) = Ok (begun files.genome files.first files.limit)
+session_of (Ok files) = Ok (begun files.genome files.first files.second files.limit)
 
 -- the session that the bytes of the files begin, or the fault of the first damaged file
-abbrev pub loaded : ℕ → List ℕ → List ℕ → ℕ → Result State CliFault
-loaded width sizes first limit = session_of (parsed width sizes first limit)
+abbrev pub loaded : ℕ → List ℕ → List ℕ → Option (List ℕ) → ℕ → Result State CliFault
+loaded width sizes first other limit = session_of (parsed width sizes first other limit)

@@ -1,8 +1,8 @@
 //! What the settings of a run have said so far.
 ghost use Rattle.std.specs.Prelude.{◌≡◌, Some, None, IfErr, OnOk};
-ghost use Rattle.std.specs.Option.{option_copied};
+ghost use Rattle.std.specs.Option.{option_copied, option_to_list};
 ghost use Rattle.iv_cli.specs.Words.{option_of as option_of_word, width_of, width_said};
-ghost use Rattle.iv_cli.specs.Drafts.{taken, listed};
+ghost use Rattle.iv_cli.specs.Drafts.{taken};
 
 use crate::fault::CliFault;
 use std::marker::Model;
@@ -20,6 +20,8 @@ pub(crate) enum RunOption {
     Sizes,
     /// `-i`: the first BED file.
     First,
+    /// `-b`: the second BED file.
+    Other,
     /// `-width`: the width of a BED file without a record.
     Width,
 }
@@ -32,6 +34,8 @@ fn option_of(word: &[u8]) -> Option<RunOption>
         Some(RunOption::Sizes)
     } else if word == b"-i".as_slice() {
         Some(RunOption::First)
+    } else if word == b"-b".as_slice() {
+        Some(RunOption::Other)
     } else if word == b"-width".as_slice() {
         Some(RunOption::Width)
     } else {
@@ -54,6 +58,7 @@ fn read_width(value: &[u8]) -> Option<u8>
 pub(crate) struct Draft<'a> {
     sizes: Option<&'a [u8]>,
     first: Option<&'a [u8]>,
+    other: Option<&'a [u8]>,
     width: Option<&'a [u8]>,
 }
 
@@ -63,17 +68,18 @@ impl<'a> Model for Draft<'a> {
 
     ghost Value = { Said };
 
-    ghost view = { λ d. record { sizes = option_copied d.sizes; first = option_copied d.first; width = option_copied d.width } };
+    ghost view = { λ d. record { sizes = option_copied d.sizes; first = option_copied d.first; other = option_copied d.other; width = option_copied d.width } };
 }
 
 impl<'a> Draft<'a> {
     /// Nothing is given.
     pub(crate) fn new() -> Self
-        ensures { result ≡ record { sizes = None; first = None; width = None } }
+        ensures { result ≡ record { sizes = None; first = None; other = None; width = None } }
     {
         Draft {
             sizes: None,
             first: None,
+            other: None,
             width: None,
         }
     }
@@ -92,6 +98,10 @@ impl<'a> Draft<'a> {
                 self.first = Some(value);
                 Ok(())
             }
+            Some(RunOption::Other) if self.other.is_none() => {
+                self.other = Some(value);
+                Ok(())
+            }
             Some(RunOption::Width) if self.width.is_none() => {
                 self.width = Some(value);
                 Ok(())
@@ -107,16 +117,23 @@ impl<'a> Draft<'a> {
         self.sizes
     }
 
-    /// The first file, where it is given.
+    /// The first BED file, where it is given.
     pub(crate) fn first(&self) -> Option<&'a [u8]>
         ensures { option_copied result ≡ self.now.first }
     {
         self.first
     }
 
+    /// The second BED file, where it is given.
+    pub(crate) fn other(&self) -> Option<&'a [u8]>
+        ensures { option_copied result ≡ self.now.other }
+    {
+        self.other
+    }
+
     /// The width of a BED file without a record, 3 where none is given, and `None` where what is given says none.
     pub(crate) fn width(&self) -> Option<u8>
-        ensures { result ≡ width_said (listed self.now.width) }
+        ensures { result ≡ width_said (option_to_list self.now.width) }
     {
         match self.width {
             None => Some(USUAL_WIDTH),

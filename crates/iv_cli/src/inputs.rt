@@ -1,12 +1,15 @@
 //! Parsing the files of a run, and the session that they begin.
-ghost use Rattle.std.specs.Prelude.{◌≡◌, ◌≤◌, ◌⊎◌, Ok, Err, IfOk, IfErr};
+ghost use Rattle.std.specs.Prelude.{◌≡◌, ◌≤◌, ◌⊎◌, All, length, Ok, Err, IfSome, IfOk, IfErr};
+ghost use Rattle.std.specs.Option.{option_copied};
+ghost use Rattle.iv_text.specs.Read.{Fits};
+ghost use Rattle.iv_text.specs.declared.fault.LoadCause.TheVariants as cause;
 ghost use Rattle.iv_state.specs.States.{begun};
-ghost use Rattle.iv_cli.specs.Loading.{parsed, loaded};
+ghost use Rattle.iv_cli.specs.Loading.{second_of, parsed, loaded};
 
 use crate::fault::CliFault;
 use crate::plan::{Plan, Slot};
 use iv_session::Session;
-use iv_text::{BedFile, Genome};
+use iv_text::{BedFile, Genome, LoadFault};
 use std::alloc::{Allocator, Global};
 use std::marker::Model;
 
@@ -17,6 +20,8 @@ pub struct Inputs<'a> {
     pub sizes: &'a [u8],
     /// The first BED file.
     pub first: &'a [u8],
+    /// The second BED file, where the plan names one.
+    pub other: Option<&'a [u8]>,
 }
 
 /// What the files of a run say, apart from their text.
@@ -24,6 +29,7 @@ pub struct Inputs<'a> {
 pub struct ParsedFiles<A: Allocator + Copy = Global> {
     genome: Genome<A>,
     first: BedFile<A>,
+    second: Option<BedFile<A>>,
     limit: u32,
 }
 
@@ -32,16 +38,37 @@ impl<A: Allocator + Copy> Model for ParsedFiles<A> {
 
     ghost Value = { Parsed };
 
-    ghost view = { λ files. record { genome = files.genome; first = files.first; limit = files.limit } };
+    ghost view = { λ files. record { genome = files.genome; first = files.first; second = files.second; limit = files.limit } };
 
-    ghost invariant = { λ files. FitTogether files.genome files.first files.limit };
+    ghost invariant = { λ files. FitTogether files.genome files.first files.second files.limit };
+}
+
+/// What the second BED file says, where there is one, or its first fault.
+fn parse_second<A: Allocator + Copy>(
+    alloc: A,
+    genome: &Genome<A>,
+    width: u8,
+    limit: u32,
+    text: Option<&[u8]>,
+) -> Result<Option<BedFile<A>>, LoadFault>
+    requires { (3 ≤ width) × (width ≤ 6) }
+    ensures ok { IfOk result (λ second. second_of genome.now width limit (option_copied text.entry) ≡ Ok second) }
+    ensures fit { IfOk result (λ second. IfSome second (λ file. All (Fits genome.now file.width) file.rows)) }
+    ensures few { IfOk result (λ second. IfSome second (λ file. length file.rows ≤ limit)) }
+    ensures err { IfErr result (λ fault. (fault ≡ record { line = 0; cause = cause.Memory }) ⊎
+        (second_of genome.now width limit (option_copied text.entry) ≡ Err fault)) }
+{
+    match text {
+        None => Ok(None),
+        Some(text) => Ok(Some(BedFile::parse(alloc, genome, width, limit, text)?)),
+    }
 }
 
 impl<A: Allocator + Copy> ParsedFiles<A> {
     /// What the files of a run say, or the fault of the first damaged one.
     ///
-    /// The genome file is read first, then the first file. A BED file without a record has the width that the plan
-    /// says, and it may have at most `limit` records.
+    /// The genome file is read first, then the first BED file, then the second, where there is one. A BED file without
+    /// a record has the width that the plan says, and each may have at most `limit` records.
     pub fn parse(
         alloc: A,
         plan: &Plan<'_>,
@@ -49,8 +76,10 @@ impl<A: Allocator + Copy> ParsedFiles<A> {
         limit: u32,
     ) -> Result<ParsedFiles<A>, CliFault>
         requires { limit ≤ 4000000 }
-        ensures ok { IfOk result (λ files. parsed plan.now.width inputs.now.sizes.now inputs.now.first.now limit ≡ Ok files) }
-        ensures err { IfErr result (λ fault. (fault ≡ CliFault.Memory) ⊎ (parsed plan.now.width inputs.now.sizes.now inputs.now.first.now limit ≡ Err fault)) }
+        ensures ok { IfOk result (λ files.
+            parsed plan.now.width inputs.now.sizes.now inputs.now.first.now (option_copied inputs.now.other) limit ≡ Ok files) }
+        ensures err { IfErr result (λ fault. (fault ≡ CliFault.Memory) ⊎
+            (parsed plan.now.width inputs.now.sizes.now inputs.now.first.now (option_copied inputs.now.other) limit ≡ Err fault)) }
     {
         let genome = match Genome::parse(alloc, inputs.sizes) {
             Ok(genome) => genome,
@@ -60,9 +89,14 @@ impl<A: Allocator + Copy> ParsedFiles<A> {
             Ok(first) => first,
             Err(fault) => return Err(CliFault::from((Slot::First, fault))),
         };
+        let second = match parse_second(alloc, &genome, plan.width(), limit, inputs.other) {
+            Ok(second) => second,
+            Err(fault) => return Err(CliFault::from((Slot::Other, fault))),
+        };
         Ok(ParsedFiles {
             genome,
             first,
+            second,
             limit,
         })
     }
@@ -73,15 +107,16 @@ impl<A: Allocator + Copy> ParsedFiles<A> {
     ///
     /// Memory was refused.
     pub fn begin(self, alloc: A) -> Result<Session<A>, CliFault>
-        ensures ok { IfOk result (λ session. session ≡ begun self.genome self.first self.limit) }
+        ensures ok { IfOk result (λ session. session ≡ begun self.genome self.first self.second self.limit) }
         ensures err { IfErr result (λ fault. fault ≡ CliFault.Memory) }
     {
         let ParsedFiles {
             genome,
             first,
+            second,
             limit,
         } = self;
-        Ok(Session::new(alloc, genome, first, limit)?)
+        Ok(Session::new(alloc, genome, first, second, limit)?)
     }
 }
 
@@ -94,8 +129,10 @@ pub fn load<A: Allocator + Copy>(
     limit: u32,
 ) -> Result<Session<A>, CliFault>
     requires { limit ≤ 4000000 }
-    ensures ok { IfOk result (λ session. loaded plan.now.width inputs.now.sizes.now inputs.now.first.now limit ≡ Ok session) }
-    ensures err { IfErr result (λ fault. (fault ≡ CliFault.Memory) ⊎ (loaded plan.now.width inputs.now.sizes.now inputs.now.first.now limit ≡ Err fault)) }
+    ensures ok { IfOk result (λ session.
+        loaded plan.now.width inputs.now.sizes.now inputs.now.first.now (option_copied inputs.now.other) limit ≡ Ok session) }
+    ensures err { IfErr result (λ fault. (fault ≡ CliFault.Memory) ⊎
+        (loaded plan.now.width inputs.now.sizes.now inputs.now.first.now (option_copied inputs.now.other) limit ≡ Err fault)) }
 {
     ParsedFiles::parse(alloc, plan, inputs, limit)?.begin(alloc)
 }

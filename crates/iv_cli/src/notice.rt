@@ -35,14 +35,15 @@ impl Notice {
 /// How the program is used.
 const HELP: &[u8] = b"bedkeep keeps a track of genome intervals correct while you edit it.
 
-usage: bedkeep session -g GENOME -i BED [-width N]
+usage: bedkeep session -g GENOME -i BED [-b BED] [-width N]
        bedkeep --help
        bedkeep --version
 
 session reads a script on standard input and prints to standard output.
   -g GENOME   names and lengths of the sequences, two columns
   -i BED      the records of the track, three to six columns, in any order
-  -width N    columns of the track where BED has no record, 3 to 6 (default 3)
+  -b BED      records of a second file, which intersect and subtract look at
+  -width N    columns of a BED without a record, 3 to 6 (default 3)
 
 Lines of a script, their fields parted by one TAB:
   open      NAME  VIEW                open a view under a name
@@ -64,6 +65,12 @@ Views:
   genomecov -bg     depth above 0: a row for each interval of one depth
   genomecov -bga    the same, also where the depth is 0
   genomecov -d      depth at each position, counted from 1
+  intersect         for each record its overlaps with records of the second file;
+                    -wa the record whole, -wb also the other record whole,
+                    -u the record once if there is an overlap, -v if there is none,
+                    -c the record with their number
+  subtract          the parts of each record that the second file doesn't cover;
+                    -A the record whole if it has no overlap
 
 example:
   printf 'open\\tm\\tmerge\\nadd\\tchr1\\t10\\t20\\nprint\\tm\\n' |

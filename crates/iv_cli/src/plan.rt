@@ -25,24 +25,26 @@ pub enum Slot {
 pub struct Plan<'a> {
     sizes: &'a [u8],
     first: &'a [u8],
+    other: Option<&'a [u8]>,
     width: u8,
 }
 
 impl<'a> Model for Plan<'a> {
     ghost use Rattle.std.specs.Prelude.{◌≤◌};
+    ghost use Rattle.std.specs.Option.{option_copied};
     ghost use Rattle.iv_cli.specs.Words.{RunPlan};
 
     ghost Value = { RunPlan };
 
-    ghost view = { λ p. record { sizes = p.sizes.now; first = p.first.now; width = p.width } };
+    ghost view = { λ p. record { sizes = p.sizes.now; first = p.first.now; other = option_copied p.other; width = p.width } };
 
     ghost invariant = { λ p. (3 ≤ p.width) × (p.width ≤ 6) };
 }
 
 impl<'a> Plan<'a> {
     /// What the words after the program's name ask for: `session`, and behind it the options `-g GENOME`,
-    /// `-i RECORDS` and, where it is wanted, `-width N`, in any order, each once. The word after an option is its
-    /// value, whatever it is; `N` is one digit from 3 to 6.
+    /// `-i RECORDS` and, where they are wanted, `-b RECORDS` for the second file and `-width N`, in any order, each
+    /// once. The word after an option is its value, whatever it is; `N` is one digit from 3 to 6.
     ///
     /// Any other words are the fault `Words` with the number 16.
     pub fn read(words: &[&'a [u8]]) -> Result<Plan<'a>, CliFault>
@@ -73,6 +75,7 @@ impl<'a> Plan<'a> {
         Ok(Plan {
             sizes,
             first,
+            other: draft.other(),
             width,
         })
     }
@@ -84,7 +87,8 @@ impl<'a> Plan<'a> {
         match slot {
             Slot::Sizes => Some(self.sizes),
             Slot::First => Some(self.first),
-            Slot::Other | Slot::Bases => None,
+            Slot::Other => self.other,
+            Slot::Bases => None,
         }
     }
 
