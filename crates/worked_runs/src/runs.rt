@@ -4,8 +4,11 @@ use iv_session::{RunCause, RunFault, Summary};
 use iv_text::{Fields, LoadCause, LoadFault, MemSource, RecordFault, Source, StdSource};
 use std::test::Fail;
 
-/// What words that stand between spaces ask for: the genome file, the records, the width. `None` where they are refused.
-fn plan_of<'a>(rt: &HostRuntime, text: &'a [u8]) -> Result<Option<(&'a [u8], &'a [u8], u8)>, Fail> {
+/// What words ask for: the genome file, the records, the second file, the width.
+type Asked<'a> = (&'a [u8], &'a [u8], Option<&'a [u8]>, u8);
+
+/// What words that stand between spaces ask for, `None` where they are refused.
+fn plan_of<'a>(rt: &HostRuntime, text: &'a [u8]) -> Result<Option<Asked<'a>>, Fail> {
     let mut words = Vec::new(rt.alloc());
     let mut fields = Fields::of(text, b' ');
     for _ in 0..20u32 {
@@ -17,10 +20,10 @@ fn plan_of<'a>(rt: &HostRuntime, text: &'a [u8]) -> Result<Option<(&'a [u8], &'a
     match Plan::read(words.as_slice()) {
         Ok(plan) => match (plan.file(Slot::Sizes), plan.file(Slot::First)) {
             (Some(sizes), Some(first)) => {
-                if plan.file(Slot::Other).is_some() || plan.file(Slot::Bases).is_some() {
+                if plan.file(Slot::Bases).is_some() {
                     return Err(Fail::new("a file that was not named"));
                 }
-                Ok(Some((sizes, first, plan.width())))
+                Ok(Some((sizes, first, plan.file(Slot::Other), plan.width())))
             }
             _ => Err(Fail::new("a file is missing")),
         },
@@ -43,7 +46,28 @@ fn words_of_runs(rt: HostRuntime) -> Result<(), Fail> {
         (b"session -width 3 -g g -i a", b"g", b"a", 3),
         (b"session -g g -i a -width 6", b"g", b"a", 6),
     ] {
-        assert!(rt; plan_of(&rt, words)? == Some((sizes, first, width)));
+        assert!(rt; plan_of(&rt, words)? == Some((sizes, first, None, width)));
+    }
+    Ok(())
+}
+
+#[test]
+fn words_of_runs_with_a_second_file(rt: HostRuntime) -> Result<(), Fail> {
+    for (words, sizes, first, other, width) in [
+        (
+            b"session -g g -i a -b b".as_slice(),
+            b"g".as_slice(),
+            b"a".as_slice(),
+            b"b".as_slice(),
+            3,
+        ),
+        (b"session -b b -i a -g g", b"g", b"a", b"b", 3),
+        (b"session -i a -width 6 -b -i -g g", b"g", b"a", b"-i", 6),
+        (b"session -b -b -g -b -i -b", b"-b", b"-b", b"-b", 3),
+        (b"session -g g -b  -i a", b"g", b"a", b"", 3),
+        (b"session -b -width -g g -i a", b"g", b"a", b"-width", 3),
+    ] {
+        assert!(rt; plan_of(&rt, words)? == Some((sizes, first, Some(other), width)));
     }
     Ok(())
 }
@@ -59,6 +83,10 @@ fn words_that_are_no_run(rt: HostRuntime) -> Result<(), Fail> {
         b"session -g g -i a -g g",
         b"merge -g g -i a",
         b"session -b g -i a",
+        b"session -g g -b b",
+        b"session -g g -i a -b",
+        b"session -b b -g g -i a -b b",
+        b"session -b b -g g -b c -i a",
         b"session -width 3 -g g -width 3 -i a",
         b"session -width 3 -g g -width 3",
         b"session -width 2 -g g -i a",
@@ -73,14 +101,17 @@ fn words_that_are_no_run(rt: HostRuntime) -> Result<(), Fail> {
     Ok(())
 }
 
-/// The fault of files, or how many records they load, and the width of these.
+/// The fault of files, or how many records the first one loads, and the width of these. A file without a record has
+/// this width, and at most two records are let in.
 fn loaded(
     rt: &HostRuntime,
-    sizes: &[u8],
-    first: &[u8],
+    inputs: &Inputs<'_>,
+    width: &[u8],
 ) -> Result<Result<(u32, u8), CliFault>, Fail> {
-    let plan = Plan::read(&[b"session", b"-g", b"sizes", b"-i", b"records"])?;
-    match load(rt.alloc(), &plan, &Inputs { sizes, first }, 2) {
+    let plan = Plan::read(&[
+        b"session", b"-g", b"g", b"-i", b"a", b"-b", b"b", b"-width", width,
+    ])?;
+    match load(rt.alloc(), &plan, inputs, 2) {
         Ok(session) => Ok(Ok((session.len(), session.track().width()))),
         Err(fault) => Ok(Err(fault)),
     }
@@ -93,7 +124,42 @@ fn files_that_load(rt: HostRuntime) -> Result<(), Fail> {
         (b"chr1\t1\t2\ta\n", 1, 4),
         (b"chr1\t1\t2\nchr1\t1\t2\n", 2, 3),
     ] {
-        assert!(rt; loaded(&rt, b"chr1\t9\n", first)? == Ok((count, width)));
+        let inputs = Inputs {
+            sizes: b"chr1\t9\n",
+            first,
+            other: None,
+        };
+        assert!(rt; loaded(&rt, &inputs, b"3")? == Ok((count, width)));
+    }
+    Ok(())
+}
+
+#[test]
+fn second_files_that_load(rt: HostRuntime) -> Result<(), Fail> {
+    for (first, other, width, want) in [
+        // Each file has its own width.
+        (
+            b"chr1\t1\t2\n".as_slice(),
+            b"chr1\t1\t2\ta\t0\t+\n".as_slice(),
+            b"4".as_slice(),
+            (1, 3),
+        ),
+        (
+            b"chr1\t1\t2\ta\n",
+            b"chr1\t1\t2\r\nchr1\t1\t2\r\n",
+            b"3",
+            (1, 4),
+        ),
+        // A file without a record.
+        (b"chr1\t1\t2\ta\n", b"", b"6", (1, 4)),
+        (b"", b"# none\n\n", b"6", (0, 6)),
+    ] {
+        let inputs = Inputs {
+            sizes: b"chr1\t9\n",
+            first,
+            other: Some(other),
+        };
+        assert!(rt; loaded(&rt, &inputs, width)? == Ok(want));
     }
     Ok(())
 }
@@ -123,8 +189,47 @@ fn files_that_are_damaged(rt: HostRuntime) -> Result<(), Fail> {
             LoadCause::TooMany,
         ),
     ] {
+        // The second file is damaged too, and isn't told.
+        for other in [None, Some(b"x".as_slice())] {
+            let inputs = Inputs {
+                sizes,
+                first,
+                other,
+            };
+            let fault = LoadFault { line, cause };
+            assert!(rt; loaded(&rt, &inputs, b"3")? == Err(CliFault::Damaged(slot, fault)));
+        }
+    }
+    Ok(())
+}
+
+#[test]
+fn second_files_that_are_damaged(rt: HostRuntime) -> Result<(), Fail> {
+    for (other, line, cause) in [
+        (b"chr1".as_slice(), 1, LoadCause::Columns),
+        (
+            b"#\r\nchr1\t1\t10\r\n",
+            2,
+            LoadCause::Record(RecordFault::PastEnd),
+        ),
+        (
+            b"chr1\t1\t2\nchr1\t1\t2\ta\n",
+            2,
+            LoadCause::Record(RecordFault::Columns),
+        ),
+        (
+            b"chr1\t1\t2\nchr1\t1\t2\nchr1\t1\t2\n",
+            3,
+            LoadCause::TooMany,
+        ),
+    ] {
+        let inputs = Inputs {
+            sizes: b"chr1\t9\n",
+            first: b"chr1\t1\t2\ta\nchr1\t1\t2\ta\n",
+            other: Some(other),
+        };
         let fault = LoadFault { line, cause };
-        assert!(rt; loaded(&rt, sizes, first)? == Err(CliFault::Damaged(slot, fault)));
+        assert!(rt; loaded(&rt, &inputs, b"3")? == Err(CliFault::Damaged(Slot::Other, fault)));
     }
     Ok(())
 }
@@ -169,6 +274,7 @@ fn statuses_of_faults(rt: HostRuntime) {
     for (fault, want) in [
         (CliFault::Words(16), 2),
         (CliFault::Damaged(Slot::First, damage), 3),
+        (CliFault::Damaged(Slot::Other, damage), 3),
         (CliFault::Output, 4),
         (CliFault::Memory, 5),
     ] {

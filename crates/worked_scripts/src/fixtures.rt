@@ -6,6 +6,27 @@ use std::test::Fail;
 /// A genome of three sequences, of 100 bases, of 50 and of none.
 pub(crate) const SIZES: &[u8] = b"chr1\t100\nchr2\t50\nchr3\t0\n";
 
+/// A session of a genome file, a BED file and a second one or none. Where a BED file has no record, it has the width.
+fn session_beside(
+    rt: &HostRuntime,
+    sizes: &[u8],
+    width: u8,
+    first: &[u8],
+    second: Option<&[u8]>,
+    limit: u32,
+) -> Result<Session, Fail> {
+    if width < 3 || width > 6 || limit > 4_000_000 {
+        return Err(Fail::new("no width or limit of a session"));
+    }
+    let genome = Genome::parse(rt.alloc(), sizes)?;
+    let file = BedFile::parse(rt.alloc(), &genome, width, limit, first)?;
+    let second = match second {
+        Some(second) => Some(BedFile::parse(rt.alloc(), &genome, width, limit, second)?),
+        None => None,
+    };
+    Ok(Session::new(rt.alloc(), genome, file, second, limit)?)
+}
+
 /// A session of a genome file and a BED file. Where that has no record, it has the width.
 pub(crate) fn session_of(
     rt: &HostRuntime,
@@ -14,12 +35,7 @@ pub(crate) fn session_of(
     first: &[u8],
     limit: u32,
 ) -> Result<Session, Fail> {
-    if width < 3 || width > 6 || limit > 4_000_000 {
-        return Err(Fail::new("no width or limit of a session"));
-    }
-    let genome = Genome::parse(rt.alloc(), sizes)?;
-    let file = BedFile::parse(rt.alloc(), &genome, width, limit, first)?;
-    Ok(Session::new(rt.alloc(), genome, file, limit)?)
+    session_beside(rt, sizes, width, first, None, limit)
 }
 
 /// A session of that genome and a BED file of three columns or of its own width.
@@ -137,18 +153,34 @@ fn writes(
     )
 }
 
-/// Whether the example's script, in pieces of this number of bytes, writes and leaves what it is to.
-fn holds(rt: &HostRuntime, example: &Example<'_>, piece: usize) -> Result<bool, Fail> {
-    let mut session = session_of(rt, SIZES, example.width, example.first, example.limit)?;
+/// Whether the example's script, beside a second file or none and in pieces of this number of bytes, writes and leaves
+/// what it is to.
+fn holds(
+    rt: &HostRuntime,
+    second: Option<&[u8]>,
+    example: &Example<'_>,
+    piece: usize,
+) -> Result<bool, Fail> {
+    let (width, limit) = (example.width, example.limit);
+    let mut session = session_beside(rt, SIZES, width, example.first, second, limit)?;
     let is_written = writes(rt, &mut session, example, piece)?;
     Ok(is_written && session.len() == example.left)
 }
 
 /// Runs the script of each example, whole and in small pieces.
 pub(crate) fn check(rt: &HostRuntime, examples: &[Example<'_>]) -> Result<(), Fail> {
+    check_beside(rt, None, examples)
+}
+
+/// Runs the script of each example beside a second file or none, whole and in small pieces.
+pub(crate) fn check_beside(
+    rt: &HostRuntime,
+    second: Option<&[u8]>,
+    examples: &[Example<'_>],
+) -> Result<(), Fail> {
     for example in examples {
         for piece in [1, 3, 7, 1000] {
-            if !holds(rt, example, piece)? {
+            if !holds(rt, second, example, piece)? {
                 return Err(Fail::new("another outcome"));
             }
         }

@@ -12,6 +12,8 @@ mod fixtures;
 #[cfg(test)]
 mod scripts;
 #[cfg(test)]
+mod second;
+#[cfg(test)]
 mod sizes;
 #[cfg(test)]
 mod stops;

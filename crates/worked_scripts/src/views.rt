@@ -1,6 +1,6 @@
 //! Several views of a session: opening, closing, printing one and all.
 use crate::fixtures::{Example, Ran, SIZES, check, run, session};
-use iv_session::{DepthRows, ViewFault, ViewWords};
+use iv_session::{DepthRows, IntersectRows, KeptView, ViewFault, ViewWords, WrittenView};
 use std::test::Fail;
 
 #[test]
@@ -93,43 +93,90 @@ fn sixty_four_views(rt: HostRuntime) -> Result<(), Fail> {
     Ok(())
 }
 
-/// What words say for a track of three columns.
+/// What words say for a track of three columns beside a second file.
 fn view_of(rt: &HostRuntime, words: &[&[u8]]) -> Result<ViewWords, ViewFault> {
-    ViewWords::read(rt.alloc(), 3, false, false, words)
+    ViewWords::read(rt.alloc(), 3, true, false, words)
 }
 
 #[test]
-fn words_of_views(rt: HostRuntime) {
+fn words_of_kept_views(rt: HostRuntime) {
     for (words, want) in [
-        (
-            [b"cluster".as_slice()].as_slice(),
-            Ok(ViewWords::Cluster(0)),
-        ),
-        (&[b"cluster", b"-d", b"0100"], Ok(ViewWords::Cluster(100))),
-        (&[b"complement"], Ok(ViewWords::Complement(false))),
-        (&[b"complement", b"-L"], Ok(ViewWords::Complement(true))),
+        ([b"cluster".as_slice()].as_slice(), KeptView::Cluster(0)),
+        (&[b"cluster", b"-d", b"0100"], KeptView::Cluster(100)),
+        (&[b"complement"], KeptView::Complement(false)),
+        (&[b"complement", b"-L"], KeptView::Complement(true)),
         (
             &[b"genomecov", b"-bg"],
-            Ok(ViewWords::Genomecov(DepthRows::Covered)),
+            KeptView::Genomecov(DepthRows::Covered),
         ),
         (
             &[b"genomecov", b"-bga"],
-            Ok(ViewWords::Genomecov(DepthRows::All)),
+            KeptView::Genomecov(DepthRows::All),
         ),
         (
             &[b"genomecov", b"-d"],
-            Ok(ViewWords::Genomecov(DepthRows::EachPosition)),
+            KeptView::Genomecov(DepthRows::EachPosition),
         ),
-        (&[b"Merge"], Err(ViewFault::Words)),
-        (&[b"merge", b"-s"], Err(ViewFault::NoStrand)),
-        (&[b"merge", b"-c", b"4"], Err(ViewFault::Column)),
-        (&[b"cluster", b"-s"], Err(ViewFault::Words)),
-        (&[b"genomecov"], Err(ViewFault::Words)),
-        (&[b"genomecov", b"-dz"], Err(ViewFault::Words)),
-        (&[b"-bg", b"genomecov"], Err(ViewFault::Words)),
-        (&[b"genomecov", b"-bg", b"-bg"], Err(ViewFault::Words)),
-        (&[], Err(ViewFault::Words)),
     ] {
-        assert!(rt; view_of(&rt, words) == want);
+        assert!(rt; view_of(&rt, words) == Ok(ViewWords::Kept(want)));
+    }
+}
+
+#[test]
+fn words_of_written_views(rt: HostRuntime) {
+    for (words, want) in [
+        (
+            [b"intersect".as_slice()].as_slice(),
+            WrittenView::Intersect(IntersectRows::Shared),
+        ),
+        (
+            &[b"intersect", b"-wa"],
+            WrittenView::Intersect(IntersectRows::Whole),
+        ),
+        (
+            &[b"intersect", b"-wb"],
+            WrittenView::Intersect(IntersectRows::SharedAndHit),
+        ),
+        (
+            &[b"intersect", b"-wb", b"-wa"],
+            WrittenView::Intersect(IntersectRows::WholeAndHit),
+        ),
+        (
+            &[b"intersect", b"-wa", b"-u"],
+            WrittenView::Intersect(IntersectRows::IfHit),
+        ),
+        (
+            &[b"intersect", b"-v"],
+            WrittenView::Intersect(IntersectRows::IfNoHit),
+        ),
+        (
+            &[b"intersect", b"-c", b"-wa"],
+            WrittenView::Intersect(IntersectRows::Count),
+        ),
+        (&[b"subtract"], WrittenView::Subtract(false)),
+        (&[b"subtract", b"-A"], WrittenView::Subtract(true)),
+    ] {
+        assert!(rt; view_of(&rt, words) == Ok(ViewWords::Written(want)));
+    }
+}
+
+#[test]
+fn words_that_ask_for_no_view(rt: HostRuntime) {
+    for (words, want) in [
+        ([b"Merge".as_slice()].as_slice(), ViewFault::Words),
+        (&[b"merge", b"-s"], ViewFault::NoStrand),
+        (&[b"merge", b"-c", b"4"], ViewFault::Column),
+        (&[b"cluster", b"-s"], ViewFault::Words),
+        (&[b"genomecov"], ViewFault::Words),
+        (&[b"genomecov", b"-dz"], ViewFault::Words),
+        (&[b"-bg", b"genomecov"], ViewFault::Words),
+        (&[b"genomecov", b"-bg", b"-bg"], ViewFault::Words),
+        (&[b"intersect", b"-u", b"-v"], ViewFault::Words),
+        (&[b"intersect", b"-c", b"-wb"], ViewFault::Words),
+        (&[b"intersect", b"-wa", b"-wa"], ViewFault::Words),
+        (&[b"subtract", b"-a"], ViewFault::Words),
+        (&[], ViewFault::Words),
+    ] {
+        assert!(rt; view_of(&rt, words) == Err(want));
     }
 }

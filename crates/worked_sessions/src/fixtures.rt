@@ -14,7 +14,23 @@ pub(crate) fn session(rt: &HostRuntime, first: &[u8], limit: u32) -> Result<Sess
     }
     let genome = Genome::parse(rt.alloc(), SIZES)?;
     let file = BedFile::parse(rt.alloc(), &genome, 3, limit, first)?;
-    Ok(Session::new(rt.alloc(), genome, file, limit)?)
+    Ok(Session::new(rt.alloc(), genome, file, None, limit)?)
+}
+
+/// A session of that genome, a BED file and a second one, each of three columns or of its own width.
+pub(crate) fn session_beside(
+    rt: &HostRuntime,
+    first: &[u8],
+    second: &[u8],
+    limit: u32,
+) -> Result<Session, Fail> {
+    if limit > 4_000_000 {
+        return Err(Fail::new("a limit above the greatest one"));
+    }
+    let genome = Genome::parse(rt.alloc(), SIZES)?;
+    let file = BedFile::parse(rt.alloc(), &genome, 3, limit, first)?;
+    let other = BedFile::parse(rt.alloc(), &genome, 3, limit, second)?;
+    Ok(Session::new(rt.alloc(), genome, file, Some(other), limit)?)
 }
 
 /// An edit by the records of lines.

@@ -8,6 +8,8 @@ mod refusals;
 #[cfg(test)]
 mod repairs;
 #[cfg(test)]
+mod second;
+#[cfg(test)]
 mod sessions;
 #[cfg(test)]
 mod stale_views;

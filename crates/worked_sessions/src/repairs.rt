@@ -23,7 +23,7 @@ fn most_steps(around: u32) -> u64 {
 fn with_views(rt: &HostRuntime, text: &[u8]) -> Result<Session, Fail> {
     let genome = Genome::parse(rt.alloc(), b"big\t1000000\n")?;
     let file = BedFile::parse(rt.alloc(), &genome, 3, 2000, text)?;
-    let mut session = Session::new(rt.alloc(), genome, file, 2000)?;
+    let mut session = Session::new(rt.alloc(), genome, file, None, 2000)?;
     for (name, words) in VIEWS {
         session.open_view(name, words)?;
     }
@@ -41,34 +41,46 @@ fn repairs_within(session: &mut Session, edit: Edit<'_>, most: u64) -> Result<bo
     Ok(done.stale == 0 && done.steps <= most)
 }
 
-/// Whether a view prints this text.
-fn prints(rt: &HostRuntime, session: &mut Session, name: &[u8], want: &[u8]) -> Result<bool, Fail> {
-    let mut sink = MemSink::new(rt.alloc(), 300, 99)?;
-    session.print_view(name, &mut sink)?;
-    Ok(sink.bytes() == want)
+/// Whether each of these views prints its text.
+fn print_as(
+    rt: &HostRuntime,
+    session: &mut Session,
+    wanted: &[(&[u8], &[u8])],
+) -> Result<bool, Fail> {
+    for (name, want) in wanted {
+        let mut sink = MemSink::new(rt.alloc(), 300, 99)?;
+        session.print_view(name, &mut sink)?;
+        if sink.bytes() != *want {
+            return Ok(false);
+        }
+    }
+    Ok(true)
+}
+
+/// Whether each of these edits takes at most this number of steps and leaves all views current.
+fn repair_within(session: &mut Session, edits: &[Edit<'_>], most: u64) -> Result<bool, Fail> {
+    for edit in edits {
+        if !repairs_within(session, *edit, most)? {
+            return Ok(false);
+        }
+    }
+    Ok(true)
 }
 
 /// A record that holds two others is taken out: three records stood around it.
-fn splits(rt: &HostRuntime) -> Result<bool, Fail> {
-    let mut session = with_views(rt, b"big\t0\t100\nbig\t10\t20\nbig\t60\t70\n")?;
-    let edit = Edit::Remove(b"big\t0\t100");
-    Ok(
-        repairs_within(&mut session, edit, most_steps(3))?
-            && prints(rt, &mut session, b"m", b"big\t10\t20\nbig\t60\t70\n")?
-            && prints(rt, &mut session, b"d", b"big\t10\t70\n")?
-            && prints(
-                rt,
-                &mut session,
-                b"c",
-                b"big\t0\t10\nbig\t20\t60\nbig\t70\t1000000\n",
-            )?
-            && prints(rt, &mut session, b"g", b"big\t10\t20\t1\nbig\t60\t70\t1\n")?,
-    )
-}
-
 #[test]
 fn removal_that_splits_a_block(rt: HostRuntime) -> Result<(), Fail> {
-    assert!(rt; splits(&rt)?);
+    let mut session = with_views(&rt, b"big\t0\t100\nbig\t10\t20\nbig\t60\t70\n")?;
+    let edits = [Edit::Remove(b"big\t0\t100")];
+    let texts: [(&[u8], &[u8]); 4] = [
+        (b"m", b"big\t10\t20\nbig\t60\t70\n"),
+        (b"d", b"big\t10\t70\n"),
+        (b"c", b"big\t0\t10\nbig\t20\t60\nbig\t70\t1000000\n"),
+        (b"g", b"big\t10\t20\t1\nbig\t60\t70\t1\n"),
+    ];
+    let done = repair_within(&mut session, &edits, most_steps(3))?
+        && print_as(&rt, &mut session, &texts)?;
+    assert!(rt; done);
     Ok(())
 }
 
@@ -83,19 +95,13 @@ fn thousand_apart(rt: &HostRuntime) -> Result<String, Fail> {
     Ok(text)
 }
 
-/// Edits of a thousand records, each with one record around it, or in one case none but its neighbours within the distance.
-fn edits_far_apart(rt: &HostRuntime) -> Result<bool, Fail> {
-    let mut session = with_views(rt, thousand_apart(rt)?.as_bytes())?;
-    Ok(
-        repairs_within(&mut session, Edit::Add(b"big\t500\t510"), most_steps(1))?
-            && repairs_within(&mut session, Edit::Remove(b"big\t0\t10"), most_steps(1))?,
-    )
-}
-
-/// The steps of an edit don't grow with the track.
+/// Edits of a thousand records, each with one record around it, or in one case none but its neighbours within the distance:
+/// the steps of an edit don't grow with the track.
 #[test]
 fn edits_of_a_thousand_records(rt: HostRuntime) -> Result<(), Fail> {
-    assert!(rt; edits_far_apart(&rt)?);
+    let mut session = with_views(&rt, thousand_apart(&rt)?.as_bytes())?;
+    let edits = [Edit::Add(b"big\t500\t510"), Edit::Remove(b"big\t0\t10")];
+    assert!(rt; repair_within(&mut session, &edits, most_steps(1))?);
     Ok(())
 }
 
@@ -109,21 +115,18 @@ fn thousand_copies(rt: &HostRuntime) -> Result<String, Fail> {
 }
 
 /// One copy more, and two less: the blocks stay, the depth changes.
-fn edits_copies(rt: &HostRuntime) -> Result<bool, Fail> {
-    let mut session = with_views(rt, thousand_copies(rt)?.as_bytes())?;
-    let most = most_steps(1001);
-    Ok(
-        repairs_within(&mut session, Edit::Add(b"big\t0\t10"), most)?
-            && repairs_within(&mut session, Edit::Remove(b"big\t0\t10"), most)?
-            && repairs_within(&mut session, Edit::Remove(b"big\t0\t10"), most)?
-            && prints(rt, &mut session, b"m", b"big\t0\t10\n")?
-            && prints(rt, &mut session, b"c", b"big\t10\t1000000\n")?
-            && prints(rt, &mut session, b"g", b"big\t0\t10\t999\n")?,
-    )
-}
-
 #[test]
 fn edits_of_a_thousand_copies(rt: HostRuntime) -> Result<(), Fail> {
-    assert!(rt; edits_copies(&rt)?);
+    let mut session = with_views(&rt, thousand_copies(&rt)?.as_bytes())?;
+    let copy = b"big\t0\t10";
+    let edits = [Edit::Add(copy), Edit::Remove(copy), Edit::Remove(copy)];
+    let texts: [(&[u8], &[u8]); 3] = [
+        (b"m", b"big\t0\t10\n"),
+        (b"c", b"big\t10\t1000000\n"),
+        (b"g", b"big\t0\t10\t999\n"),
+    ];
+    let done = repair_within(&mut session, &edits, most_steps(1001))?
+        && print_as(&rt, &mut session, &texts)?;
+    assert!(rt; done);
     Ok(())
 }

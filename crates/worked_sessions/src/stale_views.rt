@@ -8,7 +8,7 @@ use std::alloc::Global;
 use std::test::Fail;
 
 /// The views that are open: the name and the words of each, and its text before the edits and after them.
-const VIEWS: [(&[u8], &[&[u8]], &[u8], &[u8]); 5] = [
+const VIEWS: [(&[u8], &[&[u8]], &[u8], &[u8]); 6] = [
     (
         b"a",
         &[b"merge"],
@@ -39,6 +39,13 @@ const VIEWS: [(&[u8], &[&[u8]], &[u8], &[u8]); 5] = [
         b"chr1\t30\t100\nchr2\t0\t1\nchr2\t2\t3\nchr2\t4\t5\nchr2\t6\t7\nchr2\t8\t9\nchr2\t10\t11\nchr2\t12\t50\n",
         b"chr1\t0\t20\nchr1\t40\t100\nchr2\t0\t1\nchr2\t2\t3\nchr2\t4\t5\nchr2\t6\t7\nchr2\t8\t9\nchr2\t10\t11\nchr2\t12\t50\n",
     ),
+    // It is written beside the second file, and is never stale.
+    (
+        b"f",
+        &[b"intersect", b"-c"],
+        b"chr1\t0\t30\tn\t1\nchr1\t10\t20\tn\t1\nchr1\t20\t30\tn\t1\nchr2\t1\t2\tn\t0\nchr2\t3\t4\tn\t0\nchr2\t5\t6\tn\t0\nchr2\t7\t8\tn\t0\nchr2\t9\t10\tn\t0\nchr2\t11\t12\tn\t0\n",
+        b"chr1\t20\t25\tm\t1\nchr1\t20\t30\tn\t1\nchr1\t30\t40\tn\t1\nchr2\t1\t2\tn\t0\nchr2\t3\t4\tn\t0\nchr2\t5\t6\tn\t0\nchr2\t7\t8\tn\t0\nchr2\t9\t10\tn\t0\nchr2\t11\t12\tn\t0\n",
+    ),
 ];
 
 /// What is done to the session, each with the record of a line.
@@ -48,14 +55,15 @@ const EDITS: [Edit<'static>; 3] = [
     Edit::Remove(b"chr1\t10\t20\tn"),
 ];
 
-/// The session of nine records, unless memory is refused. Depth changes at fifteen places, which fill one node of a
+/// The session of nine records and a second file of one, unless memory is refused. Depth changes at fifteen places, which fill one node of a
 /// tree: the first edit has to split it.
 fn session_of(alloc: &RefusesNth<Global>) -> Option<Session<&RefusesNth<Global>>> {
     let text =
         b"chr1\t0\t30\tn\nchr1\t10\t20\tn\nchr1\t20\t30\tn\nchr2\t1\t2\tn\nchr2\t3\t4\tn\nchr2\t5\t6\tn\nchr2\t7\t8\tn\nchr2\t9\t10\tn\nchr2\t11\t12\tn\n";
     let genome = Genome::parse(alloc, SIZES).ok()?;
     let file = BedFile::parse(alloc, &genome, 4, 12, text).ok()?;
-    Session::new(alloc, genome, file, 12).ok()
+    let other = BedFile::parse(alloc, &genome, 4, 12, b"chr1\t15\t35\n").ok()?;
+    Session::new(alloc, genome, file, Some(other), 12).ok()
 }
 
 /// What all views print after the edits.
@@ -184,30 +192,45 @@ fn refused_prints(
 
 /// Opens the views, does the edits, and prints all views at once or each by itself. How many calls met the refusal,
 /// and the most views that were stale.
+fn refused_work(
+    rt: &HostRuntime,
+    session: &mut Session<&RefusesNth<Global>>,
+    at_once: bool,
+) -> Result<(u32, u32), Fail> {
+    let opened = refused_openings(rt, session)?;
+    let (edited, stale) = refused_edits(session)?;
+    let mut printed = 0u32;
+    if at_once {
+        let all = all_texts(rt)?;
+        printed = refused_prints(rt, session, None, all.as_slice())?;
+    }
+    for (name, _, _, text) in VIEWS {
+        printed = printed.saturating_add(refused_prints(rt, session, Some(name), text)?);
+    }
+    if count_stale(session) > 0 {
+        return Err(Fail::new("stale behind its print"));
+    }
+    let refused = opened.saturating_add(edited);
+    Ok((refused.saturating_add(printed), stale))
+}
+
+/// The session, and how often memory for it was refused.
+fn begun(alloc: &RefusesNth<Global>) -> Result<(Session<&RefusesNth<Global>>, u32), Fail> {
+    match session_of(alloc) {
+        Some(session) => Ok((session, 0)),
+        None => Ok((session_of(alloc).ok_or("refused twice")?, 1)),
+    }
+}
+
+/// All that is done to a session, from its making on. How many calls met the refusal, and the most views that were stale.
 fn refused_calls(
     rt: &HostRuntime,
     alloc: &RefusesNth<Global>,
     at_once: bool,
 ) -> Result<(u32, u32), Fail> {
-    let (mut session, begun) = match session_of(alloc) {
-        Some(session) => (session, 0u32),
-        None => (session_of(alloc).ok_or("refused twice")?, 1),
-    };
-    let opened = refused_openings(rt, &mut session)?;
-    let (edited, stale) = refused_edits(&mut session)?;
-    let mut printed = 0u32;
-    if at_once {
-        let all = all_texts(rt)?;
-        printed = refused_prints(rt, &mut session, None, all.as_slice())?;
-    }
-    for (name, _, _, text) in VIEWS {
-        printed = printed.saturating_add(refused_prints(rt, &mut session, Some(name), text)?);
-    }
-    if count_stale(&session) > 0 {
-        return Err(Fail::new("stale behind its print"));
-    }
-    let refused = begun.saturating_add(opened).saturating_add(edited);
-    Ok((refused.saturating_add(printed), stale))
+    let (mut session, begun) = begun(alloc)?;
+    let (refused, stale) = refused_work(rt, &mut session, at_once)?;
+    Ok((begun.saturating_add(refused), stale))
 }
 
 /// Refuses each growth in turn, until none is refused any more. How many calls met the refusal, and the most views

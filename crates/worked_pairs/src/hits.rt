@@ -1,0 +1,84 @@
+//! The hits of intervals.
+use crate::fixtures::{genome, second_of};
+use iv_pair::Second;
+use std::alloc::Allocator;
+use std::test::Fail;
+
+/// Whether the hits of an interval start and stop here, in this order.
+pub(crate) fn hits_are<A: Allocator + Copy>(
+    second: &Second<A>,
+    seq: u32,
+    start: u64,
+    stop: u64,
+    want: &[(u64, u64)],
+) -> bool {
+    if start >= stop {
+        return false;
+    }
+    let mut hits = second.hits(seq, start, stop);
+    for place in want {
+        let Some(row) = hits.next() else {
+            return false;
+        };
+        if row.seq() != seq || (row.start(), row.stop()) != *place {
+            return false;
+        }
+    }
+    hits.next().is_none()
+}
+
+#[test]
+fn records_that_share_a_position(rt: HostRuntime) -> Result<(), Fail> {
+    let genome = genome(&rt)?;
+    let text = b"chr1\t20\t30\nchr1\t15\t18\nchr1\t15\t18\n";
+    let second = second_of(rt.alloc(), &genome, text)??;
+    for (seq, start, stop, want) in [
+        (0, 16, 17, [(15, 18), (15, 18)].as_slice()),
+        (0, 18, 20, &[]),
+        (0, 17, 21, &[(15, 18), (15, 18), (20, 30)]),
+        (0, 29, 30, &[(20, 30)]),
+        (0, 30, 100, &[]),
+        (0, 0, 15, &[]),
+        (0, 0, 100, &[(15, 18), (15, 18), (20, 30)]),
+        (1, 0, 50, &[]),
+        (u32::MAX, 16, 17, &[]),
+        (0, 4_294_967_294, 4_294_967_295, &[]),
+        (0, u64::MAX - 1, u64::MAX, &[]),
+    ] {
+        assert!(rt;
+            hits_are(&second, seq, start, stop, want),
+            "at {seq} {start} {stop}"
+        );
+    }
+    assert!(rt; second.len() == 3 && second.width() == 3 && second.limit() == 1_000_000);
+    Ok(())
+}
+
+#[test]
+fn record_that_begins_long_before(rt: HostRuntime) -> Result<(), Fail> {
+    let genome = genome(&rt)?;
+    let text =
+        b"chr1\t0\t90\nchr1\t1\t2\nchr1\t50\t52\nchr1\t80\t82\nchr2\t0\t50\nchr2\t10\t11\nchr2\t30\t31\n";
+    let second = second_of(rt.alloc(), &genome, text)??;
+    for (seq, start, stop, want) in [
+        (0, 89, 90, [(0, 90)].as_slice()),
+        (0, 90, 91, &[]),
+        (0, 51, 81, &[(0, 90), (50, 52), (80, 82)]),
+        (1, 49, 50, &[(0, 50)]),
+        (1, 10, 30, &[(0, 50), (10, 11)]),
+    ] {
+        assert!(rt;
+            hits_are(&second, seq, start, stop, want),
+            "at {seq} {start} {stop}"
+        );
+    }
+    Ok(())
+}
+
+#[test]
+fn second_file_without_records(rt: HostRuntime) -> Result<(), Fail> {
+    let genome = genome(&rt)?;
+    let second = second_of(rt.alloc(), &genome, b"# nothing\n")??;
+    assert!(rt; second.len() == 0 && hits_are(&second, 0, 0, 100, &[]));
+    Ok(())
+}

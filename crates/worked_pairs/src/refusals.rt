@@ -1,0 +1,56 @@
+//! Each growth of a second file's memory, refused in turn.
+use crate::fixtures::{SIZES, second_of};
+use crate::hits::hits_are;
+use iv_text::{Genome, LoadCause};
+use refusing::RefusesNth;
+use std::alloc::Global;
+use std::test::Fail;
+
+/// So many records, of so many lengths, that the trees split.
+const COUNT: u64 = 30;
+
+/// The lines of records, each in the next and one longer, the longest last.
+fn lines(rt: &HostRuntime) -> Result<String, Fail> {
+    let mut text = String::new(rt.alloc());
+    for i in 0..COUNT {
+        let start = COUNT - i;
+        text.push_str(format!(in rt.alloc(); "chr1\t{start}\t40\tname\n")?.as_str())?;
+    }
+    Ok(text)
+}
+
+/// Makes the second file, and says whether it met the refusal; not where its lines did. `None` where it is another.
+fn refused(alloc: &RefusesNth<Global>, text: &[u8]) -> Option<bool> {
+    let Ok(genome) = Genome::parse(alloc, SIZES) else {
+        return Some(false);
+    };
+    match second_of(alloc, &genome, text) {
+        Ok(Ok(second)) => {
+            let right = second.len() == 30 && hits_are(&second, 0, 2, 3, &[(1, 40), (2, 40)]);
+            if right { Some(false) } else { None }
+        }
+        Ok(Err(_)) => Some(true),
+        Err(fault) if fault.cause == LoadCause::Memory => Some(false),
+        Err(_) => None,
+    }
+}
+
+#[test]
+fn each_growth_refused_in_turn(rt: HostRuntime) -> Result<(), Fail> {
+    let text = lines(&rt)?;
+    let mut met = 0u32;
+    let mut all = false;
+    for number in 1..1000u64 {
+        let alloc = RefusesNth::new(rt.alloc(), number);
+        match refused(&alloc, text.as_bytes()) {
+            Some(refused) => met = met.saturating_add(u32::from(refused)),
+            None => assert!(rt; false, "another second file at {number}"),
+        }
+        if !alloc.has_refused() {
+            all = true;
+            break;
+        }
+    }
+    assert!(rt; all && met > 2);
+    Ok(())
+}

@@ -1,0 +1,62 @@
+//! Each growth of loading, refused in turn.
+use iv_cli::{CliFault, Inputs, Plan, load};
+use refusing::RefusesNth;
+use std::alloc::Global;
+use std::test::Fail;
+
+/// So many records that the tree of a track splits.
+const COUNT: u32 = 30;
+
+/// A BED file of four columns.
+fn bed_text(rt: &HostRuntime) -> Result<String, Fail> {
+    let mut text = String::new(rt.alloc());
+    for start in 0..COUNT {
+        let stop = start.saturating_add(10);
+        text.push_str(format!(in rt.alloc(); "chr1\t{start}\t{stop}\tname\n")?.as_str())?;
+    }
+    Ok(text)
+}
+
+/// How many records the track of the files holds, `None` where memory is refused.
+fn loaded(alloc: &RefusesNth<Global>, inputs: &Inputs<'_>) -> Result<Option<u32>, Fail> {
+    let plan = Plan::read(&[b"session", b"-g", b"g", b"-i", b"a", b"-b", b"b"])?;
+    match load(alloc, &plan, inputs, COUNT) {
+        Ok(session) => Ok(Some(session.len())),
+        Err(CliFault::Memory) => Ok(None),
+        Err(_) => Err(Fail::new("another fault")),
+    }
+}
+
+/// How many loads ended in want of memory, until one met no refusal. All others loaded the whole files.
+fn refused_loads(rt: &HostRuntime, inputs: &Inputs<'_>) -> Result<u32, Fail> {
+    let mut refused = 0u32;
+    for number in 1..10_000u64 {
+        let alloc = RefusesNth::new(rt.alloc(), number);
+        match loaded(&alloc, inputs)? {
+            Some(COUNT) if !alloc.has_refused() => return Ok(refused),
+            // A growth that was refused may have been tried again at another size.
+            Some(COUNT) => {}
+            None if alloc.has_refused() => refused = refused.saturating_add(1),
+            None => return Err(Fail::new("no memory, and none was refused")),
+            _ => return Err(Fail::new("other records")),
+        }
+    }
+    Err(Fail::new("no end of growths"))
+}
+
+#[test]
+fn each_growth_of_loading_refused(rt: HostRuntime) -> Result<(), Fail> {
+    let text = bed_text(&rt)?;
+    let alone = Inputs {
+        sizes: b"chr1\t100\n",
+        first: text.as_bytes(),
+        other: None,
+    };
+    let both = Inputs {
+        other: Some(text.as_bytes()),
+        ..alone
+    };
+    let (few, more) = (refused_loads(&rt, &alone)?, refused_loads(&rt, &both)?);
+    assert!(rt; 0 < few && few < more);
+    Ok(())
+}
