@@ -9,7 +9,7 @@ PROGRAM := build/bedkeep
 
 help:
 	@echo 'make build   prove and build the program; it is left at $(PROGRAM)'
-	@echo 'make demo    build it, then run examples/corrections.script over examples/genes.bed'
+	@echo 'make demo    build it, then run the scripts of examples/ over examples/genes.bed'
 	@echo 'make test    the whole gate: searches, every proof from nothing, the wrong bodies, the tests, the stored run, a run through pipes, every exit'
 	@echo 'make clean   remove all that builds and proofs left behind'
 	@echo 'make help    this list'
@@ -19,9 +19,11 @@ build:
 	cd crates/bedkeep && $(RT) run -- session -g data/sizes -i data/empty.bed < stdin > /dev/null
 	mkdir -p build && cp crates/bedkeep/out/bedkeep $(PROGRAM)
 
-# Status 1 says that the script has refused lines, and this one has.
+# Status 1 says that the script has refused lines, and the first one has.
 demo: build
 	$(PROGRAM) session -g examples/human.genome -i examples/genes.bed < examples/corrections.script || test $$? -eq 1
+	$(PROGRAM) session -g examples/human.genome -i examples/genes.bed -b examples/mask.bed < examples/mask.script
+	$(PROGRAM) session -g examples/human.genome -i examples/genes.bed -b /dev/null < examples/write_out.script
 
 # rt ci leaves the program that it proved and built beside the crate.
 test:

@@ -1,5 +1,5 @@
 #!/usr/bin/env python3
-"""Times the opening of views over a track, each by itself, and an edit within one large block.
+"""Times the opening of views over a track, a print after an edit, and an edit within one large block.
 
     make build
     python3 scripts/bench_opening.py [FOLDER] [--view WORDS ..] [--records N] [--columns N] [--block N]
@@ -7,7 +7,8 @@
 For each view the session is run twice in turn, with a script that opens it and
 with an empty one. The difference of the two is the time of the opening, and the
 difference of the most memory that both held, over the number of records, the
-bytes a record. Then a track of one block of `--block` records: 100 records are
+bytes a record. Next a `merge` view is printed once more after an edit, beside
+`bedtools merge` of the whole file. Then a track of one block of `--block` records: 100 records are
 added and removed again under `merge -c 4 -o collapse` and under `merge`, whose
 results are made anew at each edit.
 """
@@ -35,6 +36,7 @@ def main():
         print("| view | opening | bytes a record |")
         print("|---|---|---|")
         time_openings(wanted, folder)
+        time_print(wanted, folder)
         print(f"\nOne block of {wanted.block:,} records, {EDITS} adds and {EDITS} removes:\n")
         print("| view | an edit |")
         print("|---|---|")
@@ -64,6 +66,20 @@ def time_openings(wanted, folder):
         seconds, most = measure({"with": (words, opens), "without": (words, empty)}, wanted.runs)
         time = statistics.median(seconds["with"]) - statistics.median(seconds["without"])
         print(f"| {view} | {time * 1000:.0f} ms | {(most['with'] - most['without']) / wanted.records:.0f} |", flush=True)
+
+
+def time_print(wanted, folder):
+    genome, track = (os.path.join(folder, name) for name in ("sizes", "sorted.bed"))
+    words = [wanted.program, "session", "-g", genome, "-i", track]
+    with open(track) as rows:
+        row = rows.readline()
+    edited = written(folder, "edited", f"open\tv\tmerge\nremove\t{row}")
+    printed = written(folder, "printed", f"open\tv\tmerge\nremove\t{row}print\tv\n")
+    theirs = ["bedtools", "merge", "-i", track]
+    seconds, _ = measure({"printed": (words, printed), "edited": (words, edited), "bedtools": (theirs, os.devnull)}, wanted.runs)
+    median = {name: statistics.median(times) for name, times in seconds.items()}
+    time = median["printed"] - median["edited"]
+    print(f"\nA print of `merge` after an edit: {time * 1000:.0f} ms; `bedtools merge` of the file: {median['bedtools'] * 1000:.0f} ms", flush=True)
 
 
 def time_block(wanted, folder, view):

@@ -12,6 +12,8 @@ time of each, their ratios, and the most memory that each held. A shuffled
 file is sorted by `bedtools sort` in front of the command. Before that both
 outputs are compared; where they differ the script stops with status 1.
 `genomecov -d` runs over one sequence, of 250 bases for each record.
+Intersect and subtract take a second file of `--second` records, with `-sorted`
+on the side of bedtools; with `--long` one more record of it covers all of chr1.
 """
 
 import argparse
@@ -30,7 +32,9 @@ import time
 
 TOP = os.path.dirname(os.path.dirname(os.path.abspath(__file__)))
 SEED = 20
-VIEWS = ["merge", "merge -d 100", "complement", "cluster", "merge -c 4 -o collapse", "merge -c 5 -o sum", "genomecov -bg", "genomecov -bga", "genomecov -d"]
+VIEWS = ["merge", "merge -d 100", "complement", "cluster", "merge -c 4 -o collapse", "merge -c 5 -o sum", "genomecov -bg", "genomecov -bga", "genomecov -d",
+         "intersect", "intersect -u", "intersect -v", "intersect -c", "intersect -wa", "intersect -wb", "intersect -wa -wb", "subtract", "subtract -A"]
+TWO_FILES = ("intersect", "subtract")
 CHROMOSOMES = [
     ("chr1", 249250621), ("chr2", 243199373), ("chr3", 198022430), ("chr4", 191154276),
     ("chr5", 180915260), ("chr6", 171115067), ("chr7", 159138663), ("chr8", 146364022),
@@ -59,20 +63,34 @@ def main():
 
 
 def run_case(wanted, folder, view, records, columns, order):
-    genome, track, script = (os.path.join(folder, name) for name in ("sizes", f"{order}.bed", "script"))
-    # in a process of its own, so that this one stays small: a child begins with the memory of its parent
-    writer = multiprocessing.get_context("spawn").Process(target=write_data, args=(genome, track, script, view, records, columns, order))
-    writer.start()
-    writer.join()
-    sizes = f" -g {genome}" if view.startswith(("complement", "genomecov")) else ""
-    theirs = f"bedtools {view} -i {track}{sizes}" if order == "sorted" else f"bedtools sort -i {track} | bedtools {view} -i -{sizes}"
+    genome, track, second, script = (os.path.join(folder, name) for name in ("sizes", f"{order}.bed", "second.bed", "script"))
+    in_own_process(write_data, genome, track, script, view, records, columns, order)
+    beside = ["-b", second] if view.startswith(TWO_FILES) else []
+    if beside:
+        in_own_process(write_second, second, wanted.second, wanted.long)
     # each program: its words, and the file that is its standard input
     programs = {
-        "bedkeep": ([wanted.program, "session", "-g", genome, "-i", track], script),
-        "bedtools": (["sh", "-c", theirs], os.devnull),
+        "bedkeep": ([wanted.program, "session", "-g", genome, "-i", track, *beside], script),
+        "bedtools": (["sh", "-c", bedtools_line(view, genome, track, second, order)], os.devnull),
     }
     compare(programs)
     report(view, records, columns, order, *measure(programs, wanted.runs))
+
+
+def in_own_process(write, *words):
+    """Writes in a process of its own, so that this one stays small: a child begins with the memory of its parent."""
+    writer = multiprocessing.get_context("spawn").Process(target=write, args=words)
+    writer.start()
+    writer.join()
+
+
+def bedtools_line(view, genome, track, second, order):
+    """The command of bedtools for a view of a track."""
+    sort, track = ("", track) if order == "sorted" else (f"bedtools sort -i {track} | ", "-")
+    if view.startswith(TWO_FILES):
+        return f"{sort}bedtools {view} -sorted -a {track} -b {second}"
+    sizes = f" -g {genome}" if view.startswith(("complement", "genomecov")) else ""
+    return f"{sort}bedtools {view} -i {track}{sizes}"
 
 
 def read_words():
@@ -81,6 +99,8 @@ def read_words():
     words.add_argument("--view", nargs="+", choices=VIEWS, default=["merge"])
     words.add_argument("--records", type=int, nargs="+", default=[1_000_000])
     words.add_argument("--columns", type=int, nargs="+", choices=[3, 4, 5, 6], default=[3])
+    words.add_argument("--second", type=int, default=200_000, help="records of the second file")
+    words.add_argument("--long", action="store_true", help="one more record of the second file covers all of chr1")
     words.add_argument("--order", nargs="+", choices=["sorted", "shuffled"], default=["sorted"])
     words.add_argument("--runs", type=int, default=7, help="runs of each program")
     words.add_argument("--program", default=os.path.join(TOP, "build", "bedkeep"))
@@ -105,9 +125,17 @@ def write_data(genome, track, script, view, count, columns, order):
         file.write(f"open\tm\t{view}\nprint\tm\n")
 
 
-def places(count, chromosomes=CHROMOSOMES):
+def write_second(second, count, long):
+    rows = [(CHROMOSOMES[rank][0], start, stop) for rank, start, stop in places(count, seed=SEED + 1)]
+    if long:
+        rows.append(("chr1", 0, CHROMOSOMES[0][1]))
+    with open(second, "w") as file:
+        file.writelines(f"{name}\t{start}\t{stop}\n" for name, start, stop in sorted(rows))
+
+
+def places(count, chromosomes=CHROMOSOMES, seed=SEED):
     """Records of 125 to 875 bases, spread evenly over all chromosomes."""
-    chance = random.Random(SEED)
+    chance = random.Random(seed)
     lengths = [length for _, length in chromosomes]
     for rank in chance.choices(range(len(lengths)), weights=lengths, k=count):
         bases = chance.randint(125, 875)
