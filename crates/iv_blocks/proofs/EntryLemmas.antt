@@ -13,38 +13,20 @@ use Rattle.std.proofs.lemmas.Bool.{cond-true, cond-false, false_from_ne_true, ca
 use Rattle.std.proofs.lemmas.List.Concat.{flat_map-append}
 use Rattle.std.proofs.lemmas.Map.{lookup-none}
 use Rattle.std.proofs.lemmas.Map.Entries.{none_below_head}
+use Rattle.std.proofs.lemmas.Map.Keys.{le_from_is_le}
 use Rattle.iv_cover.proofs.Positions.{range-more, values, values-none, values-some}
 use Rattle.iv_cover.proofs.Tests.{Mem, filter-agree, filter-none, filter-all}
 use Rattle.iv_cover.proofs.Cover.{same_tests}
 use Rattle.iv_track.proofs.PlaceLemmas.{le_then, zero_le}
 use Rattle.iv_track.specs.Entries.{IsLedger, value_at}
+use Rattle.iv_track.proofs.NumberOrder.{le-cmp}
 use Rattle.iv_blocks.specs.KeptBlocks.{Key, Kept, Entries, key_cmp}
+use Rattle.iv_blocks.proofs.Keys.{keys_total, keys_exact}
 
 -- ---- the order of keys
 
-pub keys_total : IsTotalOrder key_cmp
-keys_total =
-    then_total (then_total (on_total (λ (k : Key). k.0) nat_cmp_total) (on_total (λ (k : Key). k.1) bool_cmp_total))
-    (on_total (λ (k : Key). k.2) nat_cmp_total)
-
-le-from : (m n : ℕ) → is_le (nat_cmp m n) ≡ true → m ≤ n
-le-from m n e = go (nat_cmp m n) refl e
-  where
-    go : (o : Ordering) → o ≡ nat_cmp m n → is_le o ≡ true → m ≤ n
-    go Less is e = let r : m < n = ranked m n Less is in omega arith
-    go Equal is e = let r : m ≡ n = ranked m n Equal is in omega arith
-    go Greater is e = cc
-
-pub le-cmp : (m n : ℕ) → m ≤ n → is_le (nat_cmp m n) ≡ true
-le-cmp m n h = go (nat_cmp m n) refl
-  where
-    go : (o : Ordering) → o ≡ nat_cmp m n → is_le o ≡ true
-    go Less is = refl
-    go Equal is = refl
-    go Greater is = let r : n < m = ranked m n Greater is in absurd (omega arith)
-
 lt-cmp : (m n : ℕ) → n < m → is_le (nat_cmp m n) ≡ false
-lt-cmp m n h = false_from_ne_true _ (λ e. let low : m ≤ n = le-from m n e in omega arith)
+lt-cmp m n h = false_from_ne_true _ (λ e. let low : m ≤ n = le_from_is_le m n e in omega arith)
 
 -- past a position is from the next one on
 next-cmp : (p q : ℕ) → is_lt (nat_cmp p q) ≡ is_le (nat_cmp (p + 1) q)
@@ -76,7 +58,7 @@ next-side s p x none = go (nat_cmp s x.0) refl x.1 refl
     go Equal is true side = sym (zero_le x.2)
     go Equal is false side =
         let same : s ≡ x.0 = ranked s x.0 Equal is in
-        false_from_ne_true _ (λ e. none (sym same) side (le-from p x.2 e))
+        false_from_ne_true _ (λ e. none (sym same) side (le_from_is_le p x.2 e))
 
 -- and where none is on the other side, it is on the next sequence
 next-rank : (s p : ℕ) (x : Key) → (x.0 ≡ s → x.1 ≡ true → p ≤ x.2 → ⊥) → is_le (key_cmp (s, true, p) x) ≡ is_le (key_cmp (s + 1, false, 0) x)
@@ -98,7 +80,7 @@ next-rank s p x none = go (nat_cmp s x.0) refl x.1 refl
     go Equal is false side = let same : s ≡ x.0 = ranked s x.0 Equal is in sym (below (omega arith))
     go Equal is true side =
         let same : s ≡ x.0 = ranked s x.0 Equal is in
-        false_from_ne_true _ (λ e. none (sym same) side (le-from p x.2 e)) ∙ sym (below (omega arith))
+        false_from_ne_true _ (λ e. none (sym same) side (le_from_is_le p x.2 e)) ∙ sym (below (omega arith))
 
 -- ---- entries from a key on
 
@@ -128,30 +110,6 @@ entry-found (x ∷ entries) e (inr m) none = go (λ missed. entry-found entries 
     go rest true is = let never : Some x.1 ≡ None = sym (cond-true (is_at (key_cmp e.0) x.0) _ _ is) ∙ none in cc
     go rest false is = rest (sym (cond-false (is_at (key_cmp e.0) x.0) _ _ is) ∙ none)
 
--- only equal keys tie
-pub key-same : (k x : Key) → key_cmp k x ≡ Equal → k ≡ x
-key-same k x tie = go (nat_cmp k.0 x.0) refl (bool_cmp k.1 x.1) refl (nat_cmp k.2 x.2) refl tie
-  where
-    sides : (a b : Bool) → bool_cmp a b ≡ Equal → a ≡ b
-    sides true true e = refl
-    sides false false e = refl
-    sides true false e = cc
-    sides false true e = cc
-
-    go : (a : Ordering) → a ≡ nat_cmp k.0 x.0 → (b : Ordering) → b ≡ bool_cmp k.1 x.1 → (c : Ordering) → c ≡ nat_cmp k.2 x.2
-        → ordering_then (ordering_then a b) c ≡ Equal → k ≡ x
-    go Equal is Equal is' Equal is'' e =
-        let rank : k.0 ≡ x.0 = ranked k.0 x.0 Equal is in
-        let side : k.1 ≡ x.1 = sides k.1 x.1 (sym is') in
-        let start : k.2 ≡ x.2 = ranked k.2 x.2 Equal is'' in
-        rw (rank, side, start) refl
-    go Equal is Equal is' Less is'' e = cc
-    go Equal is Equal is' Greater is'' e = cc
-    go Equal is Less is' c is'' e = cc
-    go Equal is Greater is' c is'' e = cc
-    go Less is b is' c is'' e = cc
-    go Greater is b is' c is'' e = cc
-
 -- each later key is after the first
 later-keys : (k : Key) (entries : Entries) → AllByRecursion (λ y. key_cmp k y ≡ Less) (keys_of entries) → (e : Key × Kept) → Mem e entries → key_cmp k e.0 ≡ Less
 later-keys k [] all e m = absurd m
@@ -178,7 +136,7 @@ from-step (e ∷ entries) k sorted = go (from-step entries k sorted.1) (key_cmp 
         let none : value_at key_cmp (e ∷ entries) k ≡ None = lookup-none (is_at (key_cmp k)) (e ∷ entries) (none_below_head keys_total k e entries sorted is) in
         rw none (rw is (ap (λ (l : Entries). e ∷ l) (past (λ x m. keys_total.trans k e.0 x.0 is (after x m)))))
     go rest Equal is =
-        let same : k ≡ e.0 = key-same k e.0 is in
+        let same : k ≡ e.0 = keys_exact k e.0 is in
         let found : value_at key_cmp (e ∷ entries) k ≡ Some e.1 = cond-true (is_at (key_cmp k) e.0) _ _ (ap is_eq is) in
         cond-true (is_le (key_cmp k e.0)) _ _ (ap is_le is)
         ∙ ap (λ (l : Entries). e ∷ l) (past (λ x m. keys_total.congr k e.0 x.0 is ∙ after x m))
@@ -273,4 +231,4 @@ module _ (look : Key → Option Kept) (long : ℕ → ℕ) (entries : Entries) (
       then-first Greater b e = e
 
       rank-from : (n : ℕ) (x : Key) → is_le (key_cmp (n, false, 0) x) ≡ true → n ≤ x.0
-      rank-from n x e = le-from n x.0 (then-first (nat_cmp n x.0) _ (then-first _ (nat_cmp 0 x.2) e))
+      rank-from n x e = le_from_is_le n x.0 (then-first (nat_cmp n x.0) _ (then-first _ (nat_cmp 0 x.2) e))

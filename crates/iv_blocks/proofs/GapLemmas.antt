@@ -10,8 +10,7 @@ use Rattle.iv_cover.specs.TrackBlocks.{start_of, stop_of}
 use Rattle.iv_cover.specs.declared.block.Block.{Block}
 use Rattle.iv_cover.proofs.BlockLemmas.{covered-in_block}
 use Rattle.iv_cover.proofs.Cover.{Free, Covered, Lasting, IsBlock, cases_covered, block_at_start, block-test, block_at-some, block_at-none, block_unique, none_within}
-use Rattle.iv_cover.proofs.EmptyLemmas.{empty_runs-run, empty_runs-skip}
-use Rattle.iv_cover.proofs.RunsLemmas.{runs-none}
+use Rattle.iv_cover.proofs.EmptyLemmas.{empty_runs-none, empty_runs-run, empty_runs-skip}
 use Rattle.iv_cover.proofs.Tests.{Mem}
 use Rattle.iv_blocks.specs.Ahead.{gap_between, gaps_between}
 
@@ -27,9 +26,6 @@ runs-gap f from mid to low high zeros ends = go (cases_lt from mid)
         let none_test : nat_lt mid mid ≡ false = le-ltb mid mid (omega arith) in
         rw (same, none_test) refl
 
-pub runs-nothing : (f : ℕ → ℕ) (to : ℕ) → empty_runs f to to ≡ []
-runs-nothing f to = rw (runs-none f to to (omega arith)) refl
-
 module _ (G : List Row) (f : ℕ → ℕ) (s to : ℕ) (lasting : Lasting start_of stop_of 0 G) (within : (q : Row) → Mem q G → q.stop ≤ to)
     (some : (p : ℕ) → Covered start_of stop_of 0 G (suc p) → f p ≢ 0) (none : (p : ℕ) → Free start_of stop_of 0 G (suc p) → f p ≡ 0) where
   -- where the block of a position lies, if one starts there
@@ -43,7 +39,7 @@ module _ (G : List Row) (f : ℕ → ℕ) (s to : ℕ) (lasting : Lasting start_
       → gaps_between true from to (filter_map lies (range_with_len p k)) ≡ empty_runs f from to
   gaps-are zero p from end high zeros inside before =
       sym (runs-gap f from to to high (omega arith) (λ q low below. zeros q low (omega (arith, end))) (λ never. absurd (omega arith))
-      ∙ ap (λ (l : List Run). gap_between from to ++ l) (runs-nothing f to)
+      ∙ ap (λ (l : List Run). gap_between from to ++ l) (empty_runs-none f to to (omega arith))
       ∙ append-nil (gap_between from to))
   gaps-are (suc k) p from end high zeros inside before =
       go (λ from' high' zeros' inside' before'. gaps-are k (p + 1) from' (omega (arith, end)) high' zeros' inside' before') (cases_Bool (is_block_start start_of stop_of 0 G p))

@@ -14,7 +14,8 @@ use Rattle.std.proofs.lemmas.List.Concat.{flat_map-append}
 use Rattle.iv_cover.proofs.Positions.{range-more, values-more}
 use Rattle.iv_track.specs.Entries.{IsLedger, value_at}
 use Rattle.iv_blocks.specs.KeptBlocks.{Key, Kept, Entries, key_cmp}
-use Rattle.iv_blocks.proofs.EntryLemmas.{keys_total, key-same, side_entries, rank_entries, all_entries}
+use Rattle.iv_blocks.proofs.EntryLemmas.{side_entries, rank_entries, all_entries}
+use Rattle.iv_blocks.proofs.Keys.{keys_total, keys_exact}
 
 -- each key passes
 abbrev pub AllKeys : (Key → Type 0) → Entries → Type 0
@@ -71,7 +72,7 @@ at-same : (k l : Key) → is_at (key_cmp k) l ≡ true → k ≡ l
 at-same k l at = go (key_cmp k l) refl at
   where
     go : (o : Ordering) → key_cmp k l ≡ o → is_eq o ≡ true → k ≡ l
-    go Equal is e = key-same k l is
+    go Equal is e = keys_exact k l is
     go Less is e = cc
     go Greater is e = cc
 

@@ -4,7 +4,9 @@ use Rattle.std.specs.Ordering.{is_le, is_ge, bool_cmp, ordering_reverse}
 use Rattle.std.specs.Cmp.{bool_cmp_total}
 use Rattle.std.proofs.lemmas.Bool.{false≢true}
 use Rattle.std.proofs.lemmas.Cmp.{nat_cmp_total, ranked, tied_itself}
+use Rattle.std.proofs.lemmas.Map.Keys.{le_from_is_le}
 use Rattle.iv_track.specs.Entries.{IsLedger, value_at, first_from, last_until}
+use Rattle.iv_track.proofs.NumberOrder.{le-cmp, ge-cmp, ge-from}
 use Rattle.iv_blocks.specs.KeptBlocks.{Key, key_cmp, Kept, Entries}
 use Rattle.iv_blocks.specs.Putting.{key_of}
 use Rattle.iv_blocks.specs.Lookups.{kept_in, IsLastBlock, IsFirstBlock}
@@ -51,22 +53,6 @@ beside-after rank minus p k x beside e = go (nat_cmp rank x.0) refl (bool_cmp mi
     go Equal is Greater is' = absurd (false≢true (rw (is, is') at e))
     go Greater is b is' = absurd (false≢true (rw is at e))
 
-le_cmp : (a b : ℕ) → a ≤ b → is_le (nat_cmp a b) ≡ true
-le_cmp a b h = go (nat_cmp a b) refl
-  where
-    go : (o : Ordering) → nat_cmp a b ≡ o → is_le o ≡ true
-    go Less is = refl
-    go Equal is = refl
-    go Greater is = absurd (omega (arith, ranked a b Greater (sym is)))
-
-ge_cmp : (a b : ℕ) → b ≤ a → is_ge (nat_cmp a b) ≡ true
-ge_cmp a b h = go (nat_cmp a b) refl
-  where
-    go : (o : Ordering) → nat_cmp a b ≡ o → is_ge o ≡ true
-    go Greater is = refl
-    go Equal is = refl
-    go Less is = absurd (omega (arith, ranked a b Less (sym is)))
-
 less_cmp : (a b : ℕ) → a < b → nat_cmp a b ≡ Less
 less_cmp a b h = go (nat_cmp a b) refl
   where
@@ -75,28 +61,12 @@ less_cmp a b h = go (nat_cmp a b) refl
     go Equal is = absurd (omega (arith, ranked a b Equal (sym is)))
     go Greater is = absurd (omega (arith, ranked a b Greater (sym is)))
 
-le_from : (a b : ℕ) → is_le (nat_cmp a b) ≡ true → a ≤ b
-le_from a b e = go (nat_cmp a b) refl
-  where
-    go : (o : Ordering) → nat_cmp a b ≡ o → a ≤ b
-    go Less is = omega (arith, ranked a b Less (sym is))
-    go Equal is = omega (arith, ranked a b Equal (sym is))
-    go Greater is = absurd (false≢true (rw is at e))
-
-ge_from : (a b : ℕ) → is_ge (nat_cmp a b) ≡ true → b ≤ a
-ge_from a b e = go (nat_cmp a b) refl
-  where
-    go : (o : Ordering) → nat_cmp a b ≡ o → b ≤ a
-    go Greater is = omega (arith, ranked a b Greater (sym is))
-    go Equal is = omega (arith, ranked a b Equal (sym is))
-    go Less is = absurd (false≢true (rw is at e))
-
 -- the keys of a group, compared
 group-ge : (g : Group) (p x : ℕ) → x ≤ p → is_ge (key_cmp (key_of g p) (key_of g x)) ≡ true
-group-ge g p x h = ap is_ge (key_cmp-group g.rank g.minus p x) ∙ ge_cmp p x h
+group-ge g p x h = ap is_ge (key_cmp-group g.rank g.minus p x) ∙ ge-cmp p x h
 
 group-le : (g : Group) (p x : ℕ) → p ≤ x → is_le (key_cmp (key_of g p) (key_of g x)) ≡ true
-group-le g p x h = ap is_le (key_cmp-group g.rank g.minus p x) ∙ le_cmp p x h
+group-le g p x h = ap is_le (key_cmp-group g.rank g.minus p x) ∙ le-cmp p x h
 
 module _ (es : Entries) (g : Group) (p : ℕ) (sorted : IsLedger key_cmp es) where
   -- no entry of any group up to the position: so none of this group
@@ -120,7 +90,7 @@ module _ (es : Entries) (g : Group) (p : ℕ) (sorted : IsLedger key_cmp es) whe
   last_block k v (Some b) e is =
       let last = subst (λ o. MatchOption o ((q : Key) → is_ge (key_cmp (key_of g p) q) ≡ true → value_at key_cmp es q ≡ None) (λ e. IsLast key_cmp keys_total es (key_of g p) e)) e (last-found key_cmp keys_total es (key_of g p) sorted) in
       record {
-        within = ge_from p b.0 (ap is_ge (sym (key_cmp-group g.rank g.minus p b.0)) ∙ ap (λ q. is_ge (key_cmp (key_of g p) q)) (sym is.0) ∙ last.within);
+        within = ge-from p b.0 (ap is_ge (sym (key_cmp-group g.rank g.minus p b.0)) ∙ ap (λ q. is_ge (key_cmp (key_of g p) q)) (sym is.0) ∙ last.within);
         results = v.results;
         is = ap (value_at key_cmp es) (sym is.0) ∙ last.is ∙ ap (λ (n : ℕ). Some (record { stop = n; results = v.results })) (sym is.1);
         none = λ x past within. last.none (key_of g x) (group-ge g p x within) (ap (λ q. key_cmp q (key_of g x)) is.0 ∙ key_cmp-group g.rank g.minus b.0 x ∙ less_cmp b.0 x past);
@@ -136,7 +106,7 @@ module _ (es : Entries) (g : Group) (p : ℕ) (sorted : IsLedger key_cmp es) whe
   first_block k v (Some b) e is =
       let first = subst (λ o. MatchOption o ((q : Key) → is_le (key_cmp (key_of g p) q) ≡ true → value_at key_cmp es q ≡ None) (λ e. IsFirst key_cmp keys_total es (key_of g p) e)) e (first-found key_cmp keys_total es (key_of g p) sorted) in
       record {
-        within = le_from p b.0 (ap is_le (sym (key_cmp-group g.rank g.minus p b.0)) ∙ ap (λ q. is_le (key_cmp (key_of g p) q)) (sym is.0) ∙ first.within);
+        within = le_from_is_le p b.0 (ap is_le (sym (key_cmp-group g.rank g.minus p b.0)) ∙ ap (λ q. is_le (key_cmp (key_of g p) q)) (sym is.0) ∙ first.within);
         results = v.results;
         is = ap (value_at key_cmp es) (sym is.0) ∙ first.is ∙ ap (λ (n : ℕ). Some (record { stop = n; results = v.results })) (sym is.1);
         none = λ x past within. first.none (key_of g x) (group-le g p x past) (ap (λ q. key_cmp (key_of g x) q) is.0 ∙ key_cmp-group g.rank g.minus x b.0 ∙ less_cmp x b.0 within);

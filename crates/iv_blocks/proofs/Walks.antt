@@ -8,6 +8,8 @@ use Rattle.std.proofs.lemmas.Map.Keys.{le_from_is_le}
 use Rattle.iv_text.specs.Ordered.{InOrder, AreInOrder}
 use Rattle.iv_text.specs.Row.{Row, row_cmp}
 use Rattle.iv_track.specs.Tracked.{is_from}
+use Rattle.iv_track.proofs.NumberOrder.{le-cmp}
+use Rattle.iv_cover.proofs.InOrder.{all-recursion, recursion-all, in_order-filter}
 use Rattle.iv_cover.proofs.Tests.{Mem, mem-filter, filter-agree, filter-filter, filter-none}
 use Rattle.iv_cover.proofs.Cover.{same_tests}
 use Rattle.iv_cover.proofs.Merging.{Precedes, precedes-from}
@@ -16,24 +18,6 @@ use Rattle.iv_blocks.specs.Groups.{is_in_group, is_on_side, starts_between, betw
 use Rattle.iv_blocks.specs.declared.group.Group.{Group}
 
 -- ---- lists in order
-
-pub all-recursion : {X : Type 0} (P : X → Type 0) (xs : List X) → AllByRecursion P xs → (q : X) → Mem q xs → P q
-all-recursion P [] all q m = absurd m
-all-recursion P (x ∷ xs) all q (inl at) = subst P at all.0
-all-recursion P (x ∷ xs) all q (inr m) = all-recursion P xs all.1 q m
-
-pub recursion-all : {X : Type 0} (P : X → Type 0) (xs : List X) → ((q : X) → Mem q xs → P q) → AllByRecursion P xs
-recursion-all P [] each = tt
-recursion-all P (x ∷ xs) each = (each x (inl refl), recursion-all P xs (λ q m. each q (inr m)))
-
--- what passes a test stays in order
-pub in_order-filter : {K : Type 0} (cmp : K → K → Ordering) (p : K → Bool) (xs : List K) → InOrder cmp xs → InOrder cmp (filter p xs)
-in_order-filter cmp p [] h = h
-in_order-filter cmp p (x ∷ xs) h = elim (cases_Bool (p x)) [
-  | inl e ↦ subst (InOrder cmp) (sym (cond-true (p x) (x ∷ filter p xs) (filter p xs) e))
-      (recursion-all (λ y. is_le (cmp x y) ≡ true) (filter p xs) (λ q m. all-recursion (λ y. is_le (cmp x y) ≡ true) xs h.0 q (mem-filter p xs q m).0), in_order-filter cmp p xs h.1)
-  | inr e ↦ subst (InOrder cmp) (sym (cond-false (p x) (x ∷ filter p xs) (filter p xs) e)) (in_order-filter cmp p xs h.1)
-]
 
 -- each record of the first part stands before each of the second
 pub in_order-parts : (xs ys : List Row) → AreInOrder (xs ++ ys) → (q r : Row) → Mem q xs → Mem r ys → Precedes q r
@@ -66,14 +50,11 @@ from-true rank from q e = elim (then-le (nat_cmp rank q.seq) (nat_cmp from q.sta
   )
 ]
 
-is_le-from : (a b : ℕ) → a ≤ b → is_le (nat_cmp a b) ≡ true
-is_le-from a b le = by_ranked (a < b) (a ≡ b) (b < a) (nat_cmp a b) (ranked a b _ refl) (λ e _. ap is_le e) (λ e _. ap is_le e) (λ _ l. absurd (omega arith))
-
 equal-from : (a b : ℕ) → a ≡ b → nat_cmp a b ≡ Equal
 equal-from a b same = by_ranked (a < b) (a ≡ b) (b < a) (nat_cmp a b) (ranked a b _ refl) (λ _ l. absurd (omega arith)) (λ e _. e) (λ _ l. absurd (omega arith))
 
 pub from-here : (rank from : ℕ) (q : Row) → rank ≡ q.seq → from ≤ q.start → is_from rank from q ≡ true
-from-here rank from q at after = le-then (nat_cmp rank q.seq) (nat_cmp from q.start) (inr (equal-from rank q.seq at, is_le-from from q.start after))
+from-here rank from q at after = le-then (nat_cmp rank q.seq) (nat_cmp from q.start) (inr (equal-from rank q.seq at, le-cmp from q.start after))
 
 -- ---- what stands between two starts
 

@@ -4,7 +4,11 @@ use Rattle.std.proofs.lemmas.Bool.{ne_eqb}
 use Rattle.std.proofs.lemmas.Bool.Decides.{eqb_tells}
 use Rattle.iv_cover.specs.Runs.{Run}
 use Rattle.iv_cover.specs.Runs.{joined, runs_over, empty_runs}
-use Rattle.iv_cover.proofs.RunsLemmas.{runs-run}
+use Rattle.iv_cover.proofs.RunsLemmas.{runs-none, runs-run}
+
+-- where there is no position there is no run
+pub empty_runs-none : (f : ℕ → ℕ) (from to : ℕ) → to ≤ from → empty_runs f from to ≡ []
+empty_runs-none f from to h = rw (runs-none f from to h) refl
 
 filter-joined : (p value : ℕ) (rest : List Run) → value ≢ 0
     → filter (λ (run : Run). eqb run.value 0) (joined p value rest) ≡ filter (λ (run : Run). eqb run.value 0) rest

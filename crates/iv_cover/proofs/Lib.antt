@@ -1,12 +1,14 @@
 pub mod Last
 pub mod Tests
 pub mod Groups
+pub mod InOrder
 pub mod Cover
 pub mod Positions
 pub mod Swept
 pub mod Merging
 pub mod Comings
 pub mod Meanings
+pub mod DepthLemmas
 pub mod Examples
 pub mod BlockLemmas
 pub mod RunsLemmas

@@ -6,6 +6,7 @@ use Rattle.std.proofs.lemmas.Bool.{cases_lt, lt-leb, le-leb, lt-ltb, le-ltb, fal
 use Rattle.std.proofs.lemmas.List.Sums.{sum_by-cons}
 use Rattle.iv_text.specs.Row.{Row}
 use Rattle.iv_cover.specs.Depth.{covers, depth}
+use Rattle.iv_cover.proofs.DepthLemmas.{depth-cons}
 use Rattle.std.specs.Map.{lookup, remove_entry, set_value, values_of}
 use Rattle.std.specs.Cmp.{IsTotalOrder}
 use Rattle.std.specs.List.Sorted.{IsStrictlySortedBy}
@@ -86,9 +87,6 @@ shifted r rank p by back h none = go (eqb r.seq rank) (cases_lt p r.start) (case
     go true (inl before) b = rw (lt-leb r.start p before, lt-leb r.stop p (omega arith)) refl
     go true (inr since) (inl within) = rw (le-leb r.start p since, lt-leb r.stop p within, lt-ltb p r.stop within) (omega (arith, ints))
     go true (inr since) (inr past) = rw (le-leb r.start p since, le-leb r.stop p past, le-ltb p r.stop past) (omega (arith, ints, none))
-
-pub depth-cons : (r : Row) (records : List Row) (rank p : ℕ) → depth (r ∷ records) rank p ≡ cond (covers rank p r) 1 0 + depth records rank p
-depth-cons r records rank p = sum_by-cons (λ x. cond (covers rank p x) 1 0) r records
 
 -- such two changes
 pub Shifts-of : (r : Row) (by back : ℤ) (entries between after : Entries) (rank stop : ℕ) → r.start < r.stop

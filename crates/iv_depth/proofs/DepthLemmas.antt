@@ -19,7 +19,7 @@ use Rattle.iv_depth.specs.DepthRows.{covered_runs, all_covered_runs, text_by, de
 use Rattle.iv_depth.specs.declared.depth_rows.DepthRows.{DepthRows}
 use Rattle.iv_depth.specs.Walks.{AreOnGenome, depth_by}
 use Rattle.iv_cover.proofs.RunsLemmas.{runs-none}
-use Rattle.iv_depth.proofs.ChangesLemmas.{depth-cons}
+use Rattle.iv_cover.proofs.DepthLemmas.{depth-cons}
 use Rattle.iv_depth.proofs.Breaks.{on, AreBreaks-on, Follows-on}
 use Rattle.iv_depth.proofs.Counts.{breaks-few, entries-few}
 

@@ -62,20 +62,6 @@ hits_from rows seq start stop from n up low = filter-implied (overlaps seq start
     let long : q.stop ≤ q.start + n = all-mem (λ (r : Row). r.seq ≡ seq → r.stop ≤ r.start + n) rows up q m here in
     pair_le seq q.seq from q.start (omega arith) (λ _. omega (arith, past, long, low)))
 
-pub in_order-filter : (p : Row → Bool) (rows : List Row) → AreInOrder rows → AreInOrder (filter p rows)
-in_order-filter p [] o = o
-in_order-filter p (r ∷ rows) o = elim (p r) as (λ b. AreInOrder (cond b (r ∷ filter p rows) (filter p rows))) [
-  | true ↦ (all_filter rows o.0, in_order-filter p rows o.1)
-  | false ↦ in_order-filter p rows o.1
-]
-  where
-    all_filter : (xs : List Row) → AllByRecursion (λ y. is_le (row_cmp r y) ≡ true) xs → AllByRecursion (λ y. is_le (row_cmp r y) ≡ true) (filter p xs)
-    all_filter [] h = h
-    all_filter (x ∷ xs) h = elim (p x) as (λ b. AllByRecursion (λ y. is_le (row_cmp r y) ≡ true) (cond b (x ∷ filter p xs) (filter p xs))) [
-      | true ↦ (h.0, all_filter xs h.1)
-      | false ↦ all_filter xs h.1
-    ]
-
 pub length-filter_le : (p : Row → Bool) (rows : List Row) → length (filter p rows) ≤ length rows
 length-filter_le p rows = omega (arith, length-filter p rows, count_by-le-length p rows)
 

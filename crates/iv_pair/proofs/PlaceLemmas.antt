@@ -6,34 +6,20 @@ use Rattle.std.specs.declared.cmp.Ordering.TheVariants.{Less, Equal, Greater}
 use Rattle.std.specs.Ordering.{is_le, is_ge, nat_cmp, ordering_then}
 use Rattle.std.specs.Cmp.{ranked}
 use Rattle.std.proofs.lemmas.List.Elements.{All-from_recursion}
+use Rattle.std.proofs.lemmas.Map.Keys.{le_from_is_le}
 use Rattle.iv_text.specs.Ordered.{AreInOrder}
 use Rattle.iv_text.specs.Row.{Row, row_cmp}
 use Rattle.iv_track.specs.Tracked.{is_from}
+use Rattle.iv_track.proofs.NumberOrder.{le-cmp, ge-cmp}
 use Rattle.iv_cover.proofs.Merging.{precedes-from}
 use Rattle.iv_cover.proofs.Tests.{Mem, all-mem, filter-agree, filter-all, filter-filter}
-
-nat_le_is : (c d : ℕ) → c ≤ d → is_le (nat_cmp c d) ≡ true
-nat_le_is c d h = go (nat_cmp c d) refl
-  where
-    go : (o : Ordering) → o ≡ nat_cmp c d → is_le o ≡ true
-    go Less e = refl
-    go Equal e = refl
-    go Greater e = let r : d < c = ranked c d Greater e in absurd (omega arith)
-
-le_is_nat : (c d : ℕ) → is_le (nat_cmp c d) ≡ true → c ≤ d
-le_is_nat c d h = go (nat_cmp c d) refl h
-  where
-    go : (o : Ordering) → o ≡ nat_cmp c d → is_le o ≡ true → c ≤ d
-    go Less e h = let r : c < d = ranked c d Less e in omega arith
-    go Equal e h = let r : c ≡ d = ranked c d Equal e in omega arith
-    go Greater e h = absurd cc
 
 pub le_pair : (a b c d : ℕ) → is_le (ordering_then (nat_cmp a b) (nat_cmp c d)) ≡ true → (a ≤ b) × (a ≡ b → c ≤ d)
 le_pair a b c d h = go (nat_cmp a b) refl h
   where
     go : (o : Ordering) → o ≡ nat_cmp a b → is_le (ordering_then o (nat_cmp c d)) ≡ true → (a ≤ b) × (a ≡ b → c ≤ d)
     go Less e h = let r : a < b = ranked a b Less e in (omega arith, λ q. absurd (omega (arith, r, q)))
-    go Equal e h = let r : a ≡ b = ranked a b Equal e in (omega arith, λ q. le_is_nat c d h)
+    go Equal e h = let r : a ≡ b = ranked a b Equal e in (omega arith, λ q. le_from_is_le c d h)
     go Greater e h = absurd cc
 
 pub pair_le : (a b c d : ℕ) → a ≤ b → (a ≡ b → c ≤ d) → is_le (ordering_then (nat_cmp a b) (nat_cmp c d)) ≡ true
@@ -41,7 +27,7 @@ pair_le a b c d low next = go (nat_cmp a b) refl
   where
     go : (o : Ordering) → o ≡ nat_cmp a b → is_le (ordering_then o (nat_cmp c d)) ≡ true
     go Less e = refl
-    go Equal e = nat_le_is c d (next (ranked a b Equal e))
+    go Equal e = le-cmp c d (next (ranked a b Equal e))
     go Greater e = let r : b < a = ranked a b Greater e in absurd (omega arith)
 
 pub ge_pair : (a b c d : ℕ) → is_ge (ordering_then (nat_cmp a b) (nat_cmp c d)) ≡ true → b ≤ a
@@ -52,20 +38,12 @@ ge_pair a b c d h = go (nat_cmp a b) refl h
     go Equal e h = let r : a ≡ b = ranked a b Equal e in omega arith
     go Greater e h = let r : b < a = ranked a b Greater e in omega arith
 
-nat_ge_is : (c d : ℕ) → d ≤ c → is_ge (nat_cmp c d) ≡ true
-nat_ge_is c d h = go (nat_cmp c d) refl
-  where
-    go : (o : Ordering) → o ≡ nat_cmp c d → is_ge o ≡ true
-    go Less e = let r : c < d = ranked c d Less e in absurd (omega arith)
-    go Equal e = refl
-    go Greater e = refl
-
 pub pair_ge : (a c d : ℕ) → d ≤ c → is_ge (ordering_then (nat_cmp a a) (nat_cmp c d)) ≡ true
 pair_ge a c d h = go (nat_cmp a a) refl
   where
     go : (o : Ordering) → o ≡ nat_cmp a a → is_ge (ordering_then o (nat_cmp c d)) ≡ true
     go Less e = let r : a < a = ranked a a Less e in absurd (omega arith)
-    go Equal e = nat_ge_is c d h
+    go Equal e = ge-cmp c d h
     go Greater e = let r : a < a = ranked a a Greater e in absurd (omega arith)
 
 -- ---- records from a place on

@@ -5,25 +5,21 @@ use Rattle.std.specs.List.{AllByRecursion, flat_map}
 use Rattle.std.specs.Ordering.{is_le}
 use Rattle.std.proofs.lemmas.Bool.{cases_lt, lt-ltb, le-ltb}
 use Rattle.std.proofs.lemmas.List.Concat.{flat_map-append}
-use Rattle.std.proofs.lemmas.List.Sums.{sum_by-cons}
 use Rattle.iv_bytes.specs.Sinks.{SinkState, Takes, FailsIn}
 use Rattle.iv_bytes.proofs.Putting.{Underway, Underway-begin, Underway-fails, Underway-more}
 use Rattle.iv_text.specs.Ordered.{AreInOrder}
 use Rattle.iv_text.specs.Row.{Row, row_cmp}
 use Rattle.iv_cover.specs.Depth.{covers, depth}
 use Rattle.iv_cover.specs.Runs.{Run, empty_runs}
-use Rattle.iv_cover.proofs.EmptyLemmas.{empty_runs-skip, empty_runs-run}
+use Rattle.iv_cover.proofs.DepthLemmas.{depth-cons}
+use Rattle.iv_cover.proofs.EmptyLemmas.{empty_runs-none, empty_runs-skip, empty_runs-run}
 use Rattle.iv_cover.proofs.Merging.{precedes-from}
-use Rattle.iv_cover.proofs.RunsLemmas.{runs-none}
 use Rattle.iv_pair.specs.Hits.{overlaps, hits, hits_of}
 use Rattle.iv_pair.proofs.HitsLemmas.{overlaps_parts, overlaps_from, covers_parts, covers_from}
 
 -- the run of value 0 from one position to another, if it has a position
 gap : ℕ → ℕ → List Run
 gap from to = if nat_lt from to then record { start = from; stop = to; value = 0 } ∷ [] else []
-
-empty_runs-none : (f : ℕ → ℕ) (from to : ℕ) → to ≤ from → empty_runs f from to ≡ []
-empty_runs-none f from to h = rw (runs-none f from to h) refl
 
 covered : (f : ℕ → ℕ) (from stop to : ℕ) → from ≤ stop → ((p : ℕ) → from ≤ p → p < stop → p < to → f p ≢ 0) → empty_runs f from to ≡ empty_runs f stop to
 covered f from stop to le on = elim (cases_lt stop to) [
@@ -74,9 +70,6 @@ gap-text row from to = go (nat_lt from to)
 
 -- ---- the depth of the records, and of the hits that are left
 
-depth-cons : (seq p : ℕ) (b : Row) (rows : List Row) → depth (b ∷ rows) seq p ≡ cond (covers seq p b) 1 0 + depth rows seq p
-depth-cons seq p b rows = sum_by-cons (λ r. cond (covers seq p r) 1 0) b rows
-
 -- a record that begins behind a position or ends before it does not cover it
 off : (seq p : ℕ) (b : Row) → (covers seq p b ≡ true → ⊥) → covers seq p b ≡ false
 off seq p b never = go (covers seq p b) refl
@@ -103,9 +96,9 @@ off_apart seq start stop p b l h none = off seq p b (λ e.
 depth-hits : (rows : List Row) (seq start stop p : ℕ) → start ≤ p → p < stop → depth rows seq p ≡ depth (hits rows seq start stop) seq p
 depth-hits [] seq start stop p l h = refl
 depth-hits (b ∷ rows) seq start stop p l h =
-    depth-cons seq p b rows ∙ ap (λ n. cond (covers seq p b) 1 0 + n) (depth-hits rows seq start stop p l h)
+    depth-cons b rows seq p ∙ ap (λ n. cond (covers seq p b) 1 0 + n) (depth-hits rows seq start stop p l h)
     ∙ (elim (overlaps seq start stop b) as (λ o. overlaps seq start stop b ≡ o → cond (covers seq p b) 1 0 + depth (hits rows seq start stop) seq p ≡ depth (cond o (b ∷ hits rows seq start stop) (hits rows seq start stop)) seq p) [
-      | true ↦ λ is. sym (depth-cons seq p b (hits rows seq start stop))
+      | true ↦ λ is. sym (depth-cons b (hits rows seq start stop) seq p)
       | false ↦ λ is. let none : covers seq p b ≡ false = off_apart seq start stop p b l h is in rw none (omega arith)
     ]) refl
 
@@ -116,7 +109,7 @@ HitsFrom seq low to (b ∷ rows) = (b.seq ≡ seq) × (b.start < to) × (low ≤
 
 none_before : (seq low to p : ℕ) (rows : List Row) → HitsFrom seq low to rows → p < low → depth rows seq p ≡ 0
 none_before seq low to p [] h l = refl
-none_before seq low to p (b ∷ rows) h l = omega (arith, depth-cons seq p b rows, ap {B = ℕ} (λ c. cond c 1 0) (off_before seq p b (omega (arith, h.2))), none_before seq b.start to p rows h.3 (omega (arith, h.2)))
+none_before seq low to p (b ∷ rows) h l = omega (arith, depth-cons b rows seq p, ap {B = ℕ} (λ c. cond c 1 0) (off_before seq p b (omega (arith, h.2))), none_before seq b.start to p rows h.3 (omega (arith, h.2)))
 
 -- in the midst: from here on the depth is that of the hits that are left
 pub record Left (f : ℕ → ℕ) (seq from to : ℕ) (rows : List Row) : Type 0 where
@@ -130,13 +123,13 @@ Left-next f seq from to b rows some l =
     let h = l.found in
     let within : b.start < to = h.1 in (
       empty_runs-hit f from b.start b.stop to some within
-          (λ p low high. let here : p < to = omega arith in omega (arith, l.same p low here, depth-cons seq p b rows, ap {B = ℕ} (λ c. cond c 1 0) (off_before seq p b high), none_before seq b.start to p rows h.3 high))
+          (λ p low high. let here : p < to = omega arith in omega (arith, l.same p low here, depth-cons b rows seq p, ap {B = ℕ} (λ c. cond c 1 0) (off_before seq p b high), none_before seq b.start to p rows h.3 high))
           (λ p low high past end none. let on : covers seq p b ≡ true = covers_from seq p b h.0 low high in
-          absurd (omega (arith, l.same p past end, depth-cons seq p b rows, ap {B = ℕ} (λ c. cond c 1 0) on, none))),
+          absurd (omega (arith, l.same p past end, depth-cons b rows seq p, ap {B = ℕ} (λ c. cond c 1 0) on, none))),
       record {
         low = b.start;
         found = h.3;
-        same = λ p low high. let past : from ≤ p = omega (arith, low) in let behind : b.stop ≤ p = omega (arith, low) in omega (arith, l.same p past high, depth-cons seq p b rows, ap {B = ℕ} (λ c. cond c 1 0) (off_behind seq p b behind));
+        same = λ p low high. let past : from ≤ p = omega (arith, low) in let behind : b.stop ≤ p = omega (arith, low) in omega (arith, l.same p past high, depth-cons b rows seq p, ap {B = ℕ} (λ c. cond c 1 0) (off_behind seq p b behind));
       },
     )
 

@@ -23,7 +23,6 @@ pub(crate) struct Finder<'a, A: Allocator + Copy> {
     from: u64,
     // No record on this sequence has more positions.
     longest: u64,
-    meter: Meter,
 }
 
 impl<'a, A: Allocator + Copy> Model for Finder<'a, A> {
@@ -40,53 +39,44 @@ impl<'a, A: Allocator + Copy> Model for Finder<'a, A> {
 
 impl<'a, A: Allocator + Copy> Finder<'a, A> {
     /// It stands at the first record.
-    pub(crate) fn of(second: &'a Second<A>) -> Self
+    pub(crate) fn of(second: &'a Second<A>, meter: &mut Meter) -> Self
         ensures { result ≡ second.now.rows }
     {
-        let mut meter = Meter::new();
-        let longest = second.longest(0, &mut meter);
+        let longest = second.longest(0, meter);
         Finder {
             second,
-            rows: second.walk(0, 0, &mut meter),
+            rows: second.walk(0, 0, meter),
             seq: 0,
             from: 0,
             longest,
-            meter,
         }
     }
 
     /// The records that share a position with the interval, as `Second::hits` gives them.
-    pub(crate) fn hits(&mut self, seq: u32, start: u64, stop: u64) -> Hits<'a, A>
+    pub(crate) fn hits(&mut self, seq: u32, start: u64, stop: u64, meter: &mut Meter) -> Hits<'a, A>
         requires { start < stop }
         ensures hits { result ≡ hits self.old seq start stop }
         ensures same { self.new ≡ self.old }
     {
         if seq != self.seq {
-            return self.hits_anew(seq, start, stop);
+            return self.hits_anew(seq, start, stop, meter);
         }
         let from = first_start(start, self.longest);
-        self.rows = rows_from(
-            self.second,
-            &self.rows,
-            seq,
-            self.from,
-            from,
-            &mut self.meter,
-        );
+        self.rows = rows_from(self.second, &self.rows, seq, self.from, from, meter);
         self.from = from;
         Hits::of(self.rows.again(), seq, start, stop)
     }
 
     /// The same, on a sequence that it doesn't stand on.
-    fn hits_anew(&mut self, seq: u32, start: u64, stop: u64) -> Hits<'a, A>
+    fn hits_anew(&mut self, seq: u32, start: u64, stop: u64, meter: &mut Meter) -> Hits<'a, A>
         requires { start < stop }
         ensures hits { result ≡ hits self.old seq start stop }
         ensures same { self.new ≡ self.old }
     {
-        self.longest = self.second.longest(seq, &mut self.meter);
+        self.longest = self.second.longest(seq, meter);
         self.seq = seq;
         self.from = first_start(start, self.longest);
-        self.rows = self.second.walk(seq, self.from, &mut self.meter);
+        self.rows = self.second.walk(seq, self.from, meter);
         Hits::of(self.rows.again(), seq, start, stop)
     }
 }

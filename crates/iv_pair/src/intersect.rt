@@ -49,10 +49,10 @@ pub fn print_intersect<A: Allocator + Copy, S: Sink>(
 ) -> Result<(), WriteFault>
     ensures { Puts (S.state sink.old) (S.state sink.new) result (intersect_text shown genome.now track.now.rows second.now.rows) }
 {
-    let mut finder = Finder::of(second);
+    let mut finder = Finder::of(second, meter);
     let mut rows = track.walk(0, 0, meter);
     while let Some(row) = rows.next(meter) {
-        let hits = finder.hits(row.seq(), row.start(), row.stop());
+        let hits = finder.hits(row.seq(), row.start(), row.stop(), meter);
         put_intersect(shown, genome, row, hits, sink)?;
     }
     Ok(())

@@ -30,10 +30,10 @@ pub fn print_subtract<A: Allocator + Copy, S: Sink>(
 {
     // The records of the second file are in order.
     let _count = second.len();
-    let mut finder = Finder::of(second);
+    let mut finder = Finder::of(second, meter);
     let mut rows = track.walk(0, 0, meter);
     while let Some(row) = rows.next(meter) {
-        let hits = finder.hits(row.seq(), row.start(), row.stop());
+        let hits = finder.hits(row.seq(), row.start(), row.stop(), meter);
         put_subtract(whole, genome, row, hits, sink)?;
     }
     Ok(())

@@ -3,6 +3,7 @@ pub mod BuiltLemmas
 pub mod Counts
 pub mod Edits
 pub mod Nearest
+pub mod NumberOrder
 pub mod PlaceLemmas
 pub mod StepLemmas
 pub mod TrackLemmas

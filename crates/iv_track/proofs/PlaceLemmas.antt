@@ -9,11 +9,11 @@ use Rattle.std.specs.declared.cmp.Ordering.{Ordering}
 use Rattle.std.specs.declared.cmp.Ordering.TheVariants.{Less, Equal, Greater}
 use Rattle.std.specs.Ordering.{is_le, ordering_then, nat_cmp}
 use Rattle.std.specs.Option.{option_cmp}
-use Rattle.std.specs.Cmp.{ranked}
 use Rattle.std.specs.Cmp.Lexicographic.{slice_cmp}
 use Rattle.iv_text.specs.declared.strand.Strand.{Strand}
 use Rattle.iv_text.specs.Row.{Row, IsPlaced, row_cmp, strand_cmp}
 use Rattle.iv_track.specs.Tracked.{is_from, BeginsFrom}
+use Rattle.iv_track.proofs.NumberOrder.{le-cmp}
 
 from_least : (a b r : Ordering) → (b ≡ Equal → is_le r ≡ true) → is_le (ordering_then a (ordering_then b r)) ≡ is_le (ordering_then a b)
 from_least Less b r h = refl
@@ -39,19 +39,11 @@ none_le : (s : Option Strand) → is_le (option_cmp strand_cmp None s) ≡ true
 none_le None = refl
 none_le (Some s) = refl
 
-le_nat : (m n : ℕ) → m ≤ n → is_le (nat_cmp m n) ≡ true
-le_nat m n h = go (nat_cmp m n) refl
-  where
-    go : (o : Ordering) → o ≡ nat_cmp m n → is_le o ≡ true
-    go Less e = refl
-    go Equal e = refl
-    go Greater e = let r : n < m = ranked m n Greater e in absurd (omega arith)
-
 -- the least record at a place is before exactly the records from there on that have a base
 least-is_from : (seq start : ℕ) (q : Row) → q.start < q.stop → is_le (row_cmp (record { seq = seq; start = start; stop = start + 1; name = []; score = []; strand = None; width = 0 }) q) ≡ is_from seq start q
 least-is_from seq start q some =
     from_least (nat_cmp seq q.seq) (nat_cmp start q.start) _ (λ tied.
-    (le_then (nat_cmp (start + 1) q.stop) _ (le_nat (start + 1) q.stop (omega (arith, some, exact_unsigned start q.start tied)))
+    (le_then (nat_cmp (start + 1) q.stop) _ (le-cmp (start + 1) q.stop (omega (arith, some, exact_unsigned start q.start tied)))
     (le_then (slice_cmp nat_cmp [] q.name) _ (empty_le q.name)
     (le_then (slice_cmp nat_cmp [] q.score) _ (empty_le q.score)
     (le_then (option_cmp strand_cmp None q.strand) _ (none_le q.strand) (zero_le q.width))))))

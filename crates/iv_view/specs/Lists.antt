@@ -2,11 +2,8 @@
 use Rattle.std.specs.Prelude.{ℕ, ◌==◌, nat_le, max, if◌then◌else◌, List, [], ◌∷◌, map, length, replicate, Option, None, Some}
 use Rattle.std.specs.List.{zip}
 use Rattle.std.specs.Option.{option_map}
+use Rattle.iv_text.specs.Bytes.{comma}
 use Rattle.iv_text.specs.Fields.{fields}
-
--- the byte between two items
-abbrev pub comma : ℕ
-comma = 44
 
 -- all of these, if none is missing
 abbrev pub all_some : {A : Type 0} → List (Option A) → Option (List A)

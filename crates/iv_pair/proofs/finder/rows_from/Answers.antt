@@ -1,14 +1,14 @@
 use Rattle.std.proofs.Common.{◌≡◌, ◌∙◌, List, ap, sym, subst}
 use Rattle.std.specs.Prelude.{filter}
 use Rattle.iv_text.specs.Ordered.{AreInOrder}
-use Rattle.iv_text.specs.Row.{Row}
+use Rattle.iv_text.specs.Row.{row_cmp, Row}
+use Rattle.iv_cover.proofs.InOrder.{in_order-filter}
 use Rattle.iv_track.specs.Tracked.{is_from}
-use Rattle.iv_pair.proofs.HitsLemmas.{in_order-filter}
 use Rattle.iv_pair.proofs.PlaceLemmas.{from-on}
 use Rattle.iv_pair.proofs.finder.rows_from.Goals as goal
 
 pub near_rows-requires : goal.near_rows-requires
-near_rows-requires g c = subst AreInOrder (sym c.requires.ahead) (in_order-filter (is_from c.args.seq c.args.at) c.args.second.now.rows c.requires.ordered)
+near_rows-requires g c = subst AreInOrder (sym c.requires.ahead) (in_order-filter row_cmp (is_from c.args.seq c.args.at) c.args.second.now.rows c.requires.ordered)
 
 pub returns-in-Some : goal.returns-in-Some
 returns-in-Some g c =

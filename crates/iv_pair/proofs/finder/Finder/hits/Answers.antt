@@ -1,18 +1,19 @@
 use Rattle.std.proofs.Common.{◌≡◌, ◌∙◌, ℕ, List, ap, sym, subst, arith, length}
 use Rattle.std.specs.Prelude.{filter}
 use Rattle.iv_text.specs.Ordered.{AreInOrder}
-use Rattle.iv_text.specs.Row.{Row}
+use Rattle.iv_text.specs.Row.{row_cmp, Row}
+use Rattle.iv_cover.proofs.InOrder.{in_order-filter}
 use Rattle.iv_track.specs.Tracked.{is_from}
 use Rattle.iv_pair.specs.Hits.{hits}
 use Rattle.iv_pair.specs.Lengths.{AreUpTo}
-use Rattle.iv_pair.proofs.HitsLemmas.{hits_from, in_order-filter, length-filter_le}
+use Rattle.iv_pair.proofs.HitsLemmas.{hits_from, length-filter_le}
 use Rattle.iv_pair.proofs.finder.Finder.hits.Goals as goal
 
 pub of-requires-clause-ordered : goal.of-requires-clause-ordered
 of-requires-clause-ordered g c =
     let i = c.self.inside in
     let rows : c.again.result ≡ filter (is_from c.args.seq c.first_start-from.result) i.second.now.rows = c.again.ensures ∙ c.rows_from-self-inside.ensures in
-    subst AreInOrder (sym rows) (in_order-filter (is_from c.args.seq c.first_start-from.result) i.second.now.rows c.self.invariant.ordered)
+    subst AreInOrder (sym rows) (in_order-filter row_cmp (is_from c.args.seq c.first_start-from.result) i.second.now.rows c.self.invariant.ordered)
 
 pub of-requires-clause-few : goal.of-requires-clause-few
 of-requires-clause-few g c =

@@ -1,0 +1,30 @@
+-- What comparisons of numbers tell. (That `is_le` of one means ≤ stands in std, as `le_from_is_le`.)
+use Rattle.std.proofs.Common.{◌≡◌, ℕ, ◌<◌, ◌≤◌, true, refl, arith}
+use Rattle.std.specs.declared.cmp.Ordering.{Ordering}
+use Rattle.std.specs.declared.cmp.Ordering.TheVariants.{Less, Equal, Greater}
+use Rattle.std.specs.Ordering.{is_le, is_ge, nat_cmp}
+use Rattle.std.specs.Cmp.{ranked}
+
+pub le-cmp : (m n : ℕ) → m ≤ n → is_le (nat_cmp m n) ≡ true
+le-cmp m n h = go (nat_cmp m n) refl
+  where
+    go : (o : Ordering) → o ≡ nat_cmp m n → is_le o ≡ true
+    go Less is = refl
+    go Equal is = refl
+    go Greater is = let r : n < m = ranked m n Greater is in absurd (omega arith)
+
+pub ge-cmp : (m n : ℕ) → n ≤ m → is_ge (nat_cmp m n) ≡ true
+ge-cmp m n h = go (nat_cmp m n) refl
+  where
+    go : (o : Ordering) → o ≡ nat_cmp m n → is_ge o ≡ true
+    go Less is = let r : m < n = ranked m n Less is in absurd (omega arith)
+    go Equal is = refl
+    go Greater is = refl
+
+pub ge-from : (m n : ℕ) → is_ge (nat_cmp m n) ≡ true → n ≤ m
+ge-from m n e = go (nat_cmp m n) refl e
+  where
+    go : (o : Ordering) → o ≡ nat_cmp m n → is_ge o ≡ true → n ≤ m
+    go Less is e = cc
+    go Equal is e = let r : m ≡ n = ranked m n Equal is in omega arith
+    go Greater is e = let r : n < m = ranked m n Greater is in omega arith
