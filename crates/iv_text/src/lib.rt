@@ -23,6 +23,7 @@ pub use bed_file::BedFile;
 pub use fault::{LoadCause, LoadFault, RecordFault, fault_text, load_text};
 pub use fields::{Fields, columns, split_first_column};
 pub use genome::Genome;
+pub use genome_file::is_bad_name;
 pub use iv_bytes::{
     Buffered, ByteQueue, MemSink, MemSource, ReadFault, Sink, Source, StdSink, StdSource,
     WriteFault, put_all, put_pieces,
