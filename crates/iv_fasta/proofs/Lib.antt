@@ -1,0 +1,10 @@
+pub mod ComplementLemmas
+pub mod LineLemmas
+pub mod CutLemmas
+pub mod KeptLemmas
+pub mod LengthLemmas
+pub mod PlaceLemmas
+pub mod JoinLemmas
+pub mod OppositeLemmas
+pub mod RowLemmas
+pub mod Examples

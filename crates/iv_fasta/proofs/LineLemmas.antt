@@ -1,0 +1,65 @@
+-- One line of a FASTA.
+use Rattle.std.proofs.Common.{◌≡◌, ◌≢◌, ℕ, ◌-◌, ◌==◌, ◌++◌, Bool, true, false, cond, List, [], ◌∷◌, Result, Ok, Err, length, take, drop, get_or, refl, sym, ◌∙◌, ap}
+use Rattle.std.proofs.lemmas.Bool.{cond-true, cond-false, ne_eqb, eq-eqb}
+use Rattle.std.proofs.lemmas.List.{take_rest}
+use Rattle.std.specs.List.{list_any, before_first}
+use Rattle.std.specs.Option.{is_some}
+use Rattle.iv_text.specs.Named.{place_of}
+use Rattle.iv_text.specs.Genome.{Sequences}
+use Rattle.iv_text.specs.GenomeFile.{begins_with, bad_name}
+use Rattle.iv_fasta.specs.Fasta.{Found, header_sign, is_blank, is_no_base, header_name, with_header}
+use Rattle.iv_fasta.specs.Drafts.{Headed, cut, Draft, drafted, headed, with_kept_line, after_kept_line}
+use Rattle.iv_text.specs.declared.fault.LoadCause.{LoadCause}
+use Rattle.iv_text.specs.declared.fault.LoadCause.TheVariants as cause
+use Rattle.iv_fasta.proofs.CutLemmas.{place-cut, length-cut, cut-push, cut-bases}
+use Rattle.iv_fasta.specs.Drafts.{StartInOrder}
+
+pub header-repeated : (n : ℕ) (found : Found) (name : List ℕ) → bad_name name ≡ false → is_some (place_of found name) ≡ true → with_header n found name ≡ Err cause.Repeated
+header-repeated n found name good there = cond-false _ _ _ good ∙ cond-true _ _ _ there
+
+pub header-taken : (n : ℕ) (found : Found) (name : List ℕ) → bad_name name ≡ false → is_some (place_of found name) ≡ false
+    → with_header n found name ≡ Ok (found ++ (name, record { line = n; bases = [] }) ∷ [])
+header-taken n found name good fresh = cond-false _ _ _ good ∙ cond-false _ _ _ fresh
+
+-- a header is taken
+pub headed-taken : (g : Sequences) (n : ℕ) (hs more : Headed) (bases name : List ℕ) (start : ℕ) (named : Bool)
+    → bad_name name ≡ false → is_some (place_of hs name) ≡ false → start ≡ length bases → more ≡ hs ++ (name, record { line = n; start = start }) ∷ []
+    → headed g name (Ok (cut more bases)) ≡ Ok (drafted more bases named)
+    → headed g name (with_header n (cut hs bases) name) ≡ Ok (drafted more bases named)
+headed-taken g n hs more bases name start named good fresh at is rest =
+    ap (headed g name) (header-taken n (cut hs bases) name good (ap is_some (place-cut hs bases name) ∙ fresh)
+    ∙ ap (λ (f : Found). Ok f) (sym (ap (λ (l : Headed). cut l bases) is ∙ cut-push hs name (record { line = n; start = start }) bases at)))
+    ∙ rest
+
+pub line-refused : (hs : Headed) (bases : List ℕ) (named : Bool) (line : List ℕ) → length hs ≢ 0 → list_any is_no_base line ≡ true
+    → with_kept_line (drafted hs bases named) line ≡ Err cause.Base
+line-refused hs bases named line some bad =
+    cond-false _ _ _ (ap (λ n. n == 0) (length-cut hs bases) ∙ ne_eqb (length hs) 0 some) ∙ cond-true _ _ _ bad
+
+pub line-taken : (hs : Headed) (bases more : List ℕ) (named : Bool) (line : List ℕ) → length hs ≢ 0 → list_any is_no_base line ≡ false
+    → StartInOrder 0 hs (length bases) → more ≡ bases ++ cond named line []
+    → with_kept_line (drafted hs bases named) line ≡ Ok (drafted hs more named)
+line-taken hs bases more named line some good order is =
+    cond-false _ _ _ (ap (λ n. n == 0) (length-cut hs bases) ∙ ne_eqb (length hs) 0 some) ∙ cond-false _ _ _ good
+    ∙ ap {B = Result Draft LoadCause} (λ (f : Found). Ok (record { found = f; named = named })) (sym (ap (cut hs) is ∙ cut-bases 0 hs bases (cond named line []) order))
+
+pub kept-empty : (g : Sequences) (n : ℕ) (d : Draft) (line : List ℕ) → (length line == 0) ≡ true → after_kept_line g n d line ≡ Ok d
+unfolding after_kept_line
+kept-empty g n d line h = cond-true _ _ _ h
+
+begins : (line : List ℕ) → (length line == 0) ≡ false → begins_with header_sign line ≡ (get_or line 0 0 == 62)
+begins [] h = cc
+begins (b ∷ bs) h = refl
+
+pub kept-header : (g : Sequences) (n : ℕ) (d : Draft) (line name : List ℕ) → (length line == 0) ≡ false → get_or line 0 0 ≡ 62 → name ≡ before_first is_blank (take (length line - 1) (drop 1 line))
+    → after_kept_line g n d line ≡ headed g name (with_header n d.found name)
+unfolding after_kept_line
+kept-header g n d line name some is named =
+    let same : name ≡ header_name line = named ∙ ap (before_first is_blank) (take_rest line 1) in
+    cond-false _ _ _ some ∙ cond-true _ _ _ (begins line some ∙ eq-eqb (get_or line 0 0) 62 is)
+    ∙ ap (λ (l : List ℕ). headed g l (with_header n d.found l)) (sym same)
+
+pub kept-bases : (g : Sequences) (n : ℕ) (d : Draft) (line : List ℕ) → (length line == 0) ≡ false → get_or line 0 0 ≢ 62
+    → after_kept_line g n d line ≡ with_kept_line d line
+unfolding after_kept_line
+kept-bases g n d line some not = cond-false _ _ _ some ∙ cond-false _ _ _ (begins line some ∙ ne_eqb (get_or line 0 0) 62 not)

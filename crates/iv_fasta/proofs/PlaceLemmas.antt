@@ -1,0 +1,87 @@
+-- The bases of a genome's sequences that lie in one list, by rank.
+use Rattle.std.proofs.Common.{◌≡◌, ℕ, ◌+◌, ◌-◌, ◌<◌, ◌≤◌, List, [], ◌∷◌, ◌++◌, Option, None, Some, length, take, drop, map, min, get_or, slice_get, subst, length-take, length-drop, refl, sym, ◌∙◌, ap, arith}
+use Rattle.std.specs.Prelude.{All}
+use Rattle.std.proofs.lemmas.List.{drop-take, drop-drop, take-take, take_more, length-map, map-append, same_lists, get_or-take, get_or-drop}
+use Rattle.std.proofs.lemmas.List.Edits.{length-between}
+use Rattle.std.proofs.lemmas.Option.{slice_get-map, slice_get_within, get_or_from_slice_get, unwrap_or-slice_get}
+use Rattle.std.specs.List.{slice_range}
+use Rattle.std.specs.Map.{lookup}
+use Rattle.std.specs.Option.{option_map, unwrap_or}
+use Rattle.std.specs.Str.{bytes_eq}
+use Rattle.iv_text.specs.Genome.{Sequences}
+use Rattle.iv_fasta.specs.Fasta.{Stretch, Found, Bases, by_rank, bases_of}
+use Rattle.iv_fasta.specs.Places.{bases_at, placed, LiesWithin, IsPlacedWithin}
+use Rattle.iv_fasta.specs.declared.place.Place.{Place}
+
+abbrev bases_under : Found → List ℕ → Option (List ℕ)
+bases_under found name = option_map (λ (f : Stretch). f.bases) (lookup (bytes_eq name) found)
+
+-- one more place
+pub placed-more : (g : Sequences) (found : Found) (places more : List (Option Place)) (bases : List ℕ) (rank : ℕ) (place : Option Place) → rank < length g
+    → placed places bases ≡ take rank (by_rank g found) → option_map (bases_at bases) place ≡ bases_of (by_rank g found) rank → more ≡ places ++ place ∷ []
+    → placed more bases ≡ take (rank + 1) (by_rank g found)
+placed-more g found places more bases rank place within so_far is next =
+    let long : rank < length (by_rank g found) = omega (arith, length-map g (λ s. bases_under found s.0)) in
+    ap (map (option_map (bases_at bases))) next ∙ map-append (option_map (bases_at bases)) places (place ∷ [])
+    ∙ ap (λ (l : Bases). l ++ option_map (bases_at bases) place ∷ []) so_far
+    ∙ ap (λ (o : Option (List ℕ)). take rank (by_rank g found) ++ o ∷ []) (is ∙ unwrap_or-slice_get (by_rank g found) rank None)
+    ∙ sym (take_more (by_rank g found) rank None long)
+
+placed-at : (places : List (Option Place)) (bases : List ℕ) (seq : ℕ) (place : Place) → Some place ≡ unwrap_or (slice_get places seq) None
+    → bases_of (placed places bases) seq ≡ Some (bases_at bases place)
+placed-at places bases seq place at =
+    ap (λ (o : Option (Option (List ℕ))). unwrap_or o None) (slice_get-map (option_map (bases_at bases)) places seq) ∙ by (slice_get places seq) at
+  where
+    by : (o : Option (Option Place)) → Some place ≡ unwrap_or o None → unwrap_or (option_map (option_map (bases_at bases)) o) None ≡ Some (bases_at bases place)
+    by None is = cc
+    by (Some None) is = cc
+    by (Some (Some p)) is = let same : place ≡ p = cc in ap {B = Option (List ℕ)} (λ (q : Place). Some (bases_at bases q)) (sym same)
+
+-- where each place lies among so many bases, so does one of them
+lies-at : (places : List (Option Place)) (total seq : ℕ) (place : Place) (o : Option (Option Place)) → All (IsPlacedWithin total) places → slice_get places seq ≡ o
+    → Some place ≡ unwrap_or o None → LiesWithin total place
+lies-at places total seq place None all at is = cc
+lies-at places total seq place (Some None) all at is = cc
+lies-at places total seq place (Some (Some p)) all at is =
+    let same : place ≡ p = cc in
+    subst (λ (q : Place). LiesWithin total q) (sym same)
+    (subst (λ (q : Option Place). IsPlacedWithin total q) (get_or_from_slice_get places seq (Some p) None at) (all seq None (slice_get_within places seq (Some p) at)))
+
+-- ---- a part of a sequence's bases
+
+-- bounds past the end, or in the wrong order, may be cut down
+range-cut : (bases : List ℕ) (start stop from to : ℕ) → to ≡ min (length bases) stop → from ≡ min to start → slice_range bases from to ≡ slice_range bases start stop
+range-cut bases start stop from to is at =
+    same_lists (slice_range bases from to) (slice_range bases start stop)
+    (omega (arith, is, at, length-take (to - from) (drop from bases), length-take (stop - start) (drop start bases), length-drop from bases, length-drop start bases))
+    (λ k d low.
+    let within : k < to - from = omega (arith, low, length-take (to - from) (drop from bases)) in
+    let same : from ≡ start = omega (arith, at, within) in
+    let inside : k < stop - start = omega (arith, is, at, within) in
+    get_or-take (to - from) (drop from bases) k d within ∙ get_or-drop from bases k d ∙ ap (λ (i : ℕ). get_or bases (i + k) d) same
+    ∙ sym (get_or-take (stop - start) (drop start bases) k d inside ∙ get_or-drop start bases k d))
+
+-- a part of a part
+range-range : (bases : List ℕ) (from to start stop : ℕ) → start ≤ stop → stop ≤ to - from → slice_range (slice_range bases from to) start stop ≡ slice_range bases (from + start) (from + stop)
+range-range bases from to start stop order within =
+    let split : to - from ≡ start + (to - from - start) = omega arith in
+    let long : stop - start ≡ from + stop - (from + start) = omega arith in
+    ap (λ n. take (stop - start) (drop start (take n (drop from bases)))) split
+    ∙ ap (take (stop - start)) (drop-take start (to - from - start) (drop from bases))
+    ∙ take-take (stop - start) (to - from - start) (drop start (drop from bases)) (omega arith)
+    ∙ ap (take (stop - start)) (drop-drop start from bases)
+    ∙ ap (λ n. take n (drop (from + start) bases)) long
+
+-- the part of a sequence's bases that is asked for
+pub part-is : (fasta : Bases) (places : List (Option Place)) (bases shown : List ℕ) (seq start stop from to : ℕ) (place : Place) → placed places bases ≡ fasta → shown ≡ bases
+    → All (IsPlacedWithin (length bases)) places → Some place ≡ unwrap_or (slice_get places seq) None → to ≡ min (place.stop - place.start) stop → from ≡ min to start
+    → Some (slice_range shown (place.start + from) (place.start + to)) ≡ option_map (λ b. slice_range b start stop) (bases_of fasta seq)
+part-is fasta places bases shown seq start stop from to place view same all at cut_to cut_from =
+    let there : bases_of fasta seq ≡ Some (bases_at bases place) = ap (λ (f : Bases). bases_of f seq) (sym view) ∙ placed-at places bases seq place at in
+    let lies : LiesWithin (length bases) place = lies-at places (length bases) seq place (slice_get places seq) all refl at in
+    let long : length (bases_at bases place) ≡ place.stop - place.start = length-between bases place.start place.stop lies.in_bounds in
+    ap {B = Option (List ℕ)} (λ (l : List ℕ). Some (slice_range l (place.start + from) (place.start + to))) same
+    ∙ ap {B = Option (List ℕ)} (λ (l : List ℕ). Some l)
+    (sym (range-range bases place.start place.stop from to (omega (arith, cut_from)) (omega (arith, cut_to)))
+    ∙ range-cut (bases_at bases place) start stop from to (omega (arith, cut_to, long)) cut_from)
+    ∙ ap (option_map (λ b. slice_range b start stop)) (sym there)

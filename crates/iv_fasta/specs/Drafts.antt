@@ -1,0 +1,79 @@
+-- What is kept of a FASTA file while it is read: the bases of the sequences that the genome names, all in one list. No public
+-- clause cites this module: it is no part of what is promised.
+use Rattle.std.specs.Prelude.{◌≤◌, ℕ, ◌+◌, ◌==◌, Bool, cond, List, [], ◌∷◌, Option, None, Some, Result, Ok, Err, length, slice_range}
+use Rattle.std.specs.List.{list_any}
+use Rattle.std.specs.Coded.{×_prop, le_prop}
+use Rattle.std.specs.Option.{is_some}
+use Rattle.iv_text.specs.Genome.{Sequences, rank_of}
+use Rattle.iv_text.specs.GenomeFile.{begins_with}
+use Rattle.iv_fasta.specs.Fasta.{Stretch, Found, header_sign, is_no_base, header_name, with_header, with_bases}
+use Rattle.iv_fasta.specs.Places.{bases_at}
+use Rattle.iv_fasta.specs.declared.place.Place.{Place}
+use Rattle.iv_fasta.specs.declared.headers.Header.{Header}
+use Rattle.iv_text.specs.declared.fault.LoadCause.{LoadCause}
+use Rattle.iv_text.specs.declared.fault.LoadCause.TheVariants as cause
+use Rattle.iv_text.specs.declared.fault.LoadFault.{LoadFault}
+
+-- headers, each under its name, in the order of the file
+abbrev pub Headed : Type 0
+Headed = List (List ℕ × Header)
+
+-- where the bases of the sequence before these headers end, of so many bases in all
+abbrev pub end_before : Headed → ℕ → ℕ
+end_before [] total = total
+end_before (h ∷ headers) total = h.1.start
+
+-- where the bases before a header end, of so many bases in all
+abbrev pub end_at : Option (List ℕ × Header) → ℕ → ℕ
+end_at None total = total
+end_at (Some h) total = h.1.start
+
+-- the sequences of these headers: each has the bases from its start to the next one's
+abbrev pub cut : Headed → List ℕ → Found
+cut [] bases = []
+cut (h ∷ headers) bases = (h.0, record { line = h.1.line; bases = slice_range bases h.1.start (end_before headers (length bases)) }) ∷ cut headers bases
+
+-- the sequence whose header stands in this line, and whose bases lie at this place
+abbrev pub sequence_at : List ℕ → ℕ → Place → Stretch
+sequence_at bases line place = record { line = line; bases = bases_at bases place }
+
+-- the headers start in order, from `low` on, and none of them past the bases
+abbrev pub StartInOrder : ℕ → Headed → ℕ → Type 0
+StartInOrder low [] total = low ≤ total
+StartInOrder low (h ∷ headers) total = (low ≤ h.1.start) × StartInOrder h.1.start headers total
+
+pub StartInOrder-prop : (low : ℕ) (headers : Headed) (total : ℕ) → IsProp (StartInOrder low headers total)
+StartInOrder-prop low [] total = le_prop
+StartInOrder-prop low (h ∷ headers) total = ×_prop le_prop (StartInOrder-prop h.1.start headers total)
+
+-- the sequences so far, and whether the genome names the last one
+pub record Draft : Type 0 where
+  pub found : Found
+  pub named : Bool
+
+-- what these headers and bases say
+abbrev pub drafted : Headed → List ℕ → Bool → Draft
+drafted headers bases named = record { found = cut headers bases; named = named }
+
+-- what is kept after a header, or its fault
+abbrev pub headed : Sequences → List ℕ → Result Found LoadCause → Result Draft LoadCause
+headed g name (Err c) = Err c
+headed g name (Ok found) = Ok (record { found = found; named = is_some (rank_of g name) })
+
+-- what is kept after a line of bases, or its first fault: nothing of it where the genome doesn't name the sequence
+abbrev pub with_kept_line : Draft → List ℕ → Result Draft LoadCause
+with_kept_line d line =
+    cond (length d.found == 0) (Err cause.BasesFirst)
+    (cond (list_any is_no_base line) (Err cause.Base)
+    (Ok (record { found = with_bases d.found (cond d.named line []); named = d.named })))
+
+-- what is kept after one more line, or its first fault
+unfoldable pub after_kept_line : Sequences → ℕ → Draft → List ℕ → Result Draft LoadCause
+after_kept_line g n d line =
+    cond (length line == 0) (Ok d)
+    (cond (begins_with header_sign line) (headed g (header_name line) (with_header n d.found (header_name line))) (with_kept_line d line))
+
+-- what is kept after lines of which the first has the number n, or the first fault
+abbrev pub after_kept_lines : Sequences → ℕ → Draft → List (List ℕ) → Result Draft LoadFault
+after_kept_lines g n d [] = Ok d
+after_kept_lines g n d (line ∷ lines) = elim (after_kept_line g n d line) [ Ok more ↦ after_kept_lines g (n + 1) more lines | Err c ↦ Err (record { line = n; cause = c }) ]

@@ -1,0 +1,62 @@
+-- The rows of getfasta.
+use Rattle.std.specs.Prelude.{ℕ, ◌&&◌, ◌++◌, Bool, true, false, if◌then◌else◌, List, [], ◌∷◌, Option, None, Some, map, reverse, codes, decimal, slice_range}
+use Rattle.std.specs.List.{flat_map}
+use Rattle.iv_text.specs.Genome.{Sequences, sequence_name}
+use Rattle.iv_text.specs.Row.{Row, strand_byte}
+use Rattle.iv_text.specs.declared.strand.Strand.{Strand}
+use Rattle.iv_text.specs.declared.strand.Strand.TheVariants.{Plus, Minus, Dot}
+use Rattle.iv_fasta.specs.Complement.{complement}
+use Rattle.iv_fasta.specs.Fasta.{Bases, bases_of}
+use Rattle.iv_fasta.specs.declared.rows.FastaRows.{FastaRows}
+
+-- a strand in round brackets, nothing where a record has none
+abbrev pub bracketed : Option Strand → List ℕ
+bracketed None = []
+bracketed (Some s) = codes "(" ++ strand_byte s ∷ codes ")"
+
+-- what a head shows of a record's strand
+abbrev pub strand_mark : FastaRows → Option Strand → List ℕ
+strand_mark shown strand = if shown.stranded then bracketed strand else []
+
+-- the head of a record: its sequence, from where to where, and the strand if it is shown
+abbrev pub head : FastaRows → Sequences → Row → List ℕ
+head shown g r = sequence_name g r.seq ++ codes ":" ++ decimal r.start ++ codes "-" ++ decimal r.stop ++ strand_mark shown r.strand
+
+-- the record lies on the strand `-`
+abbrev pub is_minus : Option Strand → Bool
+is_minus None = false
+is_minus (Some Plus) = false
+is_minus (Some Minus) = true
+is_minus (Some Dot) = false
+
+-- the opposite strand of some bases: they are read backwards, and each is its complement
+abbrev pub opposite : List ℕ → List ℕ
+opposite bases = map complement (reverse bases)
+
+-- the bases that are shown of those that a record covers: with strands, and on the strand `-`, the opposite ones
+abbrev pub shown_bases : FastaRows → Row → List ℕ → List ℕ
+shown_bases shown r bases = if shown.stranded && is_minus r.strand then opposite bases else bases
+
+-- a head and its bases: on one line, parted by a TAB; or each on a line of its own, and `>` before the head
+abbrev pub framed : FastaRows → List ℕ → List ℕ → List ℕ
+framed shown heading bases =
+    if shown.tab then heading ++ codes "\t" ++ bases ++ codes "\n"
+    else codes ">" ++ heading ++ codes "\n" ++ bases ++ codes "\n"
+
+-- the row of a record beside the bases of its sequence: nothing where there are none
+abbrev pub row_beside : FastaRows → Sequences → Row → Option (List ℕ) → List ℕ
+row_beside shown g r None = []
+row_beside shown g r (Some bases) = framed shown (head shown g r) (shown_bases shown r (slice_range bases r.start r.stop))
+
+-- the row of a record
+abbrev pub fasta_rows : FastaRows → Sequences → Bases → Row → List ℕ
+fasta_rows shown g fasta r = row_beside shown g r (bases_of fasta r.seq)
+
+-- all rows: those of each record, in the order of the list
+abbrev pub fasta_text : FastaRows → Sequences → Bases → List Row → List ℕ
+fasta_text shown g fasta rows = flat_map (fasta_rows shown g fasta) rows
+
+-- what stands before the bases of a row (for a private function: no part of what is promised)
+abbrev pub front : FastaRows → Sequences → Row → List ℕ
+front shown g r =
+    (if shown.tab then [] else codes ">") ++ head shown g r ++ (if shown.tab then codes "\t" else codes "\n")

@@ -1,0 +1,5 @@
+pub mod Complement
+pub mod Fasta
+pub mod Places
+pub mod Drafts
+pub mod FastaRows

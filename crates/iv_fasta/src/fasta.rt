@@ -1,0 +1,94 @@
+//! The bases of sequences.
+ghost use Rattle.std.specs.Prelude.{None, slice_get, ◌≡◌, ◌⊎◌, Ok, Err, IfOk, IfErr, length, slice_range};
+ghost use Rattle.std.specs.Option.{is_some, option_map, option_copied, unwrap_or};
+ghost use Rattle.iv_text.specs.declared.fault.LoadCause.TheVariants as cause;
+ghost use Rattle.iv_fasta.specs.Fasta.{fasta_of, bases_of, HasLengthsOf};
+
+use crate::draft::FastaDraft;
+use crate::place::Place;
+use iv_text::{Genome, LoadCause, LoadFault};
+use std::alloc::{Allocator, Global};
+use std::marker::Model;
+
+/// The bases of those sequences of a genome that a FASTA file has, by rank.
+///
+/// They lie in one vector. Its model is a list with an entry for each sequence of the genome, which holds its bases, each as
+/// its byte in the file, or nothing where the file lacks the sequence.
+#[derive(Drop)]
+pub struct Fasta<A: Allocator = Global> {
+    places: Vec<Option<Place>, A>,
+    bases: Vec<u8, A>,
+}
+
+impl<A: Allocator> Model for Fasta<A> {
+    ghost use Rattle.std.specs.Prelude.{All, length};
+    ghost use Rattle.iv_fasta.specs.Fasta.{Bases};
+    ghost use Rattle.iv_fasta.specs.Places.{placed, IsPlacedWithin};
+
+    ghost Value = { Bases };
+
+    ghost view = { λ f. placed f.places.items f.bases.items };
+
+    ghost invariant = { λ f. All (IsPlacedWithin (length f.bases.items)) f.places.items };
+}
+
+/// The place that stands at this rank, if one does.
+fn place_in<A: Allocator>(places: &Vec<Option<Place>, A>, seq: u32) -> Option<Place>
+    ensures { result ≡ unwrap_or (slice_get places.now.items seq) None }
+{
+    *places.get(seq as usize)?
+}
+
+impl<A: Allocator + Copy> Fasta<A> {
+    /// The bases that a FASTA file says, or the file's first fault.
+    ///
+    /// A header is a line that begins with `>`. Its name ends before the first space or TAB, or at the end of the line, and
+    /// stands once, whether or not the genome has it. The lines behind it are its bases, joined: bytes from 33 to 126. Empty
+    /// lines are skipped. Sequences that the genome doesn't name are read and left out. One that it names has the genome's
+    /// length: that is looked at in a file without another fault, sequence by sequence, and the line of such a fault is the
+    /// header's. After a fault nothing was made.
+    pub fn parse(alloc: A, genome: &Genome<A>, text: &[u8]) -> Result<Fasta<A>, LoadFault>
+        ensures ok { IfOk result (λ f. fasta_of genome.now text.now ≡ Ok f) }
+        ensures lengths { IfOk result (λ f. HasLengthsOf genome.now f) }
+        ensures err { IfErr result (λ f. (f ≡ record { line = 0; cause = cause.Memory }) ⊎ (fasta_of genome.now text.now ≡ Err f)) }
+    {
+        let draft = FastaDraft::read(alloc, genome, text)?;
+        draft.check_lengths(genome)?;
+        genome.law_of_names();
+        match draft.places(alloc, genome) {
+            Ok(places) => {
+                let FastaDraft { bases, .. } = draft;
+                Ok(Fasta { places, bases })
+            }
+            Err(refused) => Err(LoadFault::at(0, LoadCause::from(refused))),
+        }
+    }
+
+    /// Whether it has the sequence of this rank.
+    pub fn covers(&self, seq: u32) -> bool
+        ensures { result ≡ is_some (bases_of self.now seq) }
+    {
+        place_in(&self.places, seq).is_some()
+    }
+
+    /// How many bases the sequence of this rank has, if the file has it.
+    pub fn length(&self, seq: u32) -> Option<u64>
+        ensures { result ≡ option_map length (bases_of self.now seq) }
+    {
+        let place = place_in(&self.places, seq)?;
+        Some((place.stop - place.start) as u64)
+    }
+
+    /// The bases of the sequence of this rank from `start` to `stop`, which is not included, if the file has it.
+    ///
+    /// They are lent. Positions are counted from 0; past the sequence's end there is no base.
+    pub fn bases(&self, seq: u32, start: u64, stop: u64) -> Option<&[u8]>
+        ensures { option_copied result ≡ option_map (λ bases. slice_range bases start stop) (bases_of self.now seq) }
+    {
+        let place = place_in(&self.places, seq)?;
+        let length = place.stop - place.start;
+        let to = length.min(stop as usize);
+        let from = to.min(start as usize);
+        Some(&self.bases[place.start + from..place.start + to])
+    }
+}

@@ -1,0 +1,16 @@
+//! The FASTA file of a session, and the rows that are made with it: getfasta.
+#![tactic(auto)]
+
+mod base;
+mod draft;
+mod fasta;
+mod headers;
+mod laws;
+mod line;
+mod place;
+mod rows;
+
+pub use base::complement;
+pub use fasta::Fasta;
+pub use laws::joined_lines_are_a_sequence;
+pub use rows::{FastaRows, print_fasta, put_fasta};
