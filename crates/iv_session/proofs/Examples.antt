@@ -10,8 +10,8 @@ use Rattle.iv_session.specs.Running.{Runs}
 use Rattle.iv_session.specs.Scripts.{Steps}
 use Rattle.iv_state.specs.OpenViews.{Shown}
 use Rattle.iv_state.specs.States.{State, with_rows}
-use Rattle.iv_state.specs.Views.{opened, all_text}
-use Rattle.iv_view.specs.Views.{read_words, view_text}
+use Rattle.iv_state.specs.Views.{opened, all_text, text_in}
+use Rattle.iv_view.specs.Views.{read_words}
 use Rattle.iv_session.specs.Written.{Written, printed, refused_by}
 use Rattle.iv_session.specs.declared.request.Request.TheVariants as request
 use Rattle.iv_session.specs.declared.fault.LineFault.TheVariants as line
@@ -105,7 +105,7 @@ script =
 abbrev silent : Written
 silent = printed []
 
-pub script-steps : Steps Runs empty script (silent ∷ silent ∷ silent ∷ printed (view_text plain_merge g with_two.track.rows []) ∷ refused_by (Some 7) ∷ []) with_two
+pub script-steps : Steps Runs empty script (silent ∷ silent ∷ silent ∷ printed (text_in with_two plain_merge) ∷ refused_by (Some 7) ∷ []) with_two
 script-steps = (
   with_a_view,
   inl ([], ((plain_merge, refl, refl), refl), refl),
@@ -117,7 +117,7 @@ script-steps = (
       inl ([], (omega arith, (refl, (refl, refl, (λ stale. stale), tt)), refl), refl),
       (
         with_two,
-        inl (view_text plain_merge g with_two.track.rows [], (merging, refl, refl, refl), refl),
+        inl (text_in with_two plain_merge, (merging, refl, refl, refl), refl),
         (with_two, inr (line.Request (request_fault.Record record_fault.PastEnd), refl, refl, refl), refl),
       ),
     ),
@@ -134,8 +134,8 @@ edits-may_leave_a_view_stale = inl ([], (omega arith, (refl, (refl, refl, (λ st
 pub prints-may_want_memory : Runs with_stale (codes "print" ++ tab ++ codes "m") with_stale (refused_by (Some 22))
 prints-may_want_memory = inr (line.Print printing.NoMemory, (record { view = plain_merge; stale = true }, refl, refl), refl, refl)
 
-pub prints-make_a_view_current : Runs with_stale (codes "print" ++ tab ++ codes "m") with_one (printed (view_text plain_merge g with_one.track.rows []))
-prints-make_a_view_current = inl (view_text plain_merge g with_one.track.rows [], (record { view = plain_merge; stale = true }, refl, refl, refl), refl)
+pub prints-make_a_view_current : Runs with_stale (codes "print" ++ tab ++ codes "m") with_one (printed (text_in with_one plain_merge))
+prints-make_a_view_current = inl (text_in with_one plain_merge, (record { view = plain_merge; stale = true }, refl, refl, refl), refl)
 
 -- ---- a second file
 
@@ -165,3 +165,24 @@ records_with_a_hit-are_left_out = refl
 -- a record that only touches is no hit
 pub hits-are_no_neighbours : hits_of other.rows (record first_row { start = 18; stop = 20 }) ≡ []
 hits-are_no_neighbours = refl
+
+-- ---- a FASTA file
+
+-- a track of six columns, and bases of the first sequence alone
+abbrev with_bases : State
+with_bases = record empty { track = record { rows = record second_row { seq = 1; width = 6 } ∷ []; width = 6; limit = 2 }; bases = Some (Some (codes "ACGT") ∷ None ∷ None ∷ []) }
+
+pub strands-come_before_the_file : opened empty (codes "f") (codes "getfasta" ∷ codes "-s" ∷ []) ≡ Err fault.NoStrand
+strands-come_before_the_file = refl
+
+pub no_fasta-is_told : opened empty (codes "f") (codes "getfasta" ∷ codes "-tab" ∷ []) ≡ Err fault.NoFasta
+no_fasta-is_told = refl
+
+pub no_option-stands_twice : opened with_bases (codes "f") (codes "getfasta" ∷ codes "-tab" ∷ codes "-tab" ∷ []) ≡ Err fault.Words
+no_option-stands_twice = refl
+
+pub bases-are_shown_with_strands : opened with_bases (codes "f") (codes "getfasta" ∷ codes "-tab" ∷ codes "-s" ∷ []) ≡ Ok (view.Written (written.Getfasta (record { stranded = true; tab = true })))
+bases-are_shown_with_strands = refl
+
+pub sequences_without_bases-are_left_out : text_in with_bases (view.Written (written.Getfasta (record { stranded = false; tab = false }))) ≡ []
+sequences_without_bases-are_left_out = refl

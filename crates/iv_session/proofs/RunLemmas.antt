@@ -5,13 +5,12 @@ use Rattle.std.specs.Option.{is_some}
 use Rattle.iv_bytes.specs.Sinks.{SinkState, Takes, FailsIn}
 use Rattle.iv_bytes.proofs.Putting.{Takes-nothing}
 use Rattle.iv_text.specs.Fields.{words}
-use Rattle.iv_view.specs.Views.{view_text}
 use Rattle.iv_view.specs.declared.fault.ViewFault.{ViewFault}
 use Rattle.iv_view.proofs.WordLemmas.{words-cut}
 use Rattle.iv_state.specs.OpenViews.{Shown}
 use Rattle.iv_state.specs.Prints.{PrintedView, PrintedAll}
-use Rattle.iv_state.specs.States.{State, second_rows}
-use Rattle.iv_state.specs.Views.{view_named, opened, unless_fault, has_name_fault, name_faults, Opens, RefusesOpen, all_text}
+use Rattle.iv_state.specs.States.{State}
+use Rattle.iv_state.specs.Views.{view_named, opened, unless_fault, has_name_fault, name_faults, Opens, RefusesOpen, all_text, text_in}
 use Rattle.iv_state.specs.declared.fault.PrintFault.{PrintFault}
 use Rattle.iv_state.specs.declared.fault.PrintFault.TheVariants as printing
 use Rattle.iv_session.specs.Requests.{request_code, fault_code}
@@ -107,7 +106,7 @@ printed-view s new given name out0 out1 same it =
         → MatchOption o ((answered None ≡ answered (Some printing.NoView)) × (out1 ≡ out0) × (new ≡ s)) (λ v. PrintedView s name v new out0 out1 (answered None))
         → Writes (Ends (Ok (request.Print name)) s new) out0 out1 (Ok tt)
     by None is it = absurd (cc (it.0))
-    by (Some v) is it = done (Ok (request.Print name)) s new out0 out1 (view_text v.view s.genome s.track.rows (second_rows s.second)) (v, is, it.1, refl) it.0
+    by (Some v) is it = done (Ok (request.Print name)) s new out0 out1 (text_in s v.view) (v, is, it.1, refl) it.0
 
 pub printed-none : (s new : State) (given name : List ℕ) (out0 out1 : SinkState) (f : PrintFault) → given ≡ name
     → PrintsIt s given new out0 out1 (Err f) → Writes (Ends (Ok (request.Print name)) s new) out0 out1 (Err (line.Print f))
@@ -127,7 +126,7 @@ printed-none s new given name out0 out1 f same it =
         (refused (Ok (request.Print name)) s new out0 (line.Print printing.NoMemory) 22 refl (v, is, it.0) it.2)
     by printing.Write None is it = absurd (cc (it.0))
     by printing.Write (Some v) is it =
-        done-failed (Ok (request.Print name)) s new out0 out1 (view_text v.view s.genome s.track.rows (second_rows s.second)) (v, is, it.1, refl) it.0
+        done-failed (Ok (request.Print name)) s new out0 out1 (text_in s v.view) (v, is, it.1, refl) it.0
 
 -- a print of all views
 pub printed-all : (s new : State) (out0 out1 : SinkState) → PrintedAll s new out0 out1 (Ok tt)

@@ -4,12 +4,11 @@ use Rattle.iv_bytes.specs.Sinks.{SinkState, Takes, FailsIn}
 use Rattle.iv_text.specs.Fault.{fault_text}
 use Rattle.iv_text.specs.Fields.{words}
 use Rattle.iv_text.specs.Ordered.{copies}
-use Rattle.iv_view.specs.Views.{view_text}
 use Rattle.iv_state.specs.OpenViews.{Shown, stale_count}
 use Rattle.iv_state.specs.Prints.{with_printed, with_all_printed, IsButCurrent}
-use Rattle.iv_state.specs.States.{State, IsButStale, second_rows, with_record, without_record, with_replaced, without_view}
+use Rattle.iv_state.specs.States.{State, IsButStale, with_record, without_record, with_replaced, without_view}
 use Rattle.iv_state.specs.Edits.{RefusesAdd, RefusesRemove, RefusesReplace}
-use Rattle.iv_state.specs.Views.{view_named, Opens, RefusesOpen, all_text}
+use Rattle.iv_state.specs.Views.{view_named, Opens, RefusesOpen, all_text, text_in}
 use Rattle.iv_state.specs.declared.fault.PrintFault.TheVariants as printing
 use Rattle.iv_session.specs.Requests.{asked, fault_code}
 use Rattle.iv_session.specs.Written.{Written, printed, refused_by}
@@ -33,8 +32,7 @@ Does (request.Open name said) old new text = Opens old name (words said) new × 
 Does (request.Close name) old new text =
     IsSome (view_named old.views name) × (new ≡ without_view old name) × (text ≡ [])
 Does (request.Print name) old new text =
-    (v : Shown) × (view_named old.views name ≡ Some v) × (new ≡ with_printed old name)
-    × (text ≡ view_text v.view old.genome old.track.rows (second_rows old.second))
+    (v : Shown) × (view_named old.views name ≡ Some v) × (new ≡ with_printed old name) × (text ≡ text_in old v.view)
 Does request.PrintAll old new text = (new ≡ with_all_printed old) × (text ≡ all_text old)
 
 -- why a request is refused: a print for want of memory only where a view to be printed is stale

@@ -10,5 +10,7 @@ mod running;
 mod script;
 
 pub use iv_state::{Accepted, EditFault, NoView, PrintFault, Session};
-pub use iv_view::{DepthRows, IntersectRows, KeptView, View as ViewWords, ViewFault, WrittenView};
+pub use iv_view::{
+    DepthRows, FastaRows, IntersectRows, KeptView, View as ViewWords, ViewFault, WrittenView,
+};
 pub use script::{RunCause, RunFault, ScriptLimits, Summary, run_script};

@@ -7,21 +7,16 @@ use Rattle.std.specs.List.{flat_map, AllByRecursion}
 use Rattle.std.specs.Map.{lookup}
 use Rattle.std.specs.Option.{option_map}
 use Rattle.std.specs.Str.{bytes_eq}
-use Rattle.iv_text.specs.Genome.{Sequences}
 use Rattle.iv_bytes.specs.Sinks.{SinkState, Takes, FailsIn}
 use Rattle.iv_state.specs.declared.open_view.OpenView.{OpenView}
-use Rattle.iv_view.specs.declared.view.View.{View}
-use Rattle.iv_track.specs.Tracked.{Tracked}
-use Rattle.iv_view.specs.Views.{view_text}
 use Rattle.iv_state.specs.Keeping.{seen}
 use Rattle.iv_state.specs.Keeping.{all_seen}
 use Rattle.iv_state.specs.OpenViews.{current, all_current, with_current}
-use Rattle.iv_state.specs.Prints.{with_printed, with_all_printed}
-use Rattle.iv_state.specs.States.{State, second_rows}
-use Rattle.iv_state.specs.Views.{heading, headed_text, all_text}
+use Rattle.iv_state.specs.Prints.{with_all_printed}
+use Rattle.iv_state.specs.States.{State}
+use Rattle.iv_state.specs.Views.{heading, headed_text, all_text, text_in}
 use Rattle.iv_state.specs.OpenViews.{Shown}
 use Rattle.iv_state.proofs.OpenViewLemmas.{current-named}
-use Rattle.iv_state.proofs.SessionLemmas.{state_of}
 
 pub match-none : (o : Option Shown) (Q : Type 0) (P : Shown → Type 0) → None ≡ o → Q → MatchOption o Q P
 match-none o Q P is q = subst (λ (o : Option Shown). MatchOption o Q P) is q
@@ -48,18 +43,8 @@ found-not name views more v found are again =
     cc (both)
 
 -- what it prints
-pub same-text : (g : Sequences) (t : Tracked) (second : Option Tracked) (views : List (List ℕ × Shown)) (s : State) (v w : Shown) → state_of g t second views ≡ s → w ≡ current v
-    → view_text w.view g t.rows (second_rows second) ≡ view_text v.view s.genome s.track.rows (second_rows s.second)
-same-text g t second views s v w same is =
-    ap (λ (u : Shown). view_text u.view g t.rows (second_rows second)) is ∙ ap (λ (u : State). view_text v.view u.genome u.track.rows (second_rows u.second)) same
-
-pub now-printed : (g : Sequences) (t : Tracked) (second : Option Tracked) (views more : List (List ℕ × Shown)) (s : State) (name : List ℕ) → state_of g t second views ≡ s → more ≡ with_current views name → state_of g t second more ≡ with_printed s name
-now-printed g t second views more s name same is =
-    ap (λ (l : List (List ℕ × Shown)). state_of g t second l) is ∙ ap (λ (u : State). record u { views = with_current u.views name }) same
-
-pub now-all_printed : (g : Sequences) (t : Tracked) (second : Option Tracked) (views more : List (List ℕ × Shown)) (s : State) → state_of g t second views ≡ s → more ≡ all_current views → state_of g t second more ≡ with_all_printed s
-now-all_printed g t second views more s same is =
-    ap (λ (l : List (List ℕ × Shown)). state_of g t second l) is ∙ ap (λ (u : State). record u { views = all_current u.views }) same
+pub same-text : (inside s : State) (v w : Shown) → inside ≡ s → w ≡ current v → text_in inside w.view ≡ text_in s v.view
+same-text inside s v w same is = ap (λ (u : Shown). text_in inside u.view) is ∙ ap (λ (u : State). text_in u v.view) same
 
 -- all views print the same, current or not
 pub same-all_text : (s : State) → all_text (with_all_printed s) ≡ all_text s
@@ -76,18 +61,14 @@ pub FailsIn-text : (old new : SinkState) (a b : List ℕ) → a ≡ b → FailsI
 FailsIn-text old new a b same fails = subst (λ (l : List ℕ). FailsIn old new l) same fails
 
 -- the view at a place, as contracts see it
-pub seen-at : {A : Type 0} (g : Sequences) (t : Tracked) (second : Option Tracked) (views : List (List ℕ × OpenView A)) (s : State) (i : ℕ) (name : List ℕ) (v : OpenView A)
-    → state_of g t second (all_seen views) ≡ s → Some (name, v) ≡ slice_get views i → Some (name, seen v) ≡ slice_get s.views i
-seen-at {A} g t second views s i name v same found =
+pub seen-at : {A : Type 0} (views : List (List ℕ × OpenView A)) (i : ℕ) (name : List ℕ) (v : OpenView A) → Some (name, v) ≡ slice_get views i
+    → Some (name, seen v) ≡ slice_get (all_seen views) i
+seen-at {A} views i name v found =
     let view : List ℕ × OpenView A → List ℕ × Shown = λ e. (e.0, seen e.1) in
-    ap (option_map view) found ∙ sym (slice_get-map view views i) ∙ ap (λ (u : State). slice_get u.views i) same
+    ap (option_map view) found ∙ sym (slice_get-map view views i)
 
 pub all-get : {X : Type 0} (P : X → Type 0) (xs : List X) (i : ℕ) (x : X) → Some x ≡ slice_get xs i → All P xs → P x
 all-get P xs i x found all = subst P (get_or_from_slice_get xs i x x (sym found)) (all i x (slice_get_within xs i x (sym found)))
-
-pub shown-text : (g : Sequences) (t : Tracked) (second : Option Tracked) (views : List (List ℕ × Shown)) (s : State) (view : View) → state_of g t second views ≡ s
-    → view_text view g t.rows (second_rows second) ≡ view_text view s.genome s.track.rows (second_rows s.second)
-shown-text g t second views s view same = ap (λ (u : State). view_text view u.genome u.track.rows (second_rows u.second)) same
 
 pub past-views : {X : Type 0} (xs : List X) (i : ℕ) → None ≡ slice_get xs i → length xs ≤ i
 past-views xs i none = elim (slice_get_cases xs i).1 [
@@ -105,10 +86,10 @@ all-fresh views more is = subst (λ (l : List (List ℕ × Shown)). All (λ v. v
 
 -- the view at a place is the next to be printed
 pub views-next : (inside s : State) → inside ≡ s → (i : ℕ) (v : List ℕ × Shown) → Some v ≡ slice_get inside.views i
-    → flat_map (headed_text s) (drop i s.views) ≡ heading v.0 ++ (view_text v.1.view s.genome s.track.rows (second_rows s.second) ++ flat_map (headed_text s) (drop (i + 1) s.views))
+    → flat_map (headed_text s) (drop i s.views) ≡ heading v.0 ++ (text_in s v.1.view ++ flat_map (headed_text s) (drop (i + 1) s.views))
 views-next inside s same i v found =
     let at : Some v ≡ slice_get s.views i = found ∙ ap (λ (t : State). slice_get t.views i) same in
     let low = slice_get_within s.views i v (sym at) in
     let is : get_or s.views i v ≡ v = get_or_from_slice_get s.views i v v (sym at) in
     ap (flat_map (headed_text s)) (drop-cons s.views i v low ∙ ap₂ (λ (q : List ℕ × Shown) (k : ℕ). q ∷ drop k s.views) is (sym (add-one i)))
-    ∙ append_assoc (heading v.0) (view_text v.1.view s.genome s.track.rows (second_rows s.second)) (flat_map (headed_text s) (drop (i + 1) s.views))
+    ∙ append_assoc (heading v.0) (text_in s v.1.view) (flat_map (headed_text s) (drop (i + 1) s.views))

@@ -61,16 +61,18 @@ track-replaced g t r q is there fits =
     track-added g (record t { rows = removed t.rows r }) q (track-removed g t r is there) fits
     (omega (arith, length-removed row_cmp t.rows r there, is.few))
 
--- a session of these parts
-abbrev pub state_of : Sequences → Tracked → Option Tracked → List (List ℕ × Shown) → State
-state_of g t second views = record { genome = g; track = t; second = second; bases = None; views = views }
+-- the views of a session are changed
+pub views-changed : (change : List (List ℕ × Shown) → List (List ℕ × Shown)) (inside s : State) (more : List (List ℕ × Shown)) → inside ≡ s → more ≡ change inside.views
+    → record inside { views = more } ≡ record s { views = change s.views }
+views-changed change inside s more same is =
+    ap (λ (l : List (List ℕ × Shown)). record inside { views = l }) is ∙ ap (λ (u : State). record u { views = change u.views }) same
 
 -- an edit of the track, after which some views may be stale
-pub edited : (change : List Row → List Row) (g : Sequences) (t u : Tracked) (second : Option Tracked) (views more : List (List ℕ × Shown)) (s : State)
-    → state_of g t second views ≡ s → u ≡ record t { rows = change t.rows } → Stales views more → IsButStale (with_rows s (change s.track.rows)) (state_of g u second more)
-edited change g t u second views more s same is less =
-    subst (λ (s : State). IsButStale (with_rows s (change s.track.rows)) (state_of g u second more)) same
-    (subst (λ (u : Tracked). IsButStale (with_rows (state_of g t second views) (change t.rows)) (state_of g u second more)) (sym is) (refl, less))
+pub edited : (change : List Row → List Row) (inside s : State) (t : Tracked) (more : List (List ℕ × Shown)) → inside ≡ s → t ≡ record inside.track { rows = change inside.track.rows }
+    → Stales inside.views more → IsButStale (with_rows s (change s.track.rows)) (record inside { track = t; views = more })
+edited change inside s t more same is less =
+    subst (λ (s : State). IsButStale (with_rows s (change s.track.rows)) (record inside { track = t; views = more })) same
+    (subst (λ (t : Tracked). IsButStale (with_rows inside (change inside.track.rows)) (record inside { track = t; views = more })) (sym is) (refl, less))
 
 -- a track before and after a record q was added, and after one copy of r was then taken out
 pub record Replaced (g : Sequences) (old mid new : Tracked) (r q : Row) : Type 0 where
@@ -100,19 +102,20 @@ replaced g old mid new r q session order there fits first second =
     subst (λ (t : Tracked). Replaced g old t new r q) (sym first) (subst (λ (t : Tracked). Replaced g old one t r q) (sym last) whole)
 
 -- the same, by the records of the session and their copies
-pub replaced-in : (g : Sequences) (old mid new : Tracked) (second : Option Tracked) (views : List (List ℕ × Shown)) (s : State) (before r after q : Row)
-    → state_of g old second views ≡ s → before ≡ r → after ≡ q → IsTrackOn g old → AreInOrder old.rows → 0 < copies old.rows before → Fits s.genome s.track.width q
-    → mid ≡ record old { rows = added old.rows after } → new ≡ record mid { rows = removed mid.rows before } → Replaced g old mid new r q
-replaced-in g old mid new second views s before r after q same first next session order there fits staged taken =
-    let inside : Fits g old.width q = subst (λ (t : State). Fits t.genome t.track.width q) (sym same) fits in
-    replaced g old mid new r q session order (subst (λ (x : Row). 0 < copies old.rows x) first there) inside
+pub replaced-in : (inside s : State) (mid new : Tracked) (before r after q : Row) → inside ≡ s → before ≡ r → after ≡ q → IsTrackOn inside.genome inside.track → AreInOrder inside.track.rows
+    → 0 < copies inside.track.rows before → Fits s.genome s.track.width q → mid ≡ record inside.track { rows = added inside.track.rows after } → new ≡ record mid { rows = removed mid.rows before }
+    → Replaced inside.genome inside.track mid new r q
+replaced-in inside s mid new before r after q same first next session order there fits staged taken =
+    let old : Tracked = inside.track in
+    replaced inside.genome old mid new r q session order (subst (λ (x : Row). 0 < copies old.rows x) first there) (subst (λ (t : State). Fits t.genome t.track.width q) (sym same) fits)
     (staged ∙ ap (λ (x : Row). record old { rows = added old.rows x }) next)
     (taken ∙ ap (λ (x : Row). record mid { rows = removed mid.rows x }) first)
 
 -- a name without a fault leaves it to the words
-pub no-name_fault : (s : State) (name : List ℕ) (words : List (List ℕ)) (v : View) → is_view_name name ≡ true → is_some (view_named s.views name) ≡ false → length s.views < 64
-    → words_said s words ≡ Ok v → opened s name words ≡ Ok v
-no-name_fault s name words v good free few said = rw (good, free, lt-leb 64 (length s.views) few) said
+pub no-name_fault : (inside s : State) (name : List ℕ) (words : List (List ℕ)) (v : View) → inside ≡ s → is_view_name name ≡ true → is_some (view_named inside.views name) ≡ false
+    → length inside.views < 64 → words_said inside words ≡ Ok v → opened s name words ≡ Ok v
+no-name_fault inside s name words v same good free few said =
+    subst (λ (t : State). opened t name words ≡ Ok v) same (rw (good, free, lt-leb 64 (length inside.views) few) said)
 
 -- one more view that is current
 pub pushed-last : {A : Type 0} (name : List ℕ) (views : List (List ℕ × OpenView A)) (shows : OpenView A) (v : View) → seen shows ≡ record { view = v; stale = false }

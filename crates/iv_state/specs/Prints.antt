@@ -1,10 +1,9 @@
 -- What prints of views leave.
 use Rattle.std.specs.Prelude.{◌≡◌, ◌<◌, ℕ, true, List, Result, Ok, Err}
 use Rattle.iv_bytes.specs.Sinks.{SinkState, Takes, FailsIn}
-use Rattle.iv_view.specs.Views.{view_text}
 use Rattle.iv_state.specs.OpenViews.{Shown, Stales, all_current, stale_count, with_current}
-use Rattle.iv_state.specs.States.{State, second_rows}
-use Rattle.iv_state.specs.Views.{all_text}
+use Rattle.iv_state.specs.States.{State}
+use Rattle.iv_state.specs.Views.{all_text, text_in}
 use Rattle.iv_state.specs.declared.fault.PrintFault.{PrintFault}
 use Rattle.iv_state.specs.declared.fault.PrintFault.TheVariants as printing
 
@@ -23,10 +22,8 @@ IsButCurrent old new = (new ≡ record old { views = new.views }) × Stales new.
 -- what a print of the view of a name leaves: its text, or a prefix, and the view current;
 -- or, where memory for a stale view was refused, all as before and nothing written
 abbrev pub PrintedView : State → List ℕ → Shown → State → SinkState → SinkState → Result (Unit {0}) PrintFault → Type 0
-PrintedView old name v new out0 out1 (Ok done) =
-    Takes out0 out1 (view_text v.view old.genome old.track.rows (second_rows old.second)) × (new ≡ with_printed old name)
-PrintedView old name v new out0 out1 (Err printing.Write) =
-    FailsIn out0 out1 (view_text v.view old.genome old.track.rows (second_rows old.second)) × (new ≡ with_printed old name)
+PrintedView old name v new out0 out1 (Ok done) = Takes out0 out1 (text_in old v.view) × (new ≡ with_printed old name)
+PrintedView old name v new out0 out1 (Err printing.Write) = FailsIn out0 out1 (text_in old v.view) × (new ≡ with_printed old name)
 PrintedView old name v new out0 out1 (Err printing.NoMemory) = (v.stale ≡ true) × (out1 ≡ out0) × (new ≡ old)
 PrintedView old name v new out0 out1 (Err printing.NoView) = ⊥
 

@@ -1,5 +1,5 @@
 -- A session as contracts see it.
-use Rattle.std.specs.Prelude.{◌≡◌, ◌≤◌, ℕ, false, List, [], ◌∷◌, ◌++◌, Option, None, Some, All, IsTrue, IsSome, IfSome, length, option_map}
+use Rattle.std.specs.Prelude.{◌≡◌, ◌≤◌, ℕ, false, List, [], ◌∷◌, ◌++◌, Option, All, IsTrue, IsSome, IfSome, length, option_map}
 use Rattle.std.specs.List.{AllByRecursion}
 use Rattle.std.specs.Map.{remove_entry}
 use Rattle.std.specs.Str.{bytes_eq}
@@ -8,38 +8,34 @@ use Rattle.iv_text.specs.BedFile.{Bed}
 use Rattle.iv_text.specs.Row.{Row}
 use Rattle.iv_text.specs.Ordered.{added, ordered}
 use Rattle.iv_text.specs.Read.{Fits}
+use Rattle.iv_fasta.specs.Fasta.{Bases}
 use Rattle.iv_track.specs.Tracked.{Tracked, removed}
 use Rattle.iv_view.specs.Views.{needs_second}
 use Rattle.iv_view.specs.declared.view.View.{View}
 use Rattle.iv_state.specs.OpenViews.{Shown, Stales}
 
--- the genome, the track, the second file as a track of its own, the bases of the sequences by name, and the open views
--- with their names, in order of opening; a stale view has to be built anew before it is printed
+-- the genome, the track, the second file as a track of its own, the bases of the FASTA file, and the open views with their
+-- names, in order of opening; a stale view has to be built anew before it is printed
 pub record State : Type 0 where
   pub genome : Sequences
   pub track : Tracked
   pub second : Option Tracked
-  pub bases : Option (List (List ℕ × List ℕ))
+  pub bases : Option Bases
   pub views : List (List ℕ × Shown)
 
 -- the track of a file: its records in order, and how many it may hold
 abbrev pub tracked : Bed → ℕ → Tracked
 tracked file limit = record { rows = ordered file.rows; width = file.width; limit = limit }
 
--- the session of a genome, a first file and a second one or none, with no view
-abbrev pub begun : Sequences → Bed → Option Bed → ℕ → State
-begun g first second limit = record {
+-- the session of a genome, a first file, and a second one and a FASTA file or none, with no view
+abbrev pub begun : Sequences → Bed → Option Bed → Option Bases → ℕ → State
+begun g first second bases limit = record {
   genome = g;
   track = tracked first limit;
   second = option_map (λ file. tracked file limit) second;
-  bases = None;
+  bases = bases;
   views = [];
 }
-
--- the records of the second file: none without one
-abbrev pub second_rows : Option Tracked → List Row
-second_rows None = []
-second_rows (Some second) = second.rows
 
 -- the session with these records in its track
 abbrev pub with_rows : State → List Row → State

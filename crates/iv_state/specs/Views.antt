@@ -1,15 +1,15 @@
 -- The names of views, the views that are open, and their texts.
 use Rattle.std.specs.Prelude.{◌≡◌, ◌⊎◌, ℕ, ◌++◌, ◌&&◌, not, nat_le, Bool, false, List, [], ◌∷◌, Option, None, Some, Result, Ok, Err, IsOk, length, find, codes}
 use Rattle.std.specs.List.{list_all, flat_map}
-use Rattle.std.specs.Option.{is_some}
+use Rattle.std.specs.Option.{is_some, unwrap_or}
 use Rattle.std.specs.Map.{lookup}
 use Rattle.std.specs.Str.{bytes_eq}
-use Rattle.iv_view.specs.Views.{read_words, view_text}
+use Rattle.iv_view.specs.Views.{read_words, second_rows, view_text}
 use Rattle.iv_view.specs.declared.view.View.{View}
 use Rattle.iv_view.specs.declared.fault.ViewFault.{ViewFault}
 use Rattle.iv_view.specs.declared.fault.ViewFault.TheVariants as fault
 use Rattle.iv_state.specs.OpenViews.{Shown}
-use Rattle.iv_state.specs.States.{State, second_rows, with_view}
+use Rattle.iv_state.specs.States.{State, with_view}
 use Rattle.iv_state.specs.declared.fault.PrintFault.{PrintFault}
 use Rattle.iv_state.specs.declared.fault.PrintFault.TheVariants as printing
 
@@ -42,6 +42,7 @@ has_name_fault s name fault.Words = false
 has_name_fault s name fault.Column = false
 has_name_fault s name fault.NoStrand = false
 has_name_fault s name fault.NoSecond = false
+has_name_fault s name fault.NoFasta = false
 has_name_fault s name fault.NoMemory = false
 
 -- the faults of a name, in the order in which they are told
@@ -65,13 +66,17 @@ Opens old name words new = (view : View) × (opened old name words ≡ Ok view) 
 abbrev pub RefusesOpen : State → List ℕ → List (List ℕ) → ViewFault → Type 0
 RefusesOpen s name words f = (opened s name words ≡ Err f) ⊎ ((f ≡ fault.NoMemory) × IsOk (opened s name words))
 
+-- what a view prints: its text for the records as they are, beside the second file's records and the bases, if there are any
+abbrev pub text_in : State → View → List ℕ
+text_in s v = view_text v s.genome s.track.rows (second_rows s.second) (unwrap_or s.bases [])
+
 -- the line above a view's text, where all views are printed
 abbrev pub heading : List ℕ → List ℕ
 heading name = codes "#" ++ name ++ codes "\n"
 
 -- what a view prints under its heading
 abbrev pub headed_text : State → List ℕ × Shown → List ℕ
-headed_text s v = heading v.0 ++ view_text v.1.view s.genome s.track.rows (second_rows s.second)
+headed_text s v = heading v.0 ++ text_in s v.1.view
 
 -- what all views print, in order of opening
 abbrev pub all_text : State → List ℕ

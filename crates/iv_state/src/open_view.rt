@@ -1,16 +1,17 @@
 //! An open view.
-ghost use Rattle.std.specs.Prelude.{◌≡◌, All, OnOk, OnErr, IfOk, true, false, option_copied};
+ghost use Rattle.std.specs.Prelude.{◌≡◌, [], All, OnOk, OnErr, IfOk, true, false, option_copied};
+ghost use Rattle.std.specs.Option.{unwrap_or};
 ghost use Rattle.iv_bytes.specs.Sinks.{Puts};
 ghost use Rattle.iv_text.specs.Named.{names_of};
 ghost use Rattle.iv_text.specs.Ordered.{added as with_one};
 ghost use Rattle.iv_text.specs.Read.{Fits};
 ghost use Rattle.iv_cover.specs.Kept.{IsRightWithout};
-ghost use Rattle.iv_view.specs.Views.{view_text};
+ghost use Rattle.iv_view.specs.Views.{second_rows, view_text};
 ghost use Rattle.iv_state.specs.Keeping.{IsCurrentRight, IsRepaired, IsRefreshed, seen};
-ghost use Rattle.iv_state.specs.States.{IsServed, second_rows};
+ghost use Rattle.iv_state.specs.States.{IsServed};
 
 use iv_cover::Kept;
-use iv_pair::Second;
+use iv_pair::{Fasta, Second};
 use iv_text::{Buffered, Genome, RecordRef, Sink, WriteFault};
 use iv_track::{Meter, Track};
 use iv_view::{KeptState, View};
@@ -122,6 +123,7 @@ impl<A: Allocator + Copy> OpenView<A> {
         &self,
         track: &Track<A>,
         second: Option<&Second<A>>,
+        fasta: Option<&Fasta<A>>,
         genome: &Genome<A>,
         meter: &mut Meter,
         sink: &mut S,
@@ -130,10 +132,11 @@ impl<A: Allocator + Copy> OpenView<A> {
         requires served { IsServed (option_copied second) self.now.view }
         requires right { IsCurrentRight self.now (names_of genome.now) track.now.rows }
         requires fit { All (Fits genome.now track.now.width) track.now.rows }
-        ensures { Puts (S.state sink.old) (S.state sink.new) result (view_text self.now.view genome.now track.now.rows (second_rows (option_copied second.entry))) }
+        ensures { Puts (S.state sink.old) (S.state sink.new) result
+            (view_text self.now.view genome.now track.now.rows (second_rows (option_copied second.entry)) (unwrap_or (option_copied fasta.entry) [])) }
     {
         let mut buffer = Buffered::new(sink);
-        self.put(track, second, genome, meter, &mut buffer)?;
+        self.put(track, second, fasta, genome, meter, &mut buffer)?;
         buffer.finish()
     }
 
@@ -142,6 +145,7 @@ impl<A: Allocator + Copy> OpenView<A> {
         &self,
         track: &Track<A>,
         second: Option<&Second<A>>,
+        fasta: Option<&Fasta<A>>,
         genome: &Genome<A>,
         meter: &mut Meter,
         sink: &mut S,
@@ -150,17 +154,15 @@ impl<A: Allocator + Copy> OpenView<A> {
         requires served { IsServed (option_copied second) self.now.view }
         requires right { IsCurrentRight self.now (names_of genome.now) track.now.rows }
         requires fit { All (Fits genome.now track.now.width) track.now.rows }
-        ensures { Puts (S.state sink.old) (S.state sink.new) result (view_text self.now.view genome.now track.now.rows (second_rows (option_copied second.entry))) }
+        ensures { Puts (S.state sink.old) (S.state sink.new) result
+            (view_text self.now.view genome.now track.now.rows (second_rows (option_copied second.entry)) (unwrap_or (option_copied fasta.entry) [])) }
     {
         match self.view {
             View::Kept(_) => match &self.state {
                 Some(state) => state.print(track, genome, meter, sink),
                 None => unreachable!(),
             },
-            View::Written(view) => match second {
-                Some(second) => view.print(track, second, genome, meter, sink),
-                None => unreachable!(),
-            },
+            View::Written(view) => view.print(track, second, fasta, genome, meter, sink),
         }
     }
 }

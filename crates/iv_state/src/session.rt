@@ -14,7 +14,7 @@ use crate::fault::{EditFault, NoView, PrintFault};
 use crate::names::{is_view_name, put_heading};
 use crate::open_view::OpenView;
 use crate::views::Views;
-use iv_pair::Second;
+use iv_pair::{Fasta, Second};
 use iv_text::{BedFile, Buffered, Genome, RecordFault, RecordRef, Sink, WriteFault, read_record};
 use iv_track::{Meter, Track};
 use iv_view::{View, ViewFault};
@@ -43,7 +43,7 @@ impl Accepted {
     }
 }
 
-/// A genome, a track of records on it, a second file or none, and the open views in order of opening.
+/// A genome, a track of records on it, a second file and a FASTA file or none, and the open views in order of opening.
 ///
 /// All records of the track and of the second file fit the genome and have the width of theirs, and there are not more of
 /// them than the limit. The state of each open view that has one is right for the track's records, and a view that needs a
@@ -54,18 +54,18 @@ pub struct Session<A: Allocator + Copy = Global> {
     genome: Genome<A>,
     track: Track<A>,
     second: Option<Second<A>>,
+    fasta: Option<Fasta<A>>,
     views: Views<A>,
 }
 
 impl<A: Allocator + Copy> Model for Session<A> {
-    ghost use Rattle.std.specs.Prelude.{None};
     ghost use Rattle.iv_text.specs.Named.{names_of};
     ghost use Rattle.iv_state.specs.Keeping.{AreRight, all_seen};
     ghost use Rattle.iv_state.specs.States.{State, IsSession};
 
     ghost Value = { State };
 
-    ghost view = { λ s. record { genome = s.genome; track = s.track; second = s.second; bases = None; views = all_seen s.views } };
+    ghost view = { λ s. record { genome = s.genome; track = s.track; second = s.second; bases = s.fasta; views = all_seen s.views } };
 
     ghost invariant = { λ s. IsSession s.genome s.track s.second (all_seen s.views) × AreRight s.views (names_of s.genome) s.track.rows };
 }
@@ -91,12 +91,13 @@ fn second_of<A: Allocator + Copy>(
 }
 
 impl<A: Allocator + Copy> Session<A> {
-    /// A session of the records of a file, and of a second file or none, with no view open. Copies are kept.
+    /// A session of the records of a file, and of a second file and a FASTA file or none, with no view open. Copies are kept.
     pub fn new(
         alloc: A,
         genome: Genome<A>,
         first: BedFile<A>,
         second: Option<BedFile<A>>,
+        fasta: Option<Fasta<A>>,
         limit: u32,
     ) -> Result<Session<A>, AllocError>
         requires fit { All (Fits genome first.width) first.rows }
@@ -104,7 +105,7 @@ impl<A: Allocator + Copy> Session<A> {
         requires second_fit { IfSome second (λ file. All (Fits genome file.width) file.rows) }
         requires second_few { IfSome second (λ file. length file.rows ≤ limit) }
         requires bounded { limit ≤ 4000000 }
-        ensures { IfOk result (λ s. s ≡ begun genome first second limit) }
+        ensures { IfOk result (λ s. s ≡ begun genome first second fasta limit) }
     {
         let width = first.width();
         let track = Track::from_records(alloc, width, limit, first.into_records())?;
@@ -114,6 +115,7 @@ impl<A: Allocator + Copy> Session<A> {
             genome,
             track,
             second,
+            fasta,
             views: Views::new(alloc),
         })
     }
@@ -231,8 +233,8 @@ impl<A: Allocator + Copy> Session<A> {
     ///
     /// # Errors
     ///
-    /// `BadName`, `Taken`, `TooMany` where 64 views are open, then the fault of the words, of which `NoSecond` comes exactly
-    /// where they ask for a view that needs a second file, and there is none; then `NoMemory`.
+    /// `BadName`, `Taken`, `TooMany` where 64 views are open, then the fault of the words, of which `NoSecond` and `NoFasta` come
+    /// exactly where they ask for a view that needs a second file or a FASTA file, and there is none; then `NoMemory`.
     pub fn open_view(&mut self, name: &[u8], words: &[&[u8]]) -> Result<(), ViewFault>
         ensures ok { OnOk result (Opens self.old name.now (map (λ word. word.now) words.now) self.new) }
         ensures why { IfErr result (RefusesOpen self.old name.now (map (λ word. word.now) words.now)) }
@@ -248,7 +250,8 @@ impl<A: Allocator + Copy> Session<A> {
             return Err(ViewFault::TooMany);
         }
         let has_second = self.second.is_some();
-        let view = View::read(self.alloc, self.track.width(), has_second, false, words)?;
+        let has_bases = self.fasta.is_some();
+        let view = View::read(self.alloc, self.track.width(), has_second, has_bases, words)?;
         let mut meter = Meter::new();
         let open = OpenView::build(self.alloc, view, &self.track, &self.genome, &mut meter)?;
         self.views.push(self.alloc, name, open)?;
@@ -305,7 +308,8 @@ impl<A: Allocator + Copy> Session<A> {
             unreachable!()
         };
         let second = self.second.as_ref();
-        view.print(&self.track, second, &self.genome, &mut meter, sink)?;
+        let fasta = self.fasta.as_ref();
+        view.print(&self.track, second, fasta, &self.genome, &mut meter, sink)?;
         Ok(())
     }
 
@@ -347,7 +351,8 @@ impl<A: Allocator + Copy> Session<A> {
             };
             put_heading(sink, name)?;
             let second = self.second.as_ref();
-            view.put(&self.track, second, &self.genome, meter, sink)?;
+            let fasta = self.fasta.as_ref();
+            view.put(&self.track, second, fasta, &self.genome, meter, sink)?;
         }
         Ok(())
     }

@@ -1,6 +1,7 @@
 mod CuttingLemmas
-mod IntersectLemmas
+mod FlagLemmas
 mod ListLemmas
+mod RowLemmas
 mod SaidLemmas
 mod SummaryLemmas
 pub mod WordLemmas

@@ -1,22 +1,26 @@
 -- The words of a view.
 use Rattle.std.proofs.Common.{◌≡◌, ◌∙◌, ℕ, zero, suc, ◌+◌, ◌<◌, ◌≤◌, Bool, true, false, inl, inr, List, [], ◌∷◌, Option, Some, None, length, take, refl, sym, ap, subst, arith}
-use Rattle.std.specs.Prelude.{IsTrue, IfOk, Result, Ok, Err, if◌then◌else◌, option_and_then, codes}
+use Rattle.std.specs.Prelude.{IsTrue, IfOk, Result, Ok, Err, ◌&&◌, nat_lt, if◌then◌else◌, option_and_then, codes}
 use Rattle.std.specs.Str.{bytes_eq}
 use Rattle.std.proofs.lemmas.List.{take_all, length-take-le}
 use Rattle.std.proofs.lemmas.Bool.{cases_lt}
 use Rattle.iv_view.specs.Merge.{Said, said_by, with_flag, with_value, with_value_of, option_of, unless_given, nothing_said}
 use Rattle.iv_view.specs.Complement.{is_limited}
 use Rattle.iv_view.specs.Genomecov.{genomecov_rows}
+use Rattle.iv_view.specs.Getfasta as getfasta
+use Rattle.iv_view.specs.Intersect as intersect
 use Rattle.iv_view.specs.declared.options.ValuedOption.{ValuedOption}
 use Rattle.iv_view.specs.declared.options.ValuedOption.TheVariants as option
 use Rattle.iv_view.specs.Subtract.{is_whole}
-use Rattle.iv_view.specs.Views.{read_words, or_bad_words, as_merge, beside_second, needs_second}
+use Rattle.iv_view.specs.Views.{read_words, or_bad_words, as_merge, beside_second, beside_fasta, needs_second}
 use Rattle.iv_blocks.specs.declared.options.Options.{Options}
+use Rattle.iv_fasta.specs.declared.rows.FastaRows.{FastaRows}
 use Rattle.iv_view.specs.declared.fault.ViewFault.{ViewFault}
 use Rattle.iv_view.specs.declared.view.View.{View}
 use Rattle.iv_view.specs.declared.view.KeptView.{KeptView}
 use Rattle.iv_view.specs.declared.written_view.WrittenView.{WrittenView}
-use Rattle.iv_view.proofs.IntersectLemmas.{said-cut}
+use Rattle.iv_view.proofs.FlagLemmas.{flag-cut}
+use Rattle.iv_view.proofs.RowLemmas.{intersect_others, getfasta_others}
 
 some-same : (a b : Said) → Some a ≡ Some b → a ≡ b
 some-same a b is = cc
@@ -110,11 +114,17 @@ whole-cut [] = refl
 whole-cut (word ∷ []) = refl
 whole-cut (word ∷ next ∷ words) = refl
 
+intersect-cut : (words : List (List ℕ)) → intersect.intersect_rows_said (take 8 words) ≡ intersect.intersect_rows_said words
+intersect-cut words = flag-cut intersect.is_wa intersect.rows_beside intersect_others words
+
+fasta-cut : (words : List (List ℕ)) → getfasta.fasta_rows_said (take 8 words) ≡ getfasta.fasta_rows_said words
+fasta-cut words = flag-cut getfasta.is_s getfasta.rows_beside getfasta_others words
+
 -- words behind the ninth change nothing: no view has as many
 pub words-cut : (width : ℕ) (has_second has_bases : Bool) (words : List (List ℕ))
     → read_words width has_second has_bases (take 9 words) ≡ read_words width has_second has_bases words
 words-cut width has_second has_bases [] = refl
-words-cut width has_second has_bases (word ∷ words) = rw (options-cut words, limited-cut words, rows-cut words, said-cut words, whole-cut words) refl
+words-cut width has_second has_bases (word ∷ words) = rw (options-cut words, limited-cut words, rows-cut words, intersect-cut words, whole-cut words, fasta-cut words) refl
 
 -- a view that needs a second file is read only beside one
 abbrev IsServed : Bool → Result View ViewFault → Type 0
@@ -138,6 +148,12 @@ served-written has_second None = tt
 served-written true (Some v) = λ needs. refl
 served-written false (Some v) = tt
 
+served-fasta : (width : ℕ) (has_second has_bases : Bool) (asked : Option FastaRows) → IsServed has_second (beside_fasta width has_bases asked)
+served-fasta width has_second has_bases None = tt
+served-fasta width has_second has_bases (Some shown) =
+    served-either has_second (shown.stranded && nat_lt width 6) _ _ tt
+    (served-either has_second has_bases _ _ (λ needs. absurd (cc needs)) tt)
+
 served : (width : ℕ) (has_second has_bases : Bool) (words : List (List ℕ)) → IsServed has_second (read_words width has_second has_bases words)
 served width has_second has_bases [] = tt
 served width has_second has_bases (word ∷ words) =
@@ -146,7 +162,8 @@ served width has_second has_bases (word ∷ words) =
     (served-either has_second (bytes_eq word (codes "complement")) _ _ (served-kept has_second _)
     (served-either has_second (bytes_eq word (codes "genomecov")) _ _ (served-kept has_second _)
     (served-either has_second (bytes_eq word (codes "intersect")) _ _ (served-written has_second _)
-    (served-either has_second (bytes_eq word (codes "subtract")) _ _ (served-written has_second _) tt)))))
+    (served-either has_second (bytes_eq word (codes "subtract")) _ _ (served-written has_second _)
+    (served-either has_second (bytes_eq word (codes "getfasta")) _ _ (served-fasta width has_second has_bases _) tt))))))
 
 pub needs-there : (width : ℕ) (has_second has_bases : Bool) (words : List (List ℕ)) (v : View)
     → read_words width has_second has_bases words ≡ Ok v → IsTrue (needs_second v) → IsTrue has_second

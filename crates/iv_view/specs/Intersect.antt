@@ -1,9 +1,9 @@
 -- The view `intersect`: its words.
-use Rattle.std.specs.Prelude.{ℕ, Bool, not, nat_le, if◌then◌else◌, List, [], ◌∷◌, filter, count_by, Option, None, Some, codes}
-use Rattle.std.specs.List.{list_any}
+use Rattle.std.specs.Prelude.{ℕ, Bool, if◌then◌else◌, List, [], ◌∷◌, Option, None, Some, codes}
 use Rattle.std.specs.Str.{bytes_eq}
 use Rattle.iv_pair.specs.declared.intersect.IntersectRows.{IntersectRows}
 use Rattle.iv_pair.specs.declared.intersect.IntersectRows.TheVariants as rows
+use Rattle.iv_view.specs.Flags.{beside_flag}
 
 -- the option that shows whole records
 abbrev pub is_wa : List ℕ → Bool
@@ -26,7 +26,4 @@ rows_beside whole (word ∷ next ∷ words) = None
 
 -- the rows that the words behind `intersect` ask for: `-wa` stands among them once at most, and one other option at most
 abbrev pub intersect_rows_said : List (List ℕ) → Option IntersectRows
-intersect_rows_said words =
-    if nat_le (count_by is_wa words) 1
-    then rows_beside (list_any is_wa words) (filter (λ word. not (is_wa word)) words)
-    else None
+intersect_rows_said words = beside_flag is_wa rows_beside words

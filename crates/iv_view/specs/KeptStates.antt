@@ -1,5 +1,5 @@
 -- The states that are kept of views, kind by kind.
-use Rattle.std.specs.Prelude.{◌≡◌, ℕ, List}
+use Rattle.std.specs.Prelude.{ℕ, List}
 use Rattle.iv_text.specs.Row.{Row}
 use Rattle.iv_blocks.specs.JoinedBlocks.{AreJoinedBlocksOf, joined_steps}
 use Rattle.iv_blocks.specs.KeptBlocks.{AreBlocksOf, block_steps}

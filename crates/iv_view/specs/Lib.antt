@@ -2,7 +2,9 @@ pub mod Lists
 pub mod Merge
 pub mod Complement
 pub mod Genomecov
+pub mod Flags
 pub mod Intersect
 pub mod Subtract
+pub mod Getfasta
 pub mod Views
 pub mod KeptStates

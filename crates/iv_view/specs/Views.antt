@@ -1,5 +1,5 @@
 -- The views: the words that ask for one, its text, and the numbers of the faults.
-use Rattle.std.specs.Prelude.{ℕ, Bool, true, false, if◌then◌else◌, List, [], ◌∷◌, Option, None, Some, Result, Ok, Err, codes}
+use Rattle.std.specs.Prelude.{ℕ, Bool, true, false, nat_lt, ◌&&◌, if◌then◌else◌, List, [], ◌∷◌, Option, None, Some, Result, Ok, Err, codes}
 use Rattle.std.specs.Option.{ok_or, option_map}
 use Rattle.std.specs.Str.{bytes_eq}
 use Rattle.iv_text.specs.Genome.{Sequences}
@@ -9,10 +9,15 @@ use Rattle.iv_blocks.specs.ComplementRows.{complement_text}
 use Rattle.iv_blocks.specs.MergeRows.{merge_text}
 use Rattle.iv_blocks.specs.declared.options.Options.{Options}
 use Rattle.iv_depth.specs.DepthRows.{depth_text}
+use Rattle.iv_fasta.specs.Fasta.{Bases}
+use Rattle.iv_fasta.specs.FastaRows.{fasta_text}
+use Rattle.iv_fasta.specs.declared.rows.FastaRows.{FastaRows}
 use Rattle.iv_pair.specs.IntersectRows.{intersect_text}
 use Rattle.iv_pair.specs.SubtractRows.{subtract_text}
+use Rattle.iv_track.specs.Tracked.{Tracked}
 use Rattle.iv_view.specs.Complement.{is_limited}
 use Rattle.iv_view.specs.Genomecov.{genomecov_rows}
+use Rattle.iv_view.specs.Getfasta.{fasta_rows_said}
 use Rattle.iv_view.specs.Intersect.{intersect_rows_said}
 use Rattle.iv_view.specs.Merge.{said_by, nothing_said, merge_options, cluster_distance}
 use Rattle.iv_view.specs.Subtract.{is_whole}
@@ -35,6 +40,7 @@ abbrev pub needs_second : View → Bool
 needs_second (view.Kept v) = false
 needs_second (view.Written (written.Intersect shown)) = true
 needs_second (view.Written (written.Subtract whole)) = true
+needs_second (view.Written (written.Getfasta shown)) = false
 
 -- the view of which a state is kept, or bad words where there is none
 abbrev pub or_bad_words : Option KeptView → Result View ViewFault
@@ -50,6 +56,15 @@ abbrev pub beside_second : Bool → Option WrittenView → Result View ViewFault
 beside_second has_second None = Err fault.Words
 beside_second has_second (Some asked) = if has_second then Ok (view.Written asked) else Err fault.NoSecond
 
+-- the view that needs a FASTA file, on a track of this width: bad words where there is none, then a fault where there are no strands
+-- to show, and then one where there is no such file
+abbrev pub beside_fasta : ℕ → Bool → Option FastaRows → Result View ViewFault
+beside_fasta width has_bases None = Err fault.Words
+beside_fasta width has_bases (Some shown) =
+    if shown.stranded && nat_lt width 6 then Err fault.NoStrand
+    else if has_bases then Ok (view.Written (written.Getfasta shown))
+    else Err fault.NoFasta
+
 -- the view that words ask for on a track of this width, beside a second file and a FASTA file or without, or their first fault
 abbrev pub read_words : ℕ → Bool → Bool → List (List ℕ) → Result View ViewFault
 read_words width has_second has_bases [] = Err fault.Words
@@ -60,6 +75,7 @@ read_words width has_second has_bases (word ∷ words) =
     else if bytes_eq word (codes "genomecov") then or_bad_words (option_map kept.Genomecov (genomecov_rows words))
     else if bytes_eq word (codes "intersect") then beside_second has_second (option_map written.Intersect (intersect_rows_said words))
     else if bytes_eq word (codes "subtract") then beside_second has_second (option_map written.Subtract (is_whole words))
+    else if bytes_eq word (codes "getfasta") then beside_fasta width has_bases (fasta_rows_said words)
     else Err fault.Words
 
 -- the text of a view of which a state is kept, on this genome for these records
@@ -69,15 +85,22 @@ kept_text (kept.Cluster distance) g rows = cluster_text distance g rows
 kept_text (kept.Complement limited) g rows = complement_text limited g rows
 kept_text (kept.Genomecov shown) g rows = depth_text shown g rows
 
--- the text of a view that is written from these records and those of the second file
-abbrev pub written_text : WrittenView → Sequences → List Row → List Row → List ℕ
-written_text (written.Intersect shown) g rows second = intersect_text shown g rows second
-written_text (written.Subtract whole) g rows second = subtract_text whole g rows second
+-- the text of a view that is written from these records, those of the second file and these bases
+abbrev pub written_text : WrittenView → Sequences → List Row → List Row → Bases → List ℕ
+written_text (written.Intersect shown) g rows second bases = intersect_text shown g rows second
+written_text (written.Subtract whole) g rows second bases = subtract_text whole g rows second
+written_text (written.Getfasta shown) g rows second bases = fasta_text shown g bases rows
 
--- the text that a view stands for, on this genome for these records, beside the records of the second file, if there is one
-abbrev pub view_text : View → Sequences → List Row → List Row → List ℕ
-view_text (view.Kept v) g rows second = kept_text v g rows
-view_text (view.Written v) g rows second = written_text v g rows second
+-- the records of a second file: none without one
+abbrev pub second_rows : Option Tracked → List Row
+second_rows None = []
+second_rows (Some second) = second.rows
+
+-- the text that a view stands for, on this genome for these records, beside the records of the second file and the bases of the
+-- FASTA file, of each none where there is no such file
+abbrev pub view_text : View → Sequences → List Row → List Row → Bases → List ℕ
+view_text (view.Kept v) g rows second bases = kept_text v g rows
+view_text (view.Written v) g rows second bases = written_text v g rows second bases
 
 -- the number of a view's fault
 abbrev pub view_code : ViewFault → ℕ
@@ -88,4 +111,5 @@ view_code fault.Words = 16
 view_code fault.Column = 17
 view_code fault.NoStrand = 18
 view_code fault.NoSecond = 19
+view_code fault.NoFasta = 20
 view_code fault.NoMemory = 22

@@ -29,6 +29,9 @@ pub enum ViewFault {
     /// E19: the view needs a second file, and there is none.
     #[error("no second file")]
     NoSecond,
+    /// E20: the view needs a FASTA file, and there is none.
+    #[error("no sequence file")]
+    NoFasta,
     /// E22: memory was refused.
     #[error("no memory")]
     NoMemory,
@@ -59,6 +62,7 @@ impl ViewFault {
             ViewFault::Column => 17,
             ViewFault::NoStrand => 18,
             ViewFault::NoSecond => 19,
+            ViewFault::NoFasta => 20,
             ViewFault::NoMemory => 22,
         }
     }

@@ -1,17 +1,19 @@
 //! The kinds of view.
 ghost use Rattle.std.specs.Prelude.{◌≡◌, map};
-ghost use Rattle.iv_view.specs.Views.{read_words, or_bad_words as kept_or_bad_words, beside_second as beside_a_second, is_kept as has_state, needs_second as wants_second};
+ghost use Rattle.iv_view.specs.Views.{read_words, or_bad_words as kept_or_bad_words, beside_second as beside_a_second, beside_fasta as beside_a_fasta, is_kept as has_state, needs_second as wants_second};
 
 use crate::cluster::read_cluster;
 use crate::complement::read_complement;
 use crate::fault::ViewFault;
 use crate::genomecov::read_genomecov;
+use crate::getfasta::read_getfasta;
 use crate::intersect::read_intersect;
 use crate::merge::read_merge;
 use crate::subtract::read_subtract;
 use crate::written_view::WrittenView;
 use iv_blocks::Options;
 use iv_depth::DepthRows;
+use iv_pair::FastaRows;
 use std::alloc::Allocator;
 
 /// A view of a track, with its options.
@@ -41,8 +43,8 @@ impl View {
     ///
     /// # Errors
     ///
-    /// `Words` where they ask for no view, then `Column`, then `NoStrand`, then `NoSecond`. No other fault comes: the views
-    /// that there are ask for no FASTA file, and reading their words takes no memory.
+    /// `Words` where they ask for no view, then `Column`, then `NoStrand`, then `NoSecond` or `NoFasta`. No other fault comes:
+    /// reading words takes no memory.
     pub fn read<A: Allocator + Copy>(
         _alloc: A,
         width: u8,
@@ -52,7 +54,6 @@ impl View {
     ) -> Result<View, ViewFault>
         ensures { result ≡ read_words width has_second has_bases (map (λ word. word.now) words.now) }
     {
-        let _ = has_bases;
         let (word, options) = words.split_first().ok_or(ViewFault::Words)?;
         if *word == b"merge".as_slice() {
             Ok(View::Kept(KeptView::Merge(read_merge(width, options)?)))
@@ -72,6 +73,8 @@ impl View {
                 has_second,
                 read_subtract(options).map(WrittenView::Subtract),
             )
+        } else if *word == b"getfasta".as_slice() {
+            beside_fasta(width, has_bases, read_getfasta(options))
         } else {
             Err(ViewFault::Words)
         }
@@ -89,7 +92,7 @@ impl View {
         ensures { result ≡ wants_second self.now }
     {
         match self {
-            View::Kept(_) => false,
+            View::Kept(_) | View::Written(WrittenView::Getfasta(_)) => false,
             View::Written(WrittenView::Intersect(_) | WrittenView::Subtract(_)) => true,
         }
     }
@@ -115,4 +118,19 @@ fn beside_second(has_second: bool, view: Option<WrittenView>) -> Result<View, Vi
     } else {
         Err(ViewFault::NoSecond)
     }
+}
+
+/// The view that needs a FASTA file, on a track of this width: a fault of the words where they ask for none, then one where the
+/// track has no strands to show, and then one where there is no FASTA file.
+fn beside_fasta(width: u8, has_bases: bool, asked: Option<FastaRows>) -> Result<View, ViewFault>
+    ensures { result ≡ beside_a_fasta width has_bases asked }
+{
+    let shown = asked.ok_or(ViewFault::Words)?;
+    if shown.stranded && width < 6 {
+        return Err(ViewFault::NoStrand);
+    }
+    if !has_bases {
+        return Err(ViewFault::NoFasta);
+    }
+    Ok(View::Written(WrittenView::Getfasta(shown)))
 }

@@ -1,8 +1,13 @@
 //! The views of which nothing is kept.
+ghost use Rattle.std.specs.Prelude.{[], IsTrue, IsSome};
+ghost use Rattle.std.specs.Option.{option_copied, unwrap_or};
 ghost use Rattle.iv_bytes.specs.Sinks.{Puts};
-ghost use Rattle.iv_view.specs.Views.{written_text};
+ghost use Rattle.iv_view.specs.Views.{needs_second, second_rows, written_text};
+ghost use Rattle.iv_view.specs.declared.view.View.TheVariants.{Written};
 
-use iv_pair::{IntersectRows, Second, print_intersect, print_subtract};
+use iv_pair::{
+    Fasta, FastaRows, IntersectRows, Second, print_fasta, print_intersect, print_subtract,
+};
 use iv_text::{Genome, Sink, WriteFault};
 use iv_track::{Meter, Track};
 use std::alloc::Allocator;
@@ -15,27 +20,40 @@ pub enum WrittenView {
     /// `subtract`: the records of the track without what the second file covers; where this is true, without the records
     /// that share a position with one of it.
     Subtract(bool),
+    /// `getfasta`: the bases of each record whose sequence the FASTA file has.
+    Getfasta(FastaRows),
 }
 
 impl WrittenView {
     /// Prints the view. It takes no memory; on a fault the sink has taken a prefix of the text.
+    ///
+    /// A view that needs a second file has one. Without a FASTA file `getfasta` prints nothing.
     pub fn print<A: Allocator + Copy, S: Sink>(
         self,
         track: &Track<A>,
-        second: &Second<A>,
+        second: Option<&Second<A>>,
+        fasta: Option<&Fasta<A>>,
         genome: &Genome<A>,
         meter: &mut Meter,
         sink: &mut S,
     ) -> Result<(), WriteFault>
-        ensures { Puts (S.state sink.old) (S.state sink.new) result (written_text self genome.now track.now.rows second.now.rows) }
+        requires { IsTrue (needs_second (Written self)) → IsSome (option_copied second) }
+        ensures { Puts (S.state sink.old) (S.state sink.new) result
+            (written_text self genome.now track.now.rows (second_rows (option_copied second.entry)) (unwrap_or (option_copied fasta.entry) [])) }
     {
         match self {
-            WrittenView::Intersect(shown) => {
-                print_intersect(shown, track, second, genome, meter, sink)
-            }
-            WrittenView::Subtract(whole) => {
-                print_subtract(whole, track, second, genome, meter, sink)
-            }
+            WrittenView::Intersect(shown) => match second {
+                Some(second) => print_intersect(shown, track, second, genome, meter, sink),
+                None => unreachable!(),
+            },
+            WrittenView::Subtract(whole) => match second {
+                Some(second) => print_subtract(whole, track, second, genome, meter, sink),
+                None => unreachable!(),
+            },
+            WrittenView::Getfasta(shown) => match fasta {
+                Some(fasta) => print_fasta(shown, track, fasta, genome, meter, sink),
+                None => Ok(()),
+            },
         }
     }
 }

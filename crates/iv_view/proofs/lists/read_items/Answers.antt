@@ -1,4 +1,4 @@
-use Rattle.std.proofs.Common.{◌≡◌, ◌∙◌, ℕ, ◌≤◌, List, [], None, map, length, nat_le, le-leb, sym, ap, arith}
+use Rattle.std.proofs.Common.{◌∙◌, ℕ, ◌≤◌, List, None, map, length, nat_le, le-leb, sym, ap, arith}
 use Rattle.std.proofs.lemmas.Bool.{cond-true}
 use Rattle.iv_text.specs.Fields.{fields}
 use Rattle.iv_text.specs.Bytes.{comma}

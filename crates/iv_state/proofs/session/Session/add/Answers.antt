@@ -71,7 +71,7 @@ invariant_of-self-2 g c =
 
 pub returns-clause-ok : goal.returns-clause-ok
 returns-clause-ok g c =
-    edited (λ rows. added rows c.args.row.now) _ c.self.inside.track c.add.new.self _ _ _ _ c.self.view_is
+    edited (λ rows. added rows c.args.row.now) _ _ c.add.new.self _ c.self.view_is
     (c.in_ok-add.ensures.ok ∙ ap (λ (r : Row). record c.self.inside.track { rows = added c.self.inside.track.rows r }) c.in_ok-record.ensures.ok)
     (repaired-stales _ _ _ _ _ _ _ _ c.added.ensures)
 

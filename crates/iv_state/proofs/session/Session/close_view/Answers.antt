@@ -1,11 +1,13 @@
 use Rattle.std.proofs.Common.{◌∙◌, refl, ap, sym, subst}
+use Rattle.std.specs.Map.{remove_entry}
+use Rattle.std.specs.Str.{bytes_eq}
 use Rattle.std.specs.Prelude.{IsSome}
 use Rattle.iv_text.specs.Named.{names_of}
 use Rattle.iv_state.specs.Keeping.{IsCurrentRight, all_seen}
-use Rattle.iv_state.specs.States.{State, IsServed, without_view}
+use Rattle.iv_state.specs.States.{State, IsServed}
 use Rattle.iv_state.specs.Views.{view_named}
 use Rattle.iv_state.proofs.OpenViewLemmas.{all-removed}
-use Rattle.iv_state.proofs.SessionLemmas.{state_of}
+use Rattle.iv_state.proofs.SessionLemmas.{views-changed}
 use Rattle.iv_state.proofs.session.Session.close_view.Goals as goal
 
 pub returns-in_default-clause-absent : goal.returns-in_default-clause-absent
@@ -27,4 +29,4 @@ returns-clause-there g c = subst (λ o. IsSome o) (c.in-Some.ensures.seen ∙ ap
 
 pub returns-clause-ok : goal.returns-clause-ok
 returns-clause-ok g c =
-    ap (λ views. state_of c.self.inside.genome c.self.inside.track c.self.inside.second views) c.remove.ensures.seen ∙ ap (λ (s : State). without_view s c.args.name.now) c.self.view_is
+    views-changed (remove_entry (bytes_eq c.args.name.now)) _ c.args.self.now (all_seen c.remove.new.self) c.self.view_is c.remove.ensures.seen

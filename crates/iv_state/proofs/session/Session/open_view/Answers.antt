@@ -1,4 +1,4 @@
-use Rattle.std.proofs.Common.{◌≡◌, ◌∙◌, ℕ, ◌<◌, List, Ok, true, false, Bool, length, map, arith, sym, ap, ap₂, subst}
+use Rattle.std.proofs.Common.{◌≡◌, ◌∙◌, ℕ, ◌<◌, List, [], ◌∷◌, ◌++◌, Ok, true, false, length, map, arith, sym, ap, subst}
 use Rattle.std.specs.Option.{is_some}
 use Rattle.std.proofs.lemmas.List.{length-map}
 use Rattle.iv_text.specs.Named.{names_of}
@@ -7,10 +7,10 @@ use Rattle.iv_view.proofs.WordLemmas.{needs-there}
 use Rattle.iv_state.specs.Keeping.{IsCurrentRight, all_seen, seen}
 use Rattle.iv_state.specs.declared.open_view.OpenView.{OpenView}
 use Rattle.iv_state.specs.OpenViews.{Shown}
-use Rattle.iv_state.specs.States.{State, IsServed, AreServed, with_view}
-use Rattle.iv_state.specs.Views.{opened, is_view_name, view_named}
+use Rattle.iv_state.specs.States.{IsServed, AreServed}
+use Rattle.iv_state.specs.Views.{is_view_name, view_named}
 use Rattle.iv_state.proofs.OpenViewLemmas.{all-pushed}
-use Rattle.iv_state.proofs.SessionLemmas.{state_of, no-name_fault, pushed-last}
+use Rattle.iv_state.proofs.SessionLemmas.{no-name_fault, pushed-last, views-changed}
 use Rattle.iv_state.proofs.session.Session.open_view.Goals as goal
 
 pub invariant_of-self-2 : goal.invariant_of-self-2
@@ -19,8 +19,8 @@ invariant_of-self-2 g c =
     let name = c.args.name.now in
     let words : List (List ℕ) = map (λ word. word.now) c.args.words.now in
     let view = c.in_ok-view.view in
-    let said : read_words c.width.result (is_some i.second) false words ≡ Ok view = rw (sym c.is_some-has_second.ensures) (sym c.read.ensures ∙ c.in_ok-view.was) in
-    let served : IsServed i.second view = needs-there c.width.result (is_some i.second) false words view said in (
+    let said : read_words c.width.result (is_some i.second) c.is_some-has_bases.result words ≡ Ok view = rw (sym c.is_some-has_second.ensures) (sym c.read.ensures ∙ c.in_ok-view.was) in
+    let served : IsServed i.second view = needs-there c.width.result (is_some i.second) c.is_some-has_bases.result words view said in (
       record {
         track_is = c.self.invariant.0.track_is;
         second_is = c.self.invariant.0.second_is;
@@ -36,13 +36,13 @@ returns-clause-ok g c =
     let name = c.args.name.now in
     let words : List (List ℕ) = map (λ word. word.now) c.args.words.now in
     let view = c.in_ok-view.view in
-    let said = ap₂ (λ (width : ℕ) (has_second : Bool). read_words width has_second false words) (sym c.width.ensures) (sym c.is_some-has_second.ensures) ∙ sym c.read.ensures ∙ c.in_ok-view.was in
+    let said : read_words i.track.width (is_some i.second) (is_some i.fasta) words ≡ Ok view =
+    rw (sym c.width.ensures, sym c.is_some-has_second.ensures, sym c.is_some-has_bases.ensures) (sym c.read.ensures ∙ c.in_ok-view.was) in
     let few : length (all_seen i.views) < 64 = omega (arith, c.if-len-ge-MOST_VIEWS.false, c.len.ensures.value, length-map {B = List ℕ × Shown} i.views (λ (v : List ℕ × OpenView _). (v.0, seen v.1))) in
     let good : is_view_name name ≡ true = sym c.is_view_name.ensures ∙ c.if-not-is_view_name.false in
-    let free : is_some (view_named (all_seen i.views) name) ≡ false = sym c.if-contains.ensures.seen in
-    let fine = no-name_fault (state_of i.genome i.track i.second (all_seen i.views)) name words view good free few said in (
+    let free : is_some (view_named (all_seen i.views) name) ≡ false = sym c.if-contains.ensures.seen in (
       view,
-      ap (λ (s : State). opened s name words) (sym c.self.view_is) ∙ fine,
-      ap (λ views. state_of i.genome i.track i.second views) (ap all_seen c.in_ok-push.ensures.ok ∙ pushed-last name i.views c.in_ok-open.open view c.in_ok-open.ensures.sees)
-          ∙ ap (λ (s : State). with_view s name view) c.self.view_is,
+      no-name_fault _ c.args.self.now name words view c.self.view_is good free few said,
+      views-changed (λ views. views ++ (name, record { view = view; stale = false }) ∷ []) _ c.args.self.now (all_seen c.push.new.self) c.self.view_is
+          (ap all_seen c.in_ok-push.ensures.ok ∙ pushed-last name i.views c.in_ok-open.open view c.in_ok-open.ensures.sees),
     )

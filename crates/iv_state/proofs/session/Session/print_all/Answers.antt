@@ -1,11 +1,11 @@
 use Rattle.std.proofs.Common.{◌∙◌, ◌<◌, refl, ap, subst}
 use Rattle.std.proofs.lemmas.Result.{err_from_is_err_and}
 use Rattle.iv_state.specs.Keeping.{all_seen}
-use Rattle.iv_state.specs.OpenViews.{Stales, stale_count}
+use Rattle.iv_state.specs.OpenViews.{Stales, all_current, stale_count}
 use Rattle.iv_state.specs.States.{State}
 use Rattle.iv_state.specs.Views.{all_text}
-use Rattle.iv_state.proofs.PrintLemmas.{all-fresh, now-all_printed, same-all_text, Takes-text, FailsIn-text}
-use Rattle.iv_state.proofs.SessionLemmas.{served-fresher, served-all_current}
+use Rattle.iv_state.proofs.PrintLemmas.{all-fresh, same-all_text, Takes-text, FailsIn-text}
+use Rattle.iv_state.proofs.SessionLemmas.{served-fresher, served-all_current, views-changed}
 use Rattle.iv_state.proofs.session.Session.print_all.Goals as goal
 
 pub returns-in_err-refresh_all : goal.returns-in_err-refresh_all
@@ -24,14 +24,12 @@ put_all-requires g c = all-fresh (all_seen c.self.inside.views) (all_seen c.refr
 pub returns-in_err-put_all : goal.returns-in_err-put_all
 returns-in_err-put_all g c =
     let p = err_from_is_err_and c.from_residual-in_err-put_all.result c.from_residual-in_err-put_all.ensures.1 in
-    let inside = c.self.inside in
-    let new = now-all_printed inside.genome inside.track inside.second (all_seen inside.views) (all_seen c.refresh_all.new.self) c.args.self.now c.self.view_is c.in_ok-refresh_all.ensures.ok in
+    let new = views-changed all_current _ c.args.self.now (all_seen c.refresh_all.new.self) c.self.view_is c.in_ok-refresh_all.ensures.ok in
     rw (p.1, p.2) (FailsIn-text _ _ _ _ (ap all_text new ∙ same-all_text c.args.self.now) c.in_err-put_all.ensures, new)
 
 pub returns : goal.returns
 returns g c =
-    let inside = c.self.inside in
-    let new = now-all_printed inside.genome inside.track inside.second (all_seen inside.views) (all_seen c.refresh_all.new.self) c.args.self.now c.self.view_is c.in_ok-refresh_all.ensures.ok in
+    let new = views-changed all_current _ c.args.self.now (all_seen c.refresh_all.new.self) c.self.view_is c.in_ok-refresh_all.ensures.ok in
     (Takes-text _ _ _ _ (ap all_text new ∙ same-all_text c.args.self.now) c.in_ok-put_all.ensures, new)
 
 pub invariant_of-self : goal.invariant_of-self

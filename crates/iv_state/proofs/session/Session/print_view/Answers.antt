@@ -2,11 +2,12 @@ use Rattle.std.proofs.Common.{◌≡◌, ◌∙◌, true, refl, ap, sym}
 use Rattle.std.proofs.lemmas.Result.{err_from_is_err_and}
 use Rattle.iv_text.specs.Named.{names_of}
 use Rattle.iv_state.specs.Keeping.{IsCurrentRight, all_seen, seen}
+use Rattle.iv_state.specs.OpenViews.{with_current}
 use Rattle.iv_state.specs.States.{State, IsServed}
 use Rattle.iv_state.specs.Views.{view_named}
 use Rattle.iv_state.proofs.OpenViewLemmas.{all-named}
-use Rattle.iv_state.proofs.PrintLemmas.{match-none, match-some, if-some, found-again, found-not, same-text, now-printed, Takes-text, FailsIn-text}
-use Rattle.iv_state.proofs.SessionLemmas.{state_of, served-current}
+use Rattle.iv_state.proofs.PrintLemmas.{match-none, match-some, if-some, found-again, found-not, same-text, Takes-text, FailsIn-text}
+use Rattle.iv_state.proofs.SessionLemmas.{served-current, views-changed}
 use Rattle.iv_state.proofs.session.Session.print_view.Goals as goal
 
 pub returns-in_default : goal.returns-in_default
@@ -16,9 +17,8 @@ returns-in_default g c =
 pub returns-in_err-refresh : goal.returns-in_err-refresh
 returns-in_err-refresh g c =
     let p = err_from_is_err_and c.from_residual.result c.from_residual.ensures.1 in
-    let inside = c.self.inside in
     let stale = if-some _ (λ v. v.stale ≡ true) (seen c.in-Some.field-0.now) c.in-Some.ensures.seen c.in_err-refresh.ensures.stale in
-    let same = ap (λ views. state_of inside.genome inside.track inside.second (all_seen views)) c.in_err-refresh.ensures.err ∙ c.self.view_is in
+    let same = views-changed (λ views. views) _ c.args.self.now (all_seen c.refresh.new.self) c.self.view_is (ap all_seen c.in_err-refresh.ensures.err) in
     rw (p.1, p.2)
     (match-some _ _ _ (seen c.in-Some.field-0.now) (c.in-Some.ensures.seen ∙ ap (λ (s : State). view_named s.views c.args.name.now) c.self.view_is) (stale, refl, same))
 
@@ -43,11 +43,11 @@ returns-in_err-print g c =
     let v = seen c.in-Some.field-0.now in
     let again = found-again c.args.name.now (all_seen inside.views) (all_seen c.refresh.new.self) v (seen c.in-Some-find.view.now)
     c.in-Some.ensures.seen c.in_ok-refresh.ensures.ok c.in-Some-find.ensures.seen in
-    let text = same-text inside.genome inside.track inside.second (all_seen inside.views) c.args.self.now v (seen c.in-Some-find.view.now) c.self.view_is again in
-    let put = FailsIn-text _ _ _ _ text (rw c.as_ref-second.ensures.value at c.in_err-print.ensures) in
+    let text = same-text _ c.args.self.now v (seen c.in-Some-find.view.now) c.self.view_is again in
+    let put = FailsIn-text _ _ _ _ text (rw (c.as_ref-second.ensures.value, c.as_ref-fasta.ensures.value) at c.in_err-print.ensures) in
     rw (p.1, p.2)
     (match-some _ _ _ v (c.in-Some.ensures.seen ∙ ap (λ (s : State). view_named s.views c.args.name.now) c.self.view_is)
-    (put, now-printed inside.genome inside.track inside.second (all_seen inside.views) (all_seen c.refresh.new.self) c.args.self.now c.args.name.now c.self.view_is c.in_ok-refresh.ensures.ok))
+    (put, views-changed (λ views. with_current views c.args.name.now) _ c.args.self.now (all_seen c.refresh.new.self) c.self.view_is c.in_ok-refresh.ensures.ok))
 
 pub returns : goal.returns
 returns g c =
@@ -55,10 +55,10 @@ returns g c =
     let v = seen c.in-Some.field-0.now in
     let again = found-again c.args.name.now (all_seen inside.views) (all_seen c.refresh.new.self) v (seen c.in-Some-find.view.now)
     c.in-Some.ensures.seen c.in_ok-refresh.ensures.ok c.in-Some-find.ensures.seen in
-    let text = same-text inside.genome inside.track inside.second (all_seen inside.views) c.args.self.now v (seen c.in-Some-find.view.now) c.self.view_is again in
-    let put = Takes-text _ _ _ _ text (rw c.as_ref-second.ensures.value at c.in_ok-print.ensures) in
+    let text = same-text _ c.args.self.now v (seen c.in-Some-find.view.now) c.self.view_is again in
+    let put = Takes-text _ _ _ _ text (rw (c.as_ref-second.ensures.value, c.as_ref-fasta.ensures.value) at c.in_ok-print.ensures) in
     match-some _ _ _ v (c.in-Some.ensures.seen ∙ ap (λ (s : State). view_named s.views c.args.name.now) c.self.view_is)
-    (put, now-printed inside.genome inside.track inside.second (all_seen inside.views) (all_seen c.refresh.new.self) c.args.self.now c.args.name.now c.self.view_is c.in_ok-refresh.ensures.ok)
+    (put, views-changed (λ views. with_current views c.args.name.now) _ c.args.self.now (all_seen c.refresh.new.self) c.self.view_is c.in_ok-refresh.ensures.ok)
 
 pub print-requires-clause-served : goal.print-requires-clause-served
 print-requires-clause-served g c =

@@ -1,10 +1,11 @@
-use Rattle.std.proofs.Common.{◌≡◌, false, refl, sym, arith}
+use Rattle.std.proofs.Common.{◌≡◌, ◌∙◌, false, slice_get, sym, ap, arith}
 use Rattle.iv_text.specs.Named.{names_of}
 use Rattle.iv_bytes.proofs.Putting.{Underway-begin, Underway-fails, Underway-more, Puts-err}
 use Rattle.iv_state.specs.Keeping.{IsCurrentRight, all_seen, seen}
-use Rattle.iv_state.specs.States.{IsServed}
+use Rattle.iv_state.specs.States.{State, IsServed}
+use Rattle.iv_state.specs.Views.{text_in}
 use Rattle.iv_state.proofs.OpenViewLemmas.{all-at}
-use Rattle.iv_state.proofs.PrintLemmas.{seen-at, all-get, shown-text, past-views, views-next, Takes-text, FailsIn-text}
+use Rattle.iv_state.proofs.PrintLemmas.{seen-at, all-get, past-views, views-next, Takes-text, FailsIn-text}
 use Rattle.iv_state.proofs.session.Session.put_views.Goals as goal
 
 pub loop-place-init : goal.loop-place-init
@@ -14,7 +15,7 @@ pub returns-in_err-put_heading : goal.returns-in_err-put_heading
 returns-in_err-put_heading g c =
     let inside = c.self.inside in
     let next = views-next _ _ c.self.view_is c.loop-place.place (c.in-Some.name.now, seen c.in-Some.view.now)
-    (seen-at inside.genome inside.track inside.second inside.views _ c.loop-place.place c.in-Some.name.now c.in-Some.view.now refl c.in-Some.ensures) in
+    (seen-at inside.views c.loop-place.place c.in-Some.name.now c.in-Some.view.now c.in-Some.ensures) in
     Puts-err _ _ c.from_residual.result _ c.from_residual.ensures.0
     (Underway-fails _ _ _ _ _ _ (rw next at c.loop-place.invariant) c.in_err-put_heading.ensures)
 
@@ -22,7 +23,7 @@ pub put-requires-clause-current : goal.put-requires-clause-current
 put-requires-clause-current g c =
     let inside = c.self.inside in
     all-get (λ v. v.1.stale ≡ false) c.args.self.now.views c.loop-place.place (c.in-Some.name.now, seen c.in-Some.view.now)
-    (seen-at inside.genome inside.track inside.second inside.views _ c.loop-place.place c.in-Some.name.now c.in-Some.view.now c.self.view_is c.in-Some.ensures) c.requires
+    (seen-at inside.views c.loop-place.place c.in-Some.name.now c.in-Some.view.now c.in-Some.ensures ∙ ap (λ (s : State). slice_get s.views c.loop-place.place) c.self.view_is) c.requires
 
 pub put-requires-clause-right : goal.put-requires-clause-right
 put-requires-clause-right g c =
@@ -32,20 +33,20 @@ pub returns-in_err-put : goal.returns-in_err-put
 returns-in_err-put g c =
     let inside = c.self.inside in
     let next = views-next _ _ c.self.view_is c.loop-place.place (c.in-Some.name.now, seen c.in-Some.view.now)
-    (seen-at inside.genome inside.track inside.second inside.views _ c.loop-place.place c.in-Some.name.now c.in-Some.view.now refl c.in-Some.ensures) in
-    let text = shown-text inside.genome inside.track inside.second (all_seen inside.views) c.args.self.now c.in-Some.view.now.view c.self.view_is in
+    (seen-at inside.views c.loop-place.place c.in-Some.name.now c.in-Some.view.now c.in-Some.ensures) in
+    let text = ap (λ (s : State). text_in s c.in-Some.view.now.view) c.self.view_is in
     let headed = Underway-more _ _ _ _ _ _ (rw next at c.loop-place.invariant) c.in_ok-put_heading.ensures in
     Puts-err _ _ c.from_residual-in_err-put.result _ c.from_residual-in_err-put.ensures.0
-    (Underway-fails _ _ _ _ _ _ headed (FailsIn-text _ _ _ _ text (rw c.as_ref-second.ensures.value at c.in_err-put.ensures)))
+    (Underway-fails _ _ _ _ _ _ headed (FailsIn-text _ _ _ _ text (rw (c.as_ref-second.ensures.value, c.as_ref-fasta.ensures.value) at c.in_err-put.ensures)))
 
 pub loop-place-preserved : goal.loop-place-preserved
 loop-place-preserved g c =
     let inside = c.self.inside in
     let next = views-next _ _ c.self.view_is c.loop-place.place (c.in-Some.name.now, seen c.in-Some.view.now)
-    (seen-at inside.genome inside.track inside.second inside.views _ c.loop-place.place c.in-Some.name.now c.in-Some.view.now refl c.in-Some.ensures) in
-    let text = shown-text inside.genome inside.track inside.second (all_seen inside.views) c.args.self.now c.in-Some.view.now.view c.self.view_is in
+    (seen-at inside.views c.loop-place.place c.in-Some.name.now c.in-Some.view.now c.in-Some.ensures) in
+    let text = ap (λ (s : State). text_in s c.in-Some.view.now.view) c.self.view_is in
     let headed = Underway-more _ _ _ _ _ _ (rw next at c.loop-place.invariant) c.in_ok-put_heading.ensures in
-    Underway-more _ _ _ _ _ _ headed (Takes-text _ _ _ _ text (rw c.as_ref-second.ensures.value at c.in_ok-put.ensures))
+    Underway-more _ _ _ _ _ _ headed (Takes-text _ _ _ _ text (rw (c.as_ref-second.ensures.value, c.as_ref-fasta.ensures.value) at c.in_ok-put.ensures))
 
 pub returns-in_default : goal.returns-in_default
 returns-in_default g c =
@@ -56,6 +57,6 @@ pub put-requires-clause-served : goal.put-requires-clause-served
 put-requires-clause-served g c =
     let inside = c.self.inside in
     let view = c.in-Some.view.now in
-    let found = seen-at inside.genome inside.track inside.second inside.views _ c.loop-place.place c.in-Some.name.now view refl c.in-Some.ensures in
+    let found = seen-at inside.views c.loop-place.place c.in-Some.name.now view c.in-Some.ensures in
     rw c.as_ref-second.ensures.value
     (all-at (λ v. IsServed inside.second v.view) (all_seen inside.views) c.loop-place.place (c.in-Some.name.now, seen view) (sym found) c.self.invariant.0.served)

@@ -52,7 +52,7 @@ invariant_of-self-2 g c =
 
 pub returns-clause-ok : goal.returns-clause-ok
 returns-clause-ok g c =
-    edited (λ rows. removed rows c.args.row.now) _ c.self.inside.track c.remove.new.self _ _ _ _ c.self.view_is
+    edited (λ rows. removed rows c.args.row.now) _ _ c.remove.new.self _ c.self.view_is
     (c.in_ok-remove.ensures.ok ∙ ap (λ (r : Row). record c.self.inside.track { rows = removed c.self.inside.track.rows r }) c.in_ok-record.ensures.ok)
     (repaired-stales _ _ _ _ _ _ _ _ c.removed.ensures)
 

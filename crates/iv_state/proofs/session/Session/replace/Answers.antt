@@ -42,28 +42,28 @@ unreachable-requires g c =
 pub removed-requires-clause-right : goal.removed-requires-clause-right
 removed-requires-clause-right g c =
     let there : 0 < copies c.self.inside.track.rows c.in_ok-before.before = omega (arith, c.copies.ensures.value) in
-    let whole = replaced-in _ _ _ _ _ _ _ _ _ _ _ c.self.view_is c.in_ok-before.ensures.ok c.in_ok-after.ensures.ok c.self.invariant.0.track_is c.copies.ensures.ordered there c.requires.new
+    let whole = replaced-in _ _ _ _ _ _ _ _ c.self.view_is c.in_ok-before.ensures.ok c.in_ok-after.ensures.ok c.self.invariant.0.track_is c.copies.ensures.ordered there c.requires.new
     c.in_ok-stage.ensures.ok c.in-Ok.ensures.ok in
     subst (λ (l : List Row). AreRight c.added.new.self (names_of c.self.inside.genome) l) whole.again (repaired-right _ _ _ _ _ _ _ _ c.added.ensures)
 
 pub removed-requires-clause-fit : goal.removed-requires-clause-fit
 removed-requires-clause-fit g c =
     let there : 0 < copies c.self.inside.track.rows c.in_ok-before.before = omega (arith, c.copies.ensures.value) in
-    let whole = replaced-in _ _ _ _ _ _ _ _ _ _ _ c.self.view_is c.in_ok-before.ensures.ok c.in_ok-after.ensures.ok c.self.invariant.0.track_is c.copies.ensures.ordered there c.requires.new
+    let whole = replaced-in _ _ _ _ _ _ _ _ c.self.view_is c.in_ok-before.ensures.ok c.in_ok-after.ensures.ok c.self.invariant.0.track_is c.copies.ensures.ordered there c.requires.new
     c.in_ok-stage.ensures.ok c.in-Ok.ensures.ok in
     whole.track_is.fit
 
 pub removed-requires-clause-fits : goal.removed-requires-clause-fits
 removed-requires-clause-fits g c =
     let there : 0 < copies c.self.inside.track.rows c.in_ok-before.before = omega (arith, c.copies.ensures.value) in
-    let whole = replaced-in _ _ _ _ _ _ _ _ _ _ _ c.self.view_is c.in_ok-before.ensures.ok c.in_ok-after.ensures.ok c.self.invariant.0.track_is c.copies.ensures.ordered there c.requires.new
+    let whole = replaced-in _ _ _ _ _ _ _ _ c.self.view_is c.in_ok-before.ensures.ok c.in_ok-after.ensures.ok c.self.invariant.0.track_is c.copies.ensures.ordered there c.requires.new
     c.in_ok-stage.ensures.ok c.in-Ok.ensures.ok in
     rw whole.width (subst (λ (s : State). Fits s.genome s.track.width c.args.old.now) (sym c.self.view_is) c.requires.old)
 
 pub invariant_of-self-2 : goal.invariant_of-self-2
 invariant_of-self-2 g c =
     let there : 0 < copies c.self.inside.track.rows c.in_ok-before.before = omega (arith, c.copies.ensures.value) in
-    let whole = replaced-in _ _ _ _ _ _ _ _ _ _ _ c.self.view_is c.in_ok-before.ensures.ok c.in_ok-after.ensures.ok c.self.invariant.0.track_is c.copies.ensures.ordered there c.requires.new
+    let whole = replaced-in _ _ _ _ _ _ _ _ c.self.view_is c.in_ok-before.ensures.ok c.in_ok-after.ensures.ok c.self.invariant.0.track_is c.copies.ensures.ordered there c.requires.new
     c.in_ok-stage.ensures.ok c.in-Ok.ensures.ok in
     let less = stales-trans _ _ _ (repaired-stales _ _ _ _ _ _ _ _ c.added.ensures) (repaired-stales _ _ _ _ _ _ _ _ c.removed.ensures) in (
       record {
@@ -77,16 +77,16 @@ invariant_of-self-2 g c =
 pub returns-clause-ok : goal.returns-clause-ok
 returns-clause-ok g c =
     let there : 0 < copies c.self.inside.track.rows c.in_ok-before.before = omega (arith, c.copies.ensures.value) in
-    let whole = replaced-in _ _ _ _ _ _ _ _ _ _ _ c.self.view_is c.in_ok-before.ensures.ok c.in_ok-after.ensures.ok c.self.invariant.0.track_is c.copies.ensures.ordered there c.requires.new
+    let whole = replaced-in _ _ _ _ _ _ _ _ c.self.view_is c.in_ok-before.ensures.ok c.in_ok-after.ensures.ok c.self.invariant.0.track_is c.copies.ensures.ordered there c.requires.new
     c.in_ok-stage.ensures.ok c.in-Ok.ensures.ok in
-    edited (λ rows. added (removed rows c.args.old.now) c.args.new.now) _ c.self.inside.track c.remove.new.self _ _ _ _ c.self.view_is whole.is
+    edited (λ rows. added (removed rows c.args.old.now) c.args.new.now) _ _ c.remove.new.self _ c.self.view_is whole.is
     (stales-trans _ _ _ (repaired-stales _ _ _ _ _ _ _ _ c.added.ensures) (repaired-stales _ _ _ _ _ _ _ _ c.removed.ensures))
 
 pub returns-clause-steps : goal.returns-clause-steps
 returns-clause-steps g c =
     let inside = c.self.inside in
     let there : 0 < copies c.self.inside.track.rows c.in_ok-before.before = omega (arith, c.copies.ensures.value) in
-    let whole = replaced-in _ _ _ _ _ _ _ _ _ _ _ c.self.view_is c.in_ok-before.ensures.ok c.in_ok-after.ensures.ok c.self.invariant.0.track_is c.copies.ensures.ordered there c.requires.new
+    let whole = replaced-in _ _ _ _ _ _ _ _ c.self.view_is c.in_ok-before.ensures.ok c.in_ok-after.ensures.ok c.self.invariant.0.track_is c.copies.ensures.ordered there c.requires.new
     c.in_ok-stage.ensures.ok c.in-Ok.ensures.ok in
     let bound : (r : Row) → all_steps (all_seen inside.views) c.stage.new.self.rows r ≡ all_steps c.args.self.now.views (added c.args.self.now.track.rows c.args.new.now) r = λ r.
     ap (λ (t : Tracked). all_steps (all_seen inside.views) t.rows r) c.in_ok-stage.ensures.ok

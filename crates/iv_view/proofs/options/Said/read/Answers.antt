@@ -1,4 +1,4 @@
-use Rattle.std.proofs.Common.{◌≡◌, ◌∙◌, List, [], map, get_or, sym, ap, subst}
+use Rattle.std.proofs.Common.{◌≡◌, ◌∙◌, [], map, get_or, sym, ap, subst}
 use Rattle.std.specs.Str.{bytes_eq}
 use Rattle.iv_view.specs.Merge.{Said, said_by, nothing_said}
 use Rattle.iv_view.proofs.SaidLemmas.{going-flag, going-value}

@@ -1,0 +1,8 @@
+use Rattle.iv_bytes.proofs.Putting.{Takes-nothing}
+use Rattle.iv_view.proofs.RowLemmas.{no-bases}
+use Rattle.iv_view.proofs.written_view.WrittenView.print.Goals as goal
+
+pub returns-in-None-fasta : goal.returns-in-None-fasta
+returns-in-None-fasta g c =
+    rw (c.in-Getfasta.is, c.in-None-fasta.is)
+    (rw (no-bases c.in-Getfasta.shown c.args.genome.now c.args.track.now.rows) (Takes-nothing (g.S.Sink.state c.args.sink.now)))
