@@ -1,4 +1,4 @@
-//! `bedkeep session -g GENOME -i RECORDS [-b RECORDS]`: keeps a track of records by a script on standard input.
+//! `bedkeep session -g GENOME -i RECORDS [-b RECORDS] [-fi FASTA]`: keeps a track of records by a script on standard input.
 //!
 //! It opens files, hands over and exits. What the words mean, how a run ends and what is said of it stands in `iv_cli`.
 #![tactic(auto)]
@@ -71,11 +71,14 @@ fn files_of(rt: &(impl Files + AllocGlobal), plan: &Plan<'_>) -> Result<ParsedFi
     let sizes = read_slot(rt, plan, Slot::Sizes)?;
     let first = read_slot(rt, plan, Slot::First)?;
     let other = read_slot(rt, plan, Slot::Other)?;
+    let bases = read_slot(rt, plan, Slot::Bases)?;
     let other_text = other.as_deref();
+    let bases_text = bases.as_deref();
     let inputs = Inputs {
         sizes: sizes.as_deref().unwrap_or(b""),
         first: first.as_deref().unwrap_or(b""),
         other: other_text,
+        bases: bases_text,
     };
     Ok(ParsedFiles::parse(rt.alloc(), plan, &inputs, MOST_RECORDS)?)
 }

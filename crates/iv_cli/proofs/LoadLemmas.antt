@@ -9,8 +9,8 @@ use Rattle.iv_text.specs.declared.fault.LoadCause.TheVariants as cause
 use Rattle.iv_cli.specs.declared.fault.CliFault.{CliFault}
 use Rattle.iv_cli.specs.declared.fault.CliFault.TheVariants.{Damaged, Memory}
 use Rattle.iv_cli.specs.declared.plan.Slot.{Slot}
-use Rattle.iv_cli.specs.declared.plan.Slot.TheVariants.{Sizes, First, Other}
-use Rattle.iv_cli.specs.Loading.{parsed, second_of, with_second, with_first, with_genome, fault_of, damage_of}
+use Rattle.iv_cli.specs.declared.plan.Slot.TheVariants.{Sizes, First, Other, Bases}
+use Rattle.iv_cli.specs.Loading.{parsed, bases_said, second_of, with_bases, with_second, with_first, with_genome, fault_of, damage_of}
 
 -- a fault is told as damage, unless it is want of memory
 told : (c : LoadCause) (damaged : CliFault) → (c ≡ cause.Memory) ⊎ (fault_of c damaged ≡ damaged)
@@ -38,28 +38,32 @@ told-by slot f said whole leads (inr is) = elim (told f.cause (Damaged slot f)) 
   | inr same ↦ inr (leads is ∙ ap Err (sym same))
 ]
 
-pub genome-damaged : (width : ℕ) (sizes first : List ℕ) (other : Option (List ℕ)) (limit : ℕ) (f : LoadFault) → IsWhy f (genome_of sizes)
-    → (damage_of Sizes f ≡ Memory) ⊎ (parsed width sizes first other limit ≡ Err (damage_of Sizes f))
-genome-damaged width sizes first other limit f why =
-    told-by Sizes f (genome_of sizes) (parsed width sizes first other limit) (ap (with_genome width first other limit)) why
+module _ (width : ℕ) (sizes first : List ℕ) (other bases : Option (List ℕ)) (limit : ℕ) where
+  pub genome-damaged : (f : LoadFault) → IsWhy f (genome_of sizes) → (damage_of Sizes f ≡ Memory) ⊎ (parsed width sizes first other bases limit ≡ Err (damage_of Sizes f))
+  genome-damaged f why = told-by Sizes f (genome_of sizes) (parsed width sizes first other bases limit) (ap (with_genome width first other bases limit)) why
 
-pub first-damaged : (width : ℕ) (sizes first : List ℕ) (other : Option (List ℕ)) (limit : ℕ) (g : Sequences) (f : LoadFault) → genome_of sizes ≡ Ok g
-    → IsWhy f (bed_of g width limit first)
-    → (damage_of First f ≡ Memory) ⊎ (parsed width sizes first other limit ≡ Err (damage_of First f))
-first-damaged width sizes first other limit g f genome why =
-    told-by First f (bed_of g width limit first) (parsed width sizes first other limit)
-    (λ is. ap (with_genome width first other limit) genome ∙ ap (with_first g width other limit) is) why
+  -- the genome file is sound
+  module _ (g : Sequences) (genome : genome_of sizes ≡ Ok g) where
+    past-genome : parsed width sizes first other bases limit ≡ with_first g width other bases limit (bed_of g width limit first)
+    past-genome = ap (with_genome width first other bases limit) genome
 
-pub second-damaged : (width : ℕ) (sizes first : List ℕ) (other : Option (List ℕ)) (limit : ℕ) (g : Sequences) (bed : Bed) (f : LoadFault)
-    → genome_of sizes ≡ Ok g → bed_of g width limit first ≡ Ok bed → IsWhy f (second_of g width limit other)
-    → (damage_of Other f ≡ Memory) ⊎ (parsed width sizes first other limit ≡ Err (damage_of Other f))
-second-damaged width sizes first other limit g bed f genome sound why =
-    told-by Other f (second_of g width limit other) (parsed width sizes first other limit)
-    (λ is. ap (with_genome width first other limit) genome ∙ ap (with_first g width other limit) sound ∙ ap (with_second g bed limit) is) why
+    pub first-damaged : (f : LoadFault) → IsWhy f (bed_of g width limit first) → (damage_of First f ≡ Memory) ⊎ (parsed width sizes first other bases limit ≡ Err (damage_of First f))
+    first-damaged f why =
+        told-by First f (bed_of g width limit first) (parsed width sizes first other bases limit) (λ is. past-genome ∙ ap (with_first g width other bases limit) is) why
 
--- the files of a run, where none of them is damaged
-pub all-sound : (width : ℕ) (sizes first : List ℕ) (other : Option (List ℕ)) (limit : ℕ) (g : Sequences) (bed : Bed) (second : Option Bed)
-    → genome_of sizes ≡ Ok g → bed_of g width limit first ≡ Ok bed → second_of g width limit other ≡ Ok second
-    → parsed width sizes first other limit ≡ Ok (record { genome = g; first = bed; second = second; limit = limit })
-all-sound width sizes first other limit g bed second genome sound is =
-    ap (with_genome width first other limit) genome ∙ ap (with_first g width other limit) sound ∙ ap (with_second g bed limit) is
+    -- the first BED file is sound
+    module _ (bed : Bed) (sound : bed_of g width limit first ≡ Ok bed) where
+      past-first : parsed width sizes first other bases limit ≡ with_second g bed bases limit (second_of g width limit other)
+      past-first = past-genome ∙ ap (with_first g width other bases limit) sound
+
+      pub second-damaged : (f : LoadFault) → IsWhy f (second_of g width limit other) → (damage_of Other f ≡ Memory) ⊎ (parsed width sizes first other bases limit ≡ Err (damage_of Other f))
+      second-damaged f why =
+          told-by Other f (second_of g width limit other) (parsed width sizes first other bases limit) (λ is. past-first ∙ ap (with_second g bed bases limit) is) why
+
+      -- the second BED file is sound, or there is none
+      module _ (second : Option Bed) (whole : second_of g width limit other ≡ Ok second) where
+        past-second : parsed width sizes first other bases limit ≡ with_bases g bed second limit (bases_said g bases)
+        past-second = past-first ∙ ap (with_second g bed bases limit) whole
+
+        pub bases-damaged : (f : LoadFault) → IsWhy f (bases_said g bases) → (damage_of Bases f ≡ Memory) ⊎ (parsed width sizes first other bases limit ≡ Err (damage_of Bases f))
+        bases-damaged f why = told-by Bases f (bases_said g bases) (parsed width sizes first other bases limit) (λ is. past-second ∙ ap (with_bases g bed second limit) is) why

@@ -22,6 +22,7 @@ abbrev pub word_of : RunOption → List ℕ
 word_of option.Sizes = codes "-g"
 word_of option.First = codes "-i"
 word_of option.Other = codes "-b"
+word_of option.Bases = codes "-fi"
 word_of option.Width = codes "-width"
 
 -- the value given for an option
@@ -29,6 +30,7 @@ abbrev pub said_of : Said → RunOption → Option (List ℕ)
 said_of said option.Sizes = said.sizes
 said_of said option.First = said.first
 said_of said option.Other = said.other
+said_of said option.Bases = said.bases
 said_of said option.Width = said.width
 
 -- in the midst of the settings: what the settings so far say, and the words to come
@@ -38,7 +40,7 @@ pub record Going (options rest : List (List ℕ)) (said : Said) : Type 0 where
   pub known : All IsKnown done
   pub values : (k : RunOption) → values_of (word_of k) done ≡ option_to_list (said_of said k)
 
-pub Going-begin : (options : List (List ℕ)) → Going options options (record { sizes = None; first = None; other = None; width = None })
+pub Going-begin : (options : List (List ℕ)) → Going options options (record { sizes = None; first = None; other = None; bases = None; width = None })
 Going-begin options = record {
   done = [];
   are = same (paired options);
@@ -50,10 +52,11 @@ Going-begin options = record {
     same None = refl
     same (Some more) = refl
 
-    none : (k : RunOption) → values_of (word_of k) [] ≡ option_to_list (said_of (record { sizes = None; first = None; other = None; width = None }) k)
+    none : (k : RunOption) → values_of (word_of k) [] ≡ option_to_list (said_of (record { sizes = None; first = None; other = None; bases = None; width = None }) k)
     none option.Sizes = refl
     none option.First = refl
     none option.Other = refl
+    none option.Bases = refl
     none option.Width = refl
 
 none≢some : {A : Type 0} (a : A) → None ≡ Some a → ⊥
@@ -73,15 +76,18 @@ values-append word xs ys =
 
 -- a word is that of its option
 named : (word : List ℕ) (k : RunOption) → option_of word ≡ Some k → word ≡ word_of k
-named word k is = by (bytes_eq word (codes "-g")) (bytes_eq word (codes "-i")) (bytes_eq word (codes "-b")) (bytes_eq word (codes "-width")) refl refl refl refl is
+named word k is =
+    by (bytes_eq word (codes "-g")) (bytes_eq word (codes "-i")) (bytes_eq word (codes "-b")) (bytes_eq word (codes "-fi")) (bytes_eq word (codes "-width")) refl refl refl refl refl is
   where
-    by : (a b c d : Bool) → bytes_eq word (codes "-g") ≡ a → bytes_eq word (codes "-i") ≡ b → bytes_eq word (codes "-b") ≡ c → bytes_eq word (codes "-width") ≡ d
-        → cond a (Some option.Sizes) (cond b (Some option.First) (cond c (Some option.Other) (cond d (Some option.Width) None))) ≡ Some k → word ≡ word_of k
-    by true b c d at_g at_i at_b at_width is = (bytes_eq-Decides word (codes "-g")).0 at_g ∙ ap word_of (some-same option.Sizes k is)
-    by false true c d at_g at_i at_b at_width is = (bytes_eq-Decides word (codes "-i")).0 at_i ∙ ap word_of (some-same option.First k is)
-    by false false true d at_g at_i at_b at_width is = (bytes_eq-Decides word (codes "-b")).0 at_b ∙ ap word_of (some-same option.Other k is)
-    by false false false true at_g at_i at_b at_width is = (bytes_eq-Decides word (codes "-width")).0 at_width ∙ ap word_of (some-same option.Width k is)
-    by false false false false at_g at_i at_b at_width is = absurd (none≢some k is)
+    by : (a b c d e : Bool) → bytes_eq word (codes "-g") ≡ a → bytes_eq word (codes "-i") ≡ b → bytes_eq word (codes "-b") ≡ c → bytes_eq word (codes "-fi") ≡ d
+        → bytes_eq word (codes "-width") ≡ e
+        → cond a (Some option.Sizes) (cond b (Some option.First) (cond c (Some option.Other) (cond d (Some option.Bases) (cond e (Some option.Width) None)))) ≡ Some k → word ≡ word_of k
+    by true b c d e at_g at_i at_b at_fi at_width is = (bytes_eq-Decides word (codes "-g")).0 at_g ∙ ap word_of (some-same option.Sizes k is)
+    by false true c d e at_g at_i at_b at_fi at_width is = (bytes_eq-Decides word (codes "-i")).0 at_i ∙ ap word_of (some-same option.First k is)
+    by false false true d e at_g at_i at_b at_fi at_width is = (bytes_eq-Decides word (codes "-b")).0 at_b ∙ ap word_of (some-same option.Other k is)
+    by false false false true e at_g at_i at_b at_fi at_width is = (bytes_eq-Decides word (codes "-fi")).0 at_fi ∙ ap word_of (some-same option.Bases k is)
+    by false false false false true at_g at_i at_b at_fi at_width is = (bytes_eq-Decides word (codes "-width")).0 at_width ∙ ap word_of (some-same option.Width k is)
+    by false false false false false at_g at_i at_b at_fi at_width is = absurd (none≢some k is)
 
 unless-some : (o : Option (List ℕ)) (said new : Said) → unless_given o said ≡ Some new → (o ≡ None) × (new ≡ said)
 unless-some None said new h = (refl, cc)
@@ -92,6 +98,7 @@ abbrev with_value : RunOption → List ℕ → Said → Said
 with_value option.Sizes value said = record said { sizes = Some value }
 with_value option.First value said = record said { first = Some value }
 with_value option.Other value said = record said { other = Some value }
+with_value option.Bases value said = record said { bases = Some value }
 with_value option.Width value said = record said { width = Some value }
 
 -- where a value can be taken there was none before
@@ -99,6 +106,7 @@ taken-new : (k : RunOption) (old new : Said) (value : List ℕ) → taken_at (So
 taken-new option.Sizes old new value h = unless-some old.sizes (record old { sizes = Some value }) new h
 taken-new option.First old new value h = unless-some old.first (record old { first = Some value }) new h
 taken-new option.Other old new value h = unless-some old.other (record old { other = Some value }) new h
+taken-new option.Bases old new value h = unless-some old.bases (record old { bases = Some value }) new h
 taken-new option.Width old new value h = unless-some old.width (record old { width = Some value }) new h
 
 -- the value that was not given is given
@@ -117,18 +125,27 @@ said-with : (k j : RunOption) (old : Said) (value : List ℕ) → said_of old k 
 said-with option.Sizes option.Sizes old value none = given old.sizes value none
 said-with option.Sizes option.First old value none = kept old.first
 said-with option.Sizes option.Other old value none = kept old.other
+said-with option.Sizes option.Bases old value none = kept old.bases
 said-with option.Sizes option.Width old value none = kept old.width
 said-with option.First option.Sizes old value none = kept old.sizes
 said-with option.First option.First old value none = given old.first value none
 said-with option.First option.Other old value none = kept old.other
+said-with option.First option.Bases old value none = kept old.bases
 said-with option.First option.Width old value none = kept old.width
 said-with option.Other option.Sizes old value none = kept old.sizes
 said-with option.Other option.First old value none = kept old.first
 said-with option.Other option.Other old value none = given old.other value none
+said-with option.Other option.Bases old value none = kept old.bases
 said-with option.Other option.Width old value none = kept old.width
+said-with option.Bases option.Sizes old value none = kept old.sizes
+said-with option.Bases option.First old value none = kept old.first
+said-with option.Bases option.Other old value none = kept old.other
+said-with option.Bases option.Bases old value none = given old.bases value none
+said-with option.Bases option.Width old value none = kept old.width
 said-with option.Width option.Sizes old value none = kept old.sizes
 said-with option.Width option.First old value none = kept old.first
 said-with option.Width option.Other old value none = kept old.other
+said-with option.Width option.Bases old value none = kept old.bases
 said-with option.Width option.Width old value none = given old.width value none
 
 says : (k : RunOption) (old new : Said) (value : List ℕ) → taken_at (Some k) old value ≡ Some new → (j : RunOption) → Says old new (word_of k) value j
@@ -230,6 +247,7 @@ once : (words : List (List ℕ)) (plan : RunPlan) (is : IsPlan words plan) (k : 
 once words plan is option.Sizes = omega (arith, ap (λ (l : List (List ℕ)). length l) is.sizes)
 once words plan is option.First = omega (arith, ap (λ (l : List (List ℕ)). length l) is.first)
 once words plan is option.Other = omega (arith, ap (λ (l : List (List ℕ)). length l) is.other, few-listed plan.other)
+once words plan is option.Bases = omega (arith, ap (λ (l : List (List ℕ)). length l) is.bases, few-listed plan.bases)
 once words plan is option.Width = width-once (values_of (codes "-width") is.settings) plan.width is.width
 
 given_before : (o : Option (List ℕ)) (said : Said) → unless_given o said ≡ None → 1 ≤ length (option_to_list o)
@@ -241,6 +259,7 @@ refused : (k : RunOption) (said : Said) (value : List ℕ) → taken_at (Some k)
 refused option.Sizes said value h = given_before said.sizes _ h
 refused option.First said value h = given_before said.first _ h
 refused option.Other said value h = given_before said.other _ h
+refused option.Bases said value h = given_before said.bases _ h
 refused option.Width said value h = given_before said.width _ h
 
 -- a setting is of its own option
@@ -248,6 +267,7 @@ own : (k : RunOption) (value : List ℕ) → is_of (word_of k) (word_of k, value
 own option.Sizes value = refl
 own option.First value = refl
 own option.Other value = refl
+own option.Bases value = refl
 own option.Width value = refl
 
 -- the words to come begin with a setting
@@ -316,16 +336,17 @@ refuse-width options said word going none plan is =
 
 -- ---- words that are a plan
 
-pub accept : (options : List (List ℕ)) (said : Said) (word sizes first : List ℕ) (other : Option (List ℕ)) (width : ℕ) → Going options [] said
-    → bytes_eq word (codes "session") ≡ true → Some sizes ≡ said.sizes → Some first ≡ said.first → other ≡ said.other → Some width ≡ width_said (option_to_list said.width)
-    → IsPlan (word ∷ options) (record { sizes = sizes; first = first; other = other; width = width })
-accept options said word sizes first other width going is sizes_is first_is other_is width_is = record {
+pub accept : (options : List (List ℕ)) (said : Said) (word sizes first : List ℕ) (other bases : Option (List ℕ)) (width : ℕ) → Going options [] said
+    → bytes_eq word (codes "session") ≡ true → Some sizes ≡ said.sizes → Some first ≡ said.first → other ≡ said.other → bases ≡ said.bases
+    → Some width ≡ width_said (option_to_list said.width) → IsPlan (word ∷ options) (record { sizes = sizes; first = first; other = other; bases = bases; width = width })
+accept options said word sizes first other bases width going is sizes_is first_is other_is bases_is width_is = record {
   settings = going.done;
   are = cond-true _ _ _ is ∙ going.are ∙ ap Some (append-nil going.done);
   known = going.known;
   sizes = going.values option.Sizes ∙ ap option_to_list (sym sizes_is);
   first = going.values option.First ∙ ap option_to_list (sym first_is);
   other = going.values option.Other ∙ ap option_to_list (sym other_is);
+  bases = going.values option.Bases ∙ ap option_to_list (sym bases_is);
   width = ap width_said (going.values option.Width) ∙ sym width_is;
 }
 

@@ -9,6 +9,7 @@ pub record Said : Type 0 where
   pub sizes : Option (List ℕ)
   pub first : Option (List ℕ)
   pub other : Option (List ℕ)
+  pub bases : Option (List ℕ)
   pub width : Option (List ℕ)
 
 -- a value, unless one was given before
@@ -22,6 +23,7 @@ taken_at None said value = None
 taken_at (Some option.Sizes) said value = unless_given said.sizes (record said { sizes = Some value })
 taken_at (Some option.First) said value = unless_given said.first (record said { first = Some value })
 taken_at (Some option.Other) said value = unless_given said.other (record said { other = Some value })
+taken_at (Some option.Bases) said value = unless_given said.bases (record said { bases = Some value })
 taken_at (Some option.Width) said value = unless_given said.width (record said { width = Some value })
 
 -- what is said after one more setting, where it can be

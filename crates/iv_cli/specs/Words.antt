@@ -7,12 +7,13 @@ use Rattle.iv_cli.specs.declared.draft.RunOption.TheVariants as option
 use Rattle.iv_cli.specs.declared.plan.Slot.{Slot}
 use Rattle.iv_cli.specs.declared.plan.Slot.TheVariants.{Sizes, First, Other, Bases}
 
--- what the words of a run say: the names of its files, the second BED file's where there is one, and the width of a
--- BED file without a record
+-- what the words of a run say: the names of its files, the second BED file's and the FASTA file's where there is one, and the
+-- width of a BED file without a record
 pub record RunPlan : Type 0 where
   pub sizes : List ℕ
   pub first : List ℕ
   pub other : Option (List ℕ)
+  pub bases : Option (List ℕ)
   pub width : ℕ
 
 -- the name of a file
@@ -20,7 +21,7 @@ abbrev pub file_of : RunPlan → Slot → Option (List ℕ)
 file_of plan Sizes = Some plan.sizes
 file_of plan First = Some plan.first
 file_of plan Other = plan.other
-file_of plan Bases = None
+file_of plan Bases = plan.bases
 
 -- the option that a word is
 abbrev pub option_of : List ℕ → Option RunOption
@@ -28,8 +29,9 @@ option_of word =
     cond (bytes_eq word (codes "-g")) (Some option.Sizes)
     (cond (bytes_eq word (codes "-i")) (Some option.First)
     (cond (bytes_eq word (codes "-b")) (Some option.Other)
+    (cond (bytes_eq word (codes "-fi")) (Some option.Bases)
     (cond (bytes_eq word (codes "-width")) (Some option.Width)
-    None)))
+    None))))
 
 -- a width is said by one digit from 3 to 6
 abbrev pub width_of : List ℕ → Option ℕ
@@ -66,7 +68,7 @@ is_of word setting = bytes_eq setting.0 word
 abbrev pub values_of : List ℕ → List Setting → List (List ℕ)
 values_of word settings = map (λ setting. setting.1) (filter (is_of word) settings)
 
--- the words are the plan of a session: settings of known options, `-g` and `-i` once each, `-b` and `-width` once at most
+-- the words are the plan of a session: settings of known options, `-g` and `-i` once each, `-b`, `-fi` and `-width` once at most
 pub record IsPlan (words : List (List ℕ)) (plan : RunPlan) : Type 0 where
   pub settings : List Setting
   pub are : settings_of words ≡ Some settings
@@ -74,4 +76,5 @@ pub record IsPlan (words : List (List ℕ)) (plan : RunPlan) : Type 0 where
   pub sizes : values_of (codes "-g") settings ≡ plan.sizes ∷ []
   pub first : values_of (codes "-i") settings ≡ plan.first ∷ []
   pub other : values_of (codes "-b") settings ≡ option_to_list plan.other
+  pub bases : values_of (codes "-fi") settings ≡ option_to_list plan.bases
   pub width : width_said (values_of (codes "-width") settings) ≡ Some plan.width

@@ -22,6 +22,8 @@ pub(crate) enum RunOption {
     First,
     /// `-b`: the second BED file.
     Other,
+    /// `-fi`: the FASTA file.
+    Bases,
     /// `-width`: the width of a BED file without a record.
     Width,
 }
@@ -36,6 +38,8 @@ fn option_of(word: &[u8]) -> Option<RunOption>
         Some(RunOption::First)
     } else if word == b"-b".as_slice() {
         Some(RunOption::Other)
+    } else if word == b"-fi".as_slice() {
+        Some(RunOption::Bases)
     } else if word == b"-width".as_slice() {
         Some(RunOption::Width)
     } else {
@@ -59,6 +63,7 @@ pub(crate) struct Draft<'a> {
     sizes: Option<&'a [u8]>,
     first: Option<&'a [u8]>,
     other: Option<&'a [u8]>,
+    bases: Option<&'a [u8]>,
     width: Option<&'a [u8]>,
 }
 
@@ -68,18 +73,19 @@ impl<'a> Model for Draft<'a> {
 
     ghost Value = { Said };
 
-    ghost view = { λ d. record { sizes = option_copied d.sizes; first = option_copied d.first; other = option_copied d.other; width = option_copied d.width } };
+    ghost view = { λ d. record { sizes = option_copied d.sizes; first = option_copied d.first; other = option_copied d.other; bases = option_copied d.bases; width = option_copied d.width } };
 }
 
 impl<'a> Draft<'a> {
     /// Nothing is given.
     pub(crate) fn new() -> Self
-        ensures { result ≡ record { sizes = None; first = None; other = None; width = None } }
+        ensures { result ≡ record { sizes = None; first = None; other = None; bases = None; width = None } }
     {
         Draft {
             sizes: None,
             first: None,
             other: None,
+            bases: None,
             width: None,
         }
     }
@@ -100,6 +106,10 @@ impl<'a> Draft<'a> {
             }
             Some(RunOption::Other) if self.other.is_none() => {
                 self.other = Some(value);
+                Ok(())
+            }
+            Some(RunOption::Bases) if self.bases.is_none() => {
+                self.bases = Some(value);
                 Ok(())
             }
             Some(RunOption::Width) if self.width.is_none() => {
@@ -129,6 +139,13 @@ impl<'a> Draft<'a> {
         ensures { option_copied result ≡ self.now.other }
     {
         self.other
+    }
+
+    /// The FASTA file, where it is given.
+    pub(crate) fn bases(&self) -> Option<&'a [u8]>
+        ensures { option_copied result ≡ self.now.bases }
+    {
+        self.bases
     }
 
     /// The width of a BED file without a record, 3 where none is given, and `None` where what is given says none.

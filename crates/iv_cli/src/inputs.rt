@@ -4,10 +4,11 @@ ghost use Rattle.std.specs.Option.{option_copied};
 ghost use Rattle.iv_text.specs.Read.{Fits};
 ghost use Rattle.iv_text.specs.declared.fault.LoadCause.TheVariants as cause;
 ghost use Rattle.iv_state.specs.States.{begun};
-ghost use Rattle.iv_cli.specs.Loading.{second_of, parsed, loaded};
+ghost use Rattle.iv_cli.specs.Loading.{second_of, bases_said, parsed, loaded};
 
 use crate::fault::CliFault;
 use crate::plan::{Plan, Slot};
+use iv_fasta::Fasta;
 use iv_session::Session;
 use iv_text::{BedFile, Genome, LoadFault};
 use std::alloc::{Allocator, Global};
@@ -22,6 +23,8 @@ pub struct Inputs<'a> {
     pub first: &'a [u8],
     /// The second BED file, where the plan names one.
     pub other: Option<&'a [u8]>,
+    /// The FASTA file, where the plan names one.
+    pub bases: Option<&'a [u8]>,
 }
 
 /// What the files of a run say, apart from their text.
@@ -30,6 +33,7 @@ pub struct ParsedFiles<A: Allocator + Copy = Global> {
     genome: Genome<A>,
     first: BedFile<A>,
     second: Option<BedFile<A>>,
+    fasta: Option<Fasta<A>>,
     limit: u32,
 }
 
@@ -38,7 +42,7 @@ impl<A: Allocator + Copy> Model for ParsedFiles<A> {
 
     ghost Value = { Parsed };
 
-    ghost view = { λ files. record { genome = files.genome; first = files.first; second = files.second; limit = files.limit } };
+    ghost view = { λ files. record { genome = files.genome; first = files.first; second = files.second; bases = files.fasta; limit = files.limit } };
 
     ghost invariant = { λ files. FitTogether files.genome files.first files.second files.limit };
 }
@@ -64,11 +68,27 @@ fn parse_second<A: Allocator + Copy>(
     }
 }
 
+/// What the FASTA file says, where there is one, or its first fault.
+fn parse_fasta<A: Allocator + Copy>(
+    alloc: A,
+    genome: &Genome<A>,
+    text: Option<&[u8]>,
+) -> Result<Option<Fasta<A>>, LoadFault>
+    ensures ok { IfOk result (λ fasta. bases_said genome.now (option_copied text.entry) ≡ Ok fasta) }
+    ensures err { IfErr result (λ fault. (fault ≡ record { line = 0; cause = cause.Memory }) ⊎
+        (bases_said genome.now (option_copied text.entry) ≡ Err fault)) }
+{
+    match text {
+        None => Ok(None),
+        Some(text) => Ok(Some(Fasta::parse(alloc, genome, text)?)),
+    }
+}
+
 impl<A: Allocator + Copy> ParsedFiles<A> {
     /// What the files of a run say, or the fault of the first damaged one.
     ///
-    /// The genome file is read first, then the first BED file, then the second, where there is one. A BED file without
-    /// a record has the width that the plan says, and each may have at most `limit` records.
+    /// The genome file is read first, then the first BED file, then the second and the FASTA file, where there are any. A
+    /// BED file without a record has the width that the plan says, and each may have at most `limit` records.
     pub fn parse(
         alloc: A,
         plan: &Plan<'_>,
@@ -77,9 +97,9 @@ impl<A: Allocator + Copy> ParsedFiles<A> {
     ) -> Result<ParsedFiles<A>, CliFault>
         requires { limit ≤ 4000000 }
         ensures ok { IfOk result (λ files.
-            parsed plan.now.width inputs.now.sizes.now inputs.now.first.now (option_copied inputs.now.other) limit ≡ Ok files) }
+            parsed plan.now.width inputs.now.sizes.now inputs.now.first.now (option_copied inputs.now.other) (option_copied inputs.now.bases) limit ≡ Ok files) }
         ensures err { IfErr result (λ fault. (fault ≡ CliFault.Memory) ⊎
-            (parsed plan.now.width inputs.now.sizes.now inputs.now.first.now (option_copied inputs.now.other) limit ≡ Err fault)) }
+            (parsed plan.now.width inputs.now.sizes.now inputs.now.first.now (option_copied inputs.now.other) (option_copied inputs.now.bases) limit ≡ Err fault)) }
     {
         let genome = match Genome::parse(alloc, inputs.sizes) {
             Ok(genome) => genome,
@@ -93,10 +113,15 @@ impl<A: Allocator + Copy> ParsedFiles<A> {
             Ok(second) => second,
             Err(fault) => return Err(CliFault::from((Slot::Other, fault))),
         };
+        let fasta = match parse_fasta(alloc, &genome, inputs.bases) {
+            Ok(fasta) => fasta,
+            Err(fault) => return Err(CliFault::from((Slot::Bases, fault))),
+        };
         Ok(ParsedFiles {
             genome,
             first,
             second,
+            fasta,
             limit,
         })
     }
@@ -107,16 +132,17 @@ impl<A: Allocator + Copy> ParsedFiles<A> {
     ///
     /// Memory was refused.
     pub fn begin(self, alloc: A) -> Result<Session<A>, CliFault>
-        ensures ok { IfOk result (λ session. session ≡ begun self.genome self.first self.second self.limit) }
+        ensures ok { IfOk result (λ session. session ≡ begun self.genome self.first self.second self.bases self.limit) }
         ensures err { IfErr result (λ fault. fault ≡ CliFault.Memory) }
     {
         let ParsedFiles {
             genome,
             first,
             second,
+            fasta,
             limit,
         } = self;
-        Ok(Session::new(alloc, genome, first, second, limit)?)
+        Ok(Session::new(alloc, genome, first, second, fasta, limit)?)
     }
 }
 
@@ -130,9 +156,9 @@ pub fn load<A: Allocator + Copy>(
 ) -> Result<Session<A>, CliFault>
     requires { limit ≤ 4000000 }
     ensures ok { IfOk result (λ session.
-        loaded plan.now.width inputs.now.sizes.now inputs.now.first.now (option_copied inputs.now.other) limit ≡ Ok session) }
+        loaded plan.now.width inputs.now.sizes.now inputs.now.first.now (option_copied inputs.now.other) (option_copied inputs.now.bases) limit ≡ Ok session) }
     ensures err { IfErr result (λ fault. (fault ≡ CliFault.Memory) ⊎
-        (loaded plan.now.width inputs.now.sizes.now inputs.now.first.now (option_copied inputs.now.other) limit ≡ Err fault)) }
+        (loaded plan.now.width inputs.now.sizes.now inputs.now.first.now (option_copied inputs.now.other) (option_copied inputs.now.bases) limit ≡ Err fault)) }
 {
     ParsedFiles::parse(alloc, plan, inputs, limit)?.begin(alloc)
 }

@@ -35,7 +35,7 @@ impl Notice {
 /// How the program is used.
 const HELP: &[u8] = b"bedkeep keeps a track of genome intervals correct while you edit it.
 
-usage: bedkeep session -g GENOME -i BED [-b BED] [-width N]
+usage: bedkeep session -g GENOME -i BED [-b BED] [-fi FASTA] [-width N]
        bedkeep --help
        bedkeep --version
 
@@ -43,6 +43,7 @@ session reads a script on standard input and prints to standard output.
   -g GENOME   names and lengths of the sequences, two columns
   -i BED      the records of the track, three to six columns, in any order
   -b BED      records of a second file, which intersect and subtract look at
+  -fi FASTA   bases of the sequences, which getfasta prints
   -width N    columns of a BED without a record, 3 to 6 (default 3)
 
 Lines of a script, their fields parted by one TAB:
@@ -71,6 +72,9 @@ Views:
                     -c the record with their number
   subtract          the parts of each record that the second file doesn't cover;
                     -A the record whole if it has no overlap
+  getfasta          the bases of each record whose sequence the FASTA file has;
+                    -s with the strand, and those on - as the opposite strand,
+                    -tab on one line
 
 example:
   printf 'open\\tm\\tmerge\\nadd\\tchr1\\t10\\t20\\nprint\\tm\\n' |

@@ -16,7 +16,7 @@ pub enum Slot {
     First,
     /// The second file of records.
     Other,
-    /// The bases.
+    /// The FASTA file: the bases of the sequences.
     Bases,
 }
 
@@ -26,6 +26,7 @@ pub struct Plan<'a> {
     sizes: &'a [u8],
     first: &'a [u8],
     other: Option<&'a [u8]>,
+    bases: Option<&'a [u8]>,
     width: u8,
 }
 
@@ -36,15 +37,16 @@ impl<'a> Model for Plan<'a> {
 
     ghost Value = { RunPlan };
 
-    ghost view = { λ p. record { sizes = p.sizes.now; first = p.first.now; other = option_copied p.other; width = p.width } };
+    ghost view = { λ p. record { sizes = p.sizes.now; first = p.first.now; other = option_copied p.other; bases = option_copied p.bases; width = p.width } };
 
     ghost invariant = { λ p. (3 ≤ p.width) × (p.width ≤ 6) };
 }
 
 impl<'a> Plan<'a> {
     /// What the words after the program's name ask for: `session`, and behind it the options `-g GENOME`,
-    /// `-i RECORDS` and, where they are wanted, `-b RECORDS` for the second file and `-width N`, in any order, each
-    /// once. The word after an option is its value, whatever it is; `N` is one digit from 3 to 6.
+    /// `-i RECORDS` and, where they are wanted, `-b RECORDS` for the second file, `-fi FASTA` for the bases and
+    /// `-width N`, in any order, each once. The word after an option is its value, whatever it is; `N` is one digit
+    /// from 3 to 6.
     ///
     /// Any other words are the fault `Words` with the number 16.
     pub fn read(words: &[&'a [u8]]) -> Result<Plan<'a>, CliFault>
@@ -76,6 +78,7 @@ impl<'a> Plan<'a> {
             sizes,
             first,
             other: draft.other(),
+            bases: draft.bases(),
             width,
         })
     }
@@ -88,7 +91,7 @@ impl<'a> Plan<'a> {
             Slot::Sizes => Some(self.sizes),
             Slot::First => Some(self.first),
             Slot::Other => self.other,
-            Slot::Bases => None,
+            Slot::Bases => self.bases,
         }
     }
 

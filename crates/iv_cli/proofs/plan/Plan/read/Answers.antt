@@ -54,7 +54,7 @@ returns-clause-ok c =
     let none = none-left (λ word. word.now) c.settings.rest.now (sym c.if-not-is_empty.ensures) in
     let session : bytes_eq c.in-Some.first_word.now.now (codes "session") ≡ true = search rules in
     rw c.in-Some.ensures.cases.0 (
-    accept _ _ _ _ _ _ _ (rw none at c.settings.invariant) session
+    accept _ _ _ _ _ _ _ _ (rw none at c.settings.invariant) session
     (sym (ap option_copied c.in-Some-Some.is-0) ∙ c.sizes.ensures) (sym (ap option_copied c.in-Some-Some.is-1) ∙ c.first.ensures)
-    (search rules) (sym c.in-Some-width.is ∙ c.width.ensures)
+    (search rules) (search rules) (sym c.in-Some-width.is ∙ c.width.ensures)
     )
