@@ -9,7 +9,7 @@ PROGRAM := build/bedkeep
 
 help:
 	@echo 'make build   prove and build the program; it is left at $(PROGRAM)'
-	@echo 'make demo    build it, then run the scripts of examples/ over examples/genes.bed'
+	@echo 'make demo    build it, then run the scripts of examples/ over the files beside them'
 	@echo 'make test    the whole gate: searches, every proof from nothing, the wrong bodies, the tests, the stored run, a run through pipes, every exit'
 	@echo 'make clean   remove all that builds and proofs left behind'
 	@echo 'make help    this list'
@@ -24,6 +24,7 @@ demo: build
 	$(PROGRAM) session -g examples/human.genome -i examples/genes.bed < examples/corrections.script || test $$? -eq 1
 	$(PROGRAM) session -g examples/human.genome -i examples/genes.bed -b examples/mask.bed < examples/mask.script
 	$(PROGRAM) session -g examples/human.genome -i examples/genes.bed -b /dev/null < examples/write_out.script
+	$(PROGRAM) session -g examples/contigs.genome -i examples/coding.bed -fi examples/contigs.fa < examples/sequences.script
 
 # rt ci leaves the program that it proved and built beside the crate.
 test:

@@ -14,9 +14,13 @@ printf 'chr1\t100\nchr2\t50\n' > sizes
 printf 'chr1\t10\t20\n' > records.bed
 printf 'chr1\t10\t20\nchr1\t1\t101\n' > past_end.bed
 printf 'chr1\t0\t5\n\nchr1\t30\t30\n' > no_base.bed
+printf '>chr2 fifty\nACGTACGTACGTACGTACGTACGTACGTACGTACGTACGTA\nACGTACGTA\n>chr9\nAC' > bases.fa
+printf '>chr9\nACGT\n>chr8 it has a space\nAC GT\n' > no_base.fa
+printf '>chr9\nACGT\n\n>chr1\nACGT\n' > short.fa
 printf 'chr1\t12x\n' > bad_sizes
 printf 'open\tm\tmerge\nprint\tm\n' > prints
 printf 'open\tm\tmerge\nadd\tchr1\t90\t101\nprint\tm\n' > refused
+printf 'add\tchr2\t2\t6\nopen\tf\tgetfasta\nprint\tf\n' > shows_bases
 head -c 1048577 /dev/zero | tr '\0' x > long_line
 mkdir directory
 
@@ -49,7 +53,7 @@ session -g sizes -i records.bed < refused
 ends 'a refused line' 1 "line 2: end past the sequence's end\n"
 prints 'a refused line' 'chr1\t10\t20\n'
 
-for words in '' 'merge' 'session' 'session -g sizes' 'session -g sizes -i records.bed -width 7' 'session -g sizes -i records.bed -b' 'session -b b -g sizes -i records.bed -b b' 'session -g sizes -b records.bed' '--help me' '--help --version' '-help'; do
+for words in '' 'merge' 'session' 'session -g sizes' 'session -g sizes -i records.bed -width 7' 'session -g sizes -i records.bed -b' 'session -b b -g sizes -i records.bed -b b' 'session -g sizes -b records.bed' 'session -g sizes -i records.bed -fi' 'session -fi f -g sizes -i records.bed -fi f' '--help me' '--help --version' '-help'; do
     # shellcheck disable=SC2086 # the words are to be parted
     "$program" $words > out 2> err < prints
     ends "words: $words" 2 'bedkeep: bad options\n'
@@ -69,12 +73,29 @@ prints 'a damaged second file' ''
 session -b no_base.bed -g sizes -i past_end.bed < prints
 ends 'a damaged first file comes before a damaged second one' 3 "bedkeep: past_end.bed: line 2: end past the sequence's end\n"
 
+session -g sizes -fi bases.fa -i records.bed < shows_bases
+ends 'bases of records' 0 ''
+prints 'bases of records' '>chr2:2-6\nGTAC\n'
+session -g sizes -i records.bed < shows_bases
+ends 'bases without a FASTA file' 1 'line 2: no sequence file\nline 3: no such view\n'
+session -fi no_base.fa -g sizes -i records.bed < prints
+ends 'a damaged FASTA file' 3 'bedkeep: no_base.fa: line 4: bad base\n'
+prints 'a damaged FASTA file' ''
+session -g sizes -i records.bed -fi short.fa < prints
+ends 'a sequence that is too short' 3 'bedkeep: short.fa: line 4: length differs from the genome\n'
+session -fi short.fa -b no_base.bed -g sizes -i records.bed < prints
+ends 'a damaged second file comes before a damaged FASTA file' 3 'bedkeep: no_base.bed: line 3: start not below end\n'
+
 session -g none -i past_end.bed < prints
 ends 'a file that is not there comes before a damaged one' 4 'bedkeep: none: cannot be read\n'
 session -g sizes -i past_end.bed -b none < prints
 ends 'a second file that is not there comes before a damaged first one' 4 'bedkeep: none: cannot be read\n'
 session -b nowhere -i none -g sizes < prints
 ends 'a first file that is not there comes before the second' 4 'bedkeep: none: cannot be read\n'
+session -g sizes -i past_end.bed -fi none < prints
+ends 'a FASTA file that is not there comes before a damaged first one' 4 'bedkeep: none: cannot be read\n'
+session -fi nowhere -b none -i records.bed -g sizes < prints
+ends 'a second file that is not there comes before the FASTA file' 4 'bedkeep: none: cannot be read\n'
 session -g sizes -i directory < prints
 ends 'a directory' 4 'bedkeep: directory: cannot be read\n'
 
@@ -107,7 +128,7 @@ ends 'the version' 0 ''
 prints 'the version' 'bedkeep 0.1.0\n'
 "$program" --help > out 2> err
 ends 'the help' 0 ''
-for word in 'usage: bedkeep session -g GENOME -i BED' --help --version '-b BED' -width open add remove replace close print printall merge intersect subtract; do
+for word in 'usage: bedkeep session -g GENOME -i BED' --help --version '-b BED' '-fi FASTA' -width open add remove replace close print printall merge intersect subtract getfasta; do
     if ! grep -q -e "$word" out; then
         echo "the help does not speak of $word" >&2
         failed=1

@@ -19,7 +19,9 @@ fn bed_text(rt: &HostRuntime) -> Result<String, Fail> {
 
 /// How many records the track of the files holds, `None` where memory is refused.
 fn loaded(alloc: &RefusesNth<Global>, inputs: &Inputs<'_>) -> Result<Option<u32>, Fail> {
-    let plan = Plan::read(&[b"session", b"-g", b"g", b"-i", b"a", b"-b", b"b"])?;
+    let plan = Plan::read(&[
+        b"session", b"-g", b"g", b"-i", b"a", b"-b", b"b", b"-fi", b"f",
+    ])?;
     match load(alloc, &plan, inputs, COUNT) {
         Ok(session) => Ok(Some(session.len())),
         Err(CliFault::Memory) => Ok(None),
@@ -51,12 +53,18 @@ fn each_growth_of_loading_refused(rt: HostRuntime) -> Result<(), Fail> {
         sizes: b"chr1\t100\n",
         first: text.as_bytes(),
         other: None,
+        bases: None,
     };
     let both = Inputs {
         other: Some(text.as_bytes()),
         ..alone
     };
+    let all = Inputs {
+        bases: Some(b">x\nAC\n>chr0 none of it\n"),
+        ..both
+    };
     let (few, more) = (refused_loads(&rt, &alone)?, refused_loads(&rt, &both)?);
     assert!(rt; 0 < few && few < more);
+    assert!(rt; more < refused_loads(&rt, &all)?);
     Ok(())
 }

@@ -1,11 +1,11 @@
 //! Words, files and exit statuses of a run.
 use iv_cli::{CliFault, FileFault, Inputs, Plan, Slot, load, read_all, run_status, status};
-use iv_session::{RunCause, RunFault, Summary};
-use iv_text::{Fields, LoadCause, LoadFault, MemSource, RecordFault, Source, StdSource};
+use iv_session::{RunCause, RunFault, Session, Summary};
+use iv_text::{Fields, LoadCause, LoadFault, MemSink, MemSource, RecordFault, Source, StdSource};
 use std::test::Fail;
 
-/// What words ask for: the genome file, the records, the second file, the width.
-type Asked<'a> = (&'a [u8], &'a [u8], Option<&'a [u8]>, u8);
+/// What words ask for: the genome file, the records, the second file, the FASTA file, the width.
+type Asked<'a> = (&'a [u8], &'a [u8], Option<&'a [u8]>, Option<&'a [u8]>, u8);
 
 /// What words that stand between spaces ask for, `None` where they are refused.
 fn plan_of<'a>(rt: &HostRuntime, text: &'a [u8]) -> Result<Option<Asked<'a>>, Fail> {
@@ -20,10 +20,8 @@ fn plan_of<'a>(rt: &HostRuntime, text: &'a [u8]) -> Result<Option<Asked<'a>>, Fa
     match Plan::read(words.as_slice()) {
         Ok(plan) => match (plan.file(Slot::Sizes), plan.file(Slot::First)) {
             (Some(sizes), Some(first)) => {
-                if plan.file(Slot::Bases).is_some() {
-                    return Err(Fail::new("a file that was not named"));
-                }
-                Ok(Some((sizes, first, plan.file(Slot::Other), plan.width())))
+                let (other, bases) = (plan.file(Slot::Other), plan.file(Slot::Bases));
+                Ok(Some((sizes, first, other, bases, plan.width())))
             }
             _ => Err(Fail::new("a file is missing")),
         },
@@ -46,7 +44,7 @@ fn words_of_runs(rt: HostRuntime) -> Result<(), Fail> {
         (b"session -width 3 -g g -i a", b"g", b"a", 3),
         (b"session -g g -i a -width 6", b"g", b"a", 6),
     ] {
-        assert!(rt; plan_of(&rt, words)? == Some((sizes, first, None, width)));
+        assert!(rt; plan_of(&rt, words)? == Some((sizes, first, None, None, width)));
     }
     Ok(())
 }
@@ -67,7 +65,38 @@ fn words_of_runs_with_a_second_file(rt: HostRuntime) -> Result<(), Fail> {
         (b"session -g g -b  -i a", b"g", b"a", b"", 3),
         (b"session -b -width -g g -i a", b"g", b"a", b"-width", 3),
     ] {
-        assert!(rt; plan_of(&rt, words)? == Some((sizes, first, Some(other), width)));
+        assert!(rt; plan_of(&rt, words)? == Some((sizes, first, Some(other), None, width)));
+    }
+    Ok(())
+}
+
+#[test]
+fn words_of_runs_with_a_fasta(rt: HostRuntime) -> Result<(), Fail> {
+    for (words, other, bases, width) in [
+        (
+            b"session -g g -i a -fi f".as_slice(),
+            None,
+            b"f".as_slice(),
+            3,
+        ),
+        (
+            b"session -fi f -i a -b b -g g",
+            Some(b"b".as_slice()),
+            b"f",
+            3,
+        ),
+        (
+            b"session -b b -g g -fi -b -width 6 -i a",
+            Some(b"b"),
+            b"-b",
+            6,
+        ),
+        (b"session -i a -b -fi -g g -fi f", Some(b"-fi"), b"f", 3),
+        (b"session -fi  -g g -i a", None, b"", 3),
+        (b"session -g g -fi -fi -i a", None, b"-fi", 3),
+    ] {
+        let want = (b"g".as_slice(), b"a".as_slice(), other, Some(bases), width);
+        assert!(rt; plan_of(&rt, words)? == Some(want));
     }
     Ok(())
 }
@@ -87,6 +116,11 @@ fn words_that_are_no_run(rt: HostRuntime) -> Result<(), Fail> {
         b"session -g g -i a -b",
         b"session -b b -g g -i a -b b",
         b"session -b b -g g -b c -i a",
+        b"session -g g -i a -fi",
+        b"session -fi f -g g -i a -fi f",
+        b"session -g g -fi f",
+        b"session -g g -i a -f f",
+        b"getfasta -g g -bed a -fi f",
         b"session -width 3 -g g -width 3 -i a",
         b"session -width 3 -g g -width 3",
         b"session -width 2 -g g -i a",
@@ -109,7 +143,7 @@ fn loaded(
     width: &[u8],
 ) -> Result<Result<(u32, u8), CliFault>, Fail> {
     let plan = Plan::read(&[
-        b"session", b"-g", b"g", b"-i", b"a", b"-b", b"b", b"-width", width,
+        b"session", b"-g", b"g", b"-i", b"a", b"-b", b"b", b"-fi", b"f", b"-width", width,
     ])?;
     match load(rt.alloc(), &plan, inputs, 2) {
         Ok(session) => Ok(Ok((session.len(), session.track().width()))),
@@ -128,6 +162,7 @@ fn files_that_load(rt: HostRuntime) -> Result<(), Fail> {
             sizes: b"chr1\t9\n",
             first,
             other: None,
+            bases: None,
         };
         assert!(rt; loaded(&rt, &inputs, b"3")? == Ok((count, width)));
     }
@@ -158,6 +193,7 @@ fn second_files_that_load(rt: HostRuntime) -> Result<(), Fail> {
             sizes: b"chr1\t9\n",
             first,
             other: Some(other),
+            bases: None,
         };
         assert!(rt; loaded(&rt, &inputs, width)? == Ok(want));
     }
@@ -189,12 +225,13 @@ fn files_that_are_damaged(rt: HostRuntime) -> Result<(), Fail> {
             LoadCause::TooMany,
         ),
     ] {
-        // The second file is damaged too, and isn't told.
+        // The second file and the FASTA file are damaged too, and aren't told.
         for other in [None, Some(b"x".as_slice())] {
             let inputs = Inputs {
                 sizes,
                 first,
                 other,
+                bases: other,
             };
             let fault = LoadFault { line, cause };
             assert!(rt; loaded(&rt, &inputs, b"3")? == Err(CliFault::Damaged(slot, fault)));
@@ -227,10 +264,80 @@ fn second_files_that_are_damaged(rt: HostRuntime) -> Result<(), Fail> {
             sizes: b"chr1\t9\n",
             first: b"chr1\t1\t2\ta\nchr1\t1\t2\ta\n",
             other: Some(other),
+            bases: None,
         };
         let fault = LoadFault { line, cause };
         assert!(rt; loaded(&rt, &inputs, b"3")? == Err(CliFault::Damaged(Slot::Other, fault)));
     }
+    Ok(())
+}
+
+/// Whether the files have this damage, beside a sound first file.
+fn is_damage(
+    rt: &HostRuntime,
+    other: Option<&[u8]>,
+    bases: &[u8],
+    slot: Slot,
+    fault: LoadFault,
+) -> Result<bool, Fail> {
+    let inputs = Inputs {
+        sizes: b"s\t4\nu\t2\n",
+        first: b"s\t1\t2\n",
+        other,
+        bases: Some(bases),
+    };
+    Ok(loaded(rt, &inputs, b"3")? == Err(CliFault::Damaged(slot, fault)))
+}
+
+/// Damage of a FASTA file is told with its line, and behind that of a second file.
+#[test]
+fn fasta_files_that_are_damaged(rt: HostRuntime) -> Result<(), Fail> {
+    let damage = LoadFault {
+        line: 2,
+        cause: LoadCause::Record(RecordFault::Order),
+    };
+    for (bases, line, cause) in [
+        (b"ACGT".as_slice(), 1, LoadCause::BasesFirst),
+        (b">u\nAC\n> x\n", 3, LoadCause::Name),
+        (b">s\r\nAC\r\nG T\r\n", 3, LoadCause::Base),
+        (b">q\nA\n>q", 3, LoadCause::Repeated),
+        (b">u\nAC\n\n>s\nACGTA\n", 4, LoadCause::WrongLength),
+    ] {
+        let fault = LoadFault { line, cause };
+        for other in [None, Some(b"s\t0\t4\n".as_slice())] {
+            assert!(rt; is_damage(&rt, other, bases, Slot::Bases, fault)?);
+        }
+        let other = Some(b"#\ns\t2\t1\n".as_slice());
+        assert!(rt; is_damage(&rt, other, bases, Slot::Other, damage)?);
+    }
+    Ok(())
+}
+
+/// A session of files with a FASTA file.
+fn session_with_bases(rt: &HostRuntime) -> Result<Session, Fail> {
+    let inputs = Inputs {
+        sizes: b"s\t4\nu\t2\n",
+        first: b"s\t0\t3\tn\t0\t-\nu\t0\t2\tn\t0\t-\n",
+        other: None,
+        bases: Some(b">x only here\nGG\n>s\nACG\nT"),
+    };
+    let plan = Plan::read(&[b"session", b"-g", b"g", b"-fi", b"f", b"-i", b"a"])?;
+    Ok(load(rt.alloc(), &plan, &inputs, 2)?)
+}
+
+/// Opens a view of bases, and prints it.
+fn printed(rt: &HostRuntime, session: &mut Session) -> Result<MemSink, Fail> {
+    let mut sink = MemSink::new(rt.alloc(), 100, 9)?;
+    session.open_view(b"f", &[b"getfasta", b"-s"])?;
+    session.print_view(b"f", &mut sink)?;
+    Ok(sink)
+}
+
+#[test]
+fn fasta_files_that_load(rt: HostRuntime) -> Result<(), Fail> {
+    let mut session = session_with_bases(&rt)?;
+    let sink = printed(&rt, &mut session)?;
+    assert!(rt; sink.bytes() == b">s:0-3(-)\nCGT\n".as_slice());
     Ok(())
 }
 
@@ -275,6 +382,7 @@ fn statuses_of_faults(rt: HostRuntime) {
         (CliFault::Words(16), 2),
         (CliFault::Damaged(Slot::First, damage), 3),
         (CliFault::Damaged(Slot::Other, damage), 3),
+        (CliFault::Damaged(Slot::Bases, damage), 3),
         (CliFault::Output, 4),
         (CliFault::Memory, 5),
     ] {

@@ -1,18 +1,46 @@
 //! What several tests begin with.
+use iv_fasta::Fasta;
 use iv_session::{RunFault, ScriptLimits, Session, Summary, run_script};
-use iv_text::{BedFile, Genome, MemSink, MemSource};
+use iv_text::{BedFile, Genome, LoadFault, MemSink, MemSource};
 use std::test::Fail;
 
 /// A genome of three sequences, of 100 bases, of 50 and of none.
 pub(crate) const SIZES: &[u8] = b"chr1\t100\nchr2\t50\nchr3\t0\n";
 
-/// A session of a genome file, a BED file and a second one or none. Where a BED file has no record, it has the width.
+/// What stands beside the track of a session.
+#[derive(Clone, Copy)]
+pub(crate) struct Beside<'a> {
+    /// The second file.
+    pub(crate) second: Option<&'a [u8]>,
+    /// The FASTA file.
+    pub(crate) bases: Option<&'a [u8]>,
+}
+
+/// Neither a second file nor a FASTA file.
+pub(crate) const ALONE: Beside<'static> = Beside {
+    second: None,
+    bases: None,
+};
+
+/// What a FASTA file says, where there is one.
+fn fasta_of(
+    rt: &HostRuntime,
+    genome: &Genome,
+    bases: Option<&[u8]>,
+) -> Result<Option<Fasta>, LoadFault> {
+    match bases {
+        Some(bases) => Ok(Some(Fasta::parse(rt.alloc(), genome, bases)?)),
+        None => Ok(None),
+    }
+}
+
+/// A session of a genome file, a BED file and what stands beside it. Where a BED file has no record, it has the width.
 fn session_beside(
     rt: &HostRuntime,
     sizes: &[u8],
     width: u8,
     first: &[u8],
-    second: Option<&[u8]>,
+    beside: Beside<'_>,
     limit: u32,
 ) -> Result<Session, Fail> {
     if width < 3 || width > 6 || limit > 4_000_000 {
@@ -20,11 +48,12 @@ fn session_beside(
     }
     let genome = Genome::parse(rt.alloc(), sizes)?;
     let file = BedFile::parse(rt.alloc(), &genome, width, limit, first)?;
-    let second = match second {
+    let second = match beside.second {
         Some(second) => Some(BedFile::parse(rt.alloc(), &genome, width, limit, second)?),
         None => None,
     };
-    Ok(Session::new(rt.alloc(), genome, file, second, limit)?)
+    let fasta = fasta_of(rt, &genome, beside.bases)?;
+    Ok(Session::new(rt.alloc(), genome, file, second, fasta, limit)?)
 }
 
 /// A session of a genome file and a BED file. Where that has no record, it has the width.
@@ -35,7 +64,7 @@ pub(crate) fn session_of(
     first: &[u8],
     limit: u32,
 ) -> Result<Session, Fail> {
-    session_beside(rt, sizes, width, first, None, limit)
+    session_beside(rt, sizes, width, first, ALONE, limit)
 }
 
 /// A session of that genome and a BED file of three columns or of its own width.
@@ -153,34 +182,33 @@ fn writes(
     )
 }
 
-/// Whether the example's script, beside a second file or none and in pieces of this number of bytes, writes and leaves
-/// what it is to.
+/// Whether the example's script, in pieces of this number of bytes, writes and leaves what it is to.
 fn holds(
     rt: &HostRuntime,
-    second: Option<&[u8]>,
+    beside: Beside<'_>,
     example: &Example<'_>,
     piece: usize,
 ) -> Result<bool, Fail> {
     let (width, limit) = (example.width, example.limit);
-    let mut session = session_beside(rt, SIZES, width, example.first, second, limit)?;
+    let mut session = session_beside(rt, SIZES, width, example.first, beside, limit)?;
     let is_written = writes(rt, &mut session, example, piece)?;
     Ok(is_written && session.len() == example.left)
 }
 
 /// Runs the script of each example, whole and in small pieces.
 pub(crate) fn check(rt: &HostRuntime, examples: &[Example<'_>]) -> Result<(), Fail> {
-    check_beside(rt, None, examples)
+    check_beside(rt, ALONE, examples)
 }
 
-/// Runs the script of each example beside a second file or none, whole and in small pieces.
+/// Runs the script of each example beside a second file, a FASTA file or neither, whole and in small pieces.
 pub(crate) fn check_beside(
     rt: &HostRuntime,
-    second: Option<&[u8]>,
+    beside: Beside<'_>,
     examples: &[Example<'_>],
 ) -> Result<(), Fail> {
     for example in examples {
         for piece in [1, 3, 7, 1000] {
-            if !holds(rt, second, example, piece)? {
+            if !holds(rt, beside, example, piece)? {
                 return Err(Fail::new("another outcome"));
             }
         }

@@ -1,5 +1,5 @@
 //! Scripts beside a second file.
-use crate::fixtures::{Example, check, check_beside};
+use crate::fixtures::{ALONE, Beside, Example, check, check_beside};
 use std::test::Fail;
 
 /// Two copies of a record, and one that only touches the first file's.
@@ -32,7 +32,11 @@ fn views_of_two_files(rt: HostRuntime) -> Result<(), Fail> {
             left: 0,
         },
     ];
-    check_beside(&rt, Some(SECOND), &examples)
+    let beside = Beside {
+        second: Some(SECOND),
+        ..ALONE
+    };
+    check_beside(&rt, beside, &examples)
 }
 
 /// A second file without a record is one too.
@@ -49,7 +53,11 @@ fn second_file_without_a_record(rt: HostRuntime) -> Result<(), Fail> {
         refused: 0,
         left: 1,
     }];
-    check_beside(&rt, Some(b""), &examples)
+    let beside = Beside {
+        second: Some(b""),
+        ..ALONE
+    };
+    check_beside(&rt, beside, &examples)
 }
 
 #[test]

@@ -1,6 +1,8 @@
 //! Several views of a session: opening, closing, printing one and all.
 use crate::fixtures::{Example, Ran, SIZES, check, run, session};
-use iv_session::{DepthRows, IntersectRows, KeptView, ViewFault, ViewWords, WrittenView};
+use iv_session::{
+    DepthRows, FastaRows, IntersectRows, KeptView, ViewFault, ViewWords, WrittenView,
+};
 use std::test::Fail;
 
 #[test]
@@ -157,6 +159,45 @@ fn words_of_written_views(rt: HostRuntime) {
         (&[b"subtract", b"-A"], WrittenView::Subtract(true)),
     ] {
         assert!(rt; view_of(&rt, words) == Ok(ViewWords::Written(want)));
+    }
+}
+
+/// The options of getfasta go together in any order.
+#[test]
+fn words_of_getfasta(rt: HostRuntime) {
+    for (words, stranded, tab) in [
+        ([b"getfasta".as_slice()].as_slice(), false, false),
+        (&[b"getfasta", b"-s"], true, false),
+        (&[b"getfasta", b"-tab"], false, true),
+        (&[b"getfasta", b"-s", b"-tab"], true, true),
+        (&[b"getfasta", b"-tab", b"-s"], true, true),
+    ] {
+        let want = WrittenView::Getfasta(FastaRows { stranded, tab });
+        let read = ViewWords::read(rt.alloc(), 6, false, true, words);
+        assert!(rt; read == Ok(ViewWords::Written(want)));
+    }
+}
+
+/// The first fault of words of getfasta: bad words, then no strands, then no FASTA file.
+#[test]
+fn faults_of_getfasta(rt: HostRuntime) {
+    for (words, width, has_bases, want) in [
+        (
+            [b"getfasta".as_slice()].as_slice(),
+            3,
+            false,
+            ViewFault::NoFasta,
+        ),
+        (&[b"getfasta", b"-s"], 6, false, ViewFault::NoFasta),
+        (&[b"getfasta", b"-s"], 5, false, ViewFault::NoStrand),
+        (&[b"getfasta", b"-tab", b"-s"], 5, true, ViewFault::NoStrand),
+        (&[b"getfasta", b"-s", b"-s"], 5, false, ViewFault::Words),
+        (&[b"getfasta", b"-tab", b"-tab"], 3, true, ViewFault::Words),
+        (&[b"getfasta", b"-name"], 6, false, ViewFault::Words),
+    ] {
+        // A second file is no FASTA file.
+        let read = ViewWords::read(rt.alloc(), width, true, has_bases, words);
+        assert!(rt; read == Err(want));
     }
 }
 

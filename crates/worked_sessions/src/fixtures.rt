@@ -14,7 +14,7 @@ pub(crate) fn session(rt: &HostRuntime, first: &[u8], limit: u32) -> Result<Sess
     }
     let genome = Genome::parse(rt.alloc(), SIZES)?;
     let file = BedFile::parse(rt.alloc(), &genome, 3, limit, first)?;
-    Ok(Session::new(rt.alloc(), genome, file, None, limit)?)
+    Ok(Session::new(rt.alloc(), genome, file, None, None, limit)?)
 }
 
 /// A session of that genome, a BED file and a second one, each of three columns or of its own width.
@@ -30,7 +30,7 @@ pub(crate) fn session_beside(
     let genome = Genome::parse(rt.alloc(), SIZES)?;
     let file = BedFile::parse(rt.alloc(), &genome, 3, limit, first)?;
     let other = BedFile::parse(rt.alloc(), &genome, 3, limit, second)?;
-    Ok(Session::new(rt.alloc(), genome, file, Some(other), limit)?)
+    Ok(Session::new(rt.alloc(), genome, file, Some(other), None, limit)?)
 }
 
 /// An edit by the records of lines.

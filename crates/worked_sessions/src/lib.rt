@@ -2,6 +2,10 @@
 #![tactic(auto)]
 
 #[cfg(test)]
+mod around;
+#[cfg(test)]
+mod bases;
+#[cfg(test)]
 mod fixtures;
 #[cfg(test)]
 mod refusals;

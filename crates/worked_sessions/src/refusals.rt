@@ -102,7 +102,7 @@ fn session_of<'a>(
 ) -> Option<Session<&'a RefusesNth<Global>>> {
     let genome = Genome::parse(alloc, SIZES).ok()?;
     let file = BedFile::parse(alloc, &genome, 4, COUNT, text).ok()?;
-    Session::new(alloc, genome, file, None, COUNT).ok()
+    Session::new(alloc, genome, file, None, None, COUNT).ok()
 }
 
 /// Does each edit of each record. How many of them met the refusal.

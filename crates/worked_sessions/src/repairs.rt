@@ -23,7 +23,7 @@ fn most_steps(around: u32) -> u64 {
 fn with_views(rt: &HostRuntime, text: &[u8]) -> Result<Session, Fail> {
     let genome = Genome::parse(rt.alloc(), b"big\t1000000\n")?;
     let file = BedFile::parse(rt.alloc(), &genome, 3, 2000, text)?;
-    let mut session = Session::new(rt.alloc(), genome, file, None, 2000)?;
+    let mut session = Session::new(rt.alloc(), genome, file, None, None, 2000)?;
     for (name, words) in VIEWS {
         session.open_view(name, words)?;
     }

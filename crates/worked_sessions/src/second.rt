@@ -1,8 +1,8 @@
 //! Sessions beside a second file: views that are written from the records of both.
-use crate::fixtures::{Edit, SIZES, answer, session, session_beside};
-use iv_state::{PrintFault, Session};
-use iv_text::{BedFile, Genome, MemSink};
-use iv_view::ViewFault;
+use crate::around::{Around, print_around_edits, printed};
+use crate::fixtures::{Edit, SIZES, answer, session_beside};
+use iv_state::Session;
+use iv_text::{BedFile, Genome};
 use std::test::Fail;
 
 /// The first file.
@@ -12,7 +12,7 @@ const FIRST: &[u8] = b"chr1\t10\t20\nchr1\t30\t40\n";
 const SECOND: &[u8] = b"chr1\t20\t30\nchr1\t15\t18\nchr1\t15\t18\n";
 
 /// The views that are open: the name and the words of each, and its text before the edits and after them.
-const VIEWS: [(&[u8], &[&[u8]], &[u8], &[u8]); 12] = [
+const VIEWS: [Around<'static>; 12] = [
     (
         b"m",
         &[b"merge"],
@@ -94,73 +94,11 @@ const EDITS: [Edit<'static>; 3] = [
     Edit::Remove(b"chr1\t30\t40"),
 ];
 
-/// What a print of this view, or of all, writes.
-fn printed(
-    rt: &HostRuntime,
-    session: &mut Session,
-    name: Option<&[u8]>,
-) -> Result<MemSink, PrintFault> {
-    let mut sink = MemSink::new(rt.alloc(), 2000, 99)?;
-    match name {
-        Some(name) => session.print_view(name, &mut sink)?,
-        None => session.print_all(&mut sink)?,
-    }
-    Ok(sink)
-}
-
-/// What all views print, before the edits or after them.
-fn all_texts(rt: &HostRuntime, edited: bool) -> Result<Vec<u8>, Fail> {
-    let mut all = Vec::new(rt.alloc());
-    for (name, _, before, after) in VIEWS {
-        all.extend_from_slice(b"#")?;
-        all.extend_from_slice(name)?;
-        all.extend_from_slice(b"\n")?;
-        all.extend_from_slice(if edited { after } else { before })?;
-    }
-    Ok(all)
-}
-
-/// Prints each view, and then all, which must be the texts before the edits or after them; all views are current.
-fn check_prints(rt: &HostRuntime, session: &mut Session, edited: bool) -> Result<(), Fail> {
-    for (name, _, before, after) in VIEWS {
-        let want = if edited { after } else { before };
-        let is_current = session.is_current(name);
-        if !is_current || printed(rt, session, Some(name))?.bytes() != want {
-            return Err(Fail::new("another print of a view"));
-        }
-    }
-    let all = all_texts(rt, edited)?;
-    if printed(rt, session, None)?.bytes() != all.as_slice() {
-        return Err(Fail::new("another print of all views"));
-    }
-    Ok(())
-}
-
-/// Does the edits, none of which leaves a view stale.
-fn edit(session: &mut Session) -> Result<(), Fail> {
-    for edit in EDITS {
-        if answer(session, edit)??.stale != 0 {
-            return Err(Fail::new("a stale view"));
-        }
-    }
-    Ok(())
-}
-
-/// Opens the views, and prints them before the edits and after them.
-fn print_around_edits(rt: &HostRuntime, session: &mut Session) -> Result<(), Fail> {
-    for (name, words, _, _) in VIEWS {
-        session.open_view(name, words)?;
-    }
-    check_prints(rt, session, false)?;
-    edit(session)?;
-    check_prints(rt, session, true)
-}
-
 /// Views of which a state is kept, and views that are written from the records, before and after edits of the track.
 #[test]
 fn views_beside_a_second_file(rt: HostRuntime) -> Result<(), Fail> {
     let mut session = session_beside(&rt, FIRST, SECOND, 9)?;
-    print_around_edits(&rt, &mut session)
+    print_around_edits(&rt, &mut session, &VIEWS, &EDITS)
 }
 
 /// Views of which nothing is kept add no step to an edit.
@@ -175,58 +113,13 @@ fn edits_beside_written_views(rt: HostRuntime) -> Result<(), Fail> {
     Ok(())
 }
 
-/// The fault of opening a view, with a second file or without.
-fn fault_of_opening(
-    rt: &HostRuntime,
-    has_second: bool,
-    words: &[&[u8]],
-) -> Result<Option<ViewFault>, Fail> {
-    let mut session = if has_second {
-        session_beside(rt, FIRST, b"", 9)?
-    } else {
-        session(rt, FIRST, 9)?
-    };
-    Ok(session.open_view(b"i", words).err())
-}
-
-/// Bad words are told before a second file that isn't there.
-#[test]
-fn openings_without_a_second_file(rt: HostRuntime) -> Result<(), Fail> {
-    for (words, want) in [
-        (
-            [b"intersect".as_slice()].as_slice(),
-            Some(ViewFault::NoSecond),
-        ),
-        (&[b"intersect", b"-c", b"-wa"], Some(ViewFault::NoSecond)),
-        (&[b"subtract", b"-A"], Some(ViewFault::NoSecond)),
-        (&[b"merge"], None),
-    ] {
-        assert!(rt; fault_of_opening(&rt, false, words)? == want);
-        assert!(rt; fault_of_opening(&rt, true, words)?.is_none());
-    }
-    for words in [
-        [b"intersect".as_slice(), b"-u", b"-v"].as_slice(),
-        &[b"intersect", b"-c", b"-wb"],
-        &[b"intersect", b"-wa", b"-wa"],
-        &[b"intersect", b"-wa", b"-wb", b"-u"],
-        &[b"intersect", b"-A"],
-        &[b"subtract", b"-wa"],
-        &[b"subtract", b"-A", b"-A"],
-    ] {
-        for has_second in [false, true] {
-            assert!(rt; fault_of_opening(&rt, has_second, words)? == Some(ViewFault::Words));
-        }
-    }
-    Ok(())
-}
-
 /// A session of a file of six columns and a second one of three.
 fn session_of_six(rt: &HostRuntime) -> Result<Session, Fail> {
     let genome = Genome::parse(rt.alloc(), SIZES)?;
     let first = BedFile::parse(rt.alloc(), &genome, 3, 9, b"chr1\t10\t20\tx\t7\t-\n")?;
     let text = b"chr1\t12\t14\nchr1\t13\t16\n";
     let second = BedFile::parse(rt.alloc(), &genome, 3, 9, text)?;
-    Ok(Session::new(rt.alloc(), genome, first, Some(second), 9)?)
+    Ok(Session::new(rt.alloc(), genome, first, Some(second), None, 9)?)
 }
 
 #[test]

@@ -90,7 +90,7 @@ fn session_of_a_file(rt: HostRuntime) -> Result<(), Fail> {
     let genome = Genome::parse(rt.alloc(), SIZES)?;
     let text = b"chr2\t0\t1\nchr1\t10\t20\nchr2\t0\t1\n";
     let file = BedFile::parse(rt.alloc(), &genome, 3, 5, text)?;
-    let session = Session::new(rt.alloc(), genome, file, None, 5)?;
+    let session = Session::new(rt.alloc(), genome, file, None, None, 5)?;
     assert!(rt; session.len() == 3);
     assert!(rt; numbers_of_track(&session) == (3, 3, 5, Some((0, 1, 2))));
     Ok(())
@@ -204,6 +204,7 @@ fn numbers_of_faults(rt: HostRuntime) {
         (ViewFault::Column, 17),
         (ViewFault::NoStrand, 18),
         (ViewFault::NoSecond, 19),
+        (ViewFault::NoFasta, 20),
         (ViewFault::NoMemory, 22),
     ] {
         assert!(rt; fault.code() == code);

@@ -63,7 +63,7 @@ fn session_of(alloc: &RefusesNth<Global>) -> Option<Session<&RefusesNth<Global>>
     let genome = Genome::parse(alloc, SIZES).ok()?;
     let file = BedFile::parse(alloc, &genome, 4, 12, text).ok()?;
     let other = BedFile::parse(alloc, &genome, 4, 12, b"chr1\t15\t35\n").ok()?;
-    Session::new(alloc, genome, file, Some(other), 12).ok()
+    Session::new(alloc, genome, file, Some(other), None, 12).ok()
 }
 
 /// What all views print after the edits.

@@ -1,0 +1,61 @@
+//! What several tests begin with.
+use iv_fasta::Fasta;
+use iv_text::{BedFile, Genome, LoadFault};
+use iv_track::Track;
+use std::alloc::Allocator;
+use std::test::Fail;
+
+/// A genome of three sequences, of 10 bases, of 5 and of none.
+pub(crate) const SIZES: &[u8] = b"s\t10\nu\t5\nz\t0\n";
+
+const LIMIT: u32 = 1_000;
+
+pub(crate) fn genome(rt: &HostRuntime) -> Result<Genome, LoadFault> {
+    Genome::parse(rt.alloc(), SIZES)
+}
+
+/// Whether a FASTA file has just these bases of the sequence of a rank, or lacks it.
+pub(crate) fn has<A: Allocator + Copy>(fasta: &Fasta<A>, seq: u32, want: Option<&[u8]>) -> bool {
+    let length = want.map(|bases| bases.len() as u64);
+    fasta.covers(seq) == want.is_some()
+        && fasta.length(seq) == length
+        && fasta.bases(seq, 0, u64::MAX) == want
+}
+
+/// Whether a FASTA file over that genome has just these bases of its sequences, and of no other rank.
+pub(crate) fn says<A: Allocator + Copy>(fasta: &Fasta<A>, want: [Option<&[u8]>; 3]) -> bool {
+    let [s, u, z] = want;
+    for (seq, bases) in [(0, s), (1, u), (2, z), (3, None), (u32::MAX, None)] {
+        if !has(fasta, seq, bases) {
+            return false;
+        }
+    }
+    true
+}
+
+/// The bases and the records of a run.
+#[derive(Drop)]
+pub(crate) struct Files {
+    pub(crate) genome: Genome,
+    pub(crate) fasta: Fasta,
+    pub(crate) track: Track,
+}
+
+/// What a genome file, a FASTA file and a BED file say.
+pub(crate) fn read_files(
+    rt: &HostRuntime,
+    sizes: &[u8],
+    bases: &[u8],
+    records: &[u8],
+) -> Result<Files, Fail> {
+    let genome = Genome::parse(rt.alloc(), sizes)?;
+    let fasta = Fasta::parse(rt.alloc(), &genome, bases)?;
+    let file = BedFile::parse(rt.alloc(), &genome, 3, LIMIT, records)?;
+    let width = file.width();
+    let track = Track::from_records(rt.alloc(), width, LIMIT, file.into_records())?;
+    Ok(Files {
+        genome,
+        fasta,
+        track,
+    })
+}

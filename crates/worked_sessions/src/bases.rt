@@ -1,0 +1,123 @@
+//! Sessions with a FASTA file: views that show the bases of records.
+use crate::around::{Around, print_around_edits, printed};
+use crate::fixtures::{Edit, answer};
+use iv_fasta::Fasta;
+use iv_state::Session;
+use iv_text::{BedFile, Genome, LoadFault, RecordFault};
+use std::test::Fail;
+
+/// A genome of two sequences, of 10 bases and of 5.
+const SIZES: &[u8] = b"s\t10\nu\t5\n";
+
+/// The bases of the first one.
+const BASES: &[u8] = b">s test\nACGT\nNacg\ntR\n";
+
+/// Records on both.
+const FIRST: &[u8] = b"s\t2\t6\tn\t0\t-\ns\t9\t10\tn\t0\t-\nu\t0\t5\tn\t0\t+\n";
+
+/// The views that are open.
+const VIEWS: [Around<'static>; 6] = [
+    (
+        b"f",
+        &[b"getfasta"],
+        b">s:2-6\nGTNa\n>s:9-10\nR\n",
+        b">s:0-3\nACG\n>s:2-6\nGTNa\n",
+    ),
+    (
+        b"s",
+        &[b"getfasta", b"-s"],
+        b">s:2-6(-)\ntNAC\n>s:9-10(-)\nY\n",
+        b">s:0-3(-)\nCGT\n>s:2-6(.)\nGTNa\n",
+    ),
+    (
+        b"t",
+        &[b"getfasta", b"-tab"],
+        b"s:2-6\tGTNa\ns:9-10\tR\n",
+        b"s:0-3\tACG\ns:2-6\tGTNa\n",
+    ),
+    (
+        b"st",
+        &[b"getfasta", b"-s", b"-tab"],
+        b"s:2-6(-)\ttNAC\ns:9-10(-)\tY\n",
+        b"s:0-3(-)\tCGT\ns:2-6(.)\tGTNa\n",
+    ),
+    (
+        b"ts",
+        &[b"getfasta", b"-tab", b"-s"],
+        b"s:2-6(-)\ttNAC\ns:9-10(-)\tY\n",
+        b"s:0-3(-)\tCGT\ns:2-6(.)\tGTNa\n",
+    ),
+    (
+        b"m",
+        &[b"merge"],
+        b"s\t2\t6\ns\t9\t10\nu\t0\t5\n",
+        b"s\t0\t6\nu\t0\t5\n",
+    ),
+];
+
+/// What is done to the session, each with the record of a line.
+const EDITS: [Edit<'static>; 4] = [
+    Edit::Replace(b"s\t2\t6\tn\t0\t-", b"s\t2\t6\tn\t0\t."),
+    Edit::Add(b"s\t0\t3\tk\t0\t-"),
+    Edit::Remove(b"s\t9\t10\tn\t0\t-"),
+    Edit::Add(b"u\t0\t1\tk\t0\t+"),
+];
+
+/// What a FASTA file says, where there is one.
+fn fasta_of(
+    rt: &HostRuntime,
+    genome: &Genome,
+    bases: Option<&[u8]>,
+) -> Result<Option<Fasta>, LoadFault> {
+    match bases {
+        Some(bases) => Ok(Some(Fasta::parse(rt.alloc(), genome, bases)?)),
+        None => Ok(None),
+    }
+}
+
+/// A session of that genome, a BED file, and a FASTA file or none.
+fn session(rt: &HostRuntime, first: &[u8], bases: Option<&[u8]>) -> Result<Session, Fail> {
+    let genome = Genome::parse(rt.alloc(), SIZES)?;
+    let file = BedFile::parse(rt.alloc(), &genome, 3, 9, first)?;
+    let fasta = fasta_of(rt, &genome, bases)?;
+    Ok(Session::new(rt.alloc(), genome, file, None, fasta, 9)?)
+}
+
+/// Rows before edits of the track and after them; the FASTA file lacks the second sequence.
+#[test]
+fn bases_around_edits(rt: HostRuntime) -> Result<(), Fail> {
+    let mut session = session(&rt, FIRST, Some(BASES))?;
+    print_around_edits(&rt, &mut session, &VIEWS, &EDITS)
+}
+
+/// A record that passes the end of its sequence is refused, and the view prints what it printed before.
+#[test]
+fn bases_behind_a_refused_edit(rt: HostRuntime) -> Result<(), Fail> {
+    let mut session = session(&rt, FIRST, Some(BASES))?;
+    session.open_view(b"f", &[b"getfasta", b"-tab"])?;
+    let edit = answer(&mut session, Edit::Add(b"s\t9\t11\tn\t0\t+")).err();
+    assert!(rt; edit == Some(RecordFault::PastEnd));
+    let sink = printed(&rt, &mut session, Some(b"f"))?;
+    assert!(rt; sink.bytes() == b"s:2-6\tGTNa\ns:9-10\tR\n".as_slice());
+    Ok(())
+}
+
+/// Opens two views, and does the edits, none of which takes more steps than those of the track.
+fn edits_without_steps(session: &mut Session) -> Result<bool, Fail> {
+    session.open_view(b"f", &[b"getfasta"])?;
+    session.open_view(b"s", &[b"getfasta", b"-s"])?;
+    for edit in EDITS {
+        if answer(session, edit)??.steps > 8 {
+            return Ok(false);
+        }
+    }
+    Ok(true)
+}
+
+/// Views of bases add no step to an edit.
+#[test]
+fn edits_beside_bases(rt: HostRuntime) -> Result<(), Fail> {
+    let mut session = session(&rt, FIRST, Some(BASES))?;
+    assert!(rt; edits_without_steps(&mut session)?);
+    Ok(())
+}
