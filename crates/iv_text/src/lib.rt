@@ -19,7 +19,7 @@ mod record_text;
 mod strand;
 mod texts;
 
-pub use bed_file::BedFile;
+pub use bed_file::{BedFile, is_unread, width_for};
 pub use fault::{LoadCause, LoadFault, RecordFault, fault_text, load_text};
 pub use fields::{Fields, columns, split_first_column};
 pub use genome::Genome;
@@ -33,6 +33,7 @@ pub use lines::lines_of;
 pub use number::{read_digits, read_number};
 pub use reading::read_record;
 pub use record::Record;
+pub use record_reader::RecordReader;
 pub use record_ref::RecordRef;
 pub use record_text::{put_record, strand_bytes};
 pub use strand::{Strand, read_strand};

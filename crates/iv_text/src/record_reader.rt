@@ -24,8 +24,10 @@ struct Named<'t> {
 }
 
 /// Reads the records of lines one after another, faster where a line names the sequence of the line before.
+///
+/// Its value is that of its genome: what it answers doesn't depend on the lines that it read.
 #[derive(Drop)]
-pub(crate) struct RecordReader<'g, 't, A: Allocator> {
+pub struct RecordReader<'g, 't, A: Allocator> {
     genome: &'g Genome<A>,
     before: Option<Named<'t>>,
 }
@@ -65,7 +67,7 @@ fn named_by<'t, A: Allocator + Copy>(
 
 impl<'g, 't, A: Allocator + Copy> RecordReader<'g, 't, A> {
     /// A reader of records on this genome.
-    pub(crate) fn new(genome: &'g Genome<A>) -> Self
+    pub fn new(genome: &'g Genome<A>) -> Self
         ensures { result ≡ genome.now }
     {
         RecordReader {
@@ -109,8 +111,9 @@ impl<'g, 't, A: Allocator + Copy> RecordReader<'g, 't, A> {
         })
     }
 
-    /// The record that the next line stands for at a width, or its first fault, as `read_record` answers it.
-    pub(crate) fn read(&mut self, width: u8, line: &'t [u8]) -> Result<RecordRef<'t>, RecordFault>
+    /// The record that the next line stands for at a width, or its first fault, as
+    /// [`read_record`](crate::read_record) answers it. A line behind one of the same sequence is read in one pass.
+    pub fn read(&mut self, width: u8, line: &'t [u8]) -> Result<RecordRef<'t>, RecordFault>
         requires { (3 ≤ width) × (width ≤ 6) }
         ensures same { self.new ≡ self.old }
         ensures value { result ≡ read self.old width line.now }
