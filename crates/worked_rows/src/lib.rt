@@ -15,6 +15,8 @@ mod fixtures;
 #[cfg(test)]
 mod ledgers;
 #[cfg(test)]
+mod places;
+#[cfg(test)]
 mod records;
 #[cfg(test)]
 mod refusals;

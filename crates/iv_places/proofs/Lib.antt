@@ -1,0 +1,3 @@
+pub mod PlaceLemmas
+pub mod ReadingLemmas
+pub mod OrderLemmas

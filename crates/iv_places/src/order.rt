@@ -1,0 +1,49 @@
+//! The order of a track among places of a text.
+ghost use Rattle.std.specs.Prelude.{◌≡◌};
+ghost use Rattle.std.specs.Cmp.Lexicographic.{slice_cmp};
+ghost use Rattle.std.specs.Option.{option_cmp};
+ghost use Rattle.std.specs.Ordering.{nat_cmp, ordering_then};
+ghost use Rattle.iv_text.specs.Row.{beside_cmp, row_cmp, strand_cmp};
+ghost use Rattle.iv_places.specs.Places.{row_at};
+
+use crate::beside::{Beside, beside_of};
+use crate::place::Place;
+use std::cmp::Ordering;
+
+/// Name, score and strand in the order of a track.
+fn compare_columns(first: &Beside<'_>, second: &Beside<'_>) -> Ordering
+    ensures { result ≡ ordering_then (slice_cmp nat_cmp first.now.name.now second.now.name.now) (ordering_then (slice_cmp nat_cmp first.now.score.now second.now.score.now) (option_cmp strand_cmp first.now.strand second.now.strand)) }
+{
+    let scores = first.score.cmp(second.score);
+    let strands = first.strand.cmp(&second.strand);
+    first.name.cmp(second.name).then(scores.then(strands))
+}
+
+/// The records of two places by their columns behind the third. At width 3 no line is looked at.
+fn compare_beside(text: &[u8], width: u8, first: &Place, second: &Place) -> Ordering
+    ensures { result ≡ beside_cmp (row_at width text.now first.now) (row_at width text.now second.now) }
+{
+    if width < 4 {
+        return Ordering::Equal;
+    }
+    compare_columns(
+        &beside_of(text, *first, width),
+        &beside_of(text, *second, width),
+    )
+}
+
+/// The records of two places in the order of a track.
+pub(crate) fn compare(text: &[u8], width: u8, first: &Place, second: &Place) -> Ordering
+    ensures { result ≡ row_cmp (row_at width text.now first.now) (row_at width text.now second.now) }
+{
+    if first.seq != second.seq {
+        return first.seq.cmp(&second.seq);
+    }
+    if first.start != second.start {
+        return first.start.cmp(&second.start);
+    }
+    if first.stop != second.stop {
+        return first.stop.cmp(&second.stop);
+    }
+    compare_beside(text, width, first, second)
+}

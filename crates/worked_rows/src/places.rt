@@ -1,0 +1,309 @@
+//! BED files as places in their text.
+use iv_places::{BedText, TextRecord, TextRecords};
+use iv_text::{BedFile, Genome, LoadCause, LoadFault, Record, RecordFault, Strand};
+use refusing::RefusesNth;
+use std::alloc::{Allocator, Global};
+use std::mem::size_of;
+use std::test::Fail;
+
+/// A genome of three sequences, of 100 bases, of 50 and of a million.
+const SIZES: &[u8] = b"chr1\t100\nchr2\t50\nbig\t1000000\n";
+
+/// The records of a text that is below 4 GiB. An empty one has the width 5.
+fn bed_text<'t, A: Allocator + Copy>(
+    alloc: A,
+    genome: &Genome<A>,
+    limit: u32,
+    text: &'t [u8],
+) -> Result<BedText<'t, A>, LoadFault> {
+    if text.len() >= 4_294_967_296 {
+        return Err(LoadFault::at(1, LoadCause::TooMany));
+    }
+    BedText::parse(alloc, genome, 5, limit, text)
+}
+
+/// What a text says: its width, how many records it has and where the last one lies, or the fault.
+fn file_of(
+    rt: &HostRuntime,
+    genome: &Genome,
+    text: &[u8],
+) -> Result<(u8, usize, u32, u64), LoadFault> {
+    let bed = bed_text(rt.alloc(), genome, 2, text)?;
+    let records = bed.records();
+    let count = records.len();
+    match records.get(count.wrapping_sub(1)) {
+        Some(record) => Ok((bed.width(), count, record.seq(), record.start())),
+        None => Ok((bed.width(), count, 0, 0)),
+    }
+}
+
+#[test]
+fn texts_of_bed_files(rt: HostRuntime) -> Result<(), Fail> {
+    let genome = Genome::parse(rt.alloc(), SIZES)?;
+    for (text, want) in [
+        (b"chr1\t1\t2\nchr2\t3\t50\n".as_slice(), (3, 2, 1, 3)),
+        (b"#c\nchr2\t5\t9\ta\nchr1\t30\t40\tb\n", (4, 2, 0, 30)),
+        (b"chr1\t1\t2\r\nchr1\t7\t8", (3, 2, 0, 7)),
+        (b"", (5, 0, 0, 0)),
+        (b"browser position\n\n", (5, 0, 0, 0)),
+    ] {
+        assert!(rt; file_of(&rt, &genome, text) == Ok(want));
+    }
+    for (text, line, cause) in [
+        (
+            b"track name=x\n#c\n\nchr1\t1\t2\nchr1\t1\t2\ta\n".as_slice(),
+            5,
+            LoadCause::Record(RecordFault::Columns),
+        ),
+        (b"chr1\t1\t2\ta\t5\t+\tx\n", 1, LoadCause::Columns),
+        (
+            b"chr1\t1\t2\nchr1\t1\t2\nchr1\t3\t4\n",
+            3,
+            LoadCause::TooMany,
+        ),
+        (
+            b"chr2\t1\t2\nchr2\t1\t51\n",
+            2,
+            LoadCause::Record(RecordFault::PastEnd),
+        ),
+    ] {
+        assert!(rt; file_of(&rt, &genome, text) == Err(LoadFault { line, cause }));
+    }
+    Ok(())
+}
+
+/// Rank, start and stop, name and score, strand.
+type Cells<'t> = ((u32, u64, u64), (&'t [u8], &'t [u8]), Option<Strand>);
+
+/// Whether the record has these columns, one by one and all at once.
+fn has_cells(record: &TextRecord<'_>, width: u8, cells: Cells<'_>) -> bool {
+    let (place, texts, strand) = cells;
+    let row = record.to_ref();
+    let one_by_one = record.width() == width
+        && (record.seq(), record.start(), record.stop()) == place
+        && (record.name(), record.score()) == texts
+        && record.strand() == strand;
+    let at_once = row.width() == width
+        && (row.seq(), row.start(), row.stop()) == place
+        && (row.name(), row.score()) == texts
+        && row.strand() == strand;
+    one_by_one && at_once
+}
+
+/// Whether the last record of a text has these columns.
+fn last_has(
+    rt: &HostRuntime,
+    genome: &Genome,
+    text: &[u8],
+    width: u8,
+    cells: Cells<'_>,
+) -> Result<bool, LoadFault> {
+    let bed = bed_text(rt.alloc(), genome, 9, text)?;
+    match bed.records().last() {
+        Some(record) => Ok(has_cells(&record, width, cells)),
+        None => Ok(false),
+    }
+}
+
+#[test]
+fn columns_of_text_records(rt: HostRuntime) -> Result<(), Fail> {
+    let genome = Genome::parse(rt.alloc(), SIZES)?;
+    for (text, width, cells) in [
+        (
+            b"#h\nchr1\t1\t2\tx\t1\t+\r\nchr2\t0010\t20\tn\t0.5\t-\r\n".as_slice(),
+            6,
+            (
+                (1, 10, 20),
+                (b"n".as_slice(), b"0.5".as_slice()),
+                Some(Strand::Minus),
+            ),
+        ),
+        (b"chr1\t10\t20\tn\t0", 5, ((0, 10, 20), (b"n", b"0"), None)),
+        (
+            b"chr1\t10\t20\tn m\n\n",
+            4,
+            ((0, 10, 20), (b"n m", b""), None),
+        ),
+        (b"\nchr1\t10\t20\r\n", 3, ((0, 10, 20), (b"", b""), None)),
+    ] {
+        assert!(rt; last_has(&rt, &genome, text, width, cells)?);
+    }
+    Ok(())
+}
+
+/// Records of one place among others, in no order, copies and headers among them.
+const SHUFFLED: &[u8] = b"chr2\t5\t9\tb\t1\t+
+#comment
+chr1\t30\t40\tb\t1\t+
+chr1\t30\t40\tb\t1\t-
+chr1\t30\t40\ta\t9\t.\r
+track
+chr1\t30\t39\tz\t9\t.
+chr1\t30\t40\tb\t0\t+
+chr2\t5\t9\tb\t1\t+
+chr1\t2\t99\tlong name\t1e-9\t+";
+
+/// Whether the records of a text are these records, in order.
+fn are_same(texts: TextRecords<'_>, records: &[Record]) -> bool {
+    if texts.len() != records.len() {
+        return false;
+    }
+    let mut wanted = records.iter();
+    for text in texts {
+        let cells = match wanted.next() {
+            Some(record) => (
+                (record.seq(), record.start(), record.stop()),
+                (record.name(), record.score()),
+                record.strand(),
+            ),
+            None => return false,
+        };
+        if !has_cells(&text, 6, cells) {
+            return false;
+        }
+    }
+    true
+}
+
+/// Whether a text and its parsed file have the same records, in the order of the file and sorted.
+fn sorts_as_its_file(rt: &HostRuntime, genome: &Genome, text: &[u8]) -> Result<bool, Fail> {
+    let mut records = BedFile::parse(rt.alloc(), genome, 5, 9, text)?.into_records();
+    let mut bed = bed_text(rt.alloc(), genome, 9, text)?;
+    let unsorted = are_same(bed.records(), records.as_slice());
+    records.sort()?;
+    bed.sort();
+    Ok(unsorted && are_same(bed.records(), records.as_slice()))
+}
+
+#[test]
+fn records_in_the_order_of_a_track(rt: HostRuntime) -> Result<(), Fail> {
+    let genome = Genome::parse(rt.alloc(), SIZES)?;
+    assert!(rt; sorts_as_its_file(&rt, &genome, SHUFFLED)?);
+    Ok(())
+}
+
+/// The starts of records, as a number with two digits for each.
+fn starts(records: TextRecords<'_>) -> u64 {
+    let mut number = 0u64;
+    for record in records {
+        number = number.wrapping_mul(100).wrapping_add(record.start());
+    }
+    number
+}
+
+/// Whether three records, which start at 11, 22 and 33, are found by each way to them.
+fn are_three(records: TextRecords<'_>) -> bool {
+    if records.len() != 3 || records.is_empty() {
+        return false;
+    }
+    let (front, back) = records.split_at(2);
+    let Some((first, rest)) = records.split_first() else {
+        return false;
+    };
+    let (none, all) = records.split_at(0);
+    first.start() == 11
+        && starts(rest) == 2233
+        && starts(front) == 1122
+        && starts(back) == 33
+        && none.is_empty()
+        && none.split_first().is_none()
+        && starts(all.again()) == 112_233
+        && first.again().stop() == 12
+}
+
+/// Whether places and indexes lead to the same three records.
+fn are_at_indexes(records: &TextRecords<'_>) -> bool {
+    let mut sum = 0u64;
+    for place in records.places() {
+        sum = sum.wrapping_mul(100).wrapping_add(u64::from(place.start));
+    }
+    let second = match records.get(1) {
+        Some(record) => record.start(),
+        None => 0,
+    };
+    let first = match records.first() {
+        Some(record) => record.start(),
+        None => 0,
+    };
+    sum == 112_233 && first == 11 && second == 22 && records.get(3).is_none()
+}
+
+#[test]
+fn ways_to_the_records(rt: HostRuntime) -> Result<(), Fail> {
+    let genome = Genome::parse(rt.alloc(), SIZES)?;
+    let text = b"chr1\t11\t12\nchr1\t22\t23\n\nchr2\t33\t34\n".as_slice();
+    let bed = bed_text(rt.alloc(), &genome, 9, text)?;
+    assert!(rt; are_three(bed.records()));
+    assert!(rt; are_at_indexes(&bed.records()));
+    Ok(())
+}
+
+#[test]
+fn a_place_takes_16_bytes(rt: HostRuntime) {
+    assert_eq!(rt; size_of::<iv_places::Place>(), 16);
+}
+
+/// How many records are many.
+const MANY: u32 = 100_000;
+
+/// A BED file of one record at each tenth start, the last one first.
+fn many_lines(rt: &HostRuntime) -> Result<String, Fail> {
+    let mut text = String::new(rt.alloc());
+    for number in 0..MANY {
+        let start = 10 * u64::from(MANY - 1 - number);
+        text.push_str(format!(in rt.alloc(); "big\t{start}\t{}\n", start + 5)?.as_str())?;
+    }
+    Ok(text)
+}
+
+/// Whether the records are one at each tenth start.
+fn are_many(records: TextRecords<'_>) -> bool {
+    let mut start = 0u64;
+    let count = records.len();
+    for record in records {
+        if record.start() != start || record.stop() != start.wrapping_add(5) {
+            return false;
+        }
+        start = start.wrapping_add(10);
+    }
+    count == MANY as usize
+}
+
+#[test]
+fn many_records_of_a_text(rt: HostRuntime) -> Result<(), Fail> {
+    let genome = Genome::parse(rt.alloc(), SIZES)?;
+    let text = many_lines(&rt)?;
+    let mut bed = bed_text(rt.alloc(), &genome, MANY, text.as_bytes())?;
+    bed.sort();
+    assert!(rt; are_many(bed.records()));
+    Ok(())
+}
+
+/// Whether a text is read while one growth may be refused: its fault is then want of memory, at line 0.
+fn is_read(alloc: &RefusesNth<Global>, text: &[u8]) -> Result<bool, Fail> {
+    let Ok(genome) = Genome::parse(alloc, SIZES) else {
+        return Ok(false);
+    };
+    match bed_text(alloc, &genome, MANY, text) {
+        Ok(bed) => Ok(bed.records().len() == 40),
+        Err(fault) if fault == LoadFault::at(7, LoadCause::Memory) && fault.line == 0 => Ok(false),
+        Err(_) => Err(Fail::new("another fault")),
+    }
+}
+
+#[test]
+fn each_growth_of_places_refused(rt: HostRuntime) -> Result<(), Fail> {
+    let text = many_lines(&rt)?;
+    let lines = &text.as_bytes()[..text.len().min(40 * 18)];
+    let mut refused = 0u32;
+    for number in 1..100u64 {
+        let alloc = RefusesNth::new(rt.alloc(), number);
+        if is_read(&alloc, lines)? {
+            assert!(rt; !alloc.has_refused());
+            break;
+        }
+        refused = refused.saturating_add(1);
+    }
+    assert!(rt; refused > 2 && refused < 99);
+    Ok(())
+}
