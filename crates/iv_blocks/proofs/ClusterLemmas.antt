@@ -1,13 +1,12 @@
 -- The numbers of the records' blocks.
-use Rattle.std.proofs.Common.{◌≡◌, ℕ, zero, suc, ◌+◌, ◌<◌, ◌≤◌, ◌++◌, ◌==◌, ◌&&◌, ◌||◌, nat_le, nat_lt, Bool, true, false, List, [], ◌∷◌, map, filter, length, Option, Some, None, refl, sym, ◌∙◌, ap, ap₂, subst, inl, inr, arith, All, append_assoc, append-nil, length-append, eqb-true, ltb-true, leb-true}
+use Rattle.std.proofs.Common.{◌≡◌, ℕ, zero, suc, ◌+◌, ◌<◌, ◌≤◌, ◌++◌, ◌==◌, ◌&&◌, nat_le, nat_lt, Bool, true, false, List, [], ◌∷◌, map, length, Option, Some, None, refl, sym, ◌∙◌, ap, subst, inl, inr, arith, All, append_assoc, append-nil, length-append, eqb-true, ltb-true, leb-true}
 use Rattle.std.specs.Option.{option_map}
 use Rattle.std.specs.Prelude.{codes, decimal, sum}
-use Rattle.std.specs.declared.cmp.Ordering.{Ordering}
-use Rattle.std.specs.declared.cmp.Ordering.TheVariants.{Less, Equal, Greater}
+use Rattle.std.specs.declared.cmp.Ordering.TheVariants.{Equal, Greater}
 use Rattle.std.specs.List.{flat_map, take_while, prefix_len, range_with_len, sum_by, AllByRecursion}
 use Rattle.std.specs.Ordering.{is_le, nat_cmp, bool_cmp, ordering_then}
 use Rattle.std.specs.Cmp.{nat_cmp_is, nat_cmp_total, tied_itself}
-use Rattle.std.proofs.lemmas.Bool.{and_from, and_parts, or_cases, or_left, or_right, false_from_ne_true, lt-ltb, le-leb, eq-eqb, cases_lt}
+use Rattle.std.proofs.lemmas.Bool.{and_from, and_parts, or_cases, or_left, or_right, false_from_ne_true, lt-ltb, le-leb, eq-eqb}
 use Rattle.std.proofs.Math.Bool.{and-true}
 use Rattle.std.proofs.lemmas.List.{map-append, length-map, take-append-drop}
 use Rattle.std.proofs.lemmas.List.Concat.{length-flat_map}
@@ -25,7 +24,7 @@ use Rattle.iv_cover.proofs.Groups.{mem-append}
 use Rattle.iv_cover.proofs.Merging.{Precedes, precedes-from}
 use Rattle.iv_cover.proofs.Tests.{Mem, filter-agree, mem-filter}
 use Rattle.iv_blocks.specs.Ahead.{lies_at, starts_until, drop_while, BeginsElse}
-use Rattle.iv_blocks.specs.ClusterRows.{blocks_before, block_number, cluster_row, cluster_text}
+use Rattle.iv_blocks.specs.ClusterRows.{blocks_before, cluster_row}
 use Rattle.iv_blocks.specs.Groups.{is_in_group, group, listed}
 use Rattle.iv_blocks.specs.KeptBlocks.{Key, Kept, Entries, AreBlocksOf, key_cmp, kept_at, kept_block, name_of}
 use Rattle.iv_blocks.specs.declared.options.Options.{Options}
@@ -180,7 +179,7 @@ past-key s p x v after side = false_from_ne_true _ (λ e. elim (or_cases (nat_lt
       cc
 ])
 
-on-is : (s : ℕ) (rows : List Row) → group false s false rows ≡ on s rows
+pub on-is : (s : ℕ) (rows : List Row) → group false s false rows ≡ on s rows
 on-is s rows = filter-agree (is_in_group false s false) (λ r. r.seq == s) rows (λ q m. and-true (q.seq == s))
 
 module _ (o : Options) (g : Sequences) (width : ℕ) (rows : List Row) (entries : Entries) (right : AreBlocksOf o (names_of g) rows entries) (fit : All (Fits g width) rows)

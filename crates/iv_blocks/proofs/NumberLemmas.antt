@@ -70,11 +70,11 @@ total-rise h m (suc n) low = elim (cases_eq m (suc n)) [
 
 module _ (d : ℕ) (g : Sequences) (rows : List Row) (lie : All (LiesOn g) rows) where
   -- the block that starts at a position of a sequence
-  abbrev at : ℕ → ℕ → Option (ℕ × (ℕ × List Row))
+  abbrev pub at : ℕ → ℕ → Option (ℕ × (ℕ × List Row))
   at s x = option_map (λ b. (x, b)) (block_at start_of stop_of d (on s rows) x)
 
   -- where the block of a record starts
-  abbrev own : Row → ℕ
+  abbrev pub own : Row → ℕ
   own r = home start_of stop_of d (on r.seq rows) r
 
   in-own : (r : Row) → Contains rows r → Mem r (on r.seq rows)
@@ -86,7 +86,7 @@ module _ (d : ℕ) (g : Sequences) (rows : List Row) (lie : All (LiesOn g) rows)
       ap (option_map (λ (b : ℕ × List Row). (own r, b))) (cond-true (is_block_start start_of stop_of d (on r.seq rows) (own r)) _ _ starts)
 
   -- the number on its own sequence
-  own-number : (r : Row) → blocks_before d rows r.seq (r.start + 1) ≡ length (values (at r.seq) (suc (own r)))
+  pub own-number : (r : Row) → blocks_before d rows r.seq (r.start + 1) ≡ length (values (at r.seq) (suc (own r)))
   own-number r = ap (λ n. blocks_before d rows r.seq n) (add-one r.start)
       ∙ ap (λ (l : List (ℕ × (ℕ × List Row))). length l) (blocks-home start_of stop_of d (on r.seq rows) r)
 
@@ -108,7 +108,7 @@ module _ (d : ℕ) (g : Sequences) (rows : List Row) (lie : All (LiesOn g) rows)
       let first = values-grow (at r.seq) 0 (own r) (suc (own r)) _ (omega arith) (omega arith) (own-block r there) in
       omega (arith, within, first, own-number r, total-more h q.seq, total-rise h (suc q.seq) r.seq (omega arith))
 
-  same-home : (s x : ℕ) (r : Row) → Contains (members start_of stop_of d (on s rows) x) r → home start_of stop_of d (on s rows) r ≡ x
+  pub same-home : (s x : ℕ) (r : Row) → Contains (members start_of stop_of d (on s rows) x) r → home start_of stop_of d (on s rows) r ≡ x
   same-home s x r belongs =
       let facts = (member-means start_of stop_of d (on s rows) x r).0 belongs in
       last-is (is_block_start start_of stop_of d (on s rows)) r.start x facts.2 facts.1 (λ k above below. false_from_ne_true _ (facts.3 k above below))

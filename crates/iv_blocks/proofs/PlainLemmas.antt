@@ -1,7 +1,7 @@
 -- The blocks of which nothing is asked, as they are kept.
 use Rattle.std.proofs.Common.{◌≡◌, ℕ, Bool, true, false, List, [], ◌∷◌, ◌++◌, map, length, ◌==◌, ◌&&◌, refl, sym, ◌∙◌, ap, subst, append-nil, All}
 use Rattle.std.specs.Iterator.{Drains}
-use Rattle.std.specs.List.{flat_map, range_with_len, filter}
+use Rattle.std.specs.List.{flat_map, range_with_len}
 use Rattle.std.proofs.lemmas.Iterator.{items_from_drains}
 use Rattle.std.proofs.lemmas.Iterator.Consumers.{YieldsList-from_shown}
 use Rattle.std.proofs.lemmas.List.Elements.{All-weaker}
@@ -15,7 +15,7 @@ use Rattle.iv_cover.proofs.Tests.{filter-agree}
 use Rattle.iv_track.specs.Entries.{IsLedger, value_at}
 use Rattle.iv_summary.specs.Columns.{results_over}
 use Rattle.iv_blocks.specs.Groups.{is_in_group, group, sides, listed}
-use Rattle.iv_blocks.specs.KeptBlocks.{Key, Kept, Entries, key_cmp, kept_at, AreBlocksOf}
+use Rattle.iv_blocks.specs.KeptBlocks.{Key, Entries, key_cmp, kept_at}
 use Rattle.iv_blocks.specs.Plain.{plain_entry, GivesKept}
 use Rattle.iv_blocks.specs.declared.options.Options.{Options}
 use Rattle.iv_blocks.proofs.EntryLemmas.{rank_entries, all_entries}
@@ -26,7 +26,7 @@ use Rattle.iv_blocks.proofs.KeptLemmas.{flat_map-agree, side_blocks, entry_of, s
 pub all-lie : (g : Sequences) (width : ℕ) (rows : List Row) → All (Fits g width) rows → All (LiesOn g) rows
 all-lie g width rows fit = All-weaker (Fits g width) (LiesOn g) (λ r fits. fits.lies) rows fit
 
-map-flat_map : {X Y Z : Type 0} (h : Y → Z) (f : X → List Y) (xs : List X) → map h (flat_map f xs) ≡ flat_map (λ x. map h (f x)) xs
+pub map-flat_map : {X Y Z : Type 0} (h : Y → Z) (f : X → List Y) (xs : List X) → map h (flat_map f xs) ≡ flat_map (λ x. map h (f x)) xs
 map-flat_map h f [] = refl
 map-flat_map h f (x ∷ xs) = map-both (f x) (flat_map f xs) ∙ ap (λ l. map h (f x) ++ l) (map-flat_map h f xs)
   where

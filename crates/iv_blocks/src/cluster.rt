@@ -1,10 +1,9 @@
 //! The rows of a cluster.
-ghost use Rattle.std.specs.Prelude.{◌≡◌, ◌<◌, ◌+◌, ◌^◌, ◌++◌, false, All, length, codes, decimal};
+ghost use Rattle.std.specs.Prelude.{◌≡◌, ◌<◌, ◌+◌, ◌^◌, false, All, length};
 ghost use Rattle.std.specs.List.{take_while};
 ghost use Rattle.iv_bytes.specs.Sinks.{Puts};
 ghost use Rattle.iv_text.specs.Named.{names_of};
 ghost use Rattle.iv_text.specs.Read.{Fits};
-ghost use Rattle.iv_text.specs.RecordText.{record_text};
 ghost use Rattle.iv_track.specs.Steps.{TakesUpTo};
 ghost use Rattle.iv_blocks.specs.Ahead.{starts_until, drop_while, TakesForEach};
 ghost use Rattle.iv_blocks.specs.ClusterRows.{cluster_text};
@@ -12,7 +11,8 @@ ghost use Rattle.iv_blocks.specs.KeptBlocks.{AreBlocksOf};
 
 use crate::ahead::Ahead;
 use crate::blocks::Blocks;
-use iv_text::{Genome, Record, Sink, WriteFault, put_pieces, put_record};
+use crate::rows::put_numbered;
+use iv_text::{Genome, Sink, WriteFault};
 use iv_track::{Meter, Track};
 use std::alloc::Allocator;
 
@@ -39,7 +39,7 @@ pub(crate) fn put_cluster<A: Allocator + Copy, S: Sink>(
     let mut rows = track.walk(0, 0, meter);
     while let Some(row) = rows.next(meter) {
         number += count_until(&mut ahead, row.seq(), row.start(), meter);
-        put_row(row, number, genome, sink)?;
+        put_numbered(&row.as_ref(), number, genome, sink)?;
     }
     Ok(())
 }
@@ -61,25 +61,4 @@ fn count_until<A: Allocator + Copy>(
         count += 1;
     }
     count
-}
-
-/// Puts the row of a record, with this number behind its columns.
-fn put_row<A: Allocator + Copy, S: Sink>(
-    row: &Record<A>,
-    number: u64,
-    genome: &Genome<A>,
-    sink: &mut S,
-) -> Result<(), WriteFault>
-    ensures { Puts (S.state sink.old) (S.state sink.new) result (record_text genome.now row.now ++ codes "\t" ++ decimal number ++ codes "\n") }
-{
-    put_record(sink, genome, &row.as_ref())?;
-    put_number(number, sink)
-}
-
-/// Puts the last column of a row, and the end of the line.
-fn put_number<S: Sink>(number: u64, sink: &mut S) -> Result<(), WriteFault>
-    ensures { Puts (S.state sink.old) (S.state sink.new) result (codes "\t" ++ decimal number ++ codes "\n") }
-{
-    let mut text = itoa::Buffer::new();
-    put_pieces(sink, &[b"\t", text.format(number).as_bytes(), b"\n"])
 }

@@ -6,13 +6,14 @@ ghost use Rattle.iv_text.specs.Named.{names_of};
 ghost use Rattle.iv_text.specs.Read.{Fits};
 ghost use Rattle.iv_text.specs.Row.{Row};
 ghost use Rattle.iv_track.specs.Steps.{TakesUpTo};
-ghost use Rattle.iv_blocks.specs.Ahead.{gap_between, gaps_between, starts_until, drop_while, TakesForEach};
+ghost use Rattle.iv_blocks.specs.Ahead.{gaps_between, starts_until, drop_while, TakesForEach};
 ghost use Rattle.iv_blocks.specs.KeptBlocks.{AreBlocksOf};
 ghost use Rattle.iv_blocks.specs.ComplementRows.{gap_row, complement_text};
 
 use crate::ahead::Ahead;
 use crate::blocks::Blocks;
-use iv_text::{Genome, Sink, WriteFault, put_pieces};
+use crate::rows::put_gap;
+use iv_text::{Genome, Sink, WriteFault};
 use iv_track::Meter;
 use std::alloc::Allocator;
 
@@ -65,26 +66,4 @@ fn put_sequence<A: Allocator + Copy, S: Sink>(
         return Ok(());
     }
     put_gap(name, start, length, sink)
-}
-
-/// Puts the row of a gap, if it has a position: name, start and stop.
-fn put_gap<S: Sink>(name: &[u8], start: u64, stop: u64, sink: &mut S) -> Result<(), WriteFault>
-    ensures { Puts (S.state sink.old) (S.state sink.new) result (flat_map (gap_row name.now) (gap_between start stop)) }
-{
-    if start >= stop {
-        return Ok(());
-    }
-    let mut starts = itoa::Buffer::new();
-    let mut stops = itoa::Buffer::new();
-    put_pieces(
-        sink,
-        &[
-            name,
-            b"\t",
-            starts.format(start).as_bytes(),
-            b"\t",
-            stops.format(stop).as_bytes(),
-            b"\n",
-        ],
-    )
 }

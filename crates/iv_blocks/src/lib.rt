@@ -18,9 +18,11 @@ mod options;
 mod plain;
 mod putting;
 mod repair;
+mod rows;
 
 pub use cluster_view::ClusterView;
 pub use complement_view::ComplementView;
 pub use laws::{gaps_are_maximal, numbers_are_of_blocks};
 pub use merge_view::MergeView;
 pub use options::{Options, Summaries};
+pub use rows::{put_gap, put_interval, put_numbered};

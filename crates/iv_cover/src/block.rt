@@ -25,23 +25,22 @@ impl Block {
         }
     }
 
-    /// Whether the record is on the block's sequence and starts at most `distance` bases past its stop.
-    pub(crate) fn is_joined_by<A: Allocator>(self, next: &Record<A>, distance: u32) -> bool
-        ensures { result ≡ ((next.now.seq == self.sequence) && nat_le next.now.start (self.stop + distance)) }
+    /// Whether a block of one record is on this block's sequence and starts at most `distance` bases past its stop.
+    pub fn is_joined_by(self, next: Block, distance: u32) -> bool
+        ensures { result ≡ ((next.sequence == self.sequence) && nat_le next.start (self.stop + distance)) }
     {
-        let gap = next.start().saturating_sub(u64::from(self.stop));
-        next.seq() == self.sequence && gap <= u64::from(distance)
+        let gap = next.start.saturating_sub(self.stop);
+        next.sequence == self.sequence && gap <= distance
     }
 
-    /// The block with one more record, which starts no earlier: it stops where the later of the two does.
-    pub(crate) fn with<A: Allocator>(self, next: &Record<A>) -> Block
-        ensures { result ≡ record { sequence = self.sequence; start = self.start; stop = max self.stop next.now.stop } }
+    /// The block with a block of one record, which starts no earlier: it stops where the later of the two does.
+    pub fn with(self, next: Block) -> Block
+        ensures { result ≡ record { sequence = self.sequence; start = self.start; stop = max self.stop next.stop } }
     {
-        next.law_of_place();
         Block {
             sequence: self.sequence,
             start: self.start,
-            stop: self.stop.max(next.stop() as u32),
+            stop: self.stop.max(next.stop),
         }
     }
 }

@@ -59,11 +59,12 @@ impl<'a, A: Allocator + Copy> Blocks<'a, A> {
         };
         let mut block = Block::of(first);
         while let Some(record) = self.rows.next(meter) {
-            if !block.is_joined_by(record, self.distance) {
+            let next = Block::of(record);
+            if !block.is_joined_by(next, self.distance) {
                 self.ahead = Some(record);
                 return Some(block);
             }
-            block = block.with(record);
+            block = block.with(next);
         }
         Some(block)
     }

@@ -11,3 +11,4 @@ mod printing;
 pub use depth::Depth;
 pub use depth_rows::DepthRows;
 pub use laws::{covered_rows_hold_covered_positions, depth_rows_tile_a_sequence};
+pub use printing::put_stretch;

@@ -14,8 +14,14 @@ use iv_text::{Genome, Sink, WriteFault, put_pieces};
 use iv_track::Meter;
 use std::alloc::Allocator;
 
-/// Puts the rows of the positions from `start` to `stop`, not included, which are all of this depth.
-pub(crate) fn put_stretch<S: Sink>(
+/// Puts the rows of the positions from `start` to `stop`, 0-based and half-open, which are all of this depth.
+///
+/// There are none where `stop` is not behind `start`.
+///
+/// # Errors
+///
+/// The sink failed. It has taken a prefix of the rows.
+pub fn put_stretch<S: Sink>(
     shown: DepthRows,
     name: &[u8],
     start: u64,

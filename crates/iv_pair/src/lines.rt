@@ -9,8 +9,10 @@ use crate::hits::Hits;
 use iv_text::{Genome, Record, RecordRef, Sink, WriteFault, put_all, put_pieces, put_record};
 use std::alloc::Allocator;
 
-/// Puts the line of a record.
-pub(crate) fn put_line<A: Allocator + Copy, S: Sink>(
+/// Puts the line of a record: its columns and a line feed.
+///
+/// On a fault the sink has taken a prefix of the line.
+pub fn put_line<A: Allocator + Copy, S: Sink>(
     genome: &Genome<A>,
     row: &RecordRef<'_>,
     sink: &mut S,
@@ -22,7 +24,9 @@ pub(crate) fn put_line<A: Allocator + Copy, S: Sink>(
 }
 
 /// Puts the line of a record with another behind it.
-pub(crate) fn put_pair<A: Allocator + Copy, S: Sink>(
+///
+/// On a fault the sink has taken a prefix of the line.
+pub fn put_pair<A: Allocator + Copy, S: Sink>(
     genome: &Genome<A>,
     row: &RecordRef<'_>,
     hit: &RecordRef<'_>,
@@ -105,9 +109,22 @@ pub(crate) fn put_count<A: Allocator + Copy, S: Sink>(
 ) -> Result<(), WriteFault>
     ensures { Puts (S.state sink.old) (S.state sink.new) result (record_text genome.now row.now ++ (codes "\t" ++ (decimal (length hits.entry) ++ codes "\n"))) }
 {
-    let count = count_of(hits);
-    put_record(sink, genome, &row.as_ref())?;
-    put_number(count, sink)
+    put_counted(genome, &row.as_ref(), count_of(hits), sink)
+}
+
+/// Puts the line of a record with a number behind it.
+///
+/// On a fault the sink has taken a prefix of the line.
+pub fn put_counted<A: Allocator + Copy, S: Sink>(
+    genome: &Genome<A>,
+    row: &RecordRef<'_>,
+    number: u64,
+    sink: &mut S,
+) -> Result<(), WriteFault>
+    ensures { Puts (S.state sink.old) (S.state sink.new) result (record_text genome.now row.now ++ (codes "\t" ++ (decimal number ++ codes "\n"))) }
+{
+    put_record(sink, genome, row)?;
+    put_number(number, sink)
 }
 
 /// How many hits are left.

@@ -48,17 +48,18 @@ loop-row-preserved g c =
     let number = number-is c.loop-row.number c.count_until-number.result _ c.loop-row.ahead c.count_until-number.new.ahead c.loop-row.rows c.next.new.self r i.passed first counted past in
     let next = rows-next c.args.blocks.now.options c.args.genome.now c.args.track.now.width c.args.track.now.rows c.args.blocks.now.entries c.requires.right c.requires.fit c.requires.together
     c.loop-row.rows c.next.new.self r (c.loop-row.number + c.count_until-number.result) first number in
+    let row : c.as_ref.result ≡ r = c.as_ref.ensures in
     let sorted : AreInOrder (r ∷ c.next.new.self) = subst (λ (l : List Row). AreInOrder l) first i.ordered in
     record {
-      put = Underway-more _ _ _ _ _ _ (rw next at i.put) c.in_ok-put_row.ensures;
+      put = Underway-more _ _ _ _ _ _ (rw next at i.put) (rw row at c.in_ok-put_numbered.ensures);
       ordered = sorted.1;
       passed = IsPassed-next c.loop-row.number c.count_until-number.result _ c.loop-row.ahead c.count_until-number.new.ahead c.loop-row.rows c.next.new.self r i.passed first counted past i.ordered;
       no_less = omega (arith, i.no_less, c.in-Some.ensures.steps, c.count_until-number.ensures.steps);
       at_most = omega (arith, i.at_most, c.in-Some.ensures.steps, c.count_until-number.ensures.steps, ap (λ (l : List Row). length l) first);
     }
 
-pub returns-in_err-put_row-clause-text : goal.returns-in_err-put_row-clause-text
-returns-in_err-put_row-clause-text g c =
+pub returns-in_err-put_numbered-clause-text : goal.returns-in_err-put_numbered-clause-text
+returns-in_err-put_numbered-clause-text g c =
     let i = c.loop-row.invariant in
     let r = c.in-Some.row.now in
     let first : c.loop-row.rows ≡ r ∷ c.next.new.self = c.in-Some.ensures.row in
@@ -67,5 +68,6 @@ returns-in_err-put_row-clause-text g c =
     let number = number-is c.loop-row.number c.count_until-number.result _ c.loop-row.ahead c.count_until-number.new.ahead c.loop-row.rows c.next.new.self r i.passed first counted past in
     let next = rows-next c.args.blocks.now.options c.args.genome.now c.args.track.now.width c.args.track.now.rows c.args.blocks.now.entries c.requires.right c.requires.fit c.requires.together
     c.loop-row.rows c.next.new.self r (c.loop-row.number + c.count_until-number.result) first number in
+    let row : c.as_ref.result ≡ r = c.as_ref.ensures in
     Puts-err _ _ c.from_residual.result _ c.from_residual.ensures.0
-    (Underway-fails _ _ _ _ _ _ (rw next at i.put) c.in_err-put_row.ensures)
+    (Underway-fails _ _ _ _ _ _ (rw next at i.put) (rw row at c.in_err-put_numbered.ensures))

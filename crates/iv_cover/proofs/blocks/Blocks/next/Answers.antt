@@ -1,4 +1,4 @@
-use Rattle.std.proofs.Common.{◌∙◌, List, [], ◌∷◌, ◌++◌, Some, None, length, sym, ap, arith}
+use Rattle.std.proofs.Common.{◌+◌, ◌==◌, ◌&&◌, nat_le, max, ◌∙◌, List, [], ◌∷◌, ◌++◌, Some, None, length, sym, ap, arith}
 use Rattle.iv_cover.specs.declared.block.Block.{Block}
 use Rattle.iv_cover.specs.Coming.{coming, left}
 use Rattle.iv_cover.specs.TrackBlocks.{Group, with_members}
@@ -41,7 +41,8 @@ returns-then-not-is_joined_by g c =
     let b = with_members c.loop-record.block i.0 in (
       i.0,
       i.1 ∙ ap (coming d (Some b)) c.in-Some-next.ensures.row
-          ∙ coming-parted d b c.in-Some-next.record.now c.next-in-loop-record.new.self (sym c.is_joined_by.ensures ∙ c.if-not-is_joined_by.true),
+          ∙ coming-parted d b c.in-Some-next.record.now c.next-in-loop-record.new.self
+          (sym (c.is_joined_by.ensures ∙ ap (λ (n : Block). (n.sequence == b.sequence) && nat_le n.start (b.stop + d)) c.of-next.ensures) ∙ c.if-not-is_joined_by.true),
     )
 
 pub loop-record-smaller : goal.loop-record-smaller
@@ -56,8 +57,10 @@ loop-record-preserved g c =
     let rest = c.next-in-loop-record.new.self in (
       i.0 ++ r ∷ [],
       i.1 ∙ ap (coming d (Some b)) c.in-Some-next.ensures.row
-          ∙ coming-joined d b r rest (sym c.is_joined_by.ensures ∙ c.if-not-is_joined_by.false)
-          ∙ ap (λ (next : Block). coming d (Some (with_members next (i.0 ++ r ∷ []))) rest) (sym c.with-block.ensures),
+          ∙ coming-joined d b r rest
+          (sym (c.is_joined_by.ensures ∙ ap (λ (n : Block). (n.sequence == b.sequence) && nat_le n.start (b.stop + d)) c.of-next.ensures) ∙ c.if-not-is_joined_by.false)
+          ∙ ap (λ (next : Block). coming d (Some (with_members next (i.0 ++ r ∷ []))) rest)
+          (sym (c.with-block.ensures ∙ ap (λ (n : Block). record { sequence = b.sequence; start = b.start; stop = max b.stop n.stop }) c.of-next.ensures)),
       i.2,
     )
 

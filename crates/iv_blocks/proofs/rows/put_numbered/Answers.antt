@@ -1,17 +1,14 @@
-use Rattle.std.proofs.Common.{◌≡◌}
 use Rattle.iv_bytes.proofs.Putting.{Puts-back, Puts-err, FailsIn-front}
 use Rattle.iv_text.specs.RecordText.{record_text}
 use Rattle.iv_blocks.proofs.ClusterLemmas.{row-parts}
-use Rattle.iv_blocks.proofs.cluster.put_row.Goals as goal
+use Rattle.iv_blocks.proofs.rows.put_numbered.Goals as goal
 
 pub returns-in_err-put_record : goal.returns-in_err-put_record
 returns-in_err-put_record g c =
-    let row : c.as_ref.result ≡ c.args.row.now = c.as_ref.ensures in
     rw (row-parts (record_text c.args.genome.now c.args.row.now) c.args.number)
-    (Puts-err _ _ c.from_residual.result _ c.from_residual.ensures.0 (FailsIn-front _ _ _ _ (rw row at c.in_err-put_record.ensures)))
+    (Puts-err _ _ c.from_residual.result _ c.from_residual.ensures.0 (FailsIn-front _ _ _ _ c.in_err-put_record.ensures))
 
 pub returns : goal.returns
 returns g c =
-    let row : c.as_ref.result ≡ c.args.row.now = c.as_ref.ensures in
     rw (row-parts (record_text c.args.genome.now c.args.row.now) c.args.number)
-    (Puts-back _ _ _ _ _ _ (rw row at c.in_ok-put_record.ensures) c.put_number.ensures)
+    (Puts-back _ _ _ _ _ _ c.in_ok-put_record.ensures c.put_number.ensures)
