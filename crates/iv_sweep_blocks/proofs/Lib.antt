@@ -1,0 +1,4 @@
+pub mod ComingLemmas
+pub mod MergeTexts
+pub mod ComplementTexts
+pub mod ClusterTexts
