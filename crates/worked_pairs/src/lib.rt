@@ -10,4 +10,6 @@ mod refusals;
 #[cfg(test)]
 mod rows;
 #[cfg(test)]
+mod sweeps;
+#[cfg(test)]
 mod walks;

@@ -1,5 +1,6 @@
 //! The rows of intersect and subtract, worked out by hand.
 use crate::fixtures::{genome, second_of, track_of};
+use crate::sweeps::{SweptRows, sweeps};
 use iv_pair::{IntersectRows, print_intersect, print_subtract};
 use iv_text::MemSink;
 use iv_track::Meter;
@@ -77,6 +78,10 @@ fn seven_ways_of_intersect(rt: HostRuntime) -> Result<(), Fail> {
             intersects(&rt, shown, first, second, want)?,
             "at {shown:?}"
         );
+        assert!(rt;
+            sweeps(&rt, SweptRows::Intersect(shown), first, second, want)?,
+            "in a sweep, at {shown:?}"
+        );
     }
     Ok(())
 }
@@ -110,6 +115,10 @@ fn widths_that_differ(rt: HostRuntime) -> Result<(), Fail> {
             intersects(&rt, shown, first, second, want)?,
             "at {shown:?}"
         );
+        assert!(rt;
+            sweeps(&rt, SweptRows::Intersect(shown), first, second, want)?,
+            "in a sweep, at {shown:?}"
+        );
     }
     Ok(())
 }
@@ -132,6 +141,10 @@ fn record_that_begins_long_before(rt: HostRuntime) -> Result<(), Fail> {
         ),
     ] {
         assert!(rt; intersects(&rt, shown, first, LONG, want)?, "at {shown:?}");
+        assert!(rt;
+            sweeps(&rt, SweptRows::Intersect(shown), first, LONG, want)?,
+            "in a sweep, at {shown:?}"
+        );
     }
     assert!(rt; subtracts(&rt, false, first, LONG, b"chr2\t0\t40\nchr2\t45\t50\n")?);
     assert!(rt; subtracts(&rt, true, first, LONG, b"chr2\t0\t40\n")?);
@@ -176,6 +189,16 @@ fn both_ways_of_subtract(rt: HostRuntime) -> Result<(), Fail> {
     ] {
         assert!(rt; subtracts(&rt, false, row, second, uncovered)?);
         assert!(rt; subtracts(&rt, true, row, second, whole)?);
+        assert!(rt;
+            sweeps(
+                &rt,
+                SweptRows::Subtract { whole: false },
+                row,
+                second,
+                uncovered
+            )?
+        );
+        assert!(rt; sweeps(&rt, SweptRows::Subtract { whole: true }, row, second, whole)?);
     }
     Ok(())
 }

@@ -1,0 +1,2 @@
+mod Lying
+mod StepLemmas
