@@ -1,0 +1,3 @@
+pub mod EdgeLemmas
+pub mod SplitLemmas
+pub mod OrderLemmas
