@@ -14,6 +14,10 @@ printf 'chr1\t100\nchr2\t50\n' > sizes
 printf 'chr1\t10\t20\n' > records.bed
 printf 'chr1\t10\t20\nchr1\t1\t101\n' > past_end.bed
 printf 'chr1\t0\t5\n\nchr1\t30\t30\n' > no_base.bed
+printf 'chr2\t5\t9\nchr1\t30\t40\nchr1\t10\t35\n' > unsorted.bed
+printf 'chr1\t12\t18\nchr1\t32\t33\n' > other.bed
+printf 'chr2\t2\t6\tn\t0\t-\n' > strand.bed
+: > empty.bed
 printf '>chr2 fifty\nACGTACGTACGTACGTACGTACGTACGTACGTACGTACGTA\nACGTACGTA\n>chr9\nAC' > bases.fa
 printf '>chr9\nACGT\n>chr8 it has a space\nAC GT\n' > no_base.fa
 printf '>chr9\nACGT\n\n>chr1\nACGT\n' > short.fa
@@ -53,7 +57,7 @@ session -g sizes -i records.bed < refused
 ends 'a refused line' 1 "line 2: end past the sequence's end\n"
 prints 'a refused line' 'chr1\t10\t20\n'
 
-for words in '' 'merge' 'session' 'session -g sizes' 'session -g sizes -i records.bed -width 7' 'session -g sizes -i records.bed -b' 'session -b b -g sizes -i records.bed -b b' 'session -g sizes -b records.bed' 'session -g sizes -i records.bed -fi' 'session -fi f -g sizes -i records.bed -fi f' '--help me' '--help --version' '-help'; do
+for words in '' 'merge' 'merge -i records.bed' 'merge -g sizes -a records.bed' 'merge -g -i records.bed' 'merge -g sizes -i records.bed -L' 'cluster -g sizes -i records.bed -s' 'complement -g sizes -i records.bed -d 1' 'genomecov -g sizes -i records.bed' 'intersect -g sizes -i records.bed -b records.bed' 'intersect -g sizes -a records.bed' 'subtract -g sizes -b records.bed' 'getfasta -g sizes -bed records.bed' 'getfasta -g sizes -i records.bed -fi bases.fa' 'sort -g sizes -i records.bed' '--help sort' '--help merge cluster' 'session' 'session -g sizes' 'session -g sizes -i records.bed -width 7' 'session -g sizes -i records.bed -b' 'session -b b -g sizes -i records.bed -b b' 'session -g sizes -b records.bed' 'session -g sizes -i records.bed -fi' 'session -fi f -g sizes -i records.bed -fi f' '--help me' '--help --version' '-help'; do
     # shellcheck disable=SC2086 # the words are to be parted
     "$program" $words > out 2> err < prints
     ends "words: $words" 2 'bedkeep: bad options\n'
@@ -86,6 +90,43 @@ ends 'a sequence that is too short' 3 'bedkeep: short.fa: line 4: length differs
 session -fi short.fa -b no_base.bed -g sizes -i records.bed < prints
 ends 'a damaged second file comes before a damaged FASTA file' 3 'bedkeep: no_base.bed: line 3: start not below end\n'
 
+shot() { # the words of a run of one subcommand; its standard input is empty
+    "$program" "$@" > out 2> err < /dev/null
+}
+
+# shows NAME STDOUT WORDS..: the run of these words is done and prints this
+shows() {
+    local name=$1 text=$2
+    shift 2
+    shot "$@"
+    ends "$name" 0 ''
+    prints "$name" "$text"
+}
+
+shows 'merge' 'chr1\t10\t40\nchr2\t5\t9\n' merge -g sizes -i unsorted.bed
+shows 'cluster' 'chr1\t10\t35\t1\nchr1\t30\t40\t1\nchr2\t5\t9\t2\n' cluster -i unsorted.bed -d 1 -g sizes
+shows 'complement' 'chr1\t0\t10\nchr1\t20\t100\n' complement -g sizes -L -i records.bed
+shows 'genomecov' 'chr1\t10\t30\t1\nchr1\t30\t35\t2\nchr1\t35\t40\t1\nchr2\t5\t9\t1\n' genomecov -bg -g sizes -i unsorted.bed
+shows 'intersect' 'chr1\t12\t18\nchr1\t32\t33\nchr1\t32\t33\n' intersect -g sizes -a unsorted.bed -b other.bed
+shows 'subtract' 'chr1\t10\t12\nchr1\t18\t20\n' subtract -b other.bed -a records.bed -g sizes
+shows 'getfasta' '>chr2:2-6(-)\nGTAC\n' getfasta -s -g sizes -fi bases.fa -bed strand.bed
+shows 'no record' '' merge -s -g sizes -i empty.bed -width 6
+
+shot merge -g sizes -i records.bed -c 5
+ends 'a column that the records lack' 2 'bedkeep: no such column\n'
+prints 'a column that the records lack' ''
+shot merge -g sizes -i empty.bed -s
+ends 'a strand that the records lack' 2 'bedkeep: strand needs six columns\n'
+shot merge -g sizes -i past_end.bed -c 5
+ends 'a damaged file comes before a column that it lacks' 3 "bedkeep: past_end.bed: line 2: end past the sequence's end\n"
+prints 'a damaged file comes before a column that it lacks' ''
+shot intersect -g sizes -a records.bed -b no_base.bed
+ends 'a damaged second file of intersect' 3 'bedkeep: no_base.bed: line 3: start not below end\n'
+shot getfasta -g sizes -bed records.bed -fi short.fa
+ends 'a damaged FASTA file of getfasta' 3 'bedkeep: short.fa: line 4: length differs from the genome\n'
+shot subtract -g sizes -a none -b no_base.bed
+ends 'a file of subtract that is not there' 4 'bedkeep: none: cannot be read\n'
+
 session -g none -i past_end.bed < prints
 ends 'a file that is not there comes before a damaged one' 4 'bedkeep: none: cannot be read\n'
 session -g sizes -i past_end.bed -b none < prints
@@ -108,6 +149,8 @@ prints 'a line that is too long' ''
 if [ -w /dev/full ]; then
     "$program" session -g sizes -i records.bed < prints > /dev/full 2> err
     ends 'a full device' 4 'bedkeep: output cannot be written\n'
+    "$program" merge -g sizes -i records.bed > /dev/full 2> err
+    ends 'merge on a full device' 4 'bedkeep: output cannot be written\n'
     "$program" --help > /dev/full 2> err
     ends 'help on a full device' 4 'bedkeep: output cannot be written\n'
     "$program" session -g sizes -i records.bed < refused 2> /dev/full > out
@@ -131,6 +174,14 @@ ends 'the help' 0 ''
 for word in 'usage: bedkeep session -g GENOME -i BED' --help --version '-b BED' '-fi FASTA' -width open add remove replace close print printall merge intersect subtract getfasta; do
     if ! grep -q -e "$word" out; then
         echo "the help does not speak of $word" >&2
+        failed=1
+    fi
+done
+for subject in session merge cluster complement genomecov intersect subtract getfasta; do
+    "$program" --help "$subject" > out 2> err
+    ends "the help of $subject" 0 ''
+    if ! grep -q -e "^usage: bedkeep $subject -g GENOME" out; then
+        echo "the help of $subject does not tell how it is used" >&2
         failed=1
     fi
 done

@@ -1,10 +1,13 @@
 //! `bedkeep session -g GENOME -i RECORDS [-b RECORDS] [-fi FASTA]`: keeps a track of records by a script on standard input.
+//! `bedkeep SUBCOMMAND ..`: prints one view of its files.
 //!
 //! It opens files, hands over and exits. What the words mean, how a run ends and what is said of it stands in `iv_cli`.
 #![tactic(auto)]
 
 use iv_bytes::{StdSink, StdSource, put_all};
-use iv_cli::{CliFault, Ending, FileFault, Inputs, Notice, ParsedFiles, Plan, Slot, read_all};
+use iv_cli::{
+    CliFault, Ending, FileFault, Inputs, Notice, ParsedFiles, Plan, Slot, read_all, shot,
+};
 use iv_session::{ScriptLimits, Session, run_script};
 use std::fs::File;
 use std::io::Write;
@@ -66,21 +69,45 @@ fn read_slot(
     }
 }
 
-/// What the files of the plan say.
+/// The bytes of the files of a plan.
+#[derive(Drop)]
+struct FileTexts {
+    sizes: Option<Vec<u8>>,
+    first: Option<Vec<u8>>,
+    other: Option<Vec<u8>>,
+    bases: Option<Vec<u8>>,
+}
+
+impl FileTexts {
+    /// Reads the files that the plan names.
+    fn read(rt: &(impl Files + AllocGlobal), plan: &Plan<'_>) -> Result<FileTexts, Ending> {
+        let sizes = read_slot(rt, plan, Slot::Sizes)?;
+        let first = read_slot(rt, plan, Slot::First)?;
+        let other = read_slot(rt, plan, Slot::Other)?;
+        let bases = read_slot(rt, plan, Slot::Bases)?;
+        Ok(FileTexts {
+            sizes,
+            first,
+            other,
+            bases,
+        })
+    }
+
+    /// The bytes, lent. A plan names the first two files always.
+    fn inputs(&self) -> Inputs<'_> {
+        Inputs {
+            sizes: self.sizes.as_deref().unwrap_or(b""),
+            first: self.first.as_deref().unwrap_or(b""),
+            other: self.other.as_deref(),
+            bases: self.bases.as_deref(),
+        }
+    }
+}
+
+/// What the files of the plan say. Their text is let go.
 fn files_of(rt: &(impl Files + AllocGlobal), plan: &Plan<'_>) -> Result<ParsedFiles, Ending> {
-    let sizes = read_slot(rt, plan, Slot::Sizes)?;
-    let first = read_slot(rt, plan, Slot::First)?;
-    let other = read_slot(rt, plan, Slot::Other)?;
-    let bases = read_slot(rt, plan, Slot::Bases)?;
-    let other_text = other.as_deref();
-    let bases_text = bases.as_deref();
-    let inputs = Inputs {
-        sizes: sizes.as_deref().unwrap_or(b""),
-        first: first.as_deref().unwrap_or(b""),
-        other: other_text,
-        bases: bases_text,
-    };
-    Ok(ParsedFiles::parse(rt.alloc(), plan, &inputs, MOST_RECORDS)?)
+    let texts = FileTexts::read(rt, plan)?;
+    Ok(ParsedFiles::parse(rt.alloc(), plan, &texts.inputs(), MOST_RECORDS)?)
 }
 
 /// The session that the plan asks for. The files' text is let go before the track is built from what it says.
@@ -89,7 +116,7 @@ fn session_of(rt: &(impl Files + AllocGlobal), plan: &Plan<'_>) -> Result<Sessio
 }
 
 /// Runs the script on standard input over the session that the plan asks for.
-fn run_plan(rt: &HostRuntime, plan: &Plan<'_>) -> Ending {
+fn run_session(rt: &HostRuntime, plan: &Plan<'_>) -> Ending {
     let mut session = match session_of(rt, plan) {
         Ok(session) => session,
         Err(ending) => return ending,
@@ -105,6 +132,25 @@ fn run_plan(rt: &HostRuntime, plan: &Plan<'_>) -> Ending {
     // The process ends here, and the system takes its memory at once, where a drop would free record by record.
     mem::forget(session);
     Ending::of_run(&done)
+}
+
+/// Prints the view that the plan asks for.
+fn run_shot(rt: &HostRuntime, plan: &Plan<'_>) -> Result<(), Ending> {
+    let texts = FileTexts::read(rt, plan)?;
+    let mut output = StdSink::new(rt.stdout());
+    shot(rt.alloc(), plan, &texts.inputs(), MOST_RECORDS, &mut output)?;
+    Ok(())
+}
+
+/// Does what the plan asks for.
+fn run_plan(rt: &HostRuntime, plan: &Plan<'_>) -> Ending {
+    if plan.is_script() {
+        return run_session(rt, plan);
+    }
+    match run_shot(rt, plan) {
+        Ok(()) => Ending::Done,
+        Err(ending) => ending,
+    }
 }
 
 /// Prints a notice.
@@ -132,7 +178,7 @@ fn run_words(rt: &HostRuntime, words: &[&[u8]]) -> ExitCode {
     if let Some(notice) = Notice::of(words) {
         return exit(rt, flushed(rt, print_notice(rt, notice)), b"");
     }
-    match Plan::read(words) {
+    match Plan::read(rt.alloc(), words) {
         Ok(plan) => {
             let ending = flushed(rt, run_plan(rt, &plan));
             exit(rt, ending, plan.file_meant(ending))

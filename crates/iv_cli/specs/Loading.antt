@@ -9,9 +9,14 @@ use Rattle.iv_text.specs.declared.fault.LoadFault.{LoadFault}
 use Rattle.iv_text.specs.declared.fault.LoadCause.{LoadCause}
 use Rattle.iv_text.specs.declared.fault.LoadCause.TheVariants as cause
 use Rattle.iv_fasta.specs.Fasta as fasta
+use Rattle.iv_view.specs.Views.{view_code}
+use Rattle.iv_view.specs.declared.fault.ViewFault.{ViewFault}
+use Rattle.iv_view.specs.declared.fault.ViewFault.TheVariants as viewing
 use Rattle.iv_state.specs.States.{State, begun}
+use Rattle.iv_state.specs.declared.fault.PrintFault.{PrintFault}
+use Rattle.iv_state.specs.declared.fault.PrintFault.TheVariants as printing
 use Rattle.iv_cli.specs.declared.fault.CliFault.{CliFault}
-use Rattle.iv_cli.specs.declared.fault.CliFault.TheVariants.{Damaged, Memory}
+use Rattle.iv_cli.specs.declared.fault.CliFault.TheVariants.{Words, Damaged, Output, Memory}
 use Rattle.iv_cli.specs.declared.plan.Slot.{Slot}
 use Rattle.iv_cli.specs.declared.plan.Slot.TheVariants.{Sizes, First, Other, Bases}
 
@@ -22,6 +27,17 @@ fault_of other damaged = damaged
 
 abbrev pub damage_of : Slot → LoadFault → CliFault
 damage_of slot f = fault_of f.cause (Damaged slot f)
+
+-- how a fault of a view's words is told: by its number, but want of memory as that
+abbrev pub fault_of_view : ViewFault → CliFault
+fault_of_view viewing.NoMemory = Memory
+fault_of_view why = Words (view_code why)
+
+-- how a fault of a print is told
+abbrev pub fault_of_print : PrintFault → CliFault
+fault_of_print printing.NoMemory = Memory
+fault_of_print printing.Write = Output
+fault_of_print printing.NoView = Words 21
 
 -- what the files of a run say, and how many records each track of them may hold
 pub record Parsed : Type 0 where

@@ -1,10 +1,13 @@
-//! What the settings of a run have said so far.
-ghost use Rattle.std.specs.Prelude.{◌≡◌, Some, None, IfErr, OnOk};
+//! What the words of a run have said so far.
+ghost use Rattle.std.specs.Prelude.{◌≡◌, ◌≤◌, ◌⊎◌, ◌∷◌, [], Some, None, IfOk, IfErr, OnOk, map, length, drop};
 ghost use Rattle.std.specs.Option.{option_copied, option_to_list};
-ghost use Rattle.iv_cli.specs.Words.{option_of as option_of_word, width_of, width_said};
-ghost use Rattle.iv_cli.specs.Drafts.{taken};
+ghost use Rattle.iv_cli.specs.Words.{width_of, width_said, are_view_words as are_words_of_a_view};
+ghost use Rattle.iv_cli.specs.Drafts.{begun_by, drafted, with_value, viewed, has_needed_files};
 
 use crate::fault::CliFault;
+use crate::run::{Run, RunOption};
+use iv_session::{ViewFault, ViewWords};
+use std::alloc::{AllocError, Allocator, Global};
 use std::marker::Model;
 
 /// The fault of words that ask for no run: E16.
@@ -13,39 +16,8 @@ pub(crate) const BAD_WORDS: CliFault = CliFault::Words(16);
 /// The width of a BED file without a record, where none is asked for.
 const USUAL_WIDTH: u8 = 3;
 
-/// An option of a run.
-#[derive(Clone, Copy, Debug, PartialEq, Eq)]
-pub(crate) enum RunOption {
-    /// `-g`: the genome file.
-    Sizes,
-    /// `-i`: the first BED file.
-    First,
-    /// `-b`: the second BED file.
-    Other,
-    /// `-fi`: the FASTA file.
-    Bases,
-    /// `-width`: the width of a BED file without a record.
-    Width,
-}
-
-/// The option that a word is.
-fn option_of(word: &[u8]) -> Option<RunOption>
-    ensures { result ≡ option_of_word word.now }
-{
-    if word == b"-g".as_slice() {
-        Some(RunOption::Sizes)
-    } else if word == b"-i".as_slice() {
-        Some(RunOption::First)
-    } else if word == b"-b".as_slice() {
-        Some(RunOption::Other)
-    } else if word == b"-fi".as_slice() {
-        Some(RunOption::Bases)
-    } else if word == b"-width".as_slice() {
-        Some(RunOption::Width)
-    } else {
-        None
-    }
-}
+/// The greatest width of a BED file.
+const GREATEST_WIDTH: u8 = 6;
 
 /// The width that a value says: one digit from 3 to 6.
 fn read_width(value: &[u8]) -> Option<u8>
@@ -57,62 +29,146 @@ fn read_width(value: &[u8]) -> Option<u8>
     }
 }
 
-/// The values that are given so far.
-#[derive(Debug, Drop)]
-pub(crate) struct Draft<'a> {
-    sizes: Option<&'a [u8]>,
-    first: Option<&'a [u8]>,
-    other: Option<&'a [u8]>,
-    bases: Option<&'a [u8]>,
-    width: Option<&'a [u8]>,
+/// Whether words are those of a view, on records of six columns and beside both files. A session has none.
+pub(crate) fn are_view_words<A: Allocator + Copy>(alloc: A, run: Run, words: &[&[u8]]) -> bool
+    ensures { result ≡ are_words_of_a_view run (map (λ word. word.now) words.now) }
+{
+    match run {
+        Run::Session => words.is_empty(),
+        _ => !matches!(
+            ViewWords::read(alloc, GREATEST_WIDTH, true, true, words),
+            Err(ViewFault::Words)
+        ),
+    }
 }
 
-impl<'a> Model for Draft<'a> {
+/// What is given so far: the values of the options, and the words of the view.
+#[derive(Drop)]
+pub(crate) struct Draft<'a, A: Allocator + Copy = Global> {
+    pub(crate) sizes: Option<&'a [u8]>,
+    pub(crate) first: Option<&'a [u8]>,
+    pub(crate) other: Option<&'a [u8]>,
+    pub(crate) bases: Option<&'a [u8]>,
+    width: Option<&'a [u8]>,
+    pub(crate) view: Vec<&'a [u8], A>,
+}
+
+impl<'a, A: Allocator + Copy> Model for Draft<'a, A> {
+    ghost use Rattle.std.specs.Prelude.{map};
     ghost use Rattle.std.specs.Option.{option_copied};
     ghost use Rattle.iv_cli.specs.Drafts.{Said};
 
     ghost Value = { Said };
 
-    ghost view = { λ d. record { sizes = option_copied d.sizes; first = option_copied d.first; other = option_copied d.other; bases = option_copied d.bases; width = option_copied d.width } };
+    ghost view = { λ d. record { sizes = option_copied d.sizes; first = option_copied d.first; other = option_copied d.other; bases = option_copied d.bases; width = option_copied d.width; view = map (λ word. word.now) d.view.items } };
 }
 
-impl<'a> Draft<'a> {
-    /// Nothing is given.
-    pub(crate) fn new() -> Self
-        ensures { result ≡ record { sizes = None; first = None; other = None; bases = None; width = None } }
+impl<'a, A: Allocator + Copy> Draft<'a, A> {
+    /// What the first word says.
+    pub(crate) fn new(alloc: A, run: Run, word: &'a [u8]) -> Result<Self, CliFault>
+        ensures ok { IfOk result (λ draft. draft ≡ begun_by run word.now) }
+        ensures err { IfErr result (λ fault. fault ≡ CliFault.Memory) }
     {
-        Draft {
+        let mut draft = Draft {
             sizes: None,
             first: None,
             other: None,
             bases: None,
             width: None,
+            view: Vec::new(alloc),
+        };
+        if run != Run::Session {
+            draft.keep(&[word])?;
+        }
+        Ok(draft)
+    }
+
+    /// Keeps more words of the view.
+    fn keep(&mut self, words: &[&'a [u8]]) -> Result<(), AllocError>
+        ensures { OnOk result (self.new ≡ viewed (map (λ word. word.now) words.now) self.old) }
+    {
+        self.view.extend_from_slice(words)?;
+        Ok(())
+    }
+
+    /// Takes all words behind the first.
+    pub(crate) fn take_all(&mut self, run: Run, words: &[&'a [u8]]) -> Result<(), CliFault>
+        ensures ok { OnOk result (drafted run (map (λ word. word.now) words.now) self.old ≡ Some self.new) }
+        ensures err { IfErr result (λ fault. (fault ≡ CliFault.Memory)
+            ⊎ ((fault ≡ CliFault.Words 16) × (drafted run (map (λ word. word.now) words.now) self.old ≡ None))) }
+    {
+        let mut rest = words;
+        'words: while let [word, others @ ..] = rest {
+            let values = self.take(run, word, others)?;
+            rest = &others[values..];
+        }
+        Ok(())
+    }
+
+    /// Takes one more word, and the first of the others where that is its value. It says how many of the others it has
+    /// taken: one or none.
+    fn take(&mut self, run: Run, word: &'a [u8], others: &[&'a [u8]]) -> Result<usize, CliFault>
+        ensures ok { IfOk result (λ values. drafted run (word.now ∷ map (λ word. word.now) others.now) self.old
+            ≡ drafted run (map (λ word. word.now) (drop values others.now)) self.new) }
+        ensures some { IfOk result (λ values. (values ≤ 1) × (values ≤ length others.now)) }
+        ensures err { IfErr result (λ fault. (fault ≡ CliFault.Memory)
+            ⊎ ((fault ≡ CliFault.Words 16) × (drafted run (word.now ∷ map (λ word. word.now) others.now) self.old ≡ None))) }
+    {
+        let Some(value) = others.first() else {
+            return self.take_last(run, word);
+        };
+        match run.option(word) {
+            Some(option) => {
+                self.set(option, value)?;
+                Ok(1)
+            }
+            None if run.takes_value(word) => {
+                self.keep(&[word, value])?;
+                Ok(1)
+            }
+            None => {
+                self.keep(&[word])?;
+                Ok(0)
+            }
         }
     }
 
-    /// Takes one more setting.
-    pub(crate) fn take(&mut self, option: &[u8], value: &'a [u8]) -> Result<(), CliFault>
-        ensures ok { OnOk result (taken self.old option.now value.now ≡ Some self.new) }
-        ensures err { IfErr result (λ fault. (fault ≡ CliFault.Words 16) × (taken self.old option.now value.now ≡ None)) }
+    /// Takes the last word. No others are taken.
+    fn take_last(&mut self, run: Run, word: &'a [u8]) -> Result<usize, CliFault>
+        ensures ok { IfOk result (λ values. (values ≡ 0) × (drafted run (word.now ∷ []) self.old ≡ Some self.new)) }
+        ensures err { IfErr result (λ fault. (fault ≡ CliFault.Memory)
+            ⊎ ((fault ≡ CliFault.Words 16) × (drafted run (word.now ∷ []) self.old ≡ None))) }
     {
-        match option_of(option) {
-            Some(RunOption::Sizes) if self.sizes.is_none() => {
+        if run.option(word).is_some() {
+            return Err(BAD_WORDS);
+        }
+        self.keep(&[word])?;
+        Ok(0)
+    }
+
+    /// Sets the value of an option.
+    fn set(&mut self, option: RunOption, value: &'a [u8]) -> Result<(), CliFault>
+        ensures ok { OnOk result (with_value option value.now self.old ≡ Some self.new) }
+        ensures err { IfErr result (λ fault. (fault ≡ CliFault.Words 16) × (with_value option value.now self.old ≡ None)) }
+    {
+        match option {
+            RunOption::Sizes if self.sizes.is_none() => {
                 self.sizes = Some(value);
                 Ok(())
             }
-            Some(RunOption::First) if self.first.is_none() => {
+            RunOption::First if self.first.is_none() => {
                 self.first = Some(value);
                 Ok(())
             }
-            Some(RunOption::Other) if self.other.is_none() => {
+            RunOption::Other if self.other.is_none() => {
                 self.other = Some(value);
                 Ok(())
             }
-            Some(RunOption::Bases) if self.bases.is_none() => {
+            RunOption::Bases if self.bases.is_none() => {
                 self.bases = Some(value);
                 Ok(())
             }
-            Some(RunOption::Width) if self.width.is_none() => {
+            RunOption::Width if self.width.is_none() => {
                 self.width = Some(value);
                 Ok(())
             }
@@ -120,32 +176,11 @@ impl<'a> Draft<'a> {
         }
     }
 
-    /// The genome file, where it is given.
-    pub(crate) fn sizes(&self) -> Option<&'a [u8]>
-        ensures { option_copied result ≡ self.now.sizes }
+    /// Whether each file is named that this kind of run needs beside the genome and the records.
+    pub(crate) fn has_needed(&self, run: Run) -> bool
+        ensures { result ≡ has_needed_files run self.now }
     {
-        self.sizes
-    }
-
-    /// The first BED file, where it is given.
-    pub(crate) fn first(&self) -> Option<&'a [u8]>
-        ensures { option_copied result ≡ self.now.first }
-    {
-        self.first
-    }
-
-    /// The second BED file, where it is given.
-    pub(crate) fn other(&self) -> Option<&'a [u8]>
-        ensures { option_copied result ≡ self.now.other }
-    {
-        self.other
-    }
-
-    /// The FASTA file, where it is given.
-    pub(crate) fn bases(&self) -> Option<&'a [u8]>
-        ensures { option_copied result ≡ self.now.bases }
-    {
-        self.bases
+        (self.other.is_some() || !run.needs_other()) && (self.bases.is_some() || !run.needs_bases())
     }
 
     /// The width of a BED file without a record, 3 where none is given, and `None` where what is given says none.

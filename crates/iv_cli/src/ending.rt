@@ -9,7 +9,7 @@ use itoa::Buffer;
 use iv_bytes::{Sink, WriteFault, put_pieces};
 use iv_session::{RunCause, RunFault, Summary};
 use iv_text::{LoadFault, fault_text, load_text};
-use std::alloc::AllocError;
+use std::alloc::{AllocError, Allocator};
 use std::io::{self, ErrorKind};
 
 /// How a run ends.
@@ -164,7 +164,7 @@ impl Ending {
     }
 }
 
-impl<'a> Plan<'a> {
+impl<'a, A: Allocator + Copy> Plan<'a, A> {
     /// The name of the file that an ending speaks of, nothing where it speaks of none.
     pub fn file_meant(&self, ending: Ending) -> &'a [u8]
         ensures { result.now ≡ name_meant self.now ending }

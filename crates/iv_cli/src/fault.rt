@@ -1,6 +1,7 @@
 //! Faults of a run.
 use crate::plan::Slot;
-use iv_bytes::ReadFault;
+use iv_bytes::{ReadFault, WriteFault};
+use iv_session::{PrintFault, ViewFault};
 use iv_text::{LoadCause, LoadFault};
 use std::alloc::AllocError;
 use thiserror::Error;
@@ -80,5 +81,46 @@ impl From<(Slot, LoadFault)> for CliFault {
             LoadCause::Memory => CliFault::Memory,
             _ => CliFault::Damaged(slot, fault),
         }
+    }
+}
+
+/// Want of memory, or a fault of the view's words, by its number.
+impl From<ViewFault> for CliFault {
+    ghost use Rattle.std.specs.Prelude.{◌≡◌};
+    ghost use Rattle.iv_cli.specs.Loading.{fault_of_view};
+
+    ghost from_gives = { λ told fault. fault ≡ fault_of_view told };
+
+    fn from(told: ViewFault) -> CliFault {
+        match told {
+            ViewFault::NoMemory => CliFault::Memory,
+            _ => CliFault::Words(told.code()),
+        }
+    }
+}
+
+impl From<PrintFault> for CliFault {
+    ghost use Rattle.std.specs.Prelude.{◌≡◌};
+    ghost use Rattle.iv_cli.specs.Loading.{fault_of_print};
+
+    ghost from_gives = { λ told fault. fault ≡ fault_of_print told };
+
+    fn from(told: PrintFault) -> CliFault {
+        match told {
+            PrintFault::NoMemory => CliFault::Memory,
+            PrintFault::Write => CliFault::Output,
+            PrintFault::NoView => CliFault::Words(21),
+        }
+    }
+}
+
+impl From<WriteFault> for CliFault {
+    ghost use Rattle.std.specs.Prelude.{◌≡◌};
+    ghost use Rattle.iv_cli.specs.declared.fault.CliFault.TheVariants.{Output};
+
+    ghost from_gives = { λ _ fault. fault ≡ Output };
+
+    fn from(_: WriteFault) -> CliFault {
+        CliFault::Output
     }
 }

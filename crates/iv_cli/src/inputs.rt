@@ -91,7 +91,7 @@ impl<A: Allocator + Copy> ParsedFiles<A> {
     /// BED file without a record has the width that the plan says, and each may have at most `limit` records.
     pub fn parse(
         alloc: A,
-        plan: &Plan<'_>,
+        plan: &Plan<'_, A>,
         inputs: &Inputs<'_>,
         limit: u32,
     ) -> Result<ParsedFiles<A>, CliFault>
@@ -150,7 +150,7 @@ impl<A: Allocator + Copy> ParsedFiles<A> {
 /// [`ParsedFiles`] in one, for whom the files' text may stay in memory meanwhile.
 pub fn load<A: Allocator + Copy>(
     alloc: A,
-    plan: &Plan<'_>,
+    plan: &Plan<'_, A>,
     inputs: &Inputs<'_>,
     limit: u32,
 ) -> Result<Session<A>, CliFault>

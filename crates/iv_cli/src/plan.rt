@@ -1,10 +1,13 @@
 //! The words of a run.
-ghost use Rattle.std.specs.Prelude.{◌≡◌, ◌≤◌, map, IfOk, IfErr, List, ℕ};
+ghost use Rattle.std.specs.Prelude.{◌≡◌, ◌≤◌, ◌⊎◌, map, IfOk, IfErr, List, ℕ};
 ghost use Rattle.std.specs.Option.{option_copied};
-ghost use Rattle.iv_cli.specs.Words.{RunPlan, IsPlan, file_of};
+ghost use Rattle.iv_cli.specs.Words.{RunPlan, IsPlan, file_of, is_session};
+ghost use Rattle.iv_cli.specs.Drafts.{Makes};
 
-use crate::draft::{BAD_WORDS, Draft};
+use crate::draft::{BAD_WORDS, Draft, are_view_words};
 use crate::fault::CliFault;
+use crate::run::Run;
+use std::alloc::{Allocator, Global};
 use std::marker::Model;
 
 /// What a file of a run is for.
@@ -21,66 +24,97 @@ pub enum Slot {
 }
 
 /// What the words after the program's name ask for.
-#[derive(Debug, Drop)]
-pub struct Plan<'a> {
+#[derive(Drop)]
+pub struct Plan<'a, A: Allocator + Copy = Global> {
+    run: Run,
     sizes: &'a [u8],
     first: &'a [u8],
     other: Option<&'a [u8]>,
     bases: Option<&'a [u8]>,
     width: u8,
+    view: Vec<&'a [u8], A>,
 }
 
-impl<'a> Model for Plan<'a> {
-    ghost use Rattle.std.specs.Prelude.{◌≤◌};
+impl<'a, A: Allocator + Copy> Model for Plan<'a, A> {
+    ghost use Rattle.std.specs.Prelude.{◌≤◌, map};
     ghost use Rattle.std.specs.Option.{option_copied};
     ghost use Rattle.iv_cli.specs.Words.{RunPlan};
 
     ghost Value = { RunPlan };
 
-    ghost view = { λ p. record { sizes = p.sizes.now; first = p.first.now; other = option_copied p.other; bases = option_copied p.bases; width = p.width } };
+    ghost view = { λ p. record { run = p.run; sizes = p.sizes.now; first = p.first.now; other = option_copied p.other; bases = option_copied p.bases; width = p.width; view = map (λ word. word.now) p.view.items } };
 
     ghost invariant = { λ p. (3 ≤ p.width) × (p.width ≤ 6) };
 }
 
-impl<'a> Plan<'a> {
-    /// What the words after the program's name ask for: `session`, and behind it the options `-g GENOME`,
-    /// `-i RECORDS` and, where they are wanted, `-b RECORDS` for the second file, `-fi FASTA` for the bases and
-    /// `-width N`, in any order, each once. The word after an option is its value, whatever it is; `N` is one digit
-    /// from 3 to 6.
+/// The plan of what the words have said, where that is one.
+fn plan_of<'a, A: Allocator + Copy>(
+    alloc: A,
+    run: Run,
+    draft: Draft<'a, A>,
+) -> Result<Plan<'a, A>, CliFault>
+    ensures ok { IfOk result (λ plan. Makes run draft.entry plan) }
+    ensures err { IfErr result (λ fault. (fault ≡ CliFault.Words 16) × ((plan : RunPlan) → ¬ Makes run draft.entry plan)) }
+{
+    if !draft.has_needed(run) || !are_view_words(alloc, run, draft.view.as_slice()) {
+        return Err(BAD_WORDS);
+    }
+    let width = draft.width();
+    let (Some(sizes), Some(first), Some(width)) = (draft.sizes, draft.first, width) else {
+        return Err(BAD_WORDS);
+    };
+    Ok(Plan {
+        run,
+        sizes,
+        first,
+        other: draft.other,
+        bases: draft.bases,
+        width,
+        view: draft.view,
+    })
+}
+
+impl<'a, A: Allocator + Copy> Plan<'a, A> {
+    /// What the words after the program's name ask for.
     ///
-    /// Any other words are the fault `Words` with the number 16.
-    pub fn read(words: &[&'a [u8]]) -> Result<Plan<'a>, CliFault>
+    /// The first is `session` or a subcommand. Behind it stand, in any order and each once, the options that name files,
+    /// `-width N` where it is wanted, and the options of the subcommand: `-g GENOME` for all; `-i RECORDS`, but for
+    /// `intersect` and `subtract` `-a RECORDS -b RECORDS`, and for `getfasta` `-bed RECORDS -fi FASTA`; a session takes
+    /// `-b` and `-fi` too where they are wanted. The word after an option that takes a value is its value, whatever it is;
+    /// `N` is one digit from 3 to 6.
+    ///
+    /// # Errors
+    ///
+    /// `Words` with the number 16 for any other words, and `Memory`. A fault of the subcommand's options that only the
+    /// width of the records can show is not looked for here.
+    pub fn read(alloc: A, words: &[&'a [u8]]) -> Result<Plan<'a, A>, CliFault>
         ensures ok { IfOk result (λ plan. IsPlan (map (λ word. word.now) words.now) plan) }
-        ensures err { IfErr result (λ fault. (fault ≡ CliFault.Words 16) × ((plan : RunPlan) → ¬ IsPlan (map (λ word. word.now) words.now) plan)) }
+        ensures err { IfErr result (λ fault. (fault ≡ CliFault.Memory)
+            ⊎ ((fault ≡ CliFault.Words 16) × ((plan : RunPlan) → ¬ IsPlan (map (λ word. word.now) words.now) plan))) }
     {
-        let Some((first_word, options)) = words.split_first() else {
+        let Some((word, rest)) = words.split_first() else {
             return Err(BAD_WORDS);
         };
-        if *first_word != b"session".as_slice() {
-            return Err(BAD_WORDS);
-        }
-        let mut draft = Draft::new();
-        let mut rest = options;
-        'settings: while let [option, value, others @ ..] = rest {
-            draft.take(option, value)?;
-            rest = others;
-        }
-        if !rest.is_empty() {
-            return Err(BAD_WORDS);
-        }
-        let (Some(sizes), Some(first)) = (draft.sizes(), draft.first()) else {
+        let Some(run) = Run::of(word) else {
             return Err(BAD_WORDS);
         };
-        let Some(width) = draft.width() else {
-            return Err(BAD_WORDS);
-        };
-        Ok(Plan {
-            sizes,
-            first,
-            other: draft.other(),
-            bases: draft.bases(),
-            width,
-        })
+        let mut draft = Draft::new(alloc, run, word)?;
+        draft.take_all(run, rest)?;
+        plan_of(alloc, run, draft)
+    }
+
+    /// The kind of run.
+    pub fn run(&self) -> Run
+        ensures { result ≡ self.now.run }
+    {
+        self.run
+    }
+
+    /// Whether a script is to be run: in a session, and in no subcommand.
+    pub fn is_script(&self) -> bool
+        ensures { result ≡ is_session self.now.run }
+    {
+        self.run == Run::Session
     }
 
     /// The name of a file, as the words give it.
@@ -101,5 +135,12 @@ impl<'a> Plan<'a> {
         ensures known { (3 ≤ result) × (result ≤ 6) }
     {
         self.width
+    }
+
+    /// The words of the view that is to be printed: the subcommand and its options, in their order. A session has none.
+    pub fn view_words(&self) -> &[&'a [u8]]
+        ensures { map (λ word. word.now) result.now ≡ self.now.view }
+    {
+        self.view.as_slice()
     }
 }

@@ -1,13 +1,15 @@
-//! For tests: an allocator that refuses one growth, and a reader and writer that goes wrong at one call.
+//! For tests: an allocator that refuses one growth, a reader and writer that goes wrong at one call, and words of a line.
 #![tactic(auto)]
 
 ghost use Rattle.std.specs.Prelude.{IfSome, ◌≡◌, ◌<◌};
 
 mod device;
+mod words;
 
 pub use device::{Bad, Device, FAILURES};
 use std::alloc::{AllocError, Allocator};
 use std::cell::Cell;
+pub use words::words_of;
 
 /// Passes every call on to the allocator inside it, but refuses one growth, that of the given number.
 ///

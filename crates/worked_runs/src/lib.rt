@@ -7,3 +7,5 @@ mod reading;
 mod refusals;
 #[cfg(test)]
 mod runs;
+#[cfg(test)]
+mod subcommands;

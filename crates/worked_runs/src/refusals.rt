@@ -19,9 +19,12 @@ fn bed_text(rt: &HostRuntime) -> Result<String, Fail> {
 
 /// How many records the track of the files holds, `None` where memory is refused.
 fn loaded(alloc: &RefusesNth<Global>, inputs: &Inputs<'_>) -> Result<Option<u32>, Fail> {
-    let plan = Plan::read(&[
-        b"session", b"-g", b"g", b"-i", b"a", b"-b", b"b", b"-fi", b"f",
-    ])?;
+    let plan = Plan::read(
+        alloc,
+        &[
+            b"session", b"-g", b"g", b"-i", b"a", b"-b", b"b", b"-fi", b"f",
+        ],
+    )?;
     match load(alloc, &plan, inputs, COUNT) {
         Ok(session) => Ok(Some(session.len())),
         Err(CliFault::Memory) => Ok(None),

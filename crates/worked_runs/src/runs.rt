@@ -1,7 +1,8 @@
 //! Words, files and exit statuses of a run.
 use iv_cli::{CliFault, FileFault, Inputs, Plan, Slot, load, read_all, run_status, status};
 use iv_session::{RunCause, RunFault, Session, Summary};
-use iv_text::{Fields, LoadCause, LoadFault, MemSink, MemSource, RecordFault, Source, StdSource};
+use iv_text::{LoadCause, LoadFault, MemSink, MemSource, RecordFault, Source, StdSource};
+use refusing::words_of;
 use std::test::Fail;
 
 /// What words ask for: the genome file, the records, the second file, the FASTA file, the width.
@@ -9,15 +10,8 @@ type Asked<'a> = (&'a [u8], &'a [u8], Option<&'a [u8]>, Option<&'a [u8]>, u8);
 
 /// What words that stand between spaces ask for, `None` where they are refused.
 fn plan_of<'a>(rt: &HostRuntime, text: &'a [u8]) -> Result<Option<Asked<'a>>, Fail> {
-    let mut words = Vec::new(rt.alloc());
-    let mut fields = Fields::of(text, b' ');
-    for _ in 0..20u32 {
-        let Some(word) = fields.next() else {
-            break;
-        };
-        words.push(word)?;
-    }
-    match Plan::read(words.as_slice()) {
+    let words = words_of(rt.alloc(), text)?;
+    match Plan::read(rt.alloc(), words.as_slice()) {
         Ok(plan) => match (plan.file(Slot::Sizes), plan.file(Slot::First)) {
             (Some(sizes), Some(first)) => {
                 let (other, bases) = (plan.file(Slot::Other), plan.file(Slot::Bases));
@@ -110,7 +104,6 @@ fn words_that_are_no_run(rt: HostRuntime) -> Result<(), Fail> {
         b"session -g g -i",
         b"session -g g -i a -g",
         b"session -g g -i a -g g",
-        b"merge -g g -i a",
         b"session -b g -i a",
         b"session -g g -b b",
         b"session -g g -i a -b",
@@ -120,7 +113,6 @@ fn words_that_are_no_run(rt: HostRuntime) -> Result<(), Fail> {
         b"session -fi f -g g -i a -fi f",
         b"session -g g -fi f",
         b"session -g g -i a -f f",
-        b"getfasta -g g -bed a -fi f",
         b"session -width 3 -g g -width 3 -i a",
         b"session -width 3 -g g -width 3",
         b"session -width 2 -g g -i a",
@@ -131,7 +123,7 @@ fn words_that_are_no_run(rt: HostRuntime) -> Result<(), Fail> {
     ] {
         assert!(rt; plan_of(&rt, words)?.is_none());
     }
-    assert!(rt; Plan::read(&[]).err() == Some(CliFault::Words(16)));
+    assert!(rt; Plan::read(rt.alloc(), &[]).err() == Some(CliFault::Words(16)));
     Ok(())
 }
 
@@ -142,9 +134,12 @@ fn loaded(
     inputs: &Inputs<'_>,
     width: &[u8],
 ) -> Result<Result<(u32, u8), CliFault>, Fail> {
-    let plan = Plan::read(&[
-        b"session", b"-g", b"g", b"-i", b"a", b"-b", b"b", b"-fi", b"f", b"-width", width,
-    ])?;
+    let plan = Plan::read(
+        rt.alloc(),
+        &[
+            b"session", b"-g", b"g", b"-i", b"a", b"-b", b"b", b"-fi", b"f", b"-width", width,
+        ],
+    )?;
     match load(rt.alloc(), &plan, inputs, 2) {
         Ok(session) => Ok(Ok((session.len(), session.track().width()))),
         Err(fault) => Ok(Err(fault)),
@@ -321,7 +316,10 @@ fn session_with_bases(rt: &HostRuntime) -> Result<Session, Fail> {
         other: None,
         bases: Some(b">x only here\nGG\n>s\nACG\nT"),
     };
-    let plan = Plan::read(&[b"session", b"-g", b"g", b"-fi", b"f", b"-i", b"a"])?;
+    let plan = Plan::read(
+        rt.alloc(),
+        &[b"session", b"-g", b"g", b"-fi", b"f", b"-i", b"a"],
+    )?;
     Ok(load(rt.alloc(), &plan, &inputs, 2)?)
 }
 

@@ -1,0 +1,310 @@
+//! Runs of one subcommand on the bytes of their files.
+use iv_cli::{CliFault, Inputs, Plan, Slot, shot};
+use iv_text::{LoadCause, LoadFault, MemSink, RecordFault};
+use refusing::words_of;
+use std::test::Fail;
+
+const GENOME: &[u8] = b"chr1\t100\nchr2\t50\nchr3\t0\n";
+
+/// How many records a file may have.
+const MOST: u32 = 100;
+
+/// A genome of three sequences, and records.
+fn alone(first: &[u8]) -> Inputs<'_> {
+    Inputs {
+        sizes: GENOME,
+        first,
+        other: None,
+        bases: None,
+    }
+}
+
+/// The same, and a second file.
+fn beside<'a>(first: &'a [u8], other: &'a [u8]) -> Inputs<'a> {
+    Inputs {
+        other: Some(other),
+        ..alone(first)
+    }
+}
+
+/// What a run of the plan answers, and what it has printed, into a sink that takes so many bytes.
+fn run(
+    rt: &HostRuntime,
+    plan: &Plan<'_>,
+    inputs: &Inputs<'_>,
+    room: usize,
+) -> Result<(Option<CliFault>, MemSink), Fail> {
+    let mut sink = MemSink::new(rt.alloc(), room, 9)?;
+    let fault = shot(rt.alloc(), plan, inputs, MOST, &mut sink).err();
+    Ok((fault, sink))
+}
+
+/// Whether a run of these words, parted by spaces, ends so and has printed just this.
+fn ends(
+    rt: &HostRuntime,
+    text: &[u8],
+    inputs: &Inputs<'_>,
+    fault: Option<CliFault>,
+    printed: &[u8],
+) -> Result<bool, Fail> {
+    let words = words_of(rt.alloc(), text)?;
+    let plan = Plan::read(rt.alloc(), words.as_slice())?;
+    let (found, sink) = run(rt, &plan, inputs, 1000)?;
+    Ok(found == fault && sink.bytes() == printed)
+}
+
+/// Whether it prints this and is done.
+fn prints(
+    rt: &HostRuntime,
+    text: &[u8],
+    inputs: &Inputs<'_>,
+    printed: &[u8],
+) -> Result<bool, Fail> {
+    ends(rt, text, inputs, None, printed)
+}
+
+/// Whether it ends with the fault, and prints nothing.
+fn is_told(
+    rt: &HostRuntime,
+    text: &[u8],
+    inputs: &Inputs<'_>,
+    fault: CliFault,
+) -> Result<bool, Fail> {
+    ends(rt, text, inputs, Some(fault), b"")
+}
+
+#[test]
+fn merge_and_cluster(rt: HostRuntime) -> Result<(), Fail> {
+    let inputs = alone(b"chr1\t10\t20\nchr1\t20\t30\nchr1\t31\t40\n");
+    assert!(rt;
+        prints(
+            &rt,
+            b"merge -g g -i a",
+            &inputs,
+            b"chr1\t10\t30\nchr1\t31\t40\n"
+        )?
+    );
+    assert!(rt; prints(&rt, b"merge -d 1 -g g -i a", &inputs, b"chr1\t10\t40\n")?);
+    let inputs = alone(b"chr1\t10\t20\nchr1\t20\t30\nchr1\t31\t40\nchr2\t0\t5\n");
+    let rows = b"chr1\t10\t20\t1\nchr1\t20\t30\t1\nchr1\t31\t40\t2\nchr2\t0\t5\t3\n";
+    assert!(rt; prints(&rt, b"cluster -g g -i a", &inputs, rows)?);
+    let rows = b"chr1\t10\t20\t1\nchr1\t20\t30\t1\nchr1\t31\t40\t1\nchr2\t0\t5\t2\n";
+    assert!(rt; prints(&rt, b"cluster -g g -d 1 -i a", &inputs, rows)?);
+    Ok(())
+}
+
+#[test]
+fn merge_of_unsorted_records(rt: HostRuntime) -> Result<(), Fail> {
+    let inputs = alone(b"chr2\t5\t9\nchr1\t30\t40\nchr1\t10\t35\n");
+    assert!(rt;
+        prints(
+            &rt,
+            b"merge -g g -i a",
+            &inputs,
+            b"chr1\t10\t40\nchr2\t5\t9\n"
+        )?
+    );
+    assert!(rt; is_told(&rt, b"merge -g g -i a -c 5", &inputs, CliFault::Words(17))?);
+    Ok(())
+}
+
+#[test]
+fn genomecov(rt: HostRuntime) -> Result<(), Fail> {
+    let both = alone(b"chr1\t10\t20\nchr1\t20\t30\n");
+    assert!(rt; prints(&rt, b"genomecov -g g -i a -bg", &both, b"chr1\t10\t30\t1\n")?);
+    let one = alone(b"chr1\t20\t30\n");
+    assert!(rt; prints(&rt, b"genomecov -bg -g g -i a", &one, b"chr1\t20\t30\t1\n")?);
+    let rows = b"chr1\t0\t20\t0\nchr1\t20\t30\t1\nchr1\t30\t100\t0\nchr2\t0\t50\t0\n";
+    assert!(rt; prints(&rt, b"genomecov -g g -bga -i a", &one, rows)?);
+    Ok(())
+}
+
+#[test]
+fn complement(rt: HostRuntime) -> Result<(), Fail> {
+    let inputs = alone(b"chr1\t0\t10\nchr1\t90\t100\n");
+    assert!(rt;
+        prints(
+            &rt,
+            b"complement -g g -i a",
+            &inputs,
+            b"chr1\t10\t90\nchr2\t0\t50\n"
+        )?
+    );
+    assert!(rt; prints(&rt, b"complement -L -g g -i a", &inputs, b"chr1\t10\t90\n")?);
+    Ok(())
+}
+
+/// A file without a record has the width that the words say.
+#[test]
+fn files_without_a_record(rt: HostRuntime) -> Result<(), Fail> {
+    let inputs = alone(b"");
+    assert!(rt;
+        prints(
+            &rt,
+            b"complement -g g -i a",
+            &inputs,
+            b"chr1\t0\t100\nchr2\t0\t50\n"
+        )?
+    );
+    assert!(rt; prints(&rt, b"complement -g g -i a -L", &inputs, b"")?);
+    assert!(rt; is_told(&rt, b"merge -g g -i a -s", &inputs, CliFault::Words(18))?);
+    assert!(rt; prints(&rt, b"merge -g g -i a -s -width 6", &inputs, b"")?);
+    assert!(rt;
+        is_told(
+            &rt,
+            b"merge -g g -i a -c 5 -width 4",
+            &inputs,
+            CliFault::Words(17)
+        )?
+    );
+    Ok(())
+}
+
+#[test]
+fn intersect(rt: HostRuntime) -> Result<(), Fail> {
+    let inputs = beside(
+        b"chr1\t10\t20\nchr1\t30\t40\n",
+        b"chr1\t20\t30\nchr1\t15\t18\nchr1\t15\t18\n",
+    );
+    for (words, rows) in [
+        (
+            b"intersect -g g -a a -b b".as_slice(),
+            b"chr1\t15\t18\nchr1\t15\t18\n".as_slice(),
+        ),
+        (
+            b"intersect -g g -a a -b b -wa",
+            b"chr1\t10\t20\nchr1\t10\t20\n",
+        ),
+        (
+            b"intersect -g g -a a -b b -wb",
+            b"chr1\t15\t18\tchr1\t15\t18\nchr1\t15\t18\tchr1\t15\t18\n",
+        ),
+        (
+            b"intersect -g g -wa -wb -a a -b b",
+            b"chr1\t10\t20\tchr1\t15\t18\nchr1\t10\t20\tchr1\t15\t18\n",
+        ),
+        (b"intersect -u -g g -a a -b b", b"chr1\t10\t20\n"),
+        (b"intersect -v -g g -a a -b b", b"chr1\t30\t40\n"),
+        (
+            b"intersect -c -wa -g g -a a -b b",
+            b"chr1\t10\t20\t2\nchr1\t30\t40\t0\n",
+        ),
+    ] {
+        assert!(rt; prints(&rt, words, &inputs, rows)?);
+    }
+    Ok(())
+}
+
+#[test]
+fn subtract(rt: HostRuntime) -> Result<(), Fail> {
+    let first = b"chr1\t10\t20\tx\t7\t-\n";
+    let whole = b"chr1\t10\t20\tx\t7\t-\n";
+    let inputs = beside(first, b"chr1\t12\t14\nchr1\t13\t16\n");
+    let rows = b"chr1\t10\t12\tx\t7\t-\nchr1\t16\t20\tx\t7\t-\n";
+    assert!(rt; prints(&rt, b"subtract -g g -a a -b b", &inputs, rows)?);
+    assert!(rt; prints(&rt, b"subtract -g g -a a -b b -A", &inputs, b"")?);
+    let inputs = beside(first, b"chr1\t20\t30\n");
+    assert!(rt; prints(&rt, b"subtract -g g -a a -b b", &inputs, whole)?);
+    assert!(rt; prints(&rt, b"subtract -A -g g -a a -b b", &inputs, whole)?);
+    Ok(())
+}
+
+#[test]
+fn getfasta(rt: HostRuntime) -> Result<(), Fail> {
+    let inputs = Inputs {
+        sizes: b"s\t10\nu\t5\n",
+        first: b"s\t2\t6\tn\t0\t-\ns\t9\t10\tn\t0\t-\nu\t0\t5\tn\t0\t+\n",
+        other: None,
+        bases: Some(b">s test\nACGT\nNacg\ntR"),
+    };
+    for (words, rows) in [
+        (
+            b"getfasta -g g -bed a -fi f".as_slice(),
+            b">s:2-6\nGTNa\n>s:9-10\nR\n".as_slice(),
+        ),
+        (
+            b"getfasta -g g -bed a -fi f -s",
+            b">s:2-6(-)\ntNAC\n>s:9-10(-)\nY\n",
+        ),
+        (
+            b"getfasta -s -g g -tab -bed a -fi f",
+            b"s:2-6(-)\ttNAC\ns:9-10(-)\tY\n",
+        ),
+    ] {
+        assert!(rt; prints(&rt, words, &inputs, rows)?);
+    }
+    let narrow = Inputs {
+        first: b"s\t2\t6\n",
+        ..inputs
+    };
+    assert!(rt;
+        is_told(
+            &rt,
+            b"getfasta -g g -bed a -fi f -s",
+            &narrow,
+            CliFault::Words(18)
+        )?
+    );
+    Ok(())
+}
+
+/// Damage of this file at this line.
+fn damage(slot: Slot, line: u64, cause: LoadCause) -> CliFault {
+    CliFault::Damaged(slot, LoadFault { line, cause })
+}
+
+/// Damage is told before a column that the records lack.
+#[test]
+fn files_that_are_damaged(rt: HostRuntime) -> Result<(), Fail> {
+    let past_end = LoadCause::Record(RecordFault::PastEnd);
+    let first = b"chr1\t1\t2\nchr1\t1\t200\n".as_slice();
+    let fault = damage(Slot::First, 2, past_end);
+    assert!(rt; is_told(&rt, b"merge -g g -i a", &alone(first), fault)?);
+    assert!(rt; is_told(&rt, b"merge -g g -i a -c 5", &alone(first), fault)?);
+    // The first file is damaged too, or alone the second.
+    let inputs = beside(b"chr1\t1\t2\n", first);
+    assert!(rt;
+        is_told(
+            &rt,
+            b"intersect -g g -a a -b b",
+            &beside(first, first),
+            fault
+        )?
+    );
+    let fault = damage(Slot::Other, 2, past_end);
+    assert!(rt; is_told(&rt, b"intersect -g g -a a -b b", &inputs, fault)?);
+    assert!(rt; is_told(&rt, b"subtract -g g -a a -b b", &inputs, fault)?);
+    let inputs = Inputs {
+        bases: Some(b">chr9\nAC GT\n"),
+        ..alone(b"chr1\t1\t2\n")
+    };
+    let fault = damage(Slot::Bases, 2, LoadCause::Base);
+    assert!(rt; is_told(&rt, b"getfasta -g g -bed a -fi f -s", &inputs, fault)?);
+    Ok(())
+}
+
+/// Whether a sink with room for so many bytes takes these, and the run tells of it.
+fn is_cut(
+    rt: &HostRuntime,
+    plan: &Plan<'_>,
+    inputs: &Inputs<'_>,
+    room: usize,
+    printed: &[u8],
+) -> Result<bool, Fail> {
+    let (fault, sink) = run(rt, plan, inputs, room)?;
+    Ok(fault == Some(CliFault::Output) && sink.bytes() == printed)
+}
+
+#[test]
+fn an_output_that_fails(rt: HostRuntime) -> Result<(), Fail> {
+    let inputs = alone(b"chr1\t30\t40\nchr1\t10\t35\nchr2\t5\t9\n");
+    let rows = b"chr1\t10\t40\nchr2\t5\t9\n".as_slice();
+    let plan = Plan::read(rt.alloc(), &[b"merge", b"-g", b"g", b"-i", b"a"])?;
+    for room in 0..rows.len() {
+        assert!(rt;
+            is_cut(&rt, &plan, &inputs, room, &rows[..room])?,
+            "{room} bytes"
+        );
+    }
+    Ok(())
+}
