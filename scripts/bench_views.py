@@ -1,5 +1,5 @@
 #!/usr/bin/env python3
-"""Times a view printed by a session of bedkeep beside bedtools with the same words.
+"""Times a view printed by bedkeep, in a session or alone, beside bedtools with the same words.
 
     make build
     python3 scripts/bench_views.py [FOLDER] [--view WORDS ..] [--records N ..] [--columns N ..] [--order WORD ..]
@@ -14,6 +14,7 @@ outputs are compared; where they differ the script stops with status 1.
 `genomecov -d` runs over one sequence, of 250 bases for each record.
 Intersect and subtract take a second file of `--second` records, with `-sorted`
 on the side of bedtools; with `--long` one more record of it covers all of chr1.
+With `--alone` bedkeep runs the one subcommand, and else a session that opens the view and prints it.
 """
 
 import argparse
@@ -70,7 +71,7 @@ def run_case(wanted, folder, view, records, columns, order):
         in_own_process(write_second, second, wanted.second, wanted.long)
     # each program: its words, and the file that is its standard input
     programs = {
-        "bedkeep": ([wanted.program, "session", "-g", genome, "-i", track, *beside], script),
+        "bedkeep": bedkeep_run(wanted, view, genome, track, beside, script),
         "bedtools": (["sh", "-c", bedtools_line(view, genome, track, second, order)], os.devnull),
     }
     compare(programs)
@@ -82,6 +83,14 @@ def in_own_process(write, *words):
     writer = multiprocessing.get_context("spawn").Process(target=write, args=words)
     writer.start()
     writer.join()
+
+
+def bedkeep_run(wanted, view, genome, track, beside, script):
+    """The words of bedkeep for a view of a track, and the file that is its standard input."""
+    if not wanted.alone:
+        return [wanted.program, "session", "-g", genome, "-i", track, *beside], script
+    first = "-a" if beside else "-i"
+    return [wanted.program, *view.split(), "-g", genome, first, track, *beside], os.devnull
 
 
 def bedtools_line(view, genome, track, second, order):
@@ -101,6 +110,7 @@ def read_words():
     words.add_argument("--columns", type=int, nargs="+", choices=[3, 4, 5, 6], default=[3])
     words.add_argument("--second", type=int, default=200_000, help="records of the second file")
     words.add_argument("--long", action="store_true", help="one more record of the second file covers all of chr1")
+    words.add_argument("--alone", action="store_true", help="a run of the one subcommand in place of a session")
     words.add_argument("--order", nargs="+", choices=["sorted", "shuffled"], default=["sorted"])
     words.add_argument("--runs", type=int, default=7, help="runs of each program")
     words.add_argument("--program", default=os.path.join(TOP, "build", "bedkeep"))
