@@ -1,5 +1,5 @@
 //! One sweep over the records of two texts.
-ghost use Rattle.std.specs.Prelude.{◌≡◌, ◌+◌, ◌≤◌, ◌++◌, [], length, filter, All, IfOk, vec_len, vec_capacity};
+ghost use Rattle.std.specs.Prelude.{◌≡◌, ◌+◌, ◌≤◌, ◌++◌, length, filter, All, IfOk, vec_len, vec_capacity};
 ghost use Rattle.iv_text.specs.Ordered.{AreInOrder};
 ghost use Rattle.iv_sweep_pairs.specs.Pairs.{Gives};
 ghost use Rattle.iv_sweep_pairs.specs.Sweeps.{Covers, HitAlike, reaches};
@@ -138,6 +138,7 @@ fn take_begun<'t, A: Allocator>(
         }
         rest = others;
         if reaches(row, &next) {
+            // There is room for it: `new` took as much as the second list is long.
             let _ = active.push(next);
         }
     }
