@@ -4,6 +4,7 @@ pub mod NamedLemmas
 pub mod ReadLemmas
 pub mod FileLemmas
 pub mod OnePassLemmas
+pub mod ShortLemmas
 pub mod BedLemmas
 pub mod RowLemmas
 pub mod OrderedLemmas

@@ -11,7 +11,7 @@ use Rattle.std.specs.Str.{all_ascii_digits}
 use Rattle.iv_text.specs.Fields.{columns, is_separator}
 use Rattle.iv_text.specs.Number.{number, decimal_from}
 use Rattle.iv_text.specs.Fields.{HasNoTab}
-use Rattle.iv_text.specs.OnePass.{AreBehind, BeginsWithNumber, IsNamed}
+use Rattle.iv_text.specs.OnePass.{AreBehind, BeginsWithNumber, BeginsWithPlace, IsNamed}
 use Rattle.iv_text.specs.declared.strand.Strand.{Strand}
 use Rattle.std.specs.Borrow.{Bor}
 use Rattle.std.specs.Prelude.{MatchOption, IfSome, IsSome}
@@ -31,7 +31,7 @@ pub decimal-more : (n : ℕ) (xs : List ℕ) (b : ℕ) → decimal_from n (xs ++
 decimal-more n [] b = refl
 decimal-more n (x ∷ xs) b = decimal-more (n * 10 + (x - 48)) xs b
 
-and_true : (s t : Bool) → (s && t) ≡ true → (s ≡ true) × (t ≡ true)
+pub and_true : (s t : Bool) → (s && t) ≡ true → (s ≡ true) × (t ≡ true)
 and_true true t h = (refl, h)
 and_true false t h = absurd (false≢true h)
 
@@ -59,16 +59,19 @@ digits-plain (d ∷ ds) all =
     let both = and_true (is_ascii_digit d) (all_ascii_digits ds) all in
     All-cons (λ b. is_separator 9 b ≡ false) d ds (digit-plain d both.0) (digits-plain ds both.1)
 
-pub number-plain : (ds : List ℕ) (n : ℕ) → number ds ≡ Some n → HasNoTab ds
-number-plain ds n is = by (nat_lt 0 (length ds) && nat_lt (length ds) 11 && all_ascii_digits ds) refl
+pub number-digits : (ds : List ℕ) (n : ℕ) → number ds ≡ Some n → all_ascii_digits ds ≡ true
+number-digits ds n is = by (nat_lt 0 (length ds) && nat_lt (length ds) 11 && all_ascii_digits ds) refl
   where
     none_some : (o : Option ℕ) → o ≡ None → o ≡ Some n → ⊥
     none_some None e h = cc
     none_some (Some m) e h = cc
 
-    by : (t : Bool) → (nat_lt 0 (length ds) && nat_lt (length ds) 11 && all_ascii_digits ds) ≡ t → HasNoTab ds
-    by true e = digits-plain ds (and_true (nat_lt 0 (length ds) && nat_lt (length ds) 11) (all_ascii_digits ds) e).1
+    by : (t : Bool) → (nat_lt 0 (length ds) && nat_lt (length ds) 11 && all_ascii_digits ds) ≡ t → all_ascii_digits ds ≡ true
+    by true e = (and_true (nat_lt 0 (length ds) && nat_lt (length ds) 11) (all_ascii_digits ds) e).1
     by false e = absurd (none_some (number ds) (cond-false _ _ _ e) is)
+
+number-plain : (ds : List ℕ) (n : ℕ) → number ds ≡ Some n → HasNoTab ds
+number-plain ds n is = digits-plain ds (number-digits ds n is)
 
 pub digit-bound : (b : ℕ) → is_ascii_digit b ≡ true → b ≤ 57
 digit-bound b is = grind (arith, nat_tests, is)
@@ -106,13 +109,29 @@ named-rest line name None h = tt
 named-rest line name (Some x) h =
     sym (take-append-drop (length name) line) ∙ ap (λ t. t ++ drop (length name) line) (same_text (take (length name) line) name (sym h.0)) ∙ ap (λ t. name ++ t) (sym h.1)
 
-pub next-columns : (line name r0 r1 d1 r2 r3 d2 r4 : List ℕ) (others : List (List ℕ))
-    → line ≡ name ++ r0 → r0 ≡ 9 ∷ r1 → r1 ≡ d1 ++ r2 → r2 ≡ 9 ∷ r3 → r3 ≡ d2 ++ r4 → HasNoTab name → HasNoTab d1 → HasNoTab d2 → AreBehind r4 others
+place-columns : (line name d1 d2 rest : List ℕ) (others : List (List ℕ)) → line ≡ name ++ 9 ∷ (d1 ++ 9 ∷ (d2 ++ rest)) → HasNoTab name → HasNoTab d1 → HasNoTab d2 → AreBehind rest others
     → columns line ≡ name ∷ d1 ∷ d2 ∷ others
-next-columns line name r0 r1 d1 r2 r3 d2 r4 others e0 e1 e2 e3 e4 p0 p1 p2 behind =
-    ap columns (e0 ∙ ap (λ t. name ++ t) e1) ∙ column-more name r1 p0
-    ∙ ap (λ t. name ∷ columns t) (e2 ∙ ap (λ t. d1 ++ t) e3) ∙ ap (λ (cs : List (List ℕ)). name ∷ cs) (column-more d1 r3 p1)
-    ∙ ap (λ t. name ∷ d1 ∷ columns t) e4 ∙ ap (λ (cs : List (List ℕ)). name ∷ d1 ∷ cs) (behind d2 p2)
+place-columns line name d1 d2 rest others whole p0 p1 p2 behind =
+    ap columns whole ∙ column-more name (d1 ++ 9 ∷ (d2 ++ rest)) p0
+    ∙ ap (λ (cs : List (List ℕ)). name ∷ cs) (column-more d1 (d2 ++ rest) p1)
+    ∙ ap (λ (cs : List (List ℕ)). name ∷ d1 ∷ cs) (behind d2 p2)
+
+-- columns that were cut from the front of a text
+pub place-begins : (g : Sequences) (text name r0 r1 r2 r3 rest : List ℕ) (rank from to len : ℕ)
+    → text ≡ name ++ r0 → r0 ≡ 9 ∷ r1 → BeginsWithNumber r1 from r2 → r2 ≡ 9 ∷ r3 → BeginsWithNumber r3 to rest → IsNamed g name rank len → from < to → to ≤ len
+    → BeginsWithPlace g text rank from to rest
+place-begins g text name r0 r1 r2 r3 rest rank from to len e0 e1 starts e2 stops named some within = record {
+  name = name;
+  starts = starts.0;
+  stops = stops.0;
+  len = len;
+  text_is = e0 ∙ ap (λ t. name ++ t) (e1 ∙ ap (λ t. 9 ∷ t) (starts.1 ∙ ap (λ t. starts.0 ++ t) (e2 ∙ ap (λ t. 9 ∷ t) stops.1)));
+  named = named;
+  start_is = starts.2;
+  stop_is = stops.2;
+  some = some;
+  within = within;
+}
 
 -- ---- a line without a fault
 
@@ -181,17 +200,17 @@ row-of w cs seq start stop name score sixth rank from to strand cols strand_is s
 }
 
 -- a line that was cut from its front
-pub line-read : (g : Sequences) (w : ℕ) (line seq r0 r1 r2 r3 r4 name score sixth : List ℕ) (others : List (List ℕ)) (rank from to len : ℕ) (strand : Option Strand)
-    → line ≡ seq ++ r0 → r0 ≡ 9 ∷ r1 → BeginsWithNumber r1 from r2 → r2 ≡ 9 ∷ r3 → BeginsWithNumber r3 to r4 → AreBehind r4 others
-    → ((a b c : List ℕ) → AreColumns w (a ∷ b ∷ c ∷ others) a b c name score sixth)
-    → IsNamed g seq rank len → strand ≡ strand_of sixth → from < to → to ≤ len → AreSound w name score strand
+pub line-read : (g : Sequences) (w : ℕ) (line rest name score sixth : List ℕ) (others : List (List ℕ)) (rank from to : ℕ) (strand : Option Strand)
+    → BeginsWithPlace g line rank from to rest → AreBehind rest others → ((a b c : List ℕ) → AreColumns w (a ∷ b ∷ c ∷ others) a b c name score sixth)
+    → strand ≡ strand_of sixth → AreSound w name score strand
     → read g w line ≡ Ok (record_of rank from to name score strand w)
-line-read g w line seq r0 r1 r2 r3 r4 name score sixth others rank from to len strand e0 e1 starts e2 stops behind are named =
-    let cols = next-columns line seq r0 r1 starts.0 r2 r3 stops.0 r4 others e0 e1 starts.1 e2 stops.1
-    named.plain (number-plain starts.0 from starts.2) (number-plain stops.0 to stops.2) behind in
-    let all : AreColumns w (columns line) seq starts.0 stops.0 name score sixth =
-    subst (λ (cs : List (List ℕ)). AreColumns w cs seq starts.0 stops.0 name score sixth) (sym cols) (are seq starts.0 stops.0) in
-    sound-line g w line seq starts.0 stops.0 name score sixth rank from to len strand all named.rank_is named.length_is starts.2 stops.2
+line-read g w line rest name score sixth others rank from to strand place behind are strand_is sound =
+    let cols = place-columns line place.name place.starts place.stops rest others place.text_is
+    place.named.plain (number-plain place.starts from place.start_is) (number-plain place.stops to place.stop_is) behind in
+    let all : AreColumns w (columns line) place.name place.starts place.stops name score sixth =
+    subst (λ (cs : List (List ℕ)). AreColumns w cs place.name place.starts place.stops name score sixth) (sym cols) (are place.name place.starts place.stops) in
+    sound-line g w line place.name place.starts place.stops name score sixth rank from to place.len strand all place.named.rank_is place.named.length_is place.start_is place.stop_is
+    strand_is place.some place.within sound
 
 -- ---- a line that was read names its record's sequence
 

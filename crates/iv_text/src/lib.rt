@@ -2,6 +2,7 @@
 #![tactic(auto)]
 
 mod bed_file;
+mod bed_record;
 mod bounded_texts;
 mod fault;
 mod fields;
@@ -16,10 +17,13 @@ mod record;
 mod record_reader;
 mod record_ref;
 mod record_text;
+mod row_tail;
+mod short_line;
 mod strand;
 mod texts;
 
 pub use bed_file::{BedFile, is_unread, width_for};
+pub use bed_record::BedRecord;
 pub use fault::{LoadCause, LoadFault, RecordFault, fault_text, load_text};
 pub use fields::{Fields, columns, split_first_column};
 pub use genome::Genome;
@@ -35,5 +39,7 @@ pub use reading::read_record;
 pub use record::Record;
 pub use record_reader::RecordReader;
 pub use record_ref::RecordRef;
-pub use record_text::{put_record, strand_bytes};
+pub use record_text::{put_line, put_numbered, put_record, put_row, strand_bytes};
+pub use row_tail::RowTail;
+pub use short_line::ShortLine;
 pub use strand::{Strand, read_strand};

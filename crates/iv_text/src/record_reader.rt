@@ -3,15 +3,20 @@ ghost use Rattle.std.specs.Prelude.{◌≡◌, ◌≤◌, ◌++◌, None, Some, 
 ghost use Rattle.iv_text.specs.Fields.{columns as columns_of};
 ghost use Rattle.iv_text.specs.Genome.{rank_of};
 ghost use Rattle.iv_text.specs.Read.{read, column, Fits};
-ghost use Rattle.iv_text.specs.OnePass.{IsNamed};
+ghost use Rattle.iv_text.specs.ShortLine.{IsShortLine};
+ghost use Rattle.iv_text.specs.OnePass.{IsNamed, BeginsWithPlace};
 
+use crate::bed_file::is_unread;
 use crate::fault::RecordFault;
-use crate::fields::{after_tab, columns_behind, cut_first_column};
+use crate::fields::{after_byte, columns_behind, cut_first_column};
 use crate::genome::Genome;
+use crate::lines::after_line_end;
 use crate::number::split_number;
 use crate::reading::{are_sound, others_of, read_record};
 use crate::record_ref::RecordRef;
+use crate::short_line::ShortLine;
 use crate::strand::read_strand;
+use bstr::ByteSlice;
 use std::alloc::Allocator;
 use std::marker::Model;
 
@@ -21,6 +26,15 @@ struct Named<'t> {
     name: &'t [u8],
     rank: u32,
     length: u32,
+}
+
+/// The columns that a text begins with: where a record lies, and what stands behind.
+#[derive(Clone, Copy, Debug)]
+struct Front<'a> {
+    rank: u32,
+    start: u32,
+    stop: u32,
+    rest: &'a [u8],
 }
 
 /// Reads the records of lines one after another, faster where a line names the sequence of the line before.
@@ -51,7 +65,7 @@ fn after_name<'t>(line: &'t [u8], name: &[u8]) -> Option<&'t [u8]>
     line.strip_prefix(name)
 }
 
-/// The sequence that a line names, whose rank is known.
+/// The sequence that a line names, whose rank is known. `None` where the name holds a LF, or is a header by itself.
 fn named_by<'t, A: Allocator + Copy>(
     genome: &Genome<A>,
     line: &'t [u8],
@@ -61,6 +75,9 @@ fn named_by<'t, A: Allocator + Copy>(
     ensures { IfSome result (λ b. IsNamed genome.now b.name.now b.rank b.length) }
 {
     let (name, _) = cut_first_column(line);
+    if is_unread(name) || name.find_byte(b'\n').is_some() {
+        return None;
+    }
     let length = genome.short_length(rank)?;
     Some(Named { name, rank, length })
 }
@@ -76,6 +93,46 @@ impl<'g, 't, A: Allocator + Copy> RecordReader<'g, 't, A> {
         }
     }
 
+    /// The three columns that a text begins with, where they name the sequence of the line before and lie on it.
+    ///
+    /// `None` says nothing.
+    fn split_place<'a>(&self, text: &'a [u8]) -> Option<Front<'a>>
+        ensures { IfSome result (λ f. BeginsWithPlace self.now text.now f.rank f.start f.stop f.rest.now) }
+    {
+        let before = self.before?;
+        let rest = after_name(text, before.name)?;
+        let from_start = after_byte(rest, b'\t')?;
+        let (start, behind) = split_number(from_start)?;
+        let from_stop = after_byte(behind, b'\t')?;
+        let (stop, rest) = split_number(from_stop)?;
+        if start >= stop || stop > u64::from(before.length) {
+            return None;
+        }
+        Some(Front {
+            rank: before.rank,
+            start: start as u32,
+            stop: stop as u32,
+            rest,
+        })
+    }
+
+    /// The first line of a text, where it has three columns, names the sequence of the line before and ends at a LF:
+    /// read in one pass, which finds the line's end too.
+    ///
+    /// `None` says nothing: [`read`](Self::read) answers for every line.
+    pub fn read_short(&self, text: &[u8]) -> Option<ShortLine>
+        ensures { IfSome result (λ l. IsShortLine self.now text.now l) }
+    {
+        let front = self.split_place(text)?;
+        let next = after_line_end(front.rest)?;
+        Some(ShortLine {
+            seq: front.rank,
+            start: front.start,
+            stop: front.stop,
+            size: text.len() - next.len(),
+        })
+    }
+
     /// The record of a line that names the sequence of the line before, read in one pass from its front.
     ///
     /// `None` says nothing: the line begins with another name, or stands for no record.
@@ -84,16 +141,8 @@ impl<'g, 't, A: Allocator + Copy> RecordReader<'g, 't, A> {
         ensures value { IfSome result (λ r. read self.now width line.now ≡ Ok r) }
         ensures fits { IfSome result (λ r. Fits self.now width r) }
     {
-        let before = self.before?;
-        let rest = after_name(line, before.name)?;
-        let from_start = after_tab(rest)?;
-        let (start, behind) = split_number(from_start)?;
-        let from_stop = after_tab(behind)?;
-        let (stop, last) = split_number(from_stop)?;
-        if start >= stop || stop > u64::from(before.length) {
-            return None;
-        }
-        let columns = columns_behind(last)?;
+        let front = self.split_place(line)?;
+        let columns = columns_behind(front.rest)?;
         let others = others_of(columns, width)?;
         let strand = read_strand(others.strand);
         let sound = are_sound(width, others.name, others.score, strand);
@@ -101,9 +150,9 @@ impl<'g, 't, A: Allocator + Copy> RecordReader<'g, 't, A> {
             return None;
         }
         Some(RecordRef {
-            rank: before.rank,
-            start: start as u32,
-            stop: stop as u32,
+            rank: front.rank,
+            start: front.start,
+            stop: front.stop,
             name: others.name,
             score: others.score,
             strand,

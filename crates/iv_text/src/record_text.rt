@@ -1,12 +1,13 @@
 //! Records as they are printed.
-ghost use Rattle.std.specs.Prelude.{◌≡◌};
+ghost use Rattle.std.specs.Prelude.{◌≡◌, ◌+◌, ◌≤◌, ◌++◌, length, codes, decimal};
 ghost use Rattle.iv_bytes.specs.Sinks.{Puts};
 ghost use Rattle.iv_text.specs.RecordText.{place_text, strand_text, rest_text, record_text};
 
 use crate::genome::Genome;
 use crate::record_ref::RecordRef;
+use crate::row_tail::RowTail;
 use crate::strand::Strand;
-use iv_bytes::{Sink, WriteFault, put_pieces};
+use iv_bytes::{Sink, WriteFault, put_all, put_pieces};
 use std::alloc::Allocator;
 
 /// The sixth column: `+`, `-`, `.`, or nothing.
@@ -59,11 +60,8 @@ fn put_rest<S: Sink>(sink: &mut S, row: &RecordRef<'_>) -> Result<(), WriteFault
     }
 }
 
-/// Puts a record's columns, as many as its width, with a TAB between two of them and no line end.
-///
-/// The first is the name that the genome has at the record's rank, or nothing if it has none.
-/// On a fault the sink has taken a prefix of the text.
-pub fn put_record<S: Sink, A: Allocator + Copy>(
+/// Puts a record's columns, as many as its width, piece by piece.
+fn put_columns<S: Sink, A: Allocator + Copy>(
     sink: &mut S,
     genome: &Genome<A>,
     row: &RecordRef<'_>,
@@ -72,4 +70,93 @@ pub fn put_record<S: Sink, A: Allocator + Copy>(
 {
     put_place(sink, genome, row)?;
     put_rest(sink, row)
+}
+
+/// Lays a record's columns after the third, each with a TAB in front of it.
+fn lay_rest(tail: &mut RowTail, row: &RecordRef<'_>)
+    requires short { (length row.now.name ≤ 64) × (length row.now.score ≤ 24) }
+    requires room { length tail.old ≤ 32 }
+    ensures laid { tail.new ≡ rest_text row.now ++ tail.old }
+    ensures len { length tail.new ≤ length tail.old + 92 }
+{
+    if row.width() >= 6 {
+        tail.lay(strand_bytes(row.strand()));
+        tail.lay_byte(b'\t');
+    }
+    if row.width() >= 5 {
+        tail.lay(row.score());
+        tail.lay_byte(b'\t');
+    }
+    if row.width() >= 4 {
+        tail.lay(row.name());
+        tail.lay_byte(b'\t');
+    }
+}
+
+/// Puts a record's columns, as many as its width, with a TAB between two of them, and what is laid behind them.
+///
+/// The first is the name that the genome has at the record's rank, or nothing if it has none.
+/// On a fault the sink has taken a prefix of the text. What is laid afterwards is not said.
+pub fn put_row<S: Sink, A: Allocator + Copy>(
+    sink: &mut S,
+    genome: &Genome<A>,
+    row: &RecordRef<'_>,
+    tail: &mut RowTail,
+) -> Result<(), WriteFault>
+    ensures { Puts (S.state sink.old) (S.state sink.new) result (record_text genome.now row.now ++ tail.old) }
+{
+    if tail.len() > 32 || row.name().len() > 64 || row.score().len() > 24 {
+        put_columns(sink, genome, row)?;
+        return put_all(sink, tail.as_slice());
+    }
+    lay_rest(tail, row);
+    tail.lay_number(row.stop());
+    tail.lay_byte(b'\t');
+    tail.lay_number(row.start());
+    tail.lay_byte(b'\t');
+    tail.put_behind(genome.name(row.seq()).unwrap_or(b""), sink)
+}
+
+/// Puts a record's columns as [`put_row`] does, with nothing behind them and no line end.
+pub fn put_record<S: Sink, A: Allocator + Copy>(
+    sink: &mut S,
+    genome: &Genome<A>,
+    row: &RecordRef<'_>,
+) -> Result<(), WriteFault>
+    ensures { Puts (S.state sink.old) (S.state sink.new) result (record_text genome.now row.now) }
+{
+    put_row(sink, genome, row, &mut RowTail::new())
+}
+
+/// Puts the line of a record: its columns and a line feed.
+///
+/// On a fault the sink has taken a prefix of the line.
+pub fn put_line<S: Sink, A: Allocator + Copy>(
+    sink: &mut S,
+    genome: &Genome<A>,
+    row: &RecordRef<'_>,
+) -> Result<(), WriteFault>
+    ensures { Puts (S.state sink.old) (S.state sink.new) result (record_text genome.now row.now ++ codes "\n") }
+{
+    let mut tail = RowTail::new();
+    tail.lay_byte(b'\n');
+    put_row(sink, genome, row, &mut tail)
+}
+
+/// Puts the line of a record with a number behind its columns.
+///
+/// On a fault the sink has taken a prefix of the line.
+pub fn put_numbered<S: Sink, A: Allocator + Copy>(
+    sink: &mut S,
+    genome: &Genome<A>,
+    row: &RecordRef<'_>,
+    number: u64,
+) -> Result<(), WriteFault>
+    ensures { Puts (S.state sink.old) (S.state sink.new) result (record_text genome.now row.now ++ codes "\t" ++ decimal number ++ codes "\n") }
+{
+    let mut tail = RowTail::new();
+    tail.lay_byte(b'\n');
+    tail.lay_number(number);
+    tail.lay_byte(b'\t');
+    put_row(sink, genome, row, &mut tail)
 }

@@ -1,5 +1,5 @@
 use Rattle.iv_bytes.proofs.Putting.{Puts-back, Puts-err, FailsIn-front}
-use Rattle.iv_text.proofs.record_text.put_record.Goals as goal
+use Rattle.iv_text.proofs.record_text.put_columns.Goals as goal
 
 pub returns-in_err-put_place : goal.returns-in_err-put_place
 returns-in_err-put_place g c =

@@ -1,0 +1,70 @@
+//! A record, wherever its columns lie.
+ghost use Rattle.std.specs.Prelude.{◌≡◌, ◌<◌};
+ghost use Rattle.iv_text.specs.Row.{Row};
+
+use crate::record::Record;
+use crate::record_ref::RecordRef;
+use std::alloc::Allocator;
+
+/// A checked record. Where it lies is at hand; its other columns may have to be cut from its line.
+pub trait BedRecord: Drop {
+    /// The row that it is.
+    ghost as_row: { Self → Row };
+
+    /// The rank of its sequence in the genome.
+    fn seq(&self) -> u32
+        ensures { result ≡ (as_row self.now).seq };
+
+    /// Where it starts, from 0.
+    fn start(&self) -> u64
+        ensures { result ≡ (as_row self.now).start };
+
+    /// Where it stops, not included.
+    fn stop(&self) -> u64
+        ensures value { result ≡ (as_row self.now).stop }
+        ensures some { (as_row self.now).start < result };
+
+    /// The record with all its columns.
+    fn to_ref(&self) -> RecordRef<'_>
+        ensures { result ≡ as_row self.now };
+}
+
+impl<A: Allocator> BedRecord for Record<A> {
+    ghost as_row = { λ r. r };
+
+    fn seq(&self) -> u32 {
+        Record::seq(self)
+    }
+
+    fn start(&self) -> u64 {
+        Record::start(self)
+    }
+
+    fn stop(&self) -> u64 {
+        Record::stop(self)
+    }
+
+    fn to_ref(&self) -> RecordRef<'_> {
+        self.as_ref()
+    }
+}
+
+impl<R: BedRecord> BedRecord for &R {
+    ghost as_row = { λ r. R.as_row r.now };
+
+    fn seq(&self) -> u32 {
+        (**self).seq()
+    }
+
+    fn start(&self) -> u64 {
+        (**self).start()
+    }
+
+    fn stop(&self) -> u64 {
+        (**self).stop()
+    }
+
+    fn to_ref(&self) -> RecordRef<'_> {
+        (**self).to_ref()
+    }
+}
