@@ -1,10 +1,12 @@
 -- The reading of a text: one more line, and the whole.
-use Rattle.std.proofs.Common.{◌≡◌, ℕ, ◌+◌, ◌-◌, ◌<◌, ◌≤◌, ◌^◌, Bool, true, false, cond, not, ◌==◌, nat_le, List, [], ◌∷◌, ◌++◌, Option, Some, None, Result, Ok, Err, length, take, drop, find, refl, sym, ap, subst, ◌∙◌, arith, All, MatchOption, unwrap_or}
-use Rattle.std.proofs.lemmas.Bool.{cond-true, le-leb, eqb-true}
+use Rattle.std.proofs.Common.{◌≡◌, ℕ, ◌+◌, ◌-◌, ◌<◌, ◌≤◌, ◌^◌, Bool, true, false, cond, not, ◌==◌, nat_eq, nat_le, List, [], ◌∷◌, ◌++◌, Option, Some, None, Result, Ok, Err, length, take, drop, find, refl, sym, ap, subst, ◌∙◌, arith, All, MatchOption, unwrap_or}
+use Rattle.std.proofs.lemmas.Bool.{cond-true, false≢true, le-leb, eqb-true}
 use Rattle.std.proofs.lemmas.Bool.Decides.{nat_tests}
 use Rattle.std.proofs.lemmas.Grind.{common_steps}
 use Rattle.std.proofs.lemmas.List.{length-map, get_or_past, map-append}
 use Rattle.std.proofs.lemmas.List.Elements.{All-nil, All-cons, All-head, All-tail}
+use Rattle.std.specs.Option.{option_eq}
+use Rattle.std.specs.Prelude.{IsErrAnd, IfErr}
 use Rattle.iv_text.proofs.ReadLemmas.{hit}
 use Rattle.iv_text.proofs.BedLemmas.{row-taken, sound-none, sound-more, sound-width}
 use Rattle.iv_text.specs.Fields.{columns}
@@ -89,8 +91,16 @@ pub step-err : (g : Sequences) (limit n : ℕ) (c : Cursor) (line : List ℕ) (s
 step-err g limit n c line size f on h =
     ap (after_rows g limit n (known c)) (line-found c.text c.at size line on) ∙ ap (turned g limit n (lines (drop (c.at + size) c.text))) h
 
-pub full-row : (limit : ℕ) (rows : List Row) (r : Row) → limit ≤ length rows → with_row limit rows (Ok r) ≡ Err cause.TooMany
+full-row : (limit : ℕ) (rows : List Row) (r : Row) → limit ≤ length rows → with_row limit rows (Ok r) ≡ Err cause.TooMany
 full-row limit rows r full = cond-true _ _ _ (le-leb limit (length rows) full)
+
+-- a record that is one too many
+pub too-many : (g : Sequences) (limit : ℕ) (c : Cursor) (line : List ℕ) (w : ℕ) (p : Place)
+    → is_unread line ≡ false → w ≡ unwrap_or c.width (length (columns line)) → 3 ≤ w → w ≤ 6 → read g w line ≡ Ok (row_of w line p) → limit ≤ length c.places
+    → after_row g limit (known c) line ≡ Err cause.TooMany
+too-many g limit c line w p unread is low high says full =
+    let many : limit ≤ length (known c).rows = omega (arith, full, length-map c.places (row_at (unwrap_or c.width 0) c.text)) in
+    row-taken g limit (known c) line w (Err cause.TooMany) unread is low high (ap (with_row limit (known c).rows) says ∙ full-row limit (known c).rows (row_of w line p) many)
 
 free-row : (limit : ℕ) (rows : List Row) (r : Row) → length rows < limit → with_row limit rows (Ok r) ≡ Ok (rows ++ r ∷ [])
 free-row limit rows r free = by (nat_le limit (length rows)) refl
@@ -139,6 +149,35 @@ taken g limit c line size w p more h unread is low high on at_is says fits grown
   where
     length_one : (rows : List Row) (r : Row) → length (rows ++ r ∷ []) ≡ length rows + 1
     length_one rows r = grind (arith, common_steps)
+
+-- ---- a line of three columns
+
+-- the width that is known is 3
+pub width-three : (known : Option ℕ) → not (option_eq nat_eq known (Some 3)) ≡ false → known ≡ Some 3
+width-three None other = absurd (false≢true (sym other))
+width-three (Some w) other = by (nat_eq w 3) refl other
+  where
+    by : (t : Bool) → nat_eq w 3 ≡ t → not t ≡ false → Some w ≡ Some 3
+    by true e same = ap Some (eqb-true w 3 e)
+    by false e same = absurd (false≢true (sym same))
+
+pub at-three : (c : Cursor) (line : List ℕ) → c.width ≡ Some 3 → 3 ≡ unwrap_or c.width (length (columns line))
+at-three c line wide = sym (ap (λ (o : Option ℕ). unwrap_or o (length (columns line))) wide)
+
+-- a record of three columns was taken, and the width is as it was
+pub short-taken : (g : Sequences) (limit : ℕ) (c : Cursor) (line : List ℕ) (size : ℕ) (p : Place) (more : List Place)
+    → c.width ≡ Some 3 → IsUnderway g limit c → is_unread line ≡ false → GoesOn c line size → p.line ≡ c.at → read g 3 line ≡ Ok (row_of 3 line p) → Fits g 3 (row_of 3 line p) → more ≡ c.places ++ p ∷ []
+    → length c.places < limit
+    → IsUnderway g limit (record c { at = c.at + size; places = more }) × (after_row g limit (known c) line ≡ Ok (known (record c { at = c.at + size; places = more })))
+short-taken g limit c line size p more wide h unread on at_is says fits grown free =
+    let next : Option ℕ → Cursor = λ o. record { text = c.text; at = c.at + size; width = o; places = more } in
+    subst (λ (o : Option ℕ). IsUnderway g limit (next o) × (after_row g limit (known c) line ≡ Ok (known (next o)))) (sym wide)
+    (taken g limit c line size 3 p more h unread (at-three c line wide) (omega arith) (omega arith) on at_is says fits grown free)
+
+-- what follows from an error follows where it is handed on
+pub handed-on : {T E : Type 0} (r : Result T E) (f : E) (P : E → Type 0) → IsErrAnd r (λ e. e ≡ f) → P f → IfErr r P
+handed-on (Ok x) f P is holds = absurd is
+handed-on (Err e) f P is holds = subst P (sym is) holds
 
 -- ---- a whole file
 

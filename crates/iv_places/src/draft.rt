@@ -1,5 +1,5 @@
 //! A text that is read line by line.
-ghost use Rattle.std.specs.Prelude.{◌≡◌, ◌<◌, ◌≤◌, ◌+◌, ◌⊎◌, ℕ, length, Ok, Err, [], ◌∷◌, ◌++◌, IfOk, IfErr, OnOk};
+ghost use Rattle.std.specs.Prelude.{◌≡◌, ◌<◌, ◌≤◌, ◌+◌, ◌⊎◌, ℕ, length, true, false, Ok, Err, [], ◌∷◌, ◌++◌, IfOk, IfErr, OnOk};
 ghost use Rattle.iv_text.specs.BedFile.{after_rows};
 ghost use Rattle.iv_text.specs.Lines.{lines};
 ghost use Rattle.iv_text.specs.Read.{read, Fits};
@@ -62,7 +62,57 @@ fn push_place<A: Allocator>(places: &mut Vec<Place, A>, place: Place) -> Result<
     Ok(())
 }
 
+/// Takes one more place, unless there are as many as the limit.
+fn take_place<A: Allocator>(
+    places: &mut Vec<Place, A>,
+    limit: u32,
+    place: Place,
+) -> Result<(), LoadCause>
+    ensures ok { OnOk result (places.new.items ≡ places.old.items ++ place ∷ []) }
+    ensures free { OnOk result (length places.old.items < limit) }
+    ensures err { IfErr result (λ c. (c ≡ cause.Memory) ⊎ ((c ≡ cause.TooMany) × (limit ≤ length places.old.items))) }
+{
+    if places.len() >= limit as usize {
+        return Err(LoadCause::TooMany);
+    }
+    push_place(places, place)?;
+    Ok(())
+}
+
 impl<'t, A: Allocator + Copy> TextDraft<'t, A> {
+    /// Takes the next line where the width is 3 and the reader knows it as a short one, and tells whether it did.
+    fn take_short(
+        &mut self,
+        reader: &RecordReader<'_, 't, A>,
+        limit: u32,
+    ) -> Result<bool, LoadCause>
+        requires underway { IsUnderway reader.now limit self.old }
+        requires more { self.old.at < length self.old.text }
+        ensures not { result ≡ Ok false → self.new ≡ self.old }
+        ensures underway { OnOk result (IsUnderway reader.now limit self.new) }
+        ensures text { self.new.text ≡ self.old.text }
+        ensures at { result ≡ Ok true → (self.old.at < self.new.at) × (self.new.at ≤ length self.old.text) }
+        ensures ok { result ≡ Ok true → (n : ℕ) → left_after reader.now limit n self.old ≡ left_after reader.now limit (n + 1) self.new }
+        ensures err { IfErr result (λ c. (c ≡ cause.Memory) ⊎ ((n : ℕ) → left_after reader.now limit n self.old ≡ Err (record { line = n; cause = c }))) }
+    {
+        if self.width != Some(3) {
+            return Ok(false);
+        }
+        let text = self.text;
+        let Some(line) = reader.read_short(&text[self.at..]) else {
+            return Ok(false);
+        };
+        let place = Place {
+            seq: line.seq,
+            start: line.start,
+            stop: line.stop,
+            line: self.at as u32,
+        };
+        take_place(&mut self.places, limit, place)?;
+        self.at += line.size;
+        Ok(true)
+    }
+
     /// Takes the next line, and the place of its record, if it says one.
     fn take_line(
         &mut self,
@@ -78,6 +128,9 @@ impl<'t, A: Allocator + Copy> TextDraft<'t, A> {
         ensures ok { OnOk result ((n : ℕ) → left_after reader.old limit n self.old ≡ left_after reader.old limit (n + 1) self.new) }
         ensures err { IfErr result (λ c. (c ≡ cause.Memory) ⊎ ((n : ℕ) → left_after reader.old limit n self.old ≡ Err (record { line = n; cause = c }))) }
     {
+        if self.take_short(reader, limit)? {
+            return Ok(());
+        }
         let text = self.text;
         let (line, size) = split_line(&text[self.at..]);
         if is_unread(line) {
@@ -91,10 +144,7 @@ impl<'t, A: Allocator + Copy> TextDraft<'t, A> {
             Ok(place) => place,
             Err(fault) => return Err(LoadCause::Record(fault)),
         };
-        if self.places.len() >= limit as usize {
-            return Err(LoadCause::TooMany);
-        }
-        push_place(&mut self.places, place)?;
+        take_place(&mut self.places, limit, place)?;
         self.width = Some(width);
         self.at += size;
         Ok(())

@@ -1,5 +1,6 @@
 //! The order of a track among places of a text.
-ghost use Rattle.std.specs.Prelude.{◌≡◌};
+ghost use Rattle.std.specs.Prelude.{◌≡◌, ◌<◌, length};
+ghost use Rattle.std.specs.List.Sorted.{IsPermutation};
 ghost use Rattle.std.specs.Cmp.Lexicographic.{slice_cmp};
 ghost use Rattle.std.specs.Option.{option_cmp};
 ghost use Rattle.std.specs.Ordering.{nat_cmp, ordering_then};
@@ -8,6 +9,7 @@ ghost use Rattle.iv_places.specs.Places.{row_at};
 
 use crate::beside::{Beside, beside_of};
 use crate::place::Place;
+use std::alloc::Allocator;
 use std::cmp::Ordering;
 
 /// Name, score and strand in the order of a track.
@@ -46,4 +48,36 @@ pub(crate) fn compare(text: &[u8], width: u8, first: &Place, second: &Place) -> 
         return first.stop.cmp(&second.stop);
     }
     compare_beside(text, width, first, second)
+}
+
+/// The most places that one is moved past.
+const MOST_MOVES: usize = 16;
+
+/// Moves each place past a few others of its start that belong behind it. So files that are in order but for records of
+/// one start, as most tools leave them, are then in the order of a track.
+pub(crate) fn order_ties<A: Allocator>(text: &[u8], width: u8, places: &mut Vec<Place, A>)
+    ensures { IsPermutation places.old.items places.new.items }
+{
+    for index in 1..places.len() {
+        move_forward(text, width, places, index);
+    }
+}
+
+/// Moves the place at an index past a few others of its start that belong behind it.
+fn move_forward<A: Allocator>(text: &[u8], width: u8, places: &mut Vec<Place, A>, index: usize)
+    requires { index < length places.old.items }
+    ensures { IsPermutation places.old.items places.new.items }
+{
+    let mut at = index;
+    while at > 0 && index - at < MOST_MOVES {
+        let (before, here) = (places[at - 1], places[at]);
+        if before.seq != here.seq || before.start != here.start {
+            return;
+        }
+        if compare(text, width, &before, &here) != Ordering::Greater {
+            return;
+        }
+        places.swap(at - 1, at);
+        at -= 1;
+    }
 }

@@ -5,7 +5,7 @@ ghost use Rattle.iv_places.specs.Places.{HasBase, row_at};
 
 use crate::beside::{Beside, beside_of};
 use crate::place::Place;
-use iv_text::{RecordRef, Strand};
+use iv_text::{BedRecord, RecordRef, Strand};
 use std::marker::Model;
 
 /// A record of a text: its interval is 0-based and half-open, its other columns are slices of the text.
@@ -139,5 +139,25 @@ impl<'t> TextRecord<'t> {
             beside.strand,
             self.width,
         )
+    }
+}
+
+impl<'t> BedRecord for TextRecord<'t> {
+    ghost as_row = { λ r. r };
+
+    fn seq(&self) -> u32 {
+        TextRecord::seq(self)
+    }
+
+    fn start(&self) -> u64 {
+        TextRecord::start(self)
+    }
+
+    fn stop(&self) -> u64 {
+        TextRecord::stop(self)
+    }
+
+    fn to_ref(&self) -> RecordRef<'_> {
+        TextRecord::to_ref(self)
     }
 }

@@ -97,11 +97,29 @@ impl<'t> TextRecords<'t> {
         ensures front { result.0 ≡ take count self.now }
         ensures back { result.1 ≡ drop count self.now }
     {
+        let mut back = self.again();
+        let front = back.take_front(count);
+        (front, back)
+    }
+
+    /// Lets go of the first record, if there is one.
+    pub fn drop_first(&mut self)
+        ensures { self.new ≡ drop 1 self.old }
+    {
+        if let Some((_, rest)) = self.places.split_first() {
+            self.places = rest;
+        }
+    }
+
+    /// Takes so many records from the front.
+    pub fn take_front(&mut self, count: usize) -> TextRecords<'t>
+        requires { count ≤ length self.old }
+        ensures front { result ≡ take count self.old }
+        ensures back { self.new ≡ drop count self.old }
+    {
         let (front, back) = self.places.split_at(count);
-        (
-            TextRecords::of_places(self.text, front, self.width),
-            TextRecords::of_places(self.text, back, self.width),
-        )
+        self.places = back;
+        TextRecords::of_places(self.text, front, self.width)
     }
 
     /// The places of the records, in their order.
@@ -122,8 +140,8 @@ impl<'t> Iterator for TextRecords<'t> {
 
     /// The first record that is left.
     fn next(&mut self) -> Option<TextRecord<'t>> {
-        let (first, rest) = self.split_first()?;
-        *self = rest;
-        Some(first)
+        let (place, behind) = self.places.split_first()?;
+        self.places = behind;
+        Some(TextRecord::of_place(self.text, *place, self.width))
     }
 }

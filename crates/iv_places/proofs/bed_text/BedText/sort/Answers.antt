@@ -1,5 +1,5 @@
 use Rattle.std.proofs.Common.{◌∙◌, ap, List, rules}
-use Rattle.std.proofs.lemmas.List.Sorted.{All-permutation}
+use Rattle.std.proofs.lemmas.List.Sorted.{All-permutation, IsPermutation-trans}
 use Rattle.iv_text.specs.Row.{Row}
 use Rattle.iv_text.specs.Ordered.{ordered}
 use Rattle.iv_text.specs.BedFile.{Bed}
@@ -10,18 +10,20 @@ use Rattle.iv_places.proofs.bed_text.BedText.sort.Goals as goal
 pub invariant_of-self : goal.invariant_of-self
 invariant_of-self g c =
     let s = c.self.invariant in
+    let moved = IsPermutation-trans c.self.inside.places.items c.order_ties.new.places.items c.sort_unstable_by.new.self.items c.order_ties.ensures c.sort_unstable_by.ensures.permutation in
     record {
       low = s.low;
       high = s.high;
-      some = All-permutation HasBase c.self.inside.places.items c.sort_unstable_by.new.self.items c.sort_unstable_by.ensures.permutation s.some;
+      some = All-permutation HasBase c.self.inside.places.items c.sort_unstable_by.new.self.items moved s.some;
     }
 
 pub returns : goal.returns
 returns g c =
     let w = c.self.inside.width in
     let text = c.self.inside.text.now in
+    let moved = IsPermutation-trans c.self.inside.places.items c.order_ties.new.places.items c.sort_unstable_by.new.self.items c.order_ties.ensures c.sort_unstable_by.ensures.permutation in
     let with_rows : List Row → Bed = λ rows. record { width = w; rows = rows } in
     let in_order : Bed → Bed = λ b. record { width = b.width; rows = ordered b.rows } in
-    ap with_rows (sorted-rows w text c.self.inside.places.items c.sort_unstable_by.new.self.items c.sort_unstable_by.ensures.permutation
+    ap with_rows (sorted-rows w text c.self.inside.places.items c.sort_unstable_by.new.self.items moved
     (sorted-by-rows w text c.sort_unstable_by.new.self.items c.sort_unstable_by.ensures.sorted (λ a r f' k. search rules)))
     ∙ ap in_order c.self.view_is
