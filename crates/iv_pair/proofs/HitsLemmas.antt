@@ -1,19 +1,17 @@
 -- Where the records are that share a position with an interval.
 use Rattle.std.proofs.Common.{◌≡◌, ℕ, ◌+◌, ◌-◌, ◌<◌, ◌≤◌, ◌↔◌, inl, inr, Bool, true, false, cond, List, [], ◌∷◌, max, refl, sym, ap, ◌∙◌, subst, arith, length, eq-eqb}
-use Rattle.std.specs.Prelude.{◌==◌, ◌&&◌, filter, nat_lt, nat_le}
-use Rattle.std.specs.List.{AllByRecursion}
-use Rattle.std.specs.Ordering.{is_le}
+use Rattle.std.specs.Prelude.{filter}
 use Rattle.std.proofs.lemmas.Bool.{and_parts, lt-ltb, ltb-true, le-leb, leb-true}
 use Rattle.std.proofs.lemmas.List.Sums.{length-filter, count_by-le-length}
 use Rattle.std.proofs.lemmas.Map.Views.{exact_unsigned_eq}
 use Rattle.iv_text.specs.Ordered.{AreInOrder}
-use Rattle.iv_text.specs.Row.{Row, row_cmp}
+use Rattle.iv_text.specs.Row.{Row}
 use Rattle.iv_track.specs.Tracked.{is_from}
 use Rattle.iv_cover.specs.Depth.{covers}
 use Rattle.iv_cover.proofs.Tests.{Mem, all-mem}
 use Rattle.iv_pair.specs.Hits.{overlaps, hits, hits_of}
 use Rattle.iv_pair.specs.Lengths.{AreUpTo}
-use Rattle.iv_pair.specs.Putting.{AllOverlap, Overlaps}
+use Rattle.iv_pair.specs.Putting.{AllOverlap}
 use Rattle.iv_pair.proofs.PlaceLemmas.{le_pair, pair_le, filter-implied, from_all, from_whole}
 
 pub overlaps_parts : (seq start stop : ℕ) (q : Row) → overlaps seq start stop q ≡ true → (q.seq ≡ seq) × (q.start < stop) × (start < q.stop)

@@ -3,3 +3,4 @@ pub mod LengthLemmas
 pub mod HitsLemmas
 pub mod UncoveredLemmas
 pub mod LineLemmas
+mod YieldLemmas

@@ -1,15 +1,18 @@
 -- The lines of hits.
-use Rattle.std.proofs.Common.{◌≡◌, ◌⊎◌, inl, inr, List, ℕ, Result, refl, sym, subst}
+use Rattle.std.proofs.Common.{◌≡◌, ◌⊎◌, inl, inr, List, [], ◌∷◌, ◌++◌, ℕ, Option, None, Some, Result, refl, subst}
+use Rattle.std.specs.Iterator.{AlwaysYields}
 use Rattle.std.specs.List.{flat_map}
-use Rattle.iv_bytes.specs.Sinks.{SinkState, Puts}
+use Rattle.iv_bytes.specs.Sinks.{SinkState, FailsIn, Puts, Takes}
+use Rattle.iv_bytes.proofs.Putting.{Underway, Underway-begin, Underway-fails, Underway-more}
 use Rattle.iv_text.specs.Genome.{Sequences}
 use Rattle.iv_text.specs.Row.{Row}
 use Rattle.iv_pair.specs.Hits.{hits_of}
 use Rattle.iv_pair.specs.IntersectRows.{intersect_rows}
-use Rattle.iv_pair.specs.Putting.{AllOverlap, hit_line}
+use Rattle.iv_pair.specs.Putting.{AllOverlap, Overlaps, hit_line}
 use Rattle.iv_pair.specs.declared.intersect.IntersectRows.{IntersectRows}
 use Rattle.iv_pair.specs.declared.intersect.IntersectRows.TheVariants.{Shared, SharedAndHit, Whole, WholeAndHit}
 use Rattle.iv_pair.proofs.HitsLemmas.{hits-overlap}
+use Rattle.iv_pair.proofs.YieldLemmas.{ended, went}
 
 -- where a line is shown for each hit, they are the rows
 lines-rows : (shown : IntersectRows) (g : Sequences) (a : Row) (found : List Row)
@@ -21,10 +24,43 @@ lines-rows shown g a found (inr (inr (inl e))) = rw e refl
 lines-rows shown g a found (inr (inr (inr e))) = rw e refl
 
 -- a line was put for each hit of a record
-pub Puts-hits : {T E : Type 0} (shown : IntersectRows) (g : Sequences) (a : Row) (second found : List Row) (old new : SinkState) (result : Result T E)
-    → (AllOverlap a found → Puts old new result (flat_map (hit_line shown g a) found)) → found ≡ hits_of second a
+pub Puts-hits : {T E : Type 0} (shown : IntersectRows) (g : Sequences) (a : Row) (second : List Row) (old new : SinkState) (result : Result T E)
+    → (AllOverlap a (hits_of second a) → Puts old new result (flat_map (hit_line shown g a) (hits_of second a)))
     → (shown ≡ Shared) ⊎ ((shown ≡ SharedAndHit) ⊎ ((shown ≡ Whole) ⊎ (shown ≡ WholeAndHit))) → Puts old new result (intersect_rows shown g a (hits_of second a))
-Puts-hits shown g a second found old new result put same which =
-    subst (Puts old new result) (lines-rows shown g a (hits_of second a) which)
-    (subst (λ (l : List Row). Puts old new result (flat_map (hit_line shown g a) l)) same
-    (put (subst (λ (l : List Row). AllOverlap a l) (sym same) (hits-overlap second a))))
+Puts-hits shown g a second old new result put which =
+    subst (Puts old new result) (lines-rows shown g a (hits_of second a) which) (put (hits-overlap second a))
+
+-- ---- hit by hit, as an iterator gives them
+
+module _ {S T : Type 0} (steps : S → Option T → S → Type 0) (row_of : T → Row) (a : Row) (line : Row → List ℕ) where
+  -- the lines of the hits before are put, and those of the hits that are left are to come
+  pub record LinesLeft (s : S) (begun now : SinkState) (all : List ℕ) : Type 0 where
+    pub found : List Row
+    pub given : AlwaysYields steps row_of s found
+    pub overlap : AllOverlap a found
+    pub put : Underway begun now (flat_map line found) all
+
+  pub LinesLeft-begin : (s : S) (found : List Row) (begun : SinkState) → AlwaysYields steps row_of s found → AllOverlap a found → LinesLeft s begun begun (flat_map line found)
+  LinesLeft-begin s found begun given overlap = record { found = found; given = given; overlap = overlap; put = Underway-begin _ _ }
+
+  module _ (s t : S) (x : T) (begun mid : SinkState) (all : List ℕ) (step : steps s (Some x) t) (l : LinesLeft s begun mid all) where
+    first : (rest : List Row) × (l.found ≡ row_of x ∷ rest) × AlwaysYields steps row_of t rest
+    first = went steps row_of l.found s t x l.given step
+
+    each : AllOverlap a (row_of x ∷ first.0)
+    each = subst (λ (f : List Row). AllOverlap a f) first.1 l.overlap
+
+    put_first : Underway begun mid (line (row_of x) ++ flat_map line first.0) all
+    put_first = subst (λ (f : List Row). Underway begun mid (flat_map line f) all) first.1 l.put
+
+    pub LinesLeft-overlaps : Overlaps a (row_of x)
+    LinesLeft-overlaps = each.0
+
+    pub LinesLeft-next : (now : SinkState) → Takes mid now (line (row_of x)) → LinesLeft t begun now all
+    LinesLeft-next now took = record { found = first.0; given = first.2; overlap = each.1; put = Underway-more _ _ _ _ _ _ put_first took }
+
+    pub LinesLeft-fails : (now : SinkState) → FailsIn mid now (line (row_of x)) → FailsIn begun now all
+    LinesLeft-fails now fails = Underway-fails _ _ _ _ _ _ put_first fails
+
+  pub LinesLeft-ends : (s t : S) (begun now : SinkState) (all : List ℕ) → steps s None t → LinesLeft s begun now all → Underway begun now [] all
+  LinesLeft-ends s t begun now all step l = subst (λ (f : List Row). Underway begun now (flat_map line f) all) (ended steps row_of l.found s t l.given step) l.put

@@ -3,4 +3,5 @@ pub mod Lengths
 pub mod Finder
 pub mod IntersectRows
 pub mod SubtractRows
+pub mod PairRows
 pub mod Putting

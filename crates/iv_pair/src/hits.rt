@@ -5,7 +5,7 @@ ghost use Rattle.iv_text.specs.Ordered.{AreInOrder};
 ghost use Rattle.iv_track.specs.Tracked.{is_from};
 ghost use Rattle.iv_pair.specs.Hits.{overlaps, hits};
 
-use iv_text::Record;
+use iv_text::{BedRecord, Record};
 use iv_track::{Meter, Rows};
 use std::alloc::{Allocator, Global};
 use std::marker::Model;
@@ -81,15 +81,15 @@ impl<'a, A: Allocator + Copy> Iterator for Hits<'a, A> {
 }
 
 /// Whether a record lies on this sequence from this start on, or on a later sequence.
-pub(crate) fn is_from<A: Allocator + Copy>(row: &Record<A>, seq: u32, start: u64) -> bool
-    ensures { result ≡ is_from seq start row.now }
+pub fn is_from<R: BedRecord>(row: &R, seq: u32, start: u64) -> bool
+    ensures { result ≡ is_from seq start (R.as_row row.now) }
 {
     seq.cmp(&row.seq()).then(start.cmp(&row.start())).is_le()
 }
 
 /// Whether a record is on this sequence and shares a position with the interval.
-fn overlaps<A: Allocator + Copy>(row: &Record<A>, seq: u32, start: u64, stop: u64) -> bool
-    ensures { result ≡ overlaps seq start stop row.now }
+pub fn overlaps<R: BedRecord>(row: &R, seq: u32, start: u64, stop: u64) -> bool
+    ensures { result ≡ overlaps seq start stop (R.as_row row.now) }
 {
     row.seq() == seq && row.start() < stop && start < row.stop()
 }

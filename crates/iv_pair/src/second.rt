@@ -89,10 +89,13 @@ impl<A: Allocator + Copy> Second<A> {
         requires { start < stop }
         ensures hits { result ≡ hits self.now.rows seq start stop }
         ensures ordered { AreInOrder self.now.rows }
+        ensures few { length result < 2 ^ 32 }
     {
         let mut meter = Meter::new();
         let from = first_start(start, self.longest(seq, &mut meter));
-        Hits::of(self.walk(seq, from, &mut meter), seq, start, stop)
+        let hits = Hits::of(self.walk(seq, from, &mut meter), seq, start, stop);
+        hits.law_of_few();
+        hits
     }
 
     /// A number of positions that no record on the sequence of this rank has more than.

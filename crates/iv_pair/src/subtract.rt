@@ -1,55 +1,29 @@
 //! The rows of a subtract.
-ghost use Rattle.std.specs.Prelude.{◌≡◌, List};
+ghost use Rattle.std.specs.Prelude.{List};
+ghost use Rattle.std.specs.Iterator.{AlwaysYields, IsFinite};
 ghost use Rattle.iv_bytes.specs.Sinks.{Puts};
 ghost use Rattle.iv_text.specs.Ordered.{AreInOrder};
 ghost use Rattle.iv_text.specs.Row.{Row};
 ghost use Rattle.iv_pair.specs.Hits.{hits_of};
-ghost use Rattle.iv_pair.specs.SubtractRows.{subtract_rows, subtract_text, uncovered_rows};
+ghost use Rattle.iv_pair.specs.SubtractRows.{subtract_rows, uncovered_rows};
 
-use crate::finder::Finder;
-use crate::hits::Hits;
 use crate::lines::{put_if_no_hit, put_part};
-use crate::second::Second;
-use iv_text::{Genome, Record, Sink, WriteFault};
-use iv_track::{Meter, Track};
+use iv_text::{BedRecord, Genome, Sink, WriteFault};
 use std::alloc::Allocator;
 
-/// Puts the rows of a subtract: those of each record of the track, in its order, as bedtools subtract does.
-///
-/// They are what no record of the second file covers, with the record's other columns; or where `whole`, `-A`, the records
-/// without a hit. One walk over the track, and no memory. On a fault the sink has taken a prefix of the text.
-pub fn print_subtract<A: Allocator + Copy, S: Sink>(
-    whole: bool,
-    track: &Track<A>,
-    second: &Second<A>,
-    genome: &Genome<A>,
-    meter: &mut Meter,
-    sink: &mut S,
-) -> Result<(), WriteFault>
-    ensures { Puts (S.state sink.old) (S.state sink.new) result (subtract_text whole genome.now track.now.rows second.now.rows) }
-{
-    // The records of the second file are in order.
-    let _count = second.len();
-    let mut finder = Finder::of(second, meter);
-    let mut rows = track.walk(0, 0, meter);
-    while let Some(row) = rows.next(meter) {
-        let hits = finder.hits(row.seq(), row.start(), row.stop(), meter);
-        put_subtract(whole, genome, row, hits, sink)?;
-    }
-    Ok(())
-}
-
-/// Puts the rows of one record and its hits, in the order of a track.
+/// Puts the rows of one record and its hits, in the order of a track, which any iterator may give.
 ///
 /// On a fault the sink has taken a prefix of their text.
-pub fn put_subtract<A: Allocator + Copy, S: Sink>(
-    whole: bool,
-    genome: &Genome<A>,
-    row: &Record<A>,
-    hits: Hits<'_, A>,
-    sink: &mut S,
-) -> Result<(), WriteFault>
-    ensures { (second : List Row) → AreInOrder second → hits.entry ≡ hits_of second row.now → Puts (S.state sink.old) (S.state sink.new) result (subtract_rows whole genome.now row.now second) }
+pub fn put_subtract<
+    A: Allocator + Copy,
+    R: BedRecord,
+    T: BedRecord,
+    H: Iterator<Item = T>,
+    S: Sink,
+>(whole: bool, genome: &Genome<A>, row: &R, hits: H, sink: &mut S) -> Result<(), WriteFault>
+    requires starts { H.can_next hits }
+    requires ends { IsFinite (H.remaining hits) }
+    ensures { (second : List Row) → AreInOrder second → AlwaysYields H.next_gives T.as_row hits (hits_of second (R.as_row row.now)) → Puts (S.state sink.old) (S.state sink.new) result (subtract_rows whole genome.now (R.as_row row.now) second) }
 {
     if whole {
         put_if_no_hit(genome, row, hits, sink)
@@ -59,19 +33,21 @@ pub fn put_subtract<A: Allocator + Copy, S: Sink>(
 }
 
 /// Puts a line for each maximal part of a record that no hit covers.
-fn put_uncovered<A: Allocator + Copy, S: Sink>(
+fn put_uncovered<A: Allocator + Copy, R: BedRecord, T: BedRecord, H: Iterator<Item = T>, S: Sink>(
     genome: &Genome<A>,
-    row: &Record<A>,
-    hits: Hits<'_, A>,
+    row: &R,
+    hits: H,
     sink: &mut S,
 ) -> Result<(), WriteFault>
-    ensures { (second : List Row) → AreInOrder second → hits.entry ≡ hits_of second row.now → Puts (S.state sink.old) (S.state sink.new) result (uncovered_rows genome.now row.now second) }
+    requires starts { H.can_next hits }
+    requires ends { IsFinite (H.remaining hits) }
+    ensures { (second : List Row) → AreInOrder second → AlwaysYields H.next_gives T.as_row hits (hits_of second (R.as_row row.now)) → Puts (S.state sink.old) (S.state sink.new) result (uncovered_rows genome.now (R.as_row row.now) second) }
 {
     let mut from = row.start();
     for hit in hits {
-        hit.law_of_place();
-        put_part(genome, row, from, hit.start().min(row.stop()), sink)?;
-        from = from.max(hit.stop());
+        let (start, stop) = (hit.start(), hit.stop());
+        put_part(genome, row, from, start.min(row.stop()), sink)?;
+        from = from.max(stop);
     }
     put_part(genome, row, from, row.stop(), sink)
 }

@@ -2,7 +2,7 @@
 ghost use Rattle.std.specs.Prelude.{◌≡◌, ◌<◌, ◌^◌, length};
 ghost use Rattle.std.specs.Iterator.{YieldsFirst, item_count};
 
-use crate::beside::{is_from, overlaps};
+use iv_pair::{is_from, overlaps};
 use iv_places::{TextRecord, TextRecords};
 use std::marker::Model;
 

@@ -5,11 +5,8 @@
 
 mod beside;
 mod hits;
-mod intersect;
-mod lines;
 mod pair_sweep;
-mod subtract;
+mod sweeping;
 
-pub use intersect::sweep_intersect;
 pub use pair_sweep::PairSweep;
-pub use subtract::sweep_subtract;
+pub use sweeping::{sweep_intersect, sweep_subtract};

@@ -82,12 +82,11 @@ impl<'t, A: Allocator + Copy> PairSweep<'t, A> {
     pub(crate) fn next(&mut self) -> Option<TextRecord<'t>>
         ensures { Gives self.old result self.new }
     {
-        let (row, others) = self.first.split_first()?;
+        let (row, _) = self.first.split_first()?;
+        self.first.drop_first();
         row.law_of_place();
         drop_passed(&mut self.active, &row);
-        let rest = take_begun(&mut self.active, &self.rest, &row);
-        self.first = others;
-        self.rest = rest;
+        take_begun(&mut self.active, &mut self.rest, &row);
         self.seq = row.seq();
         self.start = row.start();
         self.stop = row.stop();
@@ -117,30 +116,28 @@ fn drop_passed<A: Allocator>(active: &mut Vec<TextRecord<'_>, A>, row: &TextReco
     active.retain(|other| reaches(row, other));
 }
 
-/// Adds those of the second list that have the first position of `row`, and answers those that start past it.
+/// Adds those of the second list that have the first position of `row`, and leaves those that start past it.
 fn take_begun<'t, A: Allocator>(
     active: &mut Vec<TextRecord<'t>, A>,
-    second: &TextRecords<'t>,
+    rest: &mut TextRecords<'t>,
     row: &TextRecord<'_>,
-) -> TextRecords<'t>
-    requires room { vec_len active.old + length second.now ≤ vec_capacity active.old }
-    requires ordered { AreInOrder second.now }
+)
+    requires room { vec_len active.old + length rest.old ≤ vec_capacity active.old }
+    requires ordered { AreInOrder rest.old }
     requires active { All (Covers row.now) active.old.items }
-    ensures room { vec_len active.new + length result ≤ vec_capacity active.new }
-    ensures ordered { AreInOrder result }
+    ensures room { vec_len active.new + length rest.new ≤ vec_capacity active.new }
+    ensures ordered { AreInOrder rest.new }
     ensures active { All (Covers row.now) active.new.items }
-    ensures alike { HitAlike row.now (active.new.items ++ result) (active.old.items ++ second.now) }
+    ensures alike { HitAlike row.now (active.new.items ++ rest.new) (active.old.items ++ rest.old) }
 {
-    let mut rest = second.again();
-    while let Some((next, others)) = rest.split_first() {
+    while let Some((next, _)) = rest.split_first() {
         if is_past(row, &next) {
             break;
         }
-        rest = others;
+        rest.drop_first();
         if reaches(row, &next) {
             // There is room for it: `new` took as much as the second list is long.
             let _ = active.push(next);
         }
     }
-    rest
 }

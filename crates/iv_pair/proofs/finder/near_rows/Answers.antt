@@ -1,4 +1,4 @@
-use Rattle.std.proofs.Common.{◌≡◌, ◌∙◌, sym, ap, refl, subst}
+use Rattle.std.proofs.Common.{◌∙◌, sym, ap, subst}
 use Rattle.std.specs.Prelude.{filter}
 use Rattle.iv_text.specs.Ordered.{AreInOrder}
 use Rattle.iv_track.specs.Tracked.{is_from}

@@ -1,4 +1,4 @@
-use Rattle.std.proofs.Common.{◌≡◌, sym, subst, arith}
+use Rattle.std.proofs.Common.{sym, subst, arith}
 use Rattle.iv_pair.proofs.LengthLemmas.{Bounds, length_bound}
 use Rattle.iv_pair.proofs.lengths.longest.Goals as goal
 

@@ -1,4 +1,4 @@
-use Rattle.std.proofs.Common.{◌≡◌, ◌+◌, ◌∙◌, sym, ap, arith}
+use Rattle.std.proofs.Common.{◌∙◌, ap, arith}
 use Rattle.std.specs.Prelude.{unwrap_or}
 use Rattle.iv_pair.proofs.LengthLemmas.{count_at, raised_rows, raised_tally}
 use Rattle.iv_pair.proofs.lengths.raise.Goals as goal

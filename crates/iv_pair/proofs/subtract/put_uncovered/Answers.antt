@@ -1,37 +1,38 @@
-use Rattle.std.proofs.Common.{◌≡◌, ℕ, ap, sym, subst, refl, ◌∙◌, List, ◌∷◌, ◌<◌, arith, min}
+use Rattle.std.proofs.Common.{◌≡◌, ◌<◌, arith, refl}
 use Rattle.iv_bytes.proofs.Putting.{Underway-last, Puts-err}
-use Rattle.iv_text.specs.Row.{Row, part}
-use Rattle.iv_cover.specs.Runs.{Run}
-use Rattle.iv_pair.specs.IntersectRows.{record_line}
 use Rattle.iv_pair.proofs.UncoveredLemmas.{Remains-begin, Remains-next, Remains-fails, Remains-last, within}
+use Rattle.iv_pair.proofs.YieldLemmas.{ended, went}
 use Rattle.iv_pair.proofs.subtract.put_uncovered.Goals as goal
 
 pub loop-hit-init : goal.loop-hit-init
-loop-hit-init g c = λ second order same.
-    rw c.start-from.ensures (Remains-begin _ second _ _ _ _ c.into_iter-hit-iterator.result order (c.into_iter-hit-iterator.ensures.into_iter_gives ∙ same))
+loop-hit-init g c = λ second order given.
+    rw (c.start-from.ensures, c.into_iter-hit-iterator.ensures.into_iter_gives) (_, given, Remains-begin _ second _ _ _ _ _ order refl)
 
 pub returns-in_err-put_part : goal.returns-in_err-put_part
-returns-in_err-put_part g c = λ second order same.
-    let r = c.loop-hit.invariant second order same in
-    let first = c.in-Some.ensures.steps in
-    let some = c.law_of_place.ensures.some in
-    let inside : c.in-Some.hit.now.start < c.args.row.now.stop = within _ second _ _ _ _ c.loop-hit.from c.in-Some.hit.now c.loop-hit.hit-iterator c.next.new.self _ first some r in
-    let at : c.min.result ≡ c.in-Some.hit.now.start = omega (arith, c.min.ensures, c.start.ensures, c.stop.ensures.value, inside) in
+returns-in_err-put_part g c = λ second order given.
+    let i = c.loop-hit.invariant second order given in
+    let w = went g.H.Iterator.next_gives g.T.BedRecord.as_row i.0 _ _ _ i.1 c.in-Some.ensures.steps in
+    let hit = g.T.BedRecord.as_row c.in-Some.hit in
+    let some : hit.start < hit.stop = rw c.stop-stop.ensures.value at c.stop-stop.ensures.some in
+    let inside : hit.start < (g.R.BedRecord.as_row c.args.row.now).stop = within _ second _ _ _ _ c.loop-hit.from hit i.0 w.0 _ w.1 some i.2 in
+    let at : c.min.result ≡ hit.start = omega (arith, c.min.ensures, c.start-start.ensures, c.stop.ensures.value, inside) in
     Puts-err _ _ c.from_residual.result _ c.from_residual.ensures.0
-    (Remains-fails _ second _ _ _ _ c.loop-hit.from c.in-Some.hit.now c.loop-hit.hit-iterator c.next.new.self _ first some r _ (rw at at c.in_err-put_part.ensures))
+    (Remains-fails _ second _ _ _ _ c.loop-hit.from hit i.0 w.0 _ w.1 some i.2 _ (rw at at c.in_err-put_part.ensures))
 
 pub loop-hit-preserved : goal.loop-hit-preserved
-loop-hit-preserved g c = λ second order same.
-    let r = c.loop-hit.invariant second order same in
-    let first = c.in-Some.ensures.steps in
-    let some = c.law_of_place.ensures.some in
-    let inside : c.in-Some.hit.now.start < c.args.row.now.stop = within _ second _ _ _ _ c.loop-hit.from c.in-Some.hit.now c.loop-hit.hit-iterator c.next.new.self _ first some r in
-    let at : c.min.result ≡ c.in-Some.hit.now.start = omega (arith, c.min.ensures, c.start.ensures, c.stop.ensures.value, inside) in
-    rw (c.max-from.ensures, c.stop-in-loop-hit.ensures.value)
-    (Remains-next _ second _ _ _ _ c.loop-hit.from c.in-Some.hit.now c.loop-hit.hit-iterator c.next.new.self _ first some r _ (rw at at c.in_ok-put_part.ensures))
+loop-hit-preserved g c = λ second order given.
+    let i = c.loop-hit.invariant second order given in
+    let w = went g.H.Iterator.next_gives g.T.BedRecord.as_row i.0 _ _ _ i.1 c.in-Some.ensures.steps in
+    let hit = g.T.BedRecord.as_row c.in-Some.hit in
+    let some : hit.start < hit.stop = rw c.stop-stop.ensures.value at c.stop-stop.ensures.some in
+    let inside : hit.start < (g.R.BedRecord.as_row c.args.row.now).stop = within _ second _ _ _ _ c.loop-hit.from hit i.0 w.0 _ w.1 some i.2 in
+    let at : c.min.result ≡ hit.start = omega (arith, c.min.ensures, c.start-start.ensures, c.stop.ensures.value, inside) in
+    rw (c.max-from.ensures, c.stop-stop.ensures.value)
+    (w.0, w.2, Remains-next _ second _ _ _ _ c.loop-hit.from hit i.0 w.0 _ w.1 some i.2 _ (rw at at c.in_ok-put_part.ensures))
 
 pub returns : goal.returns
-returns g c = λ second order same.
+returns g c = λ second order given.
+    let i = c.loop-hit.invariant second order given in
     Underway-last _ _ _ _ c.put_part-2.result _
-    (Remains-last _ second _ _ _ _ c.loop-hit.from c.loop-hit.hit-iterator _ c.in-None.ensures.steps.0 (c.loop-hit.invariant second order same))
+    (Remains-last _ second _ _ _ _ c.loop-hit.from i.0 _ (ended g.H.Iterator.next_gives g.T.BedRecord.as_row i.0 _ _ i.1 c.in-None.ensures.steps) i.2)
     (rw c.stop-2.ensures.value at c.put_part-2.ensures)

@@ -1,4 +1,5 @@
-use Rattle.std.proofs.Common.{◌≡◌, List}
+use Rattle.std.proofs.Common.{List}
+use Rattle.std.specs.Iterator.{AlwaysYields}
 use Rattle.iv_text.specs.Ordered.{AreInOrder}
 use Rattle.iv_text.specs.Row.{Row, part}
 use Rattle.iv_pair.specs.Hits.{hits_of}
@@ -8,5 +9,8 @@ use Rattle.iv_pair.proofs.subtract.put_uncovered.Given as goal
 
 -- the parts before `from` are put, and from there on the depth of the file is that of the hits that are left
 abbrev pub invariant-loop-hit : goal.invariant-loop-hit
-invariant-loop-hit g l = (second : List Row) → AreInOrder second → l.fn.hits ≡ hits_of second l.row
-    → Remains (λ run. record_line l.genome (part l.row run.start run.stop)) second l.row.seq l.row.start l.from l.row.stop l.hit-iterator (g.S.Sink.state l.fn.sink) (g.S.Sink.state l.sink)
+invariant-loop-hit g l =
+    let a = g.R.BedRecord.as_row l.row in
+    (second : List Row) → AreInOrder second → AlwaysYields g.H.Iterator.next_gives g.T.BedRecord.as_row l.fn.hits (hits_of second a)
+    → (found : List Row) × AlwaysYields g.H.Iterator.next_gives g.T.BedRecord.as_row l.hit-iterator found
+    × Remains (λ run. record_line l.genome (part a run.start run.stop)) second a.seq a.start l.from a.stop found (g.S.Sink.state l.fn.sink) (g.S.Sink.state l.sink)

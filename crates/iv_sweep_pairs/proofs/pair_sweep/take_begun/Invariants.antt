@@ -9,7 +9,7 @@ invariant-loop-next g l = record {
   room : vec_len l.active + length l.rest ≤ vec_capacity l.active;
   ordered : AreInOrder l.rest;
   active : All (Covers l.row) l.active.items;
-  alike : HitAlike l.row (l.active.items ++ l.rest) (l.fn.active.items ++ l.second);
+  alike : HitAlike l.row (l.active.items ++ l.rest) (l.fn.active.items ++ l.fn.rest);
 }
 
 abbrev pub decreases-loop-next : goal.decreases-loop-next

@@ -1,11 +1,10 @@
-use Rattle.std.proofs.Common.{◌≡◌, ◌∙◌, ℕ, List, ap, sym, subst, arith, length}
+use Rattle.std.proofs.Common.{◌≡◌, ◌∙◌, List, ap, sym, subst, arith, length}
 use Rattle.std.specs.Prelude.{filter}
 use Rattle.iv_text.specs.Ordered.{AreInOrder}
 use Rattle.iv_text.specs.Row.{row_cmp, Row}
 use Rattle.iv_cover.proofs.InOrder.{in_order-filter}
 use Rattle.iv_track.specs.Tracked.{is_from}
 use Rattle.iv_pair.specs.Hits.{hits}
-use Rattle.iv_pair.specs.Lengths.{AreUpTo}
 use Rattle.iv_pair.proofs.HitsLemmas.{hits_from, length-filter_le}
 use Rattle.iv_pair.proofs.finder.Finder.hits_anew.Goals as goal
 

@@ -1,4 +1,4 @@
-use Rattle.std.proofs.Common.{◌≡◌, List, length, ap, arith}
+use Rattle.std.proofs.Common.{List, length, ap, arith}
 use Rattle.iv_text.specs.Row.{Row}
 use Rattle.iv_pair.specs.Hits.{overlaps}
 use Rattle.iv_pair.proofs.HitsLemmas.{length-filter_le}

@@ -1,7 +1,6 @@
-use Rattle.std.proofs.Common.{◌≡◌, ℕ, ◌<◌, length, List, [], ◌∷◌, sym, ap, ◌∙◌, subst, arith}
+use Rattle.std.proofs.Common.{◌≡◌, length, ◌∷◌, sym, ap, ◌∙◌, subst, arith}
 use Rattle.iv_text.specs.Ordered.{AreInOrder}
-use Rattle.iv_text.specs.Row.{Row}
-use Rattle.iv_pair.specs.Hits.{overlaps, hits}
+use Rattle.iv_pair.specs.Hits.{hits}
 use Rattle.iv_pair.proofs.HitsLemmas.{hit_first, hit_not, hits_beyond}
 use Rattle.iv_pair.proofs.hits.HitsIterator.next.Goals as goal
 

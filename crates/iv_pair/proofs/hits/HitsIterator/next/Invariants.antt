@@ -1,4 +1,4 @@
-use Rattle.std.proofs.Common.{◌≡◌, ℕ, ◌<◌, ◌^◌, length}
+use Rattle.std.proofs.Common.{◌≡◌, ◌<◌, ◌^◌, length}
 use Rattle.iv_text.specs.Ordered.{AreInOrder}
 use Rattle.iv_pair.specs.Hits.{hits}
 use Rattle.iv_pair.proofs.hits.HitsIterator.next.Given as goal

@@ -1,4 +1,4 @@
-use Rattle.std.proofs.Common.{◌≡◌, ℕ, ◌+◌, ◌-◌, ◌<◌, ◌≤◌, ◌∙◌, List, sym, ap, subst, arith, length}
+use Rattle.std.proofs.Common.{◌∙◌, List, sym, ap, subst, arith, length}
 use Rattle.iv_text.specs.Ordered.{AreInOrder}
 use Rattle.iv_text.specs.Row.{row_cmp, Row}
 use Rattle.iv_cover.proofs.InOrder.{in_order-filter}
@@ -7,14 +7,14 @@ use Rattle.iv_pair.specs.Hits.{hits}
 use Rattle.iv_pair.proofs.HitsLemmas.{hits_from, length-filter_le}
 use Rattle.iv_pair.proofs.second.Second.hits.Goals as goal
 
-pub of-requires-clause-ordered : goal.of-requires-clause-ordered
-of-requires-clause-ordered g c = subst AreInOrder (sym c.walk.ensures.rows) (in_order-filter row_cmp (is_from c.args.seq c.first_start-from.result) c.args.self.now.rows c.walk.ensures.ordered)
+pub of-hits-requires-clause-ordered : goal.of-hits-requires-clause-ordered
+of-hits-requires-clause-ordered g c = subst AreInOrder (sym c.walk.ensures.rows) (in_order-filter row_cmp (is_from c.args.seq c.first_start-from.result) c.args.self.now.rows c.walk.ensures.ordered)
 
-pub of-requires-clause-few : goal.of-requires-clause-few
-of-requires-clause-few g c = omega (arith, ap (λ (l : List Row). length l) c.walk.ensures.rows, length-filter_le (is_from c.args.seq c.first_start-from.result) c.args.self.now.rows, c.walk.ensures.few)
+pub of-hits-requires-clause-few : goal.of-hits-requires-clause-few
+of-hits-requires-clause-few g c = omega (arith, ap (λ (l : List Row). length l) c.walk.ensures.rows, length-filter_le (is_from c.args.seq c.first_start-from.result) c.args.self.now.rows, c.walk.ensures.few)
 
 pub returns-clause-hits : goal.returns-clause-hits
 returns-clause-hits g c =
-    c.of.ensures
+    c.of-hits.ensures
     ∙ ap (λ (l : List Row). hits l c.args.seq c.args.start c.args.stop) c.walk.ensures.rows
     ∙ hits_from c.args.self.now.rows c.args.seq c.args.start c.args.stop c.first_start-from.result c.longest.result c.longest.ensures (omega (arith, c.first_start-from.ensures))
