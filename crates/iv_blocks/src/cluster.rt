@@ -11,8 +11,7 @@ ghost use Rattle.iv_blocks.specs.KeptBlocks.{AreBlocksOf};
 
 use crate::ahead::Ahead;
 use crate::blocks::Blocks;
-use crate::rows::put_numbered;
-use iv_text::{Genome, Sink, WriteFault};
+use iv_text::{Genome, Sink, WriteFault, put_numbered};
 use iv_track::{Meter, Track};
 use std::alloc::Allocator;
 
@@ -39,7 +38,7 @@ pub(crate) fn put_cluster<A: Allocator + Copy, S: Sink>(
     let mut rows = track.walk(0, 0, meter);
     while let Some(row) = rows.next(meter) {
         number += count_until(&mut ahead, row.seq(), row.start(), meter);
-        put_numbered(&row.as_ref(), number, genome, sink)?;
+        put_numbered(sink, genome, &row.as_ref(), number)?;
     }
     Ok(())
 }

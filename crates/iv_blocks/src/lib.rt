@@ -25,4 +25,4 @@ pub use complement_view::ComplementView;
 pub use laws::{gaps_are_maximal, numbers_are_of_blocks};
 pub use merge_view::MergeView;
 pub use options::{Options, Summaries};
-pub use rows::{put_gap, put_interval, put_numbered};
+pub use rows::{put_gap, put_interval};

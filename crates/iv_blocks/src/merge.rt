@@ -9,6 +9,7 @@ ghost use Rattle.iv_blocks.specs.KeptBlocks.{AreBlocksOf};
 ghost use Rattle.iv_blocks.specs.MergeRows.{merge_text};
 
 use crate::blocks::{Blocks, KeptBlock};
+use crate::rows::put_interval;
 use iv_text::{Genome, Sink, WriteFault, put_pieces};
 use iv_track::Meter;
 use std::alloc::Allocator;
@@ -41,6 +42,10 @@ fn put_block<A: Allocator, S: Sink>(
 ) -> Result<(), WriteFault>
     ensures { Puts (S.state sink.old) (S.state sink.new) result (name.now ++ codes "\t" ++ decimal start ++ codes "\t" ++ decimal block.now.stop ++ block.now.results ++ codes "\n") }
 {
+    let results = results(block);
+    if results.is_empty() {
+        return put_interval(name, u64::from(start), u64::from(block.stop), sink);
+    }
     let mut starts = itoa::Buffer::new();
     let mut stops = itoa::Buffer::new();
     put_pieces(
@@ -51,7 +56,7 @@ fn put_block<A: Allocator, S: Sink>(
             starts.format(start).as_bytes(),
             b"\t",
             stops.format(block.stop).as_bytes(),
-            results(block),
+            results,
             b"\n",
         ],
     )

@@ -10,7 +10,7 @@ ghost use Rattle.iv_track.specs.Steps.{TakesUpTo};
 use crate::changing::Changes;
 use crate::coming::Coming;
 use crate::depth_rows::DepthRows;
-use iv_text::{Genome, Sink, WriteFault, put_pieces};
+use iv_text::{Genome, RowTail, Sink, WriteFault};
 use iv_track::Meter;
 use std::alloc::Allocator;
 
@@ -57,25 +57,18 @@ fn put_run<S: Sink>(
 ) -> Result<(), WriteFault>
     ensures { Puts (S.state sink.old) (S.state sink.new) result (run_row name.now (record { start = start; stop = stop; value = depth })) }
 {
-    let mut starts = itoa::Buffer::new();
-    let mut stops = itoa::Buffer::new();
-    let mut depths = itoa::Buffer::new();
-    put_pieces(
-        sink,
-        &[
-            name,
-            b"\t",
-            starts.format(start).as_bytes(),
-            b"\t",
-            stops.format(stop).as_bytes(),
-            b"\t",
-            depths.format(depth).as_bytes(),
-            b"\n",
-        ],
-    )
+    let mut tail = RowTail::new();
+    tail.lay_byte(b'\n');
+    tail.lay_number(depth);
+    tail.lay_byte(b'\t');
+    tail.lay_number(stop);
+    tail.lay_byte(b'\t');
+    tail.lay_number(start);
+    tail.lay_byte(b'\t');
+    tail.put_behind(name, sink)
 }
 
-/// Puts a row for each of the positions, which are all of this depth. The depth is made to text once.
+/// Puts a row for each of the positions, which are all of this depth.
 fn put_positions<S: Sink>(
     name: &[u8],
     start: u64,
@@ -85,10 +78,8 @@ fn put_positions<S: Sink>(
 ) -> Result<(), WriteFault>
     ensures { Puts (S.state sink.old) (S.state sink.new) result (flat_map (λ p. position_row name.now p depth) (range_with_len start (stop - start))) }
 {
-    let mut depths = itoa::Buffer::new();
-    let depth_text = depths.format(depth).as_bytes();
     for position in start..stop {
-        put_position(name, position + 1, depth_text, sink)?;
+        put_position(name, position + 1, depth, sink)?;
     }
     Ok(())
 }
@@ -97,23 +88,18 @@ fn put_positions<S: Sink>(
 fn put_position<S: Sink>(
     name: &[u8],
     number: u64,
-    depth: &[u8],
+    depth: u64,
     sink: &mut S,
 ) -> Result<(), WriteFault>
-    ensures { Puts (S.state sink.old) (S.state sink.new) result (name.now ++ codes "\t" ++ decimal number ++ codes "\t" ++ depth.now ++ codes "\n") }
+    ensures { Puts (S.state sink.old) (S.state sink.new) result (name.now ++ codes "\t" ++ decimal number ++ codes "\t" ++ decimal depth ++ codes "\n") }
 {
-    let mut numbers = itoa::Buffer::new();
-    put_pieces(
-        sink,
-        &[
-            name,
-            b"\t",
-            numbers.format(number).as_bytes(),
-            b"\t",
-            depth,
-            b"\n",
-        ],
-    )
+    let mut tail = RowTail::new();
+    tail.lay_byte(b'\n');
+    tail.lay_number(depth);
+    tail.lay_byte(b'\t');
+    tail.lay_number(number);
+    tail.lay_byte(b'\t');
+    tail.put_behind(name, sink)
 }
 
 /// Puts the rows of one sequence, and goes past its changes. At most one step for each of them.

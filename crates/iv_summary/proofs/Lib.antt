@@ -1,3 +1,3 @@
-mod TakingLemmas
+pub mod TakingLemmas
 mod JoinLemmas
 pub mod DifferentLemmas

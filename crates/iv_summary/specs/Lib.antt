@@ -1,4 +1,4 @@
-pub mod Takings
 pub mod Summaries
+pub mod Takings
 pub mod Columns
 pub mod Values

@@ -1,6 +1,8 @@
 -- How two numbers are taken together.
-use Rattle.std.specs.Prelude.{ℕ, ℤ, ◌+ℤ◌, unsigned_abs, Option, None, Some}
+use Rattle.std.specs.Prelude.{ℕ, ℤ, ◌+ℤ◌, unsigned_abs, fold, List, Option, None, Some}
 use Rattle.std.specs.Int.{int_min, int_max}
+use Rattle.std.specs.Option.{option_and_then}
+use Rattle.iv_summary.specs.Summaries.{numbers_of, taken_together}
 use Rattle.iv_summary.specs.declared.taking.Taking.{Taking}
 use Rattle.iv_summary.specs.declared.taking.Taking.TheVariants.{Sum, Least, Greatest}
 
@@ -19,3 +21,12 @@ with_number both (Some before) number = both before number
 abbrev pub size : Option ℤ → ℕ
 size None = 0
 size (Some number) = unsigned_abs number
+
+-- numbers to come, taken together with what was taken before
+abbrev pub from_taken : (ℤ → ℤ → ℤ) → Option ℤ → List ℤ → Option ℤ
+from_taken both None numbers = taken_together both numbers
+from_taken both (Some taken) numbers = Some (fold both taken numbers)
+
+-- the numbers among values to come, taken together with what was taken before; none where some value is no number
+abbrev pub going : (ℤ → ℤ → ℤ) → Option ℤ → List (List ℕ) → Option ℤ
+going both taken values = option_and_then (from_taken both taken) (numbers_of values)

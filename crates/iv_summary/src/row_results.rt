@@ -1,13 +1,12 @@
 //! Results over the records of a block.
 ghost use Rattle.std.specs.Prelude.{◌≡◌, map, IfOk};
 ghost use Rattle.iv_summary.specs.Columns.{column_value, result_over as result_of, results_over};
-ghost use Rattle.iv_summary.specs.Values.{value_text};
 
 use crate::column::{Column, Summary};
-use crate::digits::Digits;
 use crate::op::Op;
 use crate::summarizing::{count_text, summary};
-use iv_text::{Record, strand_bytes};
+use crate::value::Value;
+use iv_text::Record;
 use std::alloc::{AllocError, Allocator};
 
 /// All results over records on a sequence of this name, each with a TAB in front of it.
@@ -52,55 +51,22 @@ fn cells<'a, A: Allocator + Copy>(
     sequence: &'a [u8],
     rows: &[&'a Record<A>],
 ) -> Result<Vec<Value<'a>, A>, AllocError>
-    ensures { IfOk result (λ cells. map value_text cells.items ≡ map (column_value sequence.now column) (map (λ row. row.now) rows.now)) }
+    ensures { IfOk result (λ cells. cells.items ≡ map (column_value sequence.now column) (map (λ row. row.now) rows.now)) }
 {
     let mut cells = Vec::with_capacity(alloc, rows.len())?;
     for row in rows {
-        cells.push(Value::of(column, sequence, *row))?;
+        cells.push(Value::of(column, sequence, &row.as_ref()))?;
     }
     Ok(cells)
 }
 
 /// The values as texts.
 fn texts<'a, A: Allocator>(alloc: A, cells: &'a [Value<'_>]) -> Result<Vec<&'a [u8], A>, AllocError>
-    ensures { IfOk result (λ texts. map (λ text. text.now) texts.items ≡ map value_text cells.now) }
+    ensures { IfOk result (λ texts. map (λ text. text.now) texts.items ≡ cells.now) }
 {
     let mut texts = Vec::with_capacity(alloc, cells.len())?;
     for cell in cells {
         texts.push(cell.as_slice())?;
     }
     Ok(texts)
-}
-
-/// The value of a record's column: a text that is lent, or a position.
-#[derive(Debug, Drop)]
-enum Value<'a> {
-    Text(&'a [u8]),
-    Position(Digits),
-}
-
-impl<'a> Value<'a> {
-    /// The value of a record's column, where its sequence has this name.
-    fn of<A: Allocator>(column: Column, sequence: &'a [u8], row: &'a Record<A>) -> Value<'a>
-        ensures { value_text result ≡ column_value sequence.now column row.now }
-    {
-        match column {
-            Column::Sequence => Value::Text(sequence),
-            Column::Start => Value::Position(Digits::of(row.start())),
-            Column::Stop => Value::Position(Digits::of(row.stop())),
-            Column::Name => Value::Text(row.name()),
-            Column::Score => Value::Text(row.score()),
-            Column::Strand => Value::Text(strand_bytes(row.strand())),
-        }
-    }
-
-    /// The value as text.
-    fn as_slice(&self) -> &[u8]
-        ensures { result.now ≡ value_text self.now }
-    {
-        match self {
-            Value::Text(text) => text,
-            Value::Position(digits) => digits.as_slice(),
-        }
-    }
 }

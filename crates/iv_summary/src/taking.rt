@@ -1,18 +1,22 @@
 //! Numbers taken together two by two.
-ghost use Rattle.std.specs.Prelude.{◌≡◌, ◌≤◌, ◌+◌, ◌<◌, ◌^◌, map, unsigned_abs};
+ghost use Rattle.std.specs.Prelude.{◌≡◌, ◌≤◌, ◌+◌, ◌<◌, ◌^◌, ◌∷◌, List, ℕ, None, map, unsigned_abs, IfOk, OnErr};
 ghost use Rattle.std.specs.Option.{option_and_then};
 ghost use Rattle.iv_summary.specs.Summaries.{numbers_of, taken_together};
-ghost use Rattle.iv_summary.specs.Takings.{both_of, with_number, size};
+ghost use Rattle.iv_summary.specs.Takings.{both_of, with_number, size, going};
 
 use crate::number::read_number;
 
 /// How two numbers are taken together.
 #[derive(Clone, Copy, Debug, PartialEq, Eq)]
-pub(crate) enum Taking {
+pub enum Taking {
     Sum,
     Least,
     Greatest,
 }
+
+/// A value that is neither a number nor a full stop.
+#[derive(Clone, Copy, Debug, PartialEq, Eq, Drop)]
+pub struct NotANumber;
 
 impl Taking {
     /// The numbers among values taken together, `None` where there is none, and where a value other than a full stop is
@@ -22,12 +26,32 @@ impl Taking {
     {
         let mut taken = None;
         for value in values {
-            if *value != b".".as_slice() {
-                let number = read_number(value)?;
-                taken = Some(self.with_number(taken, number));
-            }
+            let Ok(more) = self.with_value(taken, value) else {
+                return None;
+            };
+            taken = more;
         }
         taken
+    }
+
+    /// What was taken together before, if anything was, with one value more. A full stop changes nothing.
+    ///
+    /// # Errors
+    ///
+    /// The value is neither a number nor a full stop.
+    pub fn with_value(self, before: Option<i128>, value: &[u8]) -> Result<Option<i128>, NotANumber>
+        requires { size before + 10 ^ 15 ≤ 2 ^ 127 }
+        ensures value { IfOk result (λ taken. (values : List (List ℕ)) → going (both_of self) before (value.now ∷ values) ≡ going (both_of self) taken values) }
+        ensures small { IfOk result (λ taken. size taken ≤ size before + 10 ^ 15) }
+        ensures none { OnErr result ((values : List (List ℕ)) → going (both_of self) before (value.now ∷ values) ≡ None) }
+    {
+        if value == b".".as_slice() {
+            return Ok(before);
+        }
+        match read_number(value) {
+            Some(number) => Ok(Some(self.with_number(before, number))),
+            None => Err(NotANumber),
+        }
     }
 
     /// What was taken together before, if anything was, with one number more.

@@ -7,7 +7,7 @@ use Rattle.iv_cover.specs.Coming.{is_joined, coming}
 use Rattle.iv_cover.proofs.Comings.{coming-joined}
 
 -- the first of what is left after n records
-drop-next : {X : Type 0} (n : ℕ) (xs : List X) (r : X) (rs : List X) → drop n xs ≡ r ∷ rs → (suc n ≤ length xs) × (drop (suc n) xs ≡ rs) × (take (suc n) xs ≡ take n xs ++ r ∷ [])
+pub drop-next : {X : Type 0} (n : ℕ) (xs : List X) (r : X) (rs : List X) → drop n xs ≡ r ∷ rs → (suc n ≤ length xs) × (drop (suc n) xs ≡ rs) × (take (suc n) xs ≡ take n xs ++ r ∷ [])
 drop-next zero [] r rs e = cc
 drop-next zero (x ∷ xs) r rs e = (omega arith, cc, cc)
 drop-next (suc n) [] r rs e = cc

@@ -8,9 +8,8 @@ ghost use Rattle.iv_blocks.specs.ClusterRows.{cluster_text};
 ghost use Rattle.iv_sweep_blocks.specs.Sweeps.{numbered_row};
 
 use crate::text_blocks::TextBlocks;
-use iv_blocks::put_numbered;
 use iv_places::TextRecords;
-use iv_text::{Genome, Sink, WriteFault};
+use iv_text::{Genome, Sink, WriteFault, put_numbered};
 use std::alloc::Allocator;
 
 /// Puts a row for each record: its columns, and the number of its block, counted from 1 over all sequences.
@@ -48,7 +47,7 @@ fn put_members<A: Allocator + Copy, S: Sink>(
     ensures { Puts (S.state sink.old) (S.state sink.new) result (flat_map (numbered_row genome.now number) members.entry) }
 {
     for member in members {
-        put_numbered(&member.to_ref(), number, genome, sink)?;
+        put_numbered(sink, genome, &member.to_ref(), number)?;
     }
     Ok(())
 }

@@ -12,5 +12,5 @@ mod text_blocks;
 pub use cluster::put_cluster;
 pub use complement::put_complement;
 pub use merge::put_merge;
-pub use text_block::TextBlock;
+pub use text_block::{TextBlock, block_of};
 pub use text_blocks::TextBlocks;

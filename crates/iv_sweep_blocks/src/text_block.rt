@@ -21,7 +21,7 @@ impl<'t> Model for TextBlock<'t> {
 }
 
 /// A block of one record.
-pub(crate) fn block_of(next: &TextRecord<'_>) -> Block
+pub fn block_of(next: &TextRecord<'_>) -> Block
     ensures { result ≡ record { sequence = next.now.seq; start = next.now.start; stop = next.now.stop } }
 {
     next.law_of_place();

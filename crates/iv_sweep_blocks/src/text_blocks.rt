@@ -70,8 +70,7 @@ impl<'t> Iterator for TextBlocks<'t> {
         let _few = self.rest.len();
         let (first, others) = self.rest.split_first()?;
         let (block, count) = block_from(&first, others, self.distance);
-        let (members, rest) = self.rest.split_at(count);
-        self.rest = rest;
+        let members = self.rest.take_front(count);
         Some(TextBlock { block, members })
     }
 }

@@ -1,4 +1,4 @@
-use Rattle.std.proofs.Common.{◌∙◌, arith}
+use Rattle.std.proofs.Common.{arith}
 use Rattle.iv_bytes.proofs.Putting.{Underway-begin, Underway-more, Underway-fails, Underway-ends, Puts-err}
 use Rattle.iv_depth.specs.DepthRows.{position_row}
 use Rattle.iv_depth.proofs.Stretches.{each-next, each-none}
@@ -10,12 +10,12 @@ loop-position-init g c = Underway-begin _ _
 pub returns-in_err-put_position : goal.returns-in_err-put_position
 returns-in_err-put_position g c =
     Puts-err _ _ c.from_residual.result _ c.from_residual.ensures.0
-    (Underway-fails _ _ _ _ _ _ (rw (each-next (position_row c.args.name.now) c.args.depth c.loop-position.position c.args.stop c.loop-position-test.true) at c.loop-position.invariant) (rw (c.as_bytes-depth_text.ensures.value ∙ c.format.ensures.text) at c.in_err-put_position.ensures))
+    (Underway-fails _ _ _ _ _ _ (rw (each-next (position_row c.args.name.now) c.args.depth c.loop-position.position c.args.stop c.loop-position-test.true) at c.loop-position.invariant) c.in_err-put_position.ensures)
 
 pub loop-position-preserved : goal.loop-position-preserved
 loop-position-preserved g c =
     Underway-more _ _ _ _ _ _ (rw (each-next (position_row c.args.name.now) c.args.depth c.loop-position.position c.args.stop c.loop-position-test.true) at c.loop-position.invariant)
-    (rw (c.as_bytes-depth_text.ensures.value ∙ c.format.ensures.text) at c.in_ok-put_position.ensures)
+    c.in_ok-put_position.ensures
 
 pub returns : goal.returns
 returns g c =

@@ -1,6 +1,5 @@
 use Rattle.std.proofs.Common.{◌≡◌, map, take}
-use Rattle.iv_summary.specs.Values.{value_text}
 use Rattle.iv_summary.proofs.row_results.texts.Given as goal
 
 abbrev pub invariant-loop-cell : goal.invariant-loop-cell
-invariant-loop-cell g l = map (λ text. text.now) l.texts.items ≡ map value_text (take l.cell-index l.cells)
+invariant-loop-cell g l = map (λ text. text.now) l.texts.items ≡ take l.cell-index l.cells

@@ -1,6 +1,6 @@
 use Rattle.std.proofs.Common.{◌≡◌, ◌≤◌, ◌*◌, ◌^◌, None}
-use Rattle.iv_summary.specs.Takings.{both_of, size}
-use Rattle.iv_summary.proofs.TakingLemmas.{going, from}
+use Rattle.iv_summary.specs.Takings.{both_of, size, going}
+use Rattle.iv_summary.proofs.TakingLemmas.{from}
 use Rattle.iv_summary.proofs.taking.Taking.of_values.Given as goal
 
 abbrev pub invariant-loop-value : goal.invariant-loop-value
