@@ -1,0 +1,6 @@
+pub mod SideLemmas
+pub mod SequenceLemmas
+pub mod DistinctLemmas
+pub mod RoomLemmas
+pub mod FirstLemmas
+pub mod TextLemmas
