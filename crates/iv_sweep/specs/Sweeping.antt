@@ -6,6 +6,7 @@ use Rattle.iv_view.specs.declared.view.View.{View}
 use Rattle.iv_view.specs.declared.view.View.TheVariants as view
 use Rattle.iv_view.specs.declared.view.KeptView.TheVariants as kept
 use Rattle.iv_view.specs.declared.written_view.WrittenView.TheVariants as written
+use Rattle.iv_sweep.specs.declared.coverage_sweep.CoverageSweep.{CoverageSweep}
 use Rattle.iv_sweep.specs.declared.paired_sweep.PairedSweep.{PairedSweep}
 use Rattle.iv_sweep.specs.declared.paired_sweep.PairedSweep.TheVariants as paired
 use Rattle.iv_sweep.specs.declared.sweep.Sweep.{Sweep}
@@ -21,3 +22,11 @@ IsSweepOf (sweep.Complement limited) v = v ≡ view.Kept (kept.Complement limite
 abbrev pub IsPairedSweepOf : PairedSweep → View → Type 0
 IsPairedSweepOf (paired.Intersect shown) v = v ≡ view.Written (written.Intersect shown)
 IsPairedSweepOf (paired.Subtract whole) v = v ≡ view.Written (written.Subtract whole)
+
+-- the sweep of depth prints the view: a genomecov of its rows
+abbrev pub IsCoverageSweepOf : CoverageSweep → View → Type 0
+IsCoverageSweepOf sweep v = v ≡ view.Kept (kept.Genomecov sweep.shown)
+
+-- the view is a merge with these options
+abbrev pub IsMergeOf : Options → View → Type 0
+IsMergeOf options v = v ≡ view.Kept (kept.Merge options)
