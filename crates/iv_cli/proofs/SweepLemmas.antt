@@ -108,3 +108,7 @@ module _ (said : Result Parsed CliFault) (beside : Bool) (s : Sorted) (are : Are
     -- a prefix of it is, and the output failed
     pub shows-front : (old new : SinkState) → FailsIn old new (view_text view s.genome s.rows s.others []) → Shows old new (Err fault.Output) (shown_of words said)
     shows-front old new fails = (view_text view s.genome s.rows s.others [], text-is, fails)
+
+    -- a print that shows the text shows what the words ask for
+    pub shows-said : (old new : SinkState) (result : Result (Unit {0}) CliFault) → Shows old new result (Ok (view_text view s.genome s.rows s.others [])) → Shows old new result (shown_of words said)
+    shows-said old new result shows = subst (λ (to_show : Result (List ℕ) CliFault). Shows old new result to_show) (sym text-is) shows

@@ -11,7 +11,7 @@ use crate::sorted_file::SortedFile;
 use crate::sorted_pair::SortedPair;
 use iv_bytes::Sink;
 use iv_session::{Session, ViewWords};
-use iv_sweep::{PairedSweep, Sweep};
+use iv_sweep::{CoverageSweep, PairedSweep, Sweep, merge_options};
 use std::alloc::Allocator;
 use std::mem;
 
@@ -58,7 +58,10 @@ fn is_short(text: &[u8]) -> bool
 
 /// Whether a view of this kind may have a sweep over the records of one file.
 fn may_be_swept(run: Run) -> bool {
-    matches!(run, Run::Merge | Run::Cluster | Run::Complement)
+    matches!(
+        run,
+        Run::Merge | Run::Cluster | Run::Complement | Run::Genomecov
+    )
 }
 
 /// Whether a view of this kind may have a sweep over the records of two files.
@@ -82,11 +85,15 @@ fn shot_by_sweep<A: Allocator + Copy, S: Sink>(
 {
     let file = SortedFile::read(alloc, plan, inputs.sizes, inputs.first, limit)?;
     let view = ViewWords::read(alloc, file.width(), false, false, plan.view_words())?;
-    match Sweep::of(&view) {
-        Some(sweep) => {
-            file.print(sweep, sink)?;
-            Ok(())
-        }
+    if let Some(sweep) = CoverageSweep::of(&view) {
+        return file.print_depth(alloc, sweep, sink);
+    }
+    if let Some(sweep) = Sweep::of(&view) {
+        file.print(sweep, sink)?;
+        return Ok(());
+    }
+    match merge_options(&view) {
+        Some(options) => file.print_merge(alloc, options, sink),
         None => shot_by_session(alloc, plan, inputs, limit, sink),
     }
 }

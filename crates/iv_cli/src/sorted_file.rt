@@ -1,19 +1,19 @@
 //! The genome file and the first BED file of a run, with the records sorted where they stand in the text.
-ghost use Rattle.std.specs.Prelude.{◌≡◌, ◌<◌, ◌≤◌, ◌^◌, ◌⊎◌, List, None, false, IfOk, IfErr, length};
+ghost use Rattle.std.specs.Prelude.{◌≡◌, ◌<◌, ◌≤◌, ◌^◌, ◌⊎◌, List, None, Ok, false, IfOk, IfErr, length};
 ghost use Rattle.iv_bytes.specs.Sinks.{Puts};
 ghost use Rattle.iv_text.specs.Row.{Row};
 ghost use Rattle.iv_fasta.specs.Fasta.{Bases};
-ghost use Rattle.iv_sweep.specs.Sweeping.{IsSweepOf};
+ghost use Rattle.iv_sweep.specs.Sweeping.{IsCoverageSweepOf, IsMergeOf, IsSweepOf};
 ghost use Rattle.iv_view.specs.Views.{view_text};
 ghost use Rattle.iv_view.specs.declared.view.View.{View};
 ghost use Rattle.iv_cli.specs.Loading.{parsed};
-ghost use Rattle.iv_cli.specs.Shots.{AreSorted};
+ghost use Rattle.iv_cli.specs.Shots.{AreSorted, Shows};
 
 use crate::fault::CliFault;
 use crate::plan::{Plan, Slot};
 use iv_bytes::{Sink, WriteFault};
 use iv_places::BedText;
-use iv_sweep::Sweep;
+use iv_sweep::{CoverageSweep, DepthSweep, MergeSweep, Options, Sweep, print_merge};
 use iv_text::Genome;
 use std::alloc::{Allocator, Global};
 use std::marker::Model;
@@ -74,5 +74,43 @@ impl<'t, A: Allocator + Copy> SortedFile<'t, A> {
         ensures { (view : View) (second : List Row) (bases : Bases) → IsSweepOf sweep view → Puts (S.state sink.old) (S.state sink.new) result (view_text view self.now.genome self.now.rows second bases) }
     {
         sweep.print(&self.records.records(), &self.genome, sink)
+    }
+
+    /// Prints the text of the view of a sweep of depth. All memory is had before the first byte is printed.
+    ///
+    /// # Errors
+    ///
+    /// `Memory`, and then nothing was printed. `Output`, and then a prefix of the text was.
+    pub(crate) fn print_depth<S: Sink>(
+        &self,
+        alloc: A,
+        sweep: CoverageSweep,
+        sink: &mut S,
+    ) -> Result<(), CliFault>
+        ensures { (view : View) (second : List Row) (bases : Bases) → IsCoverageSweepOf sweep view
+            → Shows (S.state sink.old) (S.state sink.new) result (Ok (view_text view self.now.genome self.now.rows second bases)) }
+    {
+        let mut records = DepthSweep::new(alloc, self.records.records())?;
+        sweep.print(&mut records, &self.genome, sink)?;
+        Ok(())
+    }
+
+    /// Prints the text of a merge with these options. All memory is had before the first byte is printed.
+    ///
+    /// # Errors
+    ///
+    /// `Memory`, and then nothing was printed. `Output`, and then a prefix of the text was.
+    pub(crate) fn print_merge<S: Sink>(
+        &self,
+        alloc: A,
+        options: Options,
+        sink: &mut S,
+    ) -> Result<(), CliFault>
+        ensures { (view : View) (second : List Row) (bases : Bases) → IsMergeOf options view
+            → Shows (S.state sink.old) (S.state sink.new) result (Ok (view_text view self.now.genome self.now.rows second bases)) }
+    {
+        let mut sweep = MergeSweep::new(alloc, options, self.records.records())?;
+        print_merge(&mut sweep, &self.genome, sink)?;
+        Ok(())
     }
 }
