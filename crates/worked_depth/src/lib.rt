@@ -1,5 +1,5 @@
-//! Tests of depth: rows whose answers were worked out by hand, the steps of repairs and prints, and growths that are
-//! refused.
+//! Tests of depth: rows whose answers were worked out by hand, kept and in one sweep, the steps of repairs and prints, and
+//! growths that are refused.
 #![tactic(auto)]
 
 #[cfg(test)]
@@ -8,5 +8,7 @@ mod refusals;
 mod rows;
 #[cfg(test)]
 mod steps;
+#[cfg(test)]
+mod sweeps;
 #[cfg(test)]
 mod watched;

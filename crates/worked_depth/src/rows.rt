@@ -1,4 +1,5 @@
 //! The rows of records, in the three ways.
+use crate::sweeps::sweeps;
 use crate::watched::{Watched, had};
 use iv_depth::DepthRows;
 use refusing::RefusesNth;
@@ -33,7 +34,8 @@ impl Edits<'_> {
         Ok(watched)
     }
 
-    /// Whether the rows are these, with the depth repaired at each edit and with the depth built anew.
+    /// Whether the rows are these, with the depth repaired at each edit, with the depth built anew, and, where no record is
+    /// taken out, in one sweep.
     fn give(
         self,
         rt: &HostRuntime,
@@ -46,7 +48,14 @@ impl Edits<'_> {
         if watched.refused > 0 || !watched.prints(rt, want)? {
             return Ok(false);
         }
-        had(watched.built_anew())?.prints(rt, want)
+        if !had(watched.built_anew())?.prints(rt, want)? {
+            return Ok(false);
+        }
+        if self.removed.is_empty() {
+            sweeps(rt, sizes, shown, self.added, want)
+        } else {
+            Ok(true)
+        }
     }
 }
 

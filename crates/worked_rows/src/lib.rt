@@ -16,6 +16,7 @@ mod fixtures;
 mod ledgers;
 #[cfg(test)]
 mod places;
+mod printed;
 #[cfg(test)]
 mod records;
 #[cfg(test)]

@@ -167,8 +167,8 @@ fn are_same(texts: TextRecords<'_>, records: &[Record]) -> bool {
 
 /// Whether a text and its parsed file have the same records, in the order of the file and sorted.
 fn sorts_as_its_file(rt: &HostRuntime, genome: &Genome, text: &[u8]) -> Result<bool, Fail> {
-    let mut records = BedFile::parse(rt.alloc(), genome, 5, 9, text)?.into_records();
-    let mut bed = bed_text(rt.alloc(), genome, 9, text)?;
+    let mut records = BedFile::parse(rt.alloc(), genome, 5, 99, text)?.into_records();
+    let mut bed = bed_text(rt.alloc(), genome, 99, text)?;
     let unsorted = are_same(bed.records(), records.as_slice());
     records.sort()?;
     bed.sort();
@@ -179,6 +179,30 @@ fn sorts_as_its_file(rt: &HostRuntime, genome: &Genome, text: &[u8]) -> Result<b
 fn records_in_the_order_of_a_track(rt: HostRuntime) -> Result<(), Fail> {
     let genome = Genome::parse(rt.alloc(), SIZES)?;
     assert!(rt; sorts_as_its_file(&rt, &genome, SHUFFLED)?);
+    Ok(())
+}
+
+/// The lines of records in order, but for so many of one start, of which the longest come first.
+fn tied_lines(rt: &HostRuntime, count: u32) -> Result<String, Fail> {
+    let mut text = String::new(rt.alloc());
+    text.push_str("chr1\t1\t2\tn\t0\t+\n")?;
+    for index in 0..count {
+        let stop = 99u32.saturating_sub(index);
+        let line = format!(in rt.alloc(); "chr1\t5\t{stop}\tn\t0\t+\n")?;
+        text.push_str(&line)?;
+    }
+    text.push_str("chr1\t6\t7\tn\t0\t+\n")?;
+    Ok(text)
+}
+
+/// A few records of one start are put in order beforehand; many are not, and are sorted all the same.
+#[test]
+fn records_of_one_start(rt: HostRuntime) -> Result<(), Fail> {
+    let genome = Genome::parse(rt.alloc(), SIZES)?;
+    for count in [2, 3, 16, 17, 18, 40] {
+        let text = tied_lines(&rt, count)?;
+        assert!(rt; sorts_as_its_file(&rt, &genome, text.as_bytes())?);
+    }
     Ok(())
 }
 

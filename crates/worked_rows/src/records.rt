@@ -1,6 +1,6 @@
 //! Records of lines.
 use crate::fixtures::genome;
-use iv_text::{Genome, Record, RecordFault, Strand, read_record};
+use iv_text::{Genome, Record, RecordFault, RecordReader, Strand, read_record};
 use std::cmp::Ordering;
 use std::mem::size_of;
 use std::test::Fail;
@@ -107,6 +107,33 @@ fn records_that_fit(rt: HostRuntime) -> Result<(), Fail> {
     let genome = genome(&rt)?;
     let small = Genome::parse(rt.alloc(), b"chr1\t19\n")?;
     check_fits(&rt, &genome, &small)
+}
+
+/// What a text begins with behind a first line, where it is known as a short line: rank, start, stop and how many bytes.
+fn short_line(genome: &Genome, first: &[u8], text: &[u8]) -> Option<(u32, u32, u32, usize)> {
+    let mut reader = RecordReader::new(genome);
+    reader.read(3, first).ok()?;
+    let line = reader.read_short(text)?;
+    Some((line.seq, line.start, line.stop, line.size))
+}
+
+#[test]
+fn short_lines(rt: HostRuntime) -> Result<(), Fail> {
+    let genome = genome(&rt)?;
+    for (text, want) in [
+        (
+            b"chr2\t3\t50\nchr1\t1\t2\n".as_slice(),
+            Some((1, 3, 50, 10)),
+        ),
+        (b"chr2\t3\t50\r\n\n", Some((1, 3, 50, 11))),
+        (b"chr1\t3\t50\n", None),
+        (b"chr2\t3\t51\n", None),
+        (b"chr2\t3\t50", None),
+        (b"chr2\t3\t50\tn\n", None),
+    ] {
+        assert!(rt; short_line(&genome, b"chr2\t1\t2", text) == want);
+    }
+    Ok(())
 }
 
 /// A record of six columns.

@@ -83,3 +83,17 @@ fn each_growth_of_an_intersect_refused(rt: HostRuntime) -> Result<(), Fail> {
     assert!(rt; 3 < refused_runs(&rt, &words, &inputs, rows)?);
     Ok(())
 }
+
+#[test]
+fn each_growth_of_a_genomecov_refused(rt: HostRuntime) -> Result<(), Fail> {
+    let inputs = Inputs {
+        sizes: b"chr1\t100\n",
+        first: b"chr1\t30\t40\nchr1\t10\t35\n",
+        other: None,
+        bases: None,
+    };
+    let words: [&[u8]; 6] = [b"genomecov", b"-bg", b"-g", b"g", b"-i", b"a"];
+    let rows = b"chr1\t10\t30\t1\nchr1\t30\t35\t2\nchr1\t35\t40\t1\n";
+    assert!(rt; 3 < refused_runs(&rt, &words, &inputs, rows)?);
+    Ok(())
+}

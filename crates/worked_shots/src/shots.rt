@@ -108,6 +108,82 @@ fn merge_of_unsorted_records(rt: HostRuntime) -> Result<(), Fail> {
     Ok(())
 }
 
+/// Each operation, over the values of a column in the order of the records.
+#[test]
+fn merge_with_summaries(rt: HostRuntime) -> Result<(), Fail> {
+    let inputs = alone(
+        b"chr1\t13\t20\tc\t007\nchr1\t10\t20\ta\t5\nchr1\t11\t20\tb\t.\nchr1\t12\t20\ta\t-7\n",
+    );
+    for (words, rows) in [
+        (
+            b"merge -c 5,5,5,4,4 -o sum,min,max,distinct,collapse -g g -i a".as_slice(),
+            b"chr1\t10\t20\t5\t-7\t7\ta,b,c\ta,b,a,c\n".as_slice(),
+        ),
+        (
+            b"merge -c 5 -o distinct -g g -i a",
+            b"chr1\t10\t20\t-7,.,007,5\n",
+        ),
+        (b"merge -c 5 -g g -i a", b"chr1\t10\t20\t5\n"),
+        (b"merge -c 4 -o count -g g -i a", b"chr1\t10\t20\t4\n"),
+    ] {
+        assert!(rt; prints(&rt, words, &inputs, rows)?);
+    }
+    let inputs = alone(b"chr1\t10\t20\ta\t5\nchr1\t14\t20\td\t2.5\n");
+    let rows = b"chr1\t10\t20\t.\t.\t.\n";
+    assert!(rt; prints(&rt, b"merge -c 5 -o sum,min,max -g g -i a", &inputs, rows)?);
+    Ok(())
+}
+
+/// Names of sequences and positions are values too; a block has the values of its own records.
+#[test]
+fn merge_with_places(rt: HostRuntime) -> Result<(), Fail> {
+    let inputs = alone(b"chr2\t5\t9\nchr1\t10\t20\nchr1\t9\t12\nchr1\t9\t10\nchr1\t90\t91\n");
+    let rows = b"chr1\t9\t20\tchr1\t10,9\t20\nchr1\t90\t91\tchr1\t90\t91\nchr2\t5\t9\tchr2\t5\t9\n";
+    assert!(rt;
+        prints(
+            &rt,
+            b"merge -c 1,2,3 -o distinct,distinct,max -g g -i a",
+            &inputs,
+            rows
+        )?
+    );
+    let rows = b"chr1\t9\t91\t9,9,10,90\nchr2\t5\t9\t5\n";
+    assert!(rt;
+        prints(
+            &rt,
+            b"merge -d 70 -c 2 -o collapse -g g -i a",
+            &inputs,
+            rows
+        )?
+    );
+    Ok(())
+}
+
+/// `+` before `-` on each sequence, and a record with `.` is in no block.
+#[test]
+fn merge_with_strands_apart(rt: HostRuntime) -> Result<(), Fail> {
+    let inputs = alone(
+        b"chr2\t0\t5\tg\t0\t-\nchr1\t25\t35\te\t0\t-\nchr1\t10\t20\ta\t0\t+\nchr1\t12\t40\td\t0\t.\nchr1\t15\t25\tb\t0\t-\nchr1\t20\t30\tc\t0\t+\n",
+    );
+    for (words, rows) in [
+        (
+            b"merge -s -g g -i a".as_slice(),
+            b"chr1\t10\t30\nchr1\t15\t35\nchr2\t0\t5\n".as_slice(),
+        ),
+        (
+            b"merge -s -c 6,4 -o distinct,collapse -g g -i a",
+            b"chr1\t10\t30\t+\ta,c\nchr1\t15\t35\t-\tb,e\nchr2\t0\t5\t-\tg\n",
+        ),
+        (
+            b"merge -c 4 -o collapse -g g -i a",
+            b"chr1\t10\t40\ta,d,b,c,e\nchr2\t0\t5\tg\n",
+        ),
+    ] {
+        assert!(rt; prints(&rt, words, &inputs, rows)?);
+    }
+    Ok(())
+}
+
 #[test]
 fn genomecov(rt: HostRuntime) -> Result<(), Fail> {
     let both = alone(b"chr1\t10\t20\nchr1\t20\t30\n");
@@ -116,6 +192,38 @@ fn genomecov(rt: HostRuntime) -> Result<(), Fail> {
     assert!(rt; prints(&rt, b"genomecov -bg -g g -i a", &one, b"chr1\t20\t30\t1\n")?);
     let rows = b"chr1\t0\t20\t0\nchr1\t20\t30\t1\nchr1\t30\t100\t0\nchr2\t0\t50\t0\n";
     assert!(rt; prints(&rt, b"genomecov -g g -bga -i a", &one, rows)?);
+    Ok(())
+}
+
+/// Records of two sequences, out of order: two share some bases, and one begins where two others end.
+#[test]
+fn genomecov_of_unsorted_records(rt: HostRuntime) -> Result<(), Fail> {
+    let inputs = alone(b"chr2\t5\t9\nchr1\t40\t50\nchr1\t30\t40\nchr1\t10\t40\n");
+    let rows = b"chr1\t10\t30\t1\nchr1\t30\t40\t2\nchr1\t40\t50\t1\nchr2\t5\t9\t1\n";
+    assert!(rt; prints(&rt, b"genomecov -bg -g g -i a", &inputs, rows)?);
+    let rows =
+        b"chr1\t0\t10\t0\nchr1\t10\t30\t1\nchr1\t30\t40\t2\nchr1\t40\t50\t1\nchr1\t50\t100\t0\nchr2\t0\t5\t0\nchr2\t5\t9\t1\nchr2\t9\t50\t0\n";
+    assert!(rt; prints(&rt, b"genomecov -bga -g g -i a", &inputs, rows)?);
+    Ok(())
+}
+
+#[test]
+fn genomecov_of_each_position(rt: HostRuntime) -> Result<(), Fail> {
+    let inputs = Inputs {
+        sizes: b"t\t4\n",
+        ..alone(b"t\t2\t3\tx\nt\t1\t3\ty\n")
+    };
+    let rows = b"t\t1\t0\nt\t2\t1\nt\t3\t2\nt\t4\t0\n";
+    assert!(rt; prints(&rt, b"genomecov -d -g g -i a", &inputs, rows)?);
+    Ok(())
+}
+
+#[test]
+fn genomecov_without_a_record(rt: HostRuntime) -> Result<(), Fail> {
+    let inputs = alone(b"");
+    assert!(rt; prints(&rt, b"genomecov -bg -g g -i a", &inputs, b"")?);
+    let rows = b"chr1\t0\t100\t0\nchr2\t0\t50\t0\n";
+    assert!(rt; prints(&rt, b"genomecov -bga -g g -i a", &inputs, rows)?);
     Ok(())
 }
 
@@ -301,6 +409,21 @@ fn an_output_that_fails(rt: HostRuntime) -> Result<(), Fail> {
     let rows = b"chr1\t10\t40\nchr2\t5\t9\n".as_slice();
     let plan = Plan::read(rt.alloc(), &[b"merge", b"-g", b"g", b"-i", b"a"])?;
     for room in 0..rows.len() {
+        assert!(rt;
+            is_cut(&rt, &plan, &inputs, room, &rows[..room])?,
+            "{room} bytes"
+        );
+    }
+    Ok(())
+}
+
+#[test]
+fn an_output_that_fails_within_results(rt: HostRuntime) -> Result<(), Fail> {
+    let inputs = alone(b"chr1\t30\t40\tb\nchr1\t10\t35\ta\nchr2\t5\t9\tb\n");
+    let rows = b"chr1\t10\t40\t2\ta,b\nchr2\t5\t9\t1\tb\n".as_slice();
+    let words = words_of(rt.alloc(), b"merge -c 4 -o count,distinct -g g -i a")?;
+    let plan = Plan::read(rt.alloc(), words.as_slice())?;
+    for room in [0, 3, 12, 13, 17, 29] {
         assert!(rt;
             is_cut(&rt, &plan, &inputs, room, &rows[..room])?,
             "{room} bytes"
