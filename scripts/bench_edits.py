@@ -60,7 +60,7 @@ def read_words():
 
 def run_case(wanted, folder, columns):
     genome, track, idle, busy = (os.path.join(folder, name) for name in ("sizes", "sorted.bed", "idle", "busy"))
-    write_data(genome, track, idle, "merge", wanted.records, columns, "sorted")
+    write_data(genome, track, "merge", wanted.records, columns, "sorted")
     opened = "".join(f"open\tv{place}\t{view}\n" for place, view in enumerate(wanted.view))
     write_edits(busy, opened, wanted.edits, columns)
     with open(idle, "w") as file:

@@ -58,7 +58,7 @@ def read_words():
 
 def time_openings(wanted, folder):
     genome, track, empty = (os.path.join(folder, name) for name in ("sizes", "sorted.bed", "empty"))
-    write_data(genome, track, empty, "merge", wanted.records, wanted.columns, "sorted")
+    write_data(genome, track, "merge", wanted.records, wanted.columns, "sorted")
     open(empty, "w").close()
     words = [wanted.program, "session", "-g", genome, "-i", track]
     for view in wanted.view:

@@ -6,14 +6,15 @@
 
 Writes genome and BED files into FOLDER (a temporary folder where none is
 given), the same bytes each time: a file for each number of records, each
-number of columns and each order asked for. Runs both programs in turn over
+number of columns and each order asked for, and what is there already is used again. Runs both programs in turn over
 each, with standard output thrown away, and prints the least and the median
 time of each, their ratios, and the most memory that each held. A shuffled
 file is sorted by `bedtools sort` in front of the command. Before that both
 outputs are compared; where they differ the script stops with status 1.
 `genomecov -d` runs over one sequence, of 250 bases for each record.
 Intersect and subtract take a second file of `--second` records, with `-sorted`
-on the side of bedtools; with `--long` one more record of it covers all of chr1.
+on the side of bedtools; with `--long` one more record of it covers all of chr1,
+with `--long-first` one more record of the first file.
 With `--alone` bedkeep runs the one subcommand, and else a session that opens the view and prints it.
 """
 
@@ -64,10 +65,14 @@ def main():
 
 
 def run_case(wanted, folder, view, records, columns, order):
-    genome, track, second, script = (os.path.join(folder, name) for name in ("sizes", f"{order}.bed", "second.bed", "script"))
-    in_own_process(write_data, genome, track, script, view, records, columns, order)
+    name = f"{records}_{columns}_{order}{'_one' if view == 'genomecov -d' else ''}"
+    genome, track, script = (os.path.join(folder, f"{name}.{ending}") for ending in ("sizes", "bed", "script"))
+    second = os.path.join(folder, "second.bed")
+    if not os.path.exists(track):
+        in_own_process(write_data, genome, track, view, records, columns, order, wanted.long_first)
+    write_script(script, view)
     beside = ["-b", second] if view.startswith(TWO_FILES) else []
-    if beside:
+    if beside and not os.path.exists(second):
         in_own_process(write_second, second, wanted.second, wanted.long)
     # each program: its words, and the file that is its standard input
     programs = {
@@ -110,6 +115,7 @@ def read_words():
     words.add_argument("--columns", type=int, nargs="+", choices=[3, 4, 5, 6], default=[3])
     words.add_argument("--second", type=int, default=200_000, help="records of the second file")
     words.add_argument("--long", action="store_true", help="one more record of the second file covers all of chr1")
+    words.add_argument("--long-first", action="store_true", help="one more record of the first file covers all of chr1")
     words.add_argument("--alone", action="store_true", help="a run of the one subcommand in place of a session")
     words.add_argument("--order", nargs="+", choices=["sorted", "shuffled"], default=["sorted"])
     words.add_argument("--runs", type=int, default=7, help="runs of each program")
@@ -120,17 +126,21 @@ def read_words():
 # ------------------------------------------------------------------ the data
 
 
-def write_data(genome, track, script, view, count, columns, order):
+def write_data(genome, track, view, count, columns, order, long=False):
     chromosomes = [("chr1", 250 * count)] if view == "genomecov -d" else CHROMOSOMES
     with open(genome, "w") as file:
         file.writelines(f"{name}\t{length}\n" for name, length in sorted(chromosomes))
-    rows = enumerate(places(count, chromosomes))
+    rows = enumerate([*places(count, chromosomes), *([(0, 0, chromosomes[0][1])] if long else [])])
     if order == "sorted":
         rows = sorted(rows, key=lambda row: (chromosomes[row[1][0]][0], *row[1][1:]))
     with open(track, "w") as file:
         for number, (rank, start, stop) in rows:
             beside = [f"gene_{number}", str(number % 1000), "+-"[number % 2]][:columns - 3]
             file.write("\t".join([chromosomes[rank][0], str(start), str(stop), *beside]) + "\n")
+
+
+def write_script(script, view):
+    """A script that opens the view and prints it."""
     with open(script, "w") as file:
         file.write(f"open\tm\t{view}\nprint\tm\n")
 
