@@ -132,7 +132,7 @@ def write_data(genome, track, view, count, columns, order, long=False):
         file.writelines(f"{name}\t{length}\n" for name, length in sorted(chromosomes))
     rows = enumerate([*places(count, chromosomes), *([(0, 0, chromosomes[0][1])] if long else [])])
     if order == "sorted":
-        rows = sorted(rows, key=lambda row: (chromosomes[row[1][0]][0], *row[1][1:]))
+        rows = sorted(rows, key=lambda row: (chromosomes[row[1][0]][0], *row[1][1:], f"gene_{row[0]}"))
     with open(track, "w") as file:
         for number, (rank, start, stop) in rows:
             beside = [f"gene_{number}", str(number % 1000), "+-"[number % 2]][:columns - 3]
