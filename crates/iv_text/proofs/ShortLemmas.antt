@@ -1,26 +1,28 @@
--- A line of three columns at the front of a text.
-use Rattle.std.proofs.Common.{◌≢◌, ◌≡◌, ℕ, ◌+◌, ◌-◌, ◌<◌, ◌≤◌, Bool, true, false, not, nat_lt, ◌==◌, ◌||◌, ◌⊎◌, inl, inr, ◌&&◌, List, [], ◌∷◌, ◌++◌, Option, None, Some, Ok, unwrap_or, slice_get, length, take, drop, get_or, refl, sym, ap, subst, ◌∙◌, arith, append_assoc, codes}
+-- A line of a record at the front of a text.
+use Rattle.std.proofs.Common.{◌≢◌, ◌≡◌, ℕ, ◌+◌, ◌-◌, ◌<◌, ◌≤◌, Bool, true, false, not, nat_lt, ◌==◌, ◌||◌, ◌⊎◌, inl, inr, ◌&&◌, List, [], ◌∷◌, ◌++◌, Option, None, Some, unwrap_or, slice_get, length, take, drop, get_or, refl, sym, ap, subst, ◌∙◌, arith, append_assoc, codes}
 use Rattle.std.proofs.lemmas.Bool.{cond-false, false≢true, eq-eqb, ne_eqb, false_from_ne_true}
 use Rattle.std.proofs.lemmas.Bool.Decides.{nat_tests}
 use Rattle.std.proofs.lemmas.Grind.{common_steps}
 use Rattle.std.proofs.lemmas.Option.{slice_get_within}
-use Rattle.std.proofs.lemmas.List.Elements.{All-nil, All-cons, All-append}
+use Rattle.std.proofs.lemmas.List.Elements.{All-nil, All-cons, All-append, All-head, All-tail}
 use Rattle.std.proofs.lemmas.Slice.Eq.{bytes_eq-Decides}
-use Rattle.std.specs.Prelude.{All}
+use Rattle.std.specs.Prelude.{All, IsSome}
+use Rattle.std.specs.List.{list_any}
 use Rattle.std.specs.Char.{is_ascii_digit}
 use Rattle.std.specs.Io.BufRead.{strip_last}
-use Rattle.std.specs.Option.{option_map}
+use Rattle.std.specs.Option.{is_some, option_map}
 use Rattle.std.specs.Str.{all_ascii_digits, bytes_eq}
 use Rattle.iv_text.proofs.LineLemmas.{strip-is, strip-more, lines-line}
-use Rattle.iv_text.proofs.OnePassLemmas.{and_true, number-digits, column-last, line-read}
+use Rattle.iv_text.proofs.OnePassLemmas.{and_true, number-digits, column-last, column-more, line-read, record_of}
 use Rattle.iv_text.specs.BedFile.{is_unread, is_headed, track_word, browser_word}
 use Rattle.iv_text.specs.Fields.{HasNoTab, is_separator}
 use Rattle.iv_text.specs.Genome.{Sequences, length_at}
 use Rattle.iv_text.specs.Lines.{lines, HasNoFeed}
-use Rattle.iv_text.specs.OnePass.{BeginsWithPlace}
+use Rattle.iv_text.specs.OnePass.{AreBehind, BeginsWithPlace, BeginsWithCell, BeginsWithCells, IsCell, ends_cell, laid}
 use Rattle.iv_text.specs.GenomeFile.{begins_with}
-use Rattle.iv_text.specs.Read.{read, AreSound}
-use Rattle.iv_text.specs.ShortLine.{IsShortLine, short_row}
+use Rattle.iv_text.specs.Read.{column, bad_text, is_line_byte}
+use Rattle.iv_text.specs.Row.{strand_of}
+use Rattle.iv_text.specs.ShortLine.{IsShortLine}
 use Rattle.iv_text.specs.declared.short_line.ShortLine.{ShortLine}
 
 -- ---- bytes that are no end of a line
@@ -31,20 +33,20 @@ plain-feed xs plain = λ k d within e. false≢true (sym (plain k d within) ∙ 
 digit-other : (b c : ℕ) → is_ascii_digit b ≡ true → is_ascii_digit c ≡ false → b ≢ c
 digit-other b c is other e = false≢true (sym other ∙ ap is_ascii_digit (sym e) ∙ is)
 
-digits-feed : (ds : List ℕ) → all_ascii_digits ds ≡ true → HasNoFeed ds
-digits-feed [] all = All-nil (λ b. b ≢ 10)
-digits-feed (d ∷ ds) all =
+-- a byte that is no digit is not among digits
+digits-without : (z : ℕ) (ds : List ℕ) → is_ascii_digit z ≡ false → all_ascii_digits ds ≡ true → All (λ b. b ≢ z) ds
+digits-without z [] other all = All-nil (λ b. b ≢ z)
+digits-without z (d ∷ ds) other all =
     let both = and_true (is_ascii_digit d) (all_ascii_digits ds) all in
-    All-cons (λ b. b ≢ 10) d ds (digit-other d 10 both.0 refl) (digits-feed ds both.1)
+    All-cons (λ b. b ≢ z) d ds (digit-other d z both.0 other) (digits-without z ds other both.1)
 
 tab-feed : (xs : List ℕ) → HasNoFeed xs → HasNoFeed (9 ∷ xs)
 tab-feed xs plain = All-cons (λ b. b ≢ 10) 9 xs (λ e. omega (arith, e)) plain
 
-strip-keeps : (x : ℕ) (ds : List ℕ) → x ≢ 13 → all_ascii_digits ds ≡ true → strip_last 13 (x ∷ ds) ≡ x ∷ ds
-strip-keeps x [] other all = strip-is x [] ∙ cond-false _ _ _ (ne_eqb x 13 other)
-strip-keeps x (d ∷ ds) other all =
-    let both = and_true (is_ascii_digit d) (all_ascii_digits ds) all in
-    strip-more x d ds ∙ ap (λ t. x ∷ t) (strip-keeps d ds (digit-other d 13 both.0 refl) both.1)
+strip-kept : (xs : List ℕ) → All (λ b. b ≢ 13) xs → strip_last 13 xs ≡ xs
+strip-kept [] none = refl
+strip-kept (x ∷ []) none = strip-is x [] ∙ cond-false _ _ _ (ne_eqb x 13 (All-head (λ b. b ≢ 13) x [] none))
+strip-kept (x ∷ y ∷ xs) none = strip-more x y xs ∙ ap (λ t. x ∷ t) (strip-kept (y ∷ xs) (All-tail (λ b. b ≢ 13) x (y ∷ xs) none))
 
 strip-front : (xs : List ℕ) (b : ℕ) (bs : List ℕ) → strip_last 13 (xs ++ b ∷ bs) ≡ xs ++ strip_last 13 (b ∷ bs)
 strip-front [] b bs = refl
@@ -145,10 +147,11 @@ feedless : (name starts stops : List ℕ) → HasNoFeed name → HasNoFeed start
 feedless name starts stops p0 p1 p2 =
     All-append (λ b. b ≢ 10) name (9 ∷ (starts ++ 9 ∷ stops)) p0 (tab-feed (starts ++ 9 ∷ stops) (All-append (λ b. b ≢ 10) starts (9 ∷ stops) p1 (tab-feed stops p2)))
 
-stripped : (name starts stops : List ℕ) → all_ascii_digits stops ≡ true → strip_last 13 (place_line name starts stops) ≡ place_line name starts stops
-stripped name starts stops all =
-    let parts : place_line name starts stops ≡ (name ++ 9 ∷ starts) ++ 9 ∷ stops = sym (append_assoc name (9 ∷ starts) (9 ∷ stops)) in
-    ap (strip_last 13) parts ∙ strip-front (name ++ 9 ∷ starts) 9 stops ∙ ap (λ t. (name ++ 9 ∷ starts) ++ t) (strip-keeps 9 stops (λ e. omega (arith, e)) all) ∙ sym parts
+stripped : (name starts tail : List ℕ) → All (λ b. b ≢ 13) tail → strip_last 13 (place_line name starts tail) ≡ place_line name starts tail
+stripped name starts tail none =
+    let parts : place_line name starts tail ≡ (name ++ 9 ∷ starts) ++ 9 ∷ tail = sym (append_assoc name (9 ∷ starts) (9 ∷ tail)) in
+    let kept : strip_last 13 (9 ∷ tail) ≡ 9 ∷ tail = strip-kept (9 ∷ tail) (All-cons (λ b. b ≢ 13) 9 tail (λ e. omega (arith, e)) none) in
+    ap (strip_last 13) parts ∙ strip-front (name ++ 9 ∷ starts) 9 tail ∙ ap (λ t. (name ++ 9 ∷ starts) ++ t) kept ∙ sym parts
 
 -- a line that ends at a LF, or at a CR and a LF
 ended : (line rest next : List ℕ) → HasNoFeed line → strip_last 13 line ≡ line → (rest ≡ 10 ∷ next) ⊎ (rest ≡ 13 ∷ 10 ∷ next)
@@ -164,43 +167,138 @@ ended line rest next plain kept (inr feed) =
     let cut : strip_last 13 raw ≡ line = strip-front line 13 [] ∙ ap (λ t. line ++ t) (strip-is 13 []) ∙ append-nil line in
     (raw ++ 10 ∷ [], grind (arith, common_steps), whole, ap lines whole ∙ lines-line raw next feedless_raw ∙ ap (λ (s : List ℕ). s ∷ lines next) cut)
 
-pub short-line : (g : Sequences) (text next : List ℕ) (l : ShortLine) (rest : List ℕ) → BeginsWithPlace g text l.seq l.start l.stop rest → (rest ≡ 10 ∷ next) ⊎ (rest ≡ 13 ∷ 10 ∷ next) → l.size ≡ length text - length next → IsShortLine g text l
-short-line g text next l rest place feed size_is =
-    let line : List ℕ = place_line place.name place.starts place.stops in
+-- ---- the cells of a line behind its place
+
+cell-without : (z : ℕ) (cell : List ℕ) → ends_cell z ≡ true → IsCell cell → All (λ b. b ≢ z) cell
+cell-without z cell ends plain = λ k d within e. false≢true (sym (plain k d within) ∙ ap ends_cell e ∙ ends)
+
+cell-tab : (cell : List ℕ) → IsCell cell → HasNoTab cell
+cell-tab cell plain = λ k d within. (or_false (is_line_byte (get_or cell k d)) (is_separator 9 (get_or cell k d)) (plain k d within)).1
+
+-- a byte that ends a cell, and is no TAB, is not among cells
+laid-without : (z : ℕ) (cells : List (List ℕ)) → ends_cell z ≡ true → 9 ≢ z → All IsCell cells → All (λ b. b ≢ z) (laid cells)
+laid-without z [] ends other plain = All-nil (λ b. b ≢ z)
+laid-without z (cell ∷ cells) ends other plain =
+    All-cons (λ b. b ≢ z) 9 (cell ++ laid cells) other
+    (All-append (λ b. b ≢ z) cell (laid cells) (cell-without z cell ends (All-head IsCell cell cells plain)) (laid-without z cells ends other (All-tail IsCell cell cells plain)))
+
+laid-behind : (cells : List (List ℕ)) → All IsCell cells → AreBehind (laid cells) cells
+laid-behind [] plain = column-last
+laid-behind (cell ∷ cells) plain = λ column p.
+    column-more column (cell ++ laid cells) p
+    ∙ ap (λ (cs : List (List ℕ)). column ∷ cs) (laid-behind cells (All-tail IsCell cell cells plain) cell (cell-tab cell (All-head IsCell cell cells plain)))
+
+-- a cell with a byte may be a name or a score
+pub cell-text : (cell : List ℕ) → 0 < length cell → IsCell cell → bad_text cell ≡ false
+cell-text cell some plain = or_neither (length cell == 0) (list_any is_line_byte cell) (ne_eqb (length cell) 0 (λ e. omega (arith, e))) (none cell plain)
+  where
+    none : (bs : List ℕ) → IsCell bs → list_any is_line_byte bs ≡ false
+    none [] p = refl
+    none (b ∷ bs) p =
+        or_neither (is_line_byte b) (list_any is_line_byte bs) (or_false (is_line_byte b) (is_separator 9 b) (All-head (λ x. ends_cell x ≡ false) b bs p)).0
+        (none bs (All-tail (λ x. ends_cell x ≡ false) b bs p))
+
+-- a byte that says a strand is a cell
+pub cell-strand : (b : ℕ) → is_some (strand_of (b ∷ [])) ≡ true → IsCell (b ∷ [])
+cell-strand b is =
+    All-cons (λ x. ends_cell x ≡ false) b []
+    (or_neither (is_line_byte b) (is_separator 9 b) (or_neither ((b == 13) || (b == 10)) (b == 0) (or_neither (b == 13) (b == 10) (other 13 refl) (other 10 refl)) (other 0 refl)) (other 9 refl))
+    (All-nil (λ x. ends_cell x ≡ false))
+  where
+    other : (z : ℕ) → is_some (strand_of (z ∷ [])) ≡ false → (b == z) ≡ false
+    other z none = ne_eqb b z (λ e. false≢true (sym none ∙ ap (λ x. is_some (strand_of (x ∷ []))) (sym e) ∙ is))
+
+-- ---- the cells of each width
+
+abbrev pub IsText : List ℕ → Type 0
+IsText cell = bad_text cell ≡ false
+
+abbrev pub IsStrand : List ℕ → Type 0
+IsStrand cell = IsSome (strand_of cell)
+
+-- a cell in front of others
+laid-in-front : (text cell behind rest : List ℕ) (cells : List (List ℕ)) → text ≡ 9 ∷ (cell ++ behind) → behind ≡ laid cells ++ rest → text ≡ laid (cell ∷ cells) ++ rest
+laid-in-front text cell behind rest cells first others =
+    first ∙ ap (λ t. 9 ∷ (cell ++ t)) others ∙ ap (λ t. 9 ∷ t) (sym (append_assoc cell (laid cells) rest))
+
+pub four-columns : (w : ℕ) (text rest : List ℕ) → w ≡ 4 → BeginsWithCell IsText text rest → BeginsWithCells w text rest
+four-columns w text rest is name = record {
+  cells = name.0 ∷ [];
+  text_is = laid-in-front text name.0 rest rest [] name.1 refl;
+  plain = All-cons IsCell name.0 [] name.2 (All-nil IsCell);
+  count = sym is;
+  sound = record { name_good = λ wide. name.3; score_good = λ wide. absurd (omega (arith, wide, is)); strand_good = λ wide. absurd (omega (arith, wide, is)) };
+}
+
+pub five-columns : (w : ℕ) (text behind rest : List ℕ) → w ≡ 5 → BeginsWithCell IsText text behind → BeginsWithCell IsText behind rest → BeginsWithCells w text rest
+five-columns w text behind rest is name score = record {
+  cells = name.0 ∷ score.0 ∷ [];
+  text_is = laid-in-front text name.0 behind rest (score.0 ∷ []) name.1 (laid-in-front behind score.0 rest rest [] score.1 refl);
+  plain = All-cons IsCell name.0 (score.0 ∷ []) name.2 (All-cons IsCell score.0 [] score.2 (All-nil IsCell));
+  count = sym is;
+  sound = record { name_good = λ wide. name.3; score_good = λ wide. score.3; strand_good = λ wide. absurd (omega (arith, wide, is)) };
+}
+
+pub six-columns : (w : ℕ) (text behind_name behind_score rest : List ℕ) → w ≡ 6 → BeginsWithCell IsText text behind_name → BeginsWithCell IsText behind_name behind_score → BeginsWithCell IsStrand behind_score rest → BeginsWithCells w text rest
+six-columns w text behind_name behind_score rest is name score strand = record {
+  cells = name.0 ∷ score.0 ∷ strand.0 ∷ [];
+  text_is = laid-in-front text name.0 behind_name rest (score.0 ∷ strand.0 ∷ []) name.1
+      (laid-in-front behind_name score.0 behind_score rest (strand.0 ∷ []) score.1 (laid-in-front behind_score strand.0 rest rest [] strand.1 refl));
+  plain = All-cons IsCell name.0 (score.0 ∷ strand.0 ∷ []) name.2 (All-cons IsCell score.0 (strand.0 ∷ []) score.2 (All-cons IsCell strand.0 [] strand.2 (All-nil IsCell)));
+  count = sym is;
+  sound = record { name_good = λ wide. name.3; score_good = λ wide. score.3; strand_good = λ wide. strand.3 };
+}
+
+-- a text of at least one byte
+pub first-byte : (text : List ℕ) → 1 ≤ length text → text ≡ get_or text 0 0 ∷ take (length text - 1) (drop 1 text)
+first-byte text some = grind (arith, common_steps)
+
+-- ---- a line of a record
+
+pub short-line : (g : Sequences) (w : ℕ) (text next : List ℕ) (l : ShortLine) (rest end : List ℕ) → BeginsWithPlace g text l.seq l.start l.stop rest → BeginsWithCells w rest end
+    → (end ≡ 10 ∷ next) ⊎ (end ≡ 13 ∷ 10 ∷ next) → l.size ≡ length text - length next → IsShortLine g w text l
+short-line g w text next l rest end place behind feed size_is =
+    let cells : List (List ℕ) = behind.cells in
+    let tail : List ℕ = place.stops ++ laid cells in
+    let line : List ℕ = place_line place.name place.starts tail in
     let digits : all_ascii_digits place.stops ≡ true = number-digits place.stops l.stop place.stop_is in
-    let plain : HasNoFeed line = feedless place.name place.starts place.stops place.named.one_line (digits-feed place.starts (number-digits place.starts l.start place.start_is)) (digits-feed place.stops digits) in
-    let end = ended line rest next plain (stripped place.name place.starts place.stops digits) feed in
-    let text_is : text ≡ line ++ rest = place.text_is ∙ place-parts place.name place.starts place.stops rest in
-    let sized = append-size end.0 next l.size (size_is ∙ ap (λ (t : List ℕ). length t - length next) (text_is ∙ end.2)) in
-    let alone : BeginsWithPlace g line l.seq l.start l.stop [] =
+    let feedless_tail : HasNoFeed tail = All-append (λ b. b ≢ 10) place.stops (laid cells) (digits-without 10 place.stops refl digits) (laid-without 10 cells refl (λ e. omega (arith, e)) behind.plain) in
+    let plain : HasNoFeed line = feedless place.name place.starts tail place.named.one_line (digits-without 10 place.starts refl (number-digits place.starts l.start place.start_is)) feedless_tail in
+    let kept : strip_last 13 line ≡ line = stripped place.name place.starts tail (All-append (λ b. b ≢ 13) place.stops (laid cells) (digits-without 13 place.stops refl digits) (laid-without 13 cells refl (λ e. omega (arith, e)) behind.plain)) in
+    let ends = ended line end next plain kept feed in
+    let text_is : text ≡ line ++ end =
+    place.text_is ∙ ap (λ t. place_line place.name place.starts (place.stops ++ t)) behind.text_is
+    ∙ ap (place_line place.name place.starts) (sym (append_assoc place.stops (laid cells) end)) ∙ place-parts place.name place.starts tail end in
+    let sized = append-size ends.0 next l.size (size_is ∙ ap (λ (t : List ℕ). length t - length next) (text_is ∙ ends.2)) in
+    let alone : BeginsWithPlace g line l.seq l.start l.stop (laid cells) =
     record {
       name = place.name;
       starts = place.starts;
       stops = place.stops;
       len = place.len;
-      text_is = ap (λ t. place.name ++ 9 ∷ (place.starts ++ 9 ∷ t)) (sym (append-nil place.stops));
+      text_is = refl;
       named = place.named;
       start_is = place.start_is;
       stop_is = place.stop_is;
       some = place.some;
       within = place.within;
     } in
-    let read_is : read g 3 line ≡ Ok (short_row l) =
-    line-read g 3 line [] [] [] [] [] l.seq l.start l.stop None alone column-last (λ a b c. record { count = refl; seq_is = refl; start_is = refl; stop_is = refl; name_is = refl; score_is = refl; strand_is = refl })
-    refl bare in
     record {
       line = line;
-      lines_are = ap lines text_is ∙ end.3 ∙ ap (λ (t : List ℕ). line ∷ lines t) (sym (ap (drop l.size) (text_is ∙ end.2) ∙ sized.1));
-      some = omega (arith, end.1, sized.0);
+      row = record_of l.seq l.start l.stop (column cells 0) (column cells 1) (strand_of (column cells 2)) w;
+      lines_are = ap lines text_is ∙ ends.3 ∙ ap (λ (t : List ℕ). line ∷ lines t) (sym (ap (drop l.size) (text_is ∙ ends.2) ∙ sized.1));
+      some = omega (arith, ends.1, sized.0);
       within = omega arith;
-      unread = unread-behind place.name (place.starts ++ 9 ∷ place.stops) place.named.unread;
-      reads = read_is;
-      fits = record { width_is = refl; lies = record { some = place.some; within = (ranked g l.seq place.len place.named.length_is, subst (λ n. l.stop ≤ n) (sym (ap (λ (o : Option ℕ). unwrap_or o 0) place.named.length_is)) place.within) }; beside = bare };
+      unread = unread-behind place.name (place.starts ++ 9 ∷ tail) place.named.unread;
+      reads = line-read g w line (laid cells) (column cells 0) (column cells 1) (column cells 2) cells l.seq l.start l.stop (strand_of (column cells 2)) alone (laid-behind cells behind.plain)
+          (λ a b c. record { count = omega (arith, behind.count); seq_is = refl; start_is = refl; stop_is = refl; name_is = refl; score_is = refl; strand_is = refl })
+          refl behind.sound;
+      seq_is = refl;
+      start_is = refl;
+      stop_is = refl;
+      fits = record { width_is = refl; lies = record { some = place.some; within = (ranked g l.seq place.len place.named.length_is, subst (λ n. l.stop ≤ n) (sym (ap (λ (o : Option ℕ). unwrap_or o 0) place.named.length_is)) place.within) }; beside = behind.sound };
     }
   where
-    bare : AreSound 3 [] [] None
-    bare = record { name_good = λ low. absurd (omega (arith, low)); score_good = λ low. absurd (omega (arith, low)); strand_good = λ low. absurd (omega (arith, low)) }
-
     ranked : (h : Sequences) (rank len : ℕ) → length_at h rank ≡ Some len → rank < length h
     ranked h rank len is = by (slice_get h rank) refl is
       where

@@ -1,10 +1,13 @@
 -- What the readers of a line in one pass say of its parts. No public call speaks of it: it is no part of what is promised.
-use Rattle.std.specs.Prelude.{◌≡◌, ◌<◌, ◌≤◌, ℕ, false, List, ◌∷◌, ◌++◌, Some}
+use Rattle.std.specs.Prelude.{◌≡◌, ◌<◌, ◌≤◌, All, ℕ, ◌+◌, ◌||◌, Bool, false, List, [], ◌∷◌, ◌++◌, Some, length}
 use Rattle.iv_text.specs.BedFile.{is_unread}
-use Rattle.iv_text.specs.Fields.{columns, HasNoTab}
+use Rattle.iv_text.specs.Bytes.{tab}
+use Rattle.iv_text.specs.Fields.{columns, is_separator, HasNoTab}
 use Rattle.iv_text.specs.Lines.{HasNoFeed}
 use Rattle.iv_text.specs.Number.{number}
 use Rattle.iv_text.specs.Genome.{Sequences, rank_of, length_at}
+use Rattle.iv_text.specs.Read.{column, is_line_byte, AreSound}
+use Rattle.iv_text.specs.Row.{strand_of}
 
 -- the name is that of a sequence of the genome, with its rank and its length; it holds no TAB and no LF, and as a line it would be no header
 pub record IsNamed (g : Sequences) (name : List ℕ) (rank len : ℕ) : Type 0 where
@@ -34,3 +37,28 @@ pub record BeginsWithPlace (g : Sequences) (text : List ℕ) (rank start stop : 
   pub stop_is : number stops ≡ Some stop
   pub some : start < stop
   pub within : stop ≤ len
+
+-- no cell goes on at this byte: a TAB, or one that no name and no score holds
+abbrev pub ends_cell : ℕ → Bool
+ends_cell b = is_line_byte b || is_separator tab b
+
+-- a cell is a column without a byte that ends it
+abbrev pub IsCell : List ℕ → Type 0
+IsCell cell = All (λ b. ends_cell b ≡ false) cell
+
+-- the text begins with a TAB and a good cell, and the rest is behind them
+abbrev pub BeginsWithCell : (List ℕ → Type 0) → List ℕ → List ℕ → Type 0
+BeginsWithCell Good text rest = (cell : List ℕ) × (text ≡ 9 ∷ (cell ++ rest)) × IsCell cell × Good cell
+
+-- cells, each behind its TAB
+abbrev pub laid : List (List ℕ) → List ℕ
+laid [] = []
+laid (cell ∷ cells) = 9 ∷ (cell ++ laid cells)
+
+-- the text begins with the cells of a record of this width behind its place, each behind its TAB, and the rest is behind them
+pub record BeginsWithCells (width : ℕ) (text rest : List ℕ) : Type 0 where
+  pub cells : List (List ℕ)
+  pub text_is : text ≡ laid cells ++ rest
+  pub plain : All IsCell cells
+  pub count : 3 + length cells ≡ width
+  pub sound : AreSound width (column cells 0) (column cells 1) (strand_of (column cells 2))

@@ -4,6 +4,7 @@
 mod bed_file;
 mod bed_record;
 mod bounded_texts;
+mod cells;
 mod fault;
 mod fields;
 mod genome;

@@ -7,6 +7,7 @@ ghost use Rattle.iv_text.specs.ShortLine.{IsShortLine};
 ghost use Rattle.iv_text.specs.OnePass.{IsNamed, BeginsWithPlace};
 
 use crate::bed_file::is_unread;
+use crate::cells::after_cells;
 use crate::fault::RecordFault;
 use crate::fields::{after_byte, columns_behind, cut_first_column};
 use crate::genome::Genome;
@@ -116,15 +117,17 @@ impl<'g, 't, A: Allocator + Copy> RecordReader<'g, 't, A> {
         })
     }
 
-    /// The first line of a text, where it has three columns, names the sequence of the line before and ends at a LF:
-    /// read in one pass, which finds the line's end too.
+    /// The first line of a text, where it names the sequence of the line before and stands for a record of this width
+    /// that ends at a LF: read in one pass, which finds the line's end too.
     ///
     /// `None` says nothing: [`read`](Self::read) answers for every line.
-    pub fn read_short(&self, text: &[u8]) -> Option<ShortLine>
-        ensures { IfSome result (λ l. IsShortLine self.now text.now l) }
+    pub fn read_short(&self, width: u8, text: &[u8]) -> Option<ShortLine>
+        requires { (3 ≤ width) × (width ≤ 6) }
+        ensures { IfSome result (λ l. IsShortLine self.now width text.now l) }
     {
         let front = self.split_place(text)?;
-        let next = after_line_end(front.rest)?;
+        let end = after_cells(width, front.rest)?;
+        let next = after_line_end(end)?;
         Some(ShortLine {
             seq: front.rank,
             start: front.start,

@@ -3,4 +3,6 @@ use Rattle.iv_text.proofs.ShortLemmas.{short-line}
 use Rattle.iv_text.proofs.record_reader.RecordReader.read_short.Goals as goal
 
 pub returns : goal.returns
-returns g c = short-line c.args.self.now c.args.text.now c.in_ok-next.next.now _ c.in_ok-front.front.rest.now c.in_ok-front.ensures c.in_ok-next.ensures refl
+returns g c =
+    short-line c.args.self.now c.args.width c.args.text.now c.in_ok-next.next.now _ c.in_ok-front.front.rest.now c.in_ok-end.end.now
+    c.in_ok-front.ensures c.in_ok-end.ensures c.in_ok-next.ensures refl

@@ -1,0 +1,67 @@
+//! The cells that a text begins with: columns behind the third, each behind its TAB.
+ghost use Rattle.std.specs.Prelude.{◌≡◌, ◌≤◌, false, [], ◌∷◌, IfSome, IsSome};
+ghost use Rattle.std.specs.Option.{is_some};
+ghost use Rattle.iv_text.specs.OnePass.{ends_cell, BeginsWithCell, BeginsWithCells};
+ghost use Rattle.iv_text.specs.Read.{bad_text};
+ghost use Rattle.iv_text.specs.Row.{strand_of};
+
+use crate::fields::after_byte;
+
+/// Whether no cell goes on at this byte.
+fn is_end(byte: u8) -> bool
+    ensures { result ≡ ends_cell byte }
+{
+    byte == b'\t' || byte == b'\n' || byte == b'\r' || byte == 0
+}
+
+/// What stands behind a TAB and a name or a score, where a text begins with them.
+fn after_text(text: &[u8]) -> Option<&[u8]>
+    ensures { IfSome result (λ rest. BeginsWithCell (λ cell. bad_text cell ≡ false) text.now rest.now) }
+{
+    let cell = after_byte(text, b'\t')?;
+    let mut end: usize = 0;
+    while end < cell.len() && !is_end(cell[end]) {
+        end += 1;
+    }
+    if end == 0 {
+        return None;
+    }
+    Some(&cell[end..])
+}
+
+/// Whether the byte alone says a strand.
+fn is_strand(byte: u8) -> bool
+    ensures { result ≡ is_some (strand_of (byte ∷ [])) }
+{
+    byte == b'+' || byte == b'-' || byte == b'.'
+}
+
+/// What stands behind a TAB and the byte of a strand, where a text begins with them.
+fn after_strand(text: &[u8]) -> Option<&[u8]>
+    ensures { IfSome result (λ rest. BeginsWithCell (λ cell. IsSome (strand_of cell)) text.now rest.now) }
+{
+    let strand = after_byte(text, b'\t')?;
+    match strand {
+        [byte, rest @ ..] if is_strand(*byte) => Some(rest),
+        _ => None,
+    }
+}
+
+/// What stands behind the cells of a record of this width, where a text begins with them.
+pub(crate) fn after_cells(width: u8, text: &[u8]) -> Option<&[u8]>
+    requires { (3 ≤ width) × (width ≤ 6) }
+    ensures { IfSome result (λ rest. BeginsWithCells width text.now rest.now) }
+{
+    if width == 3 {
+        return Some(text);
+    }
+    let behind_name = after_text(text)?;
+    if width == 4 {
+        return Some(behind_name);
+    }
+    let behind_score = after_text(behind_name)?;
+    if width == 5 {
+        return Some(behind_score);
+    }
+    after_strand(behind_score)
+}
