@@ -1,10 +1,13 @@
 -- Places in the order of their records.
-use Rattle.std.proofs.Common.{◌≡◌, ℕ, ◌+◌, ◌<◌, Bool, List, Option, length, map, refl, sym, ap, subst, ◌∙◌, arith}
+use Rattle.std.proofs.Common.{◌≡◌, ℕ, ◌+◌, ◌<◌, Bool, true, false, not, List, Option, length, map, refl, sym, ap, subst, ◌∙◌, arith}
 use Rattle.std.proofs.lemmas.List.{length-map, get_or-map}
 use Rattle.std.proofs.lemmas.List.Sorted.{IsPermutation-map}
 use Rattle.std.proofs.lemmas.List.MinMax.{ranks_by}
 use Rattle.std.proofs.lemmas.Fn.{always_returns_same}
-use Rattle.std.specs.Fn.{Called, ComparesAs, Mut}
+use Rattle.std.proofs.lemmas.Bool.{false≢true}
+use Rattle.std.specs.Fn.{Called, ComparesAs, ComputesOnPairs, Mut}
+use Rattle.std.specs.List.{IsAllAdjacentAnswer}
+use Rattle.std.specs.Prelude.{IsTrue, ◌↔◌}
 use Rattle.std.specs.Borrow.{Bor}
 use Rattle.std.specs.Cmp.{IsStrictWeakOrder, nat_cmp_total, tied_itself}
 use Rattle.std.specs.List.Sorted.{IsPermutation, IsSorted, IsSortedBy}
@@ -68,3 +71,23 @@ pub sorted-by-rows : {F : Type 0} {g : Mut F (Bor Place × (Bor Place × Unit {0
 sorted-by-rows {g = g} {f = f} w text ps up h =
     up (λ x y. is_lt (row_cmp (row_at w text x) (row_at w text y))) (ranks_by rows_total (row_at w text))
     (always_returns_same g (λ a r. is_lt r ≡ is_lt (row_cmp (row_at w text a.0.now) (row_at w text a.1.0.now))) f (λ a r f' k. (ap is_lt (h a r f' k).0, (h a r f' k).1)))
+
+-- what `is_sorted_by` says of its closure, where each call tells that the second place doesn't belong in front of the first
+pub in-order : {F : Type 0} {g : Mut F (Bor Place × (Bor Place × Unit {0})) Bool} {f : F} (lt : Place → Place → Bool) (ps : List Place) (r : Bool)
+    → ((e : Place → Place → Bool) → ComputesOnPairs g e f → IsAllAdjacentAnswer (λ x y b. b ≡ e x y) ps r)
+    → ((a : Bor Place × (Bor Place × Unit {0})) (s : Bool) (f' : F) → Called g f a s f' → (s ≡ not (lt a.1.0.now a.0.now)) × (f' ≡ f))
+    → IsTrue r ↔ IsSortedBy lt ps
+in-order {g = g} {f = f} lt ps r cases h = by r (cases (λ x y. not (lt y x)) (always_returns_same g (λ a s. s ≡ not (lt a.1.0.now a.0.now)) f h))
+  where
+    turned : (t s : Bool) → s ≡ not t → t ≡ not s
+    turned true s e = ap not (sym e)
+    turned false s e = ap not (sym e)
+
+    by : (t : Bool) → IsAllAdjacentAnswer (λ x y b. b ≡ not (lt y x)) ps t → IsTrue t ↔ IsSortedBy lt ps
+    by true all = (λ _ k d from to. turned (lt _ _) true (all k d to), λ _. refl)
+    by false some = (
+      λ is. absurd (false≢true is),
+      λ up.
+          let d : Place = record { seq = 0; start = 0; stop = 0; line = 0 } in
+          absurd (false≢true (some.2 d ∙ ap not (up some.0 d (omega arith) some.1))),
+    )

@@ -1,11 +1,10 @@
 -- The reading of a text: one more line, and the whole.
-use Rattle.std.proofs.Common.{◌≡◌, ℕ, ◌+◌, ◌-◌, ◌<◌, ◌≤◌, ◌^◌, Bool, true, false, cond, not, ◌==◌, nat_eq, nat_le, List, [], ◌∷◌, ◌++◌, Option, Some, None, Result, Ok, Err, length, take, drop, find, refl, sym, ap, subst, ◌∙◌, arith, All, MatchOption, unwrap_or}
-use Rattle.std.proofs.lemmas.Bool.{cond-true, false≢true, le-leb, eqb-true}
+use Rattle.std.proofs.Common.{◌≡◌, ℕ, ◌+◌, ◌-◌, ◌<◌, ◌≤◌, ◌^◌, Bool, true, false, cond, not, ◌==◌, nat_le, List, [], ◌∷◌, ◌++◌, Option, Some, None, Result, Ok, Err, length, take, drop, find, refl, sym, ap, subst, ◌∙◌, arith, All, MatchOption, unwrap_or}
+use Rattle.std.proofs.lemmas.Bool.{cond-true, le-leb, eqb-true}
 use Rattle.std.proofs.lemmas.Bool.Decides.{nat_tests}
 use Rattle.std.proofs.lemmas.Grind.{common_steps}
 use Rattle.std.proofs.lemmas.List.{length-map, get_or_past, map-append}
 use Rattle.std.proofs.lemmas.List.Elements.{All-nil, All-cons, All-head, All-tail}
-use Rattle.std.specs.Option.{option_eq}
 use Rattle.std.specs.Prelude.{IsErrAnd, IfErr}
 use Rattle.iv_text.proofs.ReadLemmas.{hit}
 use Rattle.iv_text.proofs.BedLemmas.{row-taken, sound-none, sound-more, sound-width}
@@ -19,6 +18,8 @@ use Rattle.iv_text.specs.declared.fault.RecordFault.TheVariants as fault
 use Rattle.iv_text.specs.declared.fault.LoadCause.{LoadCause}
 use Rattle.iv_text.specs.declared.fault.LoadCause.TheVariants as cause
 use Rattle.iv_text.specs.declared.fault.LoadFault.{LoadFault}
+use Rattle.iv_text.specs.ShortLine.{IsShortLine}
+use Rattle.iv_text.specs.declared.short_line.ShortLine.{ShortLine}
 use Rattle.iv_places.proofs.PlaceLemmas.{line-found, line-is}
 use Rattle.iv_text.specs.Lines.{lines}
 use Rattle.iv_places.specs.Places.{HasBase, line_at, row_of, row_at, rows_at}
@@ -150,29 +151,49 @@ taken g limit c line size w p more h unread is low high on at_is says fits grown
     length_one : (rows : List Row) (r : Row) → length (rows ++ r ∷ []) ≡ length rows + 1
     length_one rows r = grind (arith, common_steps)
 
--- ---- a line of three columns
+-- ---- a line that is read in one pass
 
--- the width that is known is 3
-pub width-three : (known : Option ℕ) → not (option_eq nat_eq known (Some 3)) ≡ false → known ≡ Some 3
-width-three None other = absurd (false≢true (sym other))
-width-three (Some w) other = by (nat_eq w 3) refl other
-  where
-    by : (t : Bool) → nat_eq w 3 ≡ t → not t ≡ false → Some w ≡ Some 3
-    by true e same = ap Some (eqb-true w 3 e)
-    by false e same = absurd (false≢true (sym same))
+-- a width that is known is one of 3 to 6
+pub known-width : (g : Sequences) (limit : ℕ) (c : Cursor) (w : ℕ) → IsUnderway g limit c → c.width ≡ Some w → (3 ≤ w) × (w ≤ 6)
+known-width g limit c w h is =
+    let rows : List Row = rows_at (unwrap_or c.width 0) c.text c.places in
+    let fit : (3 ≤ w) × (w ≤ 6) × All (Fits g w) rows = subst (λ (k : Option ℕ). MatchOption k (rows ≡ []) (λ n. (3 ≤ n) × (n ≤ 6) × All (Fits g n) rows)) is h.sound.fit in
+    (fit.0, fit.1)
 
-pub at-three : (c : Cursor) (line : List ℕ) → c.width ≡ Some 3 → 3 ≡ unwrap_or c.width (length (columns line))
-at-three c line wide = sym (ap (λ (o : Option ℕ). unwrap_or o (length (columns line))) wide)
+pub at-known : (c : Cursor) (w : ℕ) (line : List ℕ) → c.width ≡ Some w → w ≡ unwrap_or c.width (length (columns line))
+at-known c w line is = sym (ap (λ (o : Option ℕ). unwrap_or o (length (columns line))) is)
 
--- a record of three columns was taken, and the width is as it was
-pub short-taken : (g : Sequences) (limit : ℕ) (c : Cursor) (line : List ℕ) (size : ℕ) (p : Place) (more : List Place)
-    → c.width ≡ Some 3 → IsUnderway g limit c → is_unread line ≡ false → GoesOn c line size → p.line ≡ c.at → read g 3 line ≡ Ok (row_of 3 line p) → Fits g 3 (row_of 3 line p) → more ≡ c.places ++ p ∷ []
+-- its record is that of its place
+pub short-row : (g : Sequences) (w : ℕ) (text : List ℕ) (l : ShortLine) (at : ℕ) (short : IsShortLine g w text l)
+    → short.row ≡ row_of w short.line (record { seq = l.seq; start = l.start; stop = l.stop; line = at })
+short-row g w text l at short = place-row g w short.line short.row (record { seq = l.seq; start = l.start; stop = l.stop; line = at }) short.reads short.seq_is short.start_is short.stop_is
+
+-- its record was taken, and the width is as it was
+pub short-taken : (g : Sequences) (limit : ℕ) (c : Cursor) (w : ℕ) (l : ShortLine) (more : List Place)
+    → c.width ≡ Some w → IsUnderway g limit c → IsShortLine g w (take (length c.text - c.at) (drop c.at c.text)) l → more ≡ c.places ++ record { seq = l.seq; start = l.start; stop = l.stop; line = c.at } ∷ []
     → length c.places < limit
-    → IsUnderway g limit (record c { at = c.at + size; places = more }) × (after_row g limit (known c) line ≡ Ok (known (record c { at = c.at + size; places = more })))
-short-taken g limit c line size p more wide h unread on at_is says fits grown free =
-    let next : Option ℕ → Cursor = λ o. record { text = c.text; at = c.at + size; width = o; places = more } in
-    subst (λ (o : Option ℕ). IsUnderway g limit (next o) × (after_row g limit (known c) line ≡ Ok (known (next o)))) (sym wide)
-    (taken g limit c line size 3 p more h unread (at-three c line wide) (omega arith) (omega arith) on at_is says fits grown free)
+    → IsUnderway g limit (record c { at = c.at + l.size; places = more }) × ((n : ℕ) → left_after g limit n c ≡ left_after g limit (n + 1) (record c { at = c.at + l.size; places = more }))
+short-taken g limit c w l more is h short grown free =
+    let p : Place = record { seq = l.seq; start = l.start; stop = l.stop; line = c.at } in
+    let next : Option ℕ → Cursor = λ o. record { text = c.text; at = c.at + l.size; width = o; places = more } in
+    let line = short.line in
+    let wide = known-width g limit c w h is in
+    let same : short.row ≡ row_of w line p = short-row g w (take (length c.text - c.at) (drop c.at c.text)) l c.at short in
+    let grown_so : IsUnderway g limit (next c.width) × (after_row g limit (known c) line ≡ Ok (known (next c.width))) =
+    subst (λ (o : Option ℕ). IsUnderway g limit (next o) × (after_row g limit (known c) line ≡ Ok (known (next o)))) (sym is)
+    (taken g limit c line l.size w p more h short.unread (at-known c w line is) wide.0 wide.1 short.lines_are refl (short.reads ∙ ap Ok same) (subst (Fits g w) same short.fits) grown free) in
+    (grown_so.0, λ n. step-ok g limit n c line l.size (known (next c.width)) short.lines_are grown_so.1)
+
+-- its record is one too many
+pub short-full : (g : Sequences) (limit : ℕ) (c : Cursor) (w : ℕ) (l : ShortLine) (n : ℕ)
+    → c.width ≡ Some w → IsUnderway g limit c → IsShortLine g w (take (length c.text - c.at) (drop c.at c.text)) l → limit ≤ length c.places
+    → left_after g limit n c ≡ Err (record { line = n; cause = cause.TooMany })
+short-full g limit c w l n is h short full =
+    let line = short.line in
+    let wide = known-width g limit c w h is in
+    let same = short-row g w (take (length c.text - c.at) (drop c.at c.text)) l c.at short in
+    step-err g limit n c line l.size cause.TooMany short.lines_are
+    (too-many g limit c line w (record { seq = l.seq; start = l.start; stop = l.stop; line = c.at }) short.unread (at-known c w line is) wide.0 wide.1 (short.reads ∙ ap Ok same) full)
 
 -- what follows from an error follows where it is handed on
 pub handed-on : {T E : Type 0} (r : Result T E) (f : E) (P : E → Type 0) → IsErrAnd r (λ e. e ≡ f) → P f → IfErr r P

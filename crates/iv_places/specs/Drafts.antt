@@ -1,11 +1,14 @@
--- What the reading of a text keeps. No public call speaks of it: it is no part of what is promised.
+-- What the reading of a text keeps, and the order of what was read. No public call speaks of it: it is no part of what is promised.
 use Rattle.std.specs.Prelude.{◌<◌, ◌≤◌, ◌^◌, ℕ, All, List, Option, Result, drop, length}
 use Rattle.std.specs.Option.{unwrap_or}
+use Rattle.std.specs.Ordering.{is_lt}
+use Rattle.std.specs.List.Sorted.{IsSortedBy}
+use Rattle.iv_text.specs.Row.{row_cmp}
 use Rattle.iv_text.specs.Lines.{lines}
 use Rattle.iv_text.specs.Genome.{Sequences}
 use Rattle.iv_text.specs.BedFile.{Draft, after_rows, IsSoundDraft}
 use Rattle.iv_text.specs.declared.fault.LoadFault.{LoadFault}
-use Rattle.iv_places.specs.Places.{HasBase, rows_at}
+use Rattle.iv_places.specs.Places.{HasBase, row_at, rows_at}
 use Rattle.iv_places.specs.declared.place.Place.{Place}
 
 -- the places are those of records that have a base, and of a width
@@ -13,6 +16,10 @@ pub record ArePlaces (width : ℕ) (places : List Place) : Type 0 where
   pub low : 3 ≤ width
   pub high : width ≤ 6
   pub some : All HasBase places
+
+-- the places stand in the order of a track: no record belongs in front of the one before it
+abbrev pub AreInOrder : ℕ → List ℕ → List Place → Type 0
+AreInOrder width text places = IsSortedBy (λ x y. is_lt (row_cmp (row_at width text x) (row_at width text y))) places
 
 -- a text that is read up to a byte: the width, once there is a record, and the places of the records before
 pub record Cursor : Type 0 where

@@ -6,7 +6,7 @@ ghost use Rattle.iv_text.specs.Read.{Fits};
 ghost use Rattle.iv_text.specs.declared.fault.LoadCause.TheVariants as cause;
 
 use crate::draft::TextDraft;
-use crate::order::{compare, order_ties};
+use crate::order::{are_in_order, compare, order_ties};
 use crate::place::Place;
 use crate::text_records::TextRecords;
 use iv_text::{Genome, LoadFault};
@@ -92,8 +92,8 @@ impl<'t, A: Allocator + Copy> BedText<'t, A> {
         TextRecords::of_places(self.text, self.places.as_slice(), self.width)
     }
 
-    /// Sorts the records in the order of a track. It takes no memory, and two passes where they are sorted, or are but for
-    /// a few records of one start.
+    /// Sorts the records in the order of a track. It takes no memory, and one pass where they are sorted, or at most three
+    /// where they are but for a few records of one start.
     ///
     /// Lines are looked at only for records of one place, and none at width 3.
     pub fn sort(&mut self)
@@ -101,6 +101,9 @@ impl<'t, A: Allocator + Copy> BedText<'t, A> {
     {
         let text = self.text;
         let width = self.width;
+        if are_in_order(text, width, &self.places) {
+            return;
+        }
         order_ties(text, width, &mut self.places);
         self.places
             .sort_unstable_by(|first, second| compare(text, width, first, second));

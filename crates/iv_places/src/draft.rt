@@ -80,7 +80,7 @@ fn take_place<A: Allocator>(
 }
 
 impl<'t, A: Allocator + Copy> TextDraft<'t, A> {
-    /// Takes the next line where the width is 3 and the reader knows it as a short one, and tells whether it did.
+    /// Takes the next line where a width is known and the reader reads the line in one pass, and tells whether it did.
     fn take_short(
         &mut self,
         reader: &RecordReader<'_, 't, A>,
@@ -95,11 +95,11 @@ impl<'t, A: Allocator + Copy> TextDraft<'t, A> {
         ensures ok { result ≡ Ok true → (n : ℕ) → left_after reader.now limit n self.old ≡ left_after reader.now limit (n + 1) self.new }
         ensures err { IfErr result (λ c. (c ≡ cause.Memory) ⊎ ((n : ℕ) → left_after reader.now limit n self.old ≡ Err (record { line = n; cause = c }))) }
     {
-        if self.width != Some(3) {
+        let Some(width) = self.width else {
             return Ok(false);
-        }
+        };
         let text = self.text;
-        let Some(line) = reader.read_short(&text[self.at..]) else {
+        let Some(line) = reader.read_short(width, &text[self.at..]) else {
             return Ok(false);
         };
         let place = Place {

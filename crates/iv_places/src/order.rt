@@ -1,10 +1,11 @@
 //! The order of a track among places of a text.
-ghost use Rattle.std.specs.Prelude.{◌≡◌, ◌<◌, length};
+ghost use Rattle.std.specs.Prelude.{◌≡◌, ◌<◌, ◌↔◌, IsTrue, length};
 ghost use Rattle.std.specs.List.Sorted.{IsPermutation};
 ghost use Rattle.std.specs.Cmp.Lexicographic.{slice_cmp};
 ghost use Rattle.std.specs.Option.{option_cmp};
 ghost use Rattle.std.specs.Ordering.{nat_cmp, ordering_then};
 ghost use Rattle.iv_text.specs.Row.{beside_cmp, row_cmp, strand_cmp};
+ghost use Rattle.iv_places.specs.Drafts.{AreInOrder};
 ghost use Rattle.iv_places.specs.Places.{row_at};
 
 use crate::beside::{Beside, beside_of};
@@ -48,6 +49,13 @@ pub(crate) fn compare(text: &[u8], width: u8, first: &Place, second: &Place) -> 
         return first.stop.cmp(&second.stop);
     }
     compare_beside(text, width, first, second)
+}
+
+/// Whether places stand in the order of a track.
+pub(crate) fn are_in_order(text: &[u8], width: u8, places: &[Place]) -> bool
+    ensures { IsTrue result ↔ AreInOrder width text.now places.now }
+{
+    places.is_sorted_by(|first, second| !compare(text, width, second, first).is_lt())
 }
 
 /// The most places that one is moved past.

@@ -109,11 +109,14 @@ fn records_that_fit(rt: HostRuntime) -> Result<(), Fail> {
     check_fits(&rt, &genome, &small)
 }
 
-/// What a text begins with behind a first line, where it is known as a short line: rank, start, stop and how many bytes.
-fn short_line(genome: &Genome, first: &[u8], text: &[u8]) -> Option<(u32, u32, u32, usize)> {
+/// What a text begins with, where it is known as a line of this width behind one of `chr2`: rank, start, stop and how many bytes.
+fn short_line(genome: &Genome, width: u8, text: &[u8]) -> Option<(u32, u32, u32, usize)> {
+    if width < 3 || width > 6 {
+        return None;
+    }
     let mut reader = RecordReader::new(genome);
-    reader.read(3, first).ok()?;
-    let line = reader.read_short(text)?;
+    reader.read(3, b"chr2\t1\t2").ok()?;
+    let line = reader.read_short(width, text)?;
     Some((line.seq, line.start, line.stop, line.size))
 }
 
@@ -131,7 +134,38 @@ fn short_lines(rt: HostRuntime) -> Result<(), Fail> {
         (b"chr2\t3\t50", None),
         (b"chr2\t3\t50\tn\n", None),
     ] {
-        assert!(rt; short_line(&genome, b"chr2\t1\t2", text) == want);
+        assert!(rt; short_line(&genome, 3, text) == want);
+    }
+    Ok(())
+}
+
+#[test]
+fn short_lines_with_cells(rt: HostRuntime) -> Result<(), Fail> {
+    let genome = genome(&rt)?;
+    for (width, text, size) in [
+        (4, b"chr2\t3\t50\tn 1\nchr1\t1\t2\tn\n".as_slice(), Some(14)),
+        (4, b"chr2\t3\t50\tn\r\n", Some(13)),
+        (4, b"chr2\t3\t50\tn", None),
+        (4, b"chr2\t3\t50\t\n", None),
+        (4, b"chr2\t3\t50\ta\rb\n", None),
+        (4, b"chr2\t3\t50\ta\0b\n", None),
+        (4, b"chr2\t3\t50\tn\t7\n", None),
+        (4, b"chr2\t3\t50\n", None),
+        (5, b"chr2\t3\t50\tn\t7\n", Some(14)),
+        (5, b"chr2\t3\t50\tn\t7.5\r\n", Some(17)),
+        (5, b"chr2\t3\t50\tn\t\n", None),
+        (5, b"chr2\t3\t50\tn\t7\r8\n", None),
+        (5, b"chr2\t3\t50\tn\t7", None),
+        (6, b"chr2\t3\t50\tn\t7\t+\n", Some(16)),
+        (6, b"chr2\t3\t50\tn\t7\t-\r\n", Some(17)),
+        (6, b"chr2\t3\t50\tn\t7\t.\n\n", Some(16)),
+        (6, b"chr2\t3\t50\tn\t7\t*\n", None),
+        (6, b"chr2\t3\t50\tn\t7\t++\n", None),
+        (6, b"chr2\t3\t50\tn\t7\t+\t\n", None),
+        (6, b"chr2\t3\t50\tn\t7\t+", None),
+    ] {
+        let want = size.map(|size| (1, 3, 50, size));
+        assert!(rt; short_line(&genome, width, text) == want);
     }
     Ok(())
 }

@@ -1,8 +1,9 @@
-use Rattle.std.proofs.Common.{◌∙◌, ap, List, rules}
-use Rattle.std.proofs.lemmas.List.Sorted.{All-permutation, IsPermutation-trans}
+use Rattle.std.proofs.Common.{sym, subst, ◌∙◌, ap, List, rules}
+use Rattle.std.proofs.lemmas.List.Sorted.{All-permutation, IsPermutation-refl, IsPermutation-trans}
 use Rattle.iv_text.specs.Row.{Row}
 use Rattle.iv_text.specs.Ordered.{ordered}
 use Rattle.iv_text.specs.BedFile.{Bed}
+use Rattle.iv_places.specs.Drafts.{AreInOrder}
 use Rattle.iv_places.specs.Places.{HasBase}
 use Rattle.iv_places.proofs.OrderLemmas.{sorted-rows, sorted-by-rows}
 use Rattle.iv_places.proofs.bed_text.BedText.sort.Goals as goal
@@ -16,6 +17,16 @@ invariant_of-self g c =
       high = s.high;
       some = All-permutation HasBase c.self.inside.places.items c.sort_unstable_by.new.self.items moved s.some;
     }
+
+pub returns-then-are_in_order : goal.returns-then-are_in_order
+returns-then-are_in_order g c =
+    let w = c.self.inside.width in
+    let text = c.self.inside.text.now in
+    let places = c.self.inside.places.items in
+    let up : AreInOrder w text places = subst (AreInOrder w text) c.deref.ensures.value (c.are_in_order.ensures.0 c.if-are_in_order.true) in
+    let with_rows : List Row → Bed = λ rows. record { width = w; rows = rows } in
+    let in_order : Bed → Bed = λ b. record { width = b.width; rows = ordered b.rows } in
+    sym c.self.view_is ∙ ap with_rows (sorted-rows w text places places (IsPermutation-refl places) up) ∙ ap in_order c.self.view_is
 
 pub returns : goal.returns
 returns g c =
