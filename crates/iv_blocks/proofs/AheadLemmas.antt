@@ -1,5 +1,5 @@
 -- Blocks that are read one by one, as long as they pass a test.
-use Rattle.std.proofs.Common.{◌≡◌, ℕ, suc, ◌+◌, ◌≤◌, ◌++◌, Bool, true, false, List, [], ◌∷◌, inl, inr, map, length, Option, Some, None, refl, sym, ◌∙◌, ap, arith}
+use Rattle.std.proofs.Common.{◌≡◌, ℕ, suc, ◌+◌, ◌++◌, Bool, true, false, List, [], ◌∷◌, inl, inr, map, Option, Some, None, refl, sym, ◌∙◌, ap, arith}
 use Rattle.std.specs.Map.Iter.{TakesFirst}
 use Rattle.std.specs.List.{take_while, prefix_len}
 use Rattle.std.specs.Option.{is_some}

@@ -1,5 +1,5 @@
 -- The entries that are kept are the definition's blocks, in order.
-use Rattle.std.proofs.Common.{◌≡◌, ℕ, ◌+◌, ◌<◌, ◌≤◌, ◌==◌, ◌&&◌, Bool, true, false, List, [], ◌∷◌, ◌++◌, map, length, filter, filter_map, Option, Some, None, refl, sym, ◌∙◌, ap, arith, append-nil, eqb-true, All}
+use Rattle.std.proofs.Common.{◌≡◌, ℕ, ◌<◌, ◌≤◌, ◌==◌, Bool, true, false, List, [], ◌∷◌, ◌++◌, map, length, filter_map, Option, Some, None, refl, sym, ◌∙◌, ap, arith, append-nil, eqb-true, All}
 use Rattle.std.specs.List.{flat_map, range_with_len, cons_option}
 use Rattle.std.specs.Option.{option_map, unwrap_or}
 use Rattle.std.proofs.lemmas.Bool.{and_parts, and_right}
@@ -13,13 +13,12 @@ use Rattle.iv_cover.specs.Blocks.{block_at, blocks_below}
 use Rattle.iv_cover.specs.TrackBlocks.{start_of, stop_of}
 use Rattle.iv_cover.proofs.Cover.{no_start-test, block_at-none}
 use Rattle.iv_cover.proofs.Merging.{blocks-none}
-use Rattle.iv_cover.proofs.Positions.{values, values-agree}
+use Rattle.iv_cover.proofs.Positions.{values-agree}
 use Rattle.iv_cover.proofs.Tests.{Mem, mem-filter, all-mem, filter-none}
 use Rattle.iv_blocks.specs.Groups.{is_in_group, is_on_side, group, sides, listed}
 use Rattle.iv_blocks.specs.KeptBlocks.{Key, Kept, Entries, AreBlocksOf, kept_at, kept_block, name_of}
-use Rattle.iv_blocks.specs.MergeRows.{all_blocks}
 use Rattle.iv_blocks.specs.declared.options.Options.{Options}
-use Rattle.iv_blocks.proofs.EntryLemmas.{side_entries, rank_entries, all_entries, entries-all}
+use Rattle.iv_blocks.proofs.EntryLemmas.{side_entries, rank_entries, entries-all}
 
 -- ---- lists
 

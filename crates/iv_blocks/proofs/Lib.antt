@@ -19,5 +19,4 @@ pub mod AheadLemmas
 pub mod GapLemmas
 pub mod ComplementLemmas
 pub mod ClusterLemmas
-pub mod JoinedLemmas
 pub mod NumberLemmas

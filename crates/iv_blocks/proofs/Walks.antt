@@ -1,11 +1,10 @@
 -- A walk over records in order, and the members of a group that are ahead in it.
 use Rattle.std.proofs.Common.{ℕ, ◌+◌, ◌<◌, ◌≤◌, ◌≡◌, ◌⊎◌, inl, inr, Bool, true, false, ◌&&◌, ◌==◌, nat_le, nat_lt, List, [], ◌∷◌, ◌++◌, length, filter, Ordering, Less, Equal, Greater, nat_cmp, refl, sym, ap, subst, ◌∙◌, arith, eq-eqb, eqb-true, le-leb, leb-true, lt-ltb, ltb-true}
-use Rattle.std.specs.List.{AllByRecursion}
 use Rattle.std.specs.Ordering.{is_le, ordering_then}
 use Rattle.std.proofs.lemmas.Bool.{cond-true, cond-false, cases_Bool, and_parts, and_from, and_left, false_from_ne_true}
 use Rattle.std.proofs.lemmas.Cmp.{ranked, by_ranked}
 use Rattle.std.proofs.lemmas.Map.Keys.{le_from_is_le}
-use Rattle.iv_text.specs.Ordered.{InOrder, AreInOrder}
+use Rattle.iv_text.specs.Ordered.{AreInOrder}
 use Rattle.iv_text.specs.Row.{Row, row_cmp}
 use Rattle.iv_track.specs.Tracked.{is_from}
 use Rattle.iv_track.proofs.NumberOrder.{le-cmp}

@@ -6,6 +6,7 @@ use Rattle.iv_summary.specs.declared.column.Column.TheVariants.{Sequence}
 use Rattle.iv_summary.specs.declared.column.Summary.{Summary}
 use Rattle.iv_blocks.specs.declared.group.Group.{Group}
 use Rattle.iv_summary.specs.declared.op.Op.TheVariants.{Count}
+use Rattle.iv_blocks.specs.declared.options.Options.{Options}
 use Rattle.iv_blocks.specs.declared.options.Summaries.{Summaries}
 use Rattle.iv_text.specs.declared.strand.Strand.TheVariants.{Plus, Minus, Dot}
 
@@ -64,3 +65,7 @@ filled summaries = record { summaries = summaries ++ replicate (16 - length summ
 -- one more summary at the end
 abbrev pub pushed : Summaries → Summary → Summaries
 pushed s summary = record { summaries = slice_set s.summaries s.count summary; count = s.count + 1 }
+
+-- records of both strands are joined at this distance, and nothing is asked of a block
+abbrev pub joined : ℕ → Options
+joined distance = record { distance = distance; stranded = false; summaries = filled [] }

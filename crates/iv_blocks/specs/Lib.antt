@@ -6,7 +6,6 @@ pub mod Putting
 pub mod Lookups
 pub mod Repairs
 pub mod Ahead
-pub mod JoinedBlocks
 pub mod MergeRows
 pub mod ClusterRows
 pub mod ComplementRows

@@ -1,5 +1,5 @@
 -- Blocks of which nothing is asked, as they are kept.
-use Rattle.std.specs.Prelude.{◌≡◌, false, List, [], map, Option}
+use Rattle.std.specs.Prelude.{false, List, [], map, Option}
 use Rattle.std.specs.Iterator.{YieldsFirst}
 use Rattle.iv_cover.specs.TrackBlocks.{Group}
 use Rattle.iv_blocks.specs.KeptBlocks.{Key, Kept}

@@ -1,8 +1,13 @@
 //! The blocks of a track, kept under edits.
+ghost use Rattle.std.specs.Prelude.{◌≡◌};
+ghost use Rattle.iv_blocks.specs.KeptBlocks.{AreBlocksOf, block_steps};
 
+use crate::group::Group;
 use crate::options::Options;
-use iv_track::Ledger;
-use std::alloc::{Allocator, Global};
+use iv_cover::Kept;
+use iv_text::{Genome, RecordRef};
+use iv_track::{Ledger, Meter, Track};
+use std::alloc::{AllocError, Allocator, Global};
 use std::marker::Model;
 
 /// What is kept of a block.
@@ -29,7 +34,7 @@ pub(crate) type Key = (u32, bool, u32);
 ///
 /// It is one ledger, beside the options, and knows no length of a sequence.
 #[derive(Drop)]
-pub(crate) struct Blocks<A: Allocator + Copy = Global> {
+pub struct Blocks<A: Allocator + Copy = Global> {
     pub(crate) options: Options,
     pub(crate) alloc: A,
     pub(crate) ledger: Ledger<Key, KeptBlock<A>, A>,
@@ -41,4 +46,72 @@ impl<A: Allocator + Copy> Model for Blocks<A> {
     ghost Value = { KeptBlocks };
 
     ghost view = { λ b. record { options = b.options; entries = b.ledger } };
+}
+
+impl<A: Allocator + Copy> Kept<A> for Blocks<A> {
+    type Settings = Options;
+
+    ghost built_for = { λ kept. kept.options };
+
+    ghost is_right = { λ kept names rows. AreBlocksOf kept.options names rows kept.entries };
+
+    ghost repair_steps = { block_steps };
+
+    /// Nothing grows but the ledger, and the results that are asked. Where strands are together and nothing is asked, the ledger
+    /// is built at once.
+    fn build(
+        alloc: A,
+        options: Options,
+        track: &Track<A>,
+        genome: &Genome<A>,
+        meter: &mut Meter,
+    ) -> Result<Blocks<A>, AllocError> {
+        if options.stranded || !options.summaries.as_slice().is_empty() {
+            return Blocks::build_by_groups(alloc, options, track, genome, meter);
+        }
+        Blocks::build_plain(alloc, options, track, genome, meter)
+    }
+
+    /// The blocks that the record reaches become one with it.
+    fn added(
+        &mut self,
+        track: &Track<A>,
+        genome: &Genome<A>,
+        row: &RecordRef<'_>,
+        meter: &mut Meter,
+    ) -> Result<(), AllocError> {
+        let Some(group) = Group::of(self.options.stranded, row) else {
+            return Ok(());
+        };
+        let (start, stop) = place(row);
+        let (low, high) = self.join_before(group, start, stop, meter);
+        let high = self.join_after(group, start, high, meter);
+        self.put_block(track, genome, group, low, high, meter)
+    }
+
+    /// The record's block is made anew from the others that were in it.
+    fn removed(
+        &mut self,
+        track: &Track<A>,
+        genome: &Genome<A>,
+        row: &RecordRef<'_>,
+        meter: &mut Meter,
+    ) -> Result<(), AllocError> {
+        let Some(group) = Group::of(self.options.stranded, row) else {
+            return Ok(());
+        };
+        let (start, _) = place(row);
+        let Some((start, stop)) = self.before(group, start, meter) else {
+            unreachable!()
+        };
+        self.rebuild(track, genome, group, start, stop, meter)
+    }
+}
+
+/// Where a record starts and stops.
+fn place(row: &RecordRef<'_>) -> (u32, u32)
+    ensures { result ≡ (row.now.start, row.now.stop) }
+{
+    row.law_of_place();
+    (row.start() as u32, row.stop() as u32)
 }

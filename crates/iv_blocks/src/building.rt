@@ -1,4 +1,4 @@
-//! The blocks of a track as it is.
+//! The blocks of a track as it is, group by group.
 ghost use Rattle.std.specs.Prelude.{◌≡◌, All, IfOk, OnOk};
 ghost use Rattle.iv_text.specs.Named.{names_of};
 ghost use Rattle.iv_text.specs.Read.{Fits};
@@ -13,32 +13,12 @@ use iv_track::{Ledger, Meter, Track};
 use std::alloc::{AllocError, Allocator};
 
 impl<A: Allocator + Copy> Blocks<A> {
-    /// The blocks of a track's records. Nothing grows but the ledger, and the results that are asked.
-    ///
-    /// Where strands are together and nothing is asked, the ledger is built at once.
+    /// The blocks of a track's records, group by group: the blocks of each are put one by one.
     ///
     /// # Errors
     ///
     /// Memory was refused.
-    pub(crate) fn build(
-        alloc: A,
-        options: Options,
-        track: &Track<A>,
-        genome: &Genome<A>,
-        meter: &mut Meter,
-    ) -> Result<Blocks<A>, AllocError>
-        requires fit { All (Fits genome.now track.now.width) track.now.rows }
-        ensures right { IfOk result (λ b. AreBlocksOf options (names_of genome.now) track.now.rows b.entries) }
-        ensures options { IfOk result (λ b. b.options ≡ options) }
-    {
-        if options.stranded || !options.summaries.as_slice().is_empty() {
-            return Blocks::build_by_groups(alloc, options, track, genome, meter);
-        }
-        Blocks::build_plain(alloc, options, track, genome, meter)
-    }
-
-    /// The same, group by group: the blocks of each are put one by one.
-    fn build_by_groups(
+    pub(crate) fn build_by_groups(
         alloc: A,
         options: Options,
         track: &Track<A>,

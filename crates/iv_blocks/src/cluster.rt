@@ -1,5 +1,5 @@
 //! The rows of a cluster.
-ghost use Rattle.std.specs.Prelude.{◌≡◌, ◌<◌, ◌+◌, ◌^◌, false, All, length};
+ghost use Rattle.std.specs.Prelude.{◌≡◌, ◌<◌, ◌+◌, ◌^◌, All, length};
 ghost use Rattle.std.specs.List.{take_while};
 ghost use Rattle.iv_bytes.specs.Sinks.{Puts};
 ghost use Rattle.iv_text.specs.Named.{names_of};
@@ -7,7 +7,9 @@ ghost use Rattle.iv_text.specs.Read.{Fits};
 ghost use Rattle.iv_track.specs.Steps.{TakesUpTo};
 ghost use Rattle.iv_blocks.specs.Ahead.{starts_until, drop_while, TakesForEach};
 ghost use Rattle.iv_blocks.specs.ClusterRows.{cluster_text};
+ghost use Rattle.iv_blocks.specs.Groups.{joined};
 ghost use Rattle.iv_blocks.specs.KeptBlocks.{AreBlocksOf};
+ghost use Rattle.iv_blocks.specs.MergeRows.{all_blocks};
 
 use crate::ahead::Ahead;
 use crate::blocks::Blocks;
@@ -15,32 +17,39 @@ use iv_text::{Genome, Sink, WriteFault, put_numbered};
 use iv_track::{Meter, Track};
 use std::alloc::Allocator;
 
-/// Puts a row for each record: its columns, and the number of its block, counted from 1 over the whole track.
-///
-/// One walk over the track, and one over the blocks beside it: at most one step for each record and each block, and four more.
-pub(crate) fn put_cluster<A: Allocator + Copy, S: Sink>(
-    blocks: &Blocks<A>,
-    track: &Track<A>,
-    genome: &Genome<A>,
-    meter: &mut Meter,
-    sink: &mut S,
-) -> Result<(), WriteFault>
-    requires together { blocks.now.options.stranded ≡ false }
-    requires right { AreBlocksOf blocks.now.options (names_of genome.now) track.now.rows blocks.now.entries }
-    requires fit { All (Fits genome.now track.now.width) track.now.rows }
-    ensures text { Puts (S.state sink.old) (S.state sink.new) result (cluster_text blocks.now.options.distance genome.now track.now.rows) }
-    ensures steps { TakesUpTo meter.old meter.new (4 + length track.now.rows + length blocks.now.entries) }
-{
-    // So few blocks are kept that 64 bits number them.
-    let _few = blocks.ledger.len();
-    let mut ahead = Ahead::of(blocks, meter);
-    let mut number: u64 = 0;
-    let mut rows = track.walk(0, 0, meter);
-    while let Some(row) = rows.next(meter) {
-        number += count_until(&mut ahead, row.seq(), row.start(), meter);
-        put_numbered(sink, genome, &row.as_ref(), number)?;
+impl<A: Allocator + Copy> Blocks<A> {
+    /// Prints a `cluster`: a row for each record, of its columns and the number of its block, counted from 1 over the whole track.
+    ///
+    /// One walk over the track, and one over the blocks beside it: at most one step for each record and each block, and four
+    /// more. It takes no memory.
+    ///
+    /// # Errors
+    ///
+    /// The sink failed. It has taken a prefix of the rows.
+    pub fn print_cluster<S: Sink>(
+        &self,
+        track: &Track<A>,
+        genome: &Genome<A>,
+        meter: &mut Meter,
+        sink: &mut S,
+    ) -> Result<(), WriteFault>
+        requires joined { self.now.options ≡ joined self.now.options.distance }
+        requires right { AreBlocksOf self.now.options (names_of genome.now) track.now.rows self.now.entries }
+        requires fit { All (Fits genome.now track.now.width) track.now.rows }
+        ensures text { Puts (S.state sink.old) (S.state sink.new) result (cluster_text self.now.options.distance genome.now track.now.rows) }
+        ensures steps { TakesUpTo meter.old meter.new (4 + length track.now.rows + length (all_blocks self.now.options genome.now track.now.rows)) }
+    {
+        // So few blocks are kept that 64 bits number them.
+        let _few = self.ledger.len();
+        let mut ahead = Ahead::of(self, meter);
+        let mut number: u64 = 0;
+        let mut rows = track.walk(0, 0, meter);
+        while let Some(row) = rows.next(meter) {
+            number += count_until(&mut ahead, row.seq(), row.start(), meter);
+            put_numbered(sink, genome, &row.as_ref(), number)?;
+        }
+        Ok(())
     }
-    Ok(())
 }
 
 /// Goes past the blocks that start at this position of the sequence of this rank, or before it, and counts them.

@@ -1,36 +1,44 @@
 //! The rows of a merge.
-ghost use Rattle.std.specs.Prelude.{◌≡◌, ℕ, List, ◌++◌, ◌+◌, All, length, codes, decimal};
+ghost use Rattle.std.specs.Prelude.{◌≡◌, ◌++◌, ◌+◌, All, length, codes, decimal};
 ghost use Rattle.iv_bytes.specs.Sinks.{Puts};
 ghost use Rattle.iv_text.specs.Named.{names_of};
 ghost use Rattle.iv_text.specs.Read.{Fits};
-ghost use Rattle.iv_text.specs.Row.{Row};
 ghost use Rattle.iv_track.specs.Steps.{TakesUpTo};
 ghost use Rattle.iv_blocks.specs.KeptBlocks.{AreBlocksOf};
-ghost use Rattle.iv_blocks.specs.MergeRows.{merge_text};
+ghost use Rattle.iv_blocks.specs.MergeRows.{all_blocks, merge_text};
 
 use crate::blocks::{Blocks, KeptBlock};
 use crate::rows::put_interval;
 use iv_text::{Genome, Sink, WriteFault, put_pieces};
-use iv_track::Meter;
+use iv_track::{Meter, Track};
 use std::alloc::Allocator;
 
-/// Puts a row for each block. One walk over the blocks: at most two steps more than there are, and no memory.
-pub(crate) fn put_merge<A: Allocator + Copy, S: Sink>(
-    blocks: &Blocks<A>,
-    genome: &Genome<A>,
-    meter: &mut Meter,
-    sink: &mut S,
-) -> Result<(), WriteFault>
-    ensures text { (width : ℕ) (rows : List Row) → AreBlocksOf blocks.now.options (names_of genome.now) rows blocks.now.entries → All (Fits genome.now width) rows → Puts (S.state sink.old) (S.state sink.new) result (merge_text blocks.now.options genome.now rows) }
-    ensures steps { TakesUpTo meter.old meter.new (2 + length blocks.now.entries) }
-{
-    let mut walk = blocks.ledger.walk(&(0, false, 0), meter);
-    while let Some((key, block)) = walk.next(meter) {
-        let (sequence, _, start) = *key;
-        let name = genome.name(sequence).unwrap_or(b"");
-        put_block(name, start, block, sink)?;
+impl<A: Allocator + Copy> Blocks<A> {
+    /// Prints a `merge`: a row for each block. One walk over the blocks: at most two steps more than there are, and no memory.
+    ///
+    /// # Errors
+    ///
+    /// The sink failed. It has taken a prefix of the rows.
+    pub fn print_merge<S: Sink>(
+        &self,
+        track: &Track<A>,
+        genome: &Genome<A>,
+        meter: &mut Meter,
+        sink: &mut S,
+    ) -> Result<(), WriteFault>
+        requires right { AreBlocksOf self.now.options (names_of genome.now) track.now.rows self.now.entries }
+        requires fit { All (Fits genome.now track.now.width) track.now.rows }
+        ensures text { Puts (S.state sink.old) (S.state sink.new) result (merge_text self.now.options genome.now track.now.rows) }
+        ensures steps { TakesUpTo meter.old meter.new (2 + length (all_blocks self.now.options genome.now track.now.rows)) }
+    {
+        let mut walk = self.ledger.walk(&(0, false, 0), meter);
+        while let Some((key, block)) = walk.next(meter) {
+            let (sequence, _, start) = *key;
+            let name = genome.name(sequence).unwrap_or(b"");
+            put_block(name, start, block, sink)?;
+        }
+        Ok(())
     }
-    Ok(())
 }
 
 /// Puts the row of a block: name, start, stop and results.

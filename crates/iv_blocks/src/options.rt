@@ -1,6 +1,6 @@
 //! What is asked of blocks.
-ghost use Rattle.std.specs.Prelude.{◌≡◌, [], false, nat_lt, IsTrue, IsFalse};
-ghost use Rattle.iv_blocks.specs.Groups.{listed, filled, pushed};
+ghost use Rattle.std.specs.Prelude.{◌≡◌, [], nat_lt, IsTrue, IsFalse};
+ghost use Rattle.iv_blocks.specs.Groups.{listed, filled, pushed, joined as only_joined};
 
 use iv_summary::{Column, Op, Summary};
 
@@ -63,9 +63,7 @@ pub struct Options {
 impl Options {
     /// Records of both strands are joined, at most this many bases apart, and nothing is asked of a block.
     pub fn joined(distance: u32) -> Options
-        ensures distance { result.distance ≡ distance }
-        ensures together { result.stranded ≡ false }
-        ensures summaries { listed result.summaries ≡ [] }
+        ensures { result ≡ only_joined distance }
     {
         Options {
             distance,

@@ -1,86 +1,22 @@
-//! Blocks that are repaired around an edit.
+//! The parts of a repair: blocks that are joined, taken out and made anew.
 ghost use Rattle.std.specs.Prelude.{◌≡◌, ◌+◌, ◌-◌, ◌*◌, ◌≤◌, All, OnOk, length};
 ghost use Rattle.iv_text.specs.Named.{names_of};
-ghost use Rattle.iv_text.specs.Ordered.{added as with_one};
 ghost use Rattle.iv_text.specs.Read.{Fits};
 ghost use Rattle.iv_track.specs.Entries.{IsLedger};
 ghost use Rattle.iv_track.specs.Steps.{TakesUpTo};
-ghost use Rattle.iv_cover.specs.Kept.{IsRightWithout};
 ghost use Rattle.iv_blocks.specs.Groups.{between, between_on, members_between};
-ghost use Rattle.iv_blocks.specs.KeptBlocks.{KeptBlocks, AreBlocksOf, key_cmp, block_steps};
+ghost use Rattle.iv_blocks.specs.KeptBlocks.{key_cmp};
 ghost use Rattle.iv_blocks.specs.Lookups.{kept_in};
 ghost use Rattle.iv_blocks.specs.Putting.{ArePut};
 ghost use Rattle.iv_blocks.specs.Repairs.{without_block, KeepsOthers, JoinsBefore, JoinsAfter, count_from};
 
 use crate::blocks::Blocks;
 use crate::group::Group;
-use iv_text::{Genome, RecordRef};
+use iv_text::Genome;
 use iv_track::{Meter, Track};
 use std::alloc::{AllocError, Allocator};
 
 impl<A: Allocator + Copy> Blocks<A> {
-    /// Repairs the blocks after the record was added to the track: those that it reaches become one with it.
-    ///
-    /// At most 16 steps, and 8 for each record around it.
-    ///
-    /// # Errors
-    ///
-    /// Memory was refused. The blocks have to be built anew.
-    pub(crate) fn added(
-        &mut self,
-        track: &Track<A>,
-        genome: &Genome<A>,
-        row: &RecordRef<'_>,
-        meter: &mut Meter,
-    ) -> Result<(), AllocError>
-        requires right { IsRightWithout (λ (b : KeptBlocks) rows. AreBlocksOf b.options (names_of genome.now) rows b.entries) self.old track.now.rows row.now }
-        requires fit { All (Fits genome.now track.now.width) track.now.rows }
-        requires fits { Fits genome.now track.now.width row.now }
-        ensures right { OnOk result (AreBlocksOf self.old.options (names_of genome.now) track.now.rows self.new.entries) }
-        ensures options { OnOk result (self.new.options ≡ self.old.options) }
-        ensures steps { TakesUpTo meter.old meter.new (block_steps self.old.options track.now.rows row.now) }
-    {
-        let Some(group) = Group::of(self.options.stranded, row) else {
-            return Ok(());
-        };
-        let (start, stop) = place(row);
-        let (low, high) = self.join_before(group, start, stop, meter);
-        let high = self.join_after(group, start, high, meter);
-        self.put_block(track, genome, group, low, high, meter)
-    }
-
-    /// Repairs the blocks after one copy of the record was taken out of the track: its block is made anew from the others that
-    /// were in it.
-    ///
-    /// At most 16 steps, and 8 for each record around it.
-    ///
-    /// # Errors
-    ///
-    /// Memory was refused. The blocks have to be built anew.
-    pub(crate) fn removed(
-        &mut self,
-        track: &Track<A>,
-        genome: &Genome<A>,
-        row: &RecordRef<'_>,
-        meter: &mut Meter,
-    ) -> Result<(), AllocError>
-        requires right { AreBlocksOf self.old.options (names_of genome.now) (with_one track.now.rows row.now) self.old.entries }
-        requires fit { All (Fits genome.now track.now.width) track.now.rows }
-        requires fits { Fits genome.now track.now.width row.now }
-        ensures right { OnOk result (AreBlocksOf self.old.options (names_of genome.now) track.now.rows self.new.entries) }
-        ensures options { OnOk result (self.new.options ≡ self.old.options) }
-        ensures steps { TakesUpTo meter.old meter.new (block_steps self.old.options (with_one track.now.rows row.now) row.now) }
-    {
-        let Some(group) = Group::of(self.options.stranded, row) else {
-            return Ok(());
-        };
-        let (start, _) = place(row);
-        let Some((start, stop)) = self.before(group, start, meter) else {
-            unreachable!()
-        };
-        self.rebuild(track, genome, group, start, stop, meter)
-    }
-
     /// Replaces the block of the group from `start` to `stop` by the blocks of the group's records that start there.
     ///
     /// None of these records stops past `stop`. At most 3 steps, and 5 for each record, of any strand, that starts there.
@@ -88,7 +24,7 @@ impl<A: Allocator + Copy> Blocks<A> {
     /// # Errors
     ///
     /// Memory was refused. Some of the blocks may be put.
-    fn rebuild(
+    pub(crate) fn rebuild(
         &mut self,
         track: &Track<A>,
         genome: &Genome<A>,
@@ -111,7 +47,13 @@ impl<A: Allocator + Copy> Blocks<A> {
     /// reaches it. The block is taken out.
     ///
     /// Gives the start and the stop of the two together. At most 2 steps.
-    fn join_before(&mut self, group: Group, start: u32, stop: u32, meter: &mut Meter) -> (u32, u32)
+    pub(crate) fn join_before(
+        &mut self,
+        group: Group,
+        start: u32,
+        stop: u32,
+        meter: &mut Meter,
+    ) -> (u32, u32)
         requires { IsLedger key_cmp self.old.entries }
         ensures kept { KeepsOthers group self.old self.new }
         ensures joined { JoinsBefore self.old.options.distance (kept_in self.old.entries group) (kept_in self.new.entries group) start stop result }
@@ -131,7 +73,13 @@ impl<A: Allocator + Copy> Blocks<A> {
     /// another. They are taken out.
     ///
     /// Gives the stop of all together. At most one step, and 2 for each of these blocks.
-    fn join_after(&mut self, group: Group, from: u32, high: u32, meter: &mut Meter) -> u32
+    pub(crate) fn join_after(
+        &mut self,
+        group: Group,
+        from: u32,
+        high: u32,
+        meter: &mut Meter,
+    ) -> u32
         requires ordered { IsLedger key_cmp self.old.entries }
         requires upward { from ≤ high }
         ensures kept { KeepsOthers group self.old self.new }
@@ -165,12 +113,4 @@ impl<A: Allocator + Copy> Blocks<A> {
     {
         self.ledger.take(&(group.rank, group.minus, start), meter);
     }
-}
-
-/// Where a record starts and stops.
-fn place(row: &RecordRef<'_>) -> (u32, u32)
-    ensures { result ≡ (row.now.start, row.now.stop) }
-{
-    row.law_of_place();
-    (row.start() as u32, row.stop() as u32)
 }

@@ -1,5 +1,5 @@
 -- What the runs of value 0 mean: they are the maximal intervals on which the function is 0.
-use Rattle.std.proofs.Common.{◌≡◌, ℕ, ◌<◌, ◌≤◌, ◌==◌, List, Contains, sym, ap, ◌∙◌, subst, arith, inl, inr, eqb-true, eq-eqb, filter}
+use Rattle.std.proofs.Common.{◌≡◌, ℕ, ◌<◌, ◌≤◌, ◌==◌, List, Contains, sym, ◌∙◌, subst, arith, inl, inr, eqb-true, eq-eqb, filter}
 use Rattle.std.proofs.lemmas.Bool.{cases_lt}
 use Rattle.iv_cover.specs.Runs.{Run, Tiles, runs, empty_runs}
 use Rattle.iv_cover.proofs.RunsLemmas.{Tiles-runs, runs-none}

@@ -1,19 +1,17 @@
 //! States that are kept under edits.
 ghost use Rattle.std.specs.Prelude.{◌≡◌, ℕ, List, All, IfOk, OnOk};
-ghost use Rattle.iv_text.specs.Genome.{Sequences};
 ghost use Rattle.iv_text.specs.Named.{names_of};
 ghost use Rattle.iv_text.specs.Ordered.{added as with_one};
 ghost use Rattle.iv_text.specs.Read.{Fits};
 ghost use Rattle.iv_text.specs.Row.{Row};
-ghost use Rattle.iv_bytes.specs.Sinks.{Puts};
 ghost use Rattle.iv_track.specs.Steps.{TakesUpTo};
 ghost use Rattle.iv_cover.specs.Kept.{IsRightWithout};
 
-use iv_text::{Genome, RecordRef, Sink, WriteFault};
+use iv_text::{Genome, RecordRef};
 use iv_track::{Meter, Track};
 use std::alloc::{AllocError, Allocator};
 
-/// What is kept of a view, so that an edit of the track costs it little.
+/// What is kept for views, so that an edit of the track costs it little.
 ///
 /// The records of the track, and the one that is added or removed, fit the genome throughout. The genome may be
 /// another one at each call, as long as its names are those at `build`.
@@ -24,8 +22,6 @@ pub trait Kept<A: Allocator + Copy> {
     ghost built_for: { Self → Self.Settings };
     /// Whether the state is right for a genome of these names and these records in order.
     ghost is_right: { Self → List (List ℕ) → List Row → Type 0 };
-    /// What a view of these settings prints.
-    ghost text: { Self.Settings → Sequences → List Row → List ℕ };
     /// How many steps a repair takes at most, with the record among the records.
     ghost repair_steps: { Self.Settings → List Row → Row → ℕ };
 
@@ -70,16 +66,4 @@ pub trait Kept<A: Allocator + Copy> {
         ensures right { OnOk result (is_right self.new (names_of genome.now) track.now.rows) }
         ensures built_for { OnOk result (built_for self.new ≡ built_for self.old) }
         ensures steps { TakesUpTo meter.old meter.new (repair_steps (built_for self.old) (with_one track.now.rows row.now) row.now) };
-
-    /// Prints the view. It takes no memory; on a fault the sink has taken a prefix of the text.
-    fn print<S: Sink>(
-        &self,
-        track: &Track<A>,
-        genome: &Genome<A>,
-        meter: &mut Meter,
-        sink: &mut S,
-    ) -> Result<(), WriteFault>
-        requires right { is_right self.now (names_of genome.now) track.now.rows }
-        requires fit { All (Fits genome.now track.now.width) track.now.rows }
-        ensures { Puts (S.state sink.old) (S.state sink.new) result (text (built_for self.now) genome.now track.now.rows) };
 }

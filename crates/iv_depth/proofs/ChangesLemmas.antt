@@ -3,9 +3,8 @@ use Rattle.std.proofs.Common.{◌≡◌, ◌≢◌, All, sym, ap, ◌∙◌, ℕ
 use Rattle.std.specs.Prelude.{ℤ, pos, negsuc, ◌+ℤ◌, if◌then◌else◌}
 use Rattle.std.proofs.lemmas.Int.{ints}
 use Rattle.std.proofs.lemmas.Bool.{cases_lt, lt-leb, le-leb, lt-ltb, le-ltb, false≢true}
-use Rattle.std.proofs.lemmas.List.Sums.{sum_by-cons}
 use Rattle.iv_text.specs.Row.{Row}
-use Rattle.iv_cover.specs.Depth.{covers, depth}
+use Rattle.iv_cover.specs.Depth.{covers}
 use Rattle.iv_cover.proofs.DepthLemmas.{depth-cons}
 use Rattle.std.specs.Map.{lookup, remove_entry, set_value, values_of}
 use Rattle.std.specs.Cmp.{IsTotalOrder}

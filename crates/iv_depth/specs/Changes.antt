@@ -6,7 +6,6 @@ use Rattle.std.specs.declared.cmp.Ordering.{Ordering}
 use Rattle.iv_text.specs.Row.{Row}
 use Rattle.iv_track.specs.Entries.{IsLedger}
 use Rattle.iv_cover.specs.Depth.{covers, depth}
-use Rattle.iv_depth.specs.declared.depth_rows.DepthRows.{DepthRows}
 
 -- a place: the rank of a sequence and a position on it, from 0
 abbrev pub Place : Type 0
@@ -53,8 +52,3 @@ pub record Shifts (r : Row) (by : ℤ) (old new : Entries) : Type 0 where
   pub ordered : IsLedger place_cmp new
   pub changes : All (λ z. z ≢ pos 0) (values_of old) → All (λ z. z ≢ pos 0) (values_of new)
   pub sums : (rank p : ℕ) → total (reaches rank p) new ≡ total (reaches rank p) old +ℤ (if covers rank p r then by else pos 0)
-
--- what is kept: which rows are shown, and the changes
-pub record KeptDepth : Type 0 where
-  pub shown : DepthRows
-  pub entries : Entries

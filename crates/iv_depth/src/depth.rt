@@ -15,45 +15,42 @@ use iv_track::{Ledger, Meter, Track};
 use std::alloc::{AllocError, Allocator, Global};
 use std::marker::Model;
 
-/// The net changes of depth at each place where some record starts or stops, and which rows are shown.
+/// The net changes of depth at each place where some record starts or stops.
 ///
-/// A change of 0 is not kept. It is one ledger, beside the settings, and knows no length of a sequence.
+/// A change of 0 is not kept. It is one ledger, and knows no length of a sequence.
 #[derive(Drop)]
 pub struct Depth<A: Allocator + Copy = Global> {
-    shown: DepthRows,
     changes: Changes<A>,
 }
 
 impl<A: Allocator + Copy> Model for Depth<A> {
-    ghost use Rattle.iv_depth.specs.Changes.{KeptDepth};
+    ghost use Rattle.iv_depth.specs.Changes.{Entries};
 
-    ghost Value = { KeptDepth };
+    ghost Value = { Entries };
 
-    ghost view = { λ d. record { shown = d.shown; entries = d.changes } };
+    ghost view = { λ d. d.changes };
 }
 
 impl<A: Allocator + Copy> Kept<A> for Depth<A> {
-    type Settings = DepthRows;
+    type Settings = ();
 
-    ghost built_for = { λ depth. depth.shown };
+    ghost built_for = { λ _. tt };
 
-    ghost is_right = { λ depth _ rows. AreChangesOf rows depth.entries };
-
-    ghost text = { depth_text };
+    ghost is_right = { λ entries _ rows. AreChangesOf rows entries };
 
     ghost repair_steps = { λ _ _ _. 8 };
 
     /// One entry for each place where the depth changes. Nothing grows but the ledger.
     fn build(
         alloc: A,
-        shown: DepthRows,
+        _settings: (),
         track: &Track<A>,
         _genome: &Genome<A>,
         meter: &mut Meter,
     ) -> Result<Depth<A>, AllocError> {
         let mut changes = Ledger::new(alloc);
         add_records(&mut changes, track, meter)?;
-        Ok(Depth { shown, changes })
+        Ok(Depth { changes })
     }
 
     fn added(
@@ -78,22 +75,31 @@ impl<A: Allocator + Copy> Kept<A> for Depth<A> {
         let _few = track.len();
         take_record(&mut self.changes, row, meter)
     }
+}
 
-    /// Prints the rows in one walk over the changes: at most 2 steps, and 2 more for each row of a depth above 0.
-    fn print<S: Sink>(
+impl<A: Allocator + Copy> Depth<A> {
+    /// Prints the rows in one walk over the changes: at most 2 steps, and 2 more for each row of a depth above 0. It takes no
+    /// memory.
+    ///
+    /// # Errors
+    ///
+    /// The sink failed. It has taken a prefix of the rows.
+    pub fn print<S: Sink>(
         &self,
+        shown: DepthRows,
         track: &Track<A>,
         genome: &Genome<A>,
         meter: &mut Meter,
         sink: &mut S,
     ) -> Result<(), WriteFault>
-        requires right { AreChangesOf track.now.rows self.now.entries }
+        requires right { AreChangesOf track.now.rows self.now }
         requires fit { All (Fits genome.now track.now.width) track.now.rows }
-        ensures text { Puts (S.state sink.old) (S.state sink.new) result (depth_text self.now.shown genome.now track.now.rows) }
+        ensures text { Puts (S.state sink.old) (S.state sink.new) result (depth_text shown genome.now track.now.rows) }
         ensures steps { TakesUpTo meter.old meter.new (2 + 2 * length (all_covered_runs genome.now track.now.rows)) }
     {
+        // A track holds so few records that no depth leaves 64 bits.
         let _few = track.len();
-        put_genome(self.shown, &self.changes, genome, meter, sink)
+        put_genome(shown, &self.changes, genome, meter, sink)
     }
 }
 

@@ -3,5 +3,6 @@ mod FlagLemmas
 mod ListLemmas
 mod RowLemmas
 mod SaidLemmas
+mod SameLemmas
 mod SummaryLemmas
 pub mod WordLemmas

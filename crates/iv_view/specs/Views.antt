@@ -30,11 +30,6 @@ use Rattle.iv_view.specs.declared.written_view.WrittenView.TheVariants as writte
 use Rattle.iv_view.specs.declared.fault.ViewFault.{ViewFault}
 use Rattle.iv_view.specs.declared.fault.ViewFault.TheVariants as fault
 
--- a state is kept of the view
-abbrev pub is_kept : View → Bool
-is_kept (view.Kept v) = true
-is_kept (view.Written v) = false
-
 -- the view is written with the records of a second file
 abbrev pub needs_second : View → Bool
 needs_second (view.Kept v) = false

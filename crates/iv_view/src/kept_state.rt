@@ -1,57 +1,124 @@
-//! The state that is kept of a view, of whatever kind.
-ghost use Rattle.iv_view.specs.KeptStates.{shown_by, IsRight, repair_steps};
+//! What is kept for views: the blocks of records, or their depth.
+ghost use Rattle.std.specs.Prelude.{◌≡◌, ◌↔◌, All, IsTrue};
+ghost use Rattle.iv_bytes.specs.Sinks.{Puts};
+ghost use Rattle.iv_text.specs.Named.{names_of};
+ghost use Rattle.iv_text.specs.Read.{Fits};
+ghost use Rattle.iv_view.specs.KeptStates.{built_for as what_is_kept, keeping as kept_for, keeping_of, IsRight, repair_steps};
 ghost use Rattle.iv_view.specs.Views.{kept_text};
 
-use crate::view::KeptView;
-use iv_blocks::{ClusterView, ComplementView, MergeView};
+use crate::view::{KeptView, View};
+use iv_blocks::{Blocks, Options};
 use iv_cover::Kept;
 use iv_depth::Depth;
 use iv_text::{Genome, RecordRef, Sink, WriteFault};
 use iv_track::{Meter, Track};
 use std::alloc::{AllocError, Allocator, Global};
 
-/// What is kept of a view, so that an edit of the track costs it little. Each kind hands on to its own state.
+/// What is kept for a view. Views of one `Keeping` can share a state.
+#[derive(Clone, Copy, Debug, PartialEq, Eq)]
+pub enum Keeping {
+    /// The blocks of these options.
+    Blocks(Options),
+    /// The depth.
+    Depth,
+}
+
+impl Keeping {
+    /// Whether both say the same, so that their views can share a state.
+    pub fn is(&self, other: &Keeping) -> bool
+        ensures { IsTrue result ↔ self.now ≡ other.now }
+    {
+        self == other
+    }
+}
+
+impl KeptView {
+    /// What is kept for the view.
+    pub fn keeping(self) -> Keeping
+        ensures { result ≡ kept_for self }
+    {
+        match self {
+            KeptView::Merge(options) => Keeping::Blocks(options),
+            KeptView::Cluster(distance) => Keeping::Blocks(Options::joined(distance)),
+            KeptView::Complement(_) => Keeping::Blocks(Options::joined(0)),
+            KeptView::Genomecov(_) => Keeping::Depth,
+        }
+    }
+
+    /// Prints the view from what is kept for it. It takes no memory; on a fault the sink has taken a prefix of the text.
+    pub fn print<A: Allocator + Copy, S: Sink>(
+        self,
+        state: &KeptState<A>,
+        track: &Track<A>,
+        genome: &Genome<A>,
+        meter: &mut Meter,
+        sink: &mut S,
+    ) -> Result<(), WriteFault>
+        requires kept { what_is_kept state.now ≡ kept_for self }
+        requires right { IsRight state.now (names_of genome.now) track.now.rows }
+        requires fit { All (Fits genome.now track.now.width) track.now.rows }
+        ensures { Puts (S.state sink.old) (S.state sink.new) result (kept_text self genome.now track.now.rows) }
+    {
+        match (self, state) {
+            (KeptView::Merge(_), KeptState::Blocks(blocks)) => {
+                blocks.print_merge(track, genome, meter, sink)
+            }
+            (KeptView::Cluster(_), KeptState::Blocks(blocks)) => {
+                blocks.print_cluster(track, genome, meter, sink)
+            }
+            (KeptView::Complement(limited), KeptState::Blocks(blocks)) => {
+                blocks.print_complement(limited, track, genome, meter, sink)
+            }
+            (KeptView::Genomecov(shown), KeptState::Depth(depth)) => {
+                depth.print(shown, track, genome, meter, sink)
+            }
+            _ => unreachable!(),
+        }
+    }
+}
+
+impl View {
+    /// What is kept for the view, `None` where it is written from the records.
+    pub fn keeping(self) -> Option<Keeping>
+        ensures { result ≡ keeping_of self }
+    {
+        match self {
+            View::Kept(view) => Some(view.keeping()),
+            View::Written(_) => None,
+        }
+    }
+}
+
+/// A state that is kept for views, so that an edit of the track costs it little. Each kind hands on to its own.
 #[derive(Drop)]
 pub enum KeptState<A: Allocator + Copy = Global> {
-    Merge(MergeView<A>),
-    Cluster(ClusterView<A>),
-    Complement(ComplementView<A>),
+    Blocks(Blocks<A>),
     Depth(Depth<A>),
 }
 
 impl<A: Allocator + Copy> Kept<A> for KeptState<A> {
-    type Settings = KeptView;
+    type Settings = Keeping;
 
-    ghost built_for = { shown_by };
+    ghost built_for = { what_is_kept };
 
     ghost is_right = { IsRight };
-
-    ghost text = { kept_text };
 
     ghost repair_steps = { repair_steps };
 
     fn build(
         alloc: A,
-        view: KeptView,
+        keeping: Keeping,
         track: &Track<A>,
         genome: &Genome<A>,
         meter: &mut Meter,
     ) -> Result<KeptState<A>, AllocError> {
-        match view {
-            KeptView::Merge(options) => {
-                let merge = MergeView::build(alloc, options, track, genome, meter)?;
-                Ok(KeptState::Merge(merge))
+        match keeping {
+            Keeping::Blocks(options) => {
+                let blocks = Blocks::build(alloc, options, track, genome, meter)?;
+                Ok(KeptState::Blocks(blocks))
             }
-            KeptView::Cluster(distance) => {
-                let cluster = ClusterView::build(alloc, distance, track, genome, meter)?;
-                Ok(KeptState::Cluster(cluster))
-            }
-            KeptView::Complement(limited) => {
-                let complement = ComplementView::build(alloc, limited, track, genome, meter)?;
-                Ok(KeptState::Complement(complement))
-            }
-            KeptView::Genomecov(shown) => {
-                let depth = Depth::build(alloc, shown, track, genome, meter)?;
+            Keeping::Depth => {
+                let depth = Depth::build(alloc, (), track, genome, meter)?;
                 Ok(KeptState::Depth(depth))
             }
         }
@@ -65,9 +132,7 @@ impl<A: Allocator + Copy> Kept<A> for KeptState<A> {
         meter: &mut Meter,
     ) -> Result<(), AllocError> {
         match self {
-            KeptState::Merge(merge) => merge.added(track, genome, row, meter),
-            KeptState::Cluster(cluster) => cluster.added(track, genome, row, meter),
-            KeptState::Complement(complement) => complement.added(track, genome, row, meter),
+            KeptState::Blocks(blocks) => blocks.added(track, genome, row, meter),
             KeptState::Depth(depth) => depth.added(track, genome, row, meter),
         }
     }
@@ -80,25 +145,8 @@ impl<A: Allocator + Copy> Kept<A> for KeptState<A> {
         meter: &mut Meter,
     ) -> Result<(), AllocError> {
         match self {
-            KeptState::Merge(merge) => merge.removed(track, genome, row, meter),
-            KeptState::Cluster(cluster) => cluster.removed(track, genome, row, meter),
-            KeptState::Complement(complement) => complement.removed(track, genome, row, meter),
+            KeptState::Blocks(blocks) => blocks.removed(track, genome, row, meter),
             KeptState::Depth(depth) => depth.removed(track, genome, row, meter),
-        }
-    }
-
-    fn print<S: Sink>(
-        &self,
-        track: &Track<A>,
-        genome: &Genome<A>,
-        meter: &mut Meter,
-        sink: &mut S,
-    ) -> Result<(), WriteFault> {
-        match self {
-            KeptState::Merge(merge) => merge.print(track, genome, meter, sink),
-            KeptState::Cluster(cluster) => cluster.print(track, genome, meter, sink),
-            KeptState::Complement(complement) => complement.print(track, genome, meter, sink),
-            KeptState::Depth(depth) => depth.print(track, genome, meter, sink),
         }
     }
 }

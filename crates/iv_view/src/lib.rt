@@ -20,7 +20,7 @@ pub use fault::ViewFault;
 pub use iv_blocks::{Options, Summaries};
 pub use iv_depth::DepthRows;
 pub use iv_pair::{FastaRows, IntersectRows};
-pub use kept_state::KeptState;
+pub use kept_state::{Keeping, KeptState};
 pub use view::{KeptView, View};
 pub use words::Words;
 pub use written_view::WrittenView;

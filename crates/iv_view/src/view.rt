@@ -1,6 +1,6 @@
 //! The kinds of view.
 ghost use Rattle.std.specs.Prelude.{◌≡◌, map};
-ghost use Rattle.iv_view.specs.Views.{read_words, or_bad_words as kept_or_bad_words, beside_second as beside_a_second, beside_fasta as beside_a_fasta, is_kept as has_state, needs_second as wants_second};
+ghost use Rattle.iv_view.specs.Views.{read_words, or_bad_words as kept_or_bad_words, beside_second as beside_a_second, beside_fasta as beside_a_fasta, needs_second as wants_second};
 
 use crate::cluster::read_cluster;
 use crate::complement::read_complement;
@@ -78,13 +78,6 @@ impl View {
         } else {
             Err(ViewFault::Words)
         }
-    }
-
-    /// Whether a state is kept of the view between prints.
-    pub fn is_kept(&self) -> bool
-        ensures { result ≡ has_state self.now }
-    {
-        matches!(self, View::Kept(_))
     }
 
     /// Whether the view is written with the records of a second file.

@@ -2,11 +2,10 @@
 ghost use Rattle.std.specs.Prelude.{All, IfOk};
 ghost use Rattle.iv_text.specs.Read.{Fits};
 
-use iv_blocks::{ComplementView, MergeView, Options};
+use iv_blocks::{Blocks, Options};
 use iv_cover::Kept;
 use iv_text::{BedFile, Genome, MemSink};
 use iv_track::{Meter, Track};
-use std::alloc::Global;
 use std::test::Fail;
 
 /// A thousand records at one place, each with a name of its own.
@@ -16,22 +15,6 @@ fn thousand_names(rt: &HostRuntime) -> Result<String, Fail> {
         text.push_str(format!(in rt.alloc(); "big\t0\t10\t{name}\n")?.as_str())?;
     }
     Ok(text)
-}
-
-/// What a view prints that is built for a track, and in how many steps.
-fn printed<K: Kept<Global> + Drop>(
-    rt: &HostRuntime,
-    genome: &Genome,
-    track: &Track,
-    settings: K::Settings,
-) -> Result<(MemSink, u64), Fail>
-    requires { All (Fits genome.now track.now.width) track.now.rows }
-{
-    let view = K::build(rt.alloc(), settings, track, genome, &mut Meter::new())?;
-    let mut sink = MemSink::new(rt.alloc(), 100, 7)?;
-    let mut meter = Meter::new();
-    view.print(track, genome, &mut meter, &mut sink)?;
-    Ok((sink, meter.steps()))
 }
 
 /// The track of those records.
@@ -48,9 +31,15 @@ fn track_of(rt: &HostRuntime, genome: &Genome) -> Result<Track, Fail>
 fn prints_of_one_block(rt: HostRuntime) -> Result<(), Fail> {
     let genome = Genome::parse(rt.alloc(), b"big\t1000000\n")?;
     let track = track_of(&rt, &genome)?;
-    let (merged, steps) = printed::<MergeView>(&rt, &genome, &track, Options::joined(0))?;
-    assert!(rt; merged.bytes() == b"big\t0\t10\n".as_slice() && steps <= 4);
-    let (gaps, steps) = printed::<ComplementView>(&rt, &genome, &track, false)?;
-    assert!(rt; gaps.bytes() == b"big\t10\t1000000\n".as_slice() && steps <= 4);
+    let options = Options::joined(0);
+    let blocks = Blocks::build(rt.alloc(), options, &track, &genome, &mut Meter::new())?;
+    let mut merged = MemSink::new(rt.alloc(), 100, 7)?;
+    let mut meter = Meter::new();
+    blocks.print_merge(&track, &genome, &mut meter, &mut merged)?;
+    assert!(rt; merged.bytes() == b"big\t0\t10\n".as_slice() && meter.steps() <= 4);
+    let mut gaps = MemSink::new(rt.alloc(), 100, 7)?;
+    let mut meter = Meter::new();
+    blocks.print_complement(false, &track, &genome, &mut meter, &mut gaps)?;
+    assert!(rt; gaps.bytes() == b"big\t10\t1000000\n".as_slice() && meter.steps() <= 4);
     Ok(())
 }

@@ -35,7 +35,7 @@ impl<'a> Model for Watched<'a> {
 
     ghost view = { λ _. tt };
 
-    ghost invariant = { λ w. (w.track.width ≡ 3) × All (Fits w.genome 3) w.track.rows × AreChangesOf w.track.rows w.depth.entries };
+    ghost invariant = { λ w. (w.track.width ≡ 3) × All (Fits w.genome 3) w.track.rows × AreChangesOf w.track.rows w.depth };
 }
 
 impl<'a> Watched<'a> {
@@ -49,7 +49,7 @@ impl<'a> Watched<'a> {
             return Ok(None);
         };
         let track = Track::new(alloc, 3, 2000);
-        let depth = Depth::build(alloc, shown, &track, &genome, &mut Meter::new())?;
+        let depth = Depth::build(alloc, (), &track, &genome, &mut Meter::new())?;
         Ok(Some(Watched {
             alloc,
             genome,
@@ -81,7 +81,7 @@ impl<'a> Watched<'a> {
         Ok(Some(Watched {
             alloc,
             shown,
-            depth: made_right(alloc, shown, &track, &genome, depth, repaired)?,
+            depth: made_right(alloc, &track, &genome, depth, repaired)?,
             refused: refused.saturating_add(u32::from(repaired.is_err())),
             most: most.max(meter.steps()),
             genome,
@@ -107,7 +107,7 @@ impl<'a> Watched<'a> {
         Ok(Watched {
             alloc,
             shown,
-            depth: made_right(alloc, shown, &track, &genome, depth, repaired)?,
+            depth: made_right(alloc, &track, &genome, depth, repaired)?,
             refused: refused.saturating_add(u32::from(repaired.is_err())),
             most: most.max(meter.steps()),
             genome,
@@ -119,8 +119,7 @@ impl<'a> Watched<'a> {
     pub(crate) fn printed(&self, rt: &HostRuntime) -> Result<(MemSink, u64), Fail> {
         let mut sink = MemSink::new(rt.alloc(), 200, 7)?;
         let mut meter = Meter::new();
-        self.depth
-            .print(&self.track, &self.genome, &mut meter, &mut sink)?;
+        self.depth.print(self.shown, &self.track, &self.genome, &mut meter, &mut sink)?;
         Ok((sink, meter.steps()))
     }
 
@@ -141,7 +140,7 @@ impl<'a> Watched<'a> {
             most,
             ..
         } = self;
-        let Ok(depth) = Depth::build(alloc, shown, &track, &genome, &mut Meter::new()) else {
+        let Ok(depth) = Depth::build(alloc, (), &track, &genome, &mut Meter::new()) else {
             return None;
         };
         Some(Watched {
@@ -159,19 +158,18 @@ impl<'a> Watched<'a> {
 /// The depth after a repair: where memory was refused it is built anew, as the law of kept states asks.
 fn made_right<'a>(
     alloc: &'a RefusesNth<Global>,
-    shown: DepthRows,
     track: &Track<&'a RefusesNth<Global>>,
     genome: &Genome<&'a RefusesNth<Global>>,
     depth: Depth<&'a RefusesNth<Global>>,
     repaired: Result<(), AllocError>,
 ) -> Result<Depth<&'a RefusesNth<Global>>, AllocError>
     requires fit { All (Fits genome.now track.now.width) track.now.rows }
-    requires right { OnOk repaired (AreChangesOf track.now.rows depth.entries) }
-    ensures { IfOk result (λ d. AreChangesOf track.now.rows d.entries) }
+    requires right { OnOk repaired (AreChangesOf track.now.rows depth) }
+    ensures { IfOk result (λ d. AreChangesOf track.now.rows d) }
 {
     match repaired {
         Ok(()) => Ok(depth),
-        Err(_) => Depth::build(alloc, shown, track, genome, &mut Meter::new()),
+        Err(_) => Depth::build(alloc, (), track, genome, &mut Meter::new()),
     }
 }
 

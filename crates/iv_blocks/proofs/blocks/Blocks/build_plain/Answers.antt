@@ -1,14 +1,13 @@
-use Rattle.std.proofs.Common.{◌≡◌, ◌∙◌, ℕ, List, map, sym, ap, subst}
+use Rattle.std.proofs.Common.{◌≡◌, ◌∙◌, List, map, sym, ap, subst}
 use Rattle.std.specs.Prelude.{All}
-use Rattle.std.specs.Iterator.{Drains}
 use Rattle.iv_text.specs.Ordered.{AreInOrder}
-use Rattle.iv_text.specs.Read.{Fits, LiesOn}
+use Rattle.iv_text.specs.Read.{LiesOn}
 use Rattle.iv_text.specs.Row.{Row}
-use Rattle.iv_cover.specs.TrackBlocks.{Group, blocks_of}
+use Rattle.iv_cover.specs.TrackBlocks.{blocks_of}
 use Rattle.iv_track.specs.Entries.{IsLedger, value_at}
 use Rattle.iv_track.proofs.WalkLemmas.{filter-from_first}
-use Rattle.iv_blocks.specs.KeptBlocks.{Key, Entries, key_cmp}
-use Rattle.iv_blocks.specs.Plain.{plain_entry, GivesKept}
+use Rattle.iv_blocks.specs.KeptBlocks.{Entries, key_cmp}
+use Rattle.iv_blocks.specs.Plain.{plain_entry}
 use Rattle.iv_blocks.proofs.PlainLemmas.{all-lie, drained, plain-ordered, plain-found}
 use Rattle.iv_blocks.proofs.blocks.Blocks.build_plain.Goals as goal
 

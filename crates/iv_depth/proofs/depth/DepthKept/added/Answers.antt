@@ -1,21 +1,21 @@
-use Rattle.std.proofs.Common.{◌≡◌, List, ◌∷◌, ap, arith}
+use Rattle.std.proofs.Common.{◌≡◌, List, ◌∷◌, arith}
 use Rattle.std.proofs.lemmas.Result.{on_ok_weaker}
 use Rattle.iv_text.specs.Row.{Row}
-use Rattle.iv_depth.specs.Changes.{KeptDepth, AreChangesOf}
+use Rattle.iv_depth.specs.Changes.{AreChangesOf}
 use Rattle.iv_depth.proofs.DepthLemmas.{AreChangesOf-placed, AreChanges-without}
 use Rattle.iv_depth.proofs.depth.DepthKept.added.Goals as goal
 
 pub add_record-requires : goal.add_record-requires
 add_record-requires g c =
     let before = c.requires.right in
-    let entries : c.self.inside.changes ≡ c.args.self.now.entries = ap (λ (d : KeptDepth). d.entries) c.self.view_is in
+    let entries : c.self.inside.changes ≡ c.args.self.now = c.self.view_is in
     AreChanges-without c.args.track.now.rows before.others c.args.row.now c.self.inside.changes before.rows_are (omega (arith, c.len-few.ensures))
     (rw entries before.right)
 
 pub returns-clause-right : goal.returns-clause-right
 returns-clause-right g c =
     let before = c.requires.right in
-    let entries : c.self.inside.changes ≡ c.args.self.now.entries = ap (λ (d : KeptDepth). d.entries) c.self.view_is in
+    let entries : c.self.inside.changes ≡ c.args.self.now = c.self.view_is in
     on_ok_weaker c.add_record.result
     (λ (step : (rows : List Row) → AreChangesOf rows c.self.inside.changes → AreChangesOf (c.args.row.now ∷ rows) c.add_record.new.changes).
     rw before.rows_are (AreChangesOf-placed before.others c.args.row.now c.add_record.new.changes (step before.others (rw entries before.right))))

@@ -15,7 +15,7 @@ removed-repaired-requires-clause-right c =
     let left : c.remove.new.self.rows ≡ removed t.rows row = ap (λ (u : Tracked). u.rows) c.in_ok-remove.ensures.ok ∙ ap (removed t.rows) same in
     let there : 0 < copies t.rows row = subst (λ (r : Row). 0 < copies t.rows r) same c.in_ok-remove.ensures.found in
     let again : t.rows ≡ added c.remove.new.self.rows row = rw left (added-removed t.rows row c.remove.ensures.was_ordered there) in
-    subst (λ (rows : List Row). AreChangesOf rows c.self.inside.depth.entries) again c.self.invariant.2
+    subst (λ (rows : List Row). AreChangesOf rows c.self.inside.depth) again c.self.invariant.2
 
 pub removed-repaired-requires-clause-fit : goal.removed-repaired-requires-clause-fit
 removed-repaired-requires-clause-fit c =

@@ -1,0 +1,23 @@
+use Rattle.std.proofs.Common.{◌+◌, ◌≤◌, length, map}
+use Rattle.std.specs.List.{flat_map}
+use Rattle.iv_bytes.proofs.Putting.{Underway}
+use Rattle.iv_text.specs.Ordered.{AreInOrder}
+use Rattle.iv_blocks.specs.Ahead.{lies_at}
+use Rattle.iv_blocks.specs.ClusterRows.{cluster_row, cluster_text}
+use Rattle.iv_blocks.proofs.ClusterLemmas.{IsPassed}
+use Rattle.iv_blocks.proofs.blocks.Blocks.print_cluster.Given as goal
+
+-- the rows of the records that are left are to come
+abbrev pub invariant-loop-row : goal.invariant-loop-row
+invariant-loop-row g l = record {
+  put : Underway (g.S.Sink.state l.fn.sink) (g.S.Sink.state l.sink)
+      (flat_map (cluster_row l.self.options.distance l.genome l.track.rows) l.rows)
+      (cluster_text l.self.options.distance l.genome l.track.rows);
+  ordered : AreInOrder l.rows;
+  passed : IsPassed l.number (map lies_at l.self.entries) l.ahead l.rows;
+  no_less : l.fn.meter ≤ l.meter;
+  at_most : l.meter + length l.rows + length l.ahead ≤ l.fn.meter + (3 + length l.track.rows + length l.self.entries);
+}
+
+abbrev pub decreases-loop-row : goal.decreases-loop-row
+decreases-loop-row g l = length l.rows
