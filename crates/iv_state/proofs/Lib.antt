@@ -1,3 +1,4 @@
 mod SessionLemmas
 mod OpenViewLemmas
+mod StateLemmas
 mod PrintLemmas

@@ -1,27 +1,20 @@
 -- The open views, one after another.
 use denote.Ref.{Bor}
 use Rattle.std.proofs.Common.{◌≡◌, ℕ, suc, ◌+◌, ◌<◌, ◌≤◌, ◌++◌, Bool, true, false, cond, List, [], ◌∷◌, Option, None, Some, length, map, slice_get, drop, add-one, zero, refl, sym, ap, ap₂, subst, ◌∙◌, append_assoc, append-nil, arith, if◌then◌else◌}
-use Rattle.std.specs.Prelude.{IfSome, ◌&&◌}
 use Rattle.std.specs.List.{AllByRecursion}
-use Rattle.std.specs.Map.{values_of, lookup, set_value, remove_entry}
-use Rattle.std.specs.Option.{is_none, is_some, option_map, option_copied}
+use Rattle.std.specs.Map.{values_of, lookup, remove_entry}
+use Rattle.std.specs.Option.{is_some, option_map, option_copied}
 use Rattle.std.specs.Str.{bytes_eq}
 use Rattle.std.proofs.lemmas.Option.{slice_get-map}
 use Rattle.std.proofs.lemmas.List.{length-append, length-map, map-append}
 use Rattle.indexmap.specs.Layout.{set_value_at}
 use Rattle.iv_text.specs.Row.{Row}
 use Rattle.iv_text.proofs.NamedLemmas.{lookup-is}
-use Rattle.iv_track.specs.Steps.{TakesUpTo}
 use Rattle.iv_view.specs.KeptStates.{repair_steps_of}
-use Rattle.iv_view.specs.Views.{is_kept}
-use Rattle.iv_state.specs.Keeping.{seen, IsCurrentRight, IsRepaired, IsRefreshed}
-use Rattle.iv_state.specs.OpenViews.{view_steps}
-use Rattle.iv_state.specs.Keeping.{all_seen, AreRight, EachChanges}
-use Rattle.iv_state.specs.OpenViews.{Stales, current, all_current, with_current, stale_count, all_steps}
-use Rattle.iv_state.specs.OpenViews.{Shown}
-use Rattle.iv_state.specs.declared.open_view.OpenView.{OpenView}
-use Rattle.iv_view.specs.declared.kept_state.KeptState.{KeptState}
 use Rattle.iv_view.specs.declared.view.View.{View}
+use Rattle.iv_state.specs.Keeping.{all_seen, seen}
+use Rattle.iv_state.specs.OpenViews.{Shown, Stales, current, all_current, with_current, stale_count, all_steps, view_steps}
+use Rattle.iv_state.specs.declared.open_view.OpenView.{OpenView}
 
 -- ---- a walk over the places of a map, each of which is written
 
@@ -85,6 +78,26 @@ midway-next {K} {V} items Done Then old es place v w mid found step =
       does = step mid.front mid.done p.1 p.0 old_is mid.does;
     }
 
+-- the entry at a place before it is written, and once it is
+pub record Written {V : Type 0} (old new : List (List ℕ × V)) (place : ℕ) (v w : V) : Type 0 where
+  pub front : List (List ℕ × V)
+  pub more : List (List ℕ × V)
+  pub name : List ℕ
+  pub front_is : length front ≡ place
+  pub old_is : old ≡ front ++ (name, v) ∷ more
+  pub new_is : new ≡ front ++ (name, w) ∷ more
+
+pub written-at : {K V : Type 0} (items : K → List ℕ) (es : List (K × V)) (place : ℕ) (v w : V) → slice_get (values_of es) place ≡ Some v
+    → Written (named items es) (named items (set_value_at es place w)) place v w
+written-at items [] place v w found = absurd (cc (found))
+written-at {K} {V} items (e ∷ es) zero v w found =
+    let is : e.1 ≡ v = cc (found) in
+    record { front = []; more = named items es; name = items e.0; front_is = refl; old_is = ap (λ (u : V). (items e.0, u) ∷ named items es) is; new_is = refl }
+written-at {K} {V} items (e ∷ es) (suc place) v w found =
+    let u = written-at items es place v w found in
+    let first : List (List ℕ × V) → List (List ℕ × V) = λ l. (items e.0, e.1) ∷ l in
+    record { front = first u.front; more = u.more; name = u.name; front_is = ap suc u.front_is; old_is = ap first u.old_is; new_is = ap first u.new_is }
+
 -- all entries are done
 pub midway-end : {V : Type 0} (Done : List (List ℕ × V) → List (List ℕ × V) → Type 0) (old now : List (List ℕ × V)) (place : ℕ) → Midway Done old now place → length now ≤ place → Done old now
 midway-end {V} Done old now place mid past =
@@ -97,52 +110,7 @@ midway-end {V} Done old now place mid past =
     nil_of [] e = refl
     nil_of (x ∷ xs) e = absurd (omega arith)
 
--- ---- repairs
-
--- one more view is changed
-pub changes-push : {V : Type 0} (change : V → V → ℕ → ℕ → Type 0) (old new : List (List ℕ × V)) (n : List ℕ) (v w : V) (before mid after : ℕ)
-    → EachChanges change old new before mid → change v w mid after → EachChanges change (old ++ (n, v) ∷ []) (new ++ (n, w) ∷ []) before after
-changes-push change [] [] n v w before mid after all one = (after, refl, subst (λ (k : ℕ). change v w k after) all one, refl)
-changes-push change [] (y ∷ new) n v w before mid after all one = absurd all
-changes-push change (x ∷ old) [] n v w before mid after all one = absurd all
-changes-push change (x ∷ old) (y ∷ new) n v w before mid after all one = (all.0, all.1, all.2, changes-push change old new n v w all.0 mid after all.3 one)
-
-module _ {A : Type 0} (names : List (List ℕ)) (rows with_r : List Row) (r : Row) where
-  -- repaired views are right
-  pub repaired-right : (old new : List (List ℕ × OpenView A)) (before after : ℕ) → EachChanges (IsRepaired names rows with_r r) old new before after → AreRight new names rows
-  repaired-right [] [] before after all = tt
-  repaired-right [] (w ∷ new) before after all = absurd all
-  repaired-right (v ∷ old) [] before after all = absurd all
-  repaired-right (v ∷ old) (w ∷ new) before after all = (all.2.right, repaired-right old new all.0 after all.3)
-
-  -- they are the same, but that some may have become stale
-  pub repaired-stales : (old new : List (List ℕ × OpenView A)) (before after : ℕ) → EachChanges (IsRepaired names rows with_r r) old new before after → Stales (all_seen old) (all_seen new)
-  repaired-stales [] [] before after all = tt
-  repaired-stales [] (w ∷ new) before after all = absurd all
-  repaired-stales (v ∷ old) [] before after all = absurd all
-  repaired-stales (v ∷ old) (w ∷ new) before after all =
-      (all.1, all.2.same, stale-again v.1 w.1 all.2.same all.2.stays, repaired-stales old new all.0 after all.3)
-    where
-      none_of : {X : Type 0} (b : Bool) (o : Option X) → b && is_none o ≡ true → o ≡ None
-      none_of b None e = refl
-      none_of true (Some x) e = absurd (cc (e))
-      none_of false (Some x) e = absurd (cc (e))
-
-      stale-again : (v w : OpenView A) → w.view ≡ v.view → (v.state ≡ None → w.state ≡ None) → (seen v).stale ≡ true → (seen w).stale ≡ true
-      stale-again v w same stays stale =
-          let none : v.state ≡ None = none_of (is_kept v.view) v.state stale in
-          ap₂ (λ (s : View) (o : Option (KeptState A)). is_kept s && is_none o) same (stays none ∙ sym none) ∙ stale
-
-  -- and took few steps
-  pub repaired-steps : (old new : List (List ℕ × OpenView A)) (before after : ℕ) → EachChanges (IsRepaired names rows with_r r) old new before after
-      → TakesUpTo before after (all_steps (all_seen old) with_r r)
-  repaired-steps [] [] before after all = record { no_less = omega (arith, all); at_most = omega (arith, all) }
-  repaired-steps [] (w ∷ new) before after all = absurd all
-  repaired-steps (v ∷ old) [] before after all = absurd all
-  repaired-steps (v ∷ old) (w ∷ new) before after all =
-      let one = all.2.steps in
-      let more = repaired-steps old new all.0 after all.3 in
-      record { no_less = omega (arith, one, more); at_most = omega (arith, one, more) }
+-- ---- views that become stale
 
 -- views of which more are stale take no more steps
 pub stales-steps : (old new : List (List ℕ × Shown)) (rows : List Row) (r : Row) → Stales old new → all_steps new rows r ≤ all_steps old rows r
@@ -182,11 +150,15 @@ stale-next {K} {A} items es i v found = subst (λ (k : ℕ). stale_count (all_se
     by (e ∷ es) zero found = let is : e.1 ≡ v = cc (found) in ap (λ (u : OpenView A). (if (seen u).stale then 1 else 0) + stale_count (all_seen (named items es))) is
     by (e ∷ es) (suc i) found = by es i found
 
-all-append : {X : Type 0} (P : X → Type 0) (xs ys : List X) → AllByRecursion P xs → AllByRecursion P ys → AllByRecursion P (xs ++ ys)
+pub all-append : {X : Type 0} (P : X → Type 0) (xs ys : List X) → AllByRecursion P xs → AllByRecursion P ys → AllByRecursion P (xs ++ ys)
 all-append P [] ys a b = b
 all-append P (x ∷ xs) ys a b = (a.0, all-append P xs ys a.1 b)
 
-all-back : {X : Type 0} (P : X → Type 0) (xs ys : List X) → AllByRecursion P (xs ++ ys) → AllByRecursion P ys
+pub all-front : {X : Type 0} (P : X → Type 0) (xs ys : List X) → AllByRecursion P (xs ++ ys) → AllByRecursion P xs
+all-front P [] ys a = tt
+all-front P (x ∷ xs) ys a = (a.0, all-front P xs ys a.1)
+
+pub all-back : {X : Type 0} (P : X → Type 0) (xs ys : List X) → AllByRecursion P (xs ++ ys) → AllByRecursion P ys
 all-back P [] ys a = a
 all-back P (x ∷ xs) ys a = all-back P xs ys a.1
 
@@ -198,39 +170,13 @@ midway-at {K} {V} items Done P old es place v mid found all =
     let old_is : old ≡ mid.front ++ (p.0, v) ∷ p.1 = mid.old_is ∙ ap (λ (l : List (List ℕ × V)). mid.front ++ l) p.2 in
     (all-back (λ e. P e.1) mid.front ((p.0, v) ∷ p.1) (subst (λ (l : List (List ℕ × V)). AllByRecursion (λ e. P e.1) l) old_is all)).0
 
--- in the midst of repairs
-pub record Repairing {A : Type 0} (names : List (List ℕ)) (rows with_r : List Row) (r : Row) (old now : List (List ℕ × OpenView A)) (place before after : ℕ) : Type 0 where
-  pub mid : Midway (λ front done. EachChanges (IsRepaired names rows with_r r) front done before after) old now place
-
-module _ {A : Type 0} (names : List (List ℕ)) (rows with_r : List Row) (r : Row) (old : List (List ℕ × OpenView A)) where
-  pub repairs-begin : (now : List (List ℕ × OpenView A)) (before : ℕ) → now ≡ old → Repairing names rows with_r r old now 0 before before
-  repairs-begin now before same = record { mid = midway-begin _ old now same refl }
-
-  pub repairs-end : (now : List (List ℕ × OpenView A)) (place before after : ℕ) → Repairing names rows with_r r old now place before after → length now ≤ place
-      → EachChanges (IsRepaired names rows with_r r) old now before after
-  repairs-end now place before after u past = midway-end (λ front done. EachChanges (IsRepaired names rows with_r r) front done before after) old now place u.mid past
-
-module _ {K A : Type 0} (items : K → List ℕ) (names : List (List ℕ)) (rows with_r : List Row) (r : Row) (old : List (List ℕ × OpenView A)) where
-  pub repairs-at : (P : OpenView A → Type 0) (es : List (K × OpenView A)) (place before mid : ℕ) (v : OpenView A)
-      → Repairing names rows with_r r old (named items es) place before mid → slice_get (values_of es) place ≡ Some v → AllByRecursion (λ e. P e.1) old → P v
-  repairs-at P es place before mid v u found all = midway-at items _ P old es place v u.mid found all
-
-  pub repairs-next : (es : List (K × OpenView A)) (place before mid after : ℕ) (v w : OpenView A)
-      → Repairing names rows with_r r old (named items es) place before mid → slice_get (values_of es) place ≡ Some v → IsRepaired names rows with_r r v w mid after
-      → Repairing names rows with_r r old (named items (set_value_at es place w)) (place + 1) before after
-  repairs-next es place before mid after v w u found one = record {
-    mid = midway-next items
-        (λ front done. EachChanges (IsRepaired names rows with_r r) front done before mid) (λ front done. EachChanges (IsRepaired names rows with_r r) front done before after)
-        old es place v w u.mid found (λ front done more n old_is all. changes-push (IsRepaired names rows with_r r) front done n v w before mid after all one);
-  }
-
 -- ---- views that are built anew
 
 pub stales-same : (views : List (List ℕ × Shown)) → Stales views views
 stales-same [] = tt
 stales-same (v ∷ views) = (refl, refl, λ stale. stale, stales-same views)
 
-stales-append : (old new old2 new2 : List (List ℕ × Shown)) → Stales old new → Stales old2 new2 → Stales (old ++ old2) (new ++ new2)
+pub stales-append : (old new old2 new2 : List (List ℕ × Shown)) → Stales old new → Stales old2 new2 → Stales (old ++ old2) (new ++ new2)
 stales-append [] [] old2 new2 a b = b
 stales-append [] (w ∷ new) old2 new2 a b = absurd a
 stales-append (v ∷ old) [] old2 new2 a b = absurd a
@@ -249,102 +195,6 @@ count-append (x ∷ xs) ys = omega (arith, count-append xs ys)
 
 current-append : (xs ys : List (List ℕ × Shown)) → all_current (xs ++ ys) ≡ all_current xs ++ all_current ys
 current-append xs ys = map-append _ xs ys
-
--- in the midst of building views anew
-pub record Refreshing {A : Type 0} (names : List (List ℕ)) (rows : List Row) (old now : List (List ℕ × OpenView A)) (place : ℕ) : Type 0 where
-  pub mid : Midway (λ front done. (all_seen done ≡ all_current (all_seen front)) × AreRight done names rows) old now place
-
-module _ {A : Type 0} (names : List (List ℕ)) (rows : List Row) (old : List (List ℕ × OpenView A)) where
-  pub refresh-begin : (now : List (List ℕ × OpenView A)) → now ≡ old → Refreshing names rows old now 0
-  refresh-begin now same = record { mid = midway-begin _ old now same (refl, tt) }
-
-  pub refresh-end : (now : List (List ℕ × OpenView A)) (place : ℕ) → Refreshing names rows old now place → length now ≤ place
-      → (all_seen now ≡ all_current (all_seen old)) × AreRight now names rows
-  refresh-end now place u past = midway-end (λ front done. (all_seen done ≡ all_current (all_seen front)) × AreRight done names rows) old now place u.mid past
-
-module _ {K A : Type 0} (items : K → List ℕ) (names : List (List ℕ)) (rows : List Row) (old : List (List ℕ × OpenView A)) where
-  pub refresh-at : (P : OpenView A → Type 0) (es : List (K × OpenView A)) (place : ℕ) (v : OpenView A)
-      → Refreshing names rows old (named items es) place → slice_get (values_of es) place ≡ Some v → AllByRecursion (λ e. P e.1) old → P v
-  refresh-at P es place v u found all = midway-at items _ P old es place v u.mid found all
-
-  pub refresh-next : (es : List (K × OpenView A)) (place : ℕ) (v w : OpenView A)
-      → Refreshing names rows old (named items es) place → slice_get (values_of es) place ≡ Some v → IsRefreshed names rows v w
-      → Refreshing names rows old (named items (set_value_at es place w)) (place + 1)
-  refresh-next es place v w u found one =
-      let Done : List (List ℕ × OpenView A) → List (List ℕ × OpenView A) → Type 0 = λ front done. (all_seen done ≡ all_current (all_seen front)) × AreRight done names rows in
-      record {
-        mid = midway-next items Done Done old es place v w u.mid found (λ front done more n old_is all. (
-          seen-append done ((n, w) ∷ []) ∙ ap₂ (λ (a b : List (List ℕ × Shown)). a ++ b) all.0 (ap (λ (s : Shown). (n, s) ∷ []) one.sees)
-              ∙ sym (current-append (all_seen front) ((n, seen v) ∷ [])) ∙ ap all_current (sym (seen-append front ((n, v) ∷ []))),
-          all-append (λ e. IsCurrentRight e.1 names rows) done ((n, w) ∷ []) all.1 (one.right, tt),
-        ));
-      }
-
-  -- memory was refused for a view, which stays as it was
-  pub refresh-stops : (es : List (K × OpenView A)) (place : ℕ) (v w : OpenView A)
-      → Refreshing names rows old (named items es) place → slice_get (values_of es) place ≡ Some v → w ≡ v → (seen v).stale ≡ true → AreRight old names rows
-      → AreRight (named items (set_value_at es place w)) names rows × Stales (all_seen (named items (set_value_at es place w))) (all_seen old) × (0 < stale_count (all_seen old))
-  refresh-stops es place v w u found same stale right =
-      let m = u.mid in
-      let p = written items es m.done m.rest place v w m.now_is m.done_is found in
-      let now_is : named items (set_value_at es place w) ≡ m.done ++ m.rest = p.3 ∙ ap (λ (x : OpenView A). m.done ++ (p.0, x) ∷ p.1) same ∙ ap (λ (l : List (List ℕ × OpenView A)). m.done ++ l) (sym p.2) in
-      let back : AreRight m.rest names rows = all-back (λ e. IsCurrentRight e.1 names rows) m.front m.rest (subst (λ (l : List (List ℕ × OpenView A)). AreRight l names rows) m.old_is right) in
-      let old_seen : all_seen old ≡ all_seen m.front ++ all_seen m.rest = ap all_seen m.old_is ∙ seen-append m.front m.rest in
-      let now_seen : all_seen (named items (set_value_at es place w)) ≡ all_current (all_seen m.front) ++ all_seen m.rest =
-      ap all_seen now_is ∙ seen-append m.done m.rest ∙ ap (λ (l : List (List ℕ × Shown)). l ++ all_seen m.rest) m.does.0 in
-      let here : stale_count (all_seen m.rest) ≡ 1 + stale_count (all_seen p.1) =
-      ap (λ (l : List (List ℕ × OpenView A)). stale_count (all_seen l)) p.2 ∙ ap (λ (b : Bool). (if b then 1 else 0) + stale_count (all_seen p.1)) stale in (
-        subst (λ (l : List (List ℕ × OpenView A)). AreRight l names rows) (sym now_is) (all-append (λ e. IsCurrentRight e.1 names rows) m.done m.rest m.does.1 back),
-        subst (λ (l : List (List ℕ × Shown)). Stales l (all_seen old)) (sym now_seen)
-            (subst (λ (l : List (List ℕ × Shown)). Stales (all_current (all_seen m.front) ++ all_seen m.rest) l) (sym old_seen)
-            (stales-append (all_current (all_seen m.front)) (all_seen m.front) (all_seen m.rest) (all_seen m.rest) (stales-current (all_seen m.front)) (stales-same (all_seen m.rest)))),
-        omega (arith, here, ap stale_count old_seen, count-append (all_seen m.front) (all_seen m.rest)),
-      )
-
-  module _ (name : List ℕ) where
-    -- the view of a name is built anew
-    pub refresh-named : (es : List (K × OpenView A)) (v w : OpenView A) → lookup (λ k. bytes_eq name (items k)) es ≡ Some v → IsRefreshed names rows v w
-        → AreRight (named items es) names rows
-        → (all_seen (named items (set_value (λ k. bytes_eq name (items k)) es w)) ≡ with_current (all_seen (named items es)) name)
-        × AreRight (named items (set_value (λ k. bytes_eq name (items k)) es w)) names rows
-    refresh-named [] v w found one right = absurd (cc (found))
-    refresh-named (e ∷ es) v w found one right =
-        by (bytes_eq name (items e.0)) found (λ there. refresh-named es v w there one right.1)
-      where
-        rest : List (K × OpenView A)
-        rest = set_value (λ k. bytes_eq name (items k)) es w
-
-        by : (b : Bool) → cond b (Some e.1) (lookup (λ k. bytes_eq name (items k)) es) ≡ Some v
-            → (lookup (λ k. bytes_eq name (items k)) es ≡ Some v → (all_seen (named items rest) ≡ with_current (all_seen (named items es)) name) × AreRight (named items rest) names rows)
-            → (all_seen (named items (cond b ((e.0, w) ∷ es) (e ∷ rest))) ≡ cond b ((items e.0, current (seen e.1)) ∷ all_seen (named items es)) ((items e.0, seen e.1) ∷ with_current (all_seen (named items es)) name))
-            × AreRight (named items (cond b ((e.0, w) ∷ es) (e ∷ rest))) names rows
-        by true found more =
-            let is : e.1 ≡ v = cc (found) in
-            (ap (λ (s : Shown). (items e.0, s) ∷ all_seen (named items es)) (one.sees ∙ ap (λ (u : OpenView A). current (seen u)) (sym is)), (one.right, right.1))
-        by false found more = let m = more found in (ap (λ (l : List (List ℕ × Shown)). (items e.0, seen e.1) ∷ l) m.0, (right.0, m.1))
-
-    -- memory was refused for it, and it stays as it was
-    pub refused-named : (es : List (K × OpenView A)) (v w : OpenView A) → lookup (λ k. bytes_eq name (items k)) es ≡ Some v → w ≡ v
-        → named items (set_value (λ k. bytes_eq name (items k)) es w) ≡ named items es
-    refused-named [] v w found same = refl
-    refused-named (e ∷ es) v w found same = by (bytes_eq name (items e.0)) found (λ there. refused-named es v w there same)
-      where
-        by : (b : Bool) → cond b (Some e.1) (lookup (λ k. bytes_eq name (items k)) es) ≡ Some v
-            → (lookup (λ k. bytes_eq name (items k)) es ≡ Some v → named items (set_value (λ k. bytes_eq name (items k)) es w) ≡ named items es)
-            → named items (cond b ((e.0, w) ∷ es) (e ∷ set_value (λ k. bytes_eq name (items k)) es w)) ≡ named items (e ∷ es)
-        by true found more = let is : e.1 ≡ v = cc (found) in ap (λ (u : OpenView A). (items e.0, u) ∷ named items es) (same ∙ sym is)
-        by false found more = ap (λ (l : List (List ℕ × OpenView A)). (items e.0, e.1) ∷ l) (more found)
-
-    -- no view has the name
-    pub absent-named : (es : List (K × OpenView A)) → lookup (λ k. bytes_eq name (items k)) es ≡ None → all_seen (named items es) ≡ with_current (all_seen (named items es)) name
-    absent-named [] none = refl
-    absent-named (e ∷ es) none = by (bytes_eq name (items e.0)) none (λ there. absent-named es there)
-      where
-        by : (b : Bool) → cond b (Some e.1) (lookup (λ k. bytes_eq name (items k)) es) ≡ None
-            → (lookup (λ k. bytes_eq name (items k)) es ≡ None → all_seen (named items es) ≡ with_current (all_seen (named items es)) name)
-            → (items e.0, seen e.1) ∷ all_seen (named items es) ≡ cond b ((items e.0, current (seen e.1)) ∷ all_seen (named items es)) ((items e.0, seen e.1) ∷ with_current (all_seen (named items es)) name)
-        by true none more = absurd (cc (none))
-        by false none more = ap (λ (l : List (List ℕ × Shown)). (items e.0, seen e.1) ∷ l) (more none)
 
 -- what stands under a name, as contracts see it
 pub seen-lookup : {A : Type 0} (name : List ℕ) (views : List (List ℕ × OpenView A)) → lookup (bytes_eq name) (all_seen views) ≡ option_map seen (lookup (bytes_eq name) views)
@@ -368,39 +218,6 @@ stale-yes items es i v found is = stale-next items es i v found ∙ ap (λ (b : 
 pub stale-no : {K A : Type 0} (items : K → List ℕ) (es : List (K × OpenView A)) (i : ℕ) (v : OpenView A) → slice_get (values_of es) i ≡ Some v → (seen v).stale ≡ false
     → stale_count (all_seen (drop i (named items es))) ≡ 0 + stale_count (all_seen (drop (i + 1) (named items es)))
 stale-no items es i v found is = stale-next items es i v found ∙ ap (λ (b : Bool). (if b then 1 else 0) + stale_count (all_seen (drop (i + 1) (named items es)))) is
-
--- the view of a name, and the map in which it was written
-module _ {K A : Type 0} (items : K → List ℕ) (names : List (List ℕ)) (rows : List Row) (name : List ℕ) (es : List (K × OpenView A)) (old : List (List ℕ × OpenView A)) (same : named items es ≡ old) where
-  value-right : (P : OpenView A → Type 0) (es : List (K × OpenView A)) (v : OpenView A) → lookup (λ k. bytes_eq name (items k)) es ≡ Some v → AllByRecursion (λ e. P e.1) (named items es) → P v
-  value-right P [] v found all = absurd (cc (found))
-  value-right P (e ∷ es) v found all = by (bytes_eq name (items e.0)) found (λ there. value-right P es v there all.1)
-    where
-      by : (b : Bool) → cond b (Some e.1) (lookup (λ k. bytes_eq name (items k)) es) ≡ Some v → (lookup (λ k. bytes_eq name (items k)) es ≡ Some v → P v) → P v
-      by true found more = let is : e.1 ≡ v = cc (found) in subst P is all.0
-      by false found more = more found
-
-  pub named-right : (v : OpenView A) → Some v ≡ lookup (λ k. bytes_eq name (items k)) es → AreRight old names rows → IsCurrentRight v names rows
-  named-right v found right = value-right (λ u. IsCurrentRight u names rows) es v (sym found) (subst (λ (l : List (List ℕ × OpenView A)). AreRight l names rows) (sym same) right)
-
-  pub named-refreshed : (es2 : List (K × OpenView A)) (v w : OpenView A) → Some v ≡ lookup (λ k. bytes_eq name (items k)) es → es2 ≡ set_value (λ k. bytes_eq name (items k)) es w → IsRefreshed names rows v w → AreRight old names rows
-      → (all_seen (named items es2) ≡ with_current (all_seen old) name) × AreRight (named items es2) names rows
-  named-refreshed es2 v w found is one right =
-      let both = refresh-named items names rows old name es v w (sym found) one (subst (λ (l : List (List ℕ × OpenView A)). AreRight l names rows) (sym same) right) in (
-        ap (λ (l : List (K × OpenView A)). all_seen (named items l)) is ∙ both.0 ∙ ap (λ (l : List (List ℕ × OpenView A)). with_current (all_seen l) name) same,
-        subst (λ (l : List (K × OpenView A)). AreRight (named items l) names rows) (sym is) both.1,
-      )
-
-  pub named-refused : (es2 : List (K × OpenView A)) (v w : OpenView A) → Some v ≡ lookup (λ k. bytes_eq name (items k)) es → es2 ≡ set_value (λ k. bytes_eq name (items k)) es w → w ≡ v → named items es2 ≡ old
-  named-refused es2 v w found is kept = ap (named items) is ∙ refused-named items names rows old name es v w (sym found) kept ∙ same
-
-  pub named-absent : None ≡ lookup (λ k. bytes_eq name (items k)) es → all_seen old ≡ with_current (all_seen old) name
-  named-absent none = subst (λ (l : List (List ℕ × OpenView A)). all_seen l ≡ with_current (all_seen l) name) same (absent-named items names rows old name es (sym none))
-
-  pub named-stale : (v : OpenView A) → Some v ≡ lookup (λ k. bytes_eq name (items k)) es → (seen v).stale ≡ true → IfSome (lookup (bytes_eq name) (all_seen old)) (λ u. u.stale ≡ true)
-  named-stale v found stale =
-      let at : Some (seen v) ≡ lookup (bytes_eq name) (all_seen old) =
-      ap (option_map seen) (found ∙ lookup-is items name es ∙ ap (lookup (bytes_eq name)) same) ∙ sym (seen-lookup name old) in
-      subst (λ (o : Option Shown). IfSome o (λ u. u.stale ≡ true)) at stale
 
 -- what a look-up under a name gives, as contracts see it
 pub named-seen : {K A : Type 0} (items : K → List ℕ) (name : List ℕ) (es : List (K × OpenView A)) (old : List (List ℕ × OpenView A)) (o : Option (Bor (OpenView A)))

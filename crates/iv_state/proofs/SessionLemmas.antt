@@ -3,7 +3,6 @@ use Rattle.std.specs.Prelude.{All, IfSome, option_map}
 use Rattle.std.proofs.Common.{◌≡◌, ◌∙◌, ℕ, ◌<◌, ◌≤◌, inl, inr, true, false, List, [], ◌∷◌, ◌++◌, Option, None, Some, Ok, length, arith, refl, sym, ap, subst}
 use Rattle.std.specs.Option.{is_some}
 use Rattle.std.proofs.lemmas.Bool.{cases_lt, lt-leb}
-use Rattle.std.proofs.lemmas.List.{map-append}
 use Rattle.iv_text.specs.Genome.{Sequences}
 use Rattle.iv_text.specs.BedFile.{Bed}
 use Rattle.iv_text.specs.Ordered.{copies, added, ordered, AreInOrder}
@@ -16,10 +15,8 @@ use Rattle.iv_track.specs.Tracked.{Tracked, removed}
 use Rattle.iv_track.proofs.Counts.{length-removed, removed-added}
 use Rattle.iv_track.proofs.Edits.{All-added, All-removed, added-removed}
 use Rattle.iv_view.specs.declared.view.View.{View}
-use Rattle.iv_state.specs.Keeping.{all_seen, seen}
 use Rattle.iv_state.specs.OpenViews.{Shown, Stales, all_current, with_current}
 use Rattle.iv_state.specs.Views.{is_view_name, view_named, words_said, opened}
-use Rattle.iv_state.specs.declared.open_view.OpenView.{OpenView}
 use Rattle.iv_state.proofs.OpenViewLemmas.{all-current, stales-current}
 use Rattle.iv_state.specs.States.{State, IsTrackOn, IsServed, AreServed, IsButStale, tracked, with_rows}
 
@@ -116,13 +113,6 @@ pub no-name_fault : (inside s : State) (name : List ℕ) (words : List (List ℕ
     → length inside.views < 64 → words_said inside words ≡ Ok v → opened s name words ≡ Ok v
 no-name_fault inside s name words v same good free few said =
     subst (λ (t : State). opened t name words ≡ Ok v) same (rw (good, free, lt-leb 64 (length inside.views) few) said)
-
--- one more view that is current
-pub pushed-last : {A : Type 0} (name : List ℕ) (views : List (List ℕ × OpenView A)) (shows : OpenView A) (v : View) → seen shows ≡ record { view = v; stale = false }
-    → all_seen (views ++ (name, shows) ∷ []) ≡ all_seen views ++ (name, record { view = v; stale = false }) ∷ []
-pushed-last name views shows v sees =
-    map-append (λ w. (w.0, seen w.1)) views ((name, shows) ∷ [])
-    ∙ ap (λ (s : Shown). all_seen views ++ (name, s) ∷ []) sees
 
 -- ---- views beside a second file
 

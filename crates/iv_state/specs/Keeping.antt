@@ -1,46 +1,94 @@
 -- The states of open views, and their repairs. No part of what is promised.
-use Rattle.std.specs.Prelude.{◌≡◌, ℕ, ◌&&◌, List, [], ◌∷◌, None, IfSome, map}
+use Rattle.std.specs.Prelude.{◌≡◌, ◌⊎◌, ℕ, zero, suc, Bool, true, false, List, [], ◌∷◌, Option, None, Some, IfSome, map}
 use Rattle.std.specs.List.{AllByRecursion}
-use Rattle.std.specs.Option.{is_none}
 use Rattle.iv_text.specs.Row.{Row}
 use Rattle.iv_track.specs.Steps.{TakesUpTo}
-use Rattle.iv_view.specs.KeptStates.{shown_by, IsRight}
-use Rattle.iv_view.specs.Views.{is_kept}
-use Rattle.iv_view.specs.declared.view.View.TheVariants as view
-use Rattle.iv_state.specs.OpenViews.{Shown, current, view_steps}
+use Rattle.iv_view.specs.KeptStates.{built_for, keeping_of, IsRight}
+use Rattle.iv_view.specs.declared.kept_state.KeptState.{KeptState}
+use Rattle.iv_view.specs.declared.kept_state.Keeping.{Keeping}
+use Rattle.iv_view.specs.declared.view.View.{View}
+use Rattle.iv_state.specs.OpenViews.{Shown, Stales, all_steps, view_steps}
 use Rattle.iv_state.specs.declared.open_view.OpenView.{OpenView}
 
--- an open view as contracts see it: without the state that is kept of such a view it is stale
+-- an open view as contracts see it
 abbrev pub seen : {A : Type 0} → OpenView A → Shown
-seen v = record { view = v.view; stale = is_kept v.view && is_none v.state }
+seen v = record { view = v.view; stale = v.stale }
 
 -- open views as contracts see them
 abbrev pub all_seen : {A : Type 0} → List (List ℕ × OpenView A) → List (List ℕ × Shown)
 all_seen views = map {B = List ℕ × Shown} (λ v. (v.0, seen v.1)) views
 
--- the state of an open view, if it has one, is its own and is right
-abbrev pub IsCurrentRight : {A : Type 0} → OpenView A → List (List ℕ) → List Row → Type 0
-IsCurrentRight v names rows = IfSome v.state (λ k. (view.Kept (shown_by k) ≡ v.view) × IsRight k names rows)
+-- what a state that stands with a view is kept for, if there is one
+abbrev pub kept_with : {A : Type 0} → View → Option (KeptState A) → Option Keeping
+kept_with view None = None
+kept_with view (Some k) = keeping_of view
 
--- the states of the views that have one are right
+-- what the state of an open view is kept for, if it has one
+abbrev pub owned : {A : Type 0} → OpenView A → Option Keeping
+owned v = kept_with v.view v.state
+
+-- what the states of open views are kept for
+abbrev pub all_owned : {A : Type 0} → List (List ℕ × OpenView A) → List (Option Keeping)
+all_owned views = map {B = Option Keeping} (λ v. owned v.1) views
+
+-- a state of this is among them
+abbrev pub IsOwned : Keeping → List (Option Keeping) → Type 0
+IsOwned what [] = ⊥
+IsOwned what (o ∷ states) = (o ≡ Some what) ⊎ IsOwned what states
+
+-- if something is kept of the view, then it is among them
+abbrev pub IsKept : List (Option Keeping) → View → Type 0
+IsKept states view = IfSome (keeping_of view) (λ what. IsOwned what states)
+
+-- what is kept of the views that are current is among them
+abbrev pub HaveStates : List (Option Keeping) → List (List ℕ × Shown) → Type 0
+HaveStates states views = AllByRecursion (λ v. v.1.stale ≡ false → IsKept states v.1.view) views
+
+-- no view that is current has this kept of it
+abbrev pub NoneNeeds : Keeping → List (List ℕ × Shown) → Type 0
+NoneNeeds what views = AllByRecursion (λ v. v.1.stale ≡ false → keeping_of v.1.view ≡ Some what → ⊥) views
+
+-- the state of an open view, if it has one, is right, and is of what is kept of the view, which is current
+abbrev pub IsOwnRight : {A : Type 0} → OpenView A → List (List ℕ) → List Row → Type 0
+IsOwnRight v names rows = IfSome v.state (λ k. (v.stale ≡ false) × (keeping_of v.view ≡ Some (built_for k)) × IsRight k names rows)
+
+-- those of open views are
+abbrev pub AreOwnRight : {A : Type 0} → List (List ℕ × OpenView A) → List (List ℕ) → List Row → Type 0
+AreOwnRight views names rows = AllByRecursion (λ v. IsOwnRight v.1 names rows) views
+
+-- the states of open views are right, and each view that is current has the state that it needs, its own or that of another
 abbrev pub AreRight : {A : Type 0} → List (List ℕ × OpenView A) → List (List ℕ) → List Row → Type 0
-AreRight views names rows = AllByRecursion (λ v. IsCurrentRight v.1 names rows) views
+AreRight views names rows = AreOwnRight views names rows × HaveStates (all_owned views) (all_seen views)
 
--- an open view was repaired: it is the same view, right or stale, and stays stale where it was; `with_r` are the records with r
-pub record IsRepaired {A : Type 0} (names : List (List ℕ)) (rows with_r : List Row) (r : Row) (old new : OpenView A) (before after : ℕ) : Type 0 where
+-- an open view's own state was repaired: it is the same view, and stays stale where it was; where the state wasn't lost, nothing
+-- else has changed; `with_r` are the records with r
+pub record IsRepaired {A : Type 0} (names : List (List ℕ)) (rows with_r : List Row) (r : Row) (kept : Bool) (old new : OpenView A) (before after : ℕ) : Type 0 where
   pub same : new.view ≡ old.view
-  pub stays : old.state ≡ None → new.state ≡ None
-  pub right : IsCurrentRight new names rows
+  pub stays : old.stale ≡ true → new.stale ≡ true
+  pub unless : kept ≡ true → (new.stale ≡ old.stale) × (owned new ≡ owned old)
+  pub right : IsOwnRight new names rows
   pub steps : TakesUpTo before after (view_steps (seen old) with_r r)
 
--- an open view was built anew where it was stale
-pub record IsRefreshed {A : Type 0} (names : List (List ℕ)) (rows : List Row) (old new : OpenView A) : Type 0 where
-  pub sees : seen new ≡ current (seen old)
-  pub right : IsCurrentRight new names rows
+-- the own states of open views were repaired; where none was lost, the views are seen as before
+pub record AreRepaired {A : Type 0} (names : List (List ℕ)) (rows with_r : List Row) (r : Row) (kept : Bool) (old new : List (List ℕ × OpenView A)) (before after : ℕ) : Type 0 where
+  pub unless : kept ≡ true → (all_seen new ≡ all_seen old) × (all_owned new ≡ all_owned old)
+  pub stales : Stales (all_seen old) (all_seen new)
+  pub right : AreOwnRight new names rows
+  pub steps : TakesUpTo before after (all_steps (all_seen old) with_r r)
 
--- each view in turn has changed so, under its name, from one reading of the meter to another
-abbrev pub EachChanges : {V : Type 0} → (V → V → ℕ → ℕ → Type 0) → List (List ℕ × V) → List (List ℕ × V) → ℕ → ℕ → Type 0
-EachChanges change [] [] before after = after ≡ before
-EachChanges change [] (w ∷ new) before after = ⊥
-EachChanges change (v ∷ old) [] before after = ⊥
-EachChanges change (v ∷ old) (w ∷ new) before after = (mid : ℕ) × (w.0 ≡ v.0) × change v.1 w.1 before mid × EachChanges change old new mid after
+-- the views whose state is lost, their own or that of another, were made stale
+pub record AreMarked {A : Type 0} (old new : List (List ℕ × OpenView A)) : Type 0 where
+  pub right : (names : List (List ℕ)) (rows : List Row) → AreOwnRight old names rows → AreOwnRight new names rows
+  pub stales : Stales (all_seen old) (all_seen new)
+  pub states : HaveStates (all_owned new) (all_seen new)
+
+-- the state that a view needs and no view has: none where a view has it, or where nothing is kept of the view
+abbrev pub IsMissing : {A : Type 0} → List (Option Keeping) → View → List (List ℕ) → List Row → Option (KeptState A) → Type 0
+IsMissing states view names rows None = IsKept states view
+IsMissing states view names rows (Some k) = (keeping_of view ≡ Some (built_for k)) × IsRight k names rows
+
+-- the views, that at a place current
+abbrev pub current_at : ℕ → List (List ℕ × Shown) → List (List ℕ × Shown)
+current_at place [] = []
+current_at zero (v ∷ views) = (v.0, record v.1 { stale = false }) ∷ views
+current_at (suc place) (v ∷ views) = v ∷ current_at place views

@@ -1,168 +1,121 @@
 //! An open view.
-ghost use Rattle.std.specs.Prelude.{◌≡◌, [], All, OnOk, OnErr, IfOk, true, false, option_copied};
-ghost use Rattle.std.specs.Option.{unwrap_or};
-ghost use Rattle.iv_bytes.specs.Sinks.{Puts};
+ghost use Rattle.std.specs.Prelude.{◌≡◌, ◌≢◌, ◌↔◌, All, None, Some, IfSome, IsTrue, true, false};
 ghost use Rattle.iv_text.specs.Named.{names_of};
 ghost use Rattle.iv_text.specs.Ordered.{added as with_one};
 ghost use Rattle.iv_text.specs.Read.{Fits};
 ghost use Rattle.iv_cover.specs.Kept.{IsRightWithout};
-ghost use Rattle.iv_view.specs.Views.{second_rows, view_text};
-ghost use Rattle.iv_state.specs.Keeping.{IsCurrentRight, IsRepaired, IsRefreshed, seen};
-ghost use Rattle.iv_state.specs.States.{IsServed};
+ghost use Rattle.iv_view.specs.KeptStates.{keeping_of};
+ghost use Rattle.iv_state.specs.Keeping.{IsOwnRight, IsRepaired, owned};
 
 use iv_cover::Kept;
-use iv_pair::{Fasta, Second};
-use iv_text::{Buffered, Genome, RecordRef, Sink, WriteFault};
+use iv_text::{Genome, RecordRef};
 use iv_track::{Meter, Track};
-use iv_view::{KeptState, View};
-use std::alloc::{AllocError, Allocator, Global};
+use iv_view::{Keeping, KeptState, View};
+use std::alloc::{Allocator, Global};
 
-/// An open view, and the state that is kept of it, if it is of that kind. Without a state such a view is stale: it has to be
-/// built anew before it is printed.
+/// An open view. What is kept of it is in its own state, or in that of another open view of which the same is kept.
 #[derive(Drop)]
 pub(crate) struct OpenView<A: Allocator + Copy = Global> {
-    view: View,
-    state: Option<KeptState<A>>,
+    pub(crate) view: View,
+    /// Whether it has to be built anew before it is printed.
+    pub(crate) stale: bool,
+    pub(crate) state: Option<KeptState<A>>,
 }
 
 impl<A: Allocator + Copy> OpenView<A> {
-    /// A view of a track as it is.
-    pub(crate) fn build(
-        alloc: A,
-        view: View,
-        track: &Track<A>,
-        genome: &Genome<A>,
-        meter: &mut Meter,
-    ) -> Result<OpenView<A>, AllocError>
-        requires { All (Fits genome.now track.now.width) track.now.rows }
-        ensures sees { IfOk result (λ v. seen v ≡ record { view = view; stale = false }) }
-        ensures right { IfOk result (λ v. IsCurrentRight v (names_of genome.now) track.now.rows) }
+    /// Whether this is what is kept of the view.
+    fn is_kept_as(&self, what: Keeping) -> bool
+        ensures { IsTrue result ↔ keeping_of self.now.view ≡ Some what }
     {
-        let state = match view {
-            View::Kept(kept) => Some(KeptState::build(alloc, kept, track, genome, meter)?),
-            View::Written(_) => None,
-        };
-        Ok(OpenView { view, state })
+        match self.view.keeping() {
+            Some(kept) => kept.is(&what),
+            None => false,
+        }
     }
 
-    pub(crate) fn is_stale(&self) -> bool
-        ensures { result ≡ (seen self.now).stale }
+    /// Whether the view is current, and this is what is kept of it.
+    pub(crate) fn needs(&self, what: Keeping) -> bool
+        ensures { IsTrue result ↔ ((self.now.stale ≡ false) × (keeping_of self.now.view ≡ Some what)) }
     {
-        self.view.is_kept() && self.state.is_none()
+        !self.stale && self.is_kept_as(what)
     }
 
-    /// Repairs the view after the record was added to the track. It becomes stale where memory is refused.
+    /// The view's own state, if it has one and it is kept for this.
+    pub(crate) fn state_for(&self, what: Keeping) -> Option<&KeptState<A>>
+        ensures some { IfSome result (λ k. (self.now.state ≡ Some k.now) × (keeping_of self.now.view ≡ Some what)) }
+        ensures none { result ≡ None → owned self.now ≢ Some what }
+    {
+        if self.is_kept_as(what) {
+            self.state.as_ref()
+        } else {
+            None
+        }
+    }
+
+    /// Makes the view current, with a state of its own or none.
+    pub(crate) fn renew(&mut self, state: Option<KeptState<A>>)
+        ensures { self.new ≡ record { view = self.old.view; stale = false; state = state } }
+    {
+        self.stale = false;
+        self.state = state;
+    }
+
+    /// Takes a state over.
+    pub(crate) fn take_over(&mut self, state: KeptState<A>)
+        ensures { self.new ≡ record self.old { state = Some state } }
+    {
+        self.state = Some(state);
+    }
+
+    /// Repairs the view's own state, if it has one, after the record was added to the track.
+    ///
+    /// `false` where memory was refused: the state is lost, and the view is stale.
     pub(crate) fn added(
         &mut self,
         track: &Track<A>,
         genome: &Genome<A>,
         row: &RecordRef<'_>,
         meter: &mut Meter,
-    )
-        requires right { IsRightWithout (λ v rows. IsCurrentRight v (names_of genome.now) rows) self.old track.now.rows row.now }
+    ) -> bool
+        requires right { IsRightWithout (λ v rows. IsOwnRight v (names_of genome.now) rows) self.old track.now.rows row.now }
         requires fit { All (Fits genome.now track.now.width) track.now.rows }
         requires fits { Fits genome.now track.now.width row.now }
-        ensures { IsRepaired (names_of genome.now) track.now.rows track.now.rows row.now self.old self.new meter.old meter.new }
+        ensures { IsRepaired (names_of genome.now) track.now.rows track.now.rows row.now result self.old self.new meter.old meter.new }
     {
-        if let Some(mut state) = self.state.take() {
-            if state.added(track, genome, row, meter).is_ok() {
-                self.state = Some(state);
-            }
+        let Some(mut state) = self.state.take() else {
+            return true;
+        };
+        if state.added(track, genome, row, meter).is_err() {
+            self.stale = true;
+            return false;
         }
+        self.state = Some(state);
+        true
     }
 
-    /// Repairs the view after one copy of the record was taken out of the track. It becomes stale where memory is refused.
+    /// Repairs the view's own state, if it has one, after one copy of the record was taken out of the track.
+    ///
+    /// `false` where memory was refused: the state is lost, and the view is stale.
     pub(crate) fn removed(
         &mut self,
         track: &Track<A>,
         genome: &Genome<A>,
         row: &RecordRef<'_>,
         meter: &mut Meter,
-    )
-        requires right { IsCurrentRight self.old (names_of genome.now) (with_one track.now.rows row.now) }
+    ) -> bool
+        requires right { IsOwnRight self.old (names_of genome.now) (with_one track.now.rows row.now) }
         requires fit { All (Fits genome.now track.now.width) track.now.rows }
         requires fits { Fits genome.now track.now.width row.now }
-        ensures { IsRepaired (names_of genome.now) track.now.rows (with_one track.now.rows row.now) row.now self.old self.new meter.old meter.new }
+        ensures { IsRepaired (names_of genome.now) track.now.rows (with_one track.now.rows row.now) row.now result self.old self.new meter.old meter.new }
     {
-        if let Some(mut state) = self.state.take() {
-            if state.removed(track, genome, row, meter).is_ok() {
-                self.state = Some(state);
-            }
+        let Some(mut state) = self.state.take() else {
+            return true;
+        };
+        if state.removed(track, genome, row, meter).is_err() {
+            self.stale = true;
+            return false;
         }
-    }
-
-    /// Builds the view anew where it is stale.
-    ///
-    /// # Errors
-    ///
-    /// It is stale, and memory was refused. It is still stale.
-    pub(crate) fn refresh(
-        &mut self,
-        alloc: A,
-        track: &Track<A>,
-        genome: &Genome<A>,
-        meter: &mut Meter,
-    ) -> Result<(), AllocError>
-        requires right { IsCurrentRight self.old (names_of genome.now) track.now.rows }
-        requires fit { All (Fits genome.now track.now.width) track.now.rows }
-        ensures ok { OnOk result (IsRefreshed (names_of genome.now) track.now.rows self.old self.new) }
-        ensures err { OnErr result (self.new ≡ self.old) }
-        ensures stale { OnErr result ((seen self.old).stale ≡ true) }
-    {
-        if let View::Kept(kept) = self.view {
-            if self.state.is_none() {
-                let state = KeptState::build(alloc, kept, track, genome, meter)?;
-                self.state = Some(state);
-            }
-        }
-        Ok(())
-    }
-
-    /// Prints the view, which is current, through one buffer. On a fault the sink has taken a prefix of the text.
-    pub(crate) fn print<S: Sink>(
-        &self,
-        track: &Track<A>,
-        second: Option<&Second<A>>,
-        fasta: Option<&Fasta<A>>,
-        genome: &Genome<A>,
-        meter: &mut Meter,
-        sink: &mut S,
-    ) -> Result<(), WriteFault>
-        requires current { (seen self.now).stale ≡ false }
-        requires served { IsServed (option_copied second) self.now.view }
-        requires right { IsCurrentRight self.now (names_of genome.now) track.now.rows }
-        requires fit { All (Fits genome.now track.now.width) track.now.rows }
-        ensures { Puts (S.state sink.old) (S.state sink.new) result
-            (view_text self.now.view genome.now track.now.rows (second_rows (option_copied second.entry)) (unwrap_or (option_copied fasta.entry) [])) }
-    {
-        let mut buffer = Buffered::new(sink);
-        self.put(track, second, fasta, genome, meter, &mut buffer)?;
-        buffer.finish()
-    }
-
-    /// Puts the text of the view, which is current, straight into the sink.
-    pub(crate) fn put<S: Sink>(
-        &self,
-        track: &Track<A>,
-        second: Option<&Second<A>>,
-        fasta: Option<&Fasta<A>>,
-        genome: &Genome<A>,
-        meter: &mut Meter,
-        sink: &mut S,
-    ) -> Result<(), WriteFault>
-        requires current { (seen self.now).stale ≡ false }
-        requires served { IsServed (option_copied second) self.now.view }
-        requires right { IsCurrentRight self.now (names_of genome.now) track.now.rows }
-        requires fit { All (Fits genome.now track.now.width) track.now.rows }
-        ensures { Puts (S.state sink.old) (S.state sink.new) result
-            (view_text self.now.view genome.now track.now.rows (second_rows (option_copied second.entry)) (unwrap_or (option_copied fasta.entry) [])) }
-    {
-        match self.view {
-            View::Kept(_) => match &self.state {
-                Some(state) => state.print(track, genome, meter, sink),
-                None => unreachable!(),
-            },
-            View::Written(view) => view.print(track, second, fasta, genome, meter, sink),
-        }
+        self.state = Some(state);
+        true
     }
 }

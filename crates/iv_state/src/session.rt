@@ -12,7 +12,6 @@ ghost use Rattle.iv_state.specs.Views.{view_named, RefusesOpen, Opens, all_text}
 
 use crate::fault::{EditFault, NoView, PrintFault};
 use crate::names::{is_view_name, put_heading};
-use crate::open_view::OpenView;
 use crate::views::Views;
 use iv_pair::{Fasta, Second};
 use iv_text::{BedFile, Buffered, Genome, RecordFault, RecordRef, Sink, WriteFault, read_record};
@@ -253,8 +252,9 @@ impl<A: Allocator + Copy> Session<A> {
         let has_bases = self.fasta.is_some();
         let view = View::read(self.alloc, self.track.width(), has_second, has_bases, words)?;
         let mut meter = Meter::new();
-        let open = OpenView::build(self.alloc, view, &self.track, &self.genome, &mut meter)?;
-        self.views.push(self.alloc, name, open)?;
+        let genome = &self.genome;
+        self.views
+            .open(self.alloc, name, view, &self.track, genome, &mut meter)?;
         Ok(())
     }
 
@@ -281,7 +281,7 @@ impl<A: Allocator + Copy> Session<A> {
         ensures { MatchOption (view_named self.now.views name.now) (result ≡ false) (λ v. result ≡ not v.stale) }
     {
         match self.views.find(name) {
-            Some(view) => !view.is_stale(),
+            Some(opened) => !opened.stale,
             None => false,
         }
     }
@@ -304,12 +304,13 @@ impl<A: Allocator + Copy> Session<A> {
         let mut meter = Meter::new();
         self.views
             .refresh(name, self.alloc, &self.track, &self.genome, &mut meter)?;
-        let Some(view) = self.views.find(name) else {
+        let Some(opened) = self.views.find(name) else {
             unreachable!()
         };
         let second = self.second.as_ref();
         let fasta = self.fasta.as_ref();
-        view.print(&self.track, second, fasta, &self.genome, &mut meter, sink)?;
+        let (track, genome) = (&self.track, &self.genome);
+        self.views.print(opened.view, track, second, fasta, genome, &mut meter, sink)?;
         Ok(())
     }
 
@@ -346,13 +347,15 @@ impl<A: Allocator + Copy> Session<A> {
         ensures { Puts (S.state sink.old) (S.state sink.new) result (all_text self.now) }
     {
         for place in 0..self.views.len() {
-            let Some((name, view)) = self.views.at(place) else {
+            let Some((name, opened)) = self.views.at(place) else {
                 break;
             };
             put_heading(sink, name)?;
             let second = self.second.as_ref();
             let fasta = self.fasta.as_ref();
-            view.put(&self.track, second, fasta, &self.genome, meter, sink)?;
+            let (track, genome) = (&self.track, &self.genome);
+            self.views
+                .put(opened.view, track, second, fasta, genome, meter, sink)?;
         }
         Ok(())
     }

@@ -13,10 +13,10 @@ const VIEWS: [(&[u8], &[&[u8]]); 5] = [
     (b"g", &[b"genomecov", b"-bg"]),
 ];
 
-/// The most steps of an edit beside these views: 8 of the track, 8 of the view of depth, and 16 of each other and 8 more for
-/// each record around the edit.
+/// The most steps of an edit beside these views: 8 of the track, 8 of the depth, and for the blocks of each of the two
+/// distances, which are kept once, 16 and 8 more for each record around the edit.
 fn most_steps(around: u32) -> u64 {
-    8 + 8 + 4 * (16 + 8 * u64::from(around))
+    8 + 8 + 2 * (16 + 8 * u64::from(around))
 }
 
 /// A session of a BED file over one sequence of a million bases, with the views open.
@@ -128,5 +128,63 @@ fn edits_of_a_thousand_copies(rt: HostRuntime) -> Result<(), Fail> {
     let done = repair_within(&mut session, &edits, most_steps(1001))?
         && print_as(&rt, &mut session, &texts)?;
     assert!(rt; done);
+    Ok(())
+}
+
+/// Closes all views but those of these names, and gives the steps of an edit beside them.
+fn steps_of(session: &mut Session, names: &[&[u8]]) -> Result<u64, Fail> {
+    for (name, _) in VIEWS {
+        if !names.contains(&name) {
+            session.close_view(name)?;
+        }
+    }
+    let done = answer(session, Edit::Add(b"big\t90\t120"))??;
+    Ok(done.steps)
+}
+
+/// The steps of an edit beside views of these names.
+fn steps_beside(rt: &HostRuntime, names: &[&[u8]]) -> Result<u64, Fail> {
+    let mut session = with_views(rt, b"big\t0\t100\nbig\t50\t70\n")?;
+    steps_of(&mut session, names)
+}
+
+/// The blocks of merge, cluster and complement are repaired once, and those of a merge of another distance beside them.
+#[test]
+fn views_that_keep_the_same(rt: HostRuntime) -> Result<(), Fail> {
+    let alone = steps_beside(&rt, &[b"m"])?;
+    let shared = steps_beside(&rt, &[b"m", b"k", b"c"])?;
+    let far = steps_beside(&rt, &[b"m", b"d"])?;
+    let deep = steps_beside(&rt, &[b"m", b"g"])?;
+    assert!(rt; shared == alone && far > alone && deep > alone);
+    Ok(())
+}
+
+/// Closes a view, does an edit that leaves none stale, and tells whether others print these texts.
+fn edit_without(
+    rt: &HostRuntime,
+    session: &mut Session,
+    closed: &[u8],
+    edit: Edit<'_>,
+    texts: &[(&[u8], &[u8])],
+) -> Result<bool, Fail> {
+    session.close_view(closed)?;
+    let stale = answer(session, edit)??.stale;
+    Ok(stale == 0 && print_as(rt, session, texts)?)
+}
+
+/// Where views are closed one after another, those that are left keep what they need.
+#[test]
+fn views_that_are_closed(rt: HostRuntime) -> Result<(), Fail> {
+    let mut session = with_views(&rt, b"big\t0\t100\n")?;
+    let texts: [(&[u8], &[u8]); 2] = [
+        (b"k", b"big\t0\t100\t1\nbig\t200\t300\t2\n"),
+        (b"c", b"big\t100\t200\nbig\t300\t1000000\n"),
+    ];
+    let edit = Edit::Add(b"big\t200\t300");
+    let first = edit_without(&rt, &mut session, b"m", edit, &texts)?;
+    let texts: [(&[u8], &[u8]); 1] = [(b"c", b"big\t0\t200\nbig\t300\t1000000\n")];
+    let edit = Edit::Remove(b"big\t0\t100");
+    let second = edit_without(&rt, &mut session, b"k", edit, &texts)?;
+    assert!(rt; first && second);
     Ok(())
 }

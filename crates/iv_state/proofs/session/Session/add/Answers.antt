@@ -12,7 +12,6 @@ use Rattle.iv_state.specs.Keeping.{all_seen}
 use Rattle.iv_state.specs.OpenViews.{all_steps}
 use Rattle.iv_state.specs.States.{State, IsTrackOn}
 use Rattle.iv_state.specs.declared.session.Accepted.{Accepted}
-use Rattle.iv_state.proofs.OpenViewLemmas.{repaired-right, repaired-stales, repaired-steps}
 use Rattle.iv_state.proofs.SessionLemmas.{below-unless, edited, fit-added, track-added, served-stales}
 use Rattle.iv_state.proofs.session.Session.add.Goals as goal
 
@@ -64,16 +63,16 @@ invariant_of-self-2 g c =
             (track-added inside.genome inside.track c.in_ok-record.record c.self.invariant.0.track_is fits
             (below-unless (length inside.track.rows) inside.track.limit _ _ c.in_ok-add.ensures.full.1 (λ e. cc)));
         second_is = c.self.invariant.0.second_is;
-        served = served-stales inside.second _ _ (repaired-stales _ _ _ _ _ _ _ _ c.added.ensures) c.self.invariant.0.served;
+        served = served-stales inside.second _ _ c.added.ensures.stales c.self.invariant.0.served;
       },
-      repaired-right _ _ _ _ _ _ _ _ c.added.ensures,
+      c.added.ensures.right,
     )
 
 pub returns-clause-ok : goal.returns-clause-ok
 returns-clause-ok g c =
     edited (λ rows. added rows c.args.row.now) _ _ c.add.new.self _ c.self.view_is
     (c.in_ok-add.ensures.ok ∙ ap (λ (r : Row). record c.self.inside.track { rows = added c.self.inside.track.rows r }) c.in_ok-record.ensures.ok)
-    (repaired-stales _ _ _ _ _ _ _ _ c.added.ensures)
+    c.added.ensures.stales
 
 pub returns-clause-steps : goal.returns-clause-steps
 returns-clause-steps g c =
@@ -82,7 +81,7 @@ returns-clause-steps g c =
     ap (λ (t : Tracked). all_steps (all_seen inside.views) t.rows c.args.row.now) c.in_ok-add.ensures.ok
     ∙ ap (λ (r : Row). all_steps (all_seen inside.views) (added inside.track.rows r) c.args.row.now) c.in_ok-record.ensures.ok
     ∙ ap (λ (s : State). all_steps s.views (added s.track.rows c.args.row.now) c.args.row.now) c.self.view_is in
-    let more = repaired-steps _ _ _ _ _ _ _ _ c.added.ensures in
+    let more = c.added.ensures.steps in
     omega (arith, same, more.at_most, c.in_ok-add.ensures.steps.at_most, c.new-meter.ensures, ap (λ (a : Accepted). a.steps) c.of.ensures)
 
 pub returns-clause-stale : goal.returns-clause-stale

@@ -3,7 +3,7 @@ use Rattle.std.specs.Map.{remove_entry}
 use Rattle.std.specs.Str.{bytes_eq}
 use Rattle.std.specs.Prelude.{IsSome}
 use Rattle.iv_text.specs.Named.{names_of}
-use Rattle.iv_state.specs.Keeping.{IsCurrentRight, all_seen}
+use Rattle.iv_state.specs.Keeping.{all_seen}
 use Rattle.iv_state.specs.States.{State, IsServed}
 use Rattle.iv_state.specs.Views.{view_named}
 use Rattle.iv_state.proofs.OpenViewLemmas.{all-removed}
@@ -21,7 +21,7 @@ invariant_of-self g c =
         second_is = c.self.invariant.0.second_is;
         served = rw c.remove.ensures.seen (all-removed (λ v. IsServed i.second v.view) c.args.name.now (all_seen i.views) c.self.invariant.0.served);
       },
-      rw c.remove.ensures.value (all-removed (λ v. IsCurrentRight v (names_of i.genome) i.track.rows) c.args.name.now i.views c.self.invariant.1),
+      c.remove.ensures.right (names_of i.genome) i.track.rows c.self.invariant.1,
     )
 
 pub returns-clause-there : goal.returns-clause-there

@@ -22,5 +22,5 @@ invariant_of-result g c =
             (second-of_file a.genome a.second a.limit c.in_ok-second.ensures.known c.requires.second_fit c.requires.second_few);
         served = rw c.new.ensures tt;
       },
-      rw c.new.ensures tt,
+      rw c.new.ensures (tt, tt),
     )

@@ -1,16 +1,15 @@
 use Rattle.std.proofs.Common.{◌≡◌, ◌∙◌, ℕ, ◌<◌, List, [], ◌∷◌, ◌++◌, Ok, true, false, length, map, arith, sym, ap, subst}
 use Rattle.std.specs.Option.{is_some}
 use Rattle.std.proofs.lemmas.List.{length-map}
-use Rattle.iv_text.specs.Named.{names_of}
 use Rattle.iv_view.specs.Views.{read_words}
 use Rattle.iv_view.proofs.WordLemmas.{needs-there}
-use Rattle.iv_state.specs.Keeping.{IsCurrentRight, all_seen, seen}
+use Rattle.iv_state.specs.Keeping.{all_seen, seen}
 use Rattle.iv_state.specs.declared.open_view.OpenView.{OpenView}
 use Rattle.iv_state.specs.OpenViews.{Shown}
 use Rattle.iv_state.specs.States.{IsServed, AreServed}
 use Rattle.iv_state.specs.Views.{is_view_name, view_named}
 use Rattle.iv_state.proofs.OpenViewLemmas.{all-pushed}
-use Rattle.iv_state.proofs.SessionLemmas.{no-name_fault, pushed-last, views-changed}
+use Rattle.iv_state.proofs.SessionLemmas.{no-name_fault, views-changed}
 use Rattle.iv_state.proofs.session.Session.open_view.Goals as goal
 
 pub invariant_of-self-2 : goal.invariant_of-self-2
@@ -24,10 +23,10 @@ invariant_of-self-2 g c =
       record {
         track_is = c.self.invariant.0.track_is;
         second_is = c.self.invariant.0.second_is;
-        served = subst (AreServed i.second) (sym (ap all_seen c.in_ok-push.ensures.ok ∙ pushed-last name i.views c.in_ok-open.open view c.in_ok-open.ensures.sees))
+        served = subst (AreServed i.second) (sym c.in_ok-open.ensures.ok)
             (all-pushed (λ v. IsServed i.second v.view) name (all_seen i.views) (record { view = view; stale = false }) c.self.invariant.0.served served);
       },
-      rw c.in_ok-push.ensures.ok (all-pushed (λ v. IsCurrentRight v (names_of i.genome) i.track.rows) name i.views c.in_ok-open.open c.self.invariant.1 c.in_ok-open.ensures.right),
+      c.in_ok-open.ensures.right,
     )
 
 pub returns-clause-ok : goal.returns-clause-ok
@@ -43,6 +42,6 @@ returns-clause-ok g c =
     let free : is_some (view_named (all_seen i.views) name) ≡ false = sym c.if-contains.ensures.seen in (
       view,
       no-name_fault _ c.args.self.now name words view c.self.view_is good free few said,
-      views-changed (λ views. views ++ (name, record { view = view; stale = false }) ∷ []) _ c.args.self.now (all_seen c.push.new.self) c.self.view_is
-          (ap all_seen c.in_ok-push.ensures.ok ∙ pushed-last name i.views c.in_ok-open.open view c.in_ok-open.ensures.sees),
+      views-changed (λ views. views ++ (name, record { view = view; stale = false }) ∷ []) _ c.args.self.now (all_seen c.open.new.self) c.self.view_is
+          c.in_ok-open.ensures.ok,
     )

@@ -1,7 +1,6 @@
-use Rattle.std.proofs.Common.{◌≡◌, ◌∙◌, true, refl, ap, sym}
+use Rattle.std.proofs.Common.{◌≡◌, ◌∙◌, false, true, refl, ap, sym}
 use Rattle.std.proofs.lemmas.Result.{err_from_is_err_and}
-use Rattle.iv_text.specs.Named.{names_of}
-use Rattle.iv_state.specs.Keeping.{IsCurrentRight, all_seen, seen}
+use Rattle.iv_state.specs.Keeping.{IsKept, all_owned, all_seen, seen}
 use Rattle.iv_state.specs.OpenViews.{with_current}
 use Rattle.iv_state.specs.States.{State, IsServed}
 use Rattle.iv_state.specs.Views.{view_named}
@@ -26,24 +25,22 @@ pub unreachable-requires : goal.unreachable-requires
 unreachable-requires g c =
     found-not c.args.name.now (all_seen c.self.inside.views) (all_seen c.refresh.new.self) _ c.in-Some.ensures.seen c.in_ok-refresh.ensures.ok c.in_default-find.ensures.seen
 
-pub print-requires-clause-current : goal.print-requires-clause-current
-print-requires-clause-current g c =
-    ap (λ w. w.stale)
-    (found-again c.args.name.now (all_seen c.self.inside.views) (all_seen c.refresh.new.self) (seen c.in-Some.field-0.now) (seen c.in-Some-find.view.now)
-    c.in-Some.ensures.seen c.in_ok-refresh.ensures.ok c.in-Some-find.ensures.seen)
-
-pub print-requires-clause-right : goal.print-requires-clause-right
-print-requires-clause-right g c =
-    all-named (λ v. IsCurrentRight v (names_of c.self.inside.genome) c.self.inside.track.rows) c.args.name.now c.refresh.new.self c.in-Some-find.view.now (sym c.in-Some-find.ensures.value) c.refresh.ensures.right
+pub print-requires-clause-kept : goal.print-requires-clause-kept
+print-requires-clause-kept g c =
+    let fresh = ap (λ w. w.stale)
+    (found-again c.args.name.now (all_seen c.self.inside.views) (all_seen c.refresh.new.self) (seen c.in-Some.field-0.now) (seen c.in-Some-find.opened.now)
+    c.in-Some.ensures.seen c.in_ok-refresh.ensures.ok c.in-Some-find.ensures.seen) in
+    all-named (λ v. v.stale ≡ false → IsKept (all_owned c.refresh.new.self) v.view) c.args.name.now (all_seen c.refresh.new.self) (seen c.in-Some-find.opened.now)
+    (sym c.in-Some-find.ensures.seen) c.refresh.ensures.right.1 fresh
 
 pub returns-in_err-print : goal.returns-in_err-print
 returns-in_err-print g c =
     let p = err_from_is_err_and c.from_residual-in_err-print.result c.from_residual-in_err-print.ensures.1 in
     let inside = c.self.inside in
     let v = seen c.in-Some.field-0.now in
-    let again = found-again c.args.name.now (all_seen inside.views) (all_seen c.refresh.new.self) v (seen c.in-Some-find.view.now)
+    let again = found-again c.args.name.now (all_seen inside.views) (all_seen c.refresh.new.self) v (seen c.in-Some-find.opened.now)
     c.in-Some.ensures.seen c.in_ok-refresh.ensures.ok c.in-Some-find.ensures.seen in
-    let text = same-text _ c.args.self.now v (seen c.in-Some-find.view.now) c.self.view_is again in
+    let text = same-text _ c.args.self.now v (seen c.in-Some-find.opened.now) c.self.view_is again in
     let put = FailsIn-text _ _ _ _ text (rw (c.as_ref-second.ensures.value, c.as_ref-fasta.ensures.value) at c.in_err-print.ensures) in
     rw (p.1, p.2)
     (match-some _ _ _ v (c.in-Some.ensures.seen ∙ ap (λ (s : State). view_named s.views c.args.name.now) c.self.view_is)
@@ -53,9 +50,9 @@ pub returns : goal.returns
 returns g c =
     let inside = c.self.inside in
     let v = seen c.in-Some.field-0.now in
-    let again = found-again c.args.name.now (all_seen inside.views) (all_seen c.refresh.new.self) v (seen c.in-Some-find.view.now)
+    let again = found-again c.args.name.now (all_seen inside.views) (all_seen c.refresh.new.self) v (seen c.in-Some-find.opened.now)
     c.in-Some.ensures.seen c.in_ok-refresh.ensures.ok c.in-Some-find.ensures.seen in
-    let text = same-text _ c.args.self.now v (seen c.in-Some-find.view.now) c.self.view_is again in
+    let text = same-text _ c.args.self.now v (seen c.in-Some-find.opened.now) c.self.view_is again in
     let put = Takes-text _ _ _ _ text (rw (c.as_ref-second.ensures.value, c.as_ref-fasta.ensures.value) at c.in_ok-print.ensures) in
     match-some _ _ _ v (c.in-Some.ensures.seen ∙ ap (λ (s : State). view_named s.views c.args.name.now) c.self.view_is)
     (put, views-changed (λ views. with_current views c.args.name.now) _ c.args.self.now (all_seen c.refresh.new.self) c.self.view_is c.in_ok-refresh.ensures.ok)
@@ -66,7 +63,7 @@ print-requires-clause-served g c =
     let name = c.args.name.now in
     let served = served-current inside.second name (all_seen inside.views) (all_seen c.refresh.new.self) c.in_ok-refresh.ensures.ok c.self.invariant.0.served in
     rw c.as_ref-second.ensures.value
-    (all-named (λ v. IsServed inside.second v.view) name (all_seen c.refresh.new.self) (seen c.in-Some-find.view.now) (sym c.in-Some-find.ensures.seen) served)
+    (all-named (λ v. IsServed inside.second v.view) name (all_seen c.refresh.new.self) (seen c.in-Some-find.opened.now) (sym c.in-Some-find.ensures.seen) served)
 
 pub invariant_of-self-in_err-print : goal.invariant_of-self-in_err-print
 invariant_of-self-in_err-print g c = (

@@ -1,7 +1,6 @@
 use Rattle.std.proofs.Common.{◌≡◌, ◌∙◌, false, slice_get, sym, ap, arith}
-use Rattle.iv_text.specs.Named.{names_of}
 use Rattle.iv_bytes.proofs.Putting.{Underway-begin, Underway-fails, Underway-more, Puts-err}
-use Rattle.iv_state.specs.Keeping.{IsCurrentRight, all_seen, seen}
+use Rattle.iv_state.specs.Keeping.{IsKept, all_owned, all_seen, seen}
 use Rattle.iv_state.specs.States.{State, IsServed}
 use Rattle.iv_state.specs.Views.{text_in}
 use Rattle.iv_state.proofs.OpenViewLemmas.{all-at}
@@ -14,27 +13,25 @@ loop-place-init g c = Underway-begin _ _
 pub returns-in_err-put_heading : goal.returns-in_err-put_heading
 returns-in_err-put_heading g c =
     let inside = c.self.inside in
-    let next = views-next _ _ c.self.view_is c.loop-place.place (c.in-Some.name.now, seen c.in-Some.view.now)
-    (seen-at inside.views c.loop-place.place c.in-Some.name.now c.in-Some.view.now c.in-Some.ensures) in
+    let next = views-next _ _ c.self.view_is c.loop-place.place (c.in-Some.name.now, seen c.in-Some.opened.now)
+    (seen-at inside.views c.loop-place.place c.in-Some.name.now c.in-Some.opened.now c.in-Some.ensures) in
     Puts-err _ _ c.from_residual.result _ c.from_residual.ensures.0
     (Underway-fails _ _ _ _ _ _ (rw next at c.loop-place.invariant) c.in_err-put_heading.ensures)
 
-pub put-requires-clause-current : goal.put-requires-clause-current
-put-requires-clause-current g c =
+pub put-requires-clause-kept : goal.put-requires-clause-kept
+put-requires-clause-kept g c =
     let inside = c.self.inside in
-    all-get (λ v. v.1.stale ≡ false) c.args.self.now.views c.loop-place.place (c.in-Some.name.now, seen c.in-Some.view.now)
-    (seen-at inside.views c.loop-place.place c.in-Some.name.now c.in-Some.view.now c.in-Some.ensures ∙ ap (λ (s : State). slice_get s.views c.loop-place.place) c.self.view_is) c.requires
-
-pub put-requires-clause-right : goal.put-requires-clause-right
-put-requires-clause-right g c =
-    all-at (λ v. IsCurrentRight v (names_of c.self.inside.genome) c.self.inside.track.rows) c.self.inside.views c.loop-place.place (c.in-Some.name.now, c.in-Some.view.now) (sym c.in-Some.ensures) c.self.invariant.1
+    let found = seen-at inside.views c.loop-place.place c.in-Some.name.now c.in-Some.opened.now c.in-Some.ensures in
+    let fresh = all-get (λ v. v.1.stale ≡ false) c.args.self.now.views c.loop-place.place (c.in-Some.name.now, seen c.in-Some.opened.now)
+    (found ∙ ap (λ (s : State). slice_get s.views c.loop-place.place) c.self.view_is) c.requires in
+    all-at (λ v. v.stale ≡ false → IsKept (all_owned inside.views) v.view) (all_seen inside.views) c.loop-place.place (c.in-Some.name.now, seen c.in-Some.opened.now) (sym found) c.self.invariant.1.1 fresh
 
 pub returns-in_err-put : goal.returns-in_err-put
 returns-in_err-put g c =
     let inside = c.self.inside in
-    let next = views-next _ _ c.self.view_is c.loop-place.place (c.in-Some.name.now, seen c.in-Some.view.now)
-    (seen-at inside.views c.loop-place.place c.in-Some.name.now c.in-Some.view.now c.in-Some.ensures) in
-    let text = ap (λ (s : State). text_in s c.in-Some.view.now.view) c.self.view_is in
+    let next = views-next _ _ c.self.view_is c.loop-place.place (c.in-Some.name.now, seen c.in-Some.opened.now)
+    (seen-at inside.views c.loop-place.place c.in-Some.name.now c.in-Some.opened.now c.in-Some.ensures) in
+    let text = ap (λ (s : State). text_in s c.in-Some.opened.now.view) c.self.view_is in
     let headed = Underway-more _ _ _ _ _ _ (rw next at c.loop-place.invariant) c.in_ok-put_heading.ensures in
     Puts-err _ _ c.from_residual-in_err-put.result _ c.from_residual-in_err-put.ensures.0
     (Underway-fails _ _ _ _ _ _ headed (FailsIn-text _ _ _ _ text (rw (c.as_ref-second.ensures.value, c.as_ref-fasta.ensures.value) at c.in_err-put.ensures)))
@@ -42,9 +39,9 @@ returns-in_err-put g c =
 pub loop-place-preserved : goal.loop-place-preserved
 loop-place-preserved g c =
     let inside = c.self.inside in
-    let next = views-next _ _ c.self.view_is c.loop-place.place (c.in-Some.name.now, seen c.in-Some.view.now)
-    (seen-at inside.views c.loop-place.place c.in-Some.name.now c.in-Some.view.now c.in-Some.ensures) in
-    let text = ap (λ (s : State). text_in s c.in-Some.view.now.view) c.self.view_is in
+    let next = views-next _ _ c.self.view_is c.loop-place.place (c.in-Some.name.now, seen c.in-Some.opened.now)
+    (seen-at inside.views c.loop-place.place c.in-Some.name.now c.in-Some.opened.now c.in-Some.ensures) in
+    let text = ap (λ (s : State). text_in s c.in-Some.opened.now.view) c.self.view_is in
     let headed = Underway-more _ _ _ _ _ _ (rw next at c.loop-place.invariant) c.in_ok-put_heading.ensures in
     Underway-more _ _ _ _ _ _ headed (Takes-text _ _ _ _ text (rw (c.as_ref-second.ensures.value, c.as_ref-fasta.ensures.value) at c.in_ok-put.ensures))
 
@@ -56,7 +53,7 @@ returns-in_default g c =
 pub put-requires-clause-served : goal.put-requires-clause-served
 put-requires-clause-served g c =
     let inside = c.self.inside in
-    let view = c.in-Some.view.now in
+    let view = c.in-Some.opened.now in
     let found = seen-at inside.views c.loop-place.place c.in-Some.name.now view c.in-Some.ensures in
     rw c.as_ref-second.ensures.value
     (all-at (λ v. IsServed inside.second v.view) (all_seen inside.views) c.loop-place.place (c.in-Some.name.now, seen view) (sym found) c.self.invariant.0.served)

@@ -9,7 +9,6 @@ use Rattle.iv_state.specs.Keeping.{AreRight, all_seen}
 use Rattle.iv_state.specs.OpenViews.{all_steps}
 use Rattle.iv_state.specs.States.{State, IsTrackOn}
 use Rattle.iv_state.specs.declared.session.Accepted.{Accepted}
-use Rattle.iv_state.proofs.OpenViewLemmas.{repaired-right, repaired-stales, repaired-steps}
 use Rattle.iv_track.proofs.Edits.{added-removed}
 use Rattle.iv_state.proofs.SessionLemmas.{edited, track-removed, served-stales}
 use Rattle.iv_state.proofs.session.Session.remove.Goals as goal
@@ -45,16 +44,16 @@ invariant_of-self-2 g c =
         track_is = subst (IsTrackOn inside.genome) (sym c.in_ok-remove.ensures.ok)
             (track-removed inside.genome inside.track c.in_ok-record.record c.self.invariant.0.track_is c.in_ok-remove.ensures.found);
         second_is = c.self.invariant.0.second_is;
-        served = served-stales inside.second _ _ (repaired-stales _ _ _ _ _ _ _ _ c.removed.ensures) c.self.invariant.0.served;
+        served = served-stales inside.second _ _ c.removed.ensures.stales c.self.invariant.0.served;
       },
-      repaired-right _ _ _ _ _ _ _ _ c.removed.ensures,
+      c.removed.ensures.right,
     )
 
 pub returns-clause-ok : goal.returns-clause-ok
 returns-clause-ok g c =
     edited (λ rows. removed rows c.args.row.now) _ _ c.remove.new.self _ c.self.view_is
     (c.in_ok-remove.ensures.ok ∙ ap (λ (r : Row). record c.self.inside.track { rows = removed c.self.inside.track.rows r }) c.in_ok-record.ensures.ok)
-    (repaired-stales _ _ _ _ _ _ _ _ c.removed.ensures)
+    c.removed.ensures.stales
 
 pub returns-clause-steps : goal.returns-clause-steps
 returns-clause-steps g c =
@@ -64,7 +63,7 @@ returns-clause-steps g c =
     let same : all_steps (all_seen inside.views) (added c.remove.new.self.rows c.args.row.now) c.args.row.now ≡ all_steps c.args.self.now.views c.args.self.now.track.rows c.args.row.now =
     ap (λ (l : List Row). all_steps (all_seen inside.views) l c.args.row.now) (sym rows)
     ∙ ap (λ (s : State). all_steps s.views s.track.rows c.args.row.now) c.self.view_is in
-    let more = repaired-steps _ _ _ _ _ _ _ _ c.removed.ensures in
+    let more = c.removed.ensures.steps in
     omega (arith, same, more.at_most, e.steps.at_most, c.new-meter.ensures, ap (λ (a : Accepted). a.steps) c.of.ensures)
 
 pub returns-clause-stale : goal.returns-clause-stale

@@ -10,7 +10,7 @@ use Rattle.iv_state.specs.Keeping.{AreRight, all_seen}
 use Rattle.iv_state.specs.OpenViews.{all_steps}
 use Rattle.iv_state.specs.States.{State}
 use Rattle.iv_state.specs.declared.session.Accepted.{Accepted}
-use Rattle.iv_state.proofs.OpenViewLemmas.{repaired-right, repaired-stales, repaired-steps, stales-trans, stales-steps}
+use Rattle.iv_state.proofs.OpenViewLemmas.{stales-trans, stales-steps}
 use Rattle.iv_state.proofs.SessionLemmas.{edited, fit-added, replaced-in, served-stales, staged-there}
 use Rattle.iv_state.proofs.session.Session.replace.Goals as goal
 
@@ -44,7 +44,7 @@ removed-requires-clause-right g c =
     let there : 0 < copies c.self.inside.track.rows c.in_ok-before.before = omega (arith, c.copies.ensures.value) in
     let whole = replaced-in _ _ _ _ _ _ _ _ c.self.view_is c.in_ok-before.ensures.ok c.in_ok-after.ensures.ok c.self.invariant.0.track_is c.copies.ensures.ordered there c.requires.new
     c.in_ok-stage.ensures.ok c.in-Ok.ensures.ok in
-    subst (λ (l : List Row). AreRight c.added.new.self (names_of c.self.inside.genome) l) whole.again (repaired-right _ _ _ _ _ _ _ _ c.added.ensures)
+    subst (λ (l : List Row). AreRight c.added.new.self (names_of c.self.inside.genome) l) whole.again c.added.ensures.right
 
 pub removed-requires-clause-fit : goal.removed-requires-clause-fit
 removed-requires-clause-fit g c =
@@ -65,13 +65,13 @@ invariant_of-self-2 g c =
     let there : 0 < copies c.self.inside.track.rows c.in_ok-before.before = omega (arith, c.copies.ensures.value) in
     let whole = replaced-in _ _ _ _ _ _ _ _ c.self.view_is c.in_ok-before.ensures.ok c.in_ok-after.ensures.ok c.self.invariant.0.track_is c.copies.ensures.ordered there c.requires.new
     c.in_ok-stage.ensures.ok c.in-Ok.ensures.ok in
-    let less = stales-trans _ _ _ (repaired-stales _ _ _ _ _ _ _ _ c.added.ensures) (repaired-stales _ _ _ _ _ _ _ _ c.removed.ensures) in (
+    let less = stales-trans _ _ _ c.added.ensures.stales c.removed.ensures.stales in (
       record {
         track_is = whole.track_is;
         second_is = c.self.invariant.0.second_is;
         served = served-stales c.self.inside.second _ _ less c.self.invariant.0.served;
       },
-      repaired-right _ _ _ _ _ _ _ _ c.removed.ensures,
+      c.removed.ensures.right,
     )
 
 pub returns-clause-ok : goal.returns-clause-ok
@@ -80,7 +80,7 @@ returns-clause-ok g c =
     let whole = replaced-in _ _ _ _ _ _ _ _ c.self.view_is c.in_ok-before.ensures.ok c.in_ok-after.ensures.ok c.self.invariant.0.track_is c.copies.ensures.ordered there c.requires.new
     c.in_ok-stage.ensures.ok c.in-Ok.ensures.ok in
     edited (λ rows. added (removed rows c.args.old.now) c.args.new.now) _ _ c.remove.new.self _ c.self.view_is whole.is
-    (stales-trans _ _ _ (repaired-stales _ _ _ _ _ _ _ _ c.added.ensures) (repaired-stales _ _ _ _ _ _ _ _ c.removed.ensures))
+    (stales-trans _ _ _ c.added.ensures.stales c.removed.ensures.stales)
 
 pub returns-clause-steps : goal.returns-clause-steps
 returns-clause-steps g c =
@@ -95,9 +95,9 @@ returns-clause-steps g c =
     let second : all_steps (all_seen inside.views) (added c.remove.new.self.rows c.args.old.now) c.args.old.now
     ≡ all_steps c.args.self.now.views (added c.args.self.now.track.rows c.args.new.now) c.args.old.now =
     ap (λ (l : List Row). all_steps (all_seen inside.views) l c.args.old.now) (sym whole.again) ∙ bound c.args.old.now in
-    let less = stales-steps _ _ (added c.remove.new.self.rows c.args.old.now) c.args.old.now (repaired-stales _ _ _ _ _ _ _ _ c.added.ensures) in
-    let one = repaired-steps _ _ _ _ _ _ _ _ c.added.ensures in
-    let two = repaired-steps _ _ _ _ _ _ _ _ c.removed.ensures in
+    let less = stales-steps _ _ (added c.remove.new.self.rows c.args.old.now) c.args.old.now c.added.ensures.stales in
+    let one = c.added.ensures.steps in
+    let two = c.removed.ensures.steps in
     omega (
       arith,
       bound c.args.new.now,

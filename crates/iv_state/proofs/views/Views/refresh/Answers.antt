@@ -1,32 +1,27 @@
-use Rattle.std.proofs.Common.{◌∙◌, [], ap}
-use Rattle.iv_state.specs.Keeping.{all_seen}
-use Rattle.iv_bytes.proofs.Putting.{OnErr-all}
-use Rattle.iv_state.proofs.OpenViewLemmas.{named-right, named-refreshed, named-refused, named-absent, named-stale}
+use Rattle.std.proofs.Common.{◌≡◌, ◌∙◌, true, slice_get, sym, subst}
+use Rattle.std.specs.Prelude.{IfSome}
+use Rattle.std.specs.Map.{lookup}
+use Rattle.std.specs.Str.{bytes_eq}
+use Rattle.std.proofs.lemmas.Result.{on_ok_weaker, on_err_weaker}
+use Rattle.iv_state.specs.Keeping.{all_seen, current_at}
+use Rattle.iv_state.specs.OpenViews.{with_current}
+use Rattle.iv_state.proofs.StateLemmas.{placed-current, placed-stale, unplaced}
 use Rattle.iv_state.proofs.views.Views.refresh.Goals as goal
-
-pub refresh-requires-clause-right : goal.refresh-requires-clause-right
-refresh-requires-clause-right g c = named-right (λ k. k.items) _ _ c.args.name.now _ _ c.self.view_is c.in-Some.view.now c.in-Some.ensures.value c.requires.right
-
-pub returns-in_err-refresh-clause-right : goal.returns-in_err-refresh-clause-right
-returns-in_err-refresh-clause-right g c =
-    rw (named-refused (λ k. k.items) [] [] c.args.name.now _ _ c.self.view_is _ _ c.refresh.new.self c.in-Some.ensures.value (c.get_mut.follows.holds c.refresh.new.self).0 c.in_err-refresh.ensures.err) c.requires.right
-
-pub returns-in_err-refresh-clause-err : goal.returns-in_err-refresh-clause-err
-returns-in_err-refresh-clause-err g c =
-    OnErr-all c.from_residual.result
-    (named-refused (λ k. k.items) [] [] c.args.name.now _ _ c.self.view_is _ _ c.refresh.new.self c.in-Some.ensures.value (c.get_mut.follows.holds c.refresh.new.self).0 c.in_err-refresh.ensures.err)
-
-pub returns-in_err-refresh-clause-stale : goal.returns-in_err-refresh-clause-stale
-returns-in_err-refresh-clause-stale g c =
-    OnErr-all c.from_residual.result (named-stale (λ k. k.items) [] [] c.args.name.now _ _ c.self.view_is c.in-Some.view.now c.in-Some.ensures.value c.in_err-refresh.ensures.stale)
-
-pub returns-clause-right : goal.returns-clause-right
-returns-clause-right g c =
-    (named-refreshed (λ k. k.items) _ _ c.args.name.now _ _ c.self.view_is _ _ c.refresh.new.self c.in-Some.ensures.value (c.get_mut.follows.holds c.refresh.new.self).0 c.in_ok-refresh.ensures.ok c.requires.right).1
 
 pub returns-clause-ok : goal.returns-clause-ok
 returns-clause-ok g c =
-    (named-refreshed (λ k. k.items) _ _ c.args.name.now _ _ c.self.view_is _ _ c.refresh.new.self c.in-Some.ensures.value (c.get_mut.follows.holds c.refresh.new.self).0 c.in_ok-refresh.ensures.ok c.requires.right).0
+    let is = placed-current (λ k. k.items) c.args.name.now c.self.inside.views.entries c.in-Some.place (sym c.in-Some.ensures.index) in
+    let same = subst (λ l. current_at c.in-Some.place (all_seen l) ≡ with_current (all_seen l) c.args.name.now) c.self.view_is is in
+    on_ok_weaker c.refresh_at.result (λ ok. ok ∙ same) c.refresh_at.ensures.ok
 
 pub returns-in_default-clause-ok : goal.returns-in_default-clause-ok
-returns-in_default-clause-ok g c = rw c.get_mut.follows.holds-at-none (ap all_seen c.self.view_is ∙ named-absent (λ k. k.items) [] [] c.args.name.now _ _ c.self.view_is c.in_default.ensures.value)
+returns-in_default-clause-ok g c =
+    subst (λ l. all_seen l ≡ with_current (all_seen l) c.args.name.now) c.self.view_is
+    (unplaced (λ k. k.items) c.args.name.now c.self.inside.views.entries (sym c.in_default.ensures.index))
+
+pub returns-clause-stale : goal.returns-clause-stale
+returns-clause-stale g c =
+    let stale = placed-stale (λ k. k.items) c.args.name.now c.self.inside.views.entries c.in-Some.place (sym c.in-Some.ensures.index) in
+    on_err_weaker c.refresh_at.result
+    (subst (λ l. IfSome (slice_get (all_seen l) c.in-Some.place) (λ v. v.1.stale ≡ true) → IfSome (lookup (bytes_eq c.args.name.now) (all_seen l)) (λ v. v.stale ≡ true)) c.self.view_is stale)
+    c.refresh_at.ensures.stale

@@ -1,51 +1,41 @@
-use Rattle.std.proofs.Common.{◌∙◌, sym, arith}
-use Rattle.indexmap.specs.Layout.{length-set_value_at}
-use Rattle.iv_text.specs.Named.{names_of}
+use Rattle.std.proofs.Common.{◌≡◌, ◌∙◌, true, add-one, ap, slice_get, subst, sym, length, arith}
+use Rattle.std.specs.Prelude.{IfSome}
 use Rattle.iv_bytes.proofs.Putting.{OnErr-all}
-use Rattle.iv_state.specs.Keeping.{IsCurrentRight}
-use Rattle.iv_state.proofs.OpenViewLemmas.{named-length, refresh-begin, refresh-at, refresh-next, refresh-stops, refresh-end}
+use Rattle.iv_state.specs.Keeping.{all_seen, current_at}
+use Rattle.iv_state.specs.OpenViews.{Stales}
+use Rattle.iv_state.proofs.OpenViewLemmas.{named-length}
+use Rattle.iv_state.proofs.StateLemmas.{current_to, current-none, current-next, current-length, current-all, current-stales, seen-length, stale-among}
 use Rattle.iv_state.proofs.views.Views.refresh_all.Goals as goal
 
 pub loop-place-init : goal.loop-place-init
-loop-place-init g c = (refresh-begin _ _ _ _ c.self.view_is, sym c.len-place-end.ensures.len, omega (arith, c.self.invariant, c.len-place-end.ensures.len))
+loop-place-init g c = (
+  c.requires.right,
+  current-none (all_seen c.args.self.now),
+  omega (arith, c.len-place-end.ensures.len, ap length c.self.view_is, named-length (λ k. k.items) c.self.inside.views.entries),
+)
 
-pub refresh-requires-clause-right : goal.refresh-requires-clause-right
-refresh-requires-clause-right g c =
-    refresh-at (λ k. k.items) _ _ _ (λ v. IsCurrentRight v (names_of c.args.genome.now) c.args.track.now.rows) c.loop-place.self-inside.views.entries c.loop-place.place _
-    c.loop-place.invariant.0 c.index_mut-view.ensures.value c.requires.right
+pub refresh_at-requires-clause-within : goal.refresh_at-requires-clause-within
+refresh_at-requires-clause-within g c = omega (arith, c.loop-place-test.true, c.loop-place.invariant.2, current-length c.args.self.now c.loop-place.self c.loop-place.place c.loop-place.invariant.1)
+
+pub returns-in_err-refresh_at-clause-err : goal.returns-in_err-refresh_at-clause-err
+returns-in_err-refresh_at-clause-err g c =
+    OnErr-all c.from_residual.result
+    (subst (λ l. Stales l (all_seen c.args.self.now)) (sym (ap all_seen c.in_err-refresh_at.ensures.err ∙ c.loop-place.invariant.1)) (current-stales c.loop-place.place (all_seen c.args.self.now)))
+
+pub returns-in_err-refresh_at-clause-stale : goal.returns-in_err-refresh_at-clause-stale
+returns-in_err-refresh_at-clause-stale g c =
+    OnErr-all c.from_residual.result
+    (stale-among c.loop-place.place c.loop-place.place (all_seen c.args.self.now)
+    (subst (λ l. IfSome (slice_get l c.loop-place.place) (λ v. v.1.stale ≡ true)) c.loop-place.invariant.1 c.in_err-refresh_at.ensures.stale)
+    (omega (arith, c.loop-place-test.true, c.loop-place.invariant.2, seen-length c.args.self.now)))
 
 pub loop-place-preserved : goal.loop-place-preserved
 loop-place-preserved g c = (
-  refresh-next (λ k. k.items) _ _ _ c.loop-place.self-inside.views.entries c.loop-place.place _ _ c.loop-place.invariant.0 c.index_mut-view.ensures.value c.in_ok-refresh.ensures.ok,
-  length-set_value_at c.loop-place.self-inside.views.entries c.loop-place.place _ ∙ c.loop-place.invariant.1,
+  c.refresh_at.ensures.right,
+  c.in_ok-refresh_at.ensures.ok ∙ ap (current_at c.loop-place.place) c.loop-place.invariant.1 ∙ current-next c.loop-place.place (all_seen c.args.self.now)
+      ∙ ap (λ k. current_to k (all_seen c.args.self.now)) (sym (add-one c.loop-place.place)),
   c.loop-place.invariant.2,
 )
 
-pub invariant_of-self-in_err-refresh : goal.invariant_of-self-in_err-refresh
-invariant_of-self-in_err-refresh g c =
-    omega (arith, length-set_value_at c.loop-place.self-inside.views.entries c.loop-place.place c.refresh.new.self, c.loop-place.invariant.1, c.loop-place.invariant.2)
-
-pub returns-in_err-refresh-clause-right : goal.returns-in_err-refresh-clause-right
-returns-in_err-refresh-clause-right g c =
-    (refresh-stops (λ k. k.items) _ _ _ c.loop-place.self-inside.views.entries c.loop-place.place _ _ c.loop-place.invariant.0 c.index_mut-view.ensures.value
-    c.in_err-refresh.ensures.err c.in_err-refresh.ensures.stale c.requires.right).0
-
-pub returns-in_err-refresh-clause-err : goal.returns-in_err-refresh-clause-err
-returns-in_err-refresh-clause-err g c =
-    OnErr-all c.from_residual.result
-    (refresh-stops (λ k. k.items) _ _ _ c.loop-place.self-inside.views.entries c.loop-place.place _ _ c.loop-place.invariant.0 c.index_mut-view.ensures.value
-    c.in_err-refresh.ensures.err c.in_err-refresh.ensures.stale c.requires.right).1
-
-pub returns-in_err-refresh-clause-stale : goal.returns-in_err-refresh-clause-stale
-returns-in_err-refresh-clause-stale g c =
-    OnErr-all c.from_residual.result
-    (refresh-stops (λ k. k.items) _ _ _ c.loop-place.self-inside.views.entries c.loop-place.place _ _ c.loop-place.invariant.0 c.index_mut-view.ensures.value
-    c.in_err-refresh.ensures.err c.in_err-refresh.ensures.stale c.requires.right).2
-
-pub returns-clause-right : goal.returns-clause-right
-returns-clause-right g c =
-    (refresh-end _ _ _ _ _ c.loop-place.invariant.0 (omega (arith, c.loop-place.invariant.1, named-length (λ k. k.items) c.loop-place.self-inside.views.entries))).1
-
 pub returns-clause-ok : goal.returns-clause-ok
-returns-clause-ok g c =
-    (refresh-end _ _ _ _ _ c.loop-place.invariant.0 (omega (arith, c.loop-place.invariant.1, named-length (λ k. k.items) c.loop-place.self-inside.views.entries))).0
+returns-clause-ok g c = c.loop-place.invariant.1 ∙ current-all c.loop-place.place (all_seen c.args.self.now) (omega (arith, c.loop-place-test.false, c.loop-place.invariant.2, seen-length c.args.self.now))

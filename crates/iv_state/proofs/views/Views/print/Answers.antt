@@ -1,6 +1,6 @@
 use Rattle.std.proofs.Common.{◌≡◌, sym, ◌∙◌}
 use Rattle.iv_bytes.proofs.Putting.{Puts-finished}
-use Rattle.iv_state.proofs.open_view.OpenView.print.Goals as goal
+use Rattle.iv_state.proofs.views.Views.print.Goals as goal
 
 pub returns : goal.returns
 returns g c =
