@@ -7,9 +7,10 @@ ghost use Rattle.iv_text.specs.declared.fault.LoadCause.TheVariants as cause;
 ghost use Rattle.iv_places.specs.Drafts.{IsUnderway, known, left_after};
 ghost use Rattle.iv_places.specs.Places.{row_of};
 
-use crate::line::split_line;
 use crate::place::Place;
-use iv_text::{Genome, LoadCause, LoadFault, RecordFault, RecordReader, is_unread, width_for};
+use iv_text::{
+    Genome, LoadCause, LoadFault, RecordFault, RecordReader, is_unread, split_line, width_for,
+};
 use std::alloc::{AllocError, Allocator};
 use std::marker::Model;
 

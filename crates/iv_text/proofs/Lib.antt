@@ -1,4 +1,5 @@
 pub mod LineLemmas
+pub mod SplitLemmas
 pub mod FieldLemmas
 pub mod NamedLemmas
 pub mod ReadLemmas
