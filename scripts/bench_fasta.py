@@ -1,13 +1,14 @@
 #!/usr/bin/env python3
-"""Times the bases of records, printed by a session of bedkeep, beside bedtools getfasta and samtools faidx.
+"""Times the bases of records, printed by a session of bedkeep or by a run of getfasta alone, beside bedtools getfasta and
+samtools faidx.
 
     make build
-    python3 scripts/bench_fasta.py [FOLDER] [--view WORDS ..] [--bases N] [--records N] [--runs N]
+    python3 scripts/bench_fasta.py [FOLDER] [--alone] [--view WORDS ..] [--bases N] [--records N] [--runs N]
 
 Writes a genome file, a FASTA file of four chromosomes in lines of 60 bases, a
 BED file of six columns and the same places as regions into FOLDER (a temporary folder
 where none is given), the same bytes each time. A session loads the files, opens
-`getfasta` and prints it. bedtools runs over the same FASTA file with an index
+`getfasta` and prints it; with `--alone` it is a run of that subcommand. bedtools runs over the same FASTA file with an index
 file beside it, and over a second name of it without one, whose index each run
 makes anew; samtools has the index. The outputs of bedkeep and bedtools are compared
 first; where they differ the script stops with status 1. samtools writes other
@@ -61,6 +62,7 @@ def main():
 def read_words():
     words = argparse.ArgumentParser(description=__doc__.splitlines()[0])
     words.add_argument("folder", nargs="?", help="where the data is written (default: a temporary folder)")
+    words.add_argument("--alone", action="store_true", help="runs of the one subcommand, without a session")
     words.add_argument("--view", nargs="+", choices=VIEWS, default=VIEWS[:3])
     words.add_argument("--bases", type=int, default=200_000_000)
     words.add_argument("--records", type=int, default=70_000)
@@ -80,8 +82,12 @@ def run_case(wanted, folder, view, size):
     with open(script, "w") as file:
         file.write(f"open\tf\t{view}\nprint\tf\n")
     # each program: its words, and the file that is its standard input
+    if wanted.alone:
+        ours = ([wanted.program, *view.split(), "-g", genome, "-bed", track, "-fi", indexed], os.devnull)
+    else:
+        ours = ([wanted.program, "session", "-g", genome, "-i", track, "-fi", indexed], script)
     programs = {
-        "bedkeep": ([wanted.program, "session", "-g", genome, "-i", track, "-fi", indexed], script),
+        "bedkeep": ours,
         "bedtools, index there": (["bedtools", *view.split(), "-fi", indexed, "-bed", track], os.devnull),
         # it says each time that it makes the index
         "bedtools, no index": (["sh", "-c", f"rm -f '{bare}.fai'; exec bedtools {view} -fi '{bare}' -bed '{track}' 2> /dev/null"], os.devnull),

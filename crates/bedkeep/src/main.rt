@@ -69,13 +69,12 @@ fn read_slot(
     }
 }
 
-/// The bytes of the files of a plan.
+/// The bytes of the files of a plan, apart from the FASTA file.
 #[derive(Drop)]
 struct FileTexts {
     sizes: Option<Vec<u8>>,
     first: Option<Vec<u8>>,
     other: Option<Vec<u8>>,
-    bases: Option<Vec<u8>>,
 }
 
 impl FileTexts {
@@ -84,12 +83,10 @@ impl FileTexts {
         let sizes = read_slot(rt, plan, Slot::Sizes)?;
         let first = read_slot(rt, plan, Slot::First)?;
         let other = read_slot(rt, plan, Slot::Other)?;
-        let bases = read_slot(rt, plan, Slot::Bases)?;
         Ok(FileTexts {
             sizes,
             first,
             other,
-            bases,
         })
     }
 
@@ -99,7 +96,6 @@ impl FileTexts {
             sizes: self.sizes.as_deref().unwrap_or(b""),
             first: self.first.as_deref().unwrap_or(b""),
             other: self.other.as_deref(),
-            bases: self.bases.as_deref(),
         }
     }
 }
@@ -107,7 +103,8 @@ impl FileTexts {
 /// What the files of the plan say. Their text is let go.
 fn files_of(rt: &(impl Files + AllocGlobal), plan: &Plan<'_>) -> Result<ParsedFiles, Ending> {
     let texts = FileTexts::read(rt, plan)?;
-    Ok(ParsedFiles::parse(rt.alloc(), plan, &texts.inputs(), MOST_RECORDS)?)
+    let bases = read_slot(rt, plan, Slot::Bases)?;
+    Ok(ParsedFiles::parse(rt.alloc(), plan, &texts.inputs(), bases, MOST_RECORDS)?)
 }
 
 /// The session that the plan asks for. The files' text is let go before the track is built from what it says.
@@ -137,8 +134,16 @@ fn run_session(rt: &HostRuntime, plan: &Plan<'_>) -> Ending {
 /// Prints the view that the plan asks for.
 fn run_shot(rt: &HostRuntime, plan: &Plan<'_>) -> Result<(), Ending> {
     let texts = FileTexts::read(rt, plan)?;
+    let bases = read_slot(rt, plan, Slot::Bases)?;
     let mut output = StdSink::new(rt.stdout());
-    shot(rt.alloc(), plan, &texts.inputs(), MOST_RECORDS, &mut output)?;
+    shot(
+        rt.alloc(),
+        plan,
+        &texts.inputs(),
+        bases,
+        MOST_RECORDS,
+        &mut output,
+    )?;
     Ok(())
 }
 

@@ -1,6 +1,6 @@
 //! Parsing the files of a run, and the session that they begin.
 ghost use Rattle.std.specs.Prelude.{◌≡◌, ◌≤◌, ◌⊎◌, All, length, Ok, Err, IfSome, IfOk, IfErr};
-ghost use Rattle.std.specs.Option.{option_copied};
+ghost use Rattle.std.specs.Option.{option_copied, option_map};
 ghost use Rattle.iv_text.specs.Read.{Fits};
 ghost use Rattle.iv_text.specs.declared.fault.LoadCause.TheVariants as cause;
 ghost use Rattle.iv_state.specs.States.{begun};
@@ -14,7 +14,7 @@ use iv_text::{BedFile, Genome, LoadFault};
 use std::alloc::{Allocator, Global};
 use std::marker::Model;
 
-/// The bytes of the files of a run.
+/// The bytes of the files of a run, apart from the FASTA file.
 #[derive(Clone, Copy, Debug)]
 pub struct Inputs<'a> {
     /// The genome file.
@@ -23,8 +23,6 @@ pub struct Inputs<'a> {
     pub first: &'a [u8],
     /// The second BED file, where the plan names one.
     pub other: Option<&'a [u8]>,
-    /// The FASTA file, where the plan names one.
-    pub bases: Option<&'a [u8]>,
 }
 
 /// What the files of a run say, apart from their text.
@@ -72,11 +70,11 @@ fn parse_second<A: Allocator + Copy>(
 fn parse_fasta<A: Allocator + Copy>(
     alloc: A,
     genome: &Genome<A>,
-    text: Option<&[u8]>,
+    text: Option<Vec<u8, A>>,
 ) -> Result<Option<Fasta<A>>, LoadFault>
-    ensures ok { IfOk result (λ fasta. bases_said genome.now (option_copied text.entry) ≡ Ok fasta) }
+    ensures ok { IfOk result (λ fasta. bases_said genome.now (option_map (λ bytes. bytes.items) text) ≡ Ok fasta) }
     ensures err { IfErr result (λ fault. (fault ≡ record { line = 0; cause = cause.Memory }) ⊎
-        (bases_said genome.now (option_copied text.entry) ≡ Err fault)) }
+        (bases_said genome.now (option_map (λ bytes. bytes.items) text) ≡ Err fault)) }
 {
     match text {
         None => Ok(None),
@@ -88,18 +86,20 @@ impl<A: Allocator + Copy> ParsedFiles<A> {
     /// What the files of a run say, or the fault of the first damaged one.
     ///
     /// The genome file is read first, then the first BED file, then the second and the FASTA file, where there are any. A
-    /// BED file without a record has the width that the plan says, and each may have at most `limit` records.
+    /// BED file without a record has the width that the plan says, and each may have at most `limit` records. `bases` are the
+    /// bytes of the FASTA file, where the plan names one. They are taken: the bases stay in their memory.
     pub fn parse(
         alloc: A,
         plan: &Plan<'_, A>,
         inputs: &Inputs<'_>,
+        bases: Option<Vec<u8, A>>,
         limit: u32,
     ) -> Result<ParsedFiles<A>, CliFault>
         requires { limit ≤ 4000000 }
         ensures ok { IfOk result (λ files.
-            parsed plan.now.width inputs.now.sizes.now inputs.now.first.now (option_copied inputs.now.other) (option_copied inputs.now.bases) limit ≡ Ok files) }
+            parsed plan.now.width inputs.now.sizes.now inputs.now.first.now (option_copied inputs.now.other) (option_map (λ text. text.items) bases) limit ≡ Ok files) }
         ensures err { IfErr result (λ fault. (fault ≡ CliFault.Memory) ⊎
-            (parsed plan.now.width inputs.now.sizes.now inputs.now.first.now (option_copied inputs.now.other) (option_copied inputs.now.bases) limit ≡ Err fault)) }
+            (parsed plan.now.width inputs.now.sizes.now inputs.now.first.now (option_copied inputs.now.other) (option_map (λ text. text.items) bases) limit ≡ Err fault)) }
     {
         let genome = match Genome::parse(alloc, inputs.sizes) {
             Ok(genome) => genome,
@@ -113,7 +113,7 @@ impl<A: Allocator + Copy> ParsedFiles<A> {
             Ok(second) => second,
             Err(fault) => return Err(CliFault::from((Slot::Other, fault))),
         };
-        let fasta = match parse_fasta(alloc, &genome, inputs.bases) {
+        let fasta = match parse_fasta(alloc, &genome, bases) {
             Ok(fasta) => fasta,
             Err(fault) => return Err(CliFault::from((Slot::Bases, fault))),
         };
@@ -152,13 +152,14 @@ pub fn load<A: Allocator + Copy>(
     alloc: A,
     plan: &Plan<'_, A>,
     inputs: &Inputs<'_>,
+    bases: Option<Vec<u8, A>>,
     limit: u32,
 ) -> Result<Session<A>, CliFault>
     requires { limit ≤ 4000000 }
     ensures ok { IfOk result (λ session.
-        loaded plan.now.width inputs.now.sizes.now inputs.now.first.now (option_copied inputs.now.other) (option_copied inputs.now.bases) limit ≡ Ok session) }
+        loaded plan.now.width inputs.now.sizes.now inputs.now.first.now (option_copied inputs.now.other) (option_map (λ text. text.items) bases) limit ≡ Ok session) }
     ensures err { IfErr result (λ fault. (fault ≡ CliFault.Memory) ⊎
-        (loaded plan.now.width inputs.now.sizes.now inputs.now.first.now (option_copied inputs.now.other) (option_copied inputs.now.bases) limit ≡ Err fault)) }
+        (loaded plan.now.width inputs.now.sizes.now inputs.now.first.now (option_copied inputs.now.other) (option_map (λ text. text.items) bases) limit ≡ Err fault)) }
 {
-    ParsedFiles::parse(alloc, plan, inputs, limit)?.begin(alloc)
+    ParsedFiles::parse(alloc, plan, inputs, bases, limit)?.begin(alloc)
 }

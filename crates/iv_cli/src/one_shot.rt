@@ -1,6 +1,6 @@
 //! A run of one subcommand, without a script.
 ghost use Rattle.std.specs.Prelude.{◌≡◌, ◌<◌, ◌≤◌, ◌^◌, [], None, Some, IsTrue, length, map};
-ghost use Rattle.std.specs.Option.{option_copied};
+ghost use Rattle.std.specs.Option.{option_copied, option_map};
 ghost use Rattle.iv_cli.specs.Shots.{Shows, shown, shown_in};
 
 use crate::fault::CliFault;
@@ -20,7 +20,8 @@ const NAME: &[u8] = b"view";
 
 /// Prints what the plan's subcommand shows of the files, given their bytes: all of it, and nothing else.
 ///
-/// Every byte of memory is had before the first byte is printed.
+/// `bases` are the bytes of the FASTA file, where the plan names one; they are taken. Every byte of memory is had before the
+/// first byte is printed.
 ///
 /// # Errors
 ///
@@ -30,22 +31,23 @@ pub fn shot<A: Allocator + Copy, S: Sink>(
     alloc: A,
     plan: &Plan<'_, A>,
     inputs: &Inputs<'_>,
+    bases: Option<Vec<u8, A>>,
     limit: u32,
     sink: &mut S,
 ) -> Result<(), CliFault>
     requires { limit ≤ 4000000 }
     ensures { Shows (S.state sink.old) (S.state sink.new) result
-        (shown plan.now inputs.now.sizes.now inputs.now.first.now (option_copied inputs.now.other) (option_copied inputs.now.bases) limit) }
+        (shown plan.now inputs.now.sizes.now inputs.now.first.now (option_copied inputs.now.other) (option_map (λ text. text.items) bases) limit) }
 {
-    if inputs.bases.is_some() || !is_short(inputs.first) {
-        return shot_by_session(alloc, plan, inputs, limit, sink);
+    if bases.is_some() || !is_short(inputs.first) {
+        return shot_by_session(alloc, plan, inputs, bases, limit, sink);
     }
     match inputs.other {
         None if may_be_swept(plan.run()) => shot_by_sweep(alloc, plan, inputs, limit, sink),
         Some(other) if may_be_paired(plan.run()) && is_short(other) => {
             shot_by_paired_sweep(alloc, plan, inputs, other, limit, sink)
         }
-        _ => shot_by_session(alloc, plan, inputs, limit, sink),
+        _ => shot_by_session(alloc, plan, inputs, None, limit, sink),
     }
 }
 
@@ -78,10 +80,10 @@ fn shot_by_sweep<A: Allocator + Copy, S: Sink>(
     sink: &mut S,
 ) -> Result<(), CliFault>
     requires few { limit ≤ 4000000 }
-    requires alone { (option_copied inputs.now.other ≡ None) × (option_copied inputs.now.bases ≡ None) }
+    requires alone { option_copied inputs.now.other ≡ None }
     requires small { length inputs.now.first.now < 2 ^ 32 }
     ensures { Shows (S.state sink.old) (S.state sink.new) result
-        (shown plan.now inputs.now.sizes.now inputs.now.first.now (option_copied inputs.now.other) (option_copied inputs.now.bases) limit) }
+        (shown plan.now inputs.now.sizes.now inputs.now.first.now (option_copied inputs.now.other) None limit) }
 {
     let file = SortedFile::read(alloc, plan, inputs.sizes, inputs.first, limit)?;
     let view = ViewWords::read(alloc, file.width(), false, false, plan.view_words())?;
@@ -94,7 +96,7 @@ fn shot_by_sweep<A: Allocator + Copy, S: Sink>(
     }
     match merge_options(&view) {
         Some(options) => file.print_merge(alloc, options, sink),
-        None => shot_by_session(alloc, plan, inputs, limit, sink),
+        None => shot_by_session(alloc, plan, inputs, None, limit, sink),
     }
 }
 
@@ -108,10 +110,10 @@ fn shot_by_paired_sweep<A: Allocator + Copy, S: Sink>(
     sink: &mut S,
 ) -> Result<(), CliFault>
     requires few { limit ≤ 4000000 }
-    requires beside { (option_copied inputs.now.other ≡ Some other.now) × (option_copied inputs.now.bases ≡ None) }
+    requires beside { option_copied inputs.now.other ≡ Some other.now }
     requires small { (length inputs.now.first.now < 2 ^ 32) × (length other.now < 2 ^ 32) }
     ensures { Shows (S.state sink.old) (S.state sink.new) result
-        (shown plan.now inputs.now.sizes.now inputs.now.first.now (option_copied inputs.now.other) (option_copied inputs.now.bases) limit) }
+        (shown plan.now inputs.now.sizes.now inputs.now.first.now (option_copied inputs.now.other) None limit) }
 {
     let files = SortedPair::read(alloc, plan, inputs.sizes, inputs.first, other, limit)?;
     let view = ViewWords::read(alloc, files.width(), true, false, plan.view_words())?;
@@ -121,7 +123,7 @@ fn shot_by_paired_sweep<A: Allocator + Copy, S: Sink>(
             sweep.print(&mut pairs, files.genome(), sink)?;
             Ok(())
         }
-        None => shot_by_session(alloc, plan, inputs, limit, sink),
+        None => shot_by_session(alloc, plan, inputs, None, limit, sink),
     }
 }
 
@@ -130,14 +132,15 @@ fn shot_by_session<A: Allocator + Copy, S: Sink>(
     alloc: A,
     plan: &Plan<'_, A>,
     inputs: &Inputs<'_>,
+    bases: Option<Vec<u8, A>>,
     limit: u32,
     sink: &mut S,
 ) -> Result<(), CliFault>
     requires { limit ≤ 4000000 }
     ensures { Shows (S.state sink.old) (S.state sink.new) result
-        (shown plan.now inputs.now.sizes.now inputs.now.first.now (option_copied inputs.now.other) (option_copied inputs.now.bases) limit) }
+        (shown plan.now inputs.now.sizes.now inputs.now.first.now (option_copied inputs.now.other) (option_map (λ text. text.items) bases) limit) }
 {
-    let mut session = load(alloc, plan, inputs, limit)?;
+    let mut session = load(alloc, plan, inputs, bases, limit)?;
     let printed = print_once(&mut session, plan.view_words(), sink);
     // What the session holds is not freed record by record: such a run ends here.
     mem::forget(session);

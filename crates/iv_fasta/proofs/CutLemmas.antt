@@ -145,8 +145,3 @@ place-there {V} es name i there none =
     let named : slice_get (names_of es) i ≡ None = slice_get-map (λ (n : List ℕ × V). n.0) es i ∙ ap (option_map (λ (n : List ℕ × V). n.0)) none in
     let some : slice_get (names_of es) i ≡ Some (get_or (names_of es) i []) = slice_get-get_or (names_of es) i [] found.0 in
     cc
-
--- more bases, or none, leave the headers in order
-pub starts-either : (hs : Headed) (b : Bool) (bases more new : List ℕ) → new ≡ cond b (bases ++ more) bases → StartInOrder 0 hs (length bases) → StartInOrder 0 hs (length new)
-starts-either hs true bases more new is order = starts-more 0 hs (length bases) (length new) (omega (arith, ap length is, length-append bases more)) order
-starts-either hs false bases more new is order = starts-more 0 hs (length bases) (length new) (omega (arith, ap length is)) order

@@ -1,4 +1,5 @@
 pub mod ComplementLemmas
+pub mod HalvesLemmas
 pub mod LineLemmas
 pub mod CutLemmas
 pub mod KeptLemmas

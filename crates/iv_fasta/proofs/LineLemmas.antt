@@ -1,15 +1,17 @@
 -- One line of a FASTA.
-use Rattle.std.proofs.Common.{◌≡◌, ◌≢◌, ℕ, ◌-◌, ◌==◌, ◌++◌, Bool, true, false, cond, List, [], ◌∷◌, Result, Ok, Err, length, take, drop, get_or, refl, sym, ◌∙◌, ap}
+use Rattle.std.proofs.Common.{◌≡◌, ◌≢◌, ℕ, ◌+◌, ◌-◌, ◌<◌, ◌==◌, ◌++◌, Bool, true, false, cond, List, [], ◌∷◌, Result, Ok, Err, length, take, drop, get_or, refl, sym, ◌∙◌, ap, arith}
 use Rattle.std.proofs.lemmas.Bool.{cond-true, cond-false, ne_eqb, eq-eqb}
-use Rattle.std.proofs.lemmas.List.{take_rest}
+use Rattle.std.proofs.lemmas.List.{drop-take}
 use Rattle.std.specs.List.{list_any, before_first}
 use Rattle.std.specs.Option.{is_some}
 use Rattle.iv_text.specs.Named.{place_of}
 use Rattle.iv_text.specs.Genome.{Sequences}
 use Rattle.iv_text.specs.GenomeFile.{begins_with, bad_name}
 use Rattle.iv_fasta.specs.Fasta.{Found, header_sign, is_blank, is_no_base, header_name, with_header}
-use Rattle.iv_fasta.specs.Drafts.{Headed, cut, Draft, drafted, headed, with_kept_line, after_kept_line}
+use Rattle.iv_fasta.specs.Drafts.{Headed, cut, Draft, drafted, headed, with_kept_line, after_kept_line, after_kept_lines}
+use Rattle.iv_text.specs.Lines.{lines}
 use Rattle.iv_text.specs.declared.fault.LoadCause.{LoadCause}
+use Rattle.iv_text.specs.declared.fault.LoadFault.{LoadFault}
 use Rattle.iv_text.specs.declared.fault.LoadCause.TheVariants as cause
 use Rattle.iv_fasta.proofs.CutLemmas.{place-cut, length-cut, cut-push, cut-bases}
 use Rattle.iv_fasta.specs.Drafts.{StartInOrder}
@@ -51,15 +53,49 @@ begins : (line : List ℕ) → (length line == 0) ≡ false → begins_with head
 begins [] h = cc
 begins (b ∷ bs) h = refl
 
-pub kept-header : (g : Sequences) (n : ℕ) (d : Draft) (line name : List ℕ) → (length line == 0) ≡ false → get_or line 0 0 ≡ 62 → name ≡ before_first is_blank (take (length line - 1) (drop 1 line))
-    → after_kept_line g n d line ≡ headed g name (with_header n d.found name)
+pub kept-header : (g : Sequences) (n : ℕ) (d : Draft) (line : List ℕ) → (length line == 0) ≡ false → get_or line 0 0 ≡ 62
+    → after_kept_line g n d line ≡ headed g (header_name line) (with_header n d.found (header_name line))
 unfolding after_kept_line
-kept-header g n d line name some is named =
-    let same : name ≡ header_name line = named ∙ ap (before_first is_blank) (take_rest line 1) in
-    cond-false _ _ _ some ∙ cond-true _ _ _ (begins line some ∙ eq-eqb (get_or line 0 0) 62 is)
-    ∙ ap (λ (l : List ℕ). headed g l (with_header n d.found l)) (sym same)
+kept-header g n d line some is = cond-false _ _ _ some ∙ cond-true _ _ _ (begins line some ∙ eq-eqb (get_or line 0 0) 62 is)
 
 pub kept-bases : (g : Sequences) (n : ℕ) (d : Draft) (line : List ℕ) → (length line == 0) ≡ false → get_or line 0 0 ≢ 62
     → after_kept_line g n d line ≡ with_kept_line d line
 unfolding after_kept_line
 kept-bases g n d line some not = cond-false _ _ _ some ∙ cond-false _ _ _ (begins line some ∙ ne_eqb (get_or line 0 0) 62 not)
+
+-- ---- lines, one after another
+
+-- what is kept of the lines behind one of this number, or its fault
+abbrev lines-behind : Sequences → ℕ → List (List ℕ) → Result Draft LoadCause → Result Draft LoadFault
+lines-behind g n rest (Ok more) = after_kept_lines g (n + 1) more rest
+lines-behind g n rest (Err why) = Err (record { line = n; cause = why })
+
+line-behind : (g : Sequences) (n : ℕ) (d : Draft) (line : List ℕ) (rest : List (List ℕ)) (r : Result Draft LoadCause) → after_kept_line g n d line ≡ r
+    → after_kept_lines g n d (line ∷ rest) ≡ lines-behind g n rest r
+line-behind g n d line rest r is = by (after_kept_line g n d line) refl ∙ ap (lines-behind g n rest) is
+  where
+    by : (s : Result Draft LoadCause) → s ≡ s
+        → elim s [ Ok more ↦ after_kept_lines g (n + 1) more rest | Err c ↦ Err (record { line = n; cause = c }) ] ≡ lines-behind g n rest s
+    by (Ok more) e = refl
+    by (Err why) e = refl
+
+-- a line that is taken leads to the next one
+pub line-read : (g : Sequences) (n : ℕ) (d : Draft) (headers : Headed) (kept more : List ℕ) (named : Bool) (line coming left : List ℕ) (next : ℕ)
+    → lines coming ≡ line ∷ lines (drop next coming) → left ≡ drop next coming → more ≡ kept → after_kept_line g n d line ≡ Ok (drafted headers kept named)
+    → after_kept_lines g n d (lines coming) ≡ after_kept_lines g (n + 1) (drafted headers more named) (lines left)
+line-read g n d headers kept more named line coming left next first less same is =
+    ap (after_kept_lines g n d) first
+    ∙ line-behind g n d line (lines (drop next coming)) (Ok (drafted headers kept named)) is
+    ∙ ap (λ (l : List ℕ). after_kept_lines g (n + 1) (drafted headers l named) (lines (drop next coming))) (sym same)
+    ∙ ap (λ (l : List ℕ). after_kept_lines g (n + 1) (drafted headers more named) (lines l)) (sym less)
+
+-- and one that is refused ends the reading
+pub line-stops : (g : Sequences) (n : ℕ) (d : Draft) (why : LoadCause) (line coming : List ℕ) (next : ℕ) → lines coming ≡ line ∷ lines (drop next coming) → after_kept_line g n d line ≡ Err why
+    → after_kept_lines g n d (lines coming) ≡ Err (record { line = n; cause = why })
+line-stops g n d why line coming next first is = ap (after_kept_lines g n d) first ∙ line-behind g n d line (lines (drop next coming)) (Err why) is
+
+-- the name in the first so many bytes of what comes
+pub name-within : (coming : List ℕ) (count : ℕ) → 0 < count → before_first is_blank (take (count - 1) (drop 1 coming)) ≡ header_name (take count coming)
+name-within coming count some =
+    let whole : 1 + (count - 1) ≡ count = omega arith in
+    ap (before_first is_blank) (sym (drop-take 1 (count - 1) coming)) ∙ ap (λ n. header_name (take n coming)) whole

@@ -14,6 +14,11 @@ use Rattle.iv_text.specs.declared.fault.LoadCause.{LoadCause}
 use Rattle.iv_text.specs.declared.fault.LoadCause.TheVariants as cause
 use Rattle.iv_text.specs.declared.fault.LoadFault.{LoadFault}
 
+-- a text that is read: the bases that are kept of it, and what is still to be read
+pub record Halves : Type 0 where
+  pub kept : List ℕ
+  pub coming : List ℕ
+
 -- headers, each under its name, in the order of the file
 abbrev pub Headed : Type 0
 Headed = List (List ℕ × Header)

@@ -47,17 +47,20 @@ impl<A: Allocator + Copy> Fasta<A> {
     /// lines are skipped. Sequences that the genome doesn't name are read and left out. One that it names has the genome's
     /// length: that is looked at in a file without another fault, sequence by sequence, and the line of such a fault is the
     /// header's. After a fault nothing was made.
-    pub fn parse(alloc: A, genome: &Genome<A>, text: &[u8]) -> Result<Fasta<A>, LoadFault>
-        ensures ok { IfOk result (λ f. fasta_of genome.now text.now ≡ Ok f) }
+    ///
+    /// The text is taken: the bases move to its front, and the rest of its memory is given back.
+    pub fn parse(alloc: A, genome: &Genome<A>, text: Vec<u8, A>) -> Result<Fasta<A>, LoadFault>
+        ensures ok { IfOk result (λ f. fasta_of genome.now text.items ≡ Ok f) }
         ensures lengths { IfOk result (λ f. HasLengthsOf genome.now f) }
-        ensures err { IfErr result (λ f. (f ≡ record { line = 0; cause = cause.Memory }) ⊎ (fasta_of genome.now text.now ≡ Err f)) }
+        ensures err { IfErr result (λ f. (f ≡ record { line = 0; cause = cause.Memory }) ⊎ (fasta_of genome.now text.items ≡ Err f)) }
     {
         let draft = FastaDraft::read(alloc, genome, text)?;
         draft.check_lengths(genome)?;
         genome.law_of_names();
         match draft.places(alloc, genome) {
             Ok(places) => {
-                let FastaDraft { bases, .. } = draft;
+                let FastaDraft { text, .. } = draft;
+                let bases = text.into_kept();
                 Ok(Fasta { places, bases })
             }
             Err(refused) => Err(LoadFault::at(0, LoadCause::from(refused))),

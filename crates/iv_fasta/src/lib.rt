@@ -5,6 +5,7 @@ mod base;
 mod draft;
 mod fasta;
 mod headers;
+mod kept_text;
 mod laws;
 mod line;
 mod place;

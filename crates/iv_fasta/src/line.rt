@@ -1,5 +1,5 @@
 //! One line of a FASTA file.
-ghost use Rattle.std.specs.Prelude.{◌≡◌, cond, []};
+ghost use Rattle.std.specs.Prelude.{◌≡◌};
 ghost use Rattle.std.specs.List.{list_any, before_first};
 ghost use Rattle.iv_fasta.specs.Fasta.{is_blank, is_no_base};
 
@@ -31,11 +31,4 @@ pub(crate) fn has_no_base(line: &[u8]) -> bool
         found = found | (*b < 33 || *b > 126);
     }
     found
-}
-
-/// The bases that are kept of a line: none where the genome doesn't name the sequence.
-pub(crate) fn if_named(named: bool, line: &[u8]) -> &[u8]
-    ensures { result.now ≡ cond named line.now [] }
-{
-    if named { line } else { b"" }
 }

@@ -1,5 +1,5 @@
 //! Parts of sequences.
-use crate::fixtures::genome;
+use crate::fixtures::{fasta_of, genome};
 use iv_fasta::Fasta;
 use iv_text::LoadFault;
 use std::test::Fail;
@@ -8,7 +8,7 @@ use std::test::Fail;
 fn fasta(rt: &HostRuntime) -> Result<Fasta, LoadFault> {
     let genome = genome(rt)?;
     let text = b">x\nTTTT\n>s test\nACGT\nNacg\ntR\n>z\n>y\nGG\n";
-    Fasta::parse(rt.alloc(), &genome, text)
+    fasta_of(rt.alloc(), &genome, text)
 }
 
 /// Bases beyond a sequence's end are none.

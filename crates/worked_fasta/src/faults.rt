@@ -1,12 +1,11 @@
 //! FASTA files with a fault.
-use crate::fixtures::genome;
-use iv_fasta::Fasta;
+use crate::fixtures::{fasta_of, genome};
 use iv_text::{Genome, LoadCause, LoadFault};
 use std::test::Fail;
 
 /// The fault of a FASTA file.
 fn fault_of(rt: &HostRuntime, genome: &Genome, text: &[u8]) -> Option<LoadFault> {
-    Fasta::parse(rt.alloc(), genome, text).err()
+    fasta_of(rt.alloc(), genome, text).err()
 }
 
 /// Each of these files has a fault of this cause at its line.

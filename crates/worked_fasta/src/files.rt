@@ -1,6 +1,5 @@
 //! FASTA files that are read.
-use crate::fixtures::{genome, says};
-use iv_fasta::Fasta;
+use crate::fixtures::{fasta_of, genome, says};
 use iv_text::{Genome, LoadFault};
 use std::test::Fail;
 
@@ -11,7 +10,7 @@ fn reads(
     text: &[u8],
     want: [Option<&[u8]>; 3],
 ) -> Result<bool, LoadFault> {
-    let fasta = Fasta::parse(rt.alloc(), genome, text)?;
+    let fasta = fasta_of(rt.alloc(), genome, text)?;
     Ok(says(&fasta, want))
 }
 

@@ -1,6 +1,6 @@
 //! What several tests begin with.
 use iv_fasta::Fasta;
-use iv_text::{BedFile, Genome, LoadFault};
+use iv_text::{BedFile, Genome, LoadCause, LoadFault};
 use iv_track::Track;
 use std::alloc::Allocator;
 use std::test::Fail;
@@ -12,6 +12,18 @@ const LIMIT: u32 = 1_000;
 
 pub(crate) fn genome(rt: &HostRuntime) -> Result<Genome, LoadFault> {
     Genome::parse(rt.alloc(), SIZES)
+}
+
+/// What a FASTA file of these bytes says.
+pub(crate) fn fasta_of<A: Allocator + Copy>(
+    alloc: A,
+    genome: &Genome<A>,
+    text: &[u8],
+) -> Result<Fasta<A>, LoadFault> {
+    match text.to_vec(alloc) {
+        Ok(text) => Fasta::parse(alloc, genome, text),
+        Err(refused) => Err(LoadFault::at(0, LoadCause::from(refused))),
+    }
 }
 
 /// Whether a FASTA file has just these bases of the sequence of a rank, or lacks it.
@@ -49,7 +61,7 @@ pub(crate) fn read_files(
     records: &[u8],
 ) -> Result<Files, Fail> {
     let genome = Genome::parse(rt.alloc(), sizes)?;
-    let fasta = Fasta::parse(rt.alloc(), &genome, bases)?;
+    let fasta = fasta_of(rt.alloc(), &genome, bases)?;
     let file = BedFile::parse(rt.alloc(), &genome, 3, LIMIT, records)?;
     let width = file.width();
     let track = Track::from_records(rt.alloc(), width, LIMIT, file.into_records())?;

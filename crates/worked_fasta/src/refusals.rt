@@ -1,6 +1,5 @@
 //! Each growth of a FASTA file's memory, refused in turn.
-use crate::fixtures::{SIZES, says};
-use iv_fasta::Fasta;
+use crate::fixtures::{SIZES, fasta_of, says};
 use iv_text::{Genome, LoadCause, LoadFault};
 use refusing::RefusesNth;
 use std::alloc::Global;
@@ -25,7 +24,7 @@ fn refused(alloc: &RefusesNth<Global>, text: &[u8]) -> Option<bool> {
     let Ok(genome) = Genome::parse(alloc, SIZES) else {
         return Some(false);
     };
-    match Fasta::parse(alloc, &genome, text) {
+    match fasta_of(alloc, &genome, text) {
         Ok(fasta) => {
             let right = says(&fasta, [Some(b"ACGTNacgtR"), Some(b"TTTTA"), None]);
             if right { Some(false) } else { None }
@@ -72,7 +71,7 @@ fn refused_beside_damage(alloc: &RefusesNth<Global>) -> Option<bool> {
         line: 4,
         cause: LoadCause::Base,
     };
-    match Fasta::parse(alloc, &genome, b">s\nACGTNacgtR\n>x\nA C\n") {
+    match fasta_of(alloc, &genome, b">s\nACGTNacgtR\n>x\nA C\n") {
         Ok(_) => None,
         Err(fault) if fault == damage => Some(false),
         Err(fault) => is_memory(fault),

@@ -1,5 +1,5 @@
 //! The rows of getfasta, worked out by hand.
-use crate::fixtures::{Files, SIZES, read_files};
+use crate::fixtures::{Files, SIZES, fasta_of, read_files};
 use iv_fasta::{Fasta, FastaRows, print_fasta, put_fasta};
 use iv_text::{BedFile, Genome, MemSink};
 use iv_track::Meter;
@@ -265,7 +265,7 @@ fn put_each(
 /// Whether the rows of records, put one by one, are these.
 fn puts(rt: &HostRuntime, shown: FastaRows, want: &[u8]) -> Result<bool, Fail> {
     let genome = Genome::parse(rt.alloc(), SIZES)?;
-    let fasta = Fasta::parse(rt.alloc(), &genome, BASES)?;
+    let fasta = fasta_of(rt.alloc(), &genome, BASES)?;
     let text = b"s\t9\t10\tn\t0\t-\nu\t0\t5\tn\t0\t+\ns\t2\t6\tn\t0\t-\n";
     let records = BedFile::parse(rt.alloc(), &genome, 3, 9, text)?;
     let sink = put_each(rt, shown, &genome, &fasta, &records)?;

@@ -1,5 +1,5 @@
 //! FASTA files of real sizes, and long rows: a body that gives up above some size is seen here alone.
-use crate::fixtures::{Files, has, read_files};
+use crate::fixtures::{Files, fasta_of, has, read_files};
 use iv_fasta::{Fasta, FastaRows, print_fasta};
 use iv_text::{Genome, MemSink};
 use iv_track::Meter;
@@ -29,7 +29,7 @@ const LINE: &[u8] = b"ACGTNacgtRACGTNacgtRACGTNacgtRACGTNacgtRACGTNacgtRACGTNacg
 /// Whether a FASTA file says these bases of its one sequence of this genome.
 fn reads(rt: &HostRuntime, sizes: &[u8], text: &[u8], want: &[u8]) -> Result<bool, Fail> {
     let genome = Genome::parse(rt.alloc(), sizes)?;
-    let fasta = Fasta::parse(rt.alloc(), &genome, text)?;
+    let fasta = fasta_of(rt.alloc(), &genome, text)?;
     Ok(has(&fasta, 0, Some(want)))
 }
 
@@ -86,7 +86,7 @@ fn has_many(fasta: &Fasta) -> bool {
 /// Whether the files of many sequences are read.
 fn reads_many(rt: &HostRuntime, many: &Many) -> Result<bool, Fail> {
     let genome = Genome::parse(rt.alloc(), many.sizes.as_bytes())?;
-    let fasta = Fasta::parse(rt.alloc(), &genome, many.bases.as_bytes())?;
+    let fasta = fasta_of(rt.alloc(), &genome, many.bases.as_bytes())?;
     Ok(has_many(&fasta))
 }
 

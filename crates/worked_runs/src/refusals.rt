@@ -18,14 +18,25 @@ fn bed_text(rt: &HostRuntime) -> Result<String, Fail> {
 }
 
 /// How many records the track of the files holds, `None` where memory is refused.
-fn loaded(alloc: &RefusesNth<Global>, inputs: &Inputs<'_>) -> Result<Option<u32>, Fail> {
+fn loaded(
+    alloc: &RefusesNth<Global>,
+    inputs: &Inputs<'_>,
+    bases: Option<&[u8]>,
+) -> Result<Option<u32>, Fail> {
     let plan = Plan::read(
         alloc,
         &[
             b"session", b"-g", b"g", b"-i", b"a", b"-b", b"b", b"-fi", b"f",
         ],
     )?;
-    match load(alloc, &plan, inputs, COUNT) {
+    let bases = match bases {
+        Some(text) => match text.to_vec(alloc) {
+            Ok(text) => Some(text),
+            Err(_) => return Ok(None),
+        },
+        None => None,
+    };
+    match load(alloc, &plan, inputs, bases, COUNT) {
         Ok(session) => Ok(Some(session.len())),
         Err(CliFault::Memory) => Ok(None),
         Err(_) => Err(Fail::new("another fault")),
@@ -33,11 +44,11 @@ fn loaded(alloc: &RefusesNth<Global>, inputs: &Inputs<'_>) -> Result<Option<u32>
 }
 
 /// How many loads ended in want of memory, until one met no refusal. All others loaded the whole files.
-fn refused_loads(rt: &HostRuntime, inputs: &Inputs<'_>) -> Result<u32, Fail> {
+fn refused_loads(rt: &HostRuntime, inputs: &Inputs<'_>, bases: Option<&[u8]>) -> Result<u32, Fail> {
     let mut refused = 0u32;
     for number in 1..10_000u64 {
         let alloc = RefusesNth::new(rt.alloc(), number);
-        match loaded(&alloc, inputs)? {
+        match loaded(&alloc, inputs, bases)? {
             Some(COUNT) if !alloc.has_refused() => return Ok(refused),
             // A growth that was refused may have been tried again at another size.
             Some(COUNT) => {}
@@ -56,18 +67,15 @@ fn each_growth_of_loading_refused(rt: HostRuntime) -> Result<(), Fail> {
         sizes: b"chr1\t100\n",
         first: text.as_bytes(),
         other: None,
-        bases: None,
     };
     let both = Inputs {
         other: Some(text.as_bytes()),
         ..alone
     };
-    let all = Inputs {
-        bases: Some(b">x\nAC\n>chr0 none of it\n"),
-        ..both
-    };
-    let (few, more) = (refused_loads(&rt, &alone)?, refused_loads(&rt, &both)?);
+    let bases = Some(b">x\nAC\n>chr0 none of it\n".as_slice());
+    let few = refused_loads(&rt, &alone, None)?;
+    let more = refused_loads(&rt, &both, None)?;
     assert!(rt; 0 < few && few < more);
-    assert!(rt; more < refused_loads(&rt, &all)?);
+    assert!(rt; more < refused_loads(&rt, &both, bases)?);
     Ok(())
 }

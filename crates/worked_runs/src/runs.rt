@@ -132,6 +132,7 @@ fn words_that_are_no_run(rt: HostRuntime) -> Result<(), Fail> {
 fn loaded(
     rt: &HostRuntime,
     inputs: &Inputs<'_>,
+    bases: Option<&[u8]>,
     width: &[u8],
 ) -> Result<Result<(u32, u8), CliFault>, Fail> {
     let plan = Plan::read(
@@ -140,7 +141,11 @@ fn loaded(
             b"session", b"-g", b"g", b"-i", b"a", b"-b", b"b", b"-fi", b"f", b"-width", width,
         ],
     )?;
-    match load(rt.alloc(), &plan, inputs, 2) {
+    let bases = match bases {
+        Some(text) => Some(text.to_vec(rt.alloc())?),
+        None => None,
+    };
+    match load(rt.alloc(), &plan, inputs, bases, 2) {
         Ok(session) => Ok(Ok((session.len(), session.track().width()))),
         Err(fault) => Ok(Err(fault)),
     }
@@ -157,9 +162,8 @@ fn files_that_load(rt: HostRuntime) -> Result<(), Fail> {
             sizes: b"chr1\t9\n",
             first,
             other: None,
-            bases: None,
         };
-        assert!(rt; loaded(&rt, &inputs, b"3")? == Ok((count, width)));
+        assert!(rt; loaded(&rt, &inputs, None, b"3")? == Ok((count, width)));
     }
     Ok(())
 }
@@ -188,9 +192,8 @@ fn second_files_that_load(rt: HostRuntime) -> Result<(), Fail> {
             sizes: b"chr1\t9\n",
             first,
             other: Some(other),
-            bases: None,
         };
-        assert!(rt; loaded(&rt, &inputs, width)? == Ok(want));
+        assert!(rt; loaded(&rt, &inputs, None, width)? == Ok(want));
     }
     Ok(())
 }
@@ -226,10 +229,9 @@ fn files_that_are_damaged(rt: HostRuntime) -> Result<(), Fail> {
                 sizes,
                 first,
                 other,
-                bases: other,
             };
             let fault = LoadFault { line, cause };
-            assert!(rt; loaded(&rt, &inputs, b"3")? == Err(CliFault::Damaged(slot, fault)));
+            assert!(rt; loaded(&rt, &inputs, other, b"3")? == Err(CliFault::Damaged(slot, fault)));
         }
     }
     Ok(())
@@ -259,10 +261,11 @@ fn second_files_that_are_damaged(rt: HostRuntime) -> Result<(), Fail> {
             sizes: b"chr1\t9\n",
             first: b"chr1\t1\t2\ta\nchr1\t1\t2\ta\n",
             other: Some(other),
-            bases: None,
         };
         let fault = LoadFault { line, cause };
-        assert!(rt; loaded(&rt, &inputs, b"3")? == Err(CliFault::Damaged(Slot::Other, fault)));
+        assert!(rt;
+            loaded(&rt, &inputs, None, b"3")? == Err(CliFault::Damaged(Slot::Other, fault))
+        );
     }
     Ok(())
 }
@@ -279,9 +282,8 @@ fn is_damage(
         sizes: b"s\t4\nu\t2\n",
         first: b"s\t1\t2\n",
         other,
-        bases: Some(bases),
     };
-    Ok(loaded(rt, &inputs, b"3")? == Err(CliFault::Damaged(slot, fault)))
+    Ok(loaded(rt, &inputs, Some(bases), b"3")? == Err(CliFault::Damaged(slot, fault)))
 }
 
 /// Damage of a FASTA file is told with its line, and behind that of a second file.
@@ -314,13 +316,13 @@ fn session_with_bases(rt: &HostRuntime) -> Result<Session, Fail> {
         sizes: b"s\t4\nu\t2\n",
         first: b"s\t0\t3\tn\t0\t-\nu\t0\t2\tn\t0\t-\n",
         other: None,
-        bases: Some(b">x only here\nGG\n>s\nACG\nT"),
     };
+    let bases = b">x only here\nGG\n>s\nACG\nT".to_vec(rt.alloc())?;
     let plan = Plan::read(
         rt.alloc(),
         &[b"session", b"-g", b"g", b"-fi", b"f", b"-i", b"a"],
     )?;
-    Ok(load(rt.alloc(), &plan, &inputs, 2)?)
+    Ok(load(rt.alloc(), &plan, &inputs, Some(bases), 2)?)
 }
 
 /// Opens a view of bases, and prints it.

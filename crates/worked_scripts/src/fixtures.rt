@@ -1,7 +1,7 @@
 //! What several tests begin with.
 use iv_fasta::Fasta;
 use iv_session::{RunFault, ScriptLimits, Session, Summary, run_script};
-use iv_text::{BedFile, Genome, LoadFault, MemSink, MemSource};
+use iv_text::{BedFile, Genome, MemSink, MemSource};
 use std::test::Fail;
 
 /// A genome of three sequences, of 100 bases, of 50 and of none.
@@ -27,9 +27,12 @@ fn fasta_of(
     rt: &HostRuntime,
     genome: &Genome,
     bases: Option<&[u8]>,
-) -> Result<Option<Fasta>, LoadFault> {
+) -> Result<Option<Fasta>, Fail> {
     match bases {
-        Some(bases) => Ok(Some(Fasta::parse(rt.alloc(), genome, bases)?)),
+        Some(bases) => {
+            let text = bases.to_vec(rt.alloc())?;
+            Ok(Some(Fasta::parse(rt.alloc(), genome, text)?))
+        }
         None => Ok(None),
     }
 }

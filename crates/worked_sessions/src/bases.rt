@@ -3,7 +3,7 @@ use crate::around::{Around, print_around_edits, printed};
 use crate::fixtures::{Edit, answer};
 use iv_fasta::Fasta;
 use iv_state::Session;
-use iv_text::{BedFile, Genome, LoadFault, RecordFault};
+use iv_text::{BedFile, Genome, RecordFault};
 use std::test::Fail;
 
 /// A genome of two sequences, of 10 bases and of 5.
@@ -68,9 +68,12 @@ fn fasta_of(
     rt: &HostRuntime,
     genome: &Genome,
     bases: Option<&[u8]>,
-) -> Result<Option<Fasta>, LoadFault> {
+) -> Result<Option<Fasta>, Fail> {
     match bases {
-        Some(bases) => Ok(Some(Fasta::parse(rt.alloc(), genome, bases)?)),
+        Some(bases) => {
+            let text = bases.to_vec(rt.alloc())?;
+            Ok(Some(Fasta::parse(rt.alloc(), genome, text)?))
+        }
         None => Ok(None),
     }
 }

@@ -17,7 +17,7 @@ fn run(
         Ok(plan) => plan,
         Err(fault) => return Ok((Some(fault), sink)),
     };
-    let fault = shot(alloc, &plan, inputs, 100, &mut sink).err();
+    let fault = shot(alloc, &plan, inputs, None, 100, &mut sink).err();
     Ok((fault, sink))
 }
 
@@ -52,7 +52,6 @@ fn each_growth_of_a_merge_refused(rt: HostRuntime) -> Result<(), Fail> {
         sizes: b"chr1\t100\n",
         first: b"chr1\t30\t40\tb\nchr1\t10\t35\ta\nchr1\t50\t60\tc\n",
         other: None,
-        bases: None,
     };
     let words: [&[u8]; 9] = [
         b"merge",
@@ -76,7 +75,6 @@ fn each_growth_of_an_intersect_refused(rt: HostRuntime) -> Result<(), Fail> {
         sizes: b"chr1\t100\n",
         first: b"chr1\t30\t40\nchr1\t10\t35\n",
         other: Some(b"chr1\t20\t32\n"),
-        bases: None,
     };
     let words: [&[u8]; 7] = [b"intersect", b"-g", b"g", b"-a", b"a", b"-b", b"b"];
     let rows = b"chr1\t20\t32\nchr1\t30\t32\n";
@@ -90,7 +88,6 @@ fn each_growth_of_a_genomecov_refused(rt: HostRuntime) -> Result<(), Fail> {
         sizes: b"chr1\t100\n",
         first: b"chr1\t30\t40\nchr1\t10\t35\n",
         other: None,
-        bases: None,
     };
     let words: [&[u8]; 6] = [b"genomecov", b"-bg", b"-g", b"g", b"-i", b"a"];
     let rows = b"chr1\t10\t30\t1\nchr1\t30\t35\t2\nchr1\t35\t40\t1\n";

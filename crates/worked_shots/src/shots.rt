@@ -15,7 +15,6 @@ fn alone(first: &[u8]) -> Inputs<'_> {
         sizes: GENOME,
         first,
         other: None,
-        bases: None,
     }
 }
 
@@ -32,10 +31,15 @@ fn run(
     rt: &HostRuntime,
     plan: &Plan<'_>,
     inputs: &Inputs<'_>,
+    bases: Option<&[u8]>,
     room: usize,
 ) -> Result<(Option<CliFault>, MemSink), Fail> {
     let mut sink = MemSink::new(rt.alloc(), room, 9)?;
-    let fault = shot(rt.alloc(), plan, inputs, MOST, &mut sink).err();
+    let bases = match bases {
+        Some(text) => Some(text.to_vec(rt.alloc())?),
+        None => None,
+    };
+    let fault = shot(rt.alloc(), plan, inputs, bases, MOST, &mut sink).err();
     Ok((fault, sink))
 }
 
@@ -44,12 +48,13 @@ fn ends(
     rt: &HostRuntime,
     text: &[u8],
     inputs: &Inputs<'_>,
+    bases: Option<&[u8]>,
     fault: Option<CliFault>,
     printed: &[u8],
 ) -> Result<bool, Fail> {
     let words = words_of(rt.alloc(), text)?;
     let plan = Plan::read(rt.alloc(), words.as_slice())?;
-    let (found, sink) = run(rt, &plan, inputs, 1000)?;
+    let (found, sink) = run(rt, &plan, inputs, bases, 1000)?;
     Ok(found == fault && sink.bytes() == printed)
 }
 
@@ -60,7 +65,7 @@ fn prints(
     inputs: &Inputs<'_>,
     printed: &[u8],
 ) -> Result<bool, Fail> {
-    ends(rt, text, inputs, None, printed)
+    ends(rt, text, inputs, None, None, printed)
 }
 
 /// Whether it ends with the fault, and prints nothing.
@@ -70,7 +75,7 @@ fn is_told(
     inputs: &Inputs<'_>,
     fault: CliFault,
 ) -> Result<bool, Fail> {
-    ends(rt, text, inputs, Some(fault), b"")
+    ends(rt, text, inputs, None, Some(fault), b"")
 }
 
 #[test]
@@ -323,8 +328,8 @@ fn getfasta(rt: HostRuntime) -> Result<(), Fail> {
         sizes: b"s\t10\nu\t5\n",
         first: b"s\t2\t6\tn\t0\t-\ns\t9\t10\tn\t0\t-\nu\t0\t5\tn\t0\t+\n",
         other: None,
-        bases: Some(b">s test\nACGT\nNacg\ntR"),
     };
+    let bases = Some(b">s test\nACGT\nNacg\ntR".as_slice());
     for (words, rows) in [
         (
             b"getfasta -g g -bed a -fi f".as_slice(),
@@ -339,18 +344,20 @@ fn getfasta(rt: HostRuntime) -> Result<(), Fail> {
             b"s:2-6(-)\ttNAC\ns:9-10(-)\tY\n",
         ),
     ] {
-        assert!(rt; prints(&rt, words, &inputs, rows)?);
+        assert!(rt; ends(&rt, words, &inputs, bases, None, rows)?);
     }
     let narrow = Inputs {
         first: b"s\t2\t6\n",
         ..inputs
     };
     assert!(rt;
-        is_told(
+        ends(
             &rt,
             b"getfasta -g g -bed a -fi f -s",
             &narrow,
-            CliFault::Words(18)
+            bases,
+            Some(CliFault::Words(18)),
+            b""
         )?
     );
     Ok(())
@@ -382,12 +389,19 @@ fn files_that_are_damaged(rt: HostRuntime) -> Result<(), Fail> {
     let fault = damage(Slot::Other, 2, past_end);
     assert!(rt; is_told(&rt, b"intersect -g g -a a -b b", &inputs, fault)?);
     assert!(rt; is_told(&rt, b"subtract -g g -a a -b b", &inputs, fault)?);
-    let inputs = Inputs {
-        bases: Some(b">chr9\nAC GT\n"),
-        ..alone(b"chr1\t1\t2\n")
-    };
-    let fault = damage(Slot::Bases, 2, LoadCause::Base);
-    assert!(rt; is_told(&rt, b"getfasta -g g -bed a -fi f -s", &inputs, fault)?);
+    let inputs = alone(b"chr1\t1\t2\n");
+    let bases = Some(b">chr9\nAC GT\n".as_slice());
+    let fault = Some(damage(Slot::Bases, 2, LoadCause::Base));
+    assert!(rt;
+        ends(
+            &rt,
+            b"getfasta -g g -bed a -fi f -s",
+            &inputs,
+            bases,
+            fault,
+            b""
+        )?
+    );
     Ok(())
 }
 
@@ -399,7 +413,7 @@ fn is_cut(
     room: usize,
     printed: &[u8],
 ) -> Result<bool, Fail> {
-    let (fault, sink) = run(rt, plan, inputs, room)?;
+    let (fault, sink) = run(rt, plan, inputs, None, room)?;
     Ok(fault == Some(CliFault::Output) && sink.bytes() == printed)
 }
 

@@ -9,5 +9,5 @@ returns-in-Some g c =
     let asked = sym (rw (c.width.ensures, c.view_words.ensures) at c.in_ok-view.ensures) in
     let pairs = c.in_ok-pairs-in-Some.ensures in
     let takes = rw (c.genome.ensures, pairs.first, pairs.second) at (c.in_ok-print-in-Some.ensures view [] c.in-Some.ensures) in
-    rw (c.requires.beside.0, c.requires.beside.1)
+    rw (c.requires.beside)
     (shows-text _ true files c.in_ok-files.ensures.ok c.args.plan.now.view view asked _ _ takes)

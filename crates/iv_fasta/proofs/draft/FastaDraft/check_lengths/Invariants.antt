@@ -5,4 +5,4 @@ use Rattle.iv_fasta.specs.Drafts.{cut}
 use Rattle.iv_fasta.proofs.draft.FastaDraft.check_lengths.Given as goal
 
 abbrev pub invariant-loop-place : goal.invariant-loop-place
-invariant-loop-place g l = find (has_wrong_length l.genome) (drop l.place (cut l.self.headers l.self.bases.items)) ≡ find (has_wrong_length l.genome) (cut l.self.headers l.self.bases.items)
+invariant-loop-place g l = find (has_wrong_length l.genome) (drop l.place (cut l.self.headers l.self.text.kept)) ≡ find (has_wrong_length l.genome) (cut l.self.headers l.self.text.kept)

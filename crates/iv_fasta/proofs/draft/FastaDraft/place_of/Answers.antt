@@ -8,17 +8,17 @@ use Rattle.iv_fasta.proofs.draft.FastaDraft.place_of.Goals as goal
 pub returns-in-Some-sequence-clause-value : goal.returns-in-Some-sequence-clause-value
 returns-in-Some-sequence-clause-value g c =
     let self = c.args.self.now in
-    sym (ap (option_map (λ (s : Stretch). s.bases)) (lookup-at (cut self.headers self.bases.items) c.args.name.now c.in-Some.place _
-    (place-cut self.headers self.bases.items c.args.name.now ∙ sym c.in-Some.ensures) (sym c.in-Some-sequence.ensures.value)))
+    sym (ap (option_map (λ (s : Stretch). s.bases)) (lookup-at (cut self.headers self.text.kept) c.args.name.now c.in-Some.place _
+    (place-cut self.headers self.text.kept c.args.name.now ∙ sym c.in-Some.ensures) (sym c.in-Some-sequence.ensures.value)))
 
 pub returns-in-None-sequence-clause-value : goal.returns-in-None-sequence-clause-value
 returns-in-None-sequence-clause-value g c =
     let self = c.args.self.now in
-    absurd (place-there (cut self.headers self.bases.items) c.args.name.now c.in-Some.place
-    (place-cut self.headers self.bases.items c.args.name.now ∙ sym c.in-Some.ensures) (sym c.in-None-sequence.ensures.value))
+    absurd (place-there (cut self.headers self.text.kept) c.args.name.now c.in-Some.place
+    (place-cut self.headers self.text.kept c.args.name.now ∙ sym c.in-Some.ensures) (sym c.in-None-sequence.ensures.value))
 
 pub returns-in-None-clause-value : goal.returns-in-None-clause-value
 returns-in-None-clause-value g c =
     let self = c.args.self.now in
-    sym (ap (option_map (λ (s : Stretch). s.bases)) (lookup-none (cut self.headers self.bases.items) c.args.name.now
-    (place-cut self.headers self.bases.items c.args.name.now ∙ sym c.in-None.ensures)))
+    sym (ap (option_map (λ (s : Stretch). s.bases)) (lookup-none (cut self.headers self.text.kept) c.args.name.now
+    (place-cut self.headers self.text.kept c.args.name.now ∙ sym c.in-None.ensures)))

@@ -9,7 +9,7 @@ pub loop-rank-preserved : goal.loop-rank-preserved
 loop-rank-preserved g c =
     let self = c.args.self.now in
     record {
-      value = placed-more c.args.genome.now (cut self.headers self.bases.items) c.loop-rank.places.items c.push.new.self.items self.bases.items c.loop-rank.rank c.place_at.result
+      value = placed-more c.args.genome.now (cut self.headers self.text.kept) c.loop-rank.places.items c.push.new.self.items self.text.kept c.loop-rank.rank c.place_at.result
           (omega (arith, c.loop-rank-test.true)) c.loop-rank.invariant.value c.place_at.ensures.value c.in_ok-push.ensures.items;
-      within = rw c.in_ok-push.ensures.items (All-push (IsPlacedWithin (length self.bases.items)) c.loop-rank.places.items c.place_at.result c.loop-rank.invariant.within c.place_at.ensures.within);
+      within = rw c.in_ok-push.ensures.items (All-push (IsPlacedWithin (length self.text.kept)) c.loop-rank.places.items c.place_at.result c.loop-rank.invariant.within c.place_at.ensures.within);
     }

@@ -7,6 +7,6 @@ use Rattle.iv_fasta.proofs.draft.FastaDraft.places.Given as goal
 
 abbrev pub invariant-loop-rank : goal.invariant-loop-rank
 invariant-loop-rank g l = record {
-  value : placed l.places.items l.self.bases.items ≡ take l.rank (by_rank l.genome (cut l.self.headers l.self.bases.items));
-  within : All (IsPlacedWithin (length l.self.bases.items)) l.places.items;
+  value : placed l.places.items l.self.text.kept ≡ take l.rank (by_rank l.genome (cut l.self.headers l.self.text.kept));
+  within : All (IsPlacedWithin (length l.self.text.kept)) l.places.items;
 }
