@@ -64,6 +64,23 @@ fn edit(session: &mut Session, edits: &[Edit<'_>]) -> Result<(), Fail> {
     Ok(())
 }
 
+/// Opens views, and does edits, none of which takes more steps than those of the track.
+pub(crate) fn edits_without_steps(
+    session: &mut Session,
+    views: &[Around<'_>],
+    edits: &[Edit<'_>],
+) -> Result<bool, Fail> {
+    for (name, words, _, _) in views {
+        session.open_view(name, words)?;
+    }
+    for edit in edits {
+        if answer(session, *edit)??.steps > 8 {
+            return Ok(false);
+        }
+    }
+    Ok(true)
+}
+
 /// Opens views, and prints them before the edits and after them.
 pub(crate) fn print_around_edits(
     rt: &HostRuntime,

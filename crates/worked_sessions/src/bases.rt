@@ -1,9 +1,9 @@
 //! Sessions with a FASTA file: views that show the bases of records.
-use crate::around::{Around, print_around_edits, printed};
+use crate::around::{Around, edits_without_steps, print_around_edits, printed};
 use crate::fixtures::{Edit, answer};
 use iv_fasta::Fasta;
 use iv_state::Session;
-use iv_text::{BedFile, Genome, RecordFault};
+use iv_text::{BedFile, Genome, MemSink, RecordFault};
 use std::test::Fail;
 
 /// A genome of two sequences, of 10 bases and of 5.
@@ -93,34 +93,28 @@ fn bases_around_edits(rt: HostRuntime) -> Result<(), Fail> {
     print_around_edits(&rt, &mut session, &VIEWS, &EDITS)
 }
 
-/// A record that passes the end of its sequence is refused, and the view prints what it printed before.
+/// Opens a view, and adds a record that passes the end of its sequence, which is refused. What the view prints then.
+fn printed_behind_a_refused_edit(rt: &HostRuntime, session: &mut Session) -> Result<MemSink, Fail> {
+    session.open_view(b"f", &[b"getfasta", b"-tab"])?;
+    if answer(session, Edit::Add(b"s\t9\t11\tn\t0\t+")).err() != Some(RecordFault::PastEnd) {
+        return Err(Fail::new("another answer to an edit"));
+    }
+    Ok(printed(rt, session, Some(b"f"))?)
+}
+
+/// The view prints what it printed before.
 #[test]
 fn bases_behind_a_refused_edit(rt: HostRuntime) -> Result<(), Fail> {
     let mut session = session(&rt, FIRST, Some(BASES))?;
-    session.open_view(b"f", &[b"getfasta", b"-tab"])?;
-    let edit = answer(&mut session, Edit::Add(b"s\t9\t11\tn\t0\t+")).err();
-    assert!(rt; edit == Some(RecordFault::PastEnd));
-    let sink = printed(&rt, &mut session, Some(b"f"))?;
+    let sink = printed_behind_a_refused_edit(&rt, &mut session)?;
     assert!(rt; sink.bytes() == b"s:2-6\tGTNa\ns:9-10\tR\n".as_slice());
     Ok(())
-}
-
-/// Opens two views, and does the edits, none of which takes more steps than those of the track.
-fn edits_without_steps(session: &mut Session) -> Result<bool, Fail> {
-    session.open_view(b"f", &[b"getfasta"])?;
-    session.open_view(b"s", &[b"getfasta", b"-s"])?;
-    for edit in EDITS {
-        if answer(session, edit)??.steps > 8 {
-            return Ok(false);
-        }
-    }
-    Ok(true)
 }
 
 /// Views of bases add no step to an edit.
 #[test]
 fn edits_beside_bases(rt: HostRuntime) -> Result<(), Fail> {
     let mut session = session(&rt, FIRST, Some(BASES))?;
-    assert!(rt; edits_without_steps(&mut session)?);
+    assert!(rt; edits_without_steps(&mut session, &VIEWS[..5], &EDITS)?);
     Ok(())
 }

@@ -29,10 +29,10 @@ impl Edit {
     }
 }
 
-/// A line of four columns.
+/// A line of four columns, without its line feed.
 fn line(rt: &HostRuntime, start: u32) -> Result<String, Fail> {
     let stop = start.saturating_add(10);
-    Ok(format!(in rt.alloc(); "chr1\t{start}\t{stop}\tname\n")?)
+    Ok(format!(in rt.alloc(); "chr1\t{start}\t{stop}\tname")?)
 }
 
 /// Whether the session holds one record at each start from the first one on, this number in all.
@@ -69,23 +69,19 @@ fn is_done(
     }
 }
 
-/// Does an edit at a start, again where memory is refused. Whether it was, which must leave the session as it is.
+/// Does an edit by the records of two lines, again where memory is refused. Whether it was, which must leave the session as
+/// it is: that before so many edits of the kind.
 fn is_refused(
-    rt: &HostRuntime,
     session: &mut Session<&RefusesNth<Global>>,
     edit: Edit,
-    start: u32,
+    done: u32,
+    here: &[u8],
+    there: &[u8],
 ) -> Result<bool, Fail> {
-    let here = line(rt, start)?;
-    let there = line(rt, start.saturating_add(COUNT))?;
-    let (here, there) = (
-        here.as_str().trim_end().as_bytes(),
-        there.as_str().trim_end().as_bytes(),
-    );
     if is_done(session, edit, here, there)? {
         return Ok(false);
     }
-    let (first, count) = edit.before(start);
+    let (first, count) = edit.before(done);
     if !holds_starts(session, first, count) {
         return Err(Fail::new("changed by a refused edit"));
     }
@@ -93,6 +89,18 @@ fn is_refused(
         return Err(Fail::new("refused twice"));
     }
     Ok(true)
+}
+
+/// Does an edit at a start. Whether memory was refused for it.
+fn is_refused_at(
+    rt: &HostRuntime,
+    session: &mut Session<&RefusesNth<Global>>,
+    edit: Edit,
+    start: u32,
+) -> Result<bool, Fail> {
+    let here = line(rt, start)?;
+    let there = line(rt, start.saturating_add(COUNT))?;
+    is_refused(session, edit, start, here.as_bytes(), there.as_bytes())
 }
 
 /// The session of a file's records, unless memory is refused.
@@ -113,7 +121,7 @@ fn refused_edits(
     let mut refused = 0u32;
     for edit in [Edit::Add, Edit::Replace, Edit::Remove] {
         for start in 0..COUNT {
-            if is_refused(rt, session, edit, start)? {
+            if is_refused_at(rt, session, edit, start)? {
                 refused = refused.saturating_add(1);
             }
         }
@@ -180,6 +188,7 @@ fn each_growth_refused(rt: HostRuntime) -> Result<(), Fail> {
     let mut text = String::new(rt.alloc());
     for start in 0..COUNT {
         text.push_str(line(&rt, start)?.as_str())?;
+        text.push_str("\n")?;
     }
     assert!(rt; is_refused_in_turn(&rt, b"")?);
     assert!(rt; is_refused_in_turn(&rt, text.as_bytes())?);

@@ -19,14 +19,25 @@ fn most_steps(around: u32) -> u64 {
     8 + 8 + 2 * (16 + 8 * u64::from(around))
 }
 
-/// A session of a BED file over one sequence of a million bases, with the views open.
-fn with_views(rt: &HostRuntime, text: &[u8]) -> Result<Session, Fail> {
+/// A session of a BED file over one sequence of a million bases.
+fn session(rt: &HostRuntime, text: &[u8]) -> Result<Session, Fail> {
     let genome = Genome::parse(rt.alloc(), b"big\t1000000\n")?;
     let file = BedFile::parse(rt.alloc(), &genome, 3, 2000, text)?;
-    let mut session = Session::new(rt.alloc(), genome, file, None, None, 2000)?;
+    Ok(Session::new(rt.alloc(), genome, file, None, None, 2000)?)
+}
+
+/// Opens the views.
+fn open_views(session: &mut Session) -> Result<(), Fail> {
     for (name, words) in VIEWS {
         session.open_view(name, words)?;
     }
+    Ok(())
+}
+
+/// Such a session with the views open.
+fn with_views(rt: &HostRuntime, text: &[u8]) -> Result<Session, Fail> {
+    let mut session = session(rt, text)?;
+    open_views(&mut session)?;
     Ok(session)
 }
 
@@ -67,6 +78,17 @@ fn repair_within(session: &mut Session, edits: &[Edit<'_>], most: u64) -> Result
     Ok(true)
 }
 
+/// Whether these edits take at most this number of steps each, and views print these texts afterwards.
+fn repair_to(
+    rt: &HostRuntime,
+    session: &mut Session,
+    edits: &[Edit<'_>],
+    most: u64,
+    texts: &[(&[u8], &[u8])],
+) -> Result<bool, Fail> {
+    Ok(repair_within(session, edits, most)? && print_as(rt, session, texts)?)
+}
+
 /// A record that holds two others is taken out: three records stood around it.
 #[test]
 fn removal_that_splits_a_block(rt: HostRuntime) -> Result<(), Fail> {
@@ -78,46 +100,42 @@ fn removal_that_splits_a_block(rt: HostRuntime) -> Result<(), Fail> {
         (b"c", b"big\t0\t10\nbig\t20\t60\nbig\t70\t1000000\n"),
         (b"g", b"big\t10\t20\t1\nbig\t60\t70\t1\n"),
     ];
-    let done = repair_within(&mut session, &edits, most_steps(3))?
-        && print_as(&rt, &mut session, &texts)?;
-    assert!(rt; done);
+    assert!(rt; repair_to(&rt, &mut session, &edits, most_steps(3), &texts)?);
     Ok(())
 }
 
-/// A thousand records, each of ten bases and a thousand behind the one before.
-fn thousand_apart(rt: &HostRuntime) -> Result<String, Fail> {
+/// A thousand records, each of ten bases and so far behind the one before.
+fn thousand(rt: &HostRuntime, apart: u32) -> Result<String, Fail> {
     let mut text = String::new(rt.alloc());
-    for place in 0..1000u32 {
-        let start = 1000 * place;
-        let stop = start + 10;
+    let mut start = 0u32;
+    for _ in 0..1000u32 {
+        let stop = start.saturating_add(10);
         text.push_str(format!(in rt.alloc(); "big\t{start}\t{stop}\n")?.as_str())?;
+        start = start.saturating_add(apart);
     }
     Ok(text)
+}
+
+/// A session of these records, with the views open.
+fn of_a_thousand(rt: &HostRuntime, apart: u32) -> Result<Session, Fail> {
+    let text = thousand(rt, apart)?;
+    with_views(rt, text.as_bytes())
 }
 
 /// Edits of a thousand records, each with one record around it, or in one case none but its neighbours within the distance:
 /// the steps of an edit don't grow with the track.
 #[test]
 fn edits_of_a_thousand_records(rt: HostRuntime) -> Result<(), Fail> {
-    let mut session = with_views(&rt, thousand_apart(&rt)?.as_bytes())?;
+    let mut session = of_a_thousand(&rt, 1000)?;
     let edits = [Edit::Add(b"big\t500\t510"), Edit::Remove(b"big\t0\t10")];
     assert!(rt; repair_within(&mut session, &edits, most_steps(1))?);
     Ok(())
 }
 
-/// A thousand copies of one record.
-fn thousand_copies(rt: &HostRuntime) -> Result<String, Fail> {
-    let mut text = String::new(rt.alloc());
-    for _ in 0..1000u32 {
-        text.push_str("big\t0\t10\n")?;
-    }
-    Ok(text)
-}
-
-/// One copy more, and two less: the blocks stay, the depth changes.
+/// A thousand copies of one record; one more, and two less: the blocks stay, the depth changes.
 #[test]
 fn edits_of_a_thousand_copies(rt: HostRuntime) -> Result<(), Fail> {
-    let mut session = with_views(&rt, thousand_copies(&rt)?.as_bytes())?;
+    let mut session = of_a_thousand(&rt, 0)?;
     let copy = b"big\t0\t10";
     let edits = [Edit::Add(copy), Edit::Remove(copy), Edit::Remove(copy)];
     let texts: [(&[u8], &[u8]); 3] = [
@@ -125,9 +143,7 @@ fn edits_of_a_thousand_copies(rt: HostRuntime) -> Result<(), Fail> {
         (b"c", b"big\t10\t1000000\n"),
         (b"g", b"big\t0\t10\t999\n"),
     ];
-    let done = repair_within(&mut session, &edits, most_steps(1001))?
-        && print_as(&rt, &mut session, &texts)?;
-    assert!(rt; done);
+    assert!(rt; repair_to(&rt, &mut session, &edits, most_steps(1001), &texts)?);
     Ok(())
 }
 
@@ -172,19 +188,24 @@ fn edit_without(
     Ok(stale == 0 && print_as(rt, session, texts)?)
 }
 
-/// Where views are closed one after another, those that are left keep what they need.
-#[test]
-fn views_that_are_closed(rt: HostRuntime) -> Result<(), Fail> {
-    let mut session = with_views(&rt, b"big\t0\t100\n")?;
+/// Closes views one after another, with an edit behind each. Whether those that are left print their texts.
+fn closed_in_turn(rt: &HostRuntime, session: &mut Session) -> Result<bool, Fail> {
     let texts: [(&[u8], &[u8]); 2] = [
         (b"k", b"big\t0\t100\t1\nbig\t200\t300\t2\n"),
         (b"c", b"big\t100\t200\nbig\t300\t1000000\n"),
     ];
     let edit = Edit::Add(b"big\t200\t300");
-    let first = edit_without(&rt, &mut session, b"m", edit, &texts)?;
+    let first = edit_without(rt, session, b"m", edit, &texts)?;
     let texts: [(&[u8], &[u8]); 1] = [(b"c", b"big\t0\t200\nbig\t300\t1000000\n")];
     let edit = Edit::Remove(b"big\t0\t100");
-    let second = edit_without(&rt, &mut session, b"k", edit, &texts)?;
-    assert!(rt; first && second);
+    let second = edit_without(rt, session, b"k", edit, &texts)?;
+    Ok(first && second)
+}
+
+/// Those that are left keep what they need.
+#[test]
+fn views_that_are_closed(rt: HostRuntime) -> Result<(), Fail> {
+    let mut session = with_views(&rt, b"big\t0\t100\n")?;
+    assert!(rt; closed_in_turn(&rt, &mut session)?);
     Ok(())
 }

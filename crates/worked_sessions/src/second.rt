@@ -1,8 +1,7 @@
 //! Sessions beside a second file: views that are written from the records of both.
-use crate::around::{Around, print_around_edits, printed};
-use crate::fixtures::{Edit, SIZES, answer, session_beside};
+use crate::around::{Around, edits_without_steps, print_around_edits, printed};
+use crate::fixtures::{Edit, session_beside};
 use iv_state::Session;
-use iv_text::{BedFile, Genome};
 use std::test::Fail;
 
 /// The first file.
@@ -105,26 +104,12 @@ fn views_beside_a_second_file(rt: HostRuntime) -> Result<(), Fail> {
 #[test]
 fn edits_beside_written_views(rt: HostRuntime) -> Result<(), Fail> {
     let mut session = session_beside(&rt, FIRST, SECOND, 9)?;
-    session.open_view(b"i", &[b"intersect"])?;
-    session.open_view(b"s", &[b"subtract"])?;
-    for edit in EDITS {
-        assert!(rt; answer(&mut session, edit)??.steps <= 8);
-    }
+    assert!(rt; edits_without_steps(&mut session, &VIEWS[1..11], &EDITS)?);
     Ok(())
 }
 
-/// A session of a file of six columns and a second one of three.
-fn session_of_six(rt: &HostRuntime) -> Result<Session, Fail> {
-    let genome = Genome::parse(rt.alloc(), SIZES)?;
-    let first = BedFile::parse(rt.alloc(), &genome, 3, 9, b"chr1\t10\t20\tx\t7\t-\n")?;
-    let text = b"chr1\t12\t14\nchr1\t13\t16\n";
-    let second = BedFile::parse(rt.alloc(), &genome, 3, 9, text)?;
-    Ok(Session::new(rt.alloc(), genome, first, Some(second), None, 9)?)
-}
-
-#[test]
-fn files_of_two_widths(rt: HostRuntime) -> Result<(), Fail> {
-    let mut session = session_of_six(&rt)?;
+/// Prints views of a record of six columns beside records of three.
+fn check_two_widths(rt: &HostRuntime, session: &mut Session) -> Result<(), Fail> {
     for (name, words, want) in [
         (
             b"s".as_slice(),
@@ -139,7 +124,16 @@ fn files_of_two_widths(rt: HostRuntime) -> Result<(), Fail> {
         ),
     ] {
         session.open_view(name, words)?;
-        assert!(rt; printed(&rt, &mut session, Some(name))?.bytes() == want);
+        if printed(rt, session, Some(name))?.bytes() != want {
+            return Err(Fail::new("another print"));
+        }
     }
     Ok(())
+}
+
+#[test]
+fn files_of_two_widths(rt: HostRuntime) -> Result<(), Fail> {
+    let first = b"chr1\t10\t20\tx\t7\t-\n";
+    let mut session = session_beside(&rt, first, b"chr1\t12\t14\nchr1\t13\t16\n", 9)?;
+    check_two_widths(&rt, &mut session)
 }
