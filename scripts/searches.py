@@ -223,7 +223,7 @@ PLANTED = [
     ("iv_session", "fn f() { for _ in 0..9 { g(Meter::new()); } }", METERS),
     ("iv_session", "const MAKE: fn() -> Meter = Meter::new;", METERS),
     ("iv_cli", "fn f() -> Meter { Meter::new() }", METERS),
-    ("iv_pair", "fn print_intersect() { g(Meter::new()); }", METERS),
+    ("iv_pair", "fn print_pairs() { g(Meter::new()); }", METERS),
     ("iv_pair", "fn hits<A>() { g(Meter::new()); g(Meter::new()); }", METERS),
     ("iv_pair", "fn hits(n: u8) { for _ in 0..n { g(Meter::new()); } }", METERS),
     ("iv_track", "fn from_records<A>(a: A) -> Meter { Meter::new() }", None),

@@ -1,38 +1,25 @@
 -- A run by one sweep.
-use Rattle.std.proofs.Common.{◌≡◌, ◌⊎◌, inl, inr, ℕ, Bool, false, List, [], Option, None, Result, Ok, Err, refl, sym, ap, ◌∙◌, subst}
-use Rattle.std.specs.Prelude.{All}
-use Rattle.std.specs.Option.{is_some, unwrap_or}
-use Rattle.std.proofs.lemmas.List.Elements.{All-from_recursion, recursion_from_All}
-use Rattle.iv_bytes.specs.Sinks.{SinkState, Takes, FailsIn}
+use Rattle.std.proofs.Common.{◌≡◌, ◌⊎◌, inl, inr, ℕ, Bool, false, List, [], Option, Some, None, Result, Ok, Err, refl, sym, ap, ◌∙◌}
+use Rattle.std.specs.Option.{is_some, option_map, option_transpose, unwrap_or}
+use Rattle.iv_bytes.specs.Sinks.{SinkState, Takes}
 use Rattle.iv_text.specs.BedFile.{Bed, bed_of}
 use Rattle.iv_text.specs.Genome.{Sequences}
 use Rattle.iv_text.specs.GenomeFile.{genome_of}
-use Rattle.iv_text.specs.Ordered.{ordered, AreInOrder}
-use Rattle.iv_text.specs.Read.{Fits, LiesOn}
-use Rattle.iv_text.specs.Row.{Row, row_cmp}
+use Rattle.iv_text.specs.Ordered.{ordered}
+use Rattle.iv_text.specs.Row.{Row}
 use Rattle.iv_text.specs.declared.fault.LoadFault.{LoadFault}
-use Rattle.iv_text.proofs.OrderedLemmas.{all-all_added, ordered-in_order}
 use Rattle.iv_fasta.specs.Fasta.{Bases}
 use Rattle.iv_view.specs.Views.{read_words, view_text}
 use Rattle.iv_view.specs.declared.fault.ViewFault.{ViewFault}
 use Rattle.iv_view.specs.declared.fault.ViewFault.TheVariants as viewing
 use Rattle.iv_view.specs.declared.view.View.{View}
+use Rattle.iv_sweep.specs.Prints.{Prints}
+use Rattle.iv_sweep.specs.declared.fault.SweepFault.{SweepFault}
+use Rattle.iv_sweep.specs.declared.fault.SweepFault.TheVariants as sweeping
 use Rattle.iv_cli.specs.declared.fault.CliFault.{CliFault}
 use Rattle.iv_cli.specs.declared.fault.CliFault.TheVariants as fault
-use Rattle.iv_cli.specs.Loading.{Parsed, parsed, second_of, bases_said, with_bases, with_second, with_first, with_genome, fault_of_view}
-use Rattle.iv_cli.specs.Shots.{Sorted, AreSorted, Shows, shown_of, text_or_fault, view_beside, ordered_other}
-
--- what all records of a list have, those of the list in order have
-ordered-all : (P : Row → Type 0) (rows : List Row) → All P rows → All P (ordered rows)
-ordered-all P rows all = All-from_recursion P (ordered rows) (all-all_added row_cmp P rows [] (recursion_from_All P rows all) tt)
-
--- records that are sorted lie where they did
-pub lying-sorted : (g : Sequences) (file sorted : Bed) → All (Fits g file.width) file.rows → sorted ≡ record file { rows = ordered file.rows } → All (LiesOn g) sorted.rows
-lying-sorted g file sorted fit is = subst (λ (b : Bed). All (LiesOn g) b.rows) (sym is)
-    (λ k e within. let fits : Fits g file.width _ = ordered-all (Fits g file.width) file.rows fit k e within in fits.lies)
-
-pub order-sorted : (file sorted : Bed) → sorted ≡ record file { rows = ordered file.rows } → AreInOrder sorted.rows
-order-sorted file sorted is = subst (λ (b : Bed). AreInOrder b.rows) (sym is) (ordered-in_order file.rows)
+use Rattle.iv_cli.specs.Loading.{Parsed, parsed, second_of, bases_said, with_bases, with_second, with_first, with_genome, fault_of_view, fault_of_sweep}
+use Rattle.iv_cli.specs.Shots.{Sorted, AreSorted, AreSortedOthers, IsSorted, Shows, shown_of, sorted_file, text_or_fault, view_beside, ordered_other}
 
 -- ---- damaged files
 
@@ -67,21 +54,50 @@ shows-damage width sizes first other bases limit words (fault.Damaged slot damag
 
 -- ---- sound files
 
--- the words ask for the same view beside these files
-view-is : (files : Parsed) (beside : Bool) (width : ℕ) (words : List (List ℕ)) → width ≡ files.first.width → is_some files.second ≡ beside → files.bases ≡ None
-    → read_words width beside false words ≡ view_beside files words
-view-is files beside width words at second bases =
-    ap (λ (n : ℕ). read_words n beside false words) at
-    ∙ ap (λ (b : Bool). read_words files.first.width b false words) (sym second)
-    ∙ ap (λ (o : Option Bases). read_words files.first.width (is_some files.second) (is_some o) words) (sym bases)
+some-mapped : (second : Option Bed) → is_some (option_map (λ (file : Bed). ordered file.rows) second) ≡ is_some second
+some-mapped None = refl
+some-mapped (Some file) = refl
 
-module _ (said : Result Parsed CliFault) (beside : Bool) (s : Sorted) (are : AreSorted said beside s) (words : List (List ℕ)) where
-  asked-is : (r : Result View ViewFault) → read_words s.width beside false words ≡ r → shown_of words said ≡ text_or_fault are.files r
-  asked-is r asked =
-      ap (shown_of words) are.are ∙ ap (text_or_fault are.files) (sym (view-is are.files beside s.width words are.width are.second are.bases) ∙ asked)
+-- a sound second file is there
+pub second-sound : (g : Sequences) (width limit : ℕ) (text : List ℕ) (file : Bed) → bed_of g width limit text ≡ Ok file → second_of g width limit (Some text) ≡ Ok (Some file)
+second-sound g width limit text file is = ap (λ (r : Result Bed LoadFault). option_transpose (Some r)) is
+
+rows-of : (second : Option Bed) → option_map (λ (file : Bed). file.rows) (option_map sorted_file second) ≡ option_map (λ (file : Bed). ordered file.rows) second
+rows-of None = refl
+rows-of (Some file) = refl
+
+abbrev sorted_as : Sequences → ℕ → List Row → Option (List Row) → Sorted
+sorted_as g width rows others = record { genome = g; width = width; rows = rows; others = others }
+
+-- files that are read one after another and sorted are sorted files
+pub are-sorted : (width : ℕ) (sizes first : List ℕ) (other : Option (List ℕ)) (limit : ℕ) (g : Sequences) (sorted : Bed) (others : Option Bed)
+    → genome_of sizes ≡ Ok g → IsSorted (bed_of g width limit first) sorted → AreSortedOthers (second_of g width limit other) others
+    → AreSorted (parsed width sizes first other None limit)
+    (record { genome = g; width = sorted.width; rows = sorted.rows; others = option_map (λ (file : Bed). file.rows) others })
+are-sorted width sizes first other limit g sorted others genome one two = (
+  record { genome = g; first = one.0; second = two.0; bases = None; limit = limit },
+  ap (with_genome width first other None limit) genome ∙ ap (with_first g width other None limit) one.1 ∙ ap (with_second g one.0 None limit) two.1,
+  ap (λ (b : Bed). sorted_as g b.width b.rows (option_map (λ (file : Bed). file.rows) others)) one.2
+      ∙ ap (λ (o : Option (List Row)). sorted_as g one.0.width (ordered one.0.rows) o) (ap (option_map (λ (file : Bed). file.rows)) two.2 ∙ rows-of two.0),
+  refl,
+)
+
+module _ (said : Result Parsed CliFault) (s : Sorted) (are : AreSorted said s) (words : List (List ℕ)) where
+  abbrev files : Parsed
+  files = are.0
+
+  -- the words ask for the same view beside these files
+  view-is : read_words s.width (is_some s.others) false words ≡ view_beside files words
+  view-is =
+      ap (λ (t : Sorted). read_words t.width (is_some t.others) false words) are.2
+      ∙ ap (λ (b : Bool). read_words files.first.width b false words) (some-mapped files.second)
+      ∙ ap (λ (o : Option Bases). read_words files.first.width (is_some files.second) (is_some o) words) (sym are.3)
+
+  asked-is : (r : Result View ViewFault) → read_words s.width (is_some s.others) false words ≡ r → shown_of words said ≡ text_or_fault files r
+  asked-is r asked = ap (shown_of words) are.1 ∙ ap (text_or_fault files) (sym view-is ∙ asked)
 
   -- a fault of the words is told, and nothing is printed
-  pub shows-words : (why : ViewFault) (old : SinkState) → read_words s.width beside false words ≡ Err why → Shows old old (Err (fault_of_view why)) (shown_of words said)
+  pub shows-words : (why : ViewFault) (old : SinkState) → read_words s.width (is_some s.others) false words ≡ Err why → Shows old old (Err (fault_of_view why)) (shown_of words said)
   shows-words viewing.NoMemory old asked = refl
   shows-words viewing.BadName old asked = (asked-is (Err viewing.BadName) asked, refl)
   shows-words viewing.Taken old asked = (asked-is (Err viewing.Taken) asked, refl)
@@ -92,23 +108,18 @@ module _ (said : Result Parsed CliFault) (beside : Bool) (s : Sorted) (are : Are
   shows-words viewing.NoSecond old asked = (asked-is (Err viewing.NoSecond) asked, refl)
   shows-words viewing.NoFasta old asked = (asked-is (Err viewing.NoFasta) asked, refl)
 
-  module _ (view : View) (asked : read_words s.width beside false words ≡ Ok view) where
-    text-is : shown_of words said ≡ Ok (view_text view s.genome s.rows s.others [])
+  module _ (view : View) (asked : read_words s.width (is_some s.others) false words ≡ Ok view) where
+    text-is : shown_of words said ≡ Ok (view_text view s.genome s.rows (unwrap_or s.others []) [])
     text-is =
         asked-is (Ok view) asked
-        ∙ ap (λ (o : Option Bases). Ok (view_text view are.files.genome (ordered are.files.first.rows) (ordered_other are.files.second) (unwrap_or o []))) are.bases
-        ∙ ap (λ (g : Sequences). Ok (view_text view g (ordered are.files.first.rows) (ordered_other are.files.second) [])) (sym are.genome)
-        ∙ ap (λ (l : List Row). Ok (view_text view s.genome l (ordered_other are.files.second) [])) (sym are.rows)
-        ∙ ap (λ (l : List Row). Ok (view_text view s.genome s.rows l [])) (sym are.others)
+        ∙ ap (λ (o : Option Bases). Ok (view_text view files.genome (ordered files.first.rows) (ordered_other files.second) (unwrap_or o []))) are.3
+        ∙ ap (λ (t : Sorted). Ok (view_text view t.genome t.rows (unwrap_or t.others []) [])) (sym are.2)
 
     -- the text is printed
-    pub shows-text : (old new : SinkState) → Takes old new (view_text view s.genome s.rows s.others []) → Shows old new (Ok tt) (shown_of words said)
-    shows-text old new takes = (view_text view s.genome s.rows s.others [], text-is, takes)
+    pub shows-text : (old new : SinkState) → Takes old new (view_text view s.genome s.rows (unwrap_or s.others []) []) → Shows old new (Ok tt) (shown_of words said)
+    shows-text old new takes = (view_text view s.genome s.rows (unwrap_or s.others []) [], text-is, takes)
 
-    -- a prefix of it is, and the output failed
-    pub shows-front : (old new : SinkState) → FailsIn old new (view_text view s.genome s.rows s.others []) → Shows old new (Err fault.Output) (shown_of words said)
-    shows-front old new fails = (view_text view s.genome s.rows s.others [], text-is, fails)
-
-    -- a print that shows the text shows what the words ask for
-    pub shows-said : (old new : SinkState) (result : Result (Unit {0}) CliFault) → Shows old new result (Ok (view_text view s.genome s.rows s.others [])) → Shows old new result (shown_of words said)
-    shows-said old new result shows = subst (λ (to_show : Result (List ℕ) CliFault). Shows old new result to_show) (sym text-is) shows
+    -- a prefix of it is, and the output failed; or nothing is, for want of memory
+    pub shows-fault : (old new : SinkState) (why : SweepFault) → Prints old new (Err why) (view_text view s.genome s.rows (unwrap_or s.others []) []) → Shows old new (Err (fault_of_sweep why)) (shown_of words said)
+    shows-fault old new sweeping.Write fails = (view_text view s.genome s.rows (unwrap_or s.others []) [], text-is, fails)
+    shows-fault old new sweeping.NoMemory same = same

@@ -8,6 +8,7 @@ use Rattle.iv_text.specs.BedFile.{Bed, bed_of}
 use Rattle.iv_text.specs.declared.fault.LoadFault.{LoadFault}
 use Rattle.iv_text.specs.declared.fault.LoadCause.{LoadCause}
 use Rattle.iv_text.specs.declared.fault.LoadCause.TheVariants as cause
+use Rattle.iv_track.specs.Tracked.{most_records}
 use Rattle.iv_fasta.specs.Fasta as fasta
 use Rattle.iv_view.specs.Views.{view_code}
 use Rattle.iv_view.specs.declared.fault.ViewFault.{ViewFault}
@@ -15,6 +16,8 @@ use Rattle.iv_view.specs.declared.fault.ViewFault.TheVariants as viewing
 use Rattle.iv_state.specs.States.{State, begun}
 use Rattle.iv_state.specs.declared.fault.PrintFault.{PrintFault}
 use Rattle.iv_state.specs.declared.fault.PrintFault.TheVariants as printing
+use Rattle.iv_sweep.specs.declared.fault.SweepFault.{SweepFault}
+use Rattle.iv_sweep.specs.declared.fault.SweepFault.TheVariants as sweeping
 use Rattle.iv_cli.specs.declared.fault.CliFault.{CliFault}
 use Rattle.iv_cli.specs.declared.fault.CliFault.TheVariants.{Words, Damaged, Output, Memory}
 use Rattle.iv_cli.specs.declared.plan.Slot.{Slot}
@@ -39,6 +42,11 @@ fault_of_print printing.NoMemory = Memory
 fault_of_print printing.Write = Output
 fault_of_print printing.NoView = Words 21
 
+-- how a fault of a print in one sweep is told
+abbrev pub fault_of_sweep : SweepFault → CliFault
+fault_of_sweep sweeping.NoMemory = Memory
+fault_of_sweep sweeping.Write = Output
+
 -- what the files of a run say, and how many records each track of them may hold
 pub record Parsed : Type 0 where
   pub genome : Sequences
@@ -53,7 +61,7 @@ pub record FitTogether (genome : Sequences) (first : Bed) (second : Option Bed) 
   pub few : length first.rows ≤ limit
   pub second_fit : IfSome second (λ file. All (Fits genome file.width) file.rows)
   pub second_few : IfSome second (λ file. length file.rows ≤ limit)
-  pub bounded : limit ≤ 4000000
+  pub bounded : limit ≤ most_records
 
 -- what a BED file says that may be left out
 abbrev pub second_of : Sequences → ℕ → ℕ → Option (List ℕ) → Result (Option Bed) LoadFault

@@ -1,12 +1,13 @@
 -- What a run of one subcommand prints.
-use Rattle.std.specs.Prelude.{◌≡◌, ℕ, Bool, All, List, [], Option, None, Some, Result, Ok, Err}
-use Rattle.std.specs.Option.{is_some, unwrap_or}
+use Rattle.std.specs.Prelude.{◌≡◌, ℕ, All, List, [], Option, None, IfSome, Result, Ok, Err}
+use Rattle.std.specs.Option.{is_some, option_map, unwrap_or}
 use Rattle.iv_bytes.specs.Sinks.{SinkState, Takes, FailsIn}
 use Rattle.iv_text.specs.BedFile.{Bed}
 use Rattle.iv_text.specs.Genome.{Sequences}
 use Rattle.iv_text.specs.Ordered.{ordered, AreInOrder}
 use Rattle.iv_text.specs.Read.{LiesOn}
 use Rattle.iv_text.specs.Row.{Row}
+use Rattle.iv_text.specs.declared.fault.LoadFault.{LoadFault}
 use Rattle.iv_view.specs.Views.{read_words, view_code, view_text}
 use Rattle.iv_view.specs.declared.view.View.{View}
 use Rattle.iv_view.specs.declared.fault.ViewFault.{ViewFault}
@@ -19,8 +20,7 @@ use Rattle.iv_cli.specs.Words.{RunPlan}
 
 -- the records of a second file in track order, none without one
 abbrev pub ordered_other : Option Bed → List Row
-ordered_other None = []
-ordered_other (Some file) = ordered file.rows
+ordered_other second = unwrap_or (option_map (λ file. ordered file.rows) second) []
 
 -- the view that words ask for beside these files, at the width of the records
 abbrev pub view_beside : Parsed → List (List ℕ) → Result View ViewFault
@@ -62,27 +62,41 @@ Shows old new (Err fault.Memory) said = new ≡ old
 Shows old new (Err (fault.Words code)) said = (said ≡ Err (fault.Words code)) × (new ≡ old)
 Shows old new (Err (fault.Damaged slot damage)) said = (said ≡ Err (fault.Damaged slot damage)) × (new ≡ old)
 
--- a genome, the records of the first BED file in the order of a track, and those of the second, none without one
--- (of a run by one sweep; no part of what is promised)
+-- a genome, the records of the first BED file in the order of a track, and those of the second, where there is one
+-- (from here on: of a run by one sweep, and no part of what is promised)
 pub record Sorted : Type 0 where
   pub genome : Sequences
   pub width : ℕ
   pub rows : List Row
-  pub others : List Row
+  pub others : Option (List Row)
 
 -- the records stand in order, and those of the first file lie on the genome
 pub record AreInPlace (s : Sorted) : Type 0 where
   pub order : AreInOrder s.rows
   pub lying : All (LiesOn s.genome) s.rows
-  pub others : AreInOrder s.others
+  pub others : IfSome s.others AreInOrder
 
--- they are what files say, with a second BED file or without, and without a FASTA file
-pub record AreSorted (said : Result Parsed CliFault) (beside : Bool) (s : Sorted) : Type 0 where
-  pub files : Parsed
-  pub are : said ≡ Ok files
-  pub genome : s.genome ≡ files.genome
-  pub width : s.width ≡ files.first.width
-  pub rows : s.rows ≡ ordered files.first.rows
-  pub others : s.others ≡ ordered_other files.second
-  pub second : is_some files.second ≡ beside
-  pub bases : files.bases ≡ None
+-- a BED file, its records in the order of a track
+abbrev pub sorted_file : Bed → Bed
+sorted_file file = record file { rows = ordered file.rows }
+
+-- a sound BED file, sorted
+abbrev pub IsSorted : Result Bed LoadFault → Bed → Type 0
+IsSorted said sorted = (file : Bed) × (said ≡ Ok file) × (sorted ≡ sorted_file file)
+
+-- a sound BED file that may be left out, sorted
+abbrev pub AreSortedOthers : Result (Option Bed) LoadFault → Option Bed → Type 0
+AreSortedOthers said sorted = (second : Option Bed) × (said ≡ Ok second) × (sorted ≡ option_map sorted_file second)
+
+-- what files say, their records in the order of a track
+abbrev pub sorted_of : Parsed → Sorted
+sorted_of files = record {
+  genome = files.genome;
+  width = files.first.width;
+  rows = ordered files.first.rows;
+  others = option_map (λ file. ordered file.rows) files.second;
+}
+
+-- sound files, without a FASTA file, sorted
+abbrev pub AreSorted : Result Parsed CliFault → Sorted → Type 0
+AreSorted said s = (files : Parsed) × (said ≡ Ok files) × (s ≡ sorted_of files) × (files.bases ≡ None)

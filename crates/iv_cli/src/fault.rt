@@ -2,6 +2,7 @@
 use crate::plan::Slot;
 use iv_bytes::{ReadFault, WriteFault};
 use iv_session::{PrintFault, ViewFault};
+use iv_sweep::SweepFault;
 use iv_text::{LoadCause, LoadFault};
 use std::alloc::AllocError;
 use thiserror::Error;
@@ -110,6 +111,20 @@ impl From<PrintFault> for CliFault {
             PrintFault::NoMemory => CliFault::Memory,
             PrintFault::Write => CliFault::Output,
             PrintFault::NoView => CliFault::Words(21),
+        }
+    }
+}
+
+impl From<SweepFault> for CliFault {
+    ghost use Rattle.std.specs.Prelude.{◌≡◌};
+    ghost use Rattle.iv_cli.specs.Loading.{fault_of_sweep};
+
+    ghost from_gives = { λ told fault. fault ≡ fault_of_sweep told };
+
+    fn from(told: SweepFault) -> CliFault {
+        match told {
+            SweepFault::NoMemory => CliFault::Memory,
+            SweepFault::Write => CliFault::Output,
         }
     }
 }

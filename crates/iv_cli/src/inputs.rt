@@ -3,6 +3,7 @@ ghost use Rattle.std.specs.Prelude.{◌≡◌, ◌≤◌, ◌⊎◌, All, length
 ghost use Rattle.std.specs.Option.{option_copied, option_map};
 ghost use Rattle.iv_text.specs.Read.{Fits};
 ghost use Rattle.iv_text.specs.declared.fault.LoadCause.TheVariants as cause;
+ghost use Rattle.iv_track.specs.Tracked.{most_records};
 ghost use Rattle.iv_state.specs.States.{begun};
 ghost use Rattle.iv_cli.specs.Loading.{second_of, bases_said, parsed, loaded};
 
@@ -95,7 +96,7 @@ impl<A: Allocator + Copy> ParsedFiles<A> {
         bases: Option<Vec<u8, A>>,
         limit: u32,
     ) -> Result<ParsedFiles<A>, CliFault>
-        requires { limit ≤ 4000000 }
+        requires { limit ≤ most_records }
         ensures ok { IfOk result (λ files.
             parsed plan.now.width inputs.now.sizes.now inputs.now.first.now (option_copied inputs.now.other) (option_map (λ text. text.items) bases) limit ≡ Ok files) }
         ensures err { IfErr result (λ fault. (fault ≡ CliFault.Memory) ⊎
@@ -155,7 +156,7 @@ pub fn load<A: Allocator + Copy>(
     bases: Option<Vec<u8, A>>,
     limit: u32,
 ) -> Result<Session<A>, CliFault>
-    requires { limit ≤ 4000000 }
+    requires { limit ≤ most_records }
     ensures ok { IfOk result (λ session.
         loaded plan.now.width inputs.now.sizes.now inputs.now.first.now (option_copied inputs.now.other) (option_map (λ text. text.items) bases) limit ≡ Ok session) }
     ensures err { IfErr result (λ fault. (fault ≡ CliFault.Memory) ⊎

@@ -12,8 +12,7 @@ mod one_shot;
 mod plan;
 mod reading;
 mod run;
-mod sorted_file;
-mod sorted_pair;
+mod sorted_files;
 
 pub use ending::{Ending, run_status, status};
 pub use fault::{CliFault, FileFault};

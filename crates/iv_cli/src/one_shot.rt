@@ -1,17 +1,15 @@
 //! A run of one subcommand, without a script.
-ghost use Rattle.std.specs.Prelude.{◌≡◌, ◌<◌, ◌≤◌, ◌^◌, [], None, Some, IsTrue, length, map};
+ghost use Rattle.std.specs.Prelude.{◌≡◌, ◌<◌, ◌≤◌, ◌^◌, [], None, IfSome, IsTrue, length, map};
 ghost use Rattle.std.specs.Option.{option_copied, option_map};
+ghost use Rattle.iv_track.specs.Tracked.{most_records};
 ghost use Rattle.iv_cli.specs.Shots.{Shows, shown, shown_in};
 
 use crate::fault::CliFault;
 use crate::inputs::{Inputs, load};
 use crate::plan::Plan;
-use crate::run::Run;
-use crate::sorted_file::SortedFile;
-use crate::sorted_pair::SortedPair;
+use crate::sorted_files::SortedFiles;
 use iv_bytes::Sink;
-use iv_session::{Session, ViewWords};
-use iv_sweep::{CoverageSweep, PairedSweep, Sweep, merge_options};
+use iv_session::{Session, ViewWords, WrittenView};
 use std::alloc::Allocator;
 use std::mem;
 
@@ -35,20 +33,22 @@ pub fn shot<A: Allocator + Copy, S: Sink>(
     limit: u32,
     sink: &mut S,
 ) -> Result<(), CliFault>
-    requires { limit ≤ 4000000 }
+    requires { limit ≤ most_records }
     ensures { Shows (S.state sink.old) (S.state sink.new) result
         (shown plan.now inputs.now.sizes.now inputs.now.first.now (option_copied inputs.now.other) (option_map (λ text. text.items) bases) limit) }
 {
-    if bases.is_some() || !is_short(inputs.first) {
-        return shot_by_session(alloc, plan, inputs, bases, limit, sink);
+    if bases.is_none() && are_short(inputs) {
+        return shot_by_sweep(alloc, plan, inputs, limit, sink);
     }
-    match inputs.other {
-        None if may_be_swept(plan.run()) => shot_by_sweep(alloc, plan, inputs, limit, sink),
-        Some(other) if may_be_paired(plan.run()) && is_short(other) => {
-            shot_by_paired_sweep(alloc, plan, inputs, other, limit, sink)
-        }
-        _ => shot_by_session(alloc, plan, inputs, None, limit, sink),
-    }
+    shot_by_session(alloc, plan, inputs, bases, limit, sink)
+}
+
+/// Whether the places of the lines of both BED files are numbers of 32 bits.
+fn are_short(inputs: &Inputs<'_>) -> bool
+    ensures { IsTrue result → (length inputs.now.first.now < 2 ^ 32) × IfSome (option_copied inputs.now.other) (λ text. length text < 2 ^ 32) }
+{
+    let other = inputs.other.unwrap_or(b"");
+    is_short(inputs.first) && is_short(other)
 }
 
 /// Whether the places of a text's lines are numbers of 32 bits.
@@ -58,20 +58,7 @@ fn is_short(text: &[u8]) -> bool
     text.len() <= u32::MAX as usize
 }
 
-/// Whether a view of this kind may have a sweep over the records of one file.
-fn may_be_swept(run: Run) -> bool {
-    matches!(
-        run,
-        Run::Merge | Run::Cluster | Run::Complement | Run::Genomecov
-    )
-}
-
-/// Whether a view of this kind may have a sweep over the records of two files.
-fn may_be_paired(run: Run) -> bool {
-    matches!(run, Run::Intersect | Run::Subtract)
-}
-
-/// Prints what the plan's subcommand shows, in one sweep over the records of the first file where its view has one.
+/// Prints what the plan's subcommand shows, in one sweep over the sorted records of the files where its view has one.
 fn shot_by_sweep<A: Allocator + Copy, S: Sink>(
     alloc: A,
     plan: &Plan<'_, A>,
@@ -79,51 +66,21 @@ fn shot_by_sweep<A: Allocator + Copy, S: Sink>(
     limit: u32,
     sink: &mut S,
 ) -> Result<(), CliFault>
-    requires few { limit ≤ 4000000 }
-    requires alone { option_copied inputs.now.other ≡ None }
-    requires small { length inputs.now.first.now < 2 ^ 32 }
+    requires few { limit ≤ most_records }
+    requires first { length inputs.now.first.now < 2 ^ 32 }
+    requires other { IfSome (option_copied inputs.now.other) (λ text. length text < 2 ^ 32) }
     ensures { Shows (S.state sink.old) (S.state sink.new) result
         (shown plan.now inputs.now.sizes.now inputs.now.first.now (option_copied inputs.now.other) None limit) }
 {
-    let file = SortedFile::read(alloc, plan, inputs.sizes, inputs.first, limit)?;
-    let view = ViewWords::read(alloc, file.width(), false, false, plan.view_words())?;
-    if let Some(sweep) = CoverageSweep::of(&view) {
-        return file.print_depth(alloc, sweep, sink);
-    }
-    if let Some(sweep) = Sweep::of(&view) {
-        file.print(sweep, sink)?;
-        return Ok(());
-    }
-    match merge_options(&view) {
-        Some(options) => file.print_merge(alloc, options, sink),
-        None => shot_by_session(alloc, plan, inputs, None, limit, sink),
-    }
-}
-
-/// Prints what the plan's subcommand shows, in one sweep over the records of both files where its view has one.
-fn shot_by_paired_sweep<A: Allocator + Copy, S: Sink>(
-    alloc: A,
-    plan: &Plan<'_, A>,
-    inputs: &Inputs<'_>,
-    other: &[u8],
-    limit: u32,
-    sink: &mut S,
-) -> Result<(), CliFault>
-    requires few { limit ≤ 4000000 }
-    requires beside { option_copied inputs.now.other ≡ Some other.now }
-    requires small { (length inputs.now.first.now < 2 ^ 32) × (length other.now < 2 ^ 32) }
-    ensures { Shows (S.state sink.old) (S.state sink.new) result
-        (shown plan.now inputs.now.sizes.now inputs.now.first.now (option_copied inputs.now.other) None limit) }
-{
-    let files = SortedPair::read(alloc, plan, inputs.sizes, inputs.first, other, limit)?;
-    let view = ViewWords::read(alloc, files.width(), true, false, plan.view_words())?;
-    match PairedSweep::of(&view) {
-        Some(sweep) => {
-            let mut pairs = files.sweep(alloc)?;
-            sweep.print(&mut pairs, files.genome(), sink)?;
-            Ok(())
+    let files = SortedFiles::read(alloc, plan, inputs, limit)?;
+    let has_second = files.has_second();
+    let view = ViewWords::read(alloc, files.width(), has_second, false, plan.view_words())?;
+    match view {
+        ViewWords::Kept(view) => Ok(files.print_kept(alloc, view, sink)?),
+        ViewWords::Written(WrittenView::Paired(rows)) => Ok(files.print_pairs(alloc, rows, sink)?),
+        ViewWords::Written(WrittenView::Getfasta(_)) => {
+            shot_by_session(alloc, plan, inputs, None, limit, sink)
         }
-        None => shot_by_session(alloc, plan, inputs, None, limit, sink),
     }
 }
 
@@ -136,7 +93,7 @@ fn shot_by_session<A: Allocator + Copy, S: Sink>(
     limit: u32,
     sink: &mut S,
 ) -> Result<(), CliFault>
-    requires { limit ≤ 4000000 }
+    requires { limit ≤ most_records }
     ensures { Shows (S.state sink.old) (S.state sink.new) result
         (shown plan.now inputs.now.sizes.now inputs.now.first.now (option_copied inputs.now.other) (option_map (λ text. text.items) bases) limit) }
 {

@@ -4,7 +4,6 @@ use Rattle.std.specs.List.{flat_map}
 use Rattle.iv_text.specs.Genome.{Sequences}
 use Rattle.iv_text.specs.RecordText.{record_text}
 use Rattle.iv_text.specs.Row.{Row, part}
-use Rattle.iv_pair.specs.Hits.{hits_of}
 use Rattle.iv_pair.specs.declared.intersect.IntersectRows.{IntersectRows}
 use Rattle.iv_pair.specs.declared.intersect.IntersectRows.TheVariants.{Shared, SharedAndHit, Whole, WholeAndHit, IfHit, IfNoHit, Count}
 
@@ -39,7 +38,3 @@ intersect_rows WholeAndHit g a found = flat_map (λ b. pair_line g a b) found
 intersect_rows IfHit g a found = any_line g a found
 intersect_rows IfNoHit g a found = none_line g a found
 intersect_rows Count g a found = record_text g a ++ (codes "\t" ++ (decimal (length found) ++ codes "\n"))
-
--- all rows: those of each record of the first list, in its order
-abbrev pub intersect_text : IntersectRows → Sequences → List Row → List Row → List ℕ
-intersect_text shown g rows second = flat_map (λ a. intersect_rows shown g a (hits_of second a)) rows

@@ -16,7 +16,3 @@ uncovered_rows g a second =
 -- the rows of a record: where only whole records are taken away, the record if it has no hit
 abbrev pub subtract_rows : Bool → Sequences → Row → List Row → List ℕ
 subtract_rows whole g a second = if whole then none_line g a (hits_of second a) else uncovered_rows g a second
-
--- all rows: those of each record of the first list, in its order
-abbrev pub subtract_text : Bool → Sequences → List Row → List Row → List ℕ
-subtract_text whole g rows second = flat_map (λ a. subtract_rows whole g a second) rows

@@ -18,6 +18,6 @@ pub use intersect::{IntersectRows, put_intersect};
 pub use iv_fasta::{Fasta, FastaRows, complement, print_fasta, put_fasta};
 pub use laws::{overlap_is_a_shared_position, uncovered_parts_are_maximal};
 pub use pair_rows::{PairRows, put_pair_rows};
-pub use printing::{print_intersect, print_subtract};
+pub use printing::print_pairs;
 pub use second::Second;
 pub use subtract::put_subtract;

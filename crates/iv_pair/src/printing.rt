@@ -1,66 +1,18 @@
 //! The rows of an intersect and of a subtract, of all records of a track.
 ghost use Rattle.iv_bytes.specs.Sinks.{Puts};
-ghost use Rattle.iv_pair.specs.IntersectRows.{intersect_text};
 ghost use Rattle.iv_pair.specs.PairRows.{pair_text};
-ghost use Rattle.iv_pair.specs.SubtractRows.{subtract_text};
 
 use crate::finder::Finder;
-use crate::intersect::IntersectRows;
 use crate::pair_rows::{PairRows, put_pair_rows};
 use crate::second::Second;
 use iv_text::{Genome, Sink, WriteFault};
 use iv_track::{Meter, Track};
 use std::alloc::Allocator;
 
-/// Puts the rows of an intersect: those of each record of the track, in its order.
+/// Puts the rows of each record of the track, in its order, as bedtools intersect or subtract does.
 ///
 /// One walk over the track, and no memory. On a fault the sink has taken a prefix of the text.
-pub fn print_intersect<A: Allocator + Copy, S: Sink>(
-    shown: IntersectRows,
-    track: &Track<A>,
-    second: &Second<A>,
-    genome: &Genome<A>,
-    meter: &mut Meter,
-    sink: &mut S,
-) -> Result<(), WriteFault>
-    ensures { Puts (S.state sink.old) (S.state sink.new) result (intersect_text shown genome.now track.now.rows second.now.rows) }
-{
-    print_rows(
-        PairRows::Intersect(shown),
-        track,
-        second,
-        genome,
-        meter,
-        sink,
-    )
-}
-
-/// Puts the rows of a subtract: those of each record of the track, in its order, as bedtools subtract does.
-///
-/// They are what no record of the second file covers, with the record's other columns; or where `whole`, `-A`, the records
-/// without a hit. One walk over the track, and no memory. On a fault the sink has taken a prefix of the text.
-pub fn print_subtract<A: Allocator + Copy, S: Sink>(
-    whole: bool,
-    track: &Track<A>,
-    second: &Second<A>,
-    genome: &Genome<A>,
-    meter: &mut Meter,
-    sink: &mut S,
-) -> Result<(), WriteFault>
-    ensures { Puts (S.state sink.old) (S.state sink.new) result (subtract_text whole genome.now track.now.rows second.now.rows) }
-{
-    print_rows(
-        PairRows::Subtract(whole),
-        track,
-        second,
-        genome,
-        meter,
-        sink,
-    )
-}
-
-/// Puts the rows of each record of the track, in its order.
-fn print_rows<A: Allocator + Copy, S: Sink>(
+pub fn print_pairs<A: Allocator + Copy, S: Sink>(
     rows: PairRows,
     track: &Track<A>,
     second: &Second<A>,

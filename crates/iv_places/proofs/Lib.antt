@@ -1,3 +1,4 @@
 pub mod PlaceLemmas
 pub mod ReadingLemmas
 pub mod OrderLemmas
+pub mod SortedLemmas

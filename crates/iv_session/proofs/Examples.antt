@@ -25,6 +25,7 @@ use Rattle.iv_view.specs.declared.view.KeptView.TheVariants as kept
 use Rattle.iv_view.specs.declared.written_view.WrittenView.TheVariants as written
 use Rattle.iv_pair.specs.Hits.{hits_of}
 use Rattle.iv_pair.specs.declared.intersect.IntersectRows.TheVariants as rows
+use Rattle.iv_pair.specs.declared.pair_rows.PairRows.TheVariants as pair
 use Rattle.iv_track.specs.Tracked.{Tracked}
 
 abbrev g : Sequences
@@ -148,7 +149,7 @@ other = record {
 }
 
 abbrev beside : State
-beside = record with_one { second = Some other; views = (codes "v", record { view = view.Written (written.Intersect rows.IfNoHit); stale = false }) ∷ [] }
+beside = record with_one { second = Some other; views = (codes "v", record { view = view.Written (written.Paired (pair.Intersect rows.IfNoHit)); stale = false }) ∷ [] }
 
 pub bad_words-come_before_the_file : opened empty (codes "i") (codes "intersect" ∷ codes "-u" ∷ codes "-v" ∷ []) ≡ Err fault.Words
 bad_words-come_before_the_file = refl
@@ -156,7 +157,7 @@ bad_words-come_before_the_file = refl
 pub no_second-is_told : opened empty (codes "i") (codes "intersect" ∷ codes "-c" ∷ codes "-wa" ∷ []) ≡ Err fault.NoSecond
 no_second-is_told = refl
 
-pub options-go_in_any_order : opened (record empty { second = Some other }) (codes "i") (codes "intersect" ∷ codes "-wb" ∷ codes "-wa" ∷ []) ≡ Ok (view.Written (written.Intersect rows.WholeAndHit))
+pub options-go_in_any_order : opened (record empty { second = Some other }) (codes "i") (codes "intersect" ∷ codes "-wb" ∷ codes "-wa" ∷ []) ≡ Ok (view.Written (written.Paired (pair.Intersect rows.WholeAndHit)))
 options-go_in_any_order = refl
 
 pub records_with_a_hit-are_left_out : all_text beside ≡ codes "#v\n"

@@ -11,6 +11,7 @@ mod script;
 
 pub use iv_state::{Accepted, EditFault, NoView, PrintFault, Session};
 pub use iv_view::{
-    DepthRows, FastaRows, IntersectRows, KeptView, View as ViewWords, ViewFault, WrittenView,
+    DepthRows, FastaRows, IntersectRows, KeptView, PairRows, View as ViewWords, ViewFault,
+    WrittenView,
 };
 pub use script::{RunCause, RunFault, ScriptLimits, Summary, run_script};

@@ -3,6 +3,7 @@ ghost use Rattle.std.specs.Prelude.{◌≡◌, ◌+◌, ◌≤◌, ◌<◌, ◌�
 ghost use Rattle.iv_text.specs.Ordered.{added, copies};
 ghost use Rattle.iv_text.specs.Read.{read, Fits};
 ghost use Rattle.iv_bytes.specs.Sinks.{Puts};
+ghost use Rattle.iv_track.specs.Tracked.{most_records};
 ghost use Rattle.iv_state.specs.Edits.{RefusesAdd, RefusesRemove, RefusesReplace};
 ghost use Rattle.iv_state.specs.Keeping.{all_seen};
 ghost use Rattle.iv_state.specs.OpenViews.{all_steps, stale_count};
@@ -77,7 +78,7 @@ fn second_of<A: Allocator + Copy>(
 ) -> Result<Option<Second<A>>, AllocError>
     requires widths { IfSome file (λ f. All (λ r. r.width ≡ f.width) f.rows) }
     requires few { IfSome file (λ f. length f.rows ≤ limit) }
-    requires bounded { limit ≤ 4000000 }
+    requires bounded { limit ≤ most_records }
     ensures value { IfOk result (λ second. second ≡ option_map (λ f. tracked f limit) file) }
     ensures known { IfSome file (λ f. (3 ≤ f.width) × (f.width ≤ 6)) }
 {
@@ -103,7 +104,7 @@ impl<A: Allocator + Copy> Session<A> {
         requires few { length first.rows ≤ limit }
         requires second_fit { IfSome second (λ file. All (Fits genome file.width) file.rows) }
         requires second_few { IfSome second (λ file. length file.rows ≤ limit) }
-        requires bounded { limit ≤ 4000000 }
+        requires bounded { limit ≤ most_records }
         ensures { IfOk result (λ s. s ≡ begun genome first second fasta limit) }
     {
         let width = first.width();

@@ -1,1 +1,1 @@
-pub mod Sweeping
+pub mod Prints

@@ -6,7 +6,6 @@
 mod beside;
 mod hits;
 mod pair_sweep;
-mod sweeping;
+mod printing;
 
 pub use pair_sweep::PairSweep;
-pub use sweeping::{sweep_intersect, sweep_subtract};

@@ -15,10 +15,10 @@ use Rattle.iv_view.specs.Subtract.{is_whole}
 use Rattle.iv_view.specs.Views.{read_words, or_bad_words, as_merge, beside_second, beside_fasta, needs_second}
 use Rattle.iv_blocks.specs.declared.options.Options.{Options}
 use Rattle.iv_fasta.specs.declared.rows.FastaRows.{FastaRows}
+use Rattle.iv_pair.specs.declared.pair_rows.PairRows.{PairRows}
 use Rattle.iv_view.specs.declared.fault.ViewFault.{ViewFault}
 use Rattle.iv_view.specs.declared.view.View.{View}
 use Rattle.iv_view.specs.declared.view.KeptView.{KeptView}
-use Rattle.iv_view.specs.declared.written_view.WrittenView.{WrittenView}
 use Rattle.iv_view.proofs.FlagLemmas.{flag-cut}
 use Rattle.iv_view.proofs.RowLemmas.{intersect_others, getfasta_others}
 
@@ -143,10 +143,10 @@ served-kept : (has_second : Bool) (asked : Option KeptView) → IsServed has_sec
 served-kept has_second None = tt
 served-kept has_second (Some v) = λ needs. absurd (cc needs)
 
-served-written : (has_second : Bool) (asked : Option WrittenView) → IsServed has_second (beside_second has_second asked)
-served-written has_second None = tt
-served-written true (Some v) = λ needs. refl
-served-written false (Some v) = tt
+served-paired : (has_second : Bool) (asked : Option PairRows) → IsServed has_second (beside_second has_second asked)
+served-paired has_second None = tt
+served-paired true (Some rows) = λ needs. refl
+served-paired false (Some rows) = tt
 
 served-fasta : (width : ℕ) (has_second has_bases : Bool) (asked : Option FastaRows) → IsServed has_second (beside_fasta width has_bases asked)
 served-fasta width has_second has_bases None = tt
@@ -161,8 +161,8 @@ served width has_second has_bases (word ∷ words) =
     (served-either has_second (bytes_eq word (codes "cluster")) _ _ (served-kept has_second _)
     (served-either has_second (bytes_eq word (codes "complement")) _ _ (served-kept has_second _)
     (served-either has_second (bytes_eq word (codes "genomecov")) _ _ (served-kept has_second _)
-    (served-either has_second (bytes_eq word (codes "intersect")) _ _ (served-written has_second _)
-    (served-either has_second (bytes_eq word (codes "subtract")) _ _ (served-written has_second _)
+    (served-either has_second (bytes_eq word (codes "intersect")) _ _ (served-paired has_second _)
+    (served-either has_second (bytes_eq word (codes "subtract")) _ _ (served-paired has_second _)
     (served-either has_second (bytes_eq word (codes "getfasta")) _ _ (served-fasta width has_second has_bases _) tt))))))
 
 pub needs-there : (width : ℕ) (has_second has_bases : Bool) (words : List (List ℕ)) (v : View)

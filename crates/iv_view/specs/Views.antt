@@ -12,8 +12,9 @@ use Rattle.iv_depth.specs.DepthRows.{depth_text}
 use Rattle.iv_fasta.specs.Fasta.{Bases}
 use Rattle.iv_fasta.specs.FastaRows.{fasta_text}
 use Rattle.iv_fasta.specs.declared.rows.FastaRows.{FastaRows}
-use Rattle.iv_pair.specs.IntersectRows.{intersect_text}
-use Rattle.iv_pair.specs.SubtractRows.{subtract_text}
+use Rattle.iv_pair.specs.PairRows.{pair_text}
+use Rattle.iv_pair.specs.declared.pair_rows.PairRows.{PairRows}
+use Rattle.iv_pair.specs.declared.pair_rows.PairRows.TheVariants as pair
 use Rattle.iv_track.specs.Tracked.{Tracked}
 use Rattle.iv_view.specs.Complement.{is_limited}
 use Rattle.iv_view.specs.Genomecov.{genomecov_rows}
@@ -33,8 +34,7 @@ use Rattle.iv_view.specs.declared.fault.ViewFault.TheVariants as fault
 -- the view is written with the records of a second file
 abbrev pub needs_second : View → Bool
 needs_second (view.Kept v) = false
-needs_second (view.Written (written.Intersect shown)) = true
-needs_second (view.Written (written.Subtract whole)) = true
+needs_second (view.Written (written.Paired rows)) = true
 needs_second (view.Written (written.Getfasta shown)) = false
 
 -- the view of which a state is kept, or bad words where there is none
@@ -47,9 +47,9 @@ as_merge (Err why) = Err why
 as_merge (Ok options) = Ok (view.Kept (kept.Merge options))
 
 -- the view that needs a second file: bad words where there is none, and then a fault where there is no such file
-abbrev pub beside_second : Bool → Option WrittenView → Result View ViewFault
+abbrev pub beside_second : Bool → Option PairRows → Result View ViewFault
 beside_second has_second None = Err fault.Words
-beside_second has_second (Some asked) = if has_second then Ok (view.Written asked) else Err fault.NoSecond
+beside_second has_second (Some rows) = if has_second then Ok (view.Written (written.Paired rows)) else Err fault.NoSecond
 
 -- the view that needs a FASTA file, on a track of this width: bad words where there is none, then a fault where there are no strands
 -- to show, and then one where there is no such file
@@ -68,8 +68,8 @@ read_words width has_second has_bases (word ∷ words) =
     else if bytes_eq word (codes "cluster") then or_bad_words (option_map kept.Cluster (cluster_distance (said_by words nothing_said)))
     else if bytes_eq word (codes "complement") then or_bad_words (option_map kept.Complement (is_limited words))
     else if bytes_eq word (codes "genomecov") then or_bad_words (option_map kept.Genomecov (genomecov_rows words))
-    else if bytes_eq word (codes "intersect") then beside_second has_second (option_map written.Intersect (intersect_rows_said words))
-    else if bytes_eq word (codes "subtract") then beside_second has_second (option_map written.Subtract (is_whole words))
+    else if bytes_eq word (codes "intersect") then beside_second has_second (option_map pair.Intersect (intersect_rows_said words))
+    else if bytes_eq word (codes "subtract") then beside_second has_second (option_map pair.Subtract (is_whole words))
     else if bytes_eq word (codes "getfasta") then beside_fasta width has_bases (fasta_rows_said words)
     else Err fault.Words
 
@@ -82,8 +82,7 @@ kept_text (kept.Genomecov shown) g rows = depth_text shown g rows
 
 -- the text of a view that is written from these records, those of the second file and these bases
 abbrev pub written_text : WrittenView → Sequences → List Row → List Row → Bases → List ℕ
-written_text (written.Intersect shown) g rows second bases = intersect_text shown g rows second
-written_text (written.Subtract whole) g rows second bases = subtract_text whole g rows second
+written_text (written.Paired shown) g rows second bases = pair_text shown g rows second
 written_text (written.Getfasta shown) g rows second bases = fasta_text shown g bases rows
 
 -- the records of a second file: none without one

@@ -19,7 +19,7 @@ mod written_view;
 pub use fault::ViewFault;
 pub use iv_blocks::{Options, Summaries};
 pub use iv_depth::DepthRows;
-pub use iv_pair::{FastaRows, IntersectRows};
+pub use iv_pair::{FastaRows, IntersectRows, PairRows};
 pub use kept_state::{Keeping, KeptState};
 pub use view::{KeptView, View};
 pub use words::Words;

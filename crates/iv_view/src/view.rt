@@ -13,7 +13,7 @@ use crate::subtract::read_subtract;
 use crate::written_view::WrittenView;
 use iv_blocks::Options;
 use iv_depth::DepthRows;
-use iv_pair::FastaRows;
+use iv_pair::{FastaRows, PairRows};
 use std::alloc::Allocator;
 
 /// A view of a track, with its options.
@@ -64,15 +64,9 @@ impl View {
         } else if *word == b"genomecov".as_slice() {
             or_bad_words(read_genomecov(options).map(KeptView::Genomecov))
         } else if *word == b"intersect".as_slice() {
-            beside_second(
-                has_second,
-                read_intersect(options).map(WrittenView::Intersect),
-            )
+            beside_second(has_second, read_intersect(options).map(PairRows::Intersect))
         } else if *word == b"subtract".as_slice() {
-            beside_second(
-                has_second,
-                read_subtract(options).map(WrittenView::Subtract),
-            )
+            beside_second(has_second, read_subtract(options).map(PairRows::Subtract))
         } else if *word == b"getfasta".as_slice() {
             beside_fasta(width, has_bases, read_getfasta(options))
         } else {
@@ -86,7 +80,7 @@ impl View {
     {
         match self {
             View::Kept(_) | View::Written(WrittenView::Getfasta(_)) => false,
-            View::Written(WrittenView::Intersect(_) | WrittenView::Subtract(_)) => true,
+            View::Written(WrittenView::Paired(_)) => true,
         }
     }
 }
@@ -100,14 +94,14 @@ fn or_bad_words(view: Option<KeptView>) -> Result<View, ViewFault>
 
 /// The view that needs a second file: a fault of the words where they ask for none, and then one where there is no second
 /// file.
-fn beside_second(has_second: bool, view: Option<WrittenView>) -> Result<View, ViewFault>
-    ensures { result ≡ beside_a_second has_second view }
+fn beside_second(has_second: bool, asked: Option<PairRows>) -> Result<View, ViewFault>
+    ensures { result ≡ beside_a_second has_second asked }
 {
-    let Some(asked) = view else {
+    let Some(rows) = asked else {
         return Err(ViewFault::Words);
     };
     if has_second {
-        Ok(View::Written(asked))
+        Ok(View::Written(WrittenView::Paired(rows)))
     } else {
         Err(ViewFault::NoSecond)
     }

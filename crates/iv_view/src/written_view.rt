@@ -5,9 +5,7 @@ ghost use Rattle.iv_bytes.specs.Sinks.{Puts};
 ghost use Rattle.iv_view.specs.Views.{needs_second, second_rows, written_text};
 ghost use Rattle.iv_view.specs.declared.view.View.TheVariants.{Written};
 
-use iv_pair::{
-    Fasta, FastaRows, IntersectRows, Second, print_fasta, print_intersect, print_subtract,
-};
+use iv_pair::{Fasta, FastaRows, PairRows, Second, print_fasta, print_pairs};
 use iv_text::{Genome, Sink, WriteFault};
 use iv_track::{Meter, Track};
 use std::alloc::Allocator;
@@ -15,11 +13,8 @@ use std::alloc::Allocator;
 /// A view that is written from the records at each print.
 #[derive(Clone, Copy, Debug, PartialEq, Eq)]
 pub enum WrittenView {
-    /// `intersect`: the records of the track beside those of the second file that they share a position with.
-    Intersect(IntersectRows),
-    /// `subtract`: the records of the track without what the second file covers; where this is true, without the records
-    /// that share a position with one of it.
-    Subtract(bool),
+    /// `intersect` or `subtract`: the records of the track beside the second file, or without what it covers.
+    Paired(PairRows),
     /// `getfasta`: the bases of each record whose sequence the FASTA file has.
     Getfasta(FastaRows),
 }
@@ -42,12 +37,8 @@ impl WrittenView {
             (written_text self genome.now track.now.rows (second_rows (option_copied second.entry)) (unwrap_or (option_copied fasta.entry) [])) }
     {
         match self {
-            WrittenView::Intersect(shown) => match second {
-                Some(second) => print_intersect(shown, track, second, genome, meter, sink),
-                None => unreachable!(),
-            },
-            WrittenView::Subtract(whole) => match second {
-                Some(second) => print_subtract(whole, track, second, genome, meter, sink),
+            WrittenView::Paired(rows) => match second {
+                Some(second) => print_pairs(rows, track, second, genome, meter, sink),
                 None => unreachable!(),
             },
             WrittenView::Getfasta(shown) => match fasta {

@@ -1,15 +1,15 @@
 //! The rows of intersect and subtract, worked out by hand.
 use crate::fixtures::{genome, second_of, track_of};
-use crate::sweeps::{SweptRows, sweeps};
-use iv_pair::{IntersectRows, print_intersect, print_subtract};
+use crate::sweeps::sweeps;
+use iv_pair::{IntersectRows, PairRows, print_pairs};
 use iv_text::MemSink;
 use iv_track::Meter;
 use std::test::Fail;
 
-/// Whether an intersect of two files prints this.
-fn intersects(
+/// Whether a print of these rows of two files is this.
+fn prints(
     rt: &HostRuntime,
-    shown: IntersectRows,
+    rows: PairRows,
     first: &[u8],
     second: &[u8],
     want: &[u8],
@@ -18,37 +18,7 @@ fn intersects(
     let track = track_of(rt, &genome, first)?;
     let second = second_of(rt.alloc(), &genome, second)??;
     let mut sink = MemSink::new(rt.alloc(), 1000, 7)?;
-    print_intersect(
-        shown,
-        &track,
-        &second,
-        &genome,
-        &mut Meter::new(),
-        &mut sink,
-    )?;
-    Ok(sink.bytes() == want)
-}
-
-/// Whether a subtract of two files prints this.
-fn subtracts(
-    rt: &HostRuntime,
-    whole: bool,
-    first: &[u8],
-    second: &[u8],
-    want: &[u8],
-) -> Result<bool, Fail> {
-    let genome = genome(rt)?;
-    let track = track_of(rt, &genome, first)?;
-    let second = second_of(rt.alloc(), &genome, second)??;
-    let mut sink = MemSink::new(rt.alloc(), 1000, 7)?;
-    print_subtract(
-        whole,
-        &track,
-        &second,
-        &genome,
-        &mut Meter::new(),
-        &mut sink,
-    )?;
+    print_pairs(rows, &track, &second, &genome, &mut Meter::new(), &mut sink)?;
     Ok(sink.bytes() == want)
 }
 
@@ -75,11 +45,11 @@ fn seven_ways_of_intersect(rt: HostRuntime) -> Result<(), Fail> {
         (IntersectRows::Count, b"chr1\t10\t20\t2\nchr1\t30\t40\t0\n"),
     ] {
         assert!(rt;
-            intersects(&rt, shown, first, second, want)?,
+            prints(&rt, PairRows::Intersect(shown), first, second, want)?,
             "at {shown:?}"
         );
         assert!(rt;
-            sweeps(&rt, SweptRows::Intersect(shown), first, second, want)?,
+            sweeps(&rt, PairRows::Intersect(shown), first, second, want)?,
             "in a sweep, at {shown:?}"
         );
     }
@@ -112,11 +82,11 @@ fn widths_that_differ(rt: HostRuntime) -> Result<(), Fail> {
         (IntersectRows::Count, b"chr1\t10\t20\tx\t7\t-\t2\n"),
     ] {
         assert!(rt;
-            intersects(&rt, shown, first, second, want)?,
+            prints(&rt, PairRows::Intersect(shown), first, second, want)?,
             "at {shown:?}"
         );
         assert!(rt;
-            sweeps(&rt, SweptRows::Intersect(shown), first, second, want)?,
+            sweeps(&rt, PairRows::Intersect(shown), first, second, want)?,
             "in a sweep, at {shown:?}"
         );
     }
@@ -140,14 +110,25 @@ fn record_that_begins_long_before(rt: HostRuntime) -> Result<(), Fail> {
             b"chr1\t5\t6\t1\nchr1\t31\t33\t2\nchr1\t80\t90\t1\nchr2\t0\t40\t0\nchr2\t44\t50\t1\n",
         ),
     ] {
-        assert!(rt; intersects(&rt, shown, first, LONG, want)?, "at {shown:?}");
         assert!(rt;
-            sweeps(&rt, SweptRows::Intersect(shown), first, LONG, want)?,
+            prints(&rt, PairRows::Intersect(shown), first, LONG, want)?,
+            "at {shown:?}"
+        );
+        assert!(rt;
+            sweeps(&rt, PairRows::Intersect(shown), first, LONG, want)?,
             "in a sweep, at {shown:?}"
         );
     }
-    assert!(rt; subtracts(&rt, false, first, LONG, b"chr2\t0\t40\nchr2\t45\t50\n")?);
-    assert!(rt; subtracts(&rt, true, first, LONG, b"chr2\t0\t40\n")?);
+    assert!(rt;
+        prints(
+            &rt,
+            PairRows::Subtract(false),
+            first,
+            LONG,
+            b"chr2\t0\t40\nchr2\t45\t50\n"
+        )?
+    );
+    assert!(rt; prints(&rt, PairRows::Subtract(true), first, LONG, b"chr2\t0\t40\n")?);
     Ok(())
 }
 
@@ -156,9 +137,17 @@ fn copies_of_the_first_file(rt: HostRuntime) -> Result<(), Fail> {
     let first = b"chr1\t10\t20\nchr1\t10\t20\n";
     let second = b"chr1\t12\t14\n";
     let want = b"chr1\t12\t14\nchr1\t12\t14\n";
-    assert!(rt; intersects(&rt, IntersectRows::Shared, first, second, want)?);
+    assert!(rt;
+        prints(
+            &rt,
+            PairRows::Intersect(IntersectRows::Shared),
+            first,
+            second,
+            want
+        )?
+    );
     let want = b"chr1\t10\t12\nchr1\t14\t20\nchr1\t10\t12\nchr1\t14\t20\n";
-    assert!(rt; subtracts(&rt, false, first, second, want)?);
+    assert!(rt; prints(&rt, PairRows::Subtract(false), first, second, want)?);
     Ok(())
 }
 
@@ -187,18 +176,10 @@ fn both_ways_of_subtract(rt: HostRuntime) -> Result<(), Fail> {
         (b"chr1\t0\t19\nchr1\t19\t20\n", b"", b""),
         (b"", row, row),
     ] {
-        assert!(rt; subtracts(&rt, false, row, second, uncovered)?);
-        assert!(rt; subtracts(&rt, true, row, second, whole)?);
-        assert!(rt;
-            sweeps(
-                &rt,
-                SweptRows::Subtract { whole: false },
-                row,
-                second,
-                uncovered
-            )?
-        );
-        assert!(rt; sweeps(&rt, SweptRows::Subtract { whole: true }, row, second, whole)?);
+        assert!(rt; prints(&rt, PairRows::Subtract(false), row, second, uncovered)?);
+        assert!(rt; prints(&rt, PairRows::Subtract(true), row, second, whole)?);
+        assert!(rt; sweeps(&rt, PairRows::Subtract(false), row, second, uncovered)?);
+        assert!(rt; sweeps(&rt, PairRows::Subtract(true), row, second, whole)?);
     }
     Ok(())
 }

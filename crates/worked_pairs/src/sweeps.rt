@@ -3,10 +3,10 @@ ghost use Rattle.std.specs.Prelude.{IfOk};
 ghost use Rattle.iv_text.specs.Ordered.{AreInOrder};
 
 use crate::fixtures::genome;
-use iv_pair::IntersectRows;
+use iv_pair::PairRows;
 use iv_places::BedText;
-use iv_sweep_pairs::{PairSweep, sweep_intersect, sweep_subtract};
-use iv_text::{Genome, LoadCause, LoadFault, MemSink, WriteFault, one_ordered_list};
+use iv_sweep_pairs::PairSweep;
+use iv_text::{Genome, LoadCause, LoadFault, MemSink, one_ordered_list};
 use std::test::Fail;
 
 /// Puts the records of a text in order.
@@ -29,31 +29,11 @@ fn sorted<'t>(rt: &HostRuntime, genome: &Genome, text: &'t [u8]) -> Result<BedTe
     Ok(bed)
 }
 
-/// Which rows are put.
-#[derive(Clone, Copy, Debug)]
-pub(crate) enum SweptRows {
-    Intersect(IntersectRows),
-    Subtract { whole: bool },
-}
-
-/// Puts the rows of a sweep.
-fn put_swept(
-    rows: SweptRows,
-    sweep: &mut PairSweep<'_>,
-    genome: &Genome,
-    sink: &mut MemSink,
-) -> Result<(), WriteFault> {
-    match rows {
-        SweptRows::Intersect(shown) => sweep_intersect(shown, sweep, genome, sink),
-        SweptRows::Subtract { whole } => sweep_subtract(whole, sweep, genome, sink),
-    }
-}
-
 /// Whether a sweep over two texts puts this.
 fn sweeps_to(
     rt: &HostRuntime,
     genome: &Genome,
-    rows: SweptRows,
+    rows: PairRows,
     first: &BedText<'_>,
     second: &BedText<'_>,
     want: &[u8],
@@ -65,14 +45,14 @@ fn sweeps_to(
     let second = second.records();
     let mut sweep = PairSweep::new(rt.alloc(), &first, &second)?;
     let mut sink = MemSink::new(rt.alloc(), 1000, 7)?;
-    put_swept(rows, &mut sweep, genome, &mut sink)?;
+    sweep.print(rows, genome, &mut sink)?;
     Ok(sink.bytes() == want)
 }
 
 /// Whether the rows of two texts are these.
 pub(crate) fn sweeps(
     rt: &HostRuntime,
-    rows: SweptRows,
+    rows: PairRows,
     first: &[u8],
     second: &[u8],
     want: &[u8],

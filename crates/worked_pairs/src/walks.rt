@@ -1,8 +1,6 @@
 //! A print of hundreds of records beside the hits of each, searched for one by one.
 use crate::fixtures::{second_of, track_of};
-use iv_pair::{
-    IntersectRows, Second, print_intersect, print_subtract, put_intersect, put_subtract,
-};
+use iv_pair::{IntersectRows, PairRows, Second, print_pairs, put_pair_rows};
 use iv_text::{Genome, MemSink};
 use iv_track::{Meter, Track};
 use std::test::Fail;
@@ -25,43 +23,23 @@ fn sink(rt: &HostRuntime) -> Result<MemSink, Fail> {
     Ok(MemSink::new(rt.alloc(), 200_000, 1000)?)
 }
 
-/// Whether an intersect prints the rows of each record.
-fn intersects_each(
+/// Whether a print puts the rows of each record.
+fn prints_each(
     rt: &HostRuntime,
-    shown: IntersectRows,
+    rows: PairRows,
     track: &Track,
     second: &Second,
     genome: &Genome,
 ) -> Result<bool, Fail> {
     let mut one_by_one = sink(rt)?;
     let mut meter = Meter::new();
-    let mut rows = track.walk(0, 0, &mut meter);
-    while let Some(row) = rows.next(&mut meter) {
+    let mut records = track.walk(0, 0, &mut meter);
+    while let Some(row) = records.next(&mut meter) {
         let hits = second.hits(row.seq(), row.start(), row.stop());
-        put_intersect(shown, genome, row, hits, &mut one_by_one)?;
+        put_pair_rows(rows, genome, row, hits, &mut one_by_one)?;
     }
     let mut printed = sink(rt)?;
-    print_intersect(shown, track, second, genome, &mut meter, &mut printed)?;
-    Ok(printed.bytes() == one_by_one.bytes())
-}
-
-/// Whether a subtract prints the rows of each record.
-fn subtracts_each(
-    rt: &HostRuntime,
-    whole: bool,
-    track: &Track,
-    second: &Second,
-    genome: &Genome,
-) -> Result<bool, Fail> {
-    let mut one_by_one = sink(rt)?;
-    let mut meter = Meter::new();
-    let mut rows = track.walk(0, 0, &mut meter);
-    while let Some(row) = rows.next(&mut meter) {
-        let hits = second.hits(row.seq(), row.start(), row.stop());
-        put_subtract(whole, genome, row, hits, &mut one_by_one)?;
-    }
-    let mut printed = sink(rt)?;
-    print_subtract(whole, track, second, genome, &mut meter, &mut printed)?;
+    print_pairs(rows, track, second, genome, &mut meter, &mut printed)?;
     Ok(printed.bytes() == one_by_one.bytes())
 }
 
@@ -80,11 +58,11 @@ fn rows_of_hundreds_of_records(rt: HostRuntime) -> Result<(), Fail> {
         IntersectRows::Count,
     ] {
         assert!(rt;
-            intersects_each(&rt, shown, &track, &second, &genome)?,
+            prints_each(&rt, PairRows::Intersect(shown), &track, &second, &genome)?,
             "at {shown:?}"
         );
     }
-    assert!(rt; subtracts_each(&rt, false, &track, &second, &genome)?);
-    assert!(rt; subtracts_each(&rt, true, &track, &second, &genome)?);
+    assert!(rt; prints_each(&rt, PairRows::Subtract(false), &track, &second, &genome)?);
+    assert!(rt; prints_each(&rt, PairRows::Subtract(true), &track, &second, &genome)?);
     Ok(())
 }

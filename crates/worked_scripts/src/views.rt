@@ -1,7 +1,7 @@
 //! Several views of a session: opening, closing, printing one and all.
 use crate::fixtures::{Example, Ran, SIZES, check, run, session};
 use iv_session::{
-    DepthRows, FastaRows, IntersectRows, KeptView, ViewFault, ViewWords, WrittenView,
+    DepthRows, FastaRows, IntersectRows, KeptView, PairRows, ViewFault, ViewWords, WrittenView,
 };
 use std::test::Fail;
 
@@ -129,36 +129,37 @@ fn words_of_written_views(rt: HostRuntime) {
     for (words, want) in [
         (
             [b"intersect".as_slice()].as_slice(),
-            WrittenView::Intersect(IntersectRows::Shared),
+            PairRows::Intersect(IntersectRows::Shared),
         ),
         (
             &[b"intersect", b"-wa"],
-            WrittenView::Intersect(IntersectRows::Whole),
+            PairRows::Intersect(IntersectRows::Whole),
         ),
         (
             &[b"intersect", b"-wb"],
-            WrittenView::Intersect(IntersectRows::SharedAndHit),
+            PairRows::Intersect(IntersectRows::SharedAndHit),
         ),
         (
             &[b"intersect", b"-wb", b"-wa"],
-            WrittenView::Intersect(IntersectRows::WholeAndHit),
+            PairRows::Intersect(IntersectRows::WholeAndHit),
         ),
         (
             &[b"intersect", b"-wa", b"-u"],
-            WrittenView::Intersect(IntersectRows::IfHit),
+            PairRows::Intersect(IntersectRows::IfHit),
         ),
         (
             &[b"intersect", b"-v"],
-            WrittenView::Intersect(IntersectRows::IfNoHit),
+            PairRows::Intersect(IntersectRows::IfNoHit),
         ),
         (
             &[b"intersect", b"-c", b"-wa"],
-            WrittenView::Intersect(IntersectRows::Count),
+            PairRows::Intersect(IntersectRows::Count),
         ),
-        (&[b"subtract"], WrittenView::Subtract(false)),
-        (&[b"subtract", b"-A"], WrittenView::Subtract(true)),
+        (&[b"subtract"], PairRows::Subtract(false)),
+        (&[b"subtract", b"-A"], PairRows::Subtract(true)),
     ] {
-        assert!(rt; view_of(&rt, words) == Ok(ViewWords::Written(want)));
+        let want = ViewWords::Written(WrittenView::Paired(want));
+        assert!(rt; view_of(&rt, words) == Ok(want));
     }
 }
 

@@ -1,27 +1,23 @@
-use Rattle.std.proofs.Common.{[], false, sym}
-use Rattle.iv_cli.proofs.SweepLemmas.{shows-said, shows-text}
+use Rattle.std.proofs.Common.{◌≡◌, false, Ok, refl, sym, ap, ◌∙◌}
+use Rattle.std.specs.Option.{is_some}
+use Rattle.iv_view.proofs.WordLemmas.{needs-there}
+use Rattle.iv_view.specs.declared.view.View.TheVariants as view
+use Rattle.iv_view.specs.declared.written_view.WrittenView.TheVariants as written
+use Rattle.iv_cli.proofs.SweepLemmas.{shows-text}
 use Rattle.iv_cli.proofs.one_shot.shot_by_sweep.Goals as goal
 
-pub returns-in-Some : goal.returns-in-Some
-returns-in-Some g c =
-    let file = c.in_ok-file.file in
-    let view = c.in_ok-view.view in
-    let asked = sym (rw (c.width.ensures, c.view_words.ensures) at c.in_ok-view.ensures) in
-    rw (c.requires.alone)
-    (shows-said _ false file c.in_ok-file.ensures.ok c.args.plan.now.view view asked _ _ _ (c.print_depth.ensures view file.others [] c.in-Some.ensures))
+pub print_pairs-requires : goal.print_pairs-requires
+print_pairs-requires g c =
+    let one = c.in-Written-Paired.is in
+    let two : c.in-Written-Paired.field-0 ≡ written.Paired c.in-Written-Paired.rows = rw one at c.in-Written-Paired.field-0-is in
+    let view-is : c.in_ok-view.view ≡ view.Written (written.Paired c.in-Written-Paired.rows) = one ∙ ap view.Written two in
+    let asked = sym (rw (c.width.ensures, c.has_second-has_second.ensures, c.view_words.ensures) at c.in_ok-view.ensures) in
+    needs-there c.in_ok-files.files.width (is_some c.in_ok-files.files.others) false c.args.plan.now.view (view.Written (written.Paired c.in-Written-Paired.rows)) (asked ∙ ap Ok view-is) refl
 
-pub returns-in-Some-of : goal.returns-in-Some-of
-returns-in-Some-of g c =
-    let file = c.in_ok-file.file in
-    let view = c.in_ok-view.view in
-    let asked = sym (rw (c.width.ensures, c.view_words.ensures) at c.in_ok-view.ensures) in
-    rw (c.requires.alone)
-    (shows-text _ false file c.in_ok-file.ensures.ok c.args.plan.now.view view asked _ _ (c.in_ok-print.ensures view file.others [] c.in-Some-of.ensures))
-
-pub returns-in-Some-merge_options : goal.returns-in-Some-merge_options
-returns-in-Some-merge_options g c =
-    let file = c.in_ok-file.file in
-    let view = c.in_ok-view.view in
-    let asked = sym (rw (c.width.ensures, c.view_words.ensures) at c.in_ok-view.ensures) in
-    rw (c.requires.alone)
-    (shows-said _ false file c.in_ok-file.ensures.ok c.args.plan.now.view view asked _ _ _ (c.print_merge.ensures view file.others [] c.in-Some-merge_options.ensures))
+pub returns-in-Written-Paired : goal.returns-in-Written-Paired
+returns-in-Written-Paired g c =
+    let one = c.in-Written-Paired.is in
+    let two : c.in-Written-Paired.field-0 ≡ written.Paired c.in-Written-Paired.rows = rw one at c.in-Written-Paired.field-0-is in
+    let view-is : c.in_ok-view.view ≡ view.Written (written.Paired c.in-Written-Paired.rows) = one ∙ ap view.Written two in
+    let asked = sym (rw (c.width.ensures, c.has_second-has_second.ensures, c.view_words.ensures) at c.in_ok-view.ensures) in
+    shows-text _ c.in_ok-files.files c.in_ok-files.ensures.ok c.args.plan.now.view (view.Written (written.Paired c.in-Written-Paired.rows)) (asked ∙ ap Ok view-is) _ _ c.in_ok-print_pairs-in-Written-Paired.ensures

@@ -1,4 +1,4 @@
-use Rattle.worked_depth.proofs.Fitting.{lying-sorted, order-sorted}
+use Rattle.iv_places.proofs.SortedLemmas.{lying-sorted, order-sorted}
 use Rattle.worked_depth.proofs.sweeps.put_in_order.Goals as goal
 
 pub returns-clause-order : goal.returns-clause-order

@@ -1,0 +1,80 @@
+//! The views of the records of one text: merge, cluster, complement and genomecov.
+ghost use Rattle.std.specs.Prelude.{◌≡◌, All, Err, IsTrue};
+ghost use Rattle.iv_text.specs.Ordered.{AreInOrder};
+ghost use Rattle.iv_text.specs.Read.{LiesOn};
+ghost use Rattle.iv_sweep.specs.Prints.{Prints};
+ghost use Rattle.iv_sweep.specs.declared.fault.SweepFault.TheVariants.{NoMemory};
+ghost use Rattle.iv_sweep_blocks.specs.Plain.{IsPlain};
+ghost use Rattle.iv_view.specs.Views.{kept_text};
+
+use crate::fault::SweepFault;
+use iv_blocks::Options;
+use iv_places::TextRecords;
+use iv_sweep_blocks::{put_cluster, put_complement, put_merge};
+use iv_sweep_depth::DepthSweep;
+use iv_sweep_merge::MergeSweep;
+use iv_text::{Buffered, Genome, Sink};
+use iv_view::KeptView;
+use std::alloc::Allocator;
+
+/// Prints the text of a view, for records in the order of a track that lie on the genome, through one buffer.
+///
+/// All memory is had before the first byte is printed: room for a stop of each record for `genomecov`, and for a value of each
+/// where a merge asks for `distinct`. The other views take none.
+///
+/// # Errors
+///
+/// `NoMemory`, and then nothing was printed. `Write`, and then the sink has taken a prefix of the text.
+pub fn print_kept<'t, A: Allocator + Copy, S: Sink>(
+    alloc: A,
+    view: KeptView,
+    records: TextRecords<'t>,
+    genome: &'t Genome<A>,
+    sink: &mut S,
+) -> Result<(), SweepFault>
+    requires order { AreInOrder records }
+    requires lying { All (LiesOn genome.now) records }
+    ensures { Prints (S.state sink.old) (S.state sink.new) result (kept_text view genome.now records.entry) }
+{
+    let mut buffer = Buffered::new(sink);
+    put_kept(alloc, view, records, genome, &mut buffer)?;
+    buffer.finish()?;
+    Ok(())
+}
+
+/// Puts the text of a view straight into the sink. Where memory is refused the sink is not touched.
+fn put_kept<'t, A: Allocator + Copy, S: Sink>(
+    alloc: A,
+    view: KeptView,
+    records: TextRecords<'t>,
+    genome: &'t Genome<A>,
+    sink: &mut S,
+) -> Result<(), SweepFault>
+    requires order { AreInOrder records }
+    requires lying { All (LiesOn genome.now) records }
+    ensures text { Prints (S.state sink.old) (S.state sink.new) result (kept_text view genome.now records.entry) }
+    ensures alone { result ≡ Err NoMemory → sink.new ≡ sink.old }
+{
+    match view {
+        KeptView::Merge(options) => {
+            if is_plain(&options) {
+                put_merge(options.distance, &records, genome, sink)?;
+            } else {
+                MergeSweep::new(alloc, options, records)?.print(genome, sink)?;
+            }
+        }
+        KeptView::Cluster(distance) => put_cluster(distance, &records, genome, sink)?,
+        KeptView::Complement(limited) => put_complement(limited, &records, genome, sink)?,
+        KeptView::Genomecov(shown) => {
+            DepthSweep::new(alloc, records)?.print(shown, genome, sink)?;
+        }
+    }
+    Ok(())
+}
+
+/// Whether a merge joins both strands and asks nothing of a block.
+fn is_plain(options: &Options) -> bool
+    ensures { IsTrue result → IsPlain options.now.distance options.now }
+{
+    !options.stranded && options.summaries.as_slice().is_empty()
+}
