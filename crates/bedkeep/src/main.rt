@@ -186,7 +186,7 @@ fn run_words(rt: &HostRuntime, words: &[&[u8]]) -> ExitCode {
     match Plan::read(rt.alloc(), words) {
         Ok(plan) => {
             let ending = flushed(rt, run_plan(rt, &plan));
-            exit(rt, ending, plan.file_meant(ending))
+            exit(rt, ending, ending.file_meant(&plan))
         }
         Err(fault) => exit(rt, Ending::from(fault), b""),
     }

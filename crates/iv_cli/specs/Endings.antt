@@ -8,12 +8,14 @@ use Rattle.iv_session.specs.declared.script.RunCause.{RunCause}
 use Rattle.iv_session.specs.declared.script.RunCause.TheVariants as cause
 use Rattle.iv_cli.specs.declared.ending.Ending.{Ending}
 use Rattle.iv_cli.specs.declared.ending.Ending.TheVariants as ending
-use Rattle.iv_cli.specs.declared.fault.CliFault.{CliFault}
-use Rattle.iv_cli.specs.declared.fault.CliFault.TheVariants as fault
-use Rattle.iv_cli.specs.declared.fault.FileFault.{FileFault}
-use Rattle.iv_cli.specs.declared.fault.FileFault.TheVariants as file
-use Rattle.iv_cli.specs.declared.plan.Slot.{Slot}
-use Rattle.iv_cli.specs.Words.{RunPlan, file_of}
+use Rattle.iv_files.specs.declared.fault.CliFault.{CliFault}
+use Rattle.iv_files.specs.declared.fault.CliFault.TheVariants as fault
+use Rattle.iv_files.specs.declared.fault.FileFault.{FileFault}
+use Rattle.iv_files.specs.declared.fault.FileFault.TheVariants as file
+use Rattle.iv_plan.specs.declared.fault.PlanFault.{PlanFault}
+use Rattle.iv_plan.specs.declared.fault.PlanFault.TheVariants as planning
+use Rattle.iv_plan.specs.declared.plan.Slot.{Slot}
+use Rattle.iv_plan.specs.Words.{RunPlan, file_of}
 
 -- the exit status of an ending
 abbrev pub status_of : Ending → ℕ
@@ -27,6 +29,11 @@ status_of ending.InputUnreadable = 4
 status_of ending.InputTooLong = 4
 status_of ending.Output = 4
 status_of ending.Memory = 5
+
+-- the ending of words that are no plan
+abbrev pub ending_of_words : PlanFault → Ending
+ending_of_words planning.Words = ending.Words 16
+ending_of_words planning.Memory = ending.Memory
 
 -- the ending of a run with a fault
 abbrev pub ending_of : CliFault → Ending

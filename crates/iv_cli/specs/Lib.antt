@@ -1,7 +1,1 @@
-pub mod Files
-pub mod Words
-pub mod Drafts
-pub mod Loading
-pub mod Shots
 pub mod Endings
-pub mod Notices

@@ -3,10 +3,10 @@ ghost use Rattle.std.specs.Prelude.{◌≡◌};
 ghost use Rattle.iv_bytes.specs.Sinks.{Puts};
 ghost use Rattle.iv_cli.specs.Endings.{status_of, ending_of, ending_of_run, ending_after, words_text as text_of_words, name_meant, said, said_of, said_of_line, line_of};
 
-use crate::fault::{CliFault, FileFault};
-use crate::plan::{Plan, Slot};
 use itoa::Buffer;
 use iv_bytes::{Sink, WriteFault, put_pieces};
+use iv_files::{CliFault, FileFault};
+use iv_plan::{Plan, PlanFault, Slot};
 use iv_session::{RunCause, RunFault, Summary};
 use iv_text::{LoadFault, fault_text, load_text};
 use std::alloc::{AllocError, Allocator};
@@ -54,6 +54,20 @@ impl From<io::Error> for Ending {
         match error.kind() {
             ErrorKind::OutOfMemory => Ending::Memory,
             _ => Ending::Words(16),
+        }
+    }
+}
+
+impl From<PlanFault> for Ending {
+    ghost use Rattle.std.specs.Prelude.{◌≡◌};
+    ghost use Rattle.iv_cli.specs.Endings.{ending_of_words};
+
+    ghost from_gives = { λ fault ending. ending ≡ ending_of_words fault };
+
+    fn from(fault: PlanFault) -> Ending {
+        match fault {
+            PlanFault::Words => Ending::Words(16),
+            PlanFault::Memory => Ending::Memory,
         }
     }
 }
@@ -162,16 +176,14 @@ impl Ending {
             Ending::Memory => put_said(b"no memory", sink),
         }
     }
-}
 
-impl<'a, A: Allocator + Copy> Plan<'a, A> {
-    /// The name of the file that an ending speaks of, nothing where it speaks of none.
-    pub fn file_meant(&self, ending: Ending) -> &'a [u8]
-        ensures { result.now ≡ name_meant self.now ending }
+    /// The name of the file of a plan that the ending speaks of, nothing where it speaks of none.
+    pub fn file_meant<'a, A: Allocator + Copy>(self, plan: &Plan<'a, A>) -> &'a [u8]
+        ensures { result.now ≡ name_meant plan.now self }
     {
-        match ending {
+        match self {
             Ending::Damaged(slot, _) | Ending::Unreadable(slot) | Ending::TooLong(slot) => {
-                self.file(slot).unwrap_or(b"")
+                plan.file(slot).unwrap_or(b"")
             }
             _ => b"",
         }

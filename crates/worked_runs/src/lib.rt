@@ -1,11 +1,11 @@
-//! Tests of whole runs: reading files, words, loading and statuses.
+//! Tests of the files of a run, which are read and loaded, and of its exit status.
 #![tactic(auto)]
 
+#[cfg(test)]
+mod endings;
 #[cfg(test)]
 mod reading;
 #[cfg(test)]
 mod refusals;
 #[cfg(test)]
 mod runs;
-#[cfg(test)]
-mod subcommands;

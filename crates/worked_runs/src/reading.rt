@@ -1,5 +1,5 @@
 //! Reading whole files: of real sizes, and from devices that fail once.
-use iv_cli::{FileFault, read_all};
+use iv_files::{FileFault, read_all};
 use iv_text::{MemSource, StdSource};
 use refusing::{Bad, Device, FAILURES};
 use std::test::Fail;

@@ -1,5 +1,6 @@
 //! Each growth of loading, refused in turn.
-use iv_cli::{CliFault, Inputs, Plan, load};
+use iv_files::{CliFault, Inputs, load};
+use iv_plan::Plan;
 use refusing::RefusesNth;
 use std::alloc::Global;
 use std::test::Fail;

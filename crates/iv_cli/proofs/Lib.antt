@@ -1,6 +1,0 @@
-pub mod ReadingLemmas
-pub mod DraftLemmas
-pub mod WordLemmas
-pub mod LoadLemmas
-pub mod ShotLemmas
-pub mod SweepLemmas

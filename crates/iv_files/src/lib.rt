@@ -1,0 +1,13 @@
+//! From the files of a run to a session, or to the rows of one view.
+#![tactic(auto)]
+
+mod fault;
+mod inputs;
+mod one_shot;
+mod reading;
+mod sorted_files;
+
+pub use fault::{CliFault, FileFault};
+pub use inputs::{Inputs, ParsedFiles, load};
+pub use one_shot::shot;
+pub use reading::read_all;

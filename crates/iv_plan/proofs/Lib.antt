@@ -1,0 +1,2 @@
+pub mod DraftLemmas
+pub mod WordLemmas

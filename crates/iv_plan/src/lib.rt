@@ -1,0 +1,14 @@
+//! The words of a run: what it is to do, with which files, and what the program says of itself.
+#![tactic(auto)]
+
+mod draft;
+mod fault;
+mod help;
+mod notice;
+mod plan;
+mod run;
+
+pub use fault::PlanFault;
+pub use notice::Notice;
+pub use plan::{Plan, Slot};
+pub use run::Run;

@@ -1,0 +1,7 @@
+//! Tests of the words of a run.
+#![tactic(auto)]
+
+#[cfg(test)]
+mod sessions;
+#[cfg(test)]
+mod subcommands;
