@@ -11,10 +11,8 @@ fn fasta(rt: &HostRuntime) -> Result<Fasta, LoadFault> {
     fasta_of(rt.alloc(), &genome, text)
 }
 
-/// Bases beyond a sequence's end are none.
-#[test]
-fn parts_of_sequences(rt: HostRuntime) -> Result<(), Fail> {
-    let fasta = fasta(&rt)?;
+/// Whether these are the parts of the sequences. Bases beyond a sequence's end are none.
+fn has_parts(fasta: &Fasta) -> bool {
     for (seq, start, stop, want) in [
         (0, 0, 10, Some(b"ACGTNacgtR".as_slice())),
         (0, 0, 1, Some(b"A")),
@@ -35,17 +33,22 @@ fn parts_of_sequences(rt: HostRuntime) -> Result<(), Fail> {
         (3, 0, 1, None),
         (u32::MAX, 0, u64::MAX, None),
     ] {
-        assert!(rt;
-            fasta.bases(seq, start, stop) == want,
-            "at {seq} {start} {stop}"
-        );
+        if fasta.bases(seq, start, stop) != want {
+            return false;
+        }
     }
-    Ok(())
+    true
 }
 
 #[test]
-fn sequences_that_are_there(rt: HostRuntime) -> Result<(), Fail> {
+fn parts_of_sequences(rt: HostRuntime) -> Result<(), Fail> {
     let fasta = fasta(&rt)?;
+    assert!(rt; has_parts(&fasta));
+    Ok(())
+}
+
+/// Whether these are the lengths of the sequences, and those without one are lacking.
+fn has_lengths(fasta: &Fasta) -> bool {
     for (seq, length) in [
         (0, Some(10)),
         (1, None),
@@ -53,8 +56,16 @@ fn sequences_that_are_there(rt: HostRuntime) -> Result<(), Fail> {
         (3, None),
         (u32::MAX, None),
     ] {
-        assert!(rt; fasta.length(seq) == length);
-        assert!(rt; fasta.covers(seq) == length.is_some());
+        if fasta.length(seq) != length || fasta.covers(seq) != length.is_some() {
+            return false;
+        }
     }
+    true
+}
+
+#[test]
+fn sequences_that_are_there(rt: HostRuntime) -> Result<(), Fail> {
+    let fasta = fasta(&rt)?;
+    assert!(rt; has_lengths(&fasta));
     Ok(())
 }

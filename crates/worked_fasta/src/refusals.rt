@@ -19,17 +19,24 @@ fn lines(rt: &HostRuntime) -> Result<String, Fail> {
     Ok(text)
 }
 
-/// Reads a FASTA file, and says whether it met the refusal; not where its genome did. `None` where it is another one.
-fn refused(alloc: &RefusesNth<Global>, text: &[u8]) -> Option<bool> {
-    let Ok(genome) = Genome::parse(alloc, SIZES) else {
-        return Some(false);
-    };
-    match fasta_of(alloc, &genome, text) {
-        Ok(fasta) => {
-            let right = says(&fasta, [Some(b"ACGTNacgtR"), Some(b"TTTTA"), None]);
-            if right { Some(false) } else { None }
-        }
+/// Reads a FASTA file, and says whether it met the refusal. `None` where it is another one.
+fn refused_beside(
+    alloc: &RefusesNth<Global>,
+    genome: &Genome<&RefusesNth<Global>>,
+    text: &[u8],
+) -> Option<bool> {
+    match fasta_of(alloc, genome, text) {
+        Ok(fasta) if says(&fasta, [Some(b"ACGTNacgtR"), Some(b"TTTTA"), None]) => Some(false),
+        Ok(_) => None,
         Err(fault) => is_memory(fault),
+    }
+}
+
+/// The same of a genome and a FASTA file. Where the genome met the refusal the FASTA file did not.
+fn refused(alloc: &RefusesNth<Global>, text: &[u8]) -> Option<bool> {
+    match Genome::parse(alloc, SIZES) {
+        Ok(genome) => refused_beside(alloc, &genome, text),
+        Err(_) => Some(false),
     }
 }
 
@@ -62,19 +69,32 @@ fn each_growth_refused_in_turn(rt: HostRuntime) -> Result<(), Fail> {
     Ok(())
 }
 
-/// Reads a file whose last line is damaged. Whether it met the refusal, and `None` where the fault is another one.
-fn refused_beside_damage(alloc: &RefusesNth<Global>) -> Option<bool> {
-    let Ok(genome) = Genome::parse(alloc, SIZES) else {
-        return Some(false);
-    };
+/// The fault of a file whose last line is damaged, which it has in any case.
+fn fault_beside(
+    alloc: &RefusesNth<Global>,
+    genome: &Genome<&RefusesNth<Global>>,
+) -> Option<LoadFault> {
+    fasta_of(alloc, genome, b">s\nACGTNacgtR\n>x\nA C\n").err()
+}
+
+/// Whether a fault is want of memory, and not damage of the last line. `None` where it is neither.
+fn is_refusal(fault: LoadFault) -> Option<bool> {
     let damage = LoadFault {
         line: 4,
         cause: LoadCause::Base,
     };
-    match fasta_of(alloc, &genome, b">s\nACGTNacgtR\n>x\nA C\n") {
-        Ok(_) => None,
-        Err(fault) if fault == damage => Some(false),
-        Err(fault) => is_memory(fault),
+    if fault == damage {
+        Some(false)
+    } else {
+        is_memory(fault)
+    }
+}
+
+/// Reads that file, and says whether it met the refusal. `None` where it has another fault or none.
+fn refused_beside_damage(alloc: &RefusesNth<Global>) -> Option<bool> {
+    match Genome::parse(alloc, SIZES) {
+        Ok(genome) => is_refusal(fault_beside(alloc, &genome)?),
+        Err(_) => Some(false),
     }
 }
 

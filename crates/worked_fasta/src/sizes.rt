@@ -49,51 +49,60 @@ fn bases_of_megabytes(rt: HostRuntime) -> Result<(), Fail> {
 /// How many sequences are many.
 const MANY: u32 = 50_000;
 
-/// Files of many sequences, of which the genome has every second one.
-#[derive(Drop)]
-struct Many {
-    sizes: String,
-    bases: String,
+/// How many bases the sequence of this number has.
+fn size(number: u32) -> u32 {
+    4 + number % 7
 }
 
-fn many_files(rt: &HostRuntime) -> Result<Many, Fail> {
+/// The genome file.
+fn many_sizes(rt: &HostRuntime) -> Result<String, Fail> {
     let mut sizes = String::new(rt.alloc());
+    for half in 0..MANY / 2 {
+        let number = 2 * half + 1;
+        let size = size(number);
+        sizes.push_str(format!(in rt.alloc(); "contig_{number}\t{size}\n")?.as_str())?;
+    }
+    Ok(sizes)
+}
+
+/// The FASTA file, with a line for each base.
+fn many_bases(rt: &HostRuntime) -> Result<String, Fail> {
     let mut bases = String::new(rt.alloc());
     for number in 0..MANY {
-        let size = 4 + number % 7;
-        if number % 2 == 1 {
-            sizes.push_str(format!(in rt.alloc(); "contig_{number}\t{size}\n")?.as_str())?;
-        }
         bases.push_str(format!(in rt.alloc(); ">contig_{number} of many\n")?.as_str())?;
-        for _ in 0..size {
+        for _ in 0..size(number) {
             bases.push_str("A\n")?;
         }
     }
-    Ok(Many { sizes, bases })
+    Ok(bases)
 }
 
 /// Whether a FASTA file has all sequences of that genome, each of its length.
 fn has_many(fasta: &Fasta) -> bool {
     for rank in 0..MANY / 2 {
-        let size = u64::from(4 + (2 * rank + 1) % 7);
-        if fasta.length(rank) != Some(size) {
+        if fasta.length(rank) != Some(u64::from(size(2 * rank + 1))) {
             return false;
         }
     }
     !fasta.covers(MANY / 2)
 }
 
-/// Whether the files of many sequences are read.
-fn reads_many(rt: &HostRuntime, many: &Many) -> Result<bool, Fail> {
-    let genome = Genome::parse(rt.alloc(), many.sizes.as_bytes())?;
-    let fasta = fasta_of(rt.alloc(), &genome, many.bases.as_bytes())?;
-    Ok(has_many(&fasta))
+/// Whether a FASTA file of many sequences is read, of which the genome has every second one.
+fn reads_many(rt: &HostRuntime, genome: &Genome) -> Result<bool, Fail> {
+    let bases = many_bases(rt)?;
+    Ok(has_many(&fasta_of(rt.alloc(), genome, bases.as_bytes())?))
+}
+
+/// The genome of every second sequence.
+fn many_in_genome(rt: &HostRuntime) -> Result<Genome, Fail> {
+    let sizes = many_sizes(rt)?;
+    Ok(Genome::parse(rt.alloc(), sizes.as_bytes())?)
 }
 
 #[test]
 fn many_sequences(rt: HostRuntime) -> Result<(), Fail> {
-    let many = many_files(&rt)?;
-    assert!(rt; reads_many(&rt, &many)?);
+    let genome = many_in_genome(&rt)?;
+    assert!(rt; reads_many(&rt, &genome)?);
     Ok(())
 }
 
@@ -171,12 +180,16 @@ fn rows(rt: &HostRuntime, start: u32, stop: u32) -> Result<Vec<u8>, Fail> {
     )
 }
 
+/// Whether files print these rows.
+fn print_as(rt: &HostRuntime, files: &Files, want: &[u8]) -> Result<bool, Fail> {
+    Ok(printed(rt, files)?.bytes() == want)
+}
+
 /// Whether records between these places print their rows.
 fn prints(rt: &HostRuntime, start: u32, stop: u32) -> Result<bool, Fail> {
-    let files = long(rt, start, stop)?;
-    let sink = printed(rt, &files)?;
     let want = rows(rt, start, stop)?;
-    Ok(sink.bytes() == want.as_slice())
+    let files = long(rt, start, stop)?;
+    print_as(rt, &files, want.as_slice())
 }
 
 #[test]

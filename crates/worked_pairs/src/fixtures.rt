@@ -1,9 +1,7 @@
 //! What several tests begin with.
 use iv_pair::Second;
 use iv_text::{BedFile, Genome, LoadFault};
-use iv_track::Track;
 use std::alloc::{AllocError, Allocator};
-use std::test::Fail;
 
 /// A genome of two sequences, of 100 bases and of 50.
 pub(crate) const SIZES: &[u8] = b"chr1\t100\nchr2\t50\n";
@@ -12,13 +10,6 @@ const LIMIT: u32 = 1_000_000;
 
 pub(crate) fn genome(rt: &HostRuntime) -> Result<Genome, LoadFault> {
     Genome::parse(rt.alloc(), SIZES)
-}
-
-/// The track of the records of a BED file.
-pub(crate) fn track_of(rt: &HostRuntime, genome: &Genome, text: &[u8]) -> Result<Track, Fail> {
-    let file = BedFile::parse(rt.alloc(), genome, 3, LIMIT, text)?;
-    let width = file.width();
-    Ok(Track::from_records(rt.alloc(), width, LIMIT, file.into_records())?)
 }
 
 /// The second file of the records of a BED file.

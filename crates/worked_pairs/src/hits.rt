@@ -27,13 +27,29 @@ pub(crate) fn hits_are<A: Allocator + Copy>(
     hits.next().is_none()
 }
 
+/// An interval, and where its hits start and stop.
+type Hits<'a> = (u32, u64, u64, &'a [(u64, u64)]);
+
+/// Whether these are the hits of intervals.
+fn all_hits_are(second: &Second, wanted: &[Hits<'_>]) -> bool {
+    for (seq, start, stop, want) in wanted {
+        if !hits_are(second, *seq, *start, *stop, want) {
+            return false;
+        }
+    }
+    true
+}
+
+/// The second file of the records of a BED file.
+fn second(rt: &HostRuntime, text: &[u8]) -> Result<Second, Fail> {
+    let genome = genome(rt)?;
+    Ok(second_of(rt.alloc(), &genome, text)??)
+}
+
 #[test]
 fn records_that_share_a_position(rt: HostRuntime) -> Result<(), Fail> {
-    let genome = genome(&rt)?;
-    let text = b"chr1\t20\t30\nchr1\t15\t18\nchr1\t15\t18\n";
-    let second = second_of(rt.alloc(), &genome, text)??;
-    for (seq, start, stop, want) in [
-        (0, 16, 17, [(15, 18), (15, 18)].as_slice()),
+    let wanted: [Hits<'_>; 11] = [
+        (0, 16, 17, &[(15, 18), (15, 18)]),
         (0, 18, 20, &[]),
         (0, 17, 21, &[(15, 18), (15, 18), (20, 30)]),
         (0, 29, 30, &[(20, 30)]),
@@ -44,41 +60,32 @@ fn records_that_share_a_position(rt: HostRuntime) -> Result<(), Fail> {
         (u32::MAX, 16, 17, &[]),
         (0, 4_294_967_294, 4_294_967_295, &[]),
         (0, u64::MAX - 1, u64::MAX, &[]),
-    ] {
-        assert!(rt;
-            hits_are(&second, seq, start, stop, want),
-            "at {seq} {start} {stop}"
-        );
-    }
-    assert!(rt; second.len() == 3 && second.width() == 3 && second.limit() == 1_000_000);
+    ];
+    let second = second(&rt, b"chr1\t20\t30\nchr1\t15\t18\nchr1\t15\t18\n")?;
+    let numbers = (second.len(), second.width(), second.limit());
+    assert!(rt; numbers == (3, 3, 1_000_000) && all_hits_are(&second, &wanted));
     Ok(())
 }
 
 #[test]
 fn record_that_begins_long_before(rt: HostRuntime) -> Result<(), Fail> {
-    let genome = genome(&rt)?;
-    let text =
-        b"chr1\t0\t90\nchr1\t1\t2\nchr1\t50\t52\nchr1\t80\t82\nchr2\t0\t50\nchr2\t10\t11\nchr2\t30\t31\n";
-    let second = second_of(rt.alloc(), &genome, text)??;
-    for (seq, start, stop, want) in [
-        (0, 89, 90, [(0, 90)].as_slice()),
+    let wanted: [Hits<'_>; 5] = [
+        (0, 89, 90, &[(0, 90)]),
         (0, 90, 91, &[]),
         (0, 51, 81, &[(0, 90), (50, 52), (80, 82)]),
         (1, 49, 50, &[(0, 50)]),
         (1, 10, 30, &[(0, 50), (10, 11)]),
-    ] {
-        assert!(rt;
-            hits_are(&second, seq, start, stop, want),
-            "at {seq} {start} {stop}"
-        );
-    }
+    ];
+    let text =
+        b"chr1\t0\t90\nchr1\t1\t2\nchr1\t50\t52\nchr1\t80\t82\nchr2\t0\t50\nchr2\t10\t11\nchr2\t30\t31\n";
+    let second = second(&rt, text)?;
+    assert!(rt; all_hits_are(&second, &wanted));
     Ok(())
 }
 
 #[test]
 fn second_file_without_records(rt: HostRuntime) -> Result<(), Fail> {
-    let genome = genome(&rt)?;
-    let second = second_of(rt.alloc(), &genome, b"# nothing\n")??;
+    let second = second(&rt, b"# nothing\n")?;
     assert!(rt; second.len() == 0 && hits_are(&second, 0, 0, 100, &[]));
     Ok(())
 }

@@ -1,4 +1,4 @@
-//! Tests of the second file: hits, and the rows of intersect and subtract, worked out by hand; and growths that are refused.
+//! Tests of a second file: the records of it that overlap an interval, and growths that are refused.
 #![tactic(auto)]
 
 #[cfg(test)]
@@ -7,9 +7,3 @@ mod fixtures;
 mod hits;
 #[cfg(test)]
 mod refusals;
-#[cfg(test)]
-mod rows;
-#[cfg(test)]
-mod sweeps;
-#[cfg(test)]
-mod walks;

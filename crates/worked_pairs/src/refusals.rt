@@ -1,6 +1,7 @@
 //! Each growth of a second file's memory, refused in turn.
 use crate::fixtures::{SIZES, second_of};
 use crate::hits::hits_are;
+use iv_pair::Second;
 use iv_text::{Genome, LoadCause};
 use refusing::RefusesNth;
 use std::alloc::Global;
@@ -19,19 +20,30 @@ fn lines(rt: &HostRuntime) -> Result<String, Fail> {
     Ok(text)
 }
 
+/// Whether the second file is that of the lines.
+fn is_right(second: &Second<&RefusesNth<Global>>) -> bool {
+    second.len() == 30 && hits_are(second, 0, 2, 3, &[(1, 40), (2, 40)])
+}
+
 /// Makes the second file, and says whether it met the refusal; not where its lines did. `None` where it is another.
-fn refused(alloc: &RefusesNth<Global>, text: &[u8]) -> Option<bool> {
-    let Ok(genome) = Genome::parse(alloc, SIZES) else {
-        return Some(false);
-    };
-    match second_of(alloc, &genome, text) {
-        Ok(Ok(second)) => {
-            let right = second.len() == 30 && hits_are(&second, 0, 2, 3, &[(1, 40), (2, 40)]);
-            if right { Some(false) } else { None }
-        }
+fn refused_beside(
+    alloc: &RefusesNth<Global>,
+    genome: &Genome<&RefusesNth<Global>>,
+    text: &[u8],
+) -> Option<bool> {
+    match second_of(alloc, genome, text) {
+        Ok(Ok(second)) if is_right(&second) => Some(false),
         Ok(Err(_)) => Some(true),
         Err(fault) if fault.cause == LoadCause::Memory => Some(false),
-        Err(_) => None,
+        _ => None,
+    }
+}
+
+/// The same of a genome and the second file. Where the genome met the refusal the second file did not.
+fn refused(alloc: &RefusesNth<Global>, text: &[u8]) -> Option<bool> {
+    match Genome::parse(alloc, SIZES) {
+        Ok(genome) => refused_beside(alloc, &genome, text),
+        Err(_) => Some(false),
     }
 }
 

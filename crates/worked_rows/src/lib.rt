@@ -1,9 +1,7 @@
-//! Tests of reading, writing, tracks and merging: examples whose answers were worked out by hand, real sizes, and
+//! Tests of reading, writing and tracks: examples whose answers were worked out by hand, real sizes, and
 //! growths that are refused.
 #![tactic(auto)]
 
-#[cfg(test)]
-mod blocks;
 #[cfg(test)]
 mod bytes;
 #[cfg(test)]

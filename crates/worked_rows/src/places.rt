@@ -257,8 +257,7 @@ fn ways_to_the_records(rt: HostRuntime) -> Result<(), Fail> {
     let genome = Genome::parse(rt.alloc(), SIZES)?;
     let text = b"chr1\t11\t12\nchr1\t22\t23\n\nchr2\t33\t34\n".as_slice();
     let bed = bed_text(rt.alloc(), &genome, 9, text)?;
-    assert!(rt; are_three(bed.records()));
-    assert!(rt; are_at_indexes(&bed.records()));
+    assert!(rt; are_three(bed.records()) && are_at_indexes(&bed.records()));
     Ok(())
 }
 
@@ -303,15 +302,28 @@ fn many_records_of_a_text(rt: HostRuntime) -> Result<(), Fail> {
     Ok(())
 }
 
-/// Whether a text is read while one growth may be refused: its fault is then want of memory, at line 0.
+/// How many records a text has, or its fault.
+fn count_of(
+    alloc: &RefusesNth<Global>,
+    genome: &Genome<&RefusesNth<Global>>,
+    text: &[u8],
+) -> Result<usize, LoadFault> {
+    Ok(bed_text(alloc, genome, MANY, text)?.records().len())
+}
+
+/// Whether a text of forty records is read while one growth may be refused: its fault is then want of memory, at line 0.
 fn is_read(alloc: &RefusesNth<Global>, text: &[u8]) -> Result<bool, Fail> {
     let Ok(genome) = Genome::parse(alloc, SIZES) else {
         return Ok(false);
     };
-    match bed_text(alloc, &genome, MANY, text) {
-        Ok(bed) => Ok(bed.records().len() == 40),
-        Err(fault) if fault == LoadFault::at(7, LoadCause::Memory) && fault.line == 0 => Ok(false),
-        Err(_) => Err(Fail::new("another fault")),
+    let memory = LoadFault {
+        line: 0,
+        cause: LoadCause::Memory,
+    };
+    match count_of(alloc, &genome, text) {
+        Ok(40) => Ok(true),
+        Err(fault) if fault == memory => Ok(false),
+        _ => Err(Fail::new("other records, or another fault")),
     }
 }
 

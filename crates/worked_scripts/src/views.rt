@@ -50,17 +50,55 @@ fn views_by_their_names(rt: HostRuntime) -> Result<(), Fail> {
 /// Depth in two views, one opened before the records and one behind them, over a sequence of length 0 too.
 #[test]
 fn depth_of_records(rt: HostRuntime) -> Result<(), Fail> {
-    let examples = [Example {
-        width: 3,
-        first: b"",
-        limit: 9,
-        script: b"open\tg\tgenomecov -bg\nadd\tchr1\t10\t20\nadd\tchr1\t15\t30\nadd\tchr1\t15\t30\nopen\ta\tgenomecov -bga\nprintall\nremove\tchr1\t15\t30\nreplace\tchr1\t15\t30\tchr2\t0\t50\nprintall\n",
-        output: b"#g\nchr1\t10\t15\t1\nchr1\t15\t20\t3\nchr1\t20\t30\t2\n#a\nchr1\t0\t10\t0\nchr1\t10\t15\t1\nchr1\t15\t20\t3\nchr1\t20\t30\t2\nchr1\t30\t100\t0\nchr2\t0\t50\t0\n#g\nchr1\t10\t20\t1\nchr2\t0\t50\t1\n#a\nchr1\t0\t10\t0\nchr1\t10\t20\t1\nchr1\t20\t100\t0\nchr2\t0\t50\t1\n",
-        messages: b"",
-        lines: 9,
-        refused: 0,
-        left: 2,
-    }];
+    let examples = [
+        Example {
+            width: 3,
+            first: b"",
+            limit: 9,
+            script: b"open\tg\tgenomecov -bg\nadd\tchr1\t10\t20\nadd\tchr1\t15\t30\nadd\tchr1\t15\t30\nopen\ta\tgenomecov -bga\nprintall\nremove\tchr1\t15\t30\nreplace\tchr1\t15\t30\tchr2\t0\t50\nprintall\n",
+            output: b"#g\nchr1\t10\t15\t1\nchr1\t15\t20\t3\nchr1\t20\t30\t2\n#a\nchr1\t0\t10\t0\nchr1\t10\t15\t1\nchr1\t15\t20\t3\nchr1\t20\t30\t2\nchr1\t30\t100\t0\nchr2\t0\t50\t0\n#g\nchr1\t10\t20\t1\nchr2\t0\t50\t1\n#a\nchr1\t0\t10\t0\nchr1\t10\t20\t1\nchr1\t20\t100\t0\nchr2\t0\t50\t1\n",
+            messages: b"",
+            lines: 9,
+            refused: 0,
+            left: 2,
+        },
+        // Book-ended records are one row, and what is left of them is another.
+        Example {
+            width: 3,
+            first: b"chr1\t20\t30\nchr1\t10\t20\n",
+            limit: 9,
+            script: b"open\tg\tgenomecov -bg\nopen\ta\tgenomecov -bga\nprint\tg\nremove\tchr1\t10\t20\nprintall\n",
+            output: b"chr1\t10\t30\t1\n#g\nchr1\t20\t30\t1\n#a\nchr1\t0\t20\t0\nchr1\t20\t30\t1\nchr1\t30\t100\t0\nchr2\t0\t50\t0\n",
+            messages: b"",
+            lines: 5,
+            refused: 0,
+            left: 1,
+        },
+        // Up to the end of a sequence.
+        Example {
+            width: 3,
+            first: b"",
+            limit: 9,
+            script: b"open\tg\tgenomecov -bg\nopen\ta\tgenomecov -bga\nadd\tchr1\t0\t100\nadd\tchr1\t50\t100\nprintall\n",
+            output: b"#g\nchr1\t0\t50\t1\nchr1\t50\t100\t2\n#a\nchr1\t0\t50\t1\nchr1\t50\t100\t2\nchr2\t0\t50\t0\n",
+            messages: b"",
+            lines: 5,
+            refused: 0,
+            left: 2,
+        },
+        // Copies, taken out one by one.
+        Example {
+            width: 3,
+            first: b"chr1\t10\t20\nchr1\t10\t20\n",
+            limit: 9,
+            script: b"open\tg\tgenomecov -bg\nopen\ta\tgenomecov -bga\nprint\tg\nremove\tchr1\t10\t20\nprint\tg\nremove\tchr1\t10\t20\nprintall\n",
+            output: b"chr1\t10\t20\t2\nchr1\t10\t20\t1\n#g\n#a\nchr1\t0\t100\t0\nchr2\t0\t50\t0\n",
+            messages: b"",
+            lines: 7,
+            refused: 0,
+            left: 0,
+        },
+    ];
     check(&rt, &examples)
 }
 

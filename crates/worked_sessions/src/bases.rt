@@ -1,9 +1,9 @@
 //! Sessions with a FASTA file: views that show the bases of records.
-use crate::around::{Around, edits_without_steps, print_around_edits, printed};
-use crate::fixtures::{Edit, answer};
+use crate::around::{Around, edit_without_steps, print_around_edits};
+use crate::fixtures::{Edit, answer, holds, prints};
 use iv_fasta::Fasta;
 use iv_state::Session;
-use iv_text::{BedFile, Genome, MemSink, RecordFault};
+use iv_text::{BedFile, Genome, RecordFault};
 use std::test::Fail;
 
 /// A genome of two sequences, of 10 bases and of 5.
@@ -63,58 +63,42 @@ const EDITS: [Edit<'static>; 4] = [
     Edit::Add(b"u\t0\t1\tk\t0\t+"),
 ];
 
-/// What a FASTA file says, where there is one.
-fn fasta_of(
-    rt: &HostRuntime,
-    genome: &Genome,
-    bases: Option<&[u8]>,
-) -> Result<Option<Fasta>, Fail> {
-    match bases {
-        Some(bases) => {
-            let text = bases.to_vec(rt.alloc())?;
-            Ok(Some(Fasta::parse(rt.alloc(), genome, text)?))
-        }
-        None => Ok(None),
-    }
-}
-
-/// A session of that genome, a BED file, and a FASTA file or none.
-fn session(rt: &HostRuntime, first: &[u8], bases: Option<&[u8]>) -> Result<Session, Fail> {
+/// A session of that genome, a BED file and those bases.
+fn session(rt: &HostRuntime) -> Result<Session, Fail> {
+    let text = BASES.to_vec(rt.alloc())?;
     let genome = Genome::parse(rt.alloc(), SIZES)?;
-    let file = BedFile::parse(rt.alloc(), &genome, 3, 9, first)?;
-    let fasta = fasta_of(rt, &genome, bases)?;
-    Ok(Session::new(rt.alloc(), genome, file, None, fasta, 9)?)
+    let file = BedFile::parse(rt.alloc(), &genome, 3, 9, FIRST)?;
+    let fasta = Fasta::parse(rt.alloc(), &genome, text)?;
+    Ok(Session::new(rt.alloc(), genome, file, None, Some(fasta), 9)?)
 }
 
 /// Rows before edits of the track and after them; the FASTA file lacks the second sequence.
 #[test]
 fn bases_around_edits(rt: HostRuntime) -> Result<(), Fail> {
-    let mut session = session(&rt, FIRST, Some(BASES))?;
+    let mut session = session(&rt)?;
     print_around_edits(&rt, &mut session, &VIEWS, &EDITS)
 }
 
-/// Opens a view, and adds a record that passes the end of its sequence, which is refused. What the view prints then.
-fn printed_behind_a_refused_edit(rt: &HostRuntime, session: &mut Session) -> Result<MemSink, Fail> {
+/// Opens a view, and adds a record that passes the end of its sequence, which is refused. The view prints what it printed
+/// before.
+fn check_refused_edit(rt: &HostRuntime, session: &mut Session) -> Result<(), Fail> {
     session.open_view(b"f", &[b"getfasta", b"-tab"])?;
     if answer(session, Edit::Add(b"s\t9\t11\tn\t0\t+")).err() != Some(RecordFault::PastEnd) {
         return Err(Fail::new("another answer to an edit"));
     }
-    Ok(printed(rt, session, Some(b"f"))?)
+    holds(prints(rt, session, Some(b"f"), b"s:2-6\tGTNa\ns:9-10\tR\n")?)
 }
 
-/// The view prints what it printed before.
 #[test]
 fn bases_behind_a_refused_edit(rt: HostRuntime) -> Result<(), Fail> {
-    let mut session = session(&rt, FIRST, Some(BASES))?;
-    let sink = printed_behind_a_refused_edit(&rt, &mut session)?;
-    assert!(rt; sink.bytes() == b"s:2-6\tGTNa\ns:9-10\tR\n".as_slice());
-    Ok(())
+    let mut session = session(&rt)?;
+    check_refused_edit(&rt, &mut session)
 }
 
 /// Views of bases add no step to an edit.
 #[test]
 fn edits_beside_bases(rt: HostRuntime) -> Result<(), Fail> {
-    let mut session = session(&rt, FIRST, Some(BASES))?;
-    assert!(rt; edits_without_steps(&mut session, &VIEWS[..5], &EDITS)?);
-    Ok(())
+    let views = &VIEWS[..5];
+    let mut session = session(&rt)?;
+    edit_without_steps(&mut session, views, &EDITS)
 }

@@ -1,40 +1,111 @@
 //! What several tests begin with.
-use iv_state::{Accepted, EditFault, Session};
-use iv_text::{BedFile, Genome, RecordFault};
+use iv_state::{Accepted, EditFault, PrintFault, Session};
+use iv_text::{BedFile, Genome, MemSink, RecordFault};
 use std::alloc::Allocator;
 use std::test::Fail;
 
 /// A genome of three sequences, of 100 bases, of 50 and of none.
 pub(crate) const SIZES: &[u8] = b"chr1\t100\nchr2\t50\nchr3\t0\n";
 
-/// A session of that genome and a BED file of three columns or of its own width.
-pub(crate) fn session(rt: &HostRuntime, first: &[u8], limit: u32) -> Result<Session, Fail> {
-    if limit > 4_000_000 {
-        return Err(Fail::new("a limit above the greatest one"));
-    }
-    let genome = Genome::parse(rt.alloc(), SIZES)?;
-    let file = BedFile::parse(rt.alloc(), &genome, 3, limit, first)?;
-    Ok(Session::new(rt.alloc(), genome, file, None, None, limit)?)
+/// The files of a session, the width of a BED file without a record, and how many records each may have.
+#[derive(Clone, Copy)]
+pub(crate) struct Files<'a> {
+    pub(crate) sizes: &'a [u8],
+    pub(crate) first: &'a [u8],
+    /// The second BED file.
+    pub(crate) second: Option<&'a [u8]>,
+    pub(crate) width: u8,
+    pub(crate) limit: u32,
 }
 
-/// A session of that genome, a BED file and a second one, each of three columns or of its own width.
-pub(crate) fn session_beside(
-    rt: &HostRuntime,
-    first: &[u8],
-    second: &[u8],
-    limit: u32,
-) -> Result<Session, Fail> {
-    if limit > 4_000_000 {
-        return Err(Fail::new("a limit above the greatest one"));
+/// A BED file over that genome, with no file beside it.
+pub(crate) fn alone(first: &[u8], limit: u32) -> Files<'_> {
+    Files {
+        sizes: SIZES,
+        first,
+        second: None,
+        width: 3,
+        limit,
     }
-    let genome = Genome::parse(rt.alloc(), SIZES)?;
-    let file = BedFile::parse(rt.alloc(), &genome, 3, limit, first)?;
-    let other = BedFile::parse(rt.alloc(), &genome, 3, limit, second)?;
-    Ok(Session::new(rt.alloc(), genome, file, Some(other), None, limit)?)
+}
+
+/// What the second BED file says, where there is one; `None` where it has a fault or memory is refused.
+fn second_of<A: Allocator + Copy>(
+    alloc: A,
+    genome: &Genome<A>,
+    files: Files<'_>,
+) -> Option<Option<BedFile<A>>> {
+    if files.width < 3 || files.width > 6 {
+        return None;
+    }
+    match files.second {
+        Some(text) => {
+            let file = BedFile::parse(alloc, genome, files.width, files.limit, text);
+            Some(Some(file.ok()?))
+        }
+        None => Some(None),
+    }
+}
+
+/// The session of files; `None` where one has a fault or memory is refused.
+pub(crate) fn session_of<A: Allocator + Copy>(alloc: A, files: Files<'_>) -> Option<Session<A>> {
+    let (width, limit) = (files.width, files.limit);
+    if limit > 4_000_000 || width < 3 || width > 6 {
+        return None;
+    }
+    let genome = Genome::parse(alloc, files.sizes).ok()?;
+    let first = BedFile::parse(alloc, &genome, width, limit, files.first).ok()?;
+    let second = second_of(alloc, &genome, files)?;
+    Session::new(alloc, genome, first, second, None, limit).ok()
+}
+
+/// The session of files that are sound.
+pub(crate) fn begun(rt: &HostRuntime, files: Files<'_>) -> Result<Session, Fail> {
+    Ok(session_of(rt.alloc(), files).ok_or("no session")?)
+}
+
+/// The session of a BED file over that genome.
+pub(crate) fn session(rt: &HostRuntime, first: &[u8], limit: u32) -> Result<Session, Fail> {
+    begun(rt, alone(first, limit))
+}
+
+/// A failed test, unless this is so.
+pub(crate) fn holds(is_so: bool) -> Result<(), Fail> {
+    if is_so {
+        Ok(())
+    } else {
+        Err(Fail::new("it is not so"))
+    }
+}
+
+/// What a print of this view, or of all, writes into an output with room for this number of bytes, and its fault.
+pub(crate) fn printed(
+    rt: &HostRuntime,
+    session: &mut Session,
+    name: Option<&[u8]>,
+    room: usize,
+) -> Result<(MemSink, Option<PrintFault>), Fail> {
+    let mut sink = MemSink::new(rt.alloc(), room, 3)?;
+    let done = match name {
+        Some(name) => session.print_view(name, &mut sink),
+        None => session.print_all(&mut sink),
+    };
+    Ok((sink, done.err()))
+}
+
+/// Whether a print of this view, or of all, writes this.
+pub(crate) fn prints(
+    rt: &HostRuntime,
+    session: &mut Session,
+    name: Option<&[u8]>,
+    want: &[u8],
+) -> Result<bool, Fail> {
+    let (sink, fault) = printed(rt, session, name, 2000)?;
+    Ok(fault.is_none() && sink.bytes() == want)
 }
 
 /// An edit by the records of lines.
-#[derive(Clone, Copy, Debug)]
+#[derive(Clone, Copy)]
 pub(crate) enum Edit<'a> {
     Add(&'a [u8]),
     Remove(&'a [u8]),

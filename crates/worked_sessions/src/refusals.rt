@@ -1,7 +1,6 @@
 //! Each growth of a session's memory, refused in turn.
-use crate::fixtures::SIZES;
+use crate::fixtures::{Files, alone, session_of};
 use iv_state::{EditFault, Session};
-use iv_text::{BedFile, Genome};
 use iv_track::Meter;
 use refusing::RefusesNth;
 use std::alloc::Global;
@@ -11,7 +10,7 @@ use std::test::Fail;
 const COUNT: u32 = 30;
 
 /// What may be refused.
-#[derive(Clone, Copy, Debug)]
+#[derive(Clone, Copy)]
 enum Edit {
     Add,
     Replace,
@@ -103,16 +102,6 @@ fn is_refused_at(
     is_refused(session, edit, start, here.as_bytes(), there.as_bytes())
 }
 
-/// The session of a file's records, unless memory is refused.
-fn session_of<'a>(
-    alloc: &'a RefusesNth<Global>,
-    text: &[u8],
-) -> Option<Session<&'a RefusesNth<Global>>> {
-    let genome = Genome::parse(alloc, SIZES).ok()?;
-    let file = BedFile::parse(alloc, &genome, 4, COUNT, text).ok()?;
-    Session::new(alloc, genome, file, None, None, COUNT).ok()
-}
-
 /// Does each edit of each record. How many of them met the refusal.
 fn refused_edits(
     rt: &HostRuntime,
@@ -133,17 +122,14 @@ fn refused_edits(
     Ok(refused)
 }
 
-/// A session of a text, begun again where memory is refused, and how many calls met the refusal.
-fn begun<'a>(
+/// The session of files, begun again where memory is refused, and how many calls met the refusal.
+pub(crate) fn begun_again<'a>(
     alloc: &'a RefusesNth<Global>,
-    text: &[u8],
+    files: Files<'_>,
 ) -> Result<(Session<&'a RefusesNth<Global>>, u32), Fail> {
-    if let Some(session) = session_of(alloc, text) {
-        return Ok((session, 0));
-    }
-    match session_of(alloc, text) {
-        Some(session) => Ok((session, 1)),
-        None => Err(Fail::new("refused twice")),
+    match session_of(alloc, files) {
+        Some(session) => Ok((session, 0)),
+        None => Ok((session_of(alloc, files).ok_or("refused twice")?, 1)),
     }
 }
 
@@ -166,7 +152,11 @@ fn refused_in(
 
 /// Begins a session of a text, and edits it where it begins without a record. How many calls met the refusal.
 fn refused_calls(rt: &HostRuntime, alloc: &RefusesNth<Global>, text: &[u8]) -> Result<u32, Fail> {
-    let (mut session, refused) = begun(alloc, text)?;
+    let files = Files {
+        width: 4,
+        ..alone(text, COUNT)
+    };
+    let (mut session, refused) = begun_again(alloc, files)?;
     Ok(refused_in(rt, &mut session, text.is_empty())?.saturating_add(refused))
 }
 

@@ -1,7 +1,6 @@
 //! Steps of edits beside open views, with ample memory, so that no view becomes stale.
-use crate::fixtures::{Edit, answer};
+use crate::fixtures::{Edit, Files, alone, answer, begun, holds, prints};
 use iv_state::Session;
-use iv_text::{BedFile, Genome, MemSink};
 use std::test::Fail;
 
 /// The views that are open: the name and the words of each.
@@ -21,9 +20,11 @@ fn most_steps(around: u32) -> u64 {
 
 /// A session of a BED file over one sequence of a million bases.
 fn session(rt: &HostRuntime, text: &[u8]) -> Result<Session, Fail> {
-    let genome = Genome::parse(rt.alloc(), b"big\t1000000\n")?;
-    let file = BedFile::parse(rt.alloc(), &genome, 3, 2000, text)?;
-    Ok(Session::new(rt.alloc(), genome, file, None, None, 2000)?)
+    let files = Files {
+        sizes: b"big\t1000000\n",
+        ..alone(text, 2000)
+    };
+    begun(rt, files)
 }
 
 /// Opens the views.
@@ -59,34 +60,31 @@ fn print_as(
     wanted: &[(&[u8], &[u8])],
 ) -> Result<bool, Fail> {
     for (name, want) in wanted {
-        let mut sink = MemSink::new(rt.alloc(), 300, 99)?;
-        session.print_view(name, &mut sink)?;
-        if sink.bytes() != *want {
+        if !prints(rt, session, Some(name), want)? {
             return Ok(false);
         }
     }
     Ok(true)
 }
 
-/// Whether each of these edits takes at most this number of steps and leaves all views current.
-fn repair_within(session: &mut Session, edits: &[Edit<'_>], most: u64) -> Result<bool, Fail> {
+/// Does edits, each of which takes at most this number of steps and leaves all views current.
+fn repair_within(session: &mut Session, edits: &[Edit<'_>], most: u64) -> Result<(), Fail> {
     for edit in edits {
-        if !repairs_within(session, *edit, most)? {
-            return Ok(false);
-        }
+        holds(repairs_within(session, *edit, most)?)?;
     }
-    Ok(true)
+    Ok(())
 }
 
-/// Whether these edits take at most this number of steps each, and views print these texts afterwards.
+/// Does edits, which take at most this number of steps each, and views print these texts afterwards.
 fn repair_to(
     rt: &HostRuntime,
     session: &mut Session,
     edits: &[Edit<'_>],
     most: u64,
     texts: &[(&[u8], &[u8])],
-) -> Result<bool, Fail> {
-    Ok(repair_within(session, edits, most)? && print_as(rt, session, texts)?)
+) -> Result<(), Fail> {
+    repair_within(session, edits, most)?;
+    holds(print_as(rt, session, texts)?)
 }
 
 /// A record that holds two others is taken out: three records stood around it.
@@ -100,8 +98,7 @@ fn removal_that_splits_a_block(rt: HostRuntime) -> Result<(), Fail> {
         (b"c", b"big\t0\t10\nbig\t20\t60\nbig\t70\t1000000\n"),
         (b"g", b"big\t10\t20\t1\nbig\t60\t70\t1\n"),
     ];
-    assert!(rt; repair_to(&rt, &mut session, &edits, most_steps(3), &texts)?);
-    Ok(())
+    repair_to(&rt, &mut session, &edits, most_steps(3), &texts)
 }
 
 /// A thousand records, each of ten bases and so far behind the one before.
@@ -128,8 +125,7 @@ fn of_a_thousand(rt: &HostRuntime, apart: u32) -> Result<Session, Fail> {
 fn edits_of_a_thousand_records(rt: HostRuntime) -> Result<(), Fail> {
     let mut session = of_a_thousand(&rt, 1000)?;
     let edits = [Edit::Add(b"big\t500\t510"), Edit::Remove(b"big\t0\t10")];
-    assert!(rt; repair_within(&mut session, &edits, most_steps(1))?);
-    Ok(())
+    repair_within(&mut session, &edits, most_steps(1))
 }
 
 /// A thousand copies of one record; one more, and two less: the blocks stay, the depth changes.
@@ -143,8 +139,7 @@ fn edits_of_a_thousand_copies(rt: HostRuntime) -> Result<(), Fail> {
         (b"c", b"big\t10\t1000000\n"),
         (b"g", b"big\t0\t10\t999\n"),
     ];
-    assert!(rt; repair_to(&rt, &mut session, &edits, most_steps(1001), &texts)?);
-    Ok(())
+    repair_to(&rt, &mut session, &edits, most_steps(1001), &texts)
 }
 
 /// Closes all views but those of these names, and gives the steps of an edit beside them.
@@ -188,8 +183,8 @@ fn edit_without(
     Ok(stale == 0 && print_as(rt, session, texts)?)
 }
 
-/// Closes views one after another, with an edit behind each. Whether those that are left print their texts.
-fn closed_in_turn(rt: &HostRuntime, session: &mut Session) -> Result<bool, Fail> {
+/// Closes views one after another, with an edit behind each. Those that are left print their texts.
+fn close_in_turn(rt: &HostRuntime, session: &mut Session) -> Result<(), Fail> {
     let texts: [(&[u8], &[u8]); 2] = [
         (b"k", b"big\t0\t100\t1\nbig\t200\t300\t2\n"),
         (b"c", b"big\t100\t200\nbig\t300\t1000000\n"),
@@ -199,13 +194,12 @@ fn closed_in_turn(rt: &HostRuntime, session: &mut Session) -> Result<bool, Fail>
     let texts: [(&[u8], &[u8]); 1] = [(b"c", b"big\t0\t200\nbig\t300\t1000000\n")];
     let edit = Edit::Remove(b"big\t0\t100");
     let second = edit_without(rt, session, b"k", edit, &texts)?;
-    Ok(first && second)
+    holds(first && second)
 }
 
 /// Those that are left keep what they need.
 #[test]
 fn views_that_are_closed(rt: HostRuntime) -> Result<(), Fail> {
     let mut session = with_views(&rt, b"big\t0\t100\n")?;
-    assert!(rt; closed_in_turn(&rt, &mut session)?);
-    Ok(())
+    close_in_turn(&rt, &mut session)
 }

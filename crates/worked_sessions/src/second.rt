@@ -1,6 +1,6 @@
 //! Sessions beside a second file: views that are written from the records of both.
-use crate::around::{Around, edits_without_steps, print_around_edits, printed};
-use crate::fixtures::{Edit, session_beside};
+use crate::around::{Around, edit_without_steps, print_around_edits};
+use crate::fixtures::{Edit, Files, alone, begun, prints};
 use iv_state::Session;
 use std::test::Fail;
 
@@ -93,19 +93,28 @@ const EDITS: [Edit<'static>; 3] = [
     Edit::Remove(b"chr1\t30\t40"),
 ];
 
+/// A session of a BED file beside a second one.
+fn session_beside(rt: &HostRuntime, first: &[u8], second: &[u8]) -> Result<Session, Fail> {
+    let files = Files {
+        second: Some(second),
+        ..alone(first, 9)
+    };
+    begun(rt, files)
+}
+
 /// Views of which a state is kept, and views that are written from the records, before and after edits of the track.
 #[test]
 fn views_beside_a_second_file(rt: HostRuntime) -> Result<(), Fail> {
-    let mut session = session_beside(&rt, FIRST, SECOND, 9)?;
+    let mut session = session_beside(&rt, FIRST, SECOND)?;
     print_around_edits(&rt, &mut session, &VIEWS, &EDITS)
 }
 
 /// Views of which nothing is kept add no step to an edit.
 #[test]
 fn edits_beside_written_views(rt: HostRuntime) -> Result<(), Fail> {
-    let mut session = session_beside(&rt, FIRST, SECOND, 9)?;
-    assert!(rt; edits_without_steps(&mut session, &VIEWS[1..11], &EDITS)?);
-    Ok(())
+    let views = &VIEWS[1..11];
+    let mut session = session_beside(&rt, FIRST, SECOND)?;
+    edit_without_steps(&mut session, views, &EDITS)
 }
 
 /// Prints views of a record of six columns beside records of three.
@@ -124,7 +133,7 @@ fn check_two_widths(rt: &HostRuntime, session: &mut Session) -> Result<(), Fail>
         ),
     ] {
         session.open_view(name, words)?;
-        if printed(rt, session, Some(name))?.bytes() != want {
+        if !prints(rt, session, Some(name), want)? {
             return Err(Fail::new("another print"));
         }
     }
@@ -134,6 +143,6 @@ fn check_two_widths(rt: &HostRuntime, session: &mut Session) -> Result<(), Fail>
 #[test]
 fn files_of_two_widths(rt: HostRuntime) -> Result<(), Fail> {
     let first = b"chr1\t10\t20\tx\t7\t-\n";
-    let mut session = session_beside(&rt, first, b"chr1\t12\t14\nchr1\t13\t16\n", 9)?;
+    let mut session = session_beside(&rt, first, b"chr1\t12\t14\nchr1\t13\t16\n")?;
     check_two_widths(&rt, &mut session)
 }

@@ -1,7 +1,7 @@
 //! The calls of a session, one by one.
-use crate::fixtures::{Edit, answer, session};
+use crate::fixtures::{Edit, answer, holds, printed, prints, session};
 use iv_state::{EditFault, NoView, PrintFault, Session};
-use iv_text::{MemSink, RecordFault};
+use iv_text::RecordFault;
 use iv_track::Meter;
 use iv_view::ViewFault;
 use std::test::Fail;
@@ -89,8 +89,7 @@ fn numbers_of(session: &Session) -> (u32, u8, u32, Option<(u64, u64, u32)>) {
 #[test]
 fn session_of_a_file(rt: HostRuntime) -> Result<(), Fail> {
     let session = session(&rt, b"chr2\t0\t1\nchr1\t10\t20\nchr2\t0\t1\n", 5)?;
-    assert!(rt; numbers_of(&session) == (3, 3, 5, Some((0, 1, 2))));
-    Ok(())
+    holds(numbers_of(&session) == (3, 3, 5, Some((0, 1, 2))))
 }
 
 /// The fault of an opening in a session without views.
@@ -126,21 +125,6 @@ fn with_views(rt: &HostRuntime) -> Result<Session, Fail> {
     Ok(session)
 }
 
-/// What a print of this view, or of all, writes into an output with room for this number of bytes, and its fault.
-fn printed(
-    rt: &HostRuntime,
-    session: &mut Session,
-    name: Option<&[u8]>,
-    room: usize,
-) -> Result<(MemSink, Option<PrintFault>), Fail> {
-    let mut sink = MemSink::new(rt.alloc(), room, 3)?;
-    let done = match name {
-        Some(name) => session.print_view(name, &mut sink),
-        None => session.print_all(&mut sink),
-    };
-    Ok((sink, done.err()))
-}
-
 /// Prints the views of a session, one by one and all, into outputs with and without room.
 fn check_prints(rt: &HostRuntime, session: &mut Session) -> Result<(), Fail> {
     let all = b"#a\nchr1\t10\t30\nchr1\t31\t40\n#b\nchr1\t10\t30\nchr1\t31\t40\n";
@@ -160,7 +144,7 @@ fn check_prints(rt: &HostRuntime, session: &mut Session) -> Result<(), Fail> {
 }
 
 #[test]
-fn prints(rt: HostRuntime) -> Result<(), Fail> {
+fn prints_into_outputs(rt: HostRuntime) -> Result<(), Fail> {
     let mut session = with_views(&rt)?;
     check_prints(&rt, &mut session)
 }
@@ -174,22 +158,15 @@ fn closes(session: &mut Session) -> Result<bool, Fail> {
     Ok(is_added && is_current && is_absent && is_closed)
 }
 
-/// Whether a print of all views writes this.
-fn prints_all(rt: &HostRuntime, session: &mut Session, want: &[u8]) -> Result<bool, Fail> {
-    let (sink, fault) = printed(rt, session, None, 99)?;
-    Ok(fault.is_none() && sink.bytes() == want)
-}
-
 /// Does all that, and prints the view that is left.
-fn closes_one_of_two(rt: &HostRuntime, session: &mut Session) -> Result<bool, Fail> {
-    Ok(closes(session)? && prints_all(rt, session, b"#b\nchr1\t10\t40\n")?)
+fn close_one_of_two(rt: &HostRuntime, session: &mut Session) -> Result<(), Fail> {
+    holds(closes(session)? && prints(rt, session, None, b"#b\nchr1\t10\t40\n")?)
 }
 
 #[test]
 fn views_that_are_current(rt: HostRuntime) -> Result<(), Fail> {
     let mut session = with_views(&rt)?;
-    assert!(rt; closes_one_of_two(&rt, &mut session)?);
-    Ok(())
+    close_one_of_two(&rt, &mut session)
 }
 
 /// The numbers of faults in the table of faults.

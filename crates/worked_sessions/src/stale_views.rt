@@ -1,14 +1,16 @@
 //! Open views, while each growth of memory is refused in turn.
-use crate::fixtures::{Edit, SIZES, answer};
+use crate::around::{Around, all_texts};
+use crate::fixtures::{Edit, Files, alone, answer};
+use crate::refusals::begun_again;
 use iv_state::{EditFault, PrintFault, Session};
-use iv_text::{BedFile, Genome, MemSink};
+use iv_text::MemSink;
 use iv_view::ViewFault;
 use refusing::RefusesNth;
 use std::alloc::Global;
 use std::test::Fail;
 
 /// The views that are open: the name and the words of each, and its text before the edits and after them.
-const VIEWS: [(&[u8], &[&[u8]], &[u8], &[u8]); 6] = [
+const VIEWS: [Around<'static>; 6] = [
     (
         b"a",
         &[b"merge"],
@@ -55,28 +57,15 @@ const EDITS: [Edit<'static>; 3] = [
     Edit::Remove(b"chr1\t10\t20\tn"),
 ];
 
-/// The session of nine records and a second file of one, unless memory is refused. Depth changes at fifteen places, which fill one node of a
-/// tree: the first edit has to split it.
-fn session_of(alloc: &RefusesNth<Global>) -> Option<Session<&RefusesNth<Global>>> {
-    let text =
-        b"chr1\t0\t30\tn\nchr1\t10\t20\tn\nchr1\t20\t30\tn\nchr2\t1\t2\tn\nchr2\t3\t4\tn\nchr2\t5\t6\tn\nchr2\t7\t8\tn\nchr2\t9\t10\tn\nchr2\t11\t12\tn\n";
-    let genome = Genome::parse(alloc, SIZES).ok()?;
-    let file = BedFile::parse(alloc, &genome, 4, 12, text).ok()?;
-    let other = BedFile::parse(alloc, &genome, 4, 12, b"chr1\t15\t35\n").ok()?;
-    Session::new(alloc, genome, file, Some(other), None, 12).ok()
-}
+/// Nine records. Depth changes at fifteen places, which fill one node of a tree: the first edit has to split it.
+const FIRST: &[u8] =
+    b"chr1\t0\t30\tn\nchr1\t10\t20\tn\nchr1\t20\t30\tn\nchr2\t1\t2\tn\nchr2\t3\t4\tn\nchr2\t5\t6\tn\nchr2\t7\t8\tn\nchr2\t9\t10\tn\nchr2\t11\t12\tn\n";
 
-/// What all views print after the edits.
-fn all_texts(rt: &HostRuntime) -> Result<Vec<u8>, Fail> {
-    let mut all = Vec::new(rt.alloc());
-    for (name, _, _, text) in VIEWS {
-        all.extend_from_slice(b"#")?;
-        all.extend_from_slice(name)?;
-        all.extend_from_slice(b"\n")?;
-        all.extend_from_slice(text)?;
-    }
-    Ok(all)
-}
+/// A second file of one record.
+const SECOND: &[u8] = b"chr1\t15\t35\n";
+
+/// How many records a file may have.
+const LIMIT: u32 = 12;
 
 /// How many of the views are not current.
 fn count_stale(session: &Session<&RefusesNth<Global>>) -> u32 {
@@ -201,7 +190,7 @@ fn refused_work(
     let (edited, stale) = refused_edits(session)?;
     let mut printed = 0u32;
     if at_once {
-        let all = all_texts(rt)?;
+        let all = all_texts(rt, &VIEWS, true)?;
         printed = refused_prints(rt, session, None, all.as_slice())?;
     }
     for (name, _, _, text) in VIEWS {
@@ -214,21 +203,17 @@ fn refused_work(
     Ok((refused.saturating_add(printed), stale))
 }
 
-/// The session, and how often memory for it was refused.
-fn begun(alloc: &RefusesNth<Global>) -> Result<(Session<&RefusesNth<Global>>, u32), Fail> {
-    match session_of(alloc) {
-        Some(session) => Ok((session, 0)),
-        None => Ok((session_of(alloc).ok_or("refused twice")?, 1)),
-    }
-}
-
 /// All that is done to a session, from its making on. How many calls met the refusal, and the most views that were stale.
 fn refused_calls(
     rt: &HostRuntime,
     alloc: &RefusesNth<Global>,
     at_once: bool,
 ) -> Result<(u32, u32), Fail> {
-    let (mut session, begun) = begun(alloc)?;
+    let files = Files {
+        second: Some(SECOND),
+        ..alone(FIRST, LIMIT)
+    };
+    let (mut session, begun) = begun_again(alloc, files)?;
     let (refused, stale) = refused_work(rt, &mut session, at_once)?;
     Ok((begun.saturating_add(refused), stale))
 }

@@ -1,24 +1,29 @@
 //! Each growth of a run of one subcommand, refused in turn.
-use iv_cli::{CliFault, Inputs, Plan, shot};
+use iv_files::{CliFault, Inputs, shot};
+use iv_plan::{Plan, PlanFault};
 use iv_text::MemSink;
 use refusing::RefusesNth;
 use std::alloc::Global;
 use std::test::Fail;
 
-/// What a run answers, from its words on, and what it has printed.
+/// Whether a run is refused memory, from its words on, and what it has printed.
 fn run(
     rt: &HostRuntime,
     alloc: &RefusesNth<Global>,
     words: &[&[u8]],
     inputs: &Inputs<'_>,
-) -> Result<(Option<CliFault>, MemSink), Fail> {
+) -> Result<(bool, MemSink), Fail> {
     let mut sink = MemSink::new(rt.alloc(), 1000, 9)?;
     let plan = match Plan::read(alloc, words) {
         Ok(plan) => plan,
-        Err(fault) => return Ok((Some(fault), sink)),
+        Err(PlanFault::Memory) => return Ok((true, sink)),
+        Err(PlanFault::Words) => return Err(Fail::new("other words")),
     };
-    let fault = shot(alloc, &plan, inputs, None, 100, &mut sink).err();
-    Ok((fault, sink))
+    match shot(alloc, &plan, inputs, None, 100, &mut sink) {
+        Ok(()) => Ok((false, sink)),
+        Err(CliFault::Memory) => Ok((true, sink)),
+        Err(_) => Err(Fail::new("another fault")),
+    }
 }
 
 /// How many runs ended in want of memory with nothing printed, until one met no refusal. All others printed these rows.
@@ -31,16 +36,17 @@ fn refused_runs(
     let mut refused = 0u32;
     for number in 1..10_000u64 {
         let alloc = RefusesNth::new(rt.alloc(), number);
-        let (fault, sink) = run(rt, &alloc, words, inputs)?;
-        match fault {
-            None if sink.bytes() != rows => return Err(Fail::new("other rows")),
-            None if !alloc.has_refused() => return Ok(refused),
-            // A growth that was refused may have been tried again at another size.
-            None => {}
-            Some(CliFault::Memory) if alloc.has_refused() && sink.bytes().is_empty() => {
-                refused = refused.saturating_add(1);
+        let (is_refused, sink) = run(rt, &alloc, words, inputs)?;
+        if is_refused {
+            if !alloc.has_refused() || !sink.bytes().is_empty() {
+                return Err(Fail::new("no refusal, or a row too many"));
             }
-            Some(_) => return Err(Fail::new("another fault, or a row too many")),
+            refused = refused.saturating_add(1);
+        } else if sink.bytes() != rows {
+            return Err(Fail::new("other rows"));
+        } else if !alloc.has_refused() {
+            // A growth that was refused may have been tried again at another size.
+            return Ok(refused);
         }
     }
     Err(Fail::new("no end of growths"))

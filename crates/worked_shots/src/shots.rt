@@ -1,5 +1,6 @@
 //! Runs of one subcommand on the bytes of their files.
-use iv_cli::{CliFault, Inputs, Plan, Slot, shot};
+use iv_files::{CliFault, Inputs, shot};
+use iv_plan::{Plan, Slot};
 use iv_text::{LoadCause, LoadFault, MemSink, RecordFault};
 use refusing::words_of;
 use std::test::Fail;
@@ -80,36 +81,34 @@ fn is_told(
 
 #[test]
 fn merge_and_cluster(rt: HostRuntime) -> Result<(), Fail> {
-    let inputs = alone(b"chr1\t10\t20\nchr1\t20\t30\nchr1\t31\t40\n");
-    assert!(rt;
-        prints(
-            &rt,
+    let three = b"chr1\t10\t20\nchr1\t20\t30\nchr1\t31\t40\n".as_slice();
+    let four = b"chr1\t10\t20\nchr1\t20\t30\nchr1\t31\t40\nchr2\t0\t5\n".as_slice();
+    for (words, first, rows) in [
+        (
+            b"merge -g g -i a".as_slice(),
+            three,
+            b"chr1\t10\t30\nchr1\t31\t40\n".as_slice(),
+        ),
+        (b"merge -d 1 -g g -i a", three, b"chr1\t10\t40\n"),
+        (
+            b"cluster -g g -i a",
+            four,
+            b"chr1\t10\t20\t1\nchr1\t20\t30\t1\nchr1\t31\t40\t2\nchr2\t0\t5\t3\n",
+        ),
+        (
+            b"cluster -g g -d 1 -i a",
+            four,
+            b"chr1\t10\t20\t1\nchr1\t20\t30\t1\nchr1\t31\t40\t1\nchr2\t0\t5\t2\n",
+        ),
+        // Unsorted.
+        (
             b"merge -g g -i a",
-            &inputs,
-            b"chr1\t10\t30\nchr1\t31\t40\n"
-        )?
-    );
-    assert!(rt; prints(&rt, b"merge -d 1 -g g -i a", &inputs, b"chr1\t10\t40\n")?);
-    let inputs = alone(b"chr1\t10\t20\nchr1\t20\t30\nchr1\t31\t40\nchr2\t0\t5\n");
-    let rows = b"chr1\t10\t20\t1\nchr1\t20\t30\t1\nchr1\t31\t40\t2\nchr2\t0\t5\t3\n";
-    assert!(rt; prints(&rt, b"cluster -g g -i a", &inputs, rows)?);
-    let rows = b"chr1\t10\t20\t1\nchr1\t20\t30\t1\nchr1\t31\t40\t1\nchr2\t0\t5\t2\n";
-    assert!(rt; prints(&rt, b"cluster -g g -d 1 -i a", &inputs, rows)?);
-    Ok(())
-}
-
-#[test]
-fn merge_of_unsorted_records(rt: HostRuntime) -> Result<(), Fail> {
-    let inputs = alone(b"chr2\t5\t9\nchr1\t30\t40\nchr1\t10\t35\n");
-    assert!(rt;
-        prints(
-            &rt,
-            b"merge -g g -i a",
-            &inputs,
-            b"chr1\t10\t40\nchr2\t5\t9\n"
-        )?
-    );
-    assert!(rt; is_told(&rt, b"merge -g g -i a -c 5", &inputs, CliFault::Words(17))?);
+            b"chr2\t5\t9\nchr1\t30\t40\nchr1\t10\t35\n",
+            b"chr1\t10\t40\nchr2\t5\t9\n",
+        ),
+    ] {
+        assert!(rt; prints(&rt, words, &alone(first), rows)?);
+    }
     Ok(())
 }
 
@@ -136,6 +135,7 @@ fn merge_with_summaries(rt: HostRuntime) -> Result<(), Fail> {
     let inputs = alone(b"chr1\t10\t20\ta\t5\nchr1\t14\t20\td\t2.5\n");
     let rows = b"chr1\t10\t20\t.\t.\t.\n";
     assert!(rt; prints(&rt, b"merge -c 5 -o sum,min,max -g g -i a", &inputs, rows)?);
+    assert!(rt; is_told(&rt, b"merge -g g -i a -c 6", &inputs, CliFault::Words(17))?);
     Ok(())
 }
 
@@ -191,24 +191,43 @@ fn merge_with_strands_apart(rt: HostRuntime) -> Result<(), Fail> {
 
 #[test]
 fn genomecov(rt: HostRuntime) -> Result<(), Fail> {
-    let both = alone(b"chr1\t10\t20\nchr1\t20\t30\n");
-    assert!(rt; prints(&rt, b"genomecov -g g -i a -bg", &both, b"chr1\t10\t30\t1\n")?);
-    let one = alone(b"chr1\t20\t30\n");
-    assert!(rt; prints(&rt, b"genomecov -bg -g g -i a", &one, b"chr1\t20\t30\t1\n")?);
-    let rows = b"chr1\t0\t20\t0\nchr1\t20\t30\t1\nchr1\t30\t100\t0\nchr2\t0\t50\t0\n";
-    assert!(rt; prints(&rt, b"genomecov -g g -bga -i a", &one, rows)?);
-    Ok(())
-}
-
-/// Records of two sequences, out of order: two share some bases, and one begins where two others end.
-#[test]
-fn genomecov_of_unsorted_records(rt: HostRuntime) -> Result<(), Fail> {
-    let inputs = alone(b"chr2\t5\t9\nchr1\t40\t50\nchr1\t30\t40\nchr1\t10\t40\n");
-    let rows = b"chr1\t10\t30\t1\nchr1\t30\t40\t2\nchr1\t40\t50\t1\nchr2\t5\t9\t1\n";
-    assert!(rt; prints(&rt, b"genomecov -bg -g g -i a", &inputs, rows)?);
-    let rows =
-        b"chr1\t0\t10\t0\nchr1\t10\t30\t1\nchr1\t30\t40\t2\nchr1\t40\t50\t1\nchr1\t50\t100\t0\nchr2\t0\t5\t0\nchr2\t5\t9\t1\nchr2\t9\t50\t0\n";
-    assert!(rt; prints(&rt, b"genomecov -bga -g g -i a", &inputs, rows)?);
+    let both = b"chr1\t10\t20\nchr1\t20\t30\n".as_slice();
+    let one = b"chr1\t20\t30\n".as_slice();
+    let ends = b"chr1\t0\t100\nchr1\t50\t100\n".as_slice();
+    let copies = b"chr1\t10\t20\nchr1\t10\t20\n".as_slice();
+    // Records of two sequences, out of order: two share some bases, and one begins where two others end.
+    let unsorted = b"chr2\t5\t9\nchr1\t40\t50\nchr1\t30\t40\nchr1\t10\t40\n".as_slice();
+    for (first, covered, all) in [
+        (
+            both,
+            b"chr1\t10\t30\t1\n".as_slice(),
+            b"chr1\t0\t10\t0\nchr1\t10\t30\t1\nchr1\t30\t100\t0\nchr2\t0\t50\t0\n".as_slice(),
+        ),
+        (
+            one,
+            b"chr1\t20\t30\t1\n",
+            b"chr1\t0\t20\t0\nchr1\t20\t30\t1\nchr1\t30\t100\t0\nchr2\t0\t50\t0\n",
+        ),
+        (
+            ends,
+            b"chr1\t0\t50\t1\nchr1\t50\t100\t2\n",
+            b"chr1\t0\t50\t1\nchr1\t50\t100\t2\nchr2\t0\t50\t0\n",
+        ),
+        (
+            copies,
+            b"chr1\t10\t20\t2\n",
+            b"chr1\t0\t10\t0\nchr1\t10\t20\t2\nchr1\t20\t100\t0\nchr2\t0\t50\t0\n",
+        ),
+        (
+            unsorted,
+            b"chr1\t10\t30\t1\nchr1\t30\t40\t2\nchr1\t40\t50\t1\nchr2\t5\t9\t1\n",
+            b"chr1\t0\t10\t0\nchr1\t10\t30\t1\nchr1\t30\t40\t2\nchr1\t40\t50\t1\nchr1\t50\t100\t0\nchr2\t0\t5\t0\nchr2\t5\t9\t1\nchr2\t9\t50\t0\n",
+        ),
+        (b"", b"", b"chr1\t0\t100\t0\nchr2\t0\t50\t0\n"),
+    ] {
+        assert!(rt; prints(&rt, b"genomecov -g g -i a -bg", &alone(first), covered)?);
+        assert!(rt; prints(&rt, b"genomecov -g g -bga -i a", &alone(first), all)?);
+    }
     Ok(())
 }
 
@@ -220,15 +239,6 @@ fn genomecov_of_each_position(rt: HostRuntime) -> Result<(), Fail> {
     };
     let rows = b"t\t1\t0\nt\t2\t1\nt\t3\t2\nt\t4\t0\n";
     assert!(rt; prints(&rt, b"genomecov -d -g g -i a", &inputs, rows)?);
-    Ok(())
-}
-
-#[test]
-fn genomecov_without_a_record(rt: HostRuntime) -> Result<(), Fail> {
-    let inputs = alone(b"");
-    assert!(rt; prints(&rt, b"genomecov -bg -g g -i a", &inputs, b"")?);
-    let rows = b"chr1\t0\t100\t0\nchr2\t0\t50\t0\n";
-    assert!(rt; prints(&rt, b"genomecov -bga -g g -i a", &inputs, rows)?);
     Ok(())
 }
 
@@ -276,7 +286,7 @@ fn files_without_a_record(rt: HostRuntime) -> Result<(), Fail> {
 #[test]
 fn intersect(rt: HostRuntime) -> Result<(), Fail> {
     let inputs = beside(
-        b"chr1\t10\t20\nchr1\t30\t40\n",
+        b"chr1\t30\t40\nchr1\t10\t20\n",
         b"chr1\t20\t30\nchr1\t15\t18\nchr1\t15\t18\n",
     );
     for (words, rows) in [
@@ -309,16 +319,88 @@ fn intersect(rt: HostRuntime) -> Result<(), Fail> {
 }
 
 #[test]
+fn intersect_of_two_widths(rt: HostRuntime) -> Result<(), Fail> {
+    let inputs = beside(
+        b"chr1\t10\t20\tx\t7\t-\n",
+        b"chr1\t15\t30\ty\nchr1\t0\t12\tz\n",
+    );
+    for (words, rows) in [
+        (
+            b"intersect -g g -a a -b b".as_slice(),
+            b"chr1\t10\t12\tx\t7\t-\nchr1\t15\t20\tx\t7\t-\n".as_slice(),
+        ),
+        (
+            b"intersect -g g -a a -b b -wb",
+            b"chr1\t10\t12\tx\t7\t-\tchr1\t0\t12\tz\nchr1\t15\t20\tx\t7\t-\tchr1\t15\t30\ty\n",
+        ),
+        (
+            b"intersect -g g -wa -wb -a a -b b",
+            b"chr1\t10\t20\tx\t7\t-\tchr1\t0\t12\tz\nchr1\t10\t20\tx\t7\t-\tchr1\t15\t30\ty\n",
+        ),
+        (
+            b"intersect -c -g g -a a -b b",
+            b"chr1\t10\t20\tx\t7\t-\t2\n",
+        ),
+    ] {
+        assert!(rt; prints(&rt, words, &inputs, rows)?);
+    }
+    Ok(())
+}
+
+/// The second file has a record of all the sequence, eleven short ones in its midst, and one on another sequence.
+#[test]
+fn intersect_with_a_long_record(rt: HostRuntime) -> Result<(), Fail> {
+    let inputs = beside(
+        b"chr1\t5\t6\nchr1\t31\t33\nchr1\t80\t90\nchr2\t0\t40\nchr2\t44\t50\n",
+        b"chr1\t0\t100\nchr1\t11\t12\nchr1\t13\t14\nchr1\t15\t16\nchr1\t17\t18\nchr1\t19\t20\nchr1\t21\t22\nchr1\t23\t24\nchr1\t25\t26\nchr1\t27\t28\nchr1\t29\t30\nchr1\t31\t32\nchr2\t40\t45\n",
+    );
+    for (words, rows) in [
+        (
+            b"intersect -g g -a a -b b".as_slice(),
+            b"chr1\t5\t6\nchr1\t31\t33\nchr1\t31\t32\nchr1\t80\t90\nchr2\t44\t45\n".as_slice(),
+        ),
+        (
+            b"intersect -c -g g -a a -b b",
+            b"chr1\t5\t6\t1\nchr1\t31\t33\t2\nchr1\t80\t90\t1\nchr2\t0\t40\t0\nchr2\t44\t50\t1\n",
+        ),
+        (b"subtract -g g -a a -b b", b"chr2\t0\t40\nchr2\t45\t50\n"),
+        (b"subtract -g g -a a -b b -A", b"chr2\t0\t40\n"),
+    ] {
+        assert!(rt; prints(&rt, words, &inputs, rows)?);
+    }
+    Ok(())
+}
+
+/// What second files leave of one record, by its parts and as a whole.
+#[test]
 fn subtract(rt: HostRuntime) -> Result<(), Fail> {
-    let first = b"chr1\t10\t20\tx\t7\t-\n";
-    let whole = b"chr1\t10\t20\tx\t7\t-\n";
-    let inputs = beside(first, b"chr1\t12\t14\nchr1\t13\t16\n");
-    let rows = b"chr1\t10\t12\tx\t7\t-\nchr1\t16\t20\tx\t7\t-\n";
-    assert!(rt; prints(&rt, b"subtract -g g -a a -b b", &inputs, rows)?);
-    assert!(rt; prints(&rt, b"subtract -g g -a a -b b -A", &inputs, b"")?);
-    let inputs = beside(first, b"chr1\t20\t30\n");
-    assert!(rt; prints(&rt, b"subtract -g g -a a -b b", &inputs, whole)?);
-    assert!(rt; prints(&rt, b"subtract -A -g g -a a -b b", &inputs, whole)?);
+    let first = b"chr1\t10\t20\tx\t7\t-\n".as_slice();
+    for (second, parts, whole) in [
+        (
+            b"chr1\t12\t14\nchr1\t13\t16\n".as_slice(),
+            b"chr1\t10\t12\tx\t7\t-\nchr1\t16\t20\tx\t7\t-\n".as_slice(),
+            b"".as_slice(),
+        ),
+        (b"chr1\t20\t30\n", first, first),
+        (b"chr1\t0\t10\nchr2\t10\t20\n", first, first),
+        (b"chr1\t0\t100\n", b"", b""),
+        (
+            b"chr1\t12\t13\nchr1\t12\t13\n",
+            b"chr1\t10\t12\tx\t7\t-\nchr1\t13\t20\tx\t7\t-\n",
+            b"",
+        ),
+        (
+            b"chr1\t0\t15\nchr1\t11\t12\nchr1\t15\t18\n",
+            b"chr1\t18\t20\tx\t7\t-\n",
+            b"",
+        ),
+        (b"chr1\t0\t19\nchr1\t19\t20\n", b"", b""),
+        (b"", first, first),
+    ] {
+        let inputs = beside(first, second);
+        assert!(rt; prints(&rt, b"subtract -g g -a a -b b", &inputs, parts)?);
+        assert!(rt; prints(&rt, b"subtract -A -g g -a a -b b", &inputs, whole)?);
+    }
     Ok(())
 }
 

@@ -140,15 +140,22 @@ const EACH_COLUMN: [Column; 6] = [
 ];
 
 /// The results of an operation over every column of two records, `None` where memory is refused.
-fn over_each_column<'a>(
+fn results_beside<'a>(
     alloc: &'a RefusesNth<Global>,
+    genome: &Genome<&'a RefusesNth<Global>>,
     op: Op,
 ) -> Option<Vec<u8, &'a RefusesNth<Global>>> {
-    let genome = Genome::parse(alloc, b"chr1\t1000\n").ok()?;
-    let first = record(alloc, &genome, b"chr1\t100\t250\tb\t0.5\t-")?;
-    let second = record(alloc, &genome, b"chr1\t9\t1000\ta\t7\t.")?;
+    let first = record(alloc, genome, b"chr1\t100\t250\tb\t0.5\t-")?;
+    let second = record(alloc, genome, b"chr1\t9\t1000\ta\t7\t.")?;
     let asked = EACH_COLUMN.map(|column| Summary { column, op });
     results(alloc, &asked, b"chr1", &[&first, &second]).ok()
+}
+
+/// Whether the results of an operation over every column of the two records are these, `None` where memory is refused.
+fn are_results(alloc: &RefusesNth<Global>, op: Op, want: &[u8]) -> Option<bool> {
+    let genome = Genome::parse(alloc, b"chr1\t1000\n").ok()?;
+    let text = results_beside(alloc, &genome, op)?;
+    Some(text.as_slice() == want)
 }
 
 /// What each operation gives over every column of the two records.
@@ -168,8 +175,8 @@ const WANTED: [(Op, &[u8]); 6] = [
 fn right_with_refusals(rt: &HostRuntime, op: Op, want: &[u8]) -> bool {
     for number in 1..1000u64 {
         let alloc = RefusesNth::new(rt.alloc(), number);
-        match over_each_column(&alloc, op) {
-            Some(text) => return !alloc.has_refused() && number > 1 && text.as_slice() == want,
+        match are_results(&alloc, op, want) {
+            Some(is_right) => return is_right && !alloc.has_refused() && number > 1,
             None if alloc.has_refused() => (),
             None => return false,
         }
