@@ -32,18 +32,25 @@ fn sequence_of(genome: &Genome, rank: u32) -> Option<(u32, &[u8], u64)> {
     Some((genome.rank(name)?, name, genome.length(rank)?))
 }
 
-#[test]
-fn sequences_of_a_genome(rt: HostRuntime) -> Result<(), Fail> {
-    let genome = genome(&rt)?;
-    assert!(rt; genome.count() == 3 && genome.rank(b"chr").is_none());
+/// Whether these are the sequences of the genome, by their ranks.
+fn has_sequences(genome: &Genome) -> bool {
     for (rank, want) in [
         (0, Some((0, b"chr1".as_slice(), 100))),
         (1, Some((1, b"chr2", 50))),
         (2, Some((2, b"chr3", 0))),
         (3, None),
     ] {
-        assert!(rt; sequence_of(&genome, rank) == want);
+        if sequence_of(genome, rank) != want {
+            return false;
+        }
     }
+    genome.count() == 3 && genome.rank(b"chr").is_none()
+}
+
+#[test]
+fn sequences_of_a_genome(rt: HostRuntime) -> Result<(), Fail> {
+    let genome = genome(&rt)?;
+    assert!(rt; has_sequences(&genome));
     Ok(())
 }
 
@@ -64,9 +71,8 @@ fn file_of(
     }
 }
 
-#[test]
-fn bed_files(rt: HostRuntime) -> Result<(), Fail> {
-    let genome = genome(&rt)?;
+/// Whether these files are read as they are to be.
+fn are_read(rt: &HostRuntime, genome: &Genome) -> bool {
     for (text, want) in [
         (b"chr1\t1\t2\nchr2\t3\t50\n".as_slice(), (3, 2, 1, 3)),
         (b"#c\nchr2\t5\t9\ta\nchr1\t30\t40\tb\n", (4, 2, 0, 30)),
@@ -74,8 +80,15 @@ fn bed_files(rt: HostRuntime) -> Result<(), Fail> {
         (b"", (5, 0, 0, 0)),
         (b"browser position\n\n", (5, 0, 0, 0)),
     ] {
-        assert!(rt; file_of(&rt, &genome, 2, text) == Ok(want));
+        if file_of(rt, genome, 2, text) != Ok(want) {
+            return false;
+        }
     }
+    true
+}
+
+/// Whether these files are told as damaged.
+fn are_damaged(rt: &HostRuntime, genome: &Genome) -> bool {
     for (text, line, cause) in [
         (
             b"track name=x\n#c\n\nchr1\t1\t2\nchr1\t1\t2\ta\n".as_slice(),
@@ -89,7 +102,16 @@ fn bed_files(rt: HostRuntime) -> Result<(), Fail> {
             LoadCause::TooMany,
         ),
     ] {
-        assert!(rt; file_of(&rt, &genome, 2, text) == Err(LoadFault { line, cause }));
+        if file_of(rt, genome, 2, text) != Err(LoadFault { line, cause }) {
+            return false;
+        }
     }
+    true
+}
+
+#[test]
+fn bed_files(rt: HostRuntime) -> Result<(), Fail> {
+    let genome = genome(&rt)?;
+    assert!(rt; are_read(&rt, &genome) && are_damaged(&rt, &genome));
     Ok(())
 }

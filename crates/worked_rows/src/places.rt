@@ -252,12 +252,17 @@ fn are_at_indexes(records: &TextRecords<'_>) -> bool {
     sum == 112_233 && first == 11 && second == 22 && records.get(3).is_none()
 }
 
+/// Whether a text of three records is found by each way to them.
+fn is_found(rt: &HostRuntime, genome: &Genome, text: &[u8]) -> Result<bool, Fail> {
+    let bed = bed_text(rt.alloc(), genome, 9, text)?;
+    Ok(are_three(bed.records()) && are_at_indexes(&bed.records()))
+}
+
 #[test]
 fn ways_to_the_records(rt: HostRuntime) -> Result<(), Fail> {
     let genome = Genome::parse(rt.alloc(), SIZES)?;
-    let text = b"chr1\t11\t12\nchr1\t22\t23\n\nchr2\t33\t34\n".as_slice();
-    let bed = bed_text(rt.alloc(), &genome, 9, text)?;
-    assert!(rt; are_three(bed.records()) && are_at_indexes(&bed.records()));
+    let text = b"chr1\t11\t12\nchr1\t22\t23\n\nchr2\t33\t34\n";
+    assert!(rt; is_found(&rt, &genome, text)?);
     Ok(())
 }
 

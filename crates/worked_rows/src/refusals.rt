@@ -195,16 +195,24 @@ fn lines(rt: &HostRuntime) -> Result<String, Fail> {
 }
 
 /// Builds a track from the records of a text, and says how many calls met the refusal.
-fn refused_build(alloc: &RefusesNth<Global>, text: &[u8]) -> Result<u32, Fail> {
-    let Ok(genome) = Genome::parse(alloc, SIZES) else {
-        return Ok(0);
-    };
-    match track_of(alloc, &genome, text) {
+fn refused_build_on(
+    alloc: &RefusesNth<Global>,
+    genome: &Genome<&RefusesNth<Global>>,
+    text: &[u8],
+) -> Result<u32, Fail> {
+    match track_of(alloc, genome, text) {
         Ok(Ok(track)) if holds_starts(&track, 0, COUNT) => Ok(0),
-        Ok(Ok(_)) => Err(Fail::new("another track")),
         Ok(Err(_)) => Ok(1),
         Err(fault) if fault.cause == LoadCause::Memory => Ok(0),
-        Err(_) => Err(Fail::new("bad file")),
+        _ => Err(Fail::new("another track, or a bad file")),
+    }
+}
+
+/// The same of a genome and the track. Where the genome met the refusal the track did not.
+fn refused_build(alloc: &RefusesNth<Global>, text: &[u8]) -> Result<u32, Fail> {
+    match Genome::parse(alloc, SIZES) {
+        Ok(genome) => refused_build_on(alloc, &genome, text),
+        Err(_) => Ok(0),
     }
 }
 

@@ -18,29 +18,44 @@ fn bed_text(rt: &HostRuntime) -> Result<String, Fail> {
     Ok(text)
 }
 
+/// How many records the track of a plan's files holds, `None` where memory is refused.
+fn loaded_by<'a>(
+    alloc: &'a RefusesNth<Global>,
+    plan: &Plan<'_, &'a RefusesNth<Global>>,
+    inputs: &Inputs<'_>,
+    bases: Option<Vec<u8, &'a RefusesNth<Global>>>,
+) -> Result<Option<u32>, Fail> {
+    match load(alloc, plan, inputs, bases, COUNT) {
+        Ok(session) => Ok(Some(session.len())),
+        Err(CliFault::Memory) => Ok(None),
+        Err(_) => Err(Fail::new("another fault")),
+    }
+}
+
+/// The bytes of a FASTA file, where there is one, `None` where memory is refused.
+fn copied<'a>(
+    alloc: &'a RefusesNth<Global>,
+    bases: Option<&[u8]>,
+) -> Option<Option<Vec<u8, &'a RefusesNth<Global>>>> {
+    match bases {
+        Some(text) => Some(Some(text.to_vec(alloc).ok()?)),
+        None => Some(None),
+    }
+}
+
 /// How many records the track of the files holds, `None` where memory is refused.
 fn loaded(
     alloc: &RefusesNth<Global>,
     inputs: &Inputs<'_>,
     bases: Option<&[u8]>,
 ) -> Result<Option<u32>, Fail> {
-    let plan = Plan::read(
-        alloc,
-        &[
-            b"session", b"-g", b"g", b"-i", b"a", b"-b", b"b", b"-fi", b"f",
-        ],
-    )?;
-    let bases = match bases {
-        Some(text) => match text.to_vec(alloc) {
-            Ok(text) => Some(text),
-            Err(_) => return Ok(None),
-        },
-        None => None,
-    };
-    match load(alloc, &plan, inputs, bases, COUNT) {
-        Ok(session) => Ok(Some(session.len())),
-        Err(CliFault::Memory) => Ok(None),
-        Err(_) => Err(Fail::new("another fault")),
+    let words: [&[u8]; 9] = [
+        b"session", b"-g", b"g", b"-i", b"a", b"-b", b"b", b"-fi", b"f",
+    ];
+    let plan = Plan::read(alloc, &words)?;
+    match copied(alloc, bases) {
+        Some(bases) => loaded_by(alloc, &plan, inputs, bases),
+        None => Ok(None),
     }
 }
 

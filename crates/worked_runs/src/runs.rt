@@ -5,28 +5,41 @@ use iv_state::Session;
 use iv_text::{LoadCause, LoadFault, MemSink, MemSource, RecordFault, Source, StdSource};
 use std::test::Fail;
 
-/// The fault of files, or how many records the first one loads, and the width of these. A file without a record has
-/// this width, and at most two records are let in.
+/// The fault of a plan's files, or how many records the first one loads, and the width of these. At most two records are let
+/// in.
+fn loaded_by(
+    rt: &HostRuntime,
+    plan: &Plan<'_>,
+    inputs: &Inputs<'_>,
+    bases: Option<Vec<u8>>,
+) -> Result<(u32, u8), CliFault> {
+    match load(rt.alloc(), plan, inputs, bases, 2) {
+        Ok(session) => Ok((session.len(), session.track().width())),
+        Err(fault) => Err(fault),
+    }
+}
+
+/// The bytes of a FASTA file, where there is one.
+fn copied(rt: &HostRuntime, bases: Option<&[u8]>) -> Result<Option<Vec<u8>>, Fail> {
+    match bases {
+        Some(bases) => Ok(Some(bases.to_vec(rt.alloc())?)),
+        None => Ok(None),
+    }
+}
+
+/// The same of files alone. A file without a record has this width.
 fn loaded(
     rt: &HostRuntime,
     inputs: &Inputs<'_>,
     bases: Option<&[u8]>,
     width: &[u8],
 ) -> Result<Result<(u32, u8), CliFault>, Fail> {
-    let plan = Plan::read(
-        rt.alloc(),
-        &[
-            b"session", b"-g", b"g", b"-i", b"a", b"-b", b"b", b"-fi", b"f", b"-width", width,
-        ],
-    )?;
-    let bases = match bases {
-        Some(text) => Some(text.to_vec(rt.alloc())?),
-        None => None,
-    };
-    match load(rt.alloc(), &plan, inputs, bases, 2) {
-        Ok(session) => Ok(Ok((session.len(), session.track().width()))),
-        Err(fault) => Ok(Err(fault)),
-    }
+    let words: [&[u8]; 11] = [
+        b"session", b"-g", b"g", b"-i", b"a", b"-b", b"b", b"-fi", b"f", b"-width", width,
+    ];
+    let bases = copied(rt, bases)?;
+    let plan = Plan::read(rt.alloc(), &words)?;
+    Ok(loaded_by(rt, &plan, inputs, bases))
 }
 
 #[test]
@@ -203,20 +216,22 @@ fn session_with_bases(rt: &HostRuntime) -> Result<Session, Fail> {
     Ok(load(rt.alloc(), &plan, &inputs, Some(bases), 2)?)
 }
 
-/// Opens a view of bases, and prints it.
-fn printed(rt: &HostRuntime, session: &mut Session) -> Result<MemSink, Fail> {
+/// Opens a view of bases, and prints it, which must give this.
+fn print_as(rt: &HostRuntime, session: &mut Session, want: &[u8]) -> Result<(), Fail> {
     let mut sink = MemSink::new(rt.alloc(), 100, 9)?;
     session.open_view(b"f", &[b"getfasta", b"-s"])?;
     session.print_view(b"f", &mut sink)?;
-    Ok(sink)
+    if sink.bytes() == want {
+        Ok(())
+    } else {
+        Err(Fail::new("another print"))
+    }
 }
 
 #[test]
 fn fasta_files_that_load(rt: HostRuntime) -> Result<(), Fail> {
     let mut session = session_with_bases(&rt)?;
-    let sink = printed(&rt, &mut session)?;
-    assert!(rt; sink.bytes() == b">s:0-3(-)\nCGT\n".as_slice());
-    Ok(())
+    print_as(&rt, &mut session, b">s:0-3(-)\nCGT\n")
 }
 
 const TEXT: &[u8] = b"chr1\t100\n";

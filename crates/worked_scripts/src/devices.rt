@@ -1,11 +1,33 @@
 //! Scripts over devices that fail once, are interrupted or take nothing: what failed is not tried again.
 use crate::fixtures::session;
-use iv_session::{RunCause, RunFault, ScriptLimits, Summary, run_script};
+use iv_session::{RunCause, RunFault, ScriptLimits, Session, Summary, run_script};
 use iv_text::{StdSink, StdSource};
 use refusing::{Bad, Device, FAILURES};
 use std::test::Fail;
 
-/// Runs a script over three devices.
+/// Runs a script of a session over three devices.
+fn run_over(
+    rt: &HostRuntime,
+    session: &mut Session,
+    input: &mut Device<'_>,
+    output: &mut Device<'_>,
+    messages: &mut Device<'_>,
+) -> Result<Summary, RunFault> {
+    let limits = ScriptLimits {
+        lines: 99,
+        line_bytes: 99,
+    };
+    run_script(
+        rt.alloc(),
+        session,
+        &limits,
+        &mut StdSource::new(input),
+        &mut StdSink::new(output),
+        &mut StdSink::new(messages),
+    )
+}
+
+/// Runs a script over three devices, beside one record.
 fn run(
     rt: &HostRuntime,
     input: &mut Device<'_>,
@@ -13,18 +35,7 @@ fn run(
     messages: &mut Device<'_>,
 ) -> Result<Result<Summary, RunFault>, Fail> {
     let mut session = session(rt, b"chr1\t10\t20\n", 9)?;
-    let limits = ScriptLimits {
-        lines: 99,
-        line_bytes: 99,
-    };
-    Ok(run_script(
-        rt.alloc(),
-        &mut session,
-        &limits,
-        &mut StdSource::new(input),
-        &mut StdSink::new(output),
-        &mut StdSink::new(messages),
-    ))
+    Ok(run_over(rt, &mut session, input, output, messages))
 }
 
 /// Two prints and two refused lines, in 35 bytes.

@@ -185,7 +185,18 @@ fn writes(
     )
 }
 
-/// Whether the example's script, in pieces of this number of bytes, writes and leaves what it is to.
+/// Whether the example's script, in pieces of this number of bytes, writes and leaves over a session what it is to.
+fn writes_and_leaves(
+    rt: &HostRuntime,
+    session: &mut Session,
+    example: &Example<'_>,
+    piece: usize,
+) -> Result<bool, Fail> {
+    let is_written = writes(rt, session, example, piece)?;
+    Ok(is_written && session.len() == example.left)
+}
+
+/// Whether it does so over the example's session.
 fn holds(
     rt: &HostRuntime,
     beside: Beside<'_>,
@@ -194,8 +205,7 @@ fn holds(
 ) -> Result<bool, Fail> {
     let (width, limit) = (example.width, example.limit);
     let mut session = session_beside(rt, SIZES, width, example.first, beside, limit)?;
-    let is_written = writes(rt, &mut session, example, piece)?;
-    Ok(is_written && session.len() == example.left)
+    writes_and_leaves(rt, &mut session, example, piece)
 }
 
 /// Runs the script of each example, whole and in small pieces.

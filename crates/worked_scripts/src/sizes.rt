@@ -57,13 +57,18 @@ fn runs_over_many(rt: &HostRuntime, session: &mut Session, rows: &[u8]) -> Resul
     Ok(before == MANY && is_printed && session.len() == MANY + 1)
 }
 
+/// Whether it runs so over the session of files.
+fn runs_over_files(rt: &HostRuntime, files: &Files) -> Result<bool, Fail> {
+    let (sizes, first) = (files.sizes.as_bytes(), files.first.as_bytes());
+    let rows = files.rows.as_bytes();
+    let mut session = session_of(rt, sizes, 3, first, 4_000_000)?;
+    runs_over_many(rt, &mut session, rows)
+}
+
 #[test]
 fn files_of_megabytes(rt: HostRuntime) -> Result<(), Fail> {
     let files = many(&rt)?;
-    assert!(rt; files.sizes.len() > 2_000_000);
-    let (sizes, first) = (files.sizes.as_bytes(), files.first.as_bytes());
-    let mut session = session_of(&rt, sizes, 3, first, 4_000_000)?;
-    assert!(rt; runs_over_many(&rt, &mut session, files.rows.as_bytes())?);
+    assert!(rt; files.sizes.len() > 2_000_000 && runs_over_files(&rt, &files)?);
     Ok(())
 }
 
@@ -105,12 +110,17 @@ fn script_with_name(rt: &HostRuntime, count: usize) -> Result<Vec<u8>, Fail> {
     )
 }
 
-/// Whether these lines run, and leave one record.
-fn runs_with_name(rt: &HostRuntime, count: usize) -> Result<bool, Fail> {
+/// Whether these lines run over a session, and leave one record.
+fn runs_over(rt: &HostRuntime, session: &mut Session, count: usize) -> Result<bool, Fail> {
     let script = script_with_name(rt, count)?;
-    let mut session = session_of(rt, SIZES, 4, b"", 2)?;
-    let is_printed = prints(rt, &mut session, script.as_slice(), b"chr1\t10\t20\n")?;
+    let is_printed = prints(rt, session, script.as_slice(), b"chr1\t10\t20\n")?;
     Ok(is_printed && session.len() == 1)
+}
+
+/// Whether they do so over a session of no record.
+fn runs_with_name(rt: &HostRuntime, count: usize) -> Result<bool, Fail> {
+    let mut session = session_of(rt, SIZES, 4, b"", 2)?;
+    runs_over(rt, &mut session, count)
 }
 
 #[test]

@@ -1,4 +1,7 @@
 //! What several tests begin with.
+ghost use Rattle.std.specs.Prelude.{◌≤◌, All, IfSome, length};
+ghost use Rattle.iv_text.specs.Read.{Fits};
+
 use iv_state::{Accepted, EditFault, PrintFault, Session};
 use iv_text::{BedFile, Genome, MemSink, RecordFault};
 use std::alloc::Allocator;
@@ -33,17 +36,20 @@ pub(crate) fn alone(first: &[u8], limit: u32) -> Files<'_> {
 fn second_of<A: Allocator + Copy>(
     alloc: A,
     genome: &Genome<A>,
-    files: Files<'_>,
-) -> Option<Option<BedFile<A>>> {
-    if files.width < 3 || files.width > 6 {
-        return None;
-    }
-    match files.second {
-        Some(text) => {
-            let file = BedFile::parse(alloc, genome, files.width, files.limit, text);
-            Some(Some(file.ok()?))
-        }
-        None => Some(None),
+    width: u8,
+    limit: u32,
+    text: Option<&[u8]>,
+) -> Option<Option<BedFile<A>>>
+    requires { (3 ≤ width) × (width ≤ 6) }
+    ensures fit { IfSome result (λ second. IfSome second (λ file. All (Fits genome.now file.width) file.rows)) }
+    ensures few { IfSome result (λ second. IfSome second (λ file. length file.rows ≤ limit)) }
+{
+    let Some(text) = text else {
+        return Some(None);
+    };
+    match BedFile::parse(alloc, genome, width, limit, text) {
+        Ok(file) => Some(Some(file)),
+        Err(_) => None,
     }
 }
 
@@ -54,8 +60,10 @@ pub(crate) fn session_of<A: Allocator + Copy>(alloc: A, files: Files<'_>) -> Opt
         return None;
     }
     let genome = Genome::parse(alloc, files.sizes).ok()?;
-    let first = BedFile::parse(alloc, &genome, width, limit, files.first).ok()?;
-    let second = second_of(alloc, &genome, files)?;
+    let Ok(first) = BedFile::parse(alloc, &genome, width, limit, files.first) else {
+        return None;
+    };
+    let second = second_of(alloc, &genome, width, limit, files.second)?;
     Session::new(alloc, genome, first, second, None, limit).ok()
 }
 
