@@ -20,9 +20,9 @@ fn lines(rt: &HostRuntime) -> Result<String, Fail> {
 }
 
 /// Reads a FASTA file, and says whether it met the refusal. `None` where it is another one.
-fn refused_beside(
-    alloc: &RefusesNth<Global>,
-    genome: &Genome<&RefusesNth<Global>>,
+fn refused_beside<'a>(
+    alloc: &'a RefusesNth<Global>,
+    genome: &Genome<&'a RefusesNth<Global>>,
     text: &[u8],
 ) -> Option<bool> {
     match fasta_of(alloc, genome, text) {
@@ -70,9 +70,9 @@ fn each_growth_refused_in_turn(rt: HostRuntime) -> Result<(), Fail> {
 }
 
 /// The fault of a file whose last line is damaged, which it has in any case.
-fn fault_beside(
-    alloc: &RefusesNth<Global>,
-    genome: &Genome<&RefusesNth<Global>>,
+fn fault_beside<'a>(
+    alloc: &'a RefusesNth<Global>,
+    genome: &Genome<&'a RefusesNth<Global>>,
 ) -> Option<LoadFault> {
     fasta_of(alloc, genome, b">s\nACGTNacgtR\n>x\nA C\n").err()
 }

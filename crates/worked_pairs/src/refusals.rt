@@ -26,9 +26,9 @@ fn is_right(second: &Second<&RefusesNth<Global>>) -> bool {
 }
 
 /// Makes the second file, and says whether it met the refusal; not where its lines did. `None` where it is another.
-fn refused_beside(
-    alloc: &RefusesNth<Global>,
-    genome: &Genome<&RefusesNth<Global>>,
+fn refused_beside<'a>(
+    alloc: &'a RefusesNth<Global>,
+    genome: &Genome<&'a RefusesNth<Global>>,
     text: &[u8],
 ) -> Option<bool> {
     match second_of(alloc, genome, text) {

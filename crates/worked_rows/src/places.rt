@@ -308,9 +308,9 @@ fn many_records_of_a_text(rt: HostRuntime) -> Result<(), Fail> {
 }
 
 /// How many records a text has, or its fault.
-fn count_of(
-    alloc: &RefusesNth<Global>,
-    genome: &Genome<&RefusesNth<Global>>,
+fn count_of<'a>(
+    alloc: &'a RefusesNth<Global>,
+    genome: &Genome<&'a RefusesNth<Global>>,
     text: &[u8],
 ) -> Result<usize, LoadFault> {
     Ok(bed_text(alloc, genome, MANY, text)?.records().len())

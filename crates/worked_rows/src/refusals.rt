@@ -195,9 +195,9 @@ fn lines(rt: &HostRuntime) -> Result<String, Fail> {
 }
 
 /// Builds a track from the records of a text, and says how many calls met the refusal.
-fn refused_build_on(
-    alloc: &RefusesNth<Global>,
-    genome: &Genome<&RefusesNth<Global>>,
+fn refused_build_on<'a>(
+    alloc: &'a RefusesNth<Global>,
+    genome: &Genome<&'a RefusesNth<Global>>,
     text: &[u8],
 ) -> Result<u32, Fail> {
     match track_of(alloc, genome, text) {
