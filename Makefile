@@ -5,12 +5,13 @@ RT ?= rt
 PROGRAM := build/bedkeep
 
 .DEFAULT_GOAL := help
-.PHONY: help build demo test clean
+.PHONY: help build demo test wrong-bodies clean
 
 help:
 	@echo 'make build   prove and build the program; it is left at $(PROGRAM)'
 	@echo 'make demo    build it, then run the scripts of examples/ over the files beside them'
 	@echo 'make test    the whole gate: searches, every proof from nothing, the wrong bodies, the tests, the stored run, a run through pipes, every exit'
+	@echo 'make wrong-bodies   the wrong bodies that the gate leaves out, an hour or more'
 	@echo 'make clean   remove all that builds and proofs left behind'
 	@echo 'make help    this list'
 
@@ -34,6 +35,9 @@ test:
 	mkdir -p build && cp crates/bedkeep/out/bedkeep $(PROGRAM)
 	scripts/answers_at_once.sh $(PROGRAM)
 	scripts/exits.sh $(PROGRAM)
+
+wrong-bodies:
+	RT=$(RT) scripts/wrong_bodies.sh
 
 clean:
 	rm -rf build crates/*/out
