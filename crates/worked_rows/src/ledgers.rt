@@ -13,38 +13,57 @@ fn ledger(rt: &HostRuntime, meter: &mut Meter) -> Result<Ledger<u32, char>, Fail
     Ok(ledger)
 }
 
+/// Whether looks into that ledger find what they are to, in four steps.
+fn is_looked_into(ledger: &Ledger<u32, char>) -> bool {
+    let mut meter = Meter::new();
+    let before = ledger.at_or_before(&4, &mut meter) == Some((&3, &'b'));
+    let from = ledger.at_or_after(&4, &mut meter) == Some((&5, &'c'));
+    let behind = ledger.after(&5, &mut meter).is_none();
+    let at = ledger.get(&5, &mut meter) == Some(&'c');
+    before && from && behind && at && meter.steps() == 4 && ledger.len() == 3
+}
+
 #[test]
 fn looks_into_a_ledger(rt: HostRuntime) -> Result<(), Fail> {
     let mut meter = Meter::new();
     let ledger = ledger(&rt, &mut meter)?;
-    assert!(rt; ledger.at_or_before(&4, &mut meter) == Some((&3, &'b')));
-    assert!(rt; ledger.at_or_after(&4, &mut meter) == Some((&5, &'c')));
-    assert!(rt; ledger.after(&5, &mut meter).is_none());
-    assert!(rt; ledger.get(&5, &mut meter) == Some(&'c'));
-    assert!(rt; meter.steps() == 7 && ledger.len() == 3);
+    assert!(rt; is_looked_into(&ledger) && meter.steps() == 3);
     Ok(())
+}
+
+/// Whether changes of that ledger answer what they are to, in three steps.
+fn is_changed(ledger: &mut Ledger<u32, char>) -> bool {
+    let mut meter = Meter::new();
+    let set = ledger.set(&5, 'd', &mut meter) == Ok('c');
+    let absent = ledger.set(&4, 'e', &mut meter) == Err('e');
+    let taken = ledger.take(&3, &mut meter) == Some('b');
+    set && absent && taken && meter.steps() == 3 && ledger.len() == 2
 }
 
 #[test]
 fn changes_of_a_ledger(rt: HostRuntime) -> Result<(), Fail> {
     let mut meter = Meter::new();
     let mut ledger = ledger(&rt, &mut meter)?;
-    assert!(rt; ledger.set(&5, 'd', &mut meter) == Ok('c'));
-    assert!(rt; ledger.set(&4, 'e', &mut meter) == Err('e'));
-    assert!(rt; ledger.take(&3, &mut meter) == Some('b'));
-    assert!(rt; ledger.put(5, 'f', &mut meter)? == Some('d'));
-    assert!(rt; meter.steps() == 7 && ledger.len() == 2);
+    assert!(rt; is_changed(&mut ledger) && ledger.put(5, 'f', &mut meter)? == Some('d'));
     Ok(())
+}
+
+/// Whether a walk over that ledger gives what it is to, in five steps.
+fn is_walked_over(ledger: &Ledger<u32, char>) -> bool {
+    let mut meter = Meter::new();
+    let mut walk = ledger.walk(&2, &mut meter);
+    for want in [Some((&3, &'b')), Some((&5, &'c')), None, None] {
+        if walk.next(&mut meter) != want {
+            return false;
+        }
+    }
+    meter.steps() == 5
 }
 
 #[test]
 fn walk_of_a_ledger(rt: HostRuntime) -> Result<(), Fail> {
     let mut meter = Meter::new();
     let ledger = ledger(&rt, &mut meter)?;
-    let mut walk = ledger.walk(&2, &mut meter);
-    for want in [Some((&3, &'b')), Some((&5, &'c')), None, None] {
-        assert!(rt; walk.next(&mut meter) == want);
-    }
-    assert!(rt; meter.steps() == 8);
+    assert!(rt; is_walked_over(&ledger));
     Ok(())
 }

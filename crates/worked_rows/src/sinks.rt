@@ -26,6 +26,14 @@ fn put_rows<S: Sink>(sink: &mut S) -> (bool, bool, bool) {
 
 const TEXT: &[u8] = b"chr1\t10\t30\nchr2\t5chr3\t10\t30\n";
 
+/// Whether a sink of this room takes what it can of the rows, and is failed where that is not all.
+fn takes(sink: &mut MemSink, room: usize, want: (bool, bool, bool)) -> bool {
+    let is_put = put_rows(sink) == want;
+    let is_front = TEXT.starts_with(sink.bytes()) && sink.bytes().len() == room.min(28);
+    let is_failed = sink.failed() == (room < 28);
+    is_put && is_front && is_failed && (sink.push(b"x") == Err(WriteFault)) == (room <= 28)
+}
+
 #[test]
 fn texts_in_sinks(rt: HostRuntime) -> Result<(), Fail> {
     for (room, want) in [
@@ -37,14 +45,7 @@ fn texts_in_sinks(rt: HostRuntime) -> Result<(), Fail> {
         (7, (false, false, false)),
     ] {
         for piece in [1, 3, 7, 100] {
-            let mut sink = sink(&rt, room, piece)?;
-            assert!(rt;
-                put_rows(&mut sink) == want,
-                "{room} bytes in pieces of {piece}"
-            );
-            assert!(rt; TEXT.starts_with(sink.bytes()) && sink.bytes().len() == room.min(28));
-            assert!(rt; sink.failed() == (room < 28));
-            assert!(rt; (sink.push(b"x") == Err(WriteFault)) == (room <= 28));
+            assert!(rt; takes(&mut sink(&rt, room, piece)?, room, want));
         }
     }
     Ok(())
