@@ -89,3 +89,27 @@ fn second_file_without_records(rt: HostRuntime) -> Result<(), Fail> {
     assert!(rt; second.len() == 0 && hits_are(&second, 0, 0, 100, &[]));
     Ok(())
 }
+
+/// How many records are many.
+const MANY: u32 = 20_000;
+
+/// The lines of many records that stop before the last base of a sequence, and of one that covers it.
+fn many_lines(rt: &HostRuntime) -> Result<String, Fail> {
+    let mut text = String::new(rt.alloc());
+    for number in 1..MANY {
+        let start = number % 90;
+        let stop = start + 1 + number % 7;
+        text.push_str(format!(in rt.alloc(); "chr1\t{start}\t{stop}\n")?.as_str())?;
+    }
+    text.push_str("chr1\t98\t100\n")?;
+    Ok(text)
+}
+
+/// A body that gives up above some size and says that memory ran out is seen here alone.
+#[test]
+fn second_file_of_many_records(rt: HostRuntime) -> Result<(), Fail> {
+    let text = many_lines(&rt)?;
+    let second = second(&rt, text.as_bytes())?;
+    assert!(rt; second.len() == MANY && hits_are(&second, 0, 99, 100, &[(98, 100)]));
+    Ok(())
+}

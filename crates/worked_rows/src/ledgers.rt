@@ -45,6 +45,7 @@ fn changes_of_a_ledger(rt: HostRuntime) -> Result<(), Fail> {
     let mut meter = Meter::new();
     let mut ledger = ledger(&rt, &mut meter)?;
     assert!(rt; is_changed(&mut ledger) && ledger.put(5, 'f', &mut meter)? == Some('d'));
+    assert!(rt; meter.steps() == 4 && ledger.len() == 2);
     Ok(())
 }
 
