@@ -1,6 +1,8 @@
 -- How a run ends: its exit status, and its line on standard error.
 use Rattle.std.specs.Prelude.{ℕ, ◌++◌, ◌==◌, ◌&&◌, nat_le, Bool, true, false, if◌then◌else◌, List, [], Option, None, Some, Result, Ok, Err, codes, decimal}
 use Rattle.std.specs.Option.{unwrap_or}
+use Rattle.std.specs.declared.io.ErrorKind.{ErrorKind}
+use Rattle.std.specs.declared.io.ErrorKind.TheVariants.{OutOfMemory}
 use Rattle.iv_text.specs.Fault.{fault_text, load_text}
 use Rattle.iv_session.specs.declared.script.Summary.{Summary}
 use Rattle.iv_session.specs.declared.script.RunFault.{RunFault}
@@ -29,6 +31,11 @@ status_of ending.InputUnreadable = 4
 status_of ending.InputTooLong = 4
 status_of ending.Output = 4
 status_of ending.Memory = 5
+
+-- the ending where the system does not give the words, by the kind of its error
+abbrev pub ending_of_kind : ErrorKind → Ending
+ending_of_kind OutOfMemory = ending.Memory
+ending_of_kind kind = ending.Words 16
 
 -- the ending of words that are no plan
 abbrev pub ending_of_words : PlanFault → Ending

@@ -50,6 +50,12 @@ impl From<AllocError> for Ending {
 
 /// The ending where the system does not give the words: they are no text, or memory was refused.
 impl From<io::Error> for Ending {
+    ghost use Rattle.std.specs.Prelude.{◌≡◌};
+    ghost use Rattle.std.specs.IoError.{error_kind};
+    ghost use Rattle.iv_cli.specs.Endings.{ending_of_kind};
+
+    ghost from_gives = { λ error ending. ending ≡ ending_of_kind (error_kind error) };
+
     fn from(error: io::Error) -> Ending {
         match error.kind() {
             ErrorKind::OutOfMemory => Ending::Memory,
