@@ -5,7 +5,7 @@ use std::io;
 use std::io::{ErrorKind, Read, Write};
 
 /// What a device answers at its bad call.
-#[derive(Clone, Copy, Debug)]
+#[derive(Clone, Copy)]
 pub enum Bad {
     Fails(ErrorKind),
     /// It takes nothing, or gives nothing, and says so.

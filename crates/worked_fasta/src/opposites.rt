@@ -23,7 +23,7 @@ fn opposite_of(base: u8) -> u8 {
 #[test]
 fn complements_of_all_bytes(rt: HostRuntime) {
     for base in 0..=255u8 {
-        assert!(rt; complement(base) == opposite_of(base), "of {base}");
+        assert!(rt; complement(base) == opposite_of(base));
     }
 }
 
@@ -36,6 +36,6 @@ fn complements_of_complements(rt: HostRuntime) {
             b'u' => b't',
             _ => base,
         };
-        assert!(rt; complement(complement(base)) == want, "of {base}");
+        assert!(rt; complement(complement(base)) == want);
     }
 }

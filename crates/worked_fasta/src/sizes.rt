@@ -204,7 +204,7 @@ fn long_rows(rt: HostRuntime) -> Result<(), Fail> {
         (2_560, 4_990),
         (4_990, 5_000),
     ] {
-        assert!(rt; prints(&rt, start, stop)?, "from {start} to {stop}");
+        assert!(rt; prints(&rt, start, stop)?);
     }
     Ok(())
 }

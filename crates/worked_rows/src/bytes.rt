@@ -29,20 +29,23 @@ fn strands(rt: HostRuntime) {
     }
 }
 
-/// Whether the fields of a text are these, and no more.
-fn are_fields(mut fields: Fields<'_>, wanted: &[&[u8]]) -> bool {
-    for want in wanted {
-        if fields.next() != Some(*want) {
-            return false;
-        }
-    }
-    fields.next().is_none() && fields.next().is_none()
+/// Whether the fields of a text are these three, and no more.
+fn are_fields(mut fields: Fields<'_>, first: &[u8], second: &[u8], third: &[u8]) -> bool {
+    let given = (fields.next(), fields.next(), fields.next());
+    given == (Some(first), Some(second), Some(third))
+        && fields.next().is_none()
+        && fields.next().is_none()
+}
+
+/// Whether these texts are cut into their fields, at tabs and at spaces.
+fn are_cut() -> bool {
+    are_fields(columns(b"chr1\t\t20"), b"chr1", b"", b"20")
+        && are_fields(Fields::of(b"merge  -s", b' '), b"merge", b"", b"-s")
 }
 
 #[test]
 fn fields_of_texts(rt: HostRuntime) {
-    assert!(rt; are_fields(columns(b"chr1\t\t20"), &[b"chr1", b"", b"20"]));
-    assert!(rt; are_fields(Fields::of(b"merge  -s", b' '), &[b"merge", b"", b"-s"]));
+    assert!(rt; are_cut());
     for (line, first, rest) in [
         (
             b"add\tchr1\t1".as_slice(),

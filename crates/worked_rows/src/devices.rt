@@ -14,22 +14,26 @@ fn sink_stays_failed(bad: Bad) -> bool {
     before && fails && stays && sink.failed() && device.calls() == 2
 }
 
+/// Pulls at most eight bytes.
+fn pull<S: Source>(source: &mut S) -> Result<usize, ReadFault> {
+    source.pull(&mut [0; 8])
+}
+
 /// Whether a source over a reader is failed from the bad call on, which is the last that reaches the reader.
 fn source_stays_failed(bad: Bad) -> bool {
     let mut device = Device::new(b"abcdefghi", 2, bad);
     let mut source = StdSource::new(&mut device);
-    let mut into = [0u8; 8];
-    let before = source.pull(&mut into) == Ok(3) && !source.failed();
-    let fails = source.pull(&mut into) == Err(ReadFault) && source.failed();
-    let stays = source.pull(&mut into) == Err(ReadFault);
+    let before = pull(&mut source) == Ok(3) && !source.failed();
+    let fails = pull(&mut source) == Err(ReadFault) && source.failed();
+    let stays = pull(&mut source) == Err(ReadFault);
     before && fails && stays && source.failed() && device.calls() == 2
 }
 
 #[test]
 fn devices_that_fail_once(rt: HostRuntime) {
     for bad in FAILURES {
-        assert!(rt; sink_stays_failed(bad), "at {bad:?}");
-        assert!(rt; source_stays_failed(bad), "at {bad:?}");
+        assert!(rt; sink_stays_failed(bad));
+        assert!(rt; source_stays_failed(bad));
     }
     assert!(rt; sink_stays_failed(Bad::Nothing));
 }

@@ -1,6 +1,8 @@
 //! What several tests begin with.
-use iv_text::{BedFile, Genome, LoadFault};
-use iv_track::Track;
+ghost use Rattle.std.specs.Prelude.{◌≡◌, ◌≤◌, length};
+
+use iv_text::{BedFile, Genome, LoadFault, Record};
+use iv_track::{Meter, Track};
 use std::alloc::{AllocError, Allocator};
 
 /// A genome of three sequences, of 100 bases, of 50 and of none.
@@ -19,4 +21,40 @@ pub(crate) fn track_of<A: Allocator + Copy>(
     let file = BedFile::parse(alloc, genome, 3, 1_000_000, text)?;
     let width = file.width();
     Ok(Track::from_records(alloc, width, 1_000_000, file.into_records()))
+}
+
+/// Adds a record to a track. The number of the fault, 0 where there is none.
+pub(crate) fn add<A: Allocator + Copy>(track: &mut Track<A>, row: Record<A>) -> u8
+    requires { row.width ≡ track.old.width }
+{
+    match track.add(row, &mut Meter::new()) {
+        Ok(()) => 0,
+        Err(fault) => fault.code(),
+    }
+}
+
+/// Stages a record on a track. The number of the fault, 0 where there is none.
+pub(crate) fn stage<A: Allocator + Copy>(track: &mut Track<A>, row: Record<A>) -> u8
+    requires room { length track.old.rows ≤ track.old.limit }
+    requires width { row.width ≡ track.old.width }
+{
+    match track.stage(row, &mut Meter::new()) {
+        Ok(()) => 0,
+        Err(_) => 22,
+    }
+}
+
+/// Replaces a record of a track. The number of the fault, 0 where there is none.
+pub(crate) fn replace<A: Allocator + Copy>(
+    track: &mut Track<A>,
+    old: &Record<A>,
+    new: Record<A>,
+) -> u8
+    requires room { length track.old.rows ≤ track.old.limit }
+    requires width { new.width ≡ track.old.width }
+{
+    match track.replace(old, new, &mut Meter::new()) {
+        Ok(()) => 0,
+        Err(fault) => fault.code(),
+    }
 }

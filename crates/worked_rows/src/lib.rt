@@ -14,6 +14,7 @@ mod fixtures;
 mod ledgers;
 #[cfg(test)]
 mod places;
+#[cfg(test)]
 mod printed;
 #[cfg(test)]
 mod records;

@@ -105,9 +105,8 @@ fn last_has(
     }
 }
 
-#[test]
-fn columns_of_text_records(rt: HostRuntime) -> Result<(), Fail> {
-    let genome = Genome::parse(rt.alloc(), SIZES)?;
+/// Whether the last records of these texts have the columns that they are to have.
+fn have_columns(rt: &HostRuntime, genome: &Genome) -> Result<bool, Fail> {
     for (text, width, cells) in [
         (
             b"#h\nchr1\t1\t2\tx\t1\t+\r\nchr2\t0010\t20\tn\t0.5\t-\r\n".as_slice(),
@@ -126,8 +125,17 @@ fn columns_of_text_records(rt: HostRuntime) -> Result<(), Fail> {
         ),
         (b"\nchr1\t10\t20\r\n", 3, ((0, 10, 20), (b"", b""), None)),
     ] {
-        assert!(rt; last_has(&rt, &genome, text, width, cells)?);
+        if !last_has(rt, genome, text, width, cells)? {
+            return Ok(false);
+        }
     }
+    Ok(true)
+}
+
+#[test]
+fn columns_of_text_records(rt: HostRuntime) -> Result<(), Fail> {
+    let genome = Genome::parse(rt.alloc(), SIZES)?;
+    assert!(rt; have_columns(&rt, &genome)?);
     Ok(())
 }
 

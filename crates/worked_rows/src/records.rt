@@ -10,9 +10,8 @@ fn fault_of(genome: &Genome, line: &[u8]) -> Option<RecordFault> {
     read_record(genome, 6, line).err()
 }
 
-#[test]
-fn faults_of_lines(rt: HostRuntime) -> Result<(), Fail> {
-    let genome = genome(&rt)?;
+/// Whether these lines have the faults that they are to have.
+fn have_faults(genome: &Genome) -> bool {
     for (line, want) in [
         (b"chr1\t0010\t20\tn\t0\t+".as_slice(), None),
         (b"chr9\tx\ty\tn\t0\t+", Some(RecordFault::UnknownSeq)),
@@ -31,8 +30,17 @@ fn faults_of_lines(rt: HostRuntime) -> Result<(), Fail> {
         (b"chr1\t10\t20\tn\t0\t*", Some(RecordFault::Strand)),
         (b"chr1\t10\t20\tn\t0", Some(RecordFault::Columns)),
     ] {
-        assert!(rt; fault_of(&genome, line) == want);
+        if fault_of(genome, line) != want {
+            return false;
+        }
     }
+    true
+}
+
+#[test]
+fn faults_of_lines(rt: HostRuntime) -> Result<(), Fail> {
+    let genome = genome(&rt)?;
+    assert!(rt; have_faults(&genome));
     Ok(())
 }
 
@@ -63,9 +71,8 @@ fn has_cells(
     Ok(borrowed && owned)
 }
 
-#[test]
-fn columns_of_records(rt: HostRuntime) -> Result<(), Fail> {
-    let genome = genome(&rt)?;
+/// Whether the records of these lines have the columns that they are to have.
+fn have_columns(rt: &HostRuntime, genome: &Genome) -> Result<bool, Fail> {
     for (line, cells) in [
         (
             b"chr2\t0010\t20\tn\t0.5\t-".as_slice(),
@@ -80,8 +87,17 @@ fn columns_of_records(rt: HostRuntime) -> Result<(), Fail> {
         (b"chr1\t10\t20\tn", (4, (0, 10, 20), (b"n", b""), None)),
         (b"chr1\t10\t20", (3, (0, 10, 20), (b"", b""), None)),
     ] {
-        assert!(rt; has_cells(&rt, &genome, line, cells)?);
+        if !has_cells(rt, genome, line, cells)? {
+            return Ok(false);
+        }
     }
+    Ok(true)
+}
+
+#[test]
+fn columns_of_records(rt: HostRuntime) -> Result<(), Fail> {
+    let genome = genome(&rt)?;
+    assert!(rt; have_columns(&rt, &genome)?);
     Ok(())
 }
 
@@ -120,9 +136,8 @@ fn short_line(genome: &Genome, width: u8, text: &[u8]) -> Option<(u32, u32, u32,
     Some((line.seq, line.start, line.stop, line.size))
 }
 
-#[test]
-fn short_lines(rt: HostRuntime) -> Result<(), Fail> {
-    let genome = genome(&rt)?;
+/// Whether these texts begin with a line that is known at once, or do not.
+fn are_short(genome: &Genome) -> bool {
     for (text, want) in [
         (
             b"chr2\t3\t50\nchr1\t1\t2\n".as_slice(),
@@ -134,14 +149,22 @@ fn short_lines(rt: HostRuntime) -> Result<(), Fail> {
         (b"chr2\t3\t50", None),
         (b"chr2\t3\t50\tn\n", None),
     ] {
-        assert!(rt; short_line(&genome, 3, text) == want);
+        if short_line(genome, 3, text) != want {
+            return false;
+        }
     }
-    Ok(())
+    true
 }
 
 #[test]
-fn short_lines_with_cells(rt: HostRuntime) -> Result<(), Fail> {
+fn short_lines(rt: HostRuntime) -> Result<(), Fail> {
     let genome = genome(&rt)?;
+    assert!(rt; are_short(&genome));
+    Ok(())
+}
+
+/// The same of lines with more columns.
+fn are_short_with_cells(genome: &Genome) -> bool {
     for (width, text, size) in [
         (4, b"chr2\t3\t50\tn 1\nchr1\t1\t2\tn\n".as_slice(), Some(14)),
         (4, b"chr2\t3\t50\tn\r\n", Some(13)),
@@ -165,8 +188,17 @@ fn short_lines_with_cells(rt: HostRuntime) -> Result<(), Fail> {
         (6, b"chr2\t3\t50\tn\t7\t+", None),
     ] {
         let want = size.map(|size| (1, 3, 50, size));
-        assert!(rt; short_line(&genome, width, text) == want);
+        if short_line(genome, width, text) != want {
+            return false;
+        }
     }
+    true
+}
+
+#[test]
+fn short_lines_with_cells(rt: HostRuntime) -> Result<(), Fail> {
+    let genome = genome(&rt)?;
+    assert!(rt; are_short_with_cells(&genome));
     Ok(())
 }
 
@@ -187,9 +219,8 @@ fn compared(
     Ok((line.cmp(&other), line.is_copy_of(&other)))
 }
 
-#[test]
-fn order_of_records(rt: HostRuntime) -> Result<(), Fail> {
-    let genome = genome(&rt)?;
+/// Whether each of these lines gives a record behind that of the line before it, and the last one a copy.
+fn are_in_order(rt: &HostRuntime, genome: &Genome) -> Result<bool, Fail> {
     let mut before = b"chr1\t1\t2\ta\t0\t+".as_slice();
     for line in [
         b"chr1\t1\t2\ta\t0\t-".as_slice(),
@@ -200,11 +231,19 @@ fn order_of_records(rt: HostRuntime) -> Result<(), Fail> {
         b"chr1\t10\t20\ta\t0\t+",
         b"chr2\t0\t1\ta\t0\t+",
     ] {
-        assert!(rt; compared(&rt, &genome, before, line)? == (Ordering::Less, false));
+        if compared(rt, genome, before, line)? != (Ordering::Less, false) {
+            return Ok(false);
+        }
         before = line;
     }
     let again = b"chr2\t00\t01\ta\t0\t+";
-    assert!(rt; compared(&rt, &genome, before, again)? == (Ordering::Equal, true));
+    Ok(compared(rt, genome, before, again)? == (Ordering::Equal, true))
+}
+
+#[test]
+fn order_of_records(rt: HostRuntime) -> Result<(), Fail> {
+    let genome = genome(&rt)?;
+    assert!(rt; are_in_order(&rt, &genome)?);
     Ok(())
 }
 
@@ -230,5 +269,5 @@ fn texts_of_each_size(rt: HostRuntime) -> Result<(), Fail> {
 #[test]
 fn records_are_small(rt: HostRuntime) {
     let size = size_of::<Record>();
-    assert!(rt; size <= 32, "a record has {size} bytes");
+    assert!(rt; size <= 32);
 }

@@ -1,7 +1,7 @@
 //! Each growth of a ledger's or a track's memory, refused in turn.
 ghost use Rattle.std.specs.Prelude.{◌≡◌, IfOk};
 
-use crate::fixtures::{SIZES, genome, track_of};
+use crate::fixtures::{SIZES, add, genome, replace, stage, track_of};
 use iv_text::{Genome, LoadCause, Record, read_record};
 use iv_track::{Ledger, Meter, Track};
 use refusing::RefusesNth;
@@ -12,7 +12,7 @@ use std::test::Fail;
 const COUNT: u32 = 30;
 
 /// What may be refused.
-#[derive(Clone, Copy, Debug)]
+#[derive(Clone, Copy)]
 enum Call {
     Put,
     Add,
@@ -116,23 +116,13 @@ fn is_done<'a>(
     if track.width() != 4 || track.len() > track.limit() {
         return Err(Fail::new("another width, or no room"));
     }
-    let mut meter = Meter::new();
     let fault = match call {
         Call::Replace => {
             let new = record(rt, genome, alloc, start.saturating_add(COUNT))?;
-            match track.replace(&row, new, &mut meter) {
-                Ok(()) => 0,
-                Err(fault) => fault.code(),
-            }
+            replace(track, &row, new)
         }
-        Call::Add => match track.add(row, &mut meter) {
-            Ok(()) => 0,
-            Err(fault) => fault.code(),
-        },
-        _ => match track.stage(row, &mut meter) {
-            Ok(()) => 0,
-            Err(_) => 22,
-        },
+        Call::Add => add(track, row),
+        _ => stage(track, row),
     };
     match fault {
         0 => Ok(true),
@@ -242,26 +232,25 @@ fn one_growth_refused(rt: HostRuntime) {
     }
 }
 
+/// Refuses each growth of the calls of a kind in turn, until none is left to refuse. Whether a call met a refusal.
+fn each_is_refused(rt: &HostRuntime, call: Call) -> Result<bool, Fail> {
+    let mut met = 0u32;
+    for number in 1..1000u64 {
+        let alloc = RefusesNth::new(rt.alloc(), number);
+        met = met.saturating_add(refused(rt, call, &alloc)?);
+        if !alloc.has_refused() {
+            return Ok(met > 0);
+        }
+    }
+    Err(Fail::new("growths without an end"))
+}
+
 #[test]
 fn each_growth_refused_in_turn(rt: HostRuntime) -> Result<(), Fail> {
-    for call in [
-        Call::Put,
-        Call::Add,
-        Call::Stage,
-        Call::Replace,
-        Call::FromRecords,
-    ] {
-        let mut met = 0u32;
-        let mut all = false;
-        for number in 1..1000u64 {
-            let alloc = RefusesNth::new(rt.alloc(), number);
-            met = met.saturating_add(refused(&rt, call, &alloc)?);
-            if !alloc.has_refused() {
-                all = true;
-                break;
-            }
-        }
-        assert!(rt; all && met > 0, "at {call:?}");
-    }
+    assert!(rt; each_is_refused(&rt, Call::Put)?);
+    assert!(rt; each_is_refused(&rt, Call::Add)?);
+    assert!(rt; each_is_refused(&rt, Call::Stage)?);
+    assert!(rt; each_is_refused(&rt, Call::Replace)?);
+    assert!(rt; each_is_refused(&rt, Call::FromRecords)?);
     Ok(())
 }

@@ -1,13 +1,13 @@
 //! Tracks of records of four columns.
 ghost use Rattle.std.specs.Prelude.{◌≡◌, IfOk};
 
-use crate::fixtures::genome;
+use crate::fixtures::{add, genome, replace, stage};
 use iv_text::{Genome, Record, read_record};
 use iv_track::{Meter, Track};
 use std::test::Fail;
 
 /// An edit by the records of lines.
-#[derive(Clone, Copy, Debug)]
+#[derive(Clone, Copy)]
 enum Edit<'a> {
     Add(&'a [u8]),
     Stage(&'a [u8]),
@@ -22,6 +22,14 @@ fn record(rt: &HostRuntime, genome: &Genome, line: &[u8]) -> Result<Record, Fail
     Ok(read_record(genome, 4, line)?.to_record(rt.alloc())?)
 }
 
+/// Removes a record from a track. The number of the fault, 0 where there is none.
+fn remove(track: &mut Track, row: &Record) -> u8 {
+    match track.remove(row, &mut Meter::new()) {
+        Ok(()) => 0,
+        Err(fault) => fault.code(),
+    }
+}
+
 /// The number of an edit's fault, 0 where there is none.
 fn fault_of(
     rt: &HostRuntime,
@@ -33,26 +41,13 @@ fn fault_of(
         return Err(Fail::new("another width"));
     }
     let has_room = track.len() <= track.limit();
-    let mut meter = Meter::new();
     match edit {
-        Edit::Add(line) => match track.add(record(rt, genome, line)?, &mut meter) {
-            Ok(()) => Ok(0),
-            Err(fault) => Ok(fault.code()),
-        },
-        Edit::Remove(line) => match track.remove(&record(rt, genome, line)?, &mut meter) {
-            Ok(()) => Ok(0),
-            Err(fault) => Ok(fault.code()),
-        },
-        Edit::Stage(line) if has_room => {
-            track.stage(record(rt, genome, line)?, &mut meter)?;
-            Ok(0)
-        }
+        Edit::Add(line) => Ok(add(track, record(rt, genome, line)?)),
+        Edit::Remove(line) => Ok(remove(track, &record(rt, genome, line)?)),
+        Edit::Stage(line) if has_room => Ok(stage(track, record(rt, genome, line)?)),
         Edit::Replace(old, new) if has_room => {
             let old = record(rt, genome, old)?;
-            match track.replace(&old, record(rt, genome, new)?, &mut meter) {
-                Ok(()) => Ok(0),
-                Err(fault) => Ok(fault.code()),
-            }
+            Ok(replace(track, &old, record(rt, genome, new)?))
         }
         Edit::Stage(_) | Edit::Replace(_, _) => Err(Fail::new("more records than the limit")),
     }
@@ -114,7 +109,19 @@ fn track_without_room(rt: HostRuntime) -> Result<(), Fail> {
     check_no_room(&rt, &genome, &mut track)
 }
 
-/// The first letter of a record's name and its copies, of the record behind that of a line, or at or after its place.
+/// The first letter of a record's name and its copies, of the record behind this one, or at or after its place.
+fn next_on(track: &Track, record: &Record, after: bool) -> Option<(u8, u32)> {
+    let mut meter = Meter::new();
+    let (row, copies) = if after {
+        track.after(record, &mut meter)?
+    } else {
+        track.at_or_after(record.seq(), record.start(), &mut meter)?
+    };
+    let letter = row.name().first()?;
+    (track.copies(row, &mut meter) == copies).then_some((*letter, copies))
+}
+
+/// The same of the record of a line.
 fn next_to(
     rt: &HostRuntime,
     genome: &Genome,
@@ -122,22 +129,7 @@ fn next_to(
     line: &[u8],
     after: bool,
 ) -> Result<Option<(u8, u32)>, Fail> {
-    let record = record(rt, genome, line)?;
-    let mut meter = Meter::new();
-    let found = if after {
-        track.after(&record, &mut meter)
-    } else {
-        track.at_or_after(record.seq(), record.start(), &mut meter)
-    };
-    match found {
-        Some((row, copies)) => {
-            if track.copies(row, &mut meter) != copies {
-                return Err(Fail::new("other copies"));
-            }
-            Ok(row.name().first().map(|letter| (*letter, copies)))
-        }
-        None => Ok(None),
-    }
+    Ok(next_on(track, &record(rt, genome, line)?, after))
 }
 
 /// Adds the records of lines.

@@ -14,7 +14,7 @@ fn read(rt: &HostRuntime, bad: Bad) -> (Result<usize, FileFault>, u32) {
 #[test]
 fn files_that_fail_once(rt: HostRuntime) {
     for bad in FAILURES {
-        assert!(rt; read(&rt, bad) == (Err(FileFault::Input), 3), "at {bad:?}");
+        assert!(rt; read(&rt, bad) == (Err(FileFault::Input), 3));
     }
     // A read of no byte is the file's end.
     assert!(rt; read(&rt, Bad::Nothing) == (Ok(6), 3));

@@ -67,8 +67,7 @@ fn scripts_over_devices_that_fail_once(rt: HostRuntime) -> Result<(), Fail> {
             ((0, 0, 2), 4, RunCause::Messages, (9, 1, 2)),
         ] {
             assert!(rt;
-                ended(&rt, SCRIPT, numbers, bad)? == (Err(RunFault { line, cause }), calls),
-                "at {bad:?}"
+                ended(&rt, SCRIPT, numbers, bad)? == (Err(RunFault { line, cause }), calls)
             );
         }
     }

@@ -84,7 +84,7 @@ pub(crate) struct Ran {
 }
 
 /// A script under limits, over an input and outputs that fail after a number of bytes.
-#[derive(Clone, Copy, Debug)]
+#[derive(Clone, Copy)]
 pub(crate) struct Script<'a> {
     pub(crate) text: &'a [u8],
     pub(crate) good: usize,

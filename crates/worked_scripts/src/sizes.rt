@@ -126,7 +126,7 @@ fn runs_with_name(rt: &HostRuntime, count: usize) -> Result<bool, Fail> {
 #[test]
 fn long_lines(rt: HostRuntime) -> Result<(), Fail> {
     for count in [1_001, 10_000, 100_000] {
-        assert!(rt; runs_with_name(&rt, count)?, "{count} bytes");
+        assert!(rt; runs_with_name(&rt, count)?);
     }
     Ok(())
 }

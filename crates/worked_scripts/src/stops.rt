@@ -99,10 +99,7 @@ fn scripts_that_stop(rt: HostRuntime) -> Result<(), Fail> {
                 b""
             };
             let is_written = ran.output.bytes() == written;
-            assert!(rt;
-                is_written && ran.done == Err(RunFault { line, cause }),
-                "at {script:?}"
-            );
+            assert!(rt; is_written && ran.done == Err(RunFault { line, cause }));
         }
     }
     Ok(())
@@ -144,7 +141,7 @@ fn scripts_within_their_limits(rt: HostRuntime) -> Result<(), Fail> {
         (WHOLE, 4, 1),
     ] {
         let done = ended(&rt, script, 2)?.done;
-        assert!(rt; done == Ok(Summary { lines, refused }), "at {script:?}");
+        assert!(rt; done == Ok(Summary { lines, refused }));
     }
     Ok(())
 }
