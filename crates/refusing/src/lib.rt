@@ -9,6 +9,7 @@ mod words;
 pub use device::{Bad, Device, FAILURES};
 use std::alloc::{AllocError, Allocator};
 use std::cell::Cell;
+use std::test::Fail;
 pub use words::words_of;
 
 /// Passes every call on to the allocator inside it, but refuses one growth, that of the given number.
@@ -71,4 +72,27 @@ unsafe impl<B: Allocator> Allocator for RefusesNth<B> {
     unsafe fn deallocate(&self, ptr: *mut u8, size: usize, align: usize) {
         self.inner.deallocate(ptr, size, align);
     }
+}
+
+/// Makes a run with its first growth refused, one with its second, and so on, until one meets no refusal. The sum of what
+/// the runs give, such as how many of their calls ended for want of memory.
+///
+/// # Errors
+///
+/// That of the first run that has one, and one where there is no end of growths.
+pub fn refuse_each<B, F>(inner: B, run: F) -> Result<u32, Fail>
+where
+    B: Allocator + Copy,
+    F: Fn(&RefusesNth<B>) -> Result<u32, Fail>,
+    requires { F.IsAlwaysCallable run }
+{
+    let mut sum = 0u32;
+    for number in 1..10_000u64 {
+        let alloc = RefusesNth::new(inner, number);
+        sum = sum.saturating_add(run(&alloc)?);
+        if !alloc.has_refused() {
+            return Ok(sum);
+        }
+    }
+    Err(Fail::new("no end of growths"))
 }

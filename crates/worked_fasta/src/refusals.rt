@@ -1,7 +1,7 @@
 //! Each growth of a FASTA file's memory, refused in turn.
 use crate::fixtures::{SIZES, fasta_of, says};
 use iv_text::{Genome, LoadCause, LoadFault};
-use refusing::RefusesNth;
+use refusing::{RefusesNth, refuse_each};
 use std::alloc::Global;
 use std::test::Fail;
 
@@ -19,53 +19,44 @@ fn lines(rt: &HostRuntime) -> Result<String, Fail> {
     Ok(text)
 }
 
-/// Reads a FASTA file, and says whether it met the refusal. `None` where it is another one.
+/// Reads a FASTA file, and says how often it met the refusal, once or never.
 fn refused_beside<'a>(
     alloc: &'a RefusesNth<Global>,
     genome: &Genome<&'a RefusesNth<Global>>,
     text: &[u8],
-) -> Option<bool> {
+) -> Result<u32, Fail> {
     match fasta_of(alloc, genome, text) {
-        Ok(fasta) if says(&fasta, [Some(b"ACGTNacgtR"), Some(b"TTTTA"), None]) => Some(false),
-        Ok(_) => None,
-        Err(fault) => is_memory(fault),
+        Ok(fasta) if says(&fasta, [Some(b"ACGTNacgtR"), Some(b"TTTTA"), None]) => Ok(0),
+        Ok(_) => Err(Fail::new("other bases")),
+        Err(fault) => memory_of(fault),
     }
 }
 
 /// The same of a genome and a FASTA file. Where the genome met the refusal the FASTA file did not.
-fn refused(alloc: &RefusesNth<Global>, text: &[u8]) -> Option<bool> {
+fn refused(alloc: &RefusesNth<Global>, text: &[u8]) -> Result<u32, Fail> {
     match Genome::parse(alloc, SIZES) {
         Ok(genome) => refused_beside(alloc, &genome, text),
-        Err(_) => Some(false),
+        Err(_) => Ok(0),
     }
 }
 
 /// Of a sound file the one fault is that memory ran out, which belongs to no line.
-fn is_memory(fault: LoadFault) -> Option<bool> {
+fn memory_of(fault: LoadFault) -> Result<u32, Fail> {
     let memory = LoadFault {
         line: 0,
         cause: LoadCause::Memory,
     };
-    if fault == memory { Some(true) } else { None }
+    if fault == memory {
+        Ok(1)
+    } else {
+        Err(Fail::new("another fault"))
+    }
 }
 
 #[test]
 fn each_growth_refused_in_turn(rt: HostRuntime) -> Result<(), Fail> {
     let text = lines(&rt)?;
-    let mut met = 0u32;
-    let mut all = false;
-    for number in 1..1000u64 {
-        let alloc = RefusesNth::new(rt.alloc(), number);
-        match refused(&alloc, text.as_bytes()) {
-            Some(refused) => met = met.saturating_add(u32::from(refused)),
-            None => assert!(rt; false, "other bases at {number}"),
-        }
-        if !alloc.has_refused() {
-            all = true;
-            break;
-        }
-    }
-    assert!(rt; all && met > COUNT);
+    assert!(rt; COUNT < refuse_each(rt.alloc(), |alloc| refused(alloc, text.as_bytes()))?);
     Ok(())
 }
 
@@ -77,41 +68,32 @@ fn fault_beside<'a>(
     fasta_of(alloc, genome, b">s\nACGTNacgtR\n>x\nA C\n").err()
 }
 
-/// Whether a fault is want of memory, and not damage of the last line. `None` where it is neither.
-fn is_refusal(fault: LoadFault) -> Option<bool> {
+/// Whether a fault is want of memory, 1, or damage of the last line, 0. It is to be one of them.
+fn refusal_of(fault: LoadFault) -> Result<u32, Fail> {
     let damage = LoadFault {
         line: 4,
         cause: LoadCause::Base,
     };
     if fault == damage {
-        Some(false)
+        Ok(0)
     } else {
-        is_memory(fault)
+        memory_of(fault)
     }
 }
 
-/// Reads that file, and says whether it met the refusal. `None` where it has another fault or none.
-fn refused_beside_damage(alloc: &RefusesNth<Global>) -> Option<bool> {
-    match Genome::parse(alloc, SIZES) {
-        Ok(genome) => is_refusal(fault_beside(alloc, &genome)?),
-        Err(_) => Some(false),
+/// Reads that file, and says how often it met the refusal, once or never.
+fn refused_beside_damage(alloc: &RefusesNth<Global>) -> Result<u32, Fail> {
+    let Ok(genome) = Genome::parse(alloc, SIZES) else {
+        return Ok(0);
+    };
+    match fault_beside(alloc, &genome) {
+        Some(fault) => refusal_of(fault),
+        None => Err(Fail::new("no fault")),
     }
 }
 
 #[test]
-fn damaged_files_without_memory(rt: HostRuntime) {
-    let mut met = 0u32;
-    let mut all = false;
-    for number in 1..100u64 {
-        let alloc = RefusesNth::new(rt.alloc(), number);
-        match refused_beside_damage(&alloc) {
-            Some(refused) => met = met.saturating_add(u32::from(refused)),
-            None => assert!(rt; false, "another fault at {number}"),
-        }
-        if !alloc.has_refused() {
-            all = true;
-            break;
-        }
-    }
-    assert!(rt; all && met > 0);
+fn damaged_files_without_memory(rt: HostRuntime) -> Result<(), Fail> {
+    assert!(rt; 0 < refuse_each(rt.alloc(), refused_beside_damage)?);
+    Ok(())
 }

@@ -3,7 +3,7 @@ use crate::fixtures::{SIZES, second_of};
 use crate::hits::hits_are;
 use iv_pair::Second;
 use iv_text::{Genome, LoadCause};
-use refusing::RefusesNth;
+use refusing::{RefusesNth, refuse_each};
 use std::alloc::Global;
 use std::test::Fail;
 
@@ -25,44 +25,31 @@ fn is_right(second: &Second<&RefusesNth<Global>>) -> bool {
     second.len() == 30 && hits_are(second, 0, 2, 3, &[(1, 40), (2, 40)])
 }
 
-/// Makes the second file, and says whether it met the refusal; not where its lines did. `None` where it is another.
+/// Makes the second file, and says how often it met the refusal, once or never; not where its lines did.
 fn refused_beside<'a>(
     alloc: &'a RefusesNth<Global>,
     genome: &Genome<&'a RefusesNth<Global>>,
     text: &[u8],
-) -> Option<bool> {
+) -> Result<u32, Fail> {
     match second_of(alloc, genome, text) {
-        Ok(Ok(second)) if is_right(&second) => Some(false),
-        Ok(Err(_)) => Some(true),
-        Err(fault) if fault.cause == LoadCause::Memory => Some(false),
-        _ => None,
+        Ok(Ok(second)) if is_right(&second) => Ok(0),
+        Ok(Err(_)) => Ok(1),
+        Err(fault) if fault.cause == LoadCause::Memory => Ok(0),
+        _ => Err(Fail::new("another second file")),
     }
 }
 
 /// The same of a genome and the second file. Where the genome met the refusal the second file did not.
-fn refused(alloc: &RefusesNth<Global>, text: &[u8]) -> Option<bool> {
+fn refused(alloc: &RefusesNth<Global>, text: &[u8]) -> Result<u32, Fail> {
     match Genome::parse(alloc, SIZES) {
         Ok(genome) => refused_beside(alloc, &genome, text),
-        Err(_) => Some(false),
+        Err(_) => Ok(0),
     }
 }
 
 #[test]
 fn each_growth_refused_in_turn(rt: HostRuntime) -> Result<(), Fail> {
     let text = lines(&rt)?;
-    let mut met = 0u32;
-    let mut all = false;
-    for number in 1..1000u64 {
-        let alloc = RefusesNth::new(rt.alloc(), number);
-        match refused(&alloc, text.as_bytes()) {
-            Some(refused) => met = met.saturating_add(u32::from(refused)),
-            None => assert!(rt; false, "another second file at {number}"),
-        }
-        if !alloc.has_refused() {
-            all = true;
-            break;
-        }
-    }
-    assert!(rt; all && met > 2);
+    assert!(rt; 2 < refuse_each(rt.alloc(), |alloc| refused(alloc, text.as_bytes()))?);
     Ok(())
 }

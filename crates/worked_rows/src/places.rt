@@ -1,7 +1,7 @@
 //! BED files as places in their text.
 use iv_places::{BedText, TextRecord, TextRecords};
 use iv_text::{BedFile, Genome, LoadCause, LoadFault, Record, RecordFault, Strand};
-use refusing::RefusesNth;
+use refusing::{RefusesNth, refuse_each};
 use std::alloc::{Allocator, Global};
 use std::mem::size_of;
 use std::test::Fail;
@@ -324,18 +324,18 @@ fn count_of<'a>(
     Ok(bed_text(alloc, genome, MANY, text)?.records().len())
 }
 
-/// Whether a text of forty records is read while one growth may be refused: its fault is then want of memory, at line 0.
-fn is_read(alloc: &RefusesNth<Global>, text: &[u8]) -> Result<bool, Fail> {
+/// How many reads of a text of forty records met the refusal, one or none: its fault is then want of memory, at line 0.
+fn refused_reads(alloc: &RefusesNth<Global>, text: &[u8]) -> Result<u32, Fail> {
     let Ok(genome) = Genome::parse(alloc, SIZES) else {
-        return Ok(false);
+        return Ok(1);
     };
     let memory = LoadFault {
         line: 0,
         cause: LoadCause::Memory,
     };
     match count_of(alloc, &genome, text) {
-        Ok(40) => Ok(true),
-        Err(fault) if fault == memory => Ok(false),
+        Ok(40) if !alloc.has_refused() => Ok(0),
+        Err(fault) if fault == memory => Ok(1),
         _ => Err(Fail::new("other records, or another fault")),
     }
 }
@@ -344,15 +344,6 @@ fn is_read(alloc: &RefusesNth<Global>, text: &[u8]) -> Result<bool, Fail> {
 fn each_growth_of_places_refused(rt: HostRuntime) -> Result<(), Fail> {
     let text = many_lines(&rt)?;
     let lines = &text.as_bytes()[..text.len().min(40 * 18)];
-    let mut refused = 0u32;
-    for number in 1..100u64 {
-        let alloc = RefusesNth::new(rt.alloc(), number);
-        if is_read(&alloc, lines)? {
-            assert!(rt; !alloc.has_refused());
-            break;
-        }
-        refused = refused.saturating_add(1);
-    }
-    assert!(rt; refused > 2 && refused < 99);
+    assert!(rt; 2 < refuse_each(rt.alloc(), |alloc| refused_reads(alloc, lines))?);
     Ok(())
 }

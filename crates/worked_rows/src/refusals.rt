@@ -4,7 +4,7 @@ ghost use Rattle.std.specs.Prelude.{◌≡◌, IfOk};
 use crate::fixtures::{SIZES, add, genome, replace, stage, track_of};
 use iv_text::{Genome, LoadCause, Record, read_record};
 use iv_track::{Ledger, Meter, Track};
-use refusing::RefusesNth;
+use refusing::{RefusesNth, refuse_each};
 use std::alloc::{AllocError, Allocator, Global};
 use std::test::Fail;
 
@@ -232,17 +232,10 @@ fn one_growth_refused(rt: HostRuntime) {
     }
 }
 
-/// Refuses each growth of the calls of a kind in turn, until none is left to refuse. Whether a call met a refusal.
+/// Whether calls of this kind met a refusal, each of their growths refused in turn.
 fn each_is_refused(rt: &HostRuntime, call: Call) -> Result<bool, Fail> {
-    let mut met = 0u32;
-    for number in 1..1000u64 {
-        let alloc = RefusesNth::new(rt.alloc(), number);
-        met = met.saturating_add(refused(rt, call, &alloc)?);
-        if !alloc.has_refused() {
-            return Ok(met > 0);
-        }
-    }
-    Err(Fail::new("growths without an end"))
+    let met = refuse_each(rt.alloc(), |alloc| refused(rt, call, alloc))?;
+    Ok(met > 0)
 }
 
 #[test]

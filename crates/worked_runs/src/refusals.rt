@@ -1,7 +1,7 @@
 //! Each growth of loading, refused in turn.
 use iv_files::{CliFault, Inputs, load};
 use iv_plan::Plan;
-use refusing::RefusesNth;
+use refusing::{RefusesNth, refuse_each};
 use std::alloc::Global;
 use std::test::Fail;
 
@@ -59,21 +59,24 @@ fn loaded(
     }
 }
 
-/// How many loads ended in want of memory, until one met no refusal. All others loaded the whole files.
-fn refused_loads(rt: &HostRuntime, inputs: &Inputs<'_>, bases: Option<&[u8]>) -> Result<u32, Fail> {
-    let mut refused = 0u32;
-    for number in 1..10_000u64 {
-        let alloc = RefusesNth::new(rt.alloc(), number);
-        match loaded(&alloc, inputs, bases)? {
-            Some(COUNT) if !alloc.has_refused() => return Ok(refused),
-            // A growth that was refused may have been tried again at another size.
-            Some(COUNT) => {}
-            None if alloc.has_refused() => refused = refused.saturating_add(1),
-            None => return Err(Fail::new("no memory, and none was refused")),
-            _ => return Err(Fail::new("other records")),
-        }
+/// Loads the files, and says how often that ended in want of memory, once or never. Else they are loaded whole, though a
+/// growth was refused: it may have been tried again at another size.
+fn refused_load(
+    alloc: &RefusesNth<Global>,
+    inputs: &Inputs<'_>,
+    bases: Option<&[u8]>,
+) -> Result<u32, Fail> {
+    match loaded(alloc, inputs, bases)? {
+        Some(COUNT) => Ok(0),
+        None if alloc.has_refused() => Ok(1),
+        None => Err(Fail::new("no memory, and none was refused")),
+        _ => Err(Fail::new("other records")),
     }
-    Err(Fail::new("no end of growths"))
+}
+
+/// How many loads ended so, each of their growths refused in turn.
+fn refused_loads(rt: &HostRuntime, inputs: &Inputs<'_>, bases: Option<&[u8]>) -> Result<u32, Fail> {
+    refuse_each(rt.alloc(), |alloc| refused_load(alloc, inputs, bases))
 }
 
 #[test]

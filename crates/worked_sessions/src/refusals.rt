@@ -2,7 +2,7 @@
 use crate::fixtures::{Files, alone, session_of};
 use iv_state::{EditFault, Session};
 use iv_track::Meter;
-use refusing::RefusesNth;
+use refusing::{RefusesNth, refuse_each};
 use std::alloc::Global;
 use std::test::Fail;
 
@@ -162,15 +162,8 @@ fn refused_calls(rt: &HostRuntime, alloc: &RefusesNth<Global>, text: &[u8]) -> R
 
 /// Whether some growth was refused, and none is any more behind the last one.
 fn is_refused_in_turn(rt: &HostRuntime, text: &[u8]) -> Result<bool, Fail> {
-    let mut met = 0u32;
-    for number in 1..10_000u64 {
-        let alloc = RefusesNth::new(rt.alloc(), number);
-        met = met.saturating_add(refused_calls(rt, &alloc, text)?);
-        if !alloc.has_refused() {
-            return Ok(met > 0);
-        }
-    }
-    Ok(false)
+    let met = refuse_each(rt.alloc(), |alloc| refused_calls(rt, alloc, text))?;
+    Ok(met > 0)
 }
 
 #[test]

@@ -2,7 +2,7 @@
 use iv_files::{CliFault, Inputs, shot};
 use iv_plan::{Plan, PlanFault};
 use iv_text::MemSink;
-use refusing::RefusesNth;
+use refusing::{RefusesNth, refuse_each};
 use std::alloc::Global;
 use std::test::Fail;
 
@@ -26,30 +26,35 @@ fn run(
     }
 }
 
-/// How many runs ended in want of memory with nothing printed, until one met no refusal. All others printed these rows.
+/// Runs it, and says how often that ended in want of memory with nothing printed, once or never. Else these rows are
+/// printed, though a growth was refused: it may have been tried again at another size.
+fn refused_run(
+    rt: &HostRuntime,
+    alloc: &RefusesNth<Global>,
+    words: &[&[u8]],
+    inputs: &Inputs<'_>,
+    rows: &[u8],
+) -> Result<u32, Fail> {
+    let (is_refused, sink) = run(rt, alloc, words, inputs)?;
+    match is_refused {
+        true if alloc.has_refused() && sink.bytes().is_empty() => Ok(1),
+        true => Err(Fail::new("no refusal, or a row too many")),
+        false if sink.bytes() == rows => Ok(0),
+        false => Err(Fail::new("other rows")),
+    }
+}
+
+/// How many runs ended so, each of their growths refused in turn.
 fn refused_runs(
     rt: &HostRuntime,
     words: &[&[u8]],
     inputs: &Inputs<'_>,
     rows: &[u8],
 ) -> Result<u32, Fail> {
-    let mut refused = 0u32;
-    for number in 1..10_000u64 {
-        let alloc = RefusesNth::new(rt.alloc(), number);
-        let (is_refused, sink) = run(rt, &alloc, words, inputs)?;
-        if is_refused {
-            if !alloc.has_refused() || !sink.bytes().is_empty() {
-                return Err(Fail::new("no refusal, or a row too many"));
-            }
-            refused = refused.saturating_add(1);
-        } else if sink.bytes() != rows {
-            return Err(Fail::new("other rows"));
-        } else if !alloc.has_refused() {
-            // A growth that was refused may have been tried again at another size.
-            return Ok(refused);
-        }
-    }
-    Err(Fail::new("no end of growths"))
+    refuse_each(
+        rt.alloc(),
+        |alloc| refused_run(rt, alloc, words, inputs, rows),
+    )
 }
 
 #[test]

@@ -1,7 +1,7 @@
 //! What operations give for values, and results over records.
 use iv_summary::{Column, Op, Summary, results, summary};
 use iv_text::{Genome, Record, read_record};
-use refusing::RefusesNth;
+use refusing::{RefusesNth, refuse_each};
 use std::alloc::Global;
 use std::test::Fail;
 
@@ -171,23 +171,20 @@ const WANTED: [(Op, &[u8]); 6] = [
     (Op::Distinct, b"\tchr1\t100,9\t1000,250\ta,b\t0.5,7\t-,."),
 ];
 
-/// Whether there are no results with each growth refused in turn, and these with none refused.
-fn right_with_refusals(rt: &HostRuntime, op: Op, want: &[u8]) -> bool {
-    for number in 1..1000u64 {
-        let alloc = RefusesNth::new(rt.alloc(), number);
-        match are_results(&alloc, op, want) {
-            Some(is_right) => return is_right && !alloc.has_refused() && number > 1,
-            None if alloc.has_refused() => (),
-            None => return false,
-        }
+/// How often there were no results, once where a growth was refused and else never; then they are to be these.
+fn refused_results(alloc: &RefusesNth<Global>, op: Op, want: &[u8]) -> Result<u32, Fail> {
+    match are_results(alloc, op, want) {
+        Some(true) if !alloc.has_refused() => Ok(0),
+        None if alloc.has_refused() => Ok(1),
+        _ => Err(Fail::new("other results")),
     }
-    false
 }
 
 #[test]
 fn results_over_records(rt: HostRuntime) -> Result<(), Fail> {
     for (op, want) in WANTED {
-        assert!(rt; right_with_refusals(&rt, op, want));
+        let refused = refuse_each(rt.alloc(), |alloc| refused_results(alloc, op, want))?;
+        assert!(rt; refused > 0);
     }
     Ok(())
 }
