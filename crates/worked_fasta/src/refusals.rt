@@ -40,7 +40,7 @@ fn refused(alloc: &RefusesNth<Global>, text: &[u8]) -> Result<u32, Fail> {
     }
 }
 
-/// Of a sound file the one fault is that memory ran out, which belongs to no line.
+/// How often memory was refused, by the fault of a sound file: once, since it can have no other, and that at no line.
 fn memory_of(fault: LoadFault) -> Result<u32, Fail> {
     let memory = LoadFault {
         line: 0,
@@ -68,7 +68,7 @@ fn fault_beside<'a>(
     fasta_of(alloc, genome, b">s\nACGTNacgtR\n>x\nA C\n").err()
 }
 
-/// Whether a fault is want of memory, 1, or damage of the last line, 0. It is to be one of them.
+/// The same by the fault of the file whose last line is damaged: never, where the damage is told.
 fn refusal_of(fault: LoadFault) -> Result<u32, Fail> {
     let damage = LoadFault {
         line: 4,

@@ -232,6 +232,23 @@ fn one_growth_refused(rt: HostRuntime) {
     }
 }
 
+/// How many of three growths are refused.
+fn refused_of_three(alloc: &RefusesNth<Global>) -> Result<u32, Fail> {
+    let mut refused = 0u32;
+    for _ in 0..3 {
+        let made: Result<Vec<u8, &RefusesNth<Global>>, AllocError> = Vec::with_capacity(alloc, 4);
+        refused = refused.saturating_add(u32::from(made.is_err()));
+    }
+    Ok(refused)
+}
+
+/// Each of the three is refused once.
+#[test]
+fn growths_refused_one_after_the_other(rt: HostRuntime) -> Result<(), Fail> {
+    assert!(rt; refuse_each(rt.alloc(), refused_of_three)? == 3);
+    Ok(())
+}
+
 /// Whether calls of this kind met a refusal, each of their growths refused in turn.
 fn each_is_refused(rt: &HostRuntime, call: Call) -> Result<bool, Fail> {
     let met = refuse_each(rt.alloc(), |alloc| refused(rt, call, alloc))?;
