@@ -1,5 +1,5 @@
 -- The lengths of records, counted in a map.
-use Rattle.std.proofs.Common.{◌≡◌, ℕ, ◌+◌, ◌-◌, ◌<◌, ◌≤◌, ◌^◌, Bool, true, false, cond, List, [], ◌∷◌, Option, Some, None, refl, sym, ap, ◌∙◌, subst, arith, length, length-drop, drop, drop-cons, get_or, add-one}
+use Rattle.std.proofs.Common.{◌≡◌, ◌≢◌, ℕ, ◌+◌, ◌-◌, ◌<◌, ◌≤◌, ◌^◌, Bool, true, false, cond, List, [], ◌∷◌, Option, Some, None, refl, sym, ap, ◌∙◌, subst, arith, length, length-drop, drop, drop-cons, get_or, add-one, suc, inl, inr}
 use Rattle.std.specs.Prelude.{All, count_by, unwrap_or, find, fold, reverse, IfSome}
 use Rattle.std.specs.List.{AllByRecursion}
 use Rattle.std.specs.Option.{option_or}
@@ -7,7 +7,7 @@ use Rattle.std.specs.declared.cmp.Ordering.{Ordering}
 use Rattle.std.specs.declared.cmp.Ordering.TheVariants.{Less}
 use Rattle.std.specs.Ordering.{is_eq, is_le, is_ge, nat_cmp, ordering_then}
 use Rattle.std.specs.Cmp.{IsTotalOrder, nat_cmp_total, on_total, then_total, tied_itself, Equal-is}
-use Rattle.std.specs.Map.{keys_of, values_of, lookup}
+use Rattle.std.specs.Map.{keys_of, values_of, lookup, remove_entry, set_value}
 use Rattle.std.specs.BTreeMap.{insert_entry, is_at}
 use Rattle.std.specs.List.Sorted.{IsStrictlySortedBy}
 use Rattle.std.proofs.lemmas.List.{reverse-append}
@@ -15,15 +15,19 @@ use Rattle.std.proofs.lemmas.List.Elements.{All-nil, All-cons, All-head, All-tai
 use Rattle.std.proofs.lemmas.List.Folds.{find-append}
 use Rattle.std.proofs.lemmas.List.Sums.{sum_by-cons, count_by-le-length}
 use Rattle.std.proofs.lemmas.Map.Keys.{sorted_head, sorted_tail}
+use Rattle.std.proofs.lemmas.Map.{keys-set_value}
 use Rattle.std.proofs.lemmas.Map.Lookups.{CmpEqualImpliesEq, exact_pairs, exact_unsigned}
-use Rattle.std.proofs.lemmas.Map.Views.{All-keys-insert_entry, All-values-insert_entry}
-use Rattle.iv_text.specs.Ordered.{copies_by, added_by, ordered}
+use Rattle.std.proofs.lemmas.Map.Views.{All-keys-insert_entry, All-values-insert_entry, All-map-remove_entry, All-values-set_value, IfSome-lookup_from_All}
+use Rattle.std.proofs.lemmas.Bool.{cases_lt}
+use Rattle.iv_text.specs.Ordered.{copies_by, added_by, AreInOrder, added, copies, ordered}
 use Rattle.iv_text.specs.Row.{Row, row_cmp}
-use Rattle.iv_text.proofs.OrderedLemmas.{copies-added}
-use Rattle.iv_track.specs.Copies.{expanded}
+use Rattle.iv_text.proofs.OrderedLemmas.{copies-added, length-all_added}
+use Rattle.iv_track.specs.Copies.{expanded, removed_by}
 use Rattle.iv_track.specs.Entries.{IsLedger, value_at, last_until}
-use Rattle.iv_track.proofs.Counts.{copies-expanded, expanded-insert}
-use Rattle.iv_pair.specs.Lengths.{length_of, length_cmp, with_length, IsTally, AreLengths, AreUpTo}
+use Rattle.iv_track.specs.Tracked.{removed}
+use Rattle.iv_track.proofs.Counts.{copies-expanded, copies-removed, expanded-insert, expanded-remove_entry, expanded-set_value}
+use Rattle.iv_track.proofs.Edits.{added-removed}
+use Rattle.iv_pair.specs.Lengths.{length_of, length_cmp, with_length, IsTally, AreLengths, IsSecond, AreUpTo}
 use Rattle.iv_pair.proofs.PlaceLemmas.{le_pair, ge_pair, pair_ge}
 
 pub lengths_total : IsTotalOrder length_cmp
@@ -73,6 +77,45 @@ module _ (es fs : List ((ℕ × ℕ) × ℕ)) (k : ℕ × ℕ) (t : IsTally es) 
       present = subst (λ gs. All (λ m. 0 < m) (values_of gs)) (sym put) (All-values-insert_entry length_cmp k (n + 1) (λ m. 0 < m) es t.present (omega arith));
       small = subst (λ gs. All (λ (q : ℕ × ℕ). q.1 < 2 ^ 32) (keys_of gs)) (sym put) (All-keys-insert_entry length_cmp k (n + 1) (λ (q : ℕ × ℕ). q.1 < 2 ^ 32) es t.small fits);
     }
+
+-- ---- one length less in the map
+
+-- fs is the map es with one length k less
+pub record IsLowered (es fs : List ((ℕ × ℕ) × ℕ)) (k : ℕ × ℕ) : Type 0 where
+  pub tally : IsTally fs
+  pub rows : expanded fs ≡ removed_by length_cmp (expanded es) k
+
+-- a length that is counted is there
+pub not-absent : (es : List ((ℕ × ℕ) × ℕ)) (k : ℕ × ℕ) → IsTally es → 0 < copies_by length_cmp (expanded es) k → value_at length_cmp es k ≡ None → ⊥
+not-absent es k t some none = absurd (omega (arith, some, count_at es es k t, ap (λ o. unwrap_or o 0) none))
+
+module _ (es fs : List ((ℕ × ℕ) × ℕ)) (k : ℕ × ℕ) (t : IsTally es) (n : ℕ) (count : value_at length_cmp es k ≡ Some n) where
+  pub count-pos : 0 < n
+  count-pos = subst (λ o. IfSome o (λ m. 0 < m)) count (IfSome-lookup_from_All (λ m. 0 < m) (is_at (length_cmp k)) es t.present)
+
+  pub lowered_by_take : n ≡ 1 → fs ≡ remove_entry (is_at (length_cmp k)) es → IsLedger length_cmp fs → IsLowered es fs k
+  lowered_by_take one is ordered = record {
+    tally = record {
+      ordered = ordered;
+      present = subst (λ gs. All (λ m. 0 < m) (values_of gs)) (sym is) (All-map-remove_entry (is_at (length_cmp k)) (λ e. e.1) (λ m. 0 < m) es t.present);
+      small = subst (λ gs. All (λ (q : ℕ × ℕ). q.1 < 2 ^ 32) (keys_of gs)) (sym is) (All-map-remove_entry (is_at (length_cmp k)) (λ e. e.0) (λ (q : ℕ × ℕ). q.1 < 2 ^ 32) es t.small);
+    };
+    rows = ap expanded is ∙ expanded-remove_entry length_cmp es k (count ∙ ap Some one);
+  }
+
+  pub lowered_by_set : n ≢ 1 → fs ≡ set_value (is_at (length_cmp k)) es (n - 1) → IsLedger length_cmp fs → IsLowered es fs k
+  lowered_by_set more is ordered =
+      let e : n ≡ suc (n - 1) = omega (arith, count-pos) in
+      let below : 0 < n - 1 = omega (arith, count-pos) in
+      record {
+        tally = record {
+          ordered = ordered;
+          present = subst (λ gs. All (λ m. 0 < m) (values_of gs)) (sym is) (All-values-set_value (is_at (length_cmp k)) (λ m. 0 < m) es (n - 1) t.present below);
+          small = subst (λ gs. All (λ (q : ℕ × ℕ). q.1 < 2 ^ 32) (keys_of gs)) (sym is)
+              (subst (All (λ (q : ℕ × ℕ). q.1 < 2 ^ 32)) (sym (keys-set_value (is_at (length_cmp k)) es (n - 1))) t.small);
+        };
+        rows = ap expanded is ∙ expanded-set_value length_cmp es k (n - 1) (count ∙ ap Some e);
+      }
 
 -- ---- the lengths of records, one after another
 
@@ -140,6 +183,91 @@ pub AreLengths-ordered : (es : List ((ℕ × ℕ) × ℕ)) (rows : List Row) →
 AreLengths-ordered es rows a = record {
   tally = a.tally;
   counts = λ k. omega (arith, a.counts k, count-all_added row_cmp (λ r. is_eq (length_cmp k (length_of r))) rows []);
+}
+
+-- ---- the lengths of a track's records, with one more and with one less
+
+-- a length is counted at most once for each record
+pub AreLengths-room : (es : List ((ℕ × ℕ) × ℕ)) (rows : List Row) (k : ℕ × ℕ) → AreLengths es rows → copies_by length_cmp (expanded es) k ≤ length rows
+AreLengths-room es rows k a = omega (arith, a.counts k, count_by-le-length (λ r. is_eq (length_cmp k (length_of r))) rows)
+
+with_length-added : (rows : List Row) (r : Row) (k : ℕ × ℕ) → with_length (added rows r) k ≡ cond (is_eq (length_cmp k (length_of r))) 1 0 + with_length rows k
+with_length-added rows r k = count-added row_cmp (λ q. is_eq (length_cmp k (length_of q))) rows r
+
+-- a record that is there is one of those that have its length
+with_length-removed : (rows : List Row) (r : Row) (k : ℕ × ℕ) → AreInOrder rows → 0 < copies rows r
+    → with_length rows k ≡ cond (is_eq (length_cmp k (length_of r))) 1 0 + with_length (removed rows r) k
+with_length-removed rows r k order there = ap (λ (l : List Row). with_length l k) (added-removed rows r order there) ∙ with_length-added (removed rows r) r k
+
+-- its length is counted
+pub counted-there : (es : List ((ℕ × ℕ) × ℕ)) (rows : List Row) (r : Row) → AreLengths es rows → AreInOrder rows → 0 < copies rows r → 0 < copies_by length_cmp (expanded es) (length_of r)
+counted-there es rows r a order there =
+    omega (arith, a.counts (length_of r), with_length-removed rows r (length_of r) order there, ap {B = ℕ} (λ (o : Ordering). cond (is_eq o) 1 0) (tied_itself lengths_total (length_of r)))
+
+-- a record whose length isn't counted is not there
+pub absent-uncounted : (es : List ((ℕ × ℕ) × ℕ)) (rows : List Row) (r : Row) → AreLengths es rows → AreInOrder rows → copies_by length_cmp (expanded es) (length_of r) ≡ 0 → copies rows r ≡ 0
+absent-uncounted es rows r a order none = elim (cases_lt 0 (copies rows r)) [
+  | inl there ↦ absurd (omega (arith, none, counted-there es rows r a order there))
+  | inr low ↦ omega arith
+]
+
+pub AreLengths-added : (es fs : List ((ℕ × ℕ) × ℕ)) (rows : List Row) (r : Row) → AreLengths es rows → IsTally fs
+    → expanded fs ≡ added_by length_cmp (expanded es) (length_of r) → AreLengths fs (added rows r)
+AreLengths-added es fs rows r a t up = record {
+  tally = t;
+  counts = λ k. omega (
+    arith,
+    a.counts k,
+    with_length-added rows r k,
+    ap (λ (l : List (ℕ × ℕ)). copies_by length_cmp l k) up,
+    copies-added length_cmp (expanded es) (length_of r) k,
+  );
+}
+
+pub AreLengths-removed : (es fs : List ((ℕ × ℕ) × ℕ)) (rows : List Row) (r : Row) → AreLengths es rows → AreInOrder rows → 0 < copies rows r
+    → IsLowered es fs (length_of r) → AreLengths fs (removed rows r)
+AreLengths-removed es fs rows r a order there low = record {
+  tally = low.tally;
+  counts = λ k. omega (
+    arith,
+    a.counts k,
+    with_length-removed rows r k order there,
+    ap (λ (l : List (ℕ × ℕ)). copies_by length_cmp l k) low.rows,
+    copies-removed length_cmp lengths_total (expanded es) (length_of r) k (counted-there es rows r a order there),
+  );
+}
+
+-- a length that was counted is there to be taken back
+pub raised-there : (es fs : List ((ℕ × ℕ) × ℕ)) (k : ℕ × ℕ) → expanded fs ≡ added_by length_cmp (expanded es) k → 0 < copies_by length_cmp (expanded fs) k
+raised-there es fs k up =
+    omega (
+      arith,
+      ap (λ (l : List (ℕ × ℕ)). copies_by length_cmp l k) up,
+      copies-added length_cmp (expanded es) k k,
+      ap {B = ℕ} (λ (o : Ordering). cond (is_eq o) 1 0) (tied_itself lengths_total k),
+    )
+
+-- and then all is counted as before
+pub AreLengths-back : (es fs gs : List ((ℕ × ℕ) × ℕ)) (rows : List Row) (k : ℕ × ℕ) → AreLengths es rows → expanded fs ≡ added_by length_cmp (expanded es) k
+    → IsLowered fs gs k → AreLengths gs rows
+AreLengths-back es fs gs rows k a up low = record {
+  tally = low.tally;
+  counts = λ q. omega (
+    arith,
+    a.counts q,
+    ap (λ (l : List (ℕ × ℕ)). copies_by length_cmp l q) up,
+    copies-added length_cmp (expanded es) k q,
+    ap (λ (l : List (ℕ × ℕ)). copies_by length_cmp l q) low.rows,
+    copies-removed length_cmp lengths_total (expanded fs) k q (raised-there es fs k up),
+  );
+}
+
+-- a second file of the records of a file
+pub IsSecond-new : (es : List ((ℕ × ℕ) × ℕ)) (rows : List Row) (width limit : ℕ) → AreLengths es rows → length rows ≤ limit
+    → IsSecond es (record { rows = ordered rows; width = width; limit = limit })
+IsSecond-new es rows width limit a few = record {
+  counted = AreLengths-ordered es rows a;
+  few = omega (arith, length-all_added row_cmp rows [], few);
 }
 
 -- a bound of all lengths of a sequence is one of its records

@@ -1,6 +1,6 @@
 -- How many records there are of each length, in a map. This is a part of the state of `Second`, as seen by its proof, and no part of
 -- what is promised.
-use Rattle.std.specs.Prelude.{◌≡◌, ℕ, ◌+◌, ◌-◌, ◌<◌, ◌≤◌, ◌^◌, List, All, count_by}
+use Rattle.std.specs.Prelude.{◌≡◌, ℕ, ◌+◌, ◌-◌, ◌<◌, ◌≤◌, ◌^◌, List, All, count_by, length}
 use Rattle.std.specs.declared.cmp.Ordering.{Ordering}
 use Rattle.std.specs.Ordering.{is_eq, nat_cmp, ordering_then}
 use Rattle.std.specs.Map.{keys_of, values_of}
@@ -8,6 +8,7 @@ use Rattle.iv_text.specs.Ordered.{copies_by}
 use Rattle.iv_text.specs.Row.{Row}
 use Rattle.iv_track.specs.Copies.{expanded}
 use Rattle.iv_track.specs.Entries.{IsLedger}
+use Rattle.iv_track.specs.Tracked.{Tracked}
 
 -- the rank of a record's sequence, and how many positions it has
 abbrev pub length_of : Row → ℕ × ℕ
@@ -31,6 +32,11 @@ pub record IsTally (es : List ((ℕ × ℕ) × ℕ)) : Type 0 where
 pub record AreLengths (es : List ((ℕ × ℕ) × ℕ)) (rows : List Row) : Type 0 where
   pub tally : IsTally es
   pub counts : (k : ℕ × ℕ) → copies_by length_cmp (expanded es) k ≡ with_length rows k
+
+-- what a second file keeps true: the map has the lengths of its track's records, of which there are no more than the limit
+pub record IsSecond (es : List ((ℕ × ℕ) × ℕ)) (track : Tracked) : Type 0 where
+  pub counted : AreLengths es track.rows
+  pub few : length track.rows ≤ track.limit
 
 -- no record on the sequence of this rank has more positions than n
 abbrev pub AreUpTo : ℕ → ℕ → List Row → Type 0

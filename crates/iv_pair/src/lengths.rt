@@ -1,8 +1,9 @@
 //! How many records there are of each length.
-ghost use Rattle.std.specs.Prelude.{◌≡◌, ℕ, ◌+◌, ◌-◌, ◌<◌, ◌≤◌, ◌^◌, length, OnOk, IfOk};
+ghost use Rattle.std.specs.Prelude.{◌≡◌, ℕ, ◌+◌, ◌-◌, ◌<◌, ◌≤◌, ◌^◌, length, OnOk, OnErr, IfOk};
 ghost use Rattle.iv_text.specs.Ordered.{added_by, copies_by};
 ghost use Rattle.iv_text.specs.Row.{Row};
-ghost use Rattle.iv_track.specs.Copies.{expanded};
+ghost use Rattle.iv_track.specs.Copies.{expanded, removed_by};
+ghost use Rattle.iv_track.specs.Steps.{TakesUpTo};
 ghost use Rattle.iv_pair.specs.Lengths.{AreLengths, IsTally, length_cmp, length_of};
 
 use iv_text::Record;
@@ -13,7 +14,7 @@ use std::alloc::{AllocError, Allocator};
 pub(crate) type Lengths<A> = Ledger<(u32, u32), u32, A>;
 
 /// The rank of a record's sequence, and how many positions the record has.
-fn length_of<A: Allocator + Copy>(row: &Record<A>) -> (u32, u32)
+pub(crate) fn length_of<A: Allocator + Copy>(row: &Record<A>) -> (u32, u32)
     ensures is { result ≡ length_of row.now }
     ensures small { result.1 < 2 ^ 32 }
 {
@@ -21,8 +22,12 @@ fn length_of<A: Allocator + Copy>(row: &Record<A>) -> (u32, u32)
     (row.seq(), (row.stop() - row.start()) as u32)
 }
 
-/// One record more of this length.
-fn raise<A: Allocator + Copy>(
+/// One record more of this length. At most 2 steps.
+///
+/// # Errors
+///
+/// Memory was refused, which happens only where no record has this length. The lengths are unchanged.
+pub(crate) fn raise<A: Allocator + Copy>(
     lengths: &mut Lengths<A>,
     key: (u32, u32),
     meter: &mut Meter,
@@ -30,11 +35,35 @@ fn raise<A: Allocator + Copy>(
     requires tally { IsTally lengths.old }
     requires small { key.1 < 2 ^ 32 }
     requires room { copies_by length_cmp (expanded lengths.old) key < 2 ^ 32 - 1 }
-    ensures { OnOk result (IsTally lengths.new × (expanded lengths.new ≡ added_by length_cmp (expanded lengths.old) key)) }
+    ensures ok { OnOk result (IsTally lengths.new × (expanded lengths.new ≡ added_by length_cmp (expanded lengths.old) key)) }
+    ensures memory { OnErr result (copies_by length_cmp (expanded lengths.old) key ≡ 0) }
+    ensures err { OnErr result (lengths.new ≡ lengths.old) }
+    ensures steps { TakesUpTo meter.old meter.new 2 }
 {
     let count = lengths.get(&key, meter).copied().unwrap_or(0);
     lengths.put(key, count + 1, meter)?;
     Ok(())
+}
+
+/// One record less of this length, which some record has. At most 2 steps, and no memory.
+pub(crate) fn lower<A: Allocator + Copy>(
+    lengths: &mut Lengths<A>,
+    key: (u32, u32),
+    meter: &mut Meter,
+)
+    requires tally { IsTally lengths.old }
+    requires there { 0 < copies_by length_cmp (expanded lengths.old) key }
+    ensures lowered { IsTally lengths.new × (expanded lengths.new ≡ removed_by length_cmp (expanded lengths.old) key) }
+    ensures steps { TakesUpTo meter.old meter.new 2 }
+{
+    let Some(count) = lengths.get(&key, meter).copied() else {
+        unreachable!()
+    };
+    if count == 1 {
+        lengths.take(&key, meter);
+    } else {
+        let _ = lengths.set(&key, count - 1, meter);
+    }
 }
 
 /// The lengths of these records. Nothing grows but the ledger.

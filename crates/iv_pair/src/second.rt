@@ -1,14 +1,16 @@
 //! The second file: its records in track order, and how long they are.
-ghost use Rattle.std.specs.Prelude.{◌≡◌, ◌+◌, ◌-◌, ◌^◌, ◌<◌, ◌≤◌, length, filter, min, All, IfOk, vec_len};
-ghost use Rattle.iv_text.specs.Ordered.{AreInOrder, ordered};
-ghost use Rattle.iv_track.specs.Tracked.{is_from, most_records};
+ghost use Rattle.std.specs.Prelude.{◌≡◌, ◌+◌, ◌-◌, ◌^◌, ◌<◌, ◌≤◌, ◌↔◌, length, filter, min, All, IfOk, OnOk, OnErr, Err, vec_len};
+ghost use Rattle.iv_text.specs.Ordered.{AreInOrder, added, copies, ordered};
+ghost use Rattle.iv_track.specs.Steps.{TakesUpTo};
+ghost use Rattle.iv_track.specs.Tracked.{is_from, most_records, removed};
 ghost use Rattle.iv_pair.specs.Hits.{hits};
 ghost use Rattle.iv_pair.specs.Lengths.{AreUpTo};
 
+use crate::counted_edits::{stage, take};
 use crate::hits::Hits;
 use crate::lengths::{Lengths, lengths_of, longest};
 use iv_text::Record;
-use iv_track::{Meter, Rows, Track};
+use iv_track::{AddFault, Meter, NotThere, ReplaceFault, Rows, Track};
 use std::alloc::{AllocError, Allocator, Global};
 use std::marker::Model;
 
@@ -23,13 +25,13 @@ pub struct Second<A: Allocator + Copy = Global> {
 
 impl<A: Allocator + Copy> Model for Second<A> {
     ghost use Rattle.iv_track.specs.Tracked.{Tracked};
-    ghost use Rattle.iv_pair.specs.Lengths.{AreLengths};
+    ghost use Rattle.iv_pair.specs.Lengths.{IsSecond};
 
     ghost Value = { Tracked };
 
     ghost view = { λ s. s.track };
 
-    ghost invariant = { λ s. AreLengths s.lengths s.track.rows };
+    ghost invariant = { λ s. IsSecond s.lengths s.track };
 }
 
 impl<A: Allocator + Copy> Second<A> {
@@ -79,6 +81,74 @@ impl<A: Allocator + Copy> Second<A> {
         ensures { result ≡ self.now.limit }
     {
         self.track.limit()
+    }
+
+    /// Adds a record of the width. At most 16 steps.
+    ///
+    /// # Errors
+    ///
+    /// E12 exactly where there are as many records as the limit, else E22, and that only for a record without a copy.
+    /// All is as before.
+    pub fn add(&mut self, row: Record<A>, meter: &mut Meter) -> Result<(), AddFault>
+        requires { row.width ≡ self.old.width }
+        ensures ok { OnOk result (self.new ≡ record self.old { rows = added self.old.rows row }) }
+        ensures full { (result ≡ Err AddFault.Full) ↔ (self.old.limit ≤ length self.old.rows) }
+        ensures memory { result ≡ Err AddFault.NoMemory → copies self.old.rows row ≡ 0 }
+        ensures err { OnErr result (self.new ≡ self.old) }
+        ensures steps { TakesUpTo meter.old meter.new 16 }
+    {
+        if self.track.len() >= self.track.limit() {
+            return Err(AddFault::Full);
+        }
+        stage(&mut self.track, &mut self.lengths, row, meter)?;
+        Ok(())
+    }
+
+    /// Takes one copy of a record out. At most 16 steps, and no memory.
+    ///
+    /// # Errors
+    ///
+    /// E11 exactly where no copy is there. All is as before.
+    pub fn remove(&mut self, row: &Record<A>, meter: &mut Meter) -> Result<(), NotThere>
+        ensures ok { OnOk result (self.new ≡ record self.old { rows = removed self.old.rows row.now }) }
+        ensures found { OnOk result (0 < copies self.old.rows row.now) }
+        ensures absent { OnErr result (copies self.old.rows row.now ≡ 0) }
+        ensures err { OnErr result (self.new ≡ self.old) }
+        ensures steps { TakesUpTo meter.old meter.new 16 }
+    {
+        take(&mut self.track, &mut self.lengths, row, meter)?;
+        Ok(())
+    }
+
+    /// Adds the new record, of the width, and takes one copy of the old one. At most 16 steps.
+    ///
+    /// Where there are as many records as the limit, that is no hindrance.
+    ///
+    /// # Errors
+    ///
+    /// E11 exactly where no copy of the old record is there, else E22, and that only for a new record without a copy.
+    /// All is as before.
+    pub fn replace(
+        &mut self,
+        old: &Record<A>,
+        new: Record<A>,
+        meter: &mut Meter,
+    ) -> Result<(), ReplaceFault>
+        requires { new.width ≡ self.old.width }
+        ensures ok { OnOk result (self.new ≡ record self.old { rows = added (removed self.old.rows old.now) new }) }
+        ensures absent { (result ≡ Err ReplaceFault.NotThere) ↔ (copies self.old.rows old.now ≡ 0) }
+        ensures memory { result ≡ Err ReplaceFault.NoMemory → copies self.old.rows new ≡ 0 }
+        ensures err { OnErr result (self.new ≡ self.old) }
+        ensures steps { TakesUpTo meter.old meter.new 16 }
+    {
+        if self.track.copies(old, meter) == 0 {
+            return Err(ReplaceFault::NotThere);
+        }
+        stage(&mut self.track, &mut self.lengths, new, meter)?;
+        match take(&mut self.track, &mut self.lengths, old, meter) {
+            Ok(()) => Ok(()),
+            Err(_) => unreachable!(),
+        }
     }
 
     /// The records on the sequence of this rank that share a position with an interval, in the order of a track, copies again.

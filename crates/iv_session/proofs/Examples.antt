@@ -9,7 +9,7 @@ use Rattle.iv_session.specs.Requests.{asked}
 use Rattle.iv_session.specs.Running.{Runs}
 use Rattle.iv_session.specs.Scripts.{Steps}
 use Rattle.iv_state.specs.OpenViews.{Shown}
-use Rattle.iv_state.specs.States.{State, with_rows}
+use Rattle.iv_state.specs.States.{State, with_record}
 use Rattle.iv_state.specs.Views.{opened, all_text, text_in}
 use Rattle.iv_view.specs.Views.{read_words}
 use Rattle.iv_session.specs.Written.{Written, printed, refused_by}
@@ -56,25 +56,32 @@ abbrev with_a_view : State
 with_a_view = record empty { views = (codes "m", merging) ∷ [] }
 
 abbrev with_one : State
-with_one = with_rows with_a_view (first_row ∷ [])
+with_one = with_record with_a_view first_row
 
 abbrev with_two : State
-with_two = with_rows with_a_view (first_row ∷ second_row ∷ [])
+with_two = with_record with_one second_row
 
-pub comments-ask_nothing : asked g 3 (codes "# a note") ≡ Ok request.Nothing
+pub comments-ask_nothing : asked empty (codes "# a note") ≡ Ok request.Nothing
 comments-ask_nothing = refl
 
-pub commands-stand_before_a_tab : asked g 3 (codes "print" ++ tab ++ codes "m") ≡ Ok (request.Print (codes "m"))
+pub commands-stand_before_a_tab : asked empty (codes "print" ++ tab ++ codes "m") ≡ Ok (request.Print (codes "m"))
 commands-stand_before_a_tab = refl
 
-pub other_words-are_no_commands : asked g 3 (codes "paint" ++ tab ++ codes "m") ≡ Err request_fault.Command
+pub other_words-are_no_commands : asked empty (codes "paint" ++ tab ++ codes "m") ≡ Err request_fault.Command
 other_words-are_no_commands = refl
 
-pub printall-takes_no_field : asked g 3 (codes "printall" ++ tab) ≡ Err request_fault.Command
+pub printall-takes_no_field : asked empty (codes "printall" ++ tab) ≡ Err request_fault.Command
 printall-takes_no_field = refl
 
-pub records-stand_behind_add : asked g 3 (codes "add" ++ tab ++ codes "chr1" ++ tab ++ codes "10" ++ tab ++ codes "20") ≡ Ok (request.Add first_row)
+pub records-stand_behind_add : asked empty (codes "add" ++ tab ++ codes "chr1" ++ tab ++ codes "10" ++ tab ++ codes "20") ≡ Ok (request.Add first_row)
 records-stand_behind_add = refl
+
+pub lengths-stand_behind_names : asked empty (codes "resize" ++ tab ++ codes "chr1" ++ tab ++ codes "20") ≡ Ok (request.Resize (codes "chr1") 20)
+lengths-stand_behind_names = refl
+
+-- a name is looked for only behind a sound length
+pub bad_lengths-come_before_names : asked empty (codes "resize" ++ tab ++ codes "chr9" ++ tab ++ codes "x") ≡ Err request_fault.Length
+bad_lengths-come_before_names = refl
 
 pub spaces-are_no_words : read_words 3 false false (words (codes "  merge ")) ≡ Ok plain_merge
 spaces-are_no_words = refl
@@ -162,6 +169,16 @@ options-go_in_any_order = refl
 
 pub records_with_a_hit-are_left_out : all_text beside ≡ codes "#v\n"
 records_with_a_hit-are_left_out = refl
+
+-- an edit of the second file asks for one, before its columns are looked at
+pub no_second-is_told_before_columns : asked empty (codes "removeb") ≡ Err request_fault.NoSecond
+no_second-is_told_before_columns = refl
+
+pub columns-are_missing_beside_a_second : asked beside (codes "removeb") ≡ Err (request_fault.Record record_fault.Columns)
+columns-are_missing_beside_a_second = refl
+
+pub records-stand_behind_addb : asked beside (codes "addb" ++ tab ++ codes "chr1" ++ tab ++ codes "10" ++ tab ++ codes "20") ≡ Ok (request.AddSecond first_row)
+records-stand_behind_addb = refl
 
 -- a record that only touches is no hit
 pub hits-are_no_neighbours : hits_of other.rows (record first_row { start = 18; stop = 20 }) ≡ []

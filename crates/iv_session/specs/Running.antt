@@ -1,13 +1,14 @@
 -- What a line of a script may do.
-use Rattle.std.specs.Prelude.{◌≡◌, ◌<◌, ◌⊎◌, ℕ, true, List, [], Option, None, Some, Result, Ok, Err, IsSome, length}
+use Rattle.std.specs.Prelude.{◌≡◌, ◌<◌, ◌⊎◌, ℕ, true, List, [], Option, None, Some, Result, Ok, Err, IsSome, IsSomeAnd, length}
 use Rattle.iv_bytes.specs.Sinks.{SinkState, Takes, FailsIn}
 use Rattle.iv_text.specs.Fault.{fault_text}
 use Rattle.iv_text.specs.Fields.{words}
 use Rattle.iv_text.specs.Ordered.{copies}
 use Rattle.iv_state.specs.OpenViews.{Shown, stale_count}
 use Rattle.iv_state.specs.Prints.{with_printed, with_all_printed, IsButCurrent}
-use Rattle.iv_state.specs.States.{State, IsButStale, with_record, without_record, with_replaced, without_view}
+use Rattle.iv_state.specs.States.{State, IsButStale, with_record, without_record, with_replaced, with_second_record, without_second_record, with_second_replaced, without_view}
 use Rattle.iv_state.specs.Edits.{RefusesAdd, RefusesRemove, RefusesReplace}
+use Rattle.iv_state.specs.Resizes.{resized}
 use Rattle.iv_state.specs.Views.{view_named, Opens, RefusesOpen, all_text, text_in}
 use Rattle.iv_state.specs.declared.fault.PrintFault.TheVariants as printing
 use Rattle.iv_session.specs.Requests.{asked, fault_code}
@@ -19,7 +20,7 @@ use Rattle.iv_session.specs.declared.request.Request.{Request}
 use Rattle.iv_session.specs.declared.request.Request.TheVariants as request
 
 -- a request is done: it leads from this state to that one, and this is its text. After an edit some views may be
--- stale; a view that is printed is current
+-- stale, but after one of the second file none becomes so; a view that is printed is current
 abbrev pub Does : Request → State → State → List ℕ → Type 0
 Does request.Nothing old new text = (new ≡ old) × (text ≡ [])
 Does (request.Add r) old new text =
@@ -28,6 +29,13 @@ Does (request.Remove r) old new text =
     (0 < copies old.track.rows r) × IsButStale (without_record old r) new × (text ≡ [])
 Does (request.Replace r q) old new text =
     (0 < copies old.track.rows r) × IsButStale (with_replaced old r q) new × (text ≡ [])
+Does (request.AddSecond r) old new text =
+    IsSomeAnd old.second (λ t. length t.rows < t.limit) × (new ≡ with_second_record old r) × (text ≡ [])
+Does (request.RemoveSecond r) old new text =
+    IsSomeAnd old.second (λ t. 0 < copies t.rows r) × (new ≡ without_second_record old r) × (text ≡ [])
+Does (request.ReplaceSecond r q) old new text =
+    IsSomeAnd old.second (λ t. 0 < copies t.rows r) × (new ≡ with_second_replaced old r q) × (text ≡ [])
+Does (request.Resize name n) old new text = (resized old name n ≡ Ok new) × (text ≡ [])
 Does (request.Open name said) old new text = Opens old name (words said) new × (text ≡ [])
 Does (request.Close name) old new text =
     IsSome (view_named old.views name) × (new ≡ without_view old name) × (text ≡ [])
@@ -37,9 +45,13 @@ Does request.PrintAll old new text = (new ≡ with_all_printed old) × (text ≡
 
 -- why a request is refused: a print for want of memory only where a view to be printed is stale
 abbrev pub Refuses : Request → State → LineFault → Type 0
-Refuses (request.Add r) s (fault.Edit f) = RefusesAdd s r f
-Refuses (request.Remove r) s (fault.Edit f) = RefusesRemove s r f
-Refuses (request.Replace r q) s (fault.Edit f) = RefusesReplace s r q f
+Refuses (request.Add r) s (fault.Edit f) = RefusesAdd s.track r f
+Refuses (request.Remove r) s (fault.Edit f) = RefusesRemove s.track r f
+Refuses (request.Replace r q) s (fault.Edit f) = RefusesReplace s.track r q f
+Refuses (request.AddSecond r) s (fault.Edit f) = IsSomeAnd s.second (λ t. RefusesAdd t r f)
+Refuses (request.RemoveSecond r) s (fault.Edit f) = IsSomeAnd s.second (λ t. RefusesRemove t r f)
+Refuses (request.ReplaceSecond r q) s (fault.Edit f) = IsSomeAnd s.second (λ t. RefusesReplace t r q f)
+Refuses (request.Resize name n) s (fault.Resize f) = resized s name n ≡ Err f
 Refuses (request.Open name said) s (fault.Open f) = RefusesOpen s name (words said) f
 Refuses (request.Close name) s (fault.Close f) = view_named s.views name ≡ None
 Refuses (request.Print name) s (fault.Print printing.NoView) = view_named s.views name ≡ None
@@ -72,7 +84,7 @@ Ends asks old new written =
 
 -- what a line may do: from one state to another, with what it writes
 abbrev pub Runs : State → List ℕ → State → Written → Type 0
-Runs old line new written = Ends (asked old.genome old.track.width line) old new written
+Runs old line new written = Ends (asked old line) old new written
 
 -- what is written of a line that was not done, by the number of its fault: with one it is refused, and without one
 -- the output failed at its text. No part of what is promised

@@ -2,7 +2,7 @@
 ghost use Rattle.std.specs.Prelude.{◌≡◌, ◌≤◌, Some, None, IfSome};
 ghost use Rattle.iv_session.specs.Requests.{request_code, fault_code};
 
-use iv_state::{EditFault, NoView, PrintFault};
+use iv_state::{EditFault, NoView, PrintFault, ResizeFault, SecondFault};
 use iv_text::RecordFault;
 use iv_view::ViewFault;
 use thiserror::Error;
@@ -13,9 +13,15 @@ pub(crate) enum RequestFault {
     /// E1: no such command, or other fields than it takes.
     #[error("no such command or wrong fields")]
     Command,
+    /// E19: there is no second file.
+    #[error("no second file")]
+    NoSecond,
     /// E2 to E10: a record's fault.
     #[error("{0}")]
     Record(RecordFault),
+    /// E5: the length of a resize is not 1 to 10 digits, or above 4,000,000,000.
+    #[error("end is not a number")]
+    Length,
 }
 
 impl From<RecordFault> for RequestFault {
@@ -29,6 +35,20 @@ impl From<RecordFault> for RequestFault {
     }
 }
 
+impl From<SecondFault> for RequestFault {
+    ghost use Rattle.std.specs.Prelude.{◌≡◌};
+    ghost use Rattle.iv_session.specs.Requests.{of_second};
+
+    ghost from_gives = { λ told fault. fault ≡ of_second told };
+
+    fn from(told: SecondFault) -> RequestFault {
+        match told {
+            SecondFault::NoSecond => RequestFault::NoSecond,
+            SecondFault::Record(fault) => RequestFault::Record(fault),
+        }
+    }
+}
+
 /// Why a line is not done.
 #[derive(Clone, Copy, Debug, PartialEq, Eq, Error)]
 pub(crate) enum LineFault {
@@ -36,6 +56,8 @@ pub(crate) enum LineFault {
     Request(RequestFault),
     #[error("{0}")]
     Edit(EditFault),
+    #[error("{0}")]
+    Resize(ResizeFault),
     #[error("{0}")]
     Open(ViewFault),
     #[error("{0}")]
@@ -64,6 +86,17 @@ impl From<EditFault> for LineFault {
 
     fn from(told: EditFault) -> LineFault {
         LineFault::Edit(told)
+    }
+}
+
+impl From<ResizeFault> for LineFault {
+    ghost use Rattle.std.specs.Prelude.{◌≡◌};
+    ghost use Rattle.iv_session.specs.declared.fault.LineFault.TheVariants.{Resize};
+
+    ghost from_gives = { λ told fault. fault ≡ Resize told };
+
+    fn from(told: ResizeFault) -> LineFault {
+        LineFault::Resize(told)
     }
 }
 
@@ -108,7 +141,9 @@ impl RequestFault {
     {
         match self {
             RequestFault::Command => 1,
+            RequestFault::NoSecond => 19,
             RequestFault::Record(fault) => fault.code(),
+            RequestFault::Length => 5,
         }
     }
 }
@@ -122,6 +157,7 @@ impl LineFault {
         match self {
             LineFault::Request(fault) => Some(fault.code()),
             LineFault::Edit(fault) => Some(fault.code()),
+            LineFault::Resize(fault) => Some(fault.code()),
             LineFault::Open(fault) => Some(fault.code()),
             LineFault::Close(fault) => Some(fault.code()),
             LineFault::Print(fault) => fault.code(),

@@ -9,7 +9,7 @@ mod request;
 mod running;
 mod script;
 
-pub use iv_state::{Accepted, EditFault, NoView, PrintFault, Session};
+pub use iv_state::{Accepted, EditFault, NoView, PrintFault, ResizeFault, Session};
 pub use iv_view::{
     DepthRows, FastaRows, IntersectRows, KeptView, PairRows, View as ViewWords, ViewFault,
     WrittenView,

@@ -1,14 +1,16 @@
 //! What a line of a script asks for.
-ghost use Rattle.std.specs.Prelude.{◌≡◌, ◌≢◌, Err, IfOk};
+ghost use Rattle.std.specs.Prelude.{◌≡◌, ◌≢◌, ◌≤◌, Err, IfOk};
 ghost use Rattle.iv_text.specs.Fields.{fields_left};
+ghost use Rattle.iv_text.specs.Genome.{most_length};
 ghost use Rattle.iv_text.specs.Read.{Fits, read_columns};
-ghost use Rattle.iv_session.specs.Requests.{asked, asked_by, both, no_fields, of_fields, of_rows, only_field, read_two, two_fields as two_fields_of, RequestFits};
+ghost use Rattle.iv_state.specs.States.{State};
+ghost use Rattle.iv_session.specs.Requests.{asked, asked_by, beside, both, length_said, name_and_length, no_fields, of_fields, of_rows, only_field, read_two, two_fields as two_fields_of, RequestFits};
 ghost use Rattle.iv_session.specs.declared.request.Request.TheVariants as request;
 
 use crate::fault::RequestFault;
 use crate::fields::{Field, no_field, one_field, split_columns, two_fields};
 use iv_state::Session;
-use iv_text::{RecordFault, RecordRef, split_first_column};
+use iv_text::{Genome, RecordFault, RecordRef, read_number, read_record, split_first_column};
 use std::alloc::Allocator;
 
 /// What a line asks for. Names, words and columns lie in the line.
@@ -20,6 +22,12 @@ pub(crate) enum Request<'a> {
     Remove(RecordRef<'a>),
     /// To take a copy of the first record out, and to add the second.
     Replace(RecordRef<'a>, RecordRef<'a>),
+    /// The same three of the second file.
+    AddSecond(RecordRef<'a>),
+    RemoveSecond(RecordRef<'a>),
+    ReplaceSecond(RecordRef<'a>, RecordRef<'a>),
+    /// To give the sequence of this name this length, which is at most 4,000,000,000.
+    Resize(Field<'a>, u64),
     /// To open a view under this name, by the words of this text.
     Open(Field<'a>, Field<'a>),
     Close(Field<'a>),
@@ -44,19 +52,34 @@ fn both_rows<'a>(
     }
 }
 
-/// The two records of the columns behind a command, or their first fault.
+/// The two records of the columns behind a command, of this width, or their first fault.
 fn two_rows<'a, A: Allocator + Copy>(
-    session: &Session<A>,
+    genome: &Genome<A>,
+    width: u8,
     fields: Option<&'a [u8]>,
 ) -> Result<(RecordRef<'a>, RecordRef<'a>), RecordFault>
-    ensures value { result ≡ read_two session.now.genome session.now.track.width (fields_left 9 fields.entry) }
-    ensures first { IfOk result (λ rows. Fits session.now.genome session.now.track.width rows.0) }
-    ensures second { IfOk result (λ rows. Fits session.now.genome session.now.track.width rows.1) }
+    requires { (3 ≤ width) × (width ≤ 6) }
+    ensures value { result ≡ read_two genome.now width (fields_left 9 fields.entry) }
+    ensures first { IfOk result (λ rows. Fits genome.now width rows.0) }
+    ensures second { IfOk result (λ rows. Fits genome.now width rows.1) }
 {
-    let width = session.track().width();
     match split_columns(fields.unwrap_or(b""), width) {
-        Some((old, new)) => both_rows(session.read(old), session.read(new)),
+        Some((old, new)) => both_rows(
+            read_record(genome, width, old),
+            read_record(genome, width, new),
+        ),
         None => Err(RecordFault::Columns),
+    }
+}
+
+/// The length that a field says: 1 to 10 digits, and at most 4,000,000,000.
+fn read_length(field: &[u8]) -> Result<u64, RequestFault>
+    ensures value { result ≡ length_said field.now }
+    ensures bounded { IfOk result (λ length. length ≤ most_length) }
+{
+    match read_number(field) {
+        Some(length) if length <= 4_000_000_000 => Ok(length),
+        _ => Err(RequestFault::Length),
     }
 }
 
@@ -67,7 +90,7 @@ impl<'a> Request<'a> {
         session: &Session<A>,
         line: &'a [u8],
     ) -> Result<Request<'a>, RequestFault>
-        ensures value { result ≡ asked session.now.genome session.now.track.width line.now }
+        ensures value { result ≡ asked session.now line.now }
         ensures fits { IfOk result (RequestFits session.now) }
     {
         if line.is_empty() || line[0] == b'#' {
@@ -83,7 +106,7 @@ impl<'a> Request<'a> {
         word: &'a [u8],
         fields: Option<&'a [u8]>,
     ) -> Result<Request<'a>, RequestFault>
-        ensures value { result ≡ asked_by session.now.genome session.now.track.width word.now (fields_left 9 fields.entry) }
+        ensures value { result ≡ asked_by session.now word.now (fields_left 9 fields.entry) }
         ensures fits { IfOk result (RequestFits session.now) }
     {
         if word == b"add".as_slice() {
@@ -92,6 +115,12 @@ impl<'a> Request<'a> {
             Request::remove(session, fields)
         } else if word == b"replace".as_slice() {
             Request::replace(session, fields)
+        } else if word == b"addb".as_slice() {
+            Request::add_second(session, fields)
+        } else if word == b"removeb".as_slice() {
+            Request::remove_second(session, fields)
+        } else if word == b"replaceb".as_slice() {
+            Request::replace_second(session, fields)
         } else if word == b"open".as_slice() {
             Request::open(fields)
         } else if word == b"close".as_slice() {
@@ -100,6 +129,8 @@ impl<'a> Request<'a> {
             Request::print(fields)
         } else if word == b"printall".as_slice() {
             Request::print_all(fields)
+        } else if word == b"resize".as_slice() {
+            Request::resize(fields)
         } else {
             Err(RequestFault::Command)
         }
@@ -135,8 +166,55 @@ impl<'a> Request<'a> {
         ensures value { result ≡ of_rows (λ rows. request.Replace rows.0 rows.1) (read_two session.now.genome session.now.track.width (fields_left 9 fields.entry)) }
         ensures fits { IfOk result (RequestFits session.now) }
     {
-        let (old, new) = two_rows(session, fields)?;
+        let (old, new) = two_rows(session.genome(), session.track().width(), fields)?;
         Ok(Request::Replace(old, new))
+    }
+
+    /// To add the record of the columns behind the command to the second file.
+    fn add_second<A: Allocator + Copy>(
+        session: &Session<A>,
+        fields: Option<&'a [u8]>,
+    ) -> Result<Request<'a>, RequestFault>
+        ensures value { result ≡ beside session.now.second (λ t. of_rows (λ r. request.AddSecond r) (read_columns session.now.genome t.width (fields_left 9 fields.entry))) }
+        ensures fits { IfOk result (RequestFits session.now) }
+    {
+        Ok(Request::AddSecond(session.read_second(fields.unwrap_or(b""))?))
+    }
+
+    /// To remove a copy of the record of the columns behind the command from the second file.
+    fn remove_second<A: Allocator + Copy>(
+        session: &Session<A>,
+        fields: Option<&'a [u8]>,
+    ) -> Result<Request<'a>, RequestFault>
+        ensures value { result ≡ beside session.now.second (λ t. of_rows (λ r. request.RemoveSecond r) (read_columns session.now.genome t.width (fields_left 9 fields.entry))) }
+        ensures fits { IfOk result (RequestFits session.now) }
+    {
+        Ok(Request::RemoveSecond(session.read_second(fields.unwrap_or(b""))?))
+    }
+
+    /// To replace the first of the two records behind the command by the second, in the second file.
+    fn replace_second<A: Allocator + Copy>(
+        session: &Session<A>,
+        fields: Option<&'a [u8]>,
+    ) -> Result<Request<'a>, RequestFault>
+        ensures value { result ≡ beside session.now.second (λ t. of_rows (λ rows. request.ReplaceSecond rows.0 rows.1) (read_two session.now.genome t.width (fields_left 9 fields.entry))) }
+        ensures fits { IfOk result (RequestFits session.now) }
+    {
+        let Some(width) = session.second_width() else {
+            return Err(RequestFault::NoSecond);
+        };
+        let (old, new) = two_rows(session.genome(), width, fields)?;
+        Ok(Request::ReplaceSecond(old, new))
+    }
+
+    /// To give the sequence of the first field the length of the second.
+    fn resize(fields: Option<&'a [u8]>) -> Result<Request<'a>, RequestFault>
+        ensures value { result ≡ of_fields (λ pair. request.Resize pair.0 pair.1) (name_and_length (two_fields_of (fields_left 9 fields.entry))) }
+        ensures fits { (s : State) → IfOk result (RequestFits s) }
+    {
+        let (name, field) = two_fields(fields)?;
+        let length = read_length(field.bytes())?;
+        Ok(Request::Resize(name, length))
     }
 
     /// To open a view under the first field, by the words of the second.

@@ -55,6 +55,22 @@ fn run_request<A: Allocator + Copy, W: Sink>(
             session.replace(&old, &new)?;
             Ok(())
         }
+        Request::AddSecond(row) => {
+            session.add_second(&row)?;
+            Ok(())
+        }
+        Request::RemoveSecond(row) => {
+            session.remove_second(&row)?;
+            Ok(())
+        }
+        Request::ReplaceSecond(old, new) => {
+            session.replace_second(&old, &new)?;
+            Ok(())
+        }
+        Request::Resize(name, length) => {
+            session.resize(name.bytes(), length)?;
+            Ok(())
+        }
         Request::Open(name, words) => {
             session.open_view(name.bytes(), Words::of(words.bytes()).as_slice())?;
             Ok(())

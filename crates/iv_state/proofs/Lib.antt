@@ -1,4 +1,6 @@
 mod SessionLemmas
+mod SecondLemmas
 mod OpenViewLemmas
 mod StateLemmas
 mod PrintLemmas
+mod ResizeLemmas

@@ -1,6 +1,6 @@
 -- The records of a session.
 use Rattle.std.specs.Prelude.{All, IfSome, option_map}
-use Rattle.std.proofs.Common.{◌≡◌, ◌∙◌, ℕ, ◌<◌, ◌≤◌, inl, inr, true, false, List, [], ◌∷◌, ◌++◌, Option, None, Some, Ok, length, arith, refl, sym, ap, subst}
+use Rattle.std.proofs.Common.{◌≡◌, ◌∙◌, ℕ, ◌<◌, ◌≤◌, inl, inr, true, false, List, [], ◌∷◌, ◌++◌, Option, None, Some, Result, Ok, Err, length, arith, refl, sym, ap, subst}
 use Rattle.std.specs.Option.{is_some}
 use Rattle.std.proofs.lemmas.Bool.{cases_lt, lt-leb}
 use Rattle.iv_text.specs.Genome.{Sequences}
@@ -18,7 +18,10 @@ use Rattle.iv_view.specs.declared.view.View.{View}
 use Rattle.iv_state.specs.OpenViews.{Shown, Stales, all_current, with_current}
 use Rattle.iv_state.specs.Views.{is_view_name, view_named, words_said, opened}
 use Rattle.iv_state.proofs.OpenViewLemmas.{all-current, stales-current}
-use Rattle.iv_state.specs.States.{State, IsTrackOn, IsServed, AreServed, IsButStale, tracked, with_rows}
+use Rattle.iv_track.specs.declared.fault.AddFault.{AddFault}
+use Rattle.iv_track.specs.declared.fault.AddFault.TheVariants as adding
+use Rattle.iv_state.specs.Edits.{RefusesAdd, fault_of_add}
+use Rattle.iv_state.specs.States.{State, IsTrackOn, IsServed, AreServed, IsButStale, tracked}
 
 -- where a number from the limit on is refused, one that is not refused is below it
 pub below-unless : {X : Type 0} (n limit : ℕ) (answer refusal : X) → (limit ≤ n → answer ≡ refusal) → (answer ≡ refusal → ⊥) → n < limit
@@ -65,11 +68,22 @@ views-changed change inside s more same is =
     ap (λ (l : List (List ℕ × Shown)). record inside { views = l }) is ∙ ap (λ (u : State). record u { views = change u.views }) same
 
 -- an edit of the track, after which some views may be stale
-pub edited : (change : List Row → List Row) (inside s : State) (t : Tracked) (more : List (List ℕ × Shown)) → inside ≡ s → t ≡ record inside.track { rows = change inside.track.rows }
-    → Stales inside.views more → IsButStale (with_rows s (change s.track.rows)) (record inside { track = t; views = more })
+pub edited : (change : Tracked → Tracked) (inside s : State) (t : Tracked) (more : List (List ℕ × Shown)) → inside ≡ s → t ≡ change inside.track
+    → Stales inside.views more → IsButStale (record s { track = change s.track }) (record inside { track = t; views = more })
 edited change inside s t more same is less =
-    subst (λ (s : State). IsButStale (with_rows s (change s.track.rows)) (record inside { track = t; views = more })) same
-    (subst (λ (t : Tracked). IsButStale (with_rows inside (change inside.track.rows)) (record inside { track = t; views = more })) (sym is) (refl, less))
+    subst (λ (s : State). IsButStale (record s { track = change s.track }) (record inside { track = t; views = more })) same
+    (subst (λ (t : Tracked). IsButStale (record inside { track = change inside.track }) (record inside { track = t; views = more })) (sym is) (refl, less))
+
+-- what a track answers
+abbrev pub answers : AddFault → Result (Unit {0}) AddFault
+answers told = Err told
+
+-- what a track refuses to add is refused for the same reason
+pub refused-add : (t : Tracked) (r : Row) (told : AddFault)
+    → (answers told ≡ answers adding.Full → t.limit ≤ length t.rows) × (t.limit ≤ length t.rows → answers told ≡ answers adding.Full)
+    → (answers told ≡ answers adding.NoMemory → copies t.rows r ≡ 0) → RefusesAdd t r (fault_of_add told)
+refused-add t r adding.Full full memory = full.0 refl
+refused-add t r adding.NoMemory full memory = inr (below-unless (length t.rows) t.limit _ _ full.1 (λ e. cc), memory refl)
 
 -- a track before and after a record q was added, and after one copy of r was then taken out
 pub record Replaced (g : Sequences) (old mid new : Tracked) (r q : Row) : Type 0 where

@@ -2,5 +2,6 @@ pub mod OpenViews
 pub mod States
 pub mod Edits
 pub mod Views
+pub mod Resizes
 pub mod Prints
 pub mod Keeping

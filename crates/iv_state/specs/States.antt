@@ -1,5 +1,5 @@
 -- A session as contracts see it.
-use Rattle.std.specs.Prelude.{◌≡◌, ◌≤◌, ℕ, false, List, [], ◌∷◌, ◌++◌, Option, All, IsTrue, IsSome, IfSome, length, option_map}
+use Rattle.std.specs.Prelude.{◌≡◌, ◌≤◌, ℕ, false, List, [], ◌∷◌, ◌++◌, Option, All, IsTrue, IsSome, IfSome, IsSomeAnd, length, option_map}
 use Rattle.std.specs.List.{AllByRecursion}
 use Rattle.std.specs.Map.{remove_entry}
 use Rattle.std.specs.Str.{bytes_eq}
@@ -37,21 +37,45 @@ begun g first second bases limit = record {
   views = [];
 }
 
--- the session with these records in its track
-abbrev pub with_rows : State → List Row → State
-with_rows s rows = record s { track = record s.track { rows = rows } }
+-- a track with one more record, in its place in the order
+abbrev pub one_more : Tracked → Row → Tracked
+one_more t r = record t { rows = added t.rows r }
 
--- the session with one more record, in its place in the order
+-- a track with one copy of a record less
+abbrev pub one_less : Tracked → Row → Tracked
+one_less t r = record t { rows = removed t.rows r }
+
+-- a track with one copy of a record less, and one more of another
+abbrev pub exchanged : Tracked → Row → Row → Tracked
+exchanged t r q = one_more (one_less t r) q
+
+-- the session with one more record
 abbrev pub with_record : State → Row → State
-with_record s r = with_rows s (added s.track.rows r)
+with_record s r = record s { track = one_more s.track r }
 
 -- the session with one copy of a record less
 abbrev pub without_record : State → Row → State
-without_record s r = with_rows s (removed s.track.rows r)
+without_record s r = record s { track = one_less s.track r }
 
 -- the session with one copy of a record less, and one more of another
 abbrev pub with_replaced : State → Row → Row → State
-with_replaced s r q = with_rows s (added (removed s.track.rows r) q)
+with_replaced s r q = record s { track = exchanged s.track r q }
+
+-- the session with its second file changed, if there is one
+abbrev pub with_second : State → (Tracked → Tracked) → State
+with_second s change = record s { second = option_map change s.second }
+
+-- the session with one more record in its second file
+abbrev pub with_second_record : State → Row → State
+with_second_record s r = with_second s (λ t. one_more t r)
+
+-- the session with one copy of a record of its second file less
+abbrev pub without_second_record : State → Row → State
+without_second_record s r = with_second s (λ t. one_less t r)
+
+-- the session with one copy of a record of its second file less, and one more of another
+abbrev pub with_second_replaced : State → Row → Row → State
+with_second_replaced s r q = with_second s (λ t. exchanged t r q)
 
 -- the session with one more view, the last, which is current
 abbrev pub with_view : State → List ℕ → View → State
@@ -68,6 +92,10 @@ pub record IsTrackOn (genome : Sequences) (track : Tracked) : Type 0 where
   pub high : track.width ≤ 6
   pub fit : All (Fits genome track.width) track.rows
   pub few : length track.rows ≤ track.limit
+
+-- there is a second file, and the record fits it
+abbrev pub FitsSecond : State → Row → Type 0
+FitsSecond s r = IsSomeAnd s.second (λ t. Fits s.genome t.width r)
 
 -- a view that needs a second file stands beside one
 abbrev pub IsServed : Option Tracked → View → Type 0

@@ -1,9 +1,10 @@
-//! Faults of edits and prints, by their numbers.
+//! Faults of edits, resizes and prints, by their numbers.
 ghost use Rattle.std.specs.Prelude.{◌≡◌, ◌≤◌, Some, None, IfSome};
-ghost use Rattle.iv_state.specs.Edits.{edit_code};
+ghost use Rattle.iv_state.specs.Edits.{edit_code, second_code};
+ghost use Rattle.iv_state.specs.Resizes.{resize_code};
 ghost use Rattle.iv_state.specs.Views.{print_code};
 
-use iv_text::WriteFault;
+use iv_text::{RecordFault, WriteFault};
 use iv_track::{AddFault, NotThere, ReplaceFault};
 use std::alloc::AllocError;
 use thiserror::Error;
@@ -82,6 +83,69 @@ impl EditFault {
             EditFault::Absent => 11,
             EditFault::Full => 12,
             EditFault::NoMemory => 22,
+        }
+    }
+}
+
+/// Why a line stands for no record of a second file.
+#[derive(Clone, Copy, Debug, PartialEq, Eq, Error)]
+pub enum SecondFault {
+    /// E19: there is no second file.
+    #[error("no second file")]
+    NoSecond,
+    /// E2 to E10: the record's fault.
+    #[error("{0}")]
+    Record(RecordFault),
+}
+
+impl From<RecordFault> for SecondFault {
+    ghost use Rattle.std.specs.Prelude.{◌≡◌};
+    ghost use Rattle.iv_state.specs.declared.fault.SecondFault.TheVariants.{Record};
+
+    ghost from_gives = { λ told fault. fault ≡ Record told };
+
+    fn from(told: RecordFault) -> SecondFault {
+        SecondFault::Record(told)
+    }
+}
+
+impl SecondFault {
+    /// Its number in the table of faults: 19, or 2 to 10.
+    pub fn code(&self) -> u8
+        ensures value { result ≡ second_code self.now }
+        ensures known { (1 ≤ result) × (result ≤ 24) }
+    {
+        match self {
+            SecondFault::NoSecond => 19,
+            SecondFault::Record(fault) => fault.code(),
+        }
+    }
+}
+
+/// Why the length of a sequence is not corrected, in the order in which the causes are looked for.
+#[derive(Clone, Copy, Debug, PartialEq, Eq, Error)]
+pub enum ResizeFault {
+    /// E3: the genome has no such sequence.
+    #[error("unknown sequence")]
+    UnknownSeq,
+    /// E23: a record of the track or of the second file on the sequence has a stop above the length.
+    #[error("records past the new end")]
+    Shorter,
+    /// E24: the FASTA file has the sequence, and another number of bases of it.
+    #[error("length fixed by the sequence file")]
+    Fixed,
+}
+
+impl ResizeFault {
+    /// Its number in the table of faults.
+    pub fn code(&self) -> u8
+        ensures value { result ≡ resize_code self.now }
+        ensures known { (1 ≤ result) × (result ≤ 24) }
+    {
+        match self {
+            ResizeFault::UnknownSeq => 3,
+            ResizeFault::Shorter => 23,
+            ResizeFault::Fixed => 24,
         }
     }
 }

@@ -2,10 +2,13 @@
 #![tactic(auto)]
 
 mod fault;
+mod laws;
 mod names;
 mod open_view;
+mod past_end;
 mod session;
 mod views;
 
-pub use fault::{EditFault, NoView, PrintFault};
+pub use fault::{EditFault, NoView, PrintFault, ResizeFault, SecondFault};
+pub use laws::corrected_lengths_are_those_of_bases;
 pub use session::{Accepted, Session};

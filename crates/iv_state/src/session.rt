@@ -1,18 +1,21 @@
 //! A session of a genome and a track, with its open views.
-ghost use Rattle.std.specs.Prelude.{◌≡◌, ◌+◌, ◌≤◌, ◌<◌, ◌↔◌, ◌⊎◌, None, Some, All, map, length, false, not, IsTrue, IsSome, IsOk, IfOk, IfErr, IfSome, option_map, OnOk, OnErr, MatchOption, Ok, Err};
+ghost use Rattle.std.specs.Prelude.{◌≡◌, ◌+◌, ◌≤◌, ◌<◌, ◌↔◌, ◌⊎◌, None, Some, All, map, length, false, not, IsTrue, IsSome, IsSomeAnd, IsOk, IfOk, IfErr, IfSome, option_map, OnOk, OnErr, MatchOption, Ok, Err};
+ghost use Rattle.iv_text.specs.Genome.{most_length};
 ghost use Rattle.iv_text.specs.Ordered.{added, copies};
 ghost use Rattle.iv_text.specs.Read.{read, Fits};
 ghost use Rattle.iv_bytes.specs.Sinks.{Puts};
 ghost use Rattle.iv_track.specs.Tracked.{most_records};
-ghost use Rattle.iv_state.specs.Edits.{RefusesAdd, RefusesRemove, RefusesReplace};
+ghost use Rattle.iv_state.specs.Edits.{RefusesAdd, RefusesRemove, RefusesReplace, read_second};
 ghost use Rattle.iv_state.specs.Keeping.{all_seen};
 ghost use Rattle.iv_state.specs.OpenViews.{all_steps, stale_count};
 ghost use Rattle.iv_state.specs.Prints.{PrintedView, PrintedAll};
-ghost use Rattle.iv_state.specs.States.{State, IsButStale, begun, tracked, with_record, without_record, with_replaced, with_view, without_view};
+ghost use Rattle.iv_state.specs.Resizes.{has_other_bases, has_record_past, resized};
+ghost use Rattle.iv_state.specs.States.{State, FitsSecond, IsButStale, begun, tracked, with_record, without_record, with_replaced, with_second_record, without_second_record, with_second_replaced, with_view, without_view};
 ghost use Rattle.iv_state.specs.Views.{view_named, RefusesOpen, Opens, all_text};
 
-use crate::fault::{EditFault, NoView, PrintFault};
+use crate::fault::{EditFault, NoView, PrintFault, ResizeFault, SecondFault};
 use crate::names::{is_view_name, put_heading};
+use crate::past_end::{second_reaches_past, track_reaches_past};
 use crate::views::Views;
 use iv_pair::{Fasta, Second};
 use iv_text::{BedFile, Buffered, Genome, RecordFault, RecordRef, Sink, WriteFault, read_record};
@@ -151,6 +154,13 @@ impl<A: Allocator + Copy> Session<A> {
         &self.track
     }
 
+    /// The genome.
+    pub fn genome(&self) -> &Genome<A>
+        ensures { result.now ≡ self.now.genome }
+    {
+        &self.genome
+    }
+
     /// Adds a record, and then repairs each view. A view whose repair is refused memory becomes stale.
     ///
     /// `Full` comes exactly where the track holds its limit, unless memory runs out. A record of width 3 needs no
@@ -161,7 +171,7 @@ impl<A: Allocator + Copy> Session<A> {
         ensures ok { OnOk result (IsButStale (with_record self.old row.now) self.new) }
         ensures steps { IfOk result (λ a. a.steps ≤ 8 + all_steps self.old.views (added self.old.track.rows row.now) row.now) }
         ensures stale { IfOk result (λ a. a.stale ≡ stale_count self.new.views) }
-        ensures why { IfErr result (RefusesAdd self.old row.now) }
+        ensures why { IfErr result (RefusesAdd self.old.track row.now) }
         ensures err { OnErr result (self.new ≡ self.old) }
     {
         let record = row.to_record(self.alloc)?;
@@ -181,7 +191,7 @@ impl<A: Allocator + Copy> Session<A> {
         ensures ok { OnOk result (IsButStale (without_record self.old row.now) self.new) }
         ensures steps { IfOk result (λ a. a.steps ≤ 8 + all_steps self.old.views self.old.track.rows row.now) }
         ensures stale { IfOk result (λ a. a.stale ≡ stale_count self.new.views) }
-        ensures why { IfErr result (RefusesRemove self.old row.now) }
+        ensures why { IfErr result (RefusesRemove self.old.track row.now) }
         ensures err { OnErr result (self.new ≡ self.old) }
     {
         let record = row.to_record(self.alloc)?;
@@ -210,7 +220,7 @@ impl<A: Allocator + Copy> Session<A> {
             + all_steps self.old.views (added self.old.track.rows new.now) new.now
             + all_steps self.old.views (added self.old.track.rows new.now) old.now) }
         ensures stale { IfOk result (λ a. a.stale ≡ stale_count self.new.views) }
-        ensures why { IfErr result (RefusesReplace self.old old.now new.now) }
+        ensures why { IfErr result (RefusesReplace self.old.track old.now new.now) }
         ensures err { OnErr result (self.new ≡ self.old) }
     {
         let before = old.to_record(self.alloc)?;
@@ -227,6 +237,175 @@ impl<A: Allocator + Copy> Session<A> {
         self.views
             .removed(&self.track, &self.genome, old, &mut meter);
         Ok(Accepted::of(&meter, &self.views))
+    }
+
+    /// How many columns the records of the second file have, `None` exactly where there is none.
+    pub fn second_width(&self) -> Option<u8>
+        ensures value { result ≡ option_map (λ t. t.width) self.now.second }
+        ensures known { IfSome result (λ width. (3 ≤ width) × (width ≤ 6)) }
+    {
+        match &self.second {
+            Some(second) => Some(second.width()),
+            None => None,
+        }
+    }
+
+    /// The record that a line stands for on the session's genome at the second file's width.
+    ///
+    /// # Errors
+    ///
+    /// `NoSecond` exactly where there is no second file, or else the line's first fault.
+    pub fn read_second<'a>(&self, line: &'a [u8]) -> Result<RecordRef<'a>, SecondFault>
+        ensures value { result ≡ read_second self.now line.now }
+        ensures known { IfSome self.now.second (λ t. (3 ≤ t.width) × (t.width ≤ 6)) }
+        ensures fits { IfOk result (FitsSecond self.now) }
+    {
+        let Some(width) = self.second_width() else {
+            return Err(SecondFault::NoSecond);
+        };
+        Ok(read_record(&self.genome, width, line)?)
+    }
+
+    /// Whether there is a second file, and a record is one of its width on the session's genome.
+    pub fn fits_second(&self, row: &RecordRef<'_>) -> bool
+        ensures { IsTrue result ↔ FitsSecond self.now row.now }
+    {
+        match self.second_width() {
+            Some(width) => row.fits(&self.genome, width),
+            None => false,
+        }
+    }
+
+    /// Adds a record to the second file, which there is. No view keeps anything of it, so none becomes stale. At most 16 steps.
+    ///
+    /// `Full` comes exactly where the second file holds its limit, unless memory runs out. A record of width 3 needs no
+    /// memory for its own copy, and the second file needs none for a record that is there. A refusal changes nothing.
+    pub fn add_second(&mut self, row: &RecordRef<'_>) -> Result<Accepted, EditFault>
+        requires { FitsSecond self.old row.now }
+        ensures room { OnOk result (IsSomeAnd self.old.second (λ t. length t.rows < t.limit)) }
+        ensures ok { OnOk result (self.new ≡ with_second_record self.old row.now) }
+        ensures steps { IfOk result (λ a. a.steps ≤ 16) }
+        ensures stale { IfOk result (λ a. a.stale ≡ stale_count self.new.views) }
+        ensures why { IfErr result (λ f. IsSomeAnd self.old.second (λ t. RefusesAdd t row.now f)) }
+        ensures err { OnErr result (self.new ≡ self.old) }
+    {
+        let record = row.to_record(self.alloc)?;
+        let mut meter = Meter::new();
+        let Some(second) = &mut self.second else {
+            unreachable!()
+        };
+        second.add(record, &mut meter)?;
+        Ok(Accepted::of(&meter, &self.views))
+    }
+
+    /// Takes one copy of a record out of the second file, which there is. No view becomes stale. At most 16 steps.
+    ///
+    /// `Absent` comes exactly where there is no copy, unless memory runs out, and that is told only for the copy of
+    /// the record that is searched for, never at width 3. A refusal changes nothing.
+    pub fn remove_second(&mut self, row: &RecordRef<'_>) -> Result<Accepted, EditFault>
+        requires { FitsSecond self.old row.now }
+        ensures there { OnOk result (IsSomeAnd self.old.second (λ t. 0 < copies t.rows row.now)) }
+        ensures ok { OnOk result (self.new ≡ without_second_record self.old row.now) }
+        ensures steps { IfOk result (λ a. a.steps ≤ 16) }
+        ensures stale { IfOk result (λ a. a.stale ≡ stale_count self.new.views) }
+        ensures why { IfErr result (λ f. IsSomeAnd self.old.second (λ t. RefusesRemove t row.now f)) }
+        ensures err { OnErr result (self.new ≡ self.old) }
+    {
+        let record = row.to_record(self.alloc)?;
+        let mut meter = Meter::new();
+        let Some(second) = &mut self.second else {
+            unreachable!()
+        };
+        second.remove(&record, &mut meter)?;
+        Ok(Accepted::of(&meter, &self.views))
+    }
+
+    /// Takes one copy of the old record out of the second file, which there is, and adds the new one, where it is full too. No view
+    /// becomes stale. At most 16 steps.
+    ///
+    /// `Absent` comes exactly where there is no copy of the old record, unless memory runs out. A record that is
+    /// there can be replaced by itself. A refusal changes nothing.
+    pub fn replace_second(
+        &mut self,
+        old: &RecordRef<'_>,
+        new: &RecordRef<'_>,
+    ) -> Result<Accepted, EditFault>
+        requires old { FitsSecond self.old old.now }
+        requires new { FitsSecond self.old new.now }
+        ensures there { OnOk result (IsSomeAnd self.old.second (λ t. 0 < copies t.rows old.now)) }
+        ensures ok { OnOk result (self.new ≡ with_second_replaced self.old old.now new.now) }
+        ensures steps { IfOk result (λ a. a.steps ≤ 16) }
+        ensures stale { IfOk result (λ a. a.stale ≡ stale_count self.new.views) }
+        ensures why { IfErr result (λ f. IsSomeAnd self.old.second (λ t. RefusesReplace t old.now new.now f)) }
+        ensures err { OnErr result (self.new ≡ self.old) }
+    {
+        let before = old.to_record(self.alloc)?;
+        let after = new.to_record(self.alloc)?;
+        let mut meter = Meter::new();
+        let Some(second) = &mut self.second else {
+            unreachable!()
+        };
+        second.replace(&before, after, &mut meter)?;
+        Ok(Accepted::of(&meter, &self.views))
+    }
+
+    /// Corrects the length of the sequence of this name. No view is built anew or becomes stale: each prints by the new
+    /// length from then on. It takes no memory.
+    ///
+    /// A record that was read before may not fit any more; `fits` tells.
+    ///
+    /// # Errors
+    ///
+    /// `UnknownSeq`; then `Shorter`, where a record of the track or of the second file on the sequence has a stop above
+    /// the length; then `Fixed`, where the FASTA file has another number of bases of it. Nothing changes.
+    pub fn resize(&mut self, name: &[u8], length: u64) -> Result<(), ResizeFault>
+        requires { length ≤ most_length }
+        ensures ok { OnOk result (resized self.old name.now length ≡ Ok self.new) }
+        ensures why { IfErr result (λ fault. resized self.old name.now length ≡ Err fault) }
+        ensures err { OnErr result (self.new ≡ self.old) }
+    {
+        let Some(seq) = self.genome.rank(name) else {
+            return Err(ResizeFault::UnknownSeq);
+        };
+        if self.has_record_past(seq, length) {
+            return Err(ResizeFault::Shorter);
+        }
+        if self.has_other_bases(seq, length) {
+            return Err(ResizeFault::Fixed);
+        }
+        self.genome.set_length(seq, length);
+        Ok(())
+    }
+
+    /// Whether a record of the track or of the second file on the sequence of this rank has a stop above a length.
+    fn has_record_past(&self, seq: u32, length: u64) -> bool
+        ensures { result ≡ has_record_past self.now seq length }
+    {
+        let end = self.genome.length(seq).unwrap_or(0);
+        if length >= end {
+            return false;
+        }
+        let mut meter = Meter::new();
+        if track_reaches_past(&self.track, seq, length, &mut meter) {
+            return true;
+        }
+        match &self.second {
+            Some(second) => second_reaches_past(second, seq, length, end),
+            None => false,
+        }
+    }
+
+    /// Whether the FASTA file has the sequence of this rank, and another number of bases of it.
+    fn has_other_bases(&self, seq: u32, length: u64) -> bool
+        ensures { result ≡ has_other_bases self.now.bases seq length }
+    {
+        let Some(fasta) = &self.fasta else {
+            return false;
+        };
+        match fasta.length(seq) {
+            Some(count) => count != length,
+            None => false,
+        }
     }
 
     /// Opens a view of these words, the last, which is current. A refusal changes nothing.

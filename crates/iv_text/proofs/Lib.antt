@@ -2,6 +2,7 @@ pub mod LineLemmas
 pub mod SplitLemmas
 pub mod FieldLemmas
 pub mod NamedLemmas
+pub mod LengthLemmas
 pub mod ReadLemmas
 pub mod FileLemmas
 pub mod OnePassLemmas

@@ -33,7 +33,9 @@ pub use iv_bytes::{
     Buffered, ByteQueue, MemSink, MemSource, ReadFault, Sink, Source, StdSink, StdSource,
     WriteFault, put_all, put_pieces,
 };
-pub use laws::{first_line_ends_at_feed, last_line_ends_at_end, one_ordered_list};
+pub use laws::{
+    first_line_ends_at_feed, last_line_ends_at_end, one_length_changes, one_ordered_list,
+};
 pub use lines::{lines_of, split_line};
 pub use number::{read_digits, read_number};
 pub use reading::read_record;

@@ -1,4 +1,7 @@
 //! What several tests begin with.
+ghost use Rattle.std.specs.Prelude.{◌≤◌};
+ghost use Rattle.iv_track.specs.Tracked.{most_records};
+
 use iv_pair::Second;
 use iv_text::{BedFile, Genome, LoadFault};
 use std::alloc::{AllocError, Allocator};
@@ -18,7 +21,19 @@ pub(crate) fn second_of<A: Allocator + Copy>(
     genome: &Genome<A>,
     text: &[u8],
 ) -> Result<Result<Second<A>, AllocError>, LoadFault> {
-    let file = BedFile::parse(alloc, genome, 3, LIMIT, text)?;
+    second_within(alloc, genome, LIMIT, text)
+}
+
+/// The same, of so many records at most.
+pub(crate) fn second_within<A: Allocator + Copy>(
+    alloc: A,
+    genome: &Genome<A>,
+    limit: u32,
+    text: &[u8],
+) -> Result<Result<Second<A>, AllocError>, LoadFault>
+    requires { limit ≤ most_records }
+{
+    let file = BedFile::parse(alloc, genome, 3, limit, text)?;
     let width = file.width();
-    Ok(Second::new(alloc, width, LIMIT, file.into_records()))
+    Ok(Second::new(alloc, width, limit, file.into_records()))
 }

@@ -1,6 +1,8 @@
-//! Tests of a second file: the records of it that overlap an interval, and growths that are refused.
+//! Tests of a second file: its edits, the records of it that overlap an interval, and growths that are refused.
 #![tactic(auto)]
 
+#[cfg(test)]
+mod edits;
 #[cfg(test)]
 mod fixtures;
 #[cfg(test)]

@@ -12,6 +12,8 @@ mod edits;
 #[cfg(test)]
 mod fixtures;
 #[cfg(test)]
+mod lengths;
+#[cfg(test)]
 mod scripts;
 #[cfg(test)]
 mod second;

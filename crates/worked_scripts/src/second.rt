@@ -39,6 +39,58 @@ fn views_of_two_files(rt: HostRuntime) -> Result<(), Fail> {
     check_beside(&rt, beside, &examples)
 }
 
+/// The second file is corrected: what is printed beside it follows, and a refused line changes nothing.
+#[test]
+fn edits_of_the_second_file(rt: HostRuntime) -> Result<(), Fail> {
+    let examples = [
+        Example {
+            width: 3,
+            first: b"chr1\t10\t20\nchr1\t30\t40\n",
+            limit: 9,
+            script: b"open\tc\tintersect -c\nopen\ti\tintersect\nopen\ts\tsubtract\nremoveb\tchr1\t15\t18\nprint\tc\naddb\tchr1\t0\t100\nprint\tc\nprint\ti\nprint\ts\nreplaceb\tchr1\t0\t100\tchr1\t12\t13\nprint\tc\nprint\ts\nremoveb\tchr1\t0\t100\naddb\tchr1\t90\t101\nremove\tchr1\t30\t40\nresize\tchr1\t29\nremoveb\tchr1\t20\t30\nresize\tchr1\t29\n",
+            output: b"chr1\t10\t20\t1\nchr1\t30\t40\t0\nchr1\t10\t20\t2\nchr1\t30\t40\t1\nchr1\t10\t20\nchr1\t15\t18\nchr1\t30\t40\nchr1\t10\t20\t2\nchr1\t30\t40\t0\nchr1\t10\t12\nchr1\t13\t15\nchr1\t18\t20\nchr1\t30\t40\n",
+            messages: b"line 13: no such record\nline 14: end past the sequence's end\nline 16: records past the new end\n",
+            lines: 18,
+            refused: 3,
+            left: 1,
+        },
+        // A full second file, and lines that stand for no record.
+        Example {
+            width: 3,
+            first: b"chr1\t10\t20\nchr1\t30\t40\n",
+            limit: 3,
+            script: b"addb\tchr1\t1\t2\nreplaceb\tchr1\t20\t30\tchr1\t12\t14\nremoveb\tchr1\t15\t18\naddb\tchr2\t0\t5\naddb\tx\nremoveb\nreplaceb\tchr1\t12\t14\nreplaceb\tchr9\t1\t2\tchr8\t1\t2\nreplaceb\tchr1\t12\t14\tchr1\t5\t5\nopen\tb\tintersect -wa -wb\nprint\tb\n",
+            output: b"chr1\t10\t20\tchr1\t12\t14\nchr1\t10\t20\tchr1\t15\t18\n",
+            messages: b"line 1: track is full\nline 5: wrong number of columns\nline 6: wrong number of columns\nline 7: wrong number of columns\nline 8: unknown sequence\nline 9: start not below end\n",
+            lines: 11,
+            refused: 6,
+            left: 2,
+        },
+    ];
+    let beside = Beside {
+        second: Some(SECOND),
+        ..ALONE
+    };
+    check_beside(&rt, beside, &examples)
+}
+
+/// That there is no second file is told whatever follows the command.
+#[test]
+fn no_second_file_to_edit(rt: HostRuntime) -> Result<(), Fail> {
+    let examples = [Example {
+        width: 3,
+        first: b"chr1\t10\t20\n",
+        limit: 9,
+        script: b"addb\tx\nremoveb\nreplaceb\tchr1\t10\t20\tchr1\t12\t14\nremoveb \taddb\n",
+        output: b"",
+        messages: b"line 1: no second file\nline 2: no second file\nline 3: no second file\nline 4: no such command or wrong fields\n",
+        lines: 4,
+        refused: 4,
+        left: 1,
+    }];
+    check(&rt, &examples)
+}
+
 /// The files have three columns and six.
 #[test]
 fn widths_that_differ(rt: HostRuntime) -> Result<(), Fail> {

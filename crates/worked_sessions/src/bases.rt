@@ -1,8 +1,9 @@
 //! Sessions with a FASTA file: views that show the bases of records.
 use crate::around::{Around, edit_without_steps, print_around_edits};
 use crate::fixtures::{Edit, answer, holds, prints};
+use crate::lengths::answers;
 use iv_fasta::Fasta;
-use iv_state::Session;
+use iv_state::{ResizeFault, Session};
 use iv_text::{BedFile, Genome, RecordFault};
 use std::test::Fail;
 
@@ -101,4 +102,18 @@ fn edits_beside_bases(rt: HostRuntime) -> Result<(), Fail> {
     let views = &VIEWS[..5];
     let mut session = session(&rt)?;
     edit_without_steps(&mut session, views, &EDITS)
+}
+
+/// Corrects lengths of that session: records past the new end are told before the bases, and what has none is free.
+fn corrects(session: &mut Session) -> bool {
+    answers(session, b"s", 9, Some(ResizeFault::Shorter))
+        && answers(session, b"s", 12, Some(ResizeFault::Fixed))
+        && answers(session, b"s", 10, None)
+        && answers(session, b"u", 7, None)
+}
+
+#[test]
+fn lengths_beside_bases(rt: HostRuntime) -> Result<(), Fail> {
+    let mut session = session(&rt)?;
+    holds(corrects(&mut session))
 }

@@ -2,7 +2,7 @@
 ghost use Rattle.std.specs.Prelude.{◌≤◌, All, IfSome, length};
 ghost use Rattle.iv_text.specs.Read.{Fits};
 
-use iv_state::{Accepted, EditFault, PrintFault, Session};
+use iv_state::{Accepted, EditFault, PrintFault, SecondFault, Session};
 use iv_text::{BedFile, Genome, MemSink, RecordFault};
 use std::alloc::Allocator;
 use std::test::Fail;
@@ -138,6 +138,28 @@ pub(crate) fn answer<A: Allocator + Copy>(
             let old = session.read(old)?;
             let new = session.read(new)?;
             session.replace(&old, &new)
+        }
+    })
+}
+
+/// What an edit of the second file answers.
+pub(crate) fn answer_beside<A: Allocator + Copy>(
+    session: &mut Session<A>,
+    edit: Edit<'_>,
+) -> Result<Result<Accepted, EditFault>, SecondFault> {
+    Ok(match edit {
+        Edit::Add(line) => {
+            let row = session.read_second(line)?;
+            session.add_second(&row)
+        }
+        Edit::Remove(line) => {
+            let row = session.read_second(line)?;
+            session.remove_second(&row)
+        }
+        Edit::Replace(old, new) => {
+            let old = session.read_second(old)?;
+            let new = session.read_second(new)?;
+            session.replace_second(&old, &new)
         }
     })
 }

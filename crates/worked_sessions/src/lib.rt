@@ -8,11 +8,15 @@ mod bases;
 #[cfg(test)]
 mod fixtures;
 #[cfg(test)]
+mod lengths;
+#[cfg(test)]
 mod refusals;
 #[cfg(test)]
 mod repairs;
 #[cfg(test)]
 mod second;
+#[cfg(test)]
+mod second_edits;
 #[cfg(test)]
 mod sessions;
 #[cfg(test)]

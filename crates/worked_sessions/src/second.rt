@@ -1,7 +1,7 @@
 //! Sessions beside a second file: views that are written from the records of both.
 use crate::around::{Around, edit_without_steps, print_around_edits};
-use crate::fixtures::{Edit, Files, alone, begun, prints};
-use iv_state::Session;
+use crate::fixtures::{Edit, Files, alone, answer_beside, begun, holds, prints, session};
+use iv_state::{EditFault, SecondFault, Session};
 use std::test::Fail;
 
 /// The first file.
@@ -145,4 +145,55 @@ fn files_of_two_widths(rt: HostRuntime) -> Result<(), Fail> {
     let first = b"chr1\t10\t20\tx\t7\t-\n";
     let mut session = session_beside(&rt, first, b"chr1\t12\t14\nchr1\t13\t16\n")?;
     check_two_widths(&rt, &mut session)
+}
+
+/// Edits of a second file of two records, of which it may have two, and why each is refused.
+const AT_LIMIT: [(Edit<'static>, Option<EditFault>); 6] = [
+    (Edit::Add(b"chr1\t1\t2"), Some(EditFault::Full)),
+    (Edit::Replace(b"chr1\t10\t20", b"chr1\t0\t50"), None),
+    (Edit::Remove(b"chr1\t10\t20"), Some(EditFault::Absent)),
+    (
+        Edit::Replace(b"chr1\t10\t20", b"chr1\t1\t2"),
+        Some(EditFault::Absent),
+    ),
+    (Edit::Remove(b"chr1\t30\t40"), None),
+    (Edit::Add(b"chr1\t45\t46"), None),
+];
+
+/// Whether each of those edits answers so, in at most 16 steps.
+fn answer_at_limit(session: &mut Session) -> Result<bool, Fail> {
+    for (edit, want) in AT_LIMIT {
+        match answer_beside(session, edit)? {
+            Ok(done) if want.is_none() && done.steps <= 16 && done.stale == 0 => {}
+            Err(fault) if want == Some(fault) => {}
+            _ => return Ok(false),
+        }
+    }
+    Ok(true)
+}
+
+#[test]
+fn edits_at_the_limit(rt: HostRuntime) -> Result<(), Fail> {
+    let files = Files {
+        second: Some(b"chr1\t10\t20\nchr1\t30\t40\n"),
+        ..alone(b"", 2)
+    };
+    let mut session = begun(&rt, files)?;
+    holds(answer_at_limit(&mut session)?)
+}
+
+/// Whether a session answers that it has no second file, whatever the line.
+fn has_none(session: &Session) -> Result<bool, Fail> {
+    let row = session.read(b"chr1\t1\t2")?;
+    Ok(
+        session.second_width().is_none()
+            && session.read_second(b"x").err() == Some(SecondFault::NoSecond)
+            && !session.fits_second(&row),
+    )
+}
+
+#[test]
+fn no_second_file(rt: HostRuntime) -> Result<(), Fail> {
+    let session = session(&rt, FIRST, 9)?;
+    holds(has_none(&session)?)
 }

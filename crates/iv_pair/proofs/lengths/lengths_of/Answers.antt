@@ -14,8 +14,8 @@ raise-requires-clause-room g c = omega (arith, IsCounted-room _ _ _ c.length_of.
 pub loop-record-preserved : goal.loop-record-preserved
 loop-record-preserved g c =
     let item : c.record-item.result ≡ get_or c.args.records.now c.loop-record.record-index c.record-item.result = search rules in
-    IsCounted-at c.loop-record.lengths c.raise.new.lengths c.args.records.now c.loop-record.record-index c.record-item.result c.loop-record-test.true c.loop-record.invariant c.in_ok-raise.ensures.0
-    (c.in_ok-raise.ensures.1 ∙ ap (added_by length_cmp (expanded c.loop-record.lengths)) (c.length_of.ensures.is ∙ ap length_of item))
+    IsCounted-at c.loop-record.lengths c.raise.new.lengths c.args.records.now c.loop-record.record-index c.record-item.result c.loop-record-test.true c.loop-record.invariant c.in_ok-raise.ensures.ok.0
+    (c.in_ok-raise.ensures.ok.1 ∙ ap (added_by length_cmp (expanded c.loop-record.lengths)) (c.length_of.ensures.is ∙ ap length_of item))
 
 pub returns : goal.returns
 returns g c = IsCounted-end _ _ c.loop-record.record-index (omega (arith, c.loop-record-test.false)) c.loop-record.invariant

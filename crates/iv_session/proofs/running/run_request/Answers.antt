@@ -38,16 +38,58 @@ pub returns-in_ok-replace-in-Replace : goal.returns-in_ok-replace-in-Replace
 returns-in_ok-replace-in-Replace g c =
     rw c.in-Replace.is (done-silent (Ok (request.Replace c.in-Replace.old c.in-Replace.new)) c.args.session.now _ _ (c.in_ok-replace-in-Replace.ensures.there, c.in_ok-replace-in-Replace.ensures.ok, refl))
 
+pub returns-in_err-add_second-in-AddSecond : goal.returns-in_err-add_second-in-AddSecond
+returns-in_err-add_second-in-AddSecond g c =
+    let p = err_from_is_err_and c.from_residual-in_err-add_second-in-AddSecond.result c.from_residual-in_err-add_second-in-AddSecond.ensures.1 in
+    rw (p.1, p.2, c.in-AddSecond.is)
+    (refused (Ok (request.AddSecond c.in-AddSecond.row)) c.args.session.now _ _ (line.Edit c.in_err-add_second-in-AddSecond.field-0.0) _ refl c.in_err-add_second-in-AddSecond.ensures.why c.in_err-add_second-in-AddSecond.ensures.err)
+
+pub returns-in_ok-add_second-in-AddSecond : goal.returns-in_ok-add_second-in-AddSecond
+returns-in_ok-add_second-in-AddSecond g c =
+    rw c.in-AddSecond.is (done-silent (Ok (request.AddSecond c.in-AddSecond.row)) c.args.session.now _ _ (c.in_ok-add_second-in-AddSecond.ensures.room, c.in_ok-add_second-in-AddSecond.ensures.ok, refl))
+
+pub returns-in_err-remove_second-in-RemoveSecond : goal.returns-in_err-remove_second-in-RemoveSecond
+returns-in_err-remove_second-in-RemoveSecond g c =
+    let p = err_from_is_err_and c.from_residual-in_err-remove_second-in-RemoveSecond.result c.from_residual-in_err-remove_second-in-RemoveSecond.ensures.1 in
+    rw (p.1, p.2, c.in-RemoveSecond.is)
+    (refused (Ok (request.RemoveSecond c.in-RemoveSecond.row)) c.args.session.now _ _ (line.Edit c.in_err-remove_second-in-RemoveSecond.field-0.0) _ refl c.in_err-remove_second-in-RemoveSecond.ensures.why c.in_err-remove_second-in-RemoveSecond.ensures.err)
+
+pub returns-in_ok-remove_second-in-RemoveSecond : goal.returns-in_ok-remove_second-in-RemoveSecond
+returns-in_ok-remove_second-in-RemoveSecond g c =
+    rw c.in-RemoveSecond.is (done-silent (Ok (request.RemoveSecond c.in-RemoveSecond.row)) c.args.session.now _ _ (c.in_ok-remove_second-in-RemoveSecond.ensures.there, c.in_ok-remove_second-in-RemoveSecond.ensures.ok, refl))
+
+pub returns-in_err-replace_second-in-ReplaceSecond : goal.returns-in_err-replace_second-in-ReplaceSecond
+returns-in_err-replace_second-in-ReplaceSecond g c =
+    let p = err_from_is_err_and c.from_residual-in_err-replace_second-in-ReplaceSecond.result c.from_residual-in_err-replace_second-in-ReplaceSecond.ensures.1 in
+    rw (p.1, p.2, c.in-ReplaceSecond.is)
+    (refused (Ok (request.ReplaceSecond c.in-ReplaceSecond.old c.in-ReplaceSecond.new)) c.args.session.now _ _ (line.Edit c.in_err-replace_second-in-ReplaceSecond.field-0.0) _ refl c.in_err-replace_second-in-ReplaceSecond.ensures.why c.in_err-replace_second-in-ReplaceSecond.ensures.err)
+
+pub returns-in_ok-replace_second-in-ReplaceSecond : goal.returns-in_ok-replace_second-in-ReplaceSecond
+returns-in_ok-replace_second-in-ReplaceSecond g c =
+    rw c.in-ReplaceSecond.is (done-silent (Ok (request.ReplaceSecond c.in-ReplaceSecond.old c.in-ReplaceSecond.new)) c.args.session.now _ _ (c.in_ok-replace_second-in-ReplaceSecond.ensures.there, c.in_ok-replace_second-in-ReplaceSecond.ensures.ok, refl))
+
+pub returns-in_err-resize-in-Resize : goal.returns-in_err-resize-in-Resize
+returns-in_err-resize-in-Resize g c =
+    let p = err_from_is_err_and c.from_residual-in_err-resize-in-Resize.result c.from_residual-in_err-resize-in-Resize.ensures.1 in
+    let why = rw c.bytes.ensures at c.in_err-resize-in-Resize.ensures.why in
+    rw (p.1, p.2, c.in-Resize.is)
+    (refused (Ok (request.Resize c.in-Resize.name c.in-Resize.length)) c.args.session.now _ _ (line.Resize c.in_err-resize-in-Resize.field-0.0) _ refl why c.in_err-resize-in-Resize.ensures.err)
+
+pub returns-in_ok-resize-in-Resize : goal.returns-in_ok-resize-in-Resize
+returns-in_ok-resize-in-Resize g c =
+    let corrected = rw c.bytes.ensures at c.in_ok-resize-in-Resize.ensures.ok in
+    rw c.in-Resize.is (done-silent (Ok (request.Resize c.in-Resize.name c.in-Resize.length)) c.args.session.now _ _ (corrected, refl))
+
 pub returns-in_err-open_view-in-Open : goal.returns-in_err-open_view-in-Open
 returns-in_err-open_view-in-Open g c =
     let p = err_from_is_err_and c.from_residual-in_err-open_view-in-Open.result c.from_residual-in_err-open_view-in-Open.ensures.1 in
-    let why = rw (c.bytes.ensures, c.as_slice.ensures, c.of.ensures, c.bytes-in-Open.ensures) at c.in_err-open_view-in-Open.ensures.why in
+    let why = rw (c.bytes-in-Open.ensures, c.as_slice.ensures, c.of.ensures, c.bytes-in-Open-2.ensures) at c.in_err-open_view-in-Open.ensures.why in
     rw (p.1, p.2, c.in-Open.is)
     (refused (Ok (request.Open c.in-Open.name c.in-Open.words)) c.args.session.now _ _ (line.Open c.in_err-open_view-in-Open.field-0.0) _ refl (RefusesOpen-cut c.args.session.now c.in-Open.name c.in-Open.words c.in_err-open_view-in-Open.field-0.0 why) c.in_err-open_view-in-Open.ensures.err)
 
 pub returns-in_ok-open_view-in-Open : goal.returns-in_ok-open_view-in-Open
 returns-in_ok-open_view-in-Open g c =
-    let opens = rw (c.bytes.ensures, c.as_slice.ensures, c.of.ensures, c.bytes-in-Open.ensures) at c.in_ok-open_view-in-Open.ensures.ok in
+    let opens = rw (c.bytes-in-Open.ensures, c.as_slice.ensures, c.of.ensures, c.bytes-in-Open-2.ensures) at c.in_ok-open_view-in-Open.ensures.ok in
     rw c.in-Open.is (done-silent (Ok (request.Open c.in-Open.name c.in-Open.words)) c.args.session.now _ _ (Opens-cut c.args.session.now _ c.in-Open.name c.in-Open.words opens, refl))
 
 pub returns-in_err-close_view-in-Close : goal.returns-in_err-close_view-in-Close

@@ -8,4 +8,4 @@ pub returns : goal.returns
 returns g c =
     let i = c.self.inside in
     subst (λ (t : Tracked). AreUpTo c.args.seq c.longest.result t.rows) c.self.view_is
-    (AreLengths-up_to i.lengths i.track.rows c.args.seq c.longest.result c.self.invariant c.longest.ensures)
+    (AreLengths-up_to i.lengths i.track.rows c.args.seq c.longest.result c.self.invariant.counted c.longest.ensures)

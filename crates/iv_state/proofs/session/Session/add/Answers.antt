@@ -1,5 +1,5 @@
 use Rattle.std.specs.Prelude.{All}
-use Rattle.std.proofs.Common.{◌≡◌, ◌≤◌, ◌∙◌, Result, Err, inr, length, arith, refl, sym, ap, subst}
+use Rattle.std.proofs.Common.{◌≡◌, ◌≤◌, ◌∙◌, length, arith, sym, ap, subst}
 use Rattle.std.proofs.lemmas.Result.{err_from_is_err_and}
 use Rattle.iv_text.specs.Ordered.{added, copies}
 use Rattle.iv_text.specs.Read.{Fits}
@@ -10,26 +10,18 @@ use Rattle.iv_track.specs.declared.fault.AddFault.TheVariants as adding
 use Rattle.iv_state.specs.Edits.{RefusesAdd, fault_of_add}
 use Rattle.iv_state.specs.Keeping.{all_seen}
 use Rattle.iv_state.specs.OpenViews.{all_steps}
-use Rattle.iv_state.specs.States.{State, IsTrackOn}
+use Rattle.iv_state.specs.States.{State, IsTrackOn, one_more}
 use Rattle.iv_state.specs.declared.session.Accepted.{Accepted}
-use Rattle.iv_state.proofs.SessionLemmas.{below-unless, edited, fit-added, track-added, served-stales}
+use Rattle.iv_state.proofs.SessionLemmas.{answers, below-unless, edited, refused-add, fit-added, track-added, served-stales}
 use Rattle.iv_state.proofs.session.Session.add.Goals as goal
-
--- what a track answers
-abbrev answers : AddFault → Result (Unit {0}) AddFault
-answers told = Err told
 
 -- what the track refuses is refused for the same reason
 refused : (inside s : State) (copied r : Row) (told : AddFault) → inside ≡ s → copied ≡ r
     → (answers told ≡ answers adding.Full → inside.track.limit ≤ length inside.track.rows) × (inside.track.limit ≤ length inside.track.rows → answers told ≡ answers adding.Full)
-    → (answers told ≡ answers adding.NoMemory → copies inside.track.rows copied ≡ 0) → RefusesAdd s r (fault_of_add told)
+    → (answers told ≡ answers adding.NoMemory → copies inside.track.rows copied ≡ 0) → RefusesAdd s.track r (fault_of_add told)
 refused inside s copied r told same is full memory =
-    subst (λ (t : State). RefusesAdd t r (fault_of_add told)) same (subst (λ (q : Row). RefusesAdd inside q (fault_of_add told)) is (by told full memory))
-  where
-    by : (told : AddFault) → (answers told ≡ answers adding.Full → inside.track.limit ≤ length inside.track.rows) × (inside.track.limit ≤ length inside.track.rows → answers told ≡ answers adding.Full)
-        → (answers told ≡ answers adding.NoMemory → copies inside.track.rows copied ≡ 0) → RefusesAdd inside copied (fault_of_add told)
-    by adding.Full full memory = full.0 refl
-    by adding.NoMemory full memory = inr (below-unless (length inside.track.rows) inside.track.limit _ _ full.1 (λ e. cc), memory refl)
+    subst (λ (t : State). RefusesAdd t.track r (fault_of_add told)) same
+    (subst (λ (q : Row). RefusesAdd inside.track q (fault_of_add told)) is (refused-add inside.track copied told full memory))
 
 pub added-requires-clause-right : goal.added-requires-clause-right
 added-requires-clause-right g c = record {
@@ -70,7 +62,7 @@ invariant_of-self-2 g c =
 
 pub returns-clause-ok : goal.returns-clause-ok
 returns-clause-ok g c =
-    edited (λ rows. added rows c.args.row.now) _ _ c.add.new.self _ c.self.view_is
+    edited (λ t. one_more t c.args.row.now) _ _ c.add.new.self _ c.self.view_is
     (c.in_ok-add.ensures.ok ∙ ap (λ (r : Row). record c.self.inside.track { rows = added c.self.inside.track.rows r }) c.in_ok-record.ensures.ok)
     c.added.ensures.stales
 

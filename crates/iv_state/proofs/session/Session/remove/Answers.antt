@@ -7,7 +7,7 @@ use Rattle.iv_text.specs.Row.{Row}
 use Rattle.iv_track.specs.Tracked.{Tracked, removed}
 use Rattle.iv_state.specs.Keeping.{AreRight, all_seen}
 use Rattle.iv_state.specs.OpenViews.{all_steps}
-use Rattle.iv_state.specs.States.{State, IsTrackOn}
+use Rattle.iv_state.specs.States.{State, IsTrackOn, one_less}
 use Rattle.iv_state.specs.declared.session.Accepted.{Accepted}
 use Rattle.iv_track.proofs.Edits.{added-removed}
 use Rattle.iv_state.proofs.SessionLemmas.{edited, track-removed, served-stales}
@@ -51,7 +51,7 @@ invariant_of-self-2 g c =
 
 pub returns-clause-ok : goal.returns-clause-ok
 returns-clause-ok g c =
-    edited (λ rows. removed rows c.args.row.now) _ _ c.remove.new.self _ c.self.view_is
+    edited (λ t. one_less t c.args.row.now) _ _ c.remove.new.self _ c.self.view_is
     (c.in_ok-remove.ensures.ok ∙ ap (λ (r : Row). record c.self.inside.track { rows = removed c.self.inside.track.rows r }) c.in_ok-record.ensures.ok)
     c.removed.ensures.stales
 

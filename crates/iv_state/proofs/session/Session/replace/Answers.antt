@@ -8,7 +8,7 @@ use Rattle.iv_text.specs.Row.{Row}
 use Rattle.iv_track.specs.Tracked.{Tracked, removed}
 use Rattle.iv_state.specs.Keeping.{AreRight, all_seen}
 use Rattle.iv_state.specs.OpenViews.{all_steps}
-use Rattle.iv_state.specs.States.{State}
+use Rattle.iv_state.specs.States.{State, exchanged}
 use Rattle.iv_state.specs.declared.session.Accepted.{Accepted}
 use Rattle.iv_state.proofs.OpenViewLemmas.{stales-trans, stales-steps}
 use Rattle.iv_state.proofs.SessionLemmas.{edited, fit-added, replaced-in, served-stales, staged-there}
@@ -79,7 +79,7 @@ returns-clause-ok g c =
     let there : 0 < copies c.self.inside.track.rows c.in_ok-before.before = omega (arith, c.copies.ensures.value) in
     let whole = replaced-in _ _ _ _ _ _ _ _ c.self.view_is c.in_ok-before.ensures.ok c.in_ok-after.ensures.ok c.self.invariant.0.track_is c.copies.ensures.ordered there c.requires.new
     c.in_ok-stage.ensures.ok c.in-Ok.ensures.ok in
-    edited (λ rows. added (removed rows c.args.old.now) c.args.new.now) _ _ c.remove.new.self _ c.self.view_is whole.is
+    edited (λ t. exchanged t c.args.old.now c.args.new.now) _ _ c.remove.new.self _ c.self.view_is whole.is
     (stales-trans _ _ _ c.added.ensures.stales c.removed.ensures.stales)
 
 pub returns-clause-steps : goal.returns-clause-steps

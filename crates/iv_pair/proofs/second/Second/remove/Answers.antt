@@ -1,0 +1,12 @@
+use Rattle.std.proofs.Common.{◌≤◌, length, arith, sym, subst}
+use Rattle.iv_text.specs.Row.{row_cmp}
+use Rattle.iv_track.specs.Tracked.{Tracked}
+use Rattle.iv_track.proofs.Counts.{length-removed}
+use Rattle.iv_pair.proofs.second.Second.remove.Goals as goal
+
+pub invariant_of-self-2 : goal.invariant_of-self-2
+invariant_of-self-2 g c = record {
+  counted = c.take.ensures.counted;
+  few = subst (λ (t : Tracked). length t.rows ≤ t.limit) (sym c.in_ok-take.ensures.ok)
+      (omega (arith, length-removed row_cmp c.self.inside.track.rows c.args.row.now c.in_ok-take.ensures.found, c.self.invariant.few));
+}
