@@ -24,6 +24,7 @@ build:
 demo: build
 	$(PROGRAM) session -g examples/human.genome -i examples/genes.bed < examples/corrections.script || test $$? -eq 1
 	$(PROGRAM) session -g examples/human.genome -i examples/genes.bed -b examples/mask.bed < examples/mask.script
+	$(PROGRAM) session -g examples/human.genome -i examples/genes.bed -b examples/mask.bed < examples/correct_mask.script
 	$(PROGRAM) session -g examples/human.genome -i examples/genes.bed -b /dev/null < examples/write_out.script
 	$(PROGRAM) session -g examples/contigs.genome -i examples/coding.bed -fi examples/contigs.fa < examples/sequences.script
 

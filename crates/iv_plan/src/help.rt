@@ -93,6 +93,10 @@ Lines of a script, their fields parted by one TAB:
   add       COLUMNS                   add a record
   remove    COLUMNS                   take out one copy of a record
   replace   COLUMNS  COLUMNS          take out the first, put in the second
+  addb      COLUMNS                   add a record to the second file
+  removeb   COLUMNS                   take out one copy of a record there
+  replaceb  COLUMNS  COLUMNS          take out the first there, put in the second
+  resize    SEQUENCE  LENGTH          correct the length of a sequence
   print     NAME                      print a view
   printall                            print all views, each under #NAME
   close     NAME                      close a view
