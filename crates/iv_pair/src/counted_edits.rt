@@ -1,13 +1,13 @@
 //! One record more and one record less in a track, with the lengths of its records counted beside it.
-ghost use Rattle.std.specs.Prelude.{◌≡◌, ◌<◌, ◌≤◌, length, OnOk, OnErr};
-ghost use Rattle.iv_text.specs.Ordered.{AreInOrder, added, copies};
+ghost use Rattle.std.specs.Prelude.{◌≡◌, ◌<◌, ◌≤◌, length, IfErr, OnOk, OnErr};
+ghost use Rattle.iv_text.specs.Ordered.{AreInOrder, copies};
+ghost use Rattle.iv_track.specs.Edits.{RefusesRemove, with_record, without_record};
 ghost use Rattle.iv_track.specs.Steps.{TakesUpTo};
-ghost use Rattle.iv_track.specs.Tracked.{removed};
 ghost use Rattle.iv_pair.specs.Lengths.{AreLengths};
 
 use crate::lengths::{Lengths, length_of, lower, raise};
 use iv_text::Record;
-use iv_track::{Meter, NotThere, Track};
+use iv_track::{EditFault, Meter, Track};
 use std::alloc::{AllocError, Allocator};
 
 /// Adds a record of the track's width, without a look at the limit, and counts its length. At most 7 steps.
@@ -27,7 +27,7 @@ pub(crate) fn stage<A: Allocator + Copy>(
     requires counted { AreLengths lengths.old track.old.rows }
     requires room { length track.old.rows ≤ track.old.limit }
     requires width { row.width ≡ track.old.width }
-    ensures ok { OnOk result (track.new ≡ record track.old { rows = added track.old.rows row }) }
+    ensures ok { OnOk result (track.new ≡ with_record row track.old) }
     ensures memory { OnErr result (copies track.old.rows row ≡ 0) }
     ensures err { OnErr result (track.new ≡ track.old) }
     ensures counted { AreLengths lengths.new track.new.rows }
@@ -56,11 +56,11 @@ pub(crate) fn take<A: Allocator + Copy>(
     lengths: &mut Lengths<A>,
     row: &Record<A>,
     meter: &mut Meter,
-) -> Result<(), NotThere>
+) -> Result<(), EditFault>
     requires counted { AreLengths lengths.old track.old.rows }
-    ensures ok { OnOk result (track.new ≡ record track.old { rows = removed track.old.rows row.now }) }
-    ensures found { OnOk result (0 < copies track.old.rows row.now) }
-    ensures absent { OnErr result (copies track.old.rows row.now ≡ 0) }
+    ensures there { OnOk result (0 < copies track.old.rows row.now) }
+    ensures ok { OnOk result (track.new ≡ without_record row.now track.old) }
+    ensures why { IfErr result (RefusesRemove track.old row.now) }
     ensures err { OnErr result (track.new ≡ track.old) }
     ensures was_ordered { AreInOrder track.old.rows }
     ensures counted { AreLengths lengths.new track.new.rows }

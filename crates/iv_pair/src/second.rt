@@ -1,8 +1,9 @@
 //! The second file: its records in track order, and how long they are.
-ghost use Rattle.std.specs.Prelude.{◌≡◌, ◌+◌, ◌-◌, ◌^◌, ◌<◌, ◌≤◌, ◌↔◌, length, filter, min, All, IfOk, OnOk, OnErr, Err, vec_len};
-ghost use Rattle.iv_text.specs.Ordered.{AreInOrder, added, copies, ordered};
+ghost use Rattle.std.specs.Prelude.{◌≡◌, ◌+◌, ◌-◌, ◌^◌, ◌<◌, ◌≤◌, length, filter, min, All, IfOk, IfErr, OnOk, OnErr, vec_len};
+ghost use Rattle.iv_text.specs.Ordered.{AreInOrder, copies, ordered};
+ghost use Rattle.iv_track.specs.Edits.{RefusesAdd, RefusesRemove, RefusesReplace, with_record, without_record, with_replaced};
 ghost use Rattle.iv_track.specs.Steps.{TakesUpTo};
-ghost use Rattle.iv_track.specs.Tracked.{is_from, most_records, removed};
+ghost use Rattle.iv_track.specs.Tracked.{is_from, most_records};
 ghost use Rattle.iv_pair.specs.Hits.{hits};
 ghost use Rattle.iv_pair.specs.Lengths.{AreUpTo};
 
@@ -10,7 +11,7 @@ use crate::counted_edits::{stage, take};
 use crate::hits::Hits;
 use crate::lengths::{Lengths, lengths_of, longest};
 use iv_text::Record;
-use iv_track::{AddFault, Meter, NotThere, ReplaceFault, Rows, Track};
+use iv_track::{EditFault, Meter, Rows, Track};
 use std::alloc::{AllocError, Allocator, Global};
 use std::marker::Model;
 
@@ -89,16 +90,16 @@ impl<A: Allocator + Copy> Second<A> {
     ///
     /// E12 exactly where there are as many records as the limit, else E22, and that only for a record without a copy.
     /// All is as before.
-    pub fn add(&mut self, row: Record<A>, meter: &mut Meter) -> Result<(), AddFault>
+    pub fn add(&mut self, row: Record<A>, meter: &mut Meter) -> Result<(), EditFault>
         requires { row.width ≡ self.old.width }
-        ensures ok { OnOk result (self.new ≡ record self.old { rows = added self.old.rows row }) }
-        ensures full { (result ≡ Err AddFault.Full) ↔ (self.old.limit ≤ length self.old.rows) }
-        ensures memory { result ≡ Err AddFault.NoMemory → copies self.old.rows row ≡ 0 }
+        ensures room { OnOk result (length self.old.rows < self.old.limit) }
+        ensures ok { OnOk result (self.new ≡ with_record row self.old) }
+        ensures why { IfErr result (RefusesAdd self.old row) }
         ensures err { OnErr result (self.new ≡ self.old) }
         ensures steps { TakesUpTo meter.old meter.new 16 }
     {
         if self.track.len() >= self.track.limit() {
-            return Err(AddFault::Full);
+            return Err(EditFault::Full);
         }
         stage(&mut self.track, &mut self.lengths, row, meter)?;
         Ok(())
@@ -109,10 +110,10 @@ impl<A: Allocator + Copy> Second<A> {
     /// # Errors
     ///
     /// E11 exactly where no copy is there. All is as before.
-    pub fn remove(&mut self, row: &Record<A>, meter: &mut Meter) -> Result<(), NotThere>
-        ensures ok { OnOk result (self.new ≡ record self.old { rows = removed self.old.rows row.now }) }
-        ensures found { OnOk result (0 < copies self.old.rows row.now) }
-        ensures absent { OnErr result (copies self.old.rows row.now ≡ 0) }
+    pub fn remove(&mut self, row: &Record<A>, meter: &mut Meter) -> Result<(), EditFault>
+        ensures there { OnOk result (0 < copies self.old.rows row.now) }
+        ensures ok { OnOk result (self.new ≡ without_record row.now self.old) }
+        ensures why { IfErr result (RefusesRemove self.old row.now) }
         ensures err { OnErr result (self.new ≡ self.old) }
         ensures steps { TakesUpTo meter.old meter.new 16 }
     {
@@ -133,16 +134,16 @@ impl<A: Allocator + Copy> Second<A> {
         old: &Record<A>,
         new: Record<A>,
         meter: &mut Meter,
-    ) -> Result<(), ReplaceFault>
+    ) -> Result<(), EditFault>
         requires { new.width ≡ self.old.width }
-        ensures ok { OnOk result (self.new ≡ record self.old { rows = added (removed self.old.rows old.now) new }) }
-        ensures absent { (result ≡ Err ReplaceFault.NotThere) ↔ (copies self.old.rows old.now ≡ 0) }
-        ensures memory { result ≡ Err ReplaceFault.NoMemory → copies self.old.rows new ≡ 0 }
+        ensures there { OnOk result (0 < copies self.old.rows old.now) }
+        ensures ok { OnOk result (self.new ≡ with_replaced old.now new self.old) }
+        ensures why { IfErr result (RefusesReplace self.old old.now new) }
         ensures err { OnErr result (self.new ≡ self.old) }
         ensures steps { TakesUpTo meter.old meter.new 16 }
     {
         if self.track.copies(old, meter) == 0 {
-            return Err(ReplaceFault::NotThere);
+            return Err(EditFault::Absent);
         }
         stage(&mut self.track, &mut self.lengths, new, meter)?;
         match take(&mut self.track, &mut self.lengths, old, meter) {

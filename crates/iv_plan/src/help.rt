@@ -26,11 +26,15 @@ files and end. Options stand in any order. Records needn't be sorted.
   -fi FASTA   bases of the sequences, which getfasta prints
   -width N    columns of a BED without a record, 3 to 6 (default 3)
 
-Lines of a script, their fields parted by one TAB:
+Lines of a script, their fields separated by one TAB:
   open      NAME  VIEW                open a view under a name
   add       COLUMNS                   add a record
   remove    COLUMNS                   take out one copy of a record
   replace   COLUMNS  COLUMNS          take out the first, put in the second
+  addb      COLUMNS                   add a record to the second file
+  removeb   COLUMNS                   take out one copy of a record there
+  replaceb  COLUMNS  COLUMNS          take out the first there, put in the second
+  resize    SEQUENCE  LENGTH          correct the length of a sequence
   print     NAME                      print a view
   printall                            print all views, each under #NAME
   close     NAME                      close a view
@@ -88,7 +92,7 @@ Keeps the records as a track, and carries out a script on standard input.
   -fi FASTA   bases of the sequences, which getfasta prints
   -width N    columns of a BED without a record, 3 to 6 (default 3)
 
-Lines of a script, their fields parted by one TAB:
+Lines of a script, their fields separated by one TAB:
   open      NAME  VIEW                open a view under a name
   add       COLUMNS                   add a record
   remove    COLUMNS                   take out one copy of a record
@@ -101,7 +105,7 @@ Lines of a script, their fields parted by one TAB:
   printall                            print all views, each under #NAME
   close     NAME                      close a view
 Empty lines and lines that begin with # are skipped. A VIEW is a subcommand with
-its options, parted by spaces: merge, cluster, complement, genomecov, intersect,
+its options, separated by spaces: merge, cluster, complement, genomecov, intersect,
 subtract, getfasta.
 ";
 
@@ -113,7 +117,7 @@ A row for each block: records that overlap or are book-ended are one block.
   -i BED      the records, three to six columns, in any order
   -d N        records at most N bases apart are one block too
   -s          blocks of each strand by itself, those of + first
-  -c LIST     columns by number, parted by commas: a summary of each
+  -c LIST     columns by number, separated by commas: a summary of each
   -o LIST     operations: count, sum, min, max, collapse, distinct (default sum)
   -width N    columns of a BED without a record, 3 to 6 (default 3)
 ";

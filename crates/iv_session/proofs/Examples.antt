@@ -9,7 +9,8 @@ use Rattle.iv_session.specs.Requests.{asked}
 use Rattle.iv_session.specs.Running.{Runs}
 use Rattle.iv_session.specs.Scripts.{Steps}
 use Rattle.iv_state.specs.OpenViews.{Shown}
-use Rattle.iv_state.specs.States.{State, with_record}
+use Rattle.iv_track.specs.Edits.{with_record}
+use Rattle.iv_state.specs.States.{State, with_track}
 use Rattle.iv_state.specs.Views.{opened, all_text, text_in}
 use Rattle.iv_view.specs.Views.{read_words}
 use Rattle.iv_session.specs.Written.{Written, printed, refused_by}
@@ -56,10 +57,10 @@ abbrev with_a_view : State
 with_a_view = record empty { views = (codes "m", merging) ∷ [] }
 
 abbrev with_one : State
-with_one = with_record with_a_view first_row
+with_one = with_track with_a_view (with_record first_row)
 
 abbrev with_two : State
-with_two = with_record with_one second_row
+with_two = with_track with_one (with_record second_row)
 
 pub comments-ask_nothing : asked empty (codes "# a note") ≡ Ok request.Nothing
 comments-ask_nothing = refl

@@ -12,7 +12,7 @@ use Rattle.iv_text.specs.Row.{Row}
 use Rattle.iv_text.specs.declared.fault.RecordFault.{RecordFault}
 use Rattle.iv_text.specs.declared.fault.RecordFault.TheVariants as row
 use Rattle.iv_view.specs.Views.{view_code}
-use Rattle.iv_state.specs.Edits.{edit_code}
+use Rattle.iv_track.specs.Fault.{edit_code}
 use Rattle.iv_state.specs.Resizes.{resize_code}
 use Rattle.iv_state.specs.Views.{print_code}
 use Rattle.iv_state.specs.States.{State, FitsSecond}

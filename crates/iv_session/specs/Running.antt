@@ -6,8 +6,9 @@ use Rattle.iv_text.specs.Fields.{words}
 use Rattle.iv_text.specs.Ordered.{copies}
 use Rattle.iv_state.specs.OpenViews.{Shown, stale_count}
 use Rattle.iv_state.specs.Prints.{with_printed, with_all_printed, IsButCurrent}
-use Rattle.iv_state.specs.States.{State, IsButStale, with_record, without_record, with_replaced, with_second_record, without_second_record, with_second_replaced, without_view}
-use Rattle.iv_state.specs.Edits.{RefusesAdd, RefusesRemove, RefusesReplace}
+use Rattle.iv_track.specs.Edits.{RefusesAdd, RefusesRemove, RefusesReplace, with_record, without_record, with_replaced}
+use Rattle.iv_state.specs.States.{State, IsButStale, with_track, with_second, without_view}
+use Rattle.iv_state.specs.Edits.{RefusesCopy}
 use Rattle.iv_state.specs.Resizes.{resized}
 use Rattle.iv_state.specs.Views.{view_named, Opens, RefusesOpen, all_text, text_in}
 use Rattle.iv_state.specs.declared.fault.PrintFault.TheVariants as printing
@@ -24,17 +25,17 @@ use Rattle.iv_session.specs.declared.request.Request.TheVariants as request
 abbrev pub Does : Request → State → State → List ℕ → Type 0
 Does request.Nothing old new text = (new ≡ old) × (text ≡ [])
 Does (request.Add r) old new text =
-    (length old.track.rows < old.track.limit) × IsButStale (with_record old r) new × (text ≡ [])
+    (length old.track.rows < old.track.limit) × IsButStale (with_track old (with_record r)) new × (text ≡ [])
 Does (request.Remove r) old new text =
-    (0 < copies old.track.rows r) × IsButStale (without_record old r) new × (text ≡ [])
+    (0 < copies old.track.rows r) × IsButStale (with_track old (without_record r)) new × (text ≡ [])
 Does (request.Replace r q) old new text =
-    (0 < copies old.track.rows r) × IsButStale (with_replaced old r q) new × (text ≡ [])
+    (0 < copies old.track.rows r) × IsButStale (with_track old (with_replaced r q)) new × (text ≡ [])
 Does (request.AddSecond r) old new text =
-    IsSomeAnd old.second (λ t. length t.rows < t.limit) × (new ≡ with_second_record old r) × (text ≡ [])
+    IsSomeAnd old.second (λ t. length t.rows < t.limit) × (new ≡ with_second old (with_record r)) × (text ≡ [])
 Does (request.RemoveSecond r) old new text =
-    IsSomeAnd old.second (λ t. 0 < copies t.rows r) × (new ≡ without_second_record old r) × (text ≡ [])
+    IsSomeAnd old.second (λ t. 0 < copies t.rows r) × (new ≡ with_second old (without_record r)) × (text ≡ [])
 Does (request.ReplaceSecond r q) old new text =
-    IsSomeAnd old.second (λ t. 0 < copies t.rows r) × (new ≡ with_second_replaced old r q) × (text ≡ [])
+    IsSomeAnd old.second (λ t. 0 < copies t.rows r) × (new ≡ with_second old (with_replaced r q)) × (text ≡ [])
 Does (request.Resize name n) old new text = (resized old name n ≡ Ok new) × (text ≡ [])
 Does (request.Open name said) old new text = Opens old name (words said) new × (text ≡ [])
 Does (request.Close name) old new text =
@@ -45,12 +46,12 @@ Does request.PrintAll old new text = (new ≡ with_all_printed old) × (text ≡
 
 -- why a request is refused: a print for want of memory only where a view to be printed is stale
 abbrev pub Refuses : Request → State → LineFault → Type 0
-Refuses (request.Add r) s (fault.Edit f) = RefusesAdd s.track r f
-Refuses (request.Remove r) s (fault.Edit f) = RefusesRemove s.track r f
-Refuses (request.Replace r q) s (fault.Edit f) = RefusesReplace s.track r q f
-Refuses (request.AddSecond r) s (fault.Edit f) = IsSomeAnd s.second (λ t. RefusesAdd t r f)
-Refuses (request.RemoveSecond r) s (fault.Edit f) = IsSomeAnd s.second (λ t. RefusesRemove t r f)
-Refuses (request.ReplaceSecond r q) s (fault.Edit f) = IsSomeAnd s.second (λ t. RefusesReplace t r q f)
+Refuses (request.Add r) s (fault.Edit f) = RefusesCopy s.track f ⊎ RefusesAdd s.track r f
+Refuses (request.Remove r) s (fault.Edit f) = RefusesCopy s.track f ⊎ RefusesRemove s.track r f
+Refuses (request.Replace r q) s (fault.Edit f) = RefusesCopy s.track f ⊎ RefusesReplace s.track r q f
+Refuses (request.AddSecond r) s (fault.Edit f) = IsSomeAnd s.second (λ t. RefusesCopy t f ⊎ RefusesAdd t r f)
+Refuses (request.RemoveSecond r) s (fault.Edit f) = IsSomeAnd s.second (λ t. RefusesCopy t f ⊎ RefusesRemove t r f)
+Refuses (request.ReplaceSecond r q) s (fault.Edit f) = IsSomeAnd s.second (λ t. RefusesCopy t f ⊎ RefusesReplace t r q f)
 Refuses (request.Resize name n) s (fault.Resize f) = resized s name n ≡ Err f
 Refuses (request.Open name said) s (fault.Open f) = RefusesOpen s name (words said) f
 Refuses (request.Close name) s (fault.Close f) = view_named s.views name ≡ None

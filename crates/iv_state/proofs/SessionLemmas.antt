@@ -18,17 +18,7 @@ use Rattle.iv_view.specs.declared.view.View.{View}
 use Rattle.iv_state.specs.OpenViews.{Shown, Stales, all_current, with_current}
 use Rattle.iv_state.specs.Views.{is_view_name, view_named, words_said, opened}
 use Rattle.iv_state.proofs.OpenViewLemmas.{all-current, stales-current}
-use Rattle.iv_track.specs.declared.fault.AddFault.{AddFault}
-use Rattle.iv_track.specs.declared.fault.AddFault.TheVariants as adding
-use Rattle.iv_state.specs.Edits.{RefusesAdd, fault_of_add}
 use Rattle.iv_state.specs.States.{State, IsTrackOn, IsServed, AreServed, IsButStale, tracked}
-
--- where a number from the limit on is refused, one that is not refused is below it
-pub below-unless : {X : Type 0} (n limit : ℕ) (answer refusal : X) → (limit ≤ n → answer ≡ refusal) → (answer ≡ refusal → ⊥) → n < limit
-below-unless n limit answer refusal at other = elim (cases_lt n limit) [
-  | inl below ↦ below
-  | inr high ↦ absurd (other (at high))
-]
 
 -- the records fit with one more that fits
 pub fit-added : (g : Sequences) (t : Tracked) (r : Row) → IsTrackOn g t → Fits g t.width r → All (Fits g t.width) (added t.rows r)
@@ -73,17 +63,6 @@ pub edited : (change : Tracked → Tracked) (inside s : State) (t : Tracked) (mo
 edited change inside s t more same is less =
     subst (λ (s : State). IsButStale (record s { track = change s.track }) (record inside { track = t; views = more })) same
     (subst (λ (t : Tracked). IsButStale (record inside { track = change inside.track }) (record inside { track = t; views = more })) (sym is) (refl, less))
-
--- what a track answers
-abbrev pub answers : AddFault → Result (Unit {0}) AddFault
-answers told = Err told
-
--- what a track refuses to add is refused for the same reason
-pub refused-add : (t : Tracked) (r : Row) (told : AddFault)
-    → (answers told ≡ answers adding.Full → t.limit ≤ length t.rows) × (t.limit ≤ length t.rows → answers told ≡ answers adding.Full)
-    → (answers told ≡ answers adding.NoMemory → copies t.rows r ≡ 0) → RefusesAdd t r (fault_of_add told)
-refused-add t r adding.Full full memory = full.0 refl
-refused-add t r adding.NoMemory full memory = inr (below-unless (length t.rows) t.limit _ _ full.1 (λ e. cc), memory refl)
 
 -- a track before and after a record q was added, and after one copy of r was then taken out
 pub record Replaced (g : Sequences) (old mid new : Tracked) (r q : Row) : Type 0 where

@@ -6,10 +6,10 @@ use Rattle.std.specs.Str.{bytes_eq}
 use Rattle.iv_text.specs.Genome.{Sequences}
 use Rattle.iv_text.specs.BedFile.{Bed}
 use Rattle.iv_text.specs.Row.{Row}
-use Rattle.iv_text.specs.Ordered.{added, ordered}
+use Rattle.iv_text.specs.Ordered.{ordered}
 use Rattle.iv_text.specs.Read.{Fits}
 use Rattle.iv_fasta.specs.Fasta.{Bases}
-use Rattle.iv_track.specs.Tracked.{Tracked, removed}
+use Rattle.iv_track.specs.Tracked.{Tracked}
 use Rattle.iv_view.specs.Views.{needs_second}
 use Rattle.iv_view.specs.declared.view.View.{View}
 use Rattle.iv_state.specs.OpenViews.{Shown, Stales}
@@ -37,45 +37,13 @@ begun g first second bases limit = record {
   views = [];
 }
 
--- a track with one more record, in its place in the order
-abbrev pub one_more : Tracked → Row → Tracked
-one_more t r = record t { rows = added t.rows r }
-
--- a track with one copy of a record less
-abbrev pub one_less : Tracked → Row → Tracked
-one_less t r = record t { rows = removed t.rows r }
-
--- a track with one copy of a record less, and one more of another
-abbrev pub exchanged : Tracked → Row → Row → Tracked
-exchanged t r q = one_more (one_less t r) q
-
--- the session with one more record
-abbrev pub with_record : State → Row → State
-with_record s r = record s { track = one_more s.track r }
-
--- the session with one copy of a record less
-abbrev pub without_record : State → Row → State
-without_record s r = record s { track = one_less s.track r }
-
--- the session with one copy of a record less, and one more of another
-abbrev pub with_replaced : State → Row → Row → State
-with_replaced s r q = record s { track = exchanged s.track r q }
+-- the session with its track changed
+abbrev pub with_track : State → (Tracked → Tracked) → State
+with_track s change = record s { track = change s.track }
 
 -- the session with its second file changed, if there is one
 abbrev pub with_second : State → (Tracked → Tracked) → State
 with_second s change = record s { second = option_map change s.second }
-
--- the session with one more record in its second file
-abbrev pub with_second_record : State → Row → State
-with_second_record s r = with_second s (λ t. one_more t r)
-
--- the session with one copy of a record of its second file less
-abbrev pub without_second_record : State → Row → State
-without_second_record s r = with_second s (λ t. one_less t r)
-
--- the session with one copy of a record of its second file less, and one more of another
-abbrev pub with_second_replaced : State → Row → Row → State
-with_second_replaced s r q = with_second s (λ t. exchanged t r q)
 
 -- the session with one more view, the last, which is current
 abbrev pub with_view : State → List ℕ → View → State

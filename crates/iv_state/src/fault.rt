@@ -1,91 +1,12 @@
-//! Faults of edits, resizes and prints, by their numbers.
+//! Faults of lines of a second file, of resizes and of prints, by their numbers.
 ghost use Rattle.std.specs.Prelude.{◌≡◌, ◌≤◌, Some, None, IfSome};
-ghost use Rattle.iv_state.specs.Edits.{edit_code, second_code};
+ghost use Rattle.iv_state.specs.Edits.{second_code};
 ghost use Rattle.iv_state.specs.Resizes.{resize_code};
 ghost use Rattle.iv_state.specs.Views.{print_code};
 
 use iv_text::{RecordFault, WriteFault};
-use iv_track::{AddFault, NotThere, ReplaceFault};
 use std::alloc::AllocError;
 use thiserror::Error;
-
-/// Why an edit is refused.
-#[derive(Clone, Copy, Debug, PartialEq, Eq, Error)]
-pub enum EditFault {
-    /// E11: the track has no copy of the record.
-    #[error("no such record")]
-    Absent,
-    /// E12: the track holds its limit.
-    #[error("track is full")]
-    Full,
-    /// E22: memory was refused.
-    #[error("no memory")]
-    NoMemory,
-}
-
-impl From<AllocError> for EditFault {
-    ghost use Rattle.std.specs.Prelude.{◌≡◌};
-    ghost use Rattle.iv_state.specs.declared.fault.EditFault.TheVariants.{NoMemory};
-
-    ghost from_gives = { λ _ fault. fault ≡ NoMemory };
-
-    fn from(_: AllocError) -> EditFault {
-        EditFault::NoMemory
-    }
-}
-
-impl From<AddFault> for EditFault {
-    ghost use Rattle.std.specs.Prelude.{◌≡◌};
-    ghost use Rattle.iv_state.specs.Edits.{fault_of_add};
-
-    ghost from_gives = { λ told fault. fault ≡ fault_of_add told };
-
-    fn from(told: AddFault) -> EditFault {
-        match told {
-            AddFault::Full => EditFault::Full,
-            AddFault::NoMemory => EditFault::NoMemory,
-        }
-    }
-}
-
-impl From<NotThere> for EditFault {
-    ghost use Rattle.std.specs.Prelude.{◌≡◌};
-    ghost use Rattle.iv_state.specs.declared.fault.EditFault.TheVariants.{Absent};
-
-    ghost from_gives = { λ _ fault. fault ≡ Absent };
-
-    fn from(_: NotThere) -> EditFault {
-        EditFault::Absent
-    }
-}
-
-impl From<ReplaceFault> for EditFault {
-    ghost use Rattle.std.specs.Prelude.{◌≡◌};
-    ghost use Rattle.iv_state.specs.Edits.{fault_of_replace};
-
-    ghost from_gives = { λ told fault. fault ≡ fault_of_replace told };
-
-    fn from(told: ReplaceFault) -> EditFault {
-        match told {
-            ReplaceFault::NotThere => EditFault::Absent,
-            ReplaceFault::NoMemory => EditFault::NoMemory,
-        }
-    }
-}
-
-impl EditFault {
-    /// Its number in the table of faults.
-    pub fn code(&self) -> u8
-        ensures value { result ≡ edit_code self.now }
-        ensures known { (1 ≤ result) × (result ≤ 24) }
-    {
-        match self {
-            EditFault::Absent => 11,
-            EditFault::Full => 12,
-            EditFault::NoMemory => 22,
-        }
-    }
-}
 
 /// Why a line stands for no record of a second file.
 #[derive(Clone, Copy, Debug, PartialEq, Eq, Error)]

@@ -9,6 +9,7 @@ mod past_end;
 mod session;
 mod views;
 
-pub use fault::{EditFault, NoView, PrintFault, ResizeFault, SecondFault};
+pub use fault::{NoView, PrintFault, ResizeFault, SecondFault};
+pub use iv_track::EditFault;
 pub use laws::corrected_lengths_are_those_of_bases;
 pub use session::{Accepted, Session};

@@ -4,22 +4,23 @@ ghost use Rattle.iv_text.specs.Genome.{most_length};
 ghost use Rattle.iv_text.specs.Ordered.{added, copies};
 ghost use Rattle.iv_text.specs.Read.{read, Fits};
 ghost use Rattle.iv_bytes.specs.Sinks.{Puts};
+ghost use Rattle.iv_track.specs.Edits.{RefusesAdd, RefusesRemove, RefusesReplace, with_record, without_record, with_replaced};
 ghost use Rattle.iv_track.specs.Tracked.{most_records};
-ghost use Rattle.iv_state.specs.Edits.{RefusesAdd, RefusesRemove, RefusesReplace, read_second};
+ghost use Rattle.iv_state.specs.Edits.{RefusesCopy, read_second};
 ghost use Rattle.iv_state.specs.Keeping.{all_seen};
 ghost use Rattle.iv_state.specs.OpenViews.{all_steps, stale_count};
 ghost use Rattle.iv_state.specs.Prints.{PrintedView, PrintedAll};
 ghost use Rattle.iv_state.specs.Resizes.{has_other_bases, has_record_past, resized};
-ghost use Rattle.iv_state.specs.States.{State, FitsSecond, IsButStale, begun, tracked, with_record, without_record, with_replaced, with_second_record, without_second_record, with_second_replaced, with_view, without_view};
+ghost use Rattle.iv_state.specs.States.{State, FitsSecond, IsButStale, begun, tracked, with_track, with_second, with_view, without_view};
 ghost use Rattle.iv_state.specs.Views.{view_named, RefusesOpen, Opens, all_text};
 
-use crate::fault::{EditFault, NoView, PrintFault, ResizeFault, SecondFault};
+use crate::fault::{NoView, PrintFault, ResizeFault, SecondFault};
 use crate::names::{is_view_name, put_heading};
 use crate::past_end::{second_reaches_past, track_reaches_past};
 use crate::views::Views;
 use iv_pair::{Fasta, Second};
 use iv_text::{BedFile, Buffered, Genome, RecordFault, RecordRef, Sink, WriteFault, read_record};
-use iv_track::{Meter, Track};
+use iv_track::{EditFault, Meter, Track};
 use iv_view::{View, ViewFault};
 use std::alloc::{AllocError, Allocator, Global};
 use std::marker::Model;
@@ -168,10 +169,10 @@ impl<A: Allocator + Copy> Session<A> {
     pub fn add(&mut self, row: &RecordRef<'_>) -> Result<Accepted, EditFault>
         requires { Fits self.old.genome self.old.track.width row.now }
         ensures room { OnOk result (length self.old.track.rows < self.old.track.limit) }
-        ensures ok { OnOk result (IsButStale (with_record self.old row.now) self.new) }
+        ensures ok { OnOk result (IsButStale (with_track self.old (with_record row.now)) self.new) }
         ensures steps { IfOk result (λ a. a.steps ≤ 8 + all_steps self.old.views (added self.old.track.rows row.now) row.now) }
         ensures stale { IfOk result (λ a. a.stale ≡ stale_count self.new.views) }
-        ensures why { IfErr result (RefusesAdd self.old.track row.now) }
+        ensures why { IfErr result (λ f. RefusesCopy self.old.track f ⊎ RefusesAdd self.old.track row.now f) }
         ensures err { OnErr result (self.new ≡ self.old) }
     {
         let record = row.to_record(self.alloc)?;
@@ -183,15 +184,15 @@ impl<A: Allocator + Copy> Session<A> {
 
     /// Takes one copy of a record out, and then repairs each view. A view whose repair is refused memory becomes stale.
     ///
-    /// `Absent` comes exactly where there is no copy, unless memory runs out, and that is told only for the copy of
+    /// `Absent` comes exactly where there is no copy, unless memory runs out, which is reported only for the copy of
     /// the record that is searched for, never at width 3. A refusal changes nothing.
     pub fn remove(&mut self, row: &RecordRef<'_>) -> Result<Accepted, EditFault>
         requires { Fits self.old.genome self.old.track.width row.now }
         ensures there { OnOk result (0 < copies self.old.track.rows row.now) }
-        ensures ok { OnOk result (IsButStale (without_record self.old row.now) self.new) }
+        ensures ok { OnOk result (IsButStale (with_track self.old (without_record row.now)) self.new) }
         ensures steps { IfOk result (λ a. a.steps ≤ 8 + all_steps self.old.views self.old.track.rows row.now) }
         ensures stale { IfOk result (λ a. a.stale ≡ stale_count self.new.views) }
-        ensures why { IfErr result (RefusesRemove self.old.track row.now) }
+        ensures why { IfErr result (λ f. RefusesCopy self.old.track f ⊎ RefusesRemove self.old.track row.now f) }
         ensures err { OnErr result (self.new ≡ self.old) }
     {
         let record = row.to_record(self.alloc)?;
@@ -215,12 +216,12 @@ impl<A: Allocator + Copy> Session<A> {
         requires old { Fits self.old.genome self.old.track.width old.now }
         requires new { Fits self.old.genome self.old.track.width new.now }
         ensures there { OnOk result (0 < copies self.old.track.rows old.now) }
-        ensures ok { OnOk result (IsButStale (with_replaced self.old old.now new.now) self.new) }
+        ensures ok { OnOk result (IsButStale (with_track self.old (with_replaced old.now new.now)) self.new) }
         ensures steps { IfOk result (λ a. a.steps ≤ 8
             + all_steps self.old.views (added self.old.track.rows new.now) new.now
             + all_steps self.old.views (added self.old.track.rows new.now) old.now) }
         ensures stale { IfOk result (λ a. a.stale ≡ stale_count self.new.views) }
-        ensures why { IfErr result (RefusesReplace self.old.track old.now new.now) }
+        ensures why { IfErr result (λ f. RefusesCopy self.old.track f ⊎ RefusesReplace self.old.track old.now new.now f) }
         ensures err { OnErr result (self.new ≡ self.old) }
     {
         let before = old.to_record(self.alloc)?;
@@ -283,10 +284,10 @@ impl<A: Allocator + Copy> Session<A> {
     pub fn add_second(&mut self, row: &RecordRef<'_>) -> Result<Accepted, EditFault>
         requires { FitsSecond self.old row.now }
         ensures room { OnOk result (IsSomeAnd self.old.second (λ t. length t.rows < t.limit)) }
-        ensures ok { OnOk result (self.new ≡ with_second_record self.old row.now) }
+        ensures ok { OnOk result (self.new ≡ with_second self.old (with_record row.now)) }
         ensures steps { IfOk result (λ a. a.steps ≤ 16) }
         ensures stale { IfOk result (λ a. a.stale ≡ stale_count self.new.views) }
-        ensures why { IfErr result (λ f. IsSomeAnd self.old.second (λ t. RefusesAdd t row.now f)) }
+        ensures why { IfErr result (λ f. IsSomeAnd self.old.second (λ t. RefusesCopy t f ⊎ RefusesAdd t row.now f)) }
         ensures err { OnErr result (self.new ≡ self.old) }
     {
         let record = row.to_record(self.alloc)?;
@@ -300,15 +301,15 @@ impl<A: Allocator + Copy> Session<A> {
 
     /// Takes one copy of a record out of the second file, which there is. No view becomes stale. At most 16 steps.
     ///
-    /// `Absent` comes exactly where there is no copy, unless memory runs out, and that is told only for the copy of
+    /// `Absent` comes exactly where there is no copy, unless memory runs out, which is reported only for the copy of
     /// the record that is searched for, never at width 3. A refusal changes nothing.
     pub fn remove_second(&mut self, row: &RecordRef<'_>) -> Result<Accepted, EditFault>
         requires { FitsSecond self.old row.now }
         ensures there { OnOk result (IsSomeAnd self.old.second (λ t. 0 < copies t.rows row.now)) }
-        ensures ok { OnOk result (self.new ≡ without_second_record self.old row.now) }
+        ensures ok { OnOk result (self.new ≡ with_second self.old (without_record row.now)) }
         ensures steps { IfOk result (λ a. a.steps ≤ 16) }
         ensures stale { IfOk result (λ a. a.stale ≡ stale_count self.new.views) }
-        ensures why { IfErr result (λ f. IsSomeAnd self.old.second (λ t. RefusesRemove t row.now f)) }
+        ensures why { IfErr result (λ f. IsSomeAnd self.old.second (λ t. RefusesCopy t f ⊎ RefusesRemove t row.now f)) }
         ensures err { OnErr result (self.new ≡ self.old) }
     {
         let record = row.to_record(self.alloc)?;
@@ -333,10 +334,10 @@ impl<A: Allocator + Copy> Session<A> {
         requires old { FitsSecond self.old old.now }
         requires new { FitsSecond self.old new.now }
         ensures there { OnOk result (IsSomeAnd self.old.second (λ t. 0 < copies t.rows old.now)) }
-        ensures ok { OnOk result (self.new ≡ with_second_replaced self.old old.now new.now) }
+        ensures ok { OnOk result (self.new ≡ with_second self.old (with_replaced old.now new.now)) }
         ensures steps { IfOk result (λ a. a.steps ≤ 16) }
         ensures stale { IfOk result (λ a. a.stale ≡ stale_count self.new.views) }
-        ensures why { IfErr result (λ f. IsSomeAnd self.old.second (λ t. RefusesReplace t old.now new.now f)) }
+        ensures why { IfErr result (λ f. IsSomeAnd self.old.second (λ t. RefusesCopy t f ⊎ RefusesReplace t old.now new.now f)) }
         ensures err { OnErr result (self.new ≡ self.old) }
     {
         let before = old.to_record(self.alloc)?;

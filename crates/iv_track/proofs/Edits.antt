@@ -5,7 +5,10 @@ use Rattle.std.proofs.lemmas.List.Elements.{All-from_recursion, recursion_from_A
 use Rattle.iv_text.specs.Ordered.{copies, added, AreInOrder}
 use Rattle.iv_text.specs.Row.{Row, row_cmp, rows_total}
 use Rattle.iv_text.proofs.OrderedLemmas.{all-added, in_order-added, copies-added, rows-alone}
-use Rattle.iv_track.specs.Tracked.{removed}
+use Rattle.iv_track.specs.Edits.{RefusesRemove}
+use Rattle.iv_track.specs.Tracked.{Tracked, removed}
+use Rattle.iv_track.specs.declared.fault.EditFault.{EditFault}
+use Rattle.iv_track.specs.declared.fault.EditFault.TheVariants as fault
 use Rattle.iv_track.proofs.Counts.{all-removed, in_order-removed, copies-removed}
 
 -- what holds of all records, and of one more
@@ -21,3 +24,9 @@ pub added-removed : (rows : List Row) (r : Row) → AreInOrder rows → 0 < copi
 added-removed rows r order there =
     rows-alone rows (added (removed rows r) r) order (in_order-added row_cmp rows_total (removed rows r) r (in_order-removed row_cmp rows r order))
     (λ q. omega (arith, copies-added row_cmp (removed rows r) r q, copies-removed row_cmp rows_total rows r q there))
+
+-- whatever the fault of a removal is, the record is not there
+pub refused-absent : (t : Tracked) (r : Row) (f : EditFault) → RefusesRemove t r f → copies t.rows r ≡ 0
+refused-absent t r fault.Absent why = why
+refused-absent t r fault.Full why = elim why [ ]
+refused-absent t r fault.NoMemory why = elim why [ ]

@@ -1,5 +1,6 @@
 pub mod Copies
 pub mod Counted
+pub mod Edits
 pub mod Entries
 pub mod Fault
 pub mod Steps

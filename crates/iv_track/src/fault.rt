@@ -1,90 +1,45 @@
 //! Faults of a track's edits, by their numbers.
 ghost use Rattle.std.specs.Prelude.{◌≡◌, ◌≤◌};
-ghost use Rattle.iv_track.specs.Fault.{add_code, replace_code};
+ghost use Rattle.iv_track.specs.Fault.{edit_code};
 
 use std::alloc::AllocError;
 use thiserror::Error;
 
-/// Why a record is not added.
+/// Why an edit of a track is refused.
 #[derive(Clone, Copy, Debug, PartialEq, Eq, Error)]
-pub enum AddFault {
-    /// E12: the track holds its limit.
+pub enum EditFault {
+    /// E11: the track has no copy of the record that is to be removed or replaced.
+    #[error("no such record")]
+    Absent,
+    /// E12: the track holds as many records as its limit.
     #[error("track is full")]
     Full,
-    /// E22: memory was refused.
+    /// E22: out of memory.
     #[error("no memory")]
     NoMemory,
 }
 
-impl From<AllocError> for AddFault {
+impl From<AllocError> for EditFault {
     ghost use Rattle.std.specs.Prelude.{◌≡◌};
-    ghost use Rattle.iv_track.specs.declared.fault.AddFault.TheVariants.{NoMemory};
+    ghost use Rattle.iv_track.specs.declared.fault.EditFault.TheVariants.{NoMemory};
 
-    ghost from_gives = { λ _ e. e ≡ NoMemory };
+    ghost from_gives = { λ _ fault. fault ≡ NoMemory };
 
-    fn from(_: AllocError) -> AddFault {
-        AddFault::NoMemory
+    fn from(_: AllocError) -> EditFault {
+        EditFault::NoMemory
     }
 }
 
-impl AddFault {
-    /// Its number in the table of faults: 12 or 22.
+impl EditFault {
+    /// Its number in the table of faults: 11, 12 or 22.
     pub fn code(&self) -> u8
-        ensures value { result ≡ add_code self.now }
+        ensures value { result ≡ edit_code self.now }
         ensures known { (1 ≤ result) × (result ≤ 24) }
     {
         match self {
-            AddFault::Full => 12,
-            AddFault::NoMemory => 22,
-        }
-    }
-}
-
-/// E11: no copy of the record is there.
-#[derive(Clone, Copy, Debug, PartialEq, Eq, Error)]
-#[error("no such record")]
-pub struct NotThere;
-
-impl NotThere {
-    /// Its number in the table of faults: 11.
-    pub fn code(&self) -> u8
-        ensures { result ≡ 11 }
-    {
-        11
-    }
-}
-
-/// Why a record is not replaced.
-#[derive(Clone, Copy, Debug, PartialEq, Eq, Error)]
-pub enum ReplaceFault {
-    /// E11: no copy of the old record is there.
-    #[error("no such record")]
-    NotThere,
-    /// E22: memory was refused.
-    #[error("no memory")]
-    NoMemory,
-}
-
-impl From<AllocError> for ReplaceFault {
-    ghost use Rattle.std.specs.Prelude.{◌≡◌};
-    ghost use Rattle.iv_track.specs.declared.fault.ReplaceFault.TheVariants.{NoMemory};
-
-    ghost from_gives = { λ _ e. e ≡ NoMemory };
-
-    fn from(_: AllocError) -> ReplaceFault {
-        ReplaceFault::NoMemory
-    }
-}
-
-impl ReplaceFault {
-    /// Its number in the table of faults: 11 or 22.
-    pub fn code(&self) -> u8
-        ensures value { result ≡ replace_code self.now }
-        ensures known { (1 ≤ result) × (result ≤ 24) }
-    {
-        match self {
-            ReplaceFault::NotThere => 11,
-            ReplaceFault::NoMemory => 22,
+            EditFault::Absent => 11,
+            EditFault::Full => 12,
+            EditFault::NoMemory => 22,
         }
     }
 }

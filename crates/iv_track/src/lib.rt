@@ -7,7 +7,7 @@ mod ledger;
 mod meter;
 mod track;
 
-pub use fault::{AddFault, NotThere, ReplaceFault};
+pub use fault::EditFault;
 pub use ledger::{Ledger, Walk};
 pub use meter::Meter;
 pub use track::{Rows, Track};

@@ -1,15 +1,16 @@
 //! A track.
-ghost use Rattle.std.specs.Prelude.{◌≡◌, ◌+◌, ◌-◌, ◌^◌, ◌<◌, ◌≤◌, ◌↔◌, [], length, Some, None, IfOk, OnOk, OnErr, All, option_map, vec_len};
+ghost use Rattle.std.specs.Prelude.{◌≡◌, ◌+◌, ◌-◌, ◌^◌, ◌<◌, ◌≤◌, [], length, Some, None, IfOk, IfErr, OnOk, OnErr, All, option_map, vec_len};
 ghost use Rattle.std.specs.Map.Iter.{deref_pair};
 ghost use Rattle.std.specs.List.{filter};
 ghost use Rattle.std.specs.Iterator.{YieldsFirstRef};
 ghost use Rattle.iv_text.specs.Row.{Row, row_cmp};
-ghost use Rattle.iv_text.specs.Ordered.{AreInOrder, copies, added, ordered};
+ghost use Rattle.iv_text.specs.Ordered.{AreInOrder, copies, ordered};
+ghost use Rattle.iv_track.specs.Edits.{RefusesAdd, RefusesRemove, RefusesReplace, with_record, without_record, with_replaced};
 ghost use Rattle.iv_track.specs.Steps.{TakesUpTo};
 ghost use Rattle.iv_track.specs.Tracked.{BeginsFrom, most_records};
 
 use crate::counted::Counted;
-use crate::fault::{AddFault, NotThere, ReplaceFault};
+use crate::fault::EditFault;
 use crate::ledger::{Ledger, Walk};
 use crate::meter::Meter;
 use iv_text::Record;
@@ -40,7 +41,7 @@ impl<A: Allocator + Copy> Model for Track<A> {
 }
 
 impl<A: Allocator + Copy> Track<A> {
-    ghost use Rattle.iv_track.specs.Tracked.{Tracked, removed, next_from, next_after, is_from};
+    ghost use Rattle.iv_track.specs.Tracked.{Tracked, next_from, next_after, is_from};
 
     /// A track without a record; nothing grows. It keeps the allocator for its records.
     ///
@@ -136,7 +137,7 @@ impl<A: Allocator + Copy> Track<A> {
     pub fn stage(&mut self, row: Record<A>, meter: &mut Meter) -> Result<(), AllocError>
         requires room { length self.old.rows ≤ self.old.limit }
         requires width { row.width ≡ self.old.width }
-        ensures ok { OnOk result (self.new ≡ record self.old { rows = added self.old.rows row }) }
+        ensures ok { OnOk result (self.new ≡ with_record row self.old) }
         ensures memory { OnErr result (copies self.old.rows row ≡ 0) }
         ensures err { OnErr result (self.new ≡ self.old) }
         ensures steps { TakesUpTo meter.old meter.new 3 }
@@ -154,16 +155,16 @@ impl<A: Allocator + Copy> Track<A> {
     ///
     /// E12 exactly where the track holds its limit or more, else E22, and that only for a record without a
     /// copy. The track is unchanged.
-    pub fn add(&mut self, row: Record<A>, meter: &mut Meter) -> Result<(), AddFault>
+    pub fn add(&mut self, row: Record<A>, meter: &mut Meter) -> Result<(), EditFault>
         requires { row.width ≡ self.old.width }
-        ensures ok { OnOk result (self.new ≡ record self.old { rows = added self.old.rows row }) }
-        ensures full { (result ≡ Err AddFault.Full) ↔ (self.old.limit ≤ length self.old.rows) }
-        ensures memory { result ≡ Err AddFault.NoMemory → copies self.old.rows row ≡ 0 }
+        ensures room { OnOk result (length self.old.rows < self.old.limit) }
+        ensures ok { OnOk result (self.new ≡ with_record row self.old) }
+        ensures why { IfErr result (RefusesAdd self.old row) }
         ensures err { OnErr result (self.new ≡ self.old) }
         ensures steps { TakesUpTo meter.old meter.new 8 }
     {
         if self.len >= self.limit {
-            return Err(AddFault::Full);
+            return Err(EditFault::Full);
         }
         self.stage(row, meter)?;
         Ok(())
@@ -212,16 +213,16 @@ impl<A: Allocator + Copy> Track<A> {
     /// # Errors
     ///
     /// E11 exactly where no copy is there. The track is unchanged.
-    pub fn remove(&mut self, row: &Record<A>, meter: &mut Meter) -> Result<(), NotThere>
-        ensures ok { OnOk result (self.new ≡ record self.old { rows = removed self.old.rows row.now }) }
-        ensures found { OnOk result (0 < copies self.old.rows row.now) }
-        ensures absent { OnErr result (copies self.old.rows row.now ≡ 0) }
+    pub fn remove(&mut self, row: &Record<A>, meter: &mut Meter) -> Result<(), EditFault>
+        ensures there { OnOk result (0 < copies self.old.rows row.now) }
+        ensures ok { OnOk result (self.new ≡ without_record row.now self.old) }
+        ensures why { IfErr result (RefusesRemove self.old row.now) }
         ensures err { OnErr result (self.new ≡ self.old) }
         ensures was_ordered { AreInOrder self.old.rows }
         ensures steps { TakesUpTo meter.old meter.new 3 }
     {
         let Some(count) = self.ledger.get(row, meter).copied() else {
-            return Err(NotThere);
+            return Err(EditFault::Absent);
         };
         if count == 1 {
             self.ledger.take(row, meter);
@@ -245,17 +246,17 @@ impl<A: Allocator + Copy> Track<A> {
         old: &Record<A>,
         new: Record<A>,
         meter: &mut Meter,
-    ) -> Result<(), ReplaceFault>
+    ) -> Result<(), EditFault>
         requires room { length self.old.rows ≤ self.old.limit }
         requires width { new.width ≡ self.old.width }
-        ensures ok { OnOk result (self.new ≡ record self.old { rows = added (removed self.old.rows old.now) new }) }
-        ensures absent { (result ≡ Err ReplaceFault.NotThere) ↔ (copies self.old.rows old.now ≡ 0) }
-        ensures memory { result ≡ Err ReplaceFault.NoMemory → copies self.old.rows new ≡ 0 }
+        ensures there { OnOk result (0 < copies self.old.rows old.now) }
+        ensures ok { OnOk result (self.new ≡ with_replaced old.now new self.old) }
+        ensures why { IfErr result (RefusesReplace self.old old.now new) }
         ensures err { OnErr result (self.new ≡ self.old) }
         ensures steps { TakesUpTo meter.old meter.new 8 }
     {
         if self.copies(old, meter) == 0 {
-            return Err(ReplaceFault::NotThere);
+            return Err(EditFault::Absent);
         }
         self.stage(new, meter)?;
         match self.remove(old, meter) {

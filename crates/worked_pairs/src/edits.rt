@@ -3,7 +3,7 @@ use crate::fixtures::{SIZES, genome, second_within};
 use crate::hits::hits_are;
 use iv_pair::Second;
 use iv_text::{Genome, Record, read_record};
-use iv_track::{AddFault, Meter, ReplaceFault};
+use iv_track::{EditFault, Meter};
 use refusing::{RefusesNth, refuse_each};
 use std::alloc::{Allocator, Global};
 use std::test::Fail;
@@ -19,14 +19,8 @@ enum Edit<'a> {
     Replace(&'a [u8], &'a [u8]),
 }
 
-/// What became of it.
-#[derive(Clone, Copy, PartialEq, Eq)]
-enum Answer {
-    Done,
-    Absent,
-    Full,
-    NoMemory,
-}
+/// What an edit answers.
+type Answer = Result<(), EditFault>;
 
 /// The record of a line, of the second file's width.
 fn record<A: Allocator + Copy>(
@@ -45,22 +39,7 @@ fn add<A: Allocator + Copy>(
     if row.width() != second.width() {
         return Err(Fail::new("another width"));
     }
-    match second.add(row, meter) {
-        Ok(()) => Ok(Answer::Done),
-        Err(AddFault::Full) => Ok(Answer::Full),
-        Err(AddFault::NoMemory) => Ok(Answer::NoMemory),
-    }
-}
-
-fn remove<A: Allocator + Copy>(
-    second: &mut Second<A>,
-    row: &Record<A>,
-    meter: &mut Meter,
-) -> Answer {
-    match second.remove(row, meter) {
-        Ok(()) => Answer::Done,
-        Err(_) => Answer::Absent,
-    }
+    Ok(second.add(row, meter))
 }
 
 fn replace<A: Allocator + Copy>(
@@ -72,14 +51,10 @@ fn replace<A: Allocator + Copy>(
     if new.width() != second.width() {
         return Err(Fail::new("another width"));
     }
-    match second.replace(old, new, meter) {
-        Ok(()) => Ok(Answer::Done),
-        Err(ReplaceFault::NotThere) => Ok(Answer::Absent),
-        Err(ReplaceFault::NoMemory) => Ok(Answer::NoMemory),
-    }
+    Ok(second.replace(old, new, meter))
 }
 
-/// What an edit answers.
+/// Does an edit, and gives its answer.
 fn answer_to<A: Allocator + Copy>(
     alloc: A,
     genome: &Genome<A>,
@@ -89,7 +64,7 @@ fn answer_to<A: Allocator + Copy>(
     let mut meter = Meter::new();
     match edit {
         Edit::Add(line) => add(second, record(alloc, genome, line)?, &mut meter),
-        Edit::Remove(line) => Ok(remove(second, &record(alloc, genome, line)?, &mut meter)),
+        Edit::Remove(line) => Ok(second.remove(&record(alloc, genome, line)?, &mut meter)),
         Edit::Replace(old, new) => {
             let old = record(alloc, genome, old)?;
             let new = record(alloc, genome, new)?;
@@ -119,20 +94,20 @@ fn edits_at_the_limit(rt: HostRuntime) -> Result<(), Fail> {
     let text = b"chr1\t10\t20\nchr1\t30\t40\n";
     let mut second = second_within(rt.alloc(), &genome, 2, text)??;
     let wanted = [
-        (Edit::Add(b"chr1\t1\t2"), Answer::Full, 2),
+        (Edit::Add(b"chr1\t1\t2"), Err(EditFault::Full), 2),
         (
             Edit::Replace(b"chr1\t10\t20", b"chr1\t0\t50"),
-            Answer::Done,
+            Ok(()),
             2,
         ),
         (
             Edit::Replace(b"chr1\t10\t20", b"chr1\t0\t50"),
-            Answer::Absent,
+            Err(EditFault::Absent),
             2,
         ),
-        (Edit::Remove(b"chr1\t10\t20"), Answer::Absent, 2),
-        (Edit::Remove(b"chr1\t30\t40"), Answer::Done, 1),
-        (Edit::Add(b"chr1\t45\t46"), Answer::Done, 2),
+        (Edit::Remove(b"chr1\t10\t20"), Err(EditFault::Absent), 2),
+        (Edit::Remove(b"chr1\t30\t40"), Ok(()), 1),
+        (Edit::Add(b"chr1\t45\t46"), Ok(()), 2),
     ];
     assert!(rt; all_answer(&rt, &mut second, &wanted)?);
     assert!(rt; hits_are(&second, 0, 45, 46, &[(0, 50), (45, 46)]));
@@ -154,15 +129,15 @@ fn refused_edit<'a>(
 ) -> Result<u32, Fail> {
     let before = second.len();
     match answer_to(alloc, genome, second, edit)? {
-        Answer::Done => return Ok(0),
-        Answer::NoMemory => {}
+        Ok(()) => return Ok(0),
+        Err(EditFault::NoMemory) => {}
         _ => return Err(Fail::new("another answer")),
     }
     if second.len() != before {
         return Err(Fail::new("changed by a refused edit"));
     }
     match answer_to(alloc, genome, second, edit)? {
-        Answer::Done => Ok(1),
+        Ok(()) => Ok(1),
         _ => Err(Fail::new("refused twice")),
     }
 }

@@ -4,13 +4,14 @@ use Rattle.iv_text.specs.Ordered.{copies, added}
 use Rattle.iv_track.specs.Tracked.{Tracked, removed}
 use Rattle.iv_text.proofs.OrderedLemmas.{copies-added, length-added}
 use Rattle.iv_track.proofs.Counts.{length-removed, removed-added}
+use Rattle.iv_track.proofs.Edits.{refused-absent}
 use Rattle.iv_text.proofs.RowLemmas.{rows_exact}
 use Rattle.iv_pair.proofs.second.Second.replace.Goals as goal
 
 pub unreachable-requires : goal.unreachable-requires
 unreachable-requires g c =
     let rows = c.self.inside.track.rows in
-    let none : copies (added rows c.args.new) c.args.old.now ≡ 0 = ap (λ (t : Tracked). copies t.rows c.args.old.now) (sym c.in_ok-stage.ensures.ok) ∙ c.in-Err.ensures.absent in
+    let none : copies (added rows c.args.new) c.args.old.now ≡ 0 = ap (λ (t : Tracked). copies t.rows c.args.old.now) (sym c.in_ok-stage.ensures.ok) ∙ refused-absent c.stage.new.track c.args.old.now _ c.in-Err.ensures.why in
     omega (arith, none, copies-added row_cmp rows c.args.new c.args.old.now, c.copies.ensures.value, c.if-copies-eq0.false)
 
 pub invariant_of-self-2 : goal.invariant_of-self-2
@@ -19,7 +20,7 @@ invariant_of-self-2 g c = record {
   few = subst (λ (t : Tracked). length t.rows ≤ t.limit) (sym c.in-Ok.ensures.ok)
       (omega (
         arith,
-        length-removed row_cmp c.stage.new.track.rows c.args.old.now c.in-Ok.ensures.found,
+        length-removed row_cmp c.stage.new.track.rows c.args.old.now c.in-Ok.ensures.there,
         ap (λ (t : Tracked). length t.rows) c.in_ok-stage.ensures.ok,
         ap (λ (t : Tracked). t.limit) c.in_ok-stage.ensures.ok,
         length-added row_cmp c.self.inside.track.rows c.args.new,

@@ -1,27 +1,17 @@
 use Rattle.std.specs.Prelude.{All}
-use Rattle.std.proofs.Common.{◌≡◌, ◌≤◌, ◌∙◌, length, arith, sym, ap, subst}
+use Rattle.std.proofs.Common.{◌≡◌, ◌≤◌, ◌∙◌, inr, arith, sym, ap, subst}
 use Rattle.std.proofs.lemmas.Result.{err_from_is_err_and}
 use Rattle.iv_text.specs.Ordered.{added, copies}
 use Rattle.iv_text.specs.Read.{Fits}
 use Rattle.iv_text.specs.Row.{Row}
 use Rattle.iv_track.specs.Tracked.{Tracked}
-use Rattle.iv_track.specs.declared.fault.AddFault.{AddFault}
-use Rattle.iv_track.specs.declared.fault.AddFault.TheVariants as adding
-use Rattle.iv_state.specs.Edits.{RefusesAdd, fault_of_add}
 use Rattle.iv_state.specs.Keeping.{all_seen}
 use Rattle.iv_state.specs.OpenViews.{all_steps}
-use Rattle.iv_state.specs.States.{State, IsTrackOn, one_more}
+use Rattle.iv_track.specs.Edits.{RefusesAdd, with_record}
+use Rattle.iv_state.specs.States.{State, IsTrackOn}
 use Rattle.iv_state.specs.declared.session.Accepted.{Accepted}
-use Rattle.iv_state.proofs.SessionLemmas.{answers, below-unless, edited, refused-add, fit-added, track-added, served-stales}
+use Rattle.iv_state.proofs.SessionLemmas.{edited, fit-added, track-added, served-stales}
 use Rattle.iv_state.proofs.session.Session.add.Goals as goal
-
--- what the track refuses is refused for the same reason
-refused : (inside s : State) (copied r : Row) (told : AddFault) → inside ≡ s → copied ≡ r
-    → (answers told ≡ answers adding.Full → inside.track.limit ≤ length inside.track.rows) × (inside.track.limit ≤ length inside.track.rows → answers told ≡ answers adding.Full)
-    → (answers told ≡ answers adding.NoMemory → copies inside.track.rows copied ≡ 0) → RefusesAdd s.track r (fault_of_add told)
-refused inside s copied r told same is full memory =
-    subst (λ (t : State). RefusesAdd t.track r (fault_of_add told)) same
-    (subst (λ (q : Row). RefusesAdd inside.track q (fault_of_add told)) is (refused-add inside.track copied told full memory))
 
 pub added-requires-clause-right : goal.added-requires-clause-right
 added-requires-clause-right g c = record {
@@ -53,7 +43,7 @@ invariant_of-self-2 g c =
       record {
         track_is = subst (IsTrackOn inside.genome) (sym c.in_ok-add.ensures.ok)
             (track-added inside.genome inside.track c.in_ok-record.record c.self.invariant.0.track_is fits
-            (below-unless (length inside.track.rows) inside.track.limit _ _ c.in_ok-add.ensures.full.1 (λ e. cc)));
+            c.in_ok-add.ensures.room);
         second_is = c.self.invariant.0.second_is;
         served = served-stales inside.second _ _ c.added.ensures.stales c.self.invariant.0.served;
       },
@@ -62,7 +52,7 @@ invariant_of-self-2 g c =
 
 pub returns-clause-ok : goal.returns-clause-ok
 returns-clause-ok g c =
-    edited (λ t. one_more t c.args.row.now) _ _ c.add.new.self _ c.self.view_is
+    edited (with_record c.args.row.now) _ _ c.add.new.self _ c.self.view_is
     (c.in_ok-add.ensures.ok ∙ ap (λ (r : Row). record c.self.inside.track { rows = added c.self.inside.track.rows r }) c.in_ok-record.ensures.ok)
     c.added.ensures.stales
 
@@ -82,5 +72,7 @@ returns-clause-stale g c = ap (λ (a : Accepted). a.stale) c.of.ensures
 pub returns-in_err-add-clause-why : goal.returns-in_err-add-clause-why
 returns-in_err-add-clause-why g c =
     let p = err_from_is_err_and c.from_residual-in_err-add.result c.from_residual-in_err-add.ensures.1 in
-    let e = c.in_err-add.ensures in
-    rw (p.1, p.2) (refused _ _ _ _ c.in_err-add.field-0.0 c.self.view_is c.in_ok-record.ensures.ok e.full e.memory)
+    let told = c.in_err-add.field-0.0 in
+    rw (p.1, p.2) (inr
+    (subst (λ (s : State). RefusesAdd s.track c.args.row.now told) c.self.view_is
+    (subst (λ (r : Row). RefusesAdd c.self.inside.track r told) c.in_ok-record.ensures.ok c.in_err-add.ensures.why)))

@@ -8,8 +8,10 @@ use Rattle.iv_text.specs.Row.{Row}
 use Rattle.iv_track.specs.Tracked.{Tracked, removed}
 use Rattle.iv_state.specs.Keeping.{AreRight, all_seen}
 use Rattle.iv_state.specs.OpenViews.{all_steps}
-use Rattle.iv_state.specs.States.{State, exchanged}
+use Rattle.iv_track.specs.Edits.{with_replaced}
+use Rattle.iv_state.specs.States.{State}
 use Rattle.iv_state.specs.declared.session.Accepted.{Accepted}
+use Rattle.iv_track.proofs.Edits.{refused-absent}
 use Rattle.iv_state.proofs.OpenViewLemmas.{stales-trans, stales-steps}
 use Rattle.iv_state.proofs.SessionLemmas.{edited, fit-added, replaced-in, served-stales, staged-there}
 use Rattle.iv_state.proofs.session.Session.replace.Goals as goal
@@ -37,7 +39,7 @@ pub unreachable-requires : goal.unreachable-requires
 unreachable-requires g c =
     let there : 0 < copies c.self.inside.track.rows c.in_ok-before.before = omega (arith, c.copies.ensures.value) in
     let again = staged-there c.self.inside.track c.stage.new.self c.in_ok-before.before c.in_ok-after.after there c.in_ok-stage.ensures.ok in
-    omega (arith, again, c.in_default.ensures.absent)
+    omega (arith, again, refused-absent c.stage.new.self c.in_ok-before.before _ c.in_default.ensures.why)
 
 pub removed-requires-clause-right : goal.removed-requires-clause-right
 removed-requires-clause-right g c =
@@ -79,7 +81,7 @@ returns-clause-ok g c =
     let there : 0 < copies c.self.inside.track.rows c.in_ok-before.before = omega (arith, c.copies.ensures.value) in
     let whole = replaced-in _ _ _ _ _ _ _ _ c.self.view_is c.in_ok-before.ensures.ok c.in_ok-after.ensures.ok c.self.invariant.0.track_is c.copies.ensures.ordered there c.requires.new
     c.in_ok-stage.ensures.ok c.in-Ok.ensures.ok in
-    edited (λ t. exchanged t c.args.old.now c.args.new.now) _ _ c.remove.new.self _ c.self.view_is whole.is
+    edited (with_replaced c.args.old.now c.args.new.now) _ _ c.remove.new.self _ c.self.view_is whole.is
     (stales-trans _ _ _ c.added.ensures.stales c.removed.ensures.stales)
 
 pub returns-clause-steps : goal.returns-clause-steps

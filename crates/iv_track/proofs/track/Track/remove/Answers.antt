@@ -10,8 +10,8 @@ use Rattle.iv_track.proofs.track.Track.remove.Given as given
 use Rattle.iv_track.proofs.track.Track.remove.Goals as goal
 use Rattle.iv_track.proofs.track.Track.remove.Goals.{then-count-eq1, else-count-eq1}
 
-pub returns-in_default-clause-absent : goal.returns-in_default-clause-absent
-returns-in_default-clause-absent g c =
+pub returns-in_default-clause-why : goal.returns-in_default-clause-why
+returns-in_default-clause-why g c =
     let i = c.self.inside in
     ap (λ (t : Tracked). copies t.rows c.args.row.now) (sym c.self.view_is)
     ∙ count_here i.ledger i.len i.width i.limit c.args.row.now c.self.invariant
@@ -73,8 +73,8 @@ returns-clause-ok g c =
     (λ k. with (d.0.rows k) (d.2 k) (d.3 k))
     ∙ ap (λ (t : Tracked). record t { rows = removed t.rows c.args.row.now }) c.self.view_is
 
-pub returns-clause-found : goal.returns-clause-found
-returns-clause-found g c =
+pub returns-clause-there : goal.returns-clause-there
+returns-clause-there g c =
     let i = c.self.inside in
     let count : value_at row_cmp i.ledger c.args.row.now ≡ Some c.in-Some.count = sym c.get.ensures.value ∙ sym c.copied.ensures ∙ c.in-Some.is in
     subst (λ (t : Tracked). 0 < copies t.rows c.args.row.now) c.self.view_is

@@ -4,13 +4,14 @@ use Rattle.iv_text.specs.Ordered.{copies, added}
 use Rattle.iv_track.specs.Tracked.{Tracked, removed}
 use Rattle.iv_text.proofs.OrderedLemmas.{copies-added}
 use Rattle.iv_track.proofs.Counts.{removed-added}
+use Rattle.iv_track.proofs.Edits.{refused-absent}
 use Rattle.iv_text.proofs.RowLemmas.{rows_exact}
 use Rattle.iv_track.proofs.track.Track.replace.Goals as goal
 
 pub unreachable-requires : goal.unreachable-requires
 unreachable-requires g c =
     let rows = c.args.self.now.rows in
-    let none : copies (added rows c.args.new) c.args.old.now ≡ 0 = ap (λ (t : Tracked). copies t.rows c.args.old.now) (sym c.in_ok-stage.ensures.ok) ∙ c.in-Err.ensures.absent in
+    let none : copies (added rows c.args.new) c.args.old.now ≡ 0 = ap (λ (t : Tracked). copies t.rows c.args.old.now) (sym c.in_ok-stage.ensures.ok) ∙ refused-absent c.stage.new.self c.args.old.now _ c.in-Err.ensures.why in
     omega (arith, none, copies-added row_cmp rows c.args.new c.args.old.now, c.copies.ensures.value, c.if-copies-eq0.false)
 
 pub returns-clause-ok : goal.returns-clause-ok

@@ -1,0 +1,39 @@
+-- A track after an edit, and why an edit is refused.
+use Rattle.std.specs.Prelude.{◌≡◌, ◌<◌, ◌≤◌, length}
+use Rattle.iv_text.specs.Ordered.{added, copies}
+use Rattle.iv_text.specs.Row.{Row}
+use Rattle.iv_track.specs.Tracked.{Tracked, removed}
+use Rattle.iv_track.specs.declared.fault.EditFault.{EditFault}
+use Rattle.iv_track.specs.declared.fault.EditFault.TheVariants as fault
+
+-- the track with one more record, in its place in the order
+abbrev pub with_record : Row → Tracked → Tracked
+with_record r t = record t { rows = added t.rows r }
+
+-- the track with one copy of a record less
+abbrev pub without_record : Row → Tracked → Tracked
+without_record r t = record t { rows = removed t.rows r }
+
+-- the track with one copy of r less, and one more of q
+abbrev pub with_replaced : Row → Row → Tracked → Tracked
+with_replaced r q t = with_record q (without_record r t)
+
+-- why a record is not added to a track: it holds its limit; or memory ran out, for it grows only below its limit, and only for
+-- a record that is not there
+abbrev pub RefusesAdd : Tracked → Row → EditFault → Type 0
+RefusesAdd t r fault.Absent = ⊥
+RefusesAdd t r fault.Full = t.limit ≤ length t.rows
+RefusesAdd t r fault.NoMemory = (length t.rows < t.limit) × (copies t.rows r ≡ 0)
+
+-- why a record is not removed from a track: it is not there
+abbrev pub RefusesRemove : Tracked → Row → EditFault → Type 0
+RefusesRemove t r fault.Absent = copies t.rows r ≡ 0
+RefusesRemove t r fault.Full = ⊥
+RefusesRemove t r fault.NoMemory = ⊥
+
+-- why r is not replaced by q in a track: r is not there; or memory ran out, for the track grows only where r is there, and only
+-- for a q that is not
+abbrev pub RefusesReplace : Tracked → Row → Row → EditFault → Type 0
+RefusesReplace t r q fault.Absent = copies t.rows r ≡ 0
+RefusesReplace t r q fault.Full = ⊥
+RefusesReplace t r q fault.NoMemory = (0 < copies t.rows r) × (copies t.rows q ≡ 0)
