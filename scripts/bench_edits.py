@@ -2,7 +2,7 @@
 """Times edits of a session of bedkeep over a track of a million records.
 
     make build
-    python3 scripts/bench_edits.py [FOLDER] [--view WORDS ..] [--records N] [--columns N ..] [--edits N]
+    python3 scripts/bench_edits.py [FOLDER] [--of WHAT] [--view WORDS ..] [--records N] [--columns N ..] [--edits N]
 
 Writes a genome file, a BED file and two scripts into FOLDER (a temporary
 folder where none is given), the same bytes each time. One script opens
@@ -10,6 +10,10 @@ views and nothing else; the other opens them and then adds a number of records a
 removes them again, in another order. The time of an edit is the difference of
 the two runs. At the end both print the views, and the script stops with
 status 1 where what they print differs.
+
+The edits are those of the track, or, with `--of second`, of a second file that
+has the same records. With `--of lengths` they make the first sequence longer and
+then as long as it was: first N times longer by one base, and then N times shorter.
 """
 
 import argparse
@@ -34,7 +38,7 @@ def main():
         sys.exit(f"{wanted.program} is not there: run `make build` first")
     if wanted.records + wanted.edits > MOST_RECORDS:
         sys.exit(f"a track takes at most {MOST_RECORDS:,} records, and the adds are {wanted.edits:,} of them")
-    print(f"{wanted.records:,} records, {wanted.edits:,} adds and {wanted.edits:,} removes, {wanted.runs} runs each, "
+    print(f"{wanted.records:,} records, {2 * wanted.edits:,} edits of the {wanted.of}, {wanted.runs} runs each, "
           f"{os.cpu_count()} processors, {platform.machine()}")
     print(f"Open views: {', '.join(wanted.view)}")
     print("| columns | without edits | with edits | edits a second |")
@@ -49,6 +53,7 @@ def main():
 def read_words():
     words = argparse.ArgumentParser(description=__doc__.splitlines()[0])
     words.add_argument("folder", nargs="?", help="where the data is written (default: a temporary folder)")
+    words.add_argument("--of", choices=["track", "second", "lengths"], default="track", help="what is edited")
     words.add_argument("--view", nargs="+", choices=VIEWS, default=["merge"], help="the views that are open")
     words.add_argument("--records", type=int, default=1_000_000)
     words.add_argument("--columns", type=int, nargs="+", choices=[3, 4, 5, 6], default=[3, 6])
@@ -62,10 +67,15 @@ def run_case(wanted, folder, columns):
     genome, track, idle, busy = (os.path.join(folder, name) for name in ("sizes", "sorted.bed", "idle", "busy"))
     write_data(genome, track, "merge", wanted.records, columns, "sorted")
     opened = "".join(f"open\tv{place}\t{view}\n" for place, view in enumerate(wanted.view))
-    write_edits(busy, opened, wanted.edits, columns)
     with open(idle, "w") as file:
         file.write(opened + "printall\n")
     words = [wanted.program, "session", "-g", genome, "-i", track]
+    if wanted.of == "lengths":
+        write_lengths(busy, opened, wanted.edits)
+    else:
+        write_edits(busy, opened, wanted.edits, columns, "b" if wanted.of == "second" else "")
+    if wanted.of == "second":
+        words += ["-b", track]
     if printed(words, idle) != printed(words, busy):
         sys.exit("what the scripts print differs")
     seconds = {idle: [], busy: []}
@@ -76,19 +86,28 @@ def run_case(wanted, folder, columns):
     print(f"| {columns} | {still * 1000:.0f} ms | {moved * 1000:.0f} ms | {2 * wanted.edits / (moved - still):,.0f} |", flush=True)
 
 
-def write_edits(script, opened, edits, columns):
+def write_lengths(script, opened, edits):
+    name, length = CHROMOSOMES[0]
+    with open(script, "w") as file:
+        file.write(opened)
+        file.writelines(f"resize\t{name}\t{length + more}\n" for more in range(1, edits + 1))
+        file.writelines(f"resize\t{name}\t{length + more}\n" for more in reversed(range(edits)))
+        file.write("printall\n")
+
+
+def write_edits(script, opened, edits, columns, file_word):
     chance = random.Random(SEED)
     # the same places as in the track, and others: some records get a copy
     rows = []
     for number, (rank, start, stop) in enumerate(places(edits)):
         shift = 0 if number % 2 else 7
-        beside = [f"gene_{number}", str(number % 1000), "+-"[number % 2]][:columns - 3]
-        rows.append("\t".join([CHROMOSOMES[rank][0], str(start + shift), str(stop + shift), *beside]))
+        others = [f"gene_{number}", str(number % 1000), "+-"[number % 2]][:columns - 3]
+        rows.append("\t".join([CHROMOSOMES[rank][0], str(start + shift), str(stop + shift), *others]))
     with open(script, "w") as file:
         file.write(opened)
-        file.writelines(f"add\t{row}\n" for row in rows)
+        file.writelines(f"add{file_word}\t{row}\n" for row in rows)
         chance.shuffle(rows)
-        file.writelines(f"remove\t{row}\n" for row in rows)
+        file.writelines(f"remove{file_word}\t{row}\n" for row in rows)
         file.write("printall\n")
 
 

@@ -27,6 +27,13 @@ returns-in_err-stage-clause-why g c =
     subst (λ (s : State). copies s.track.rows c.args.new.now ≡ 0) c.self.view_is (subst (λ (r : Row). copies inside.track.rows r ≡ 0) c.in_ok-after.ensures.ok c.in_err-stage.ensures.memory) in
     rw (p.1, p.2) (inr (first, none))
 
+pub returns-then-copies-eq0-clause-why : goal.returns-then-copies-eq0-clause-why
+returns-then-copies-eq0-clause-why g c =
+    let none : copies c.self.inside.track.rows c.in_ok-before.before ≡ 0 = omega (arith, c.copies.ensures.value, c.if-copies-eq0.true) in
+    inr
+    (subst (λ (s : State). copies s.track.rows c.args.old.now ≡ 0) c.self.view_is
+    (subst (λ (r : Row). copies c.self.inside.track.rows r ≡ 0) c.in_ok-before.ensures.ok none))
+
 pub added-requires-clause-fit : goal.added-requires-clause-fit
 added-requires-clause-fit g c =
     let inside = c.self.inside in
