@@ -4,3 +4,4 @@ pub mod HitsLemmas
 pub mod UncoveredLemmas
 pub mod LineLemmas
 mod YieldLemmas
+mod CarryLemmas

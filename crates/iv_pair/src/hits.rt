@@ -1,8 +1,9 @@
 //! The records that share a position with an interval.
-ghost use Rattle.std.specs.Prelude.{◌≡◌, ◌<◌, ◌^◌, length};
+ghost use Rattle.std.specs.Prelude.{◌≡◌, ◌<◌, ◌≤◌, ◌^◌, ◌++◌, length};
 ghost use Rattle.std.specs.Iterator.{YieldsFirstRef, item_count};
 ghost use Rattle.iv_text.specs.Ordered.{AreInOrder};
 ghost use Rattle.iv_track.specs.Tracked.{is_from};
+ghost use Rattle.iv_pair.specs.Finder.{held};
 ghost use Rattle.iv_pair.specs.Hits.{overlaps, hits};
 
 use iv_text::{BedRecord, Record};
@@ -15,6 +16,8 @@ use std::marker::Model;
 /// A record comes once for each of its copies. Its model is the list of the records that are left.
 #[derive(Drop)]
 pub struct Hits<'a, A: Allocator + Copy = Global> {
+    // Hits that stand before those of the walk.
+    carried: &'a [Option<&'a Record<A>>],
     rows: Rows<'a, A>,
     meter: Meter,
     seq: u32,
@@ -23,26 +26,35 @@ pub struct Hits<'a, A: Allocator + Copy = Global> {
 }
 
 impl<'a, A: Allocator + Copy> Model for Hits<'a, A> {
-    ghost use Rattle.std.specs.Prelude.{◌<◌, ◌^◌, List, length};
+    ghost use Rattle.std.specs.Prelude.{◌<◌, ◌≤◌, ◌^◌, ◌++◌, List, length};
     ghost use Rattle.iv_text.specs.Ordered.{AreInOrder};
     ghost use Rattle.iv_text.specs.Row.{Row};
+    ghost use Rattle.iv_pair.specs.Finder.{held};
     ghost use Rattle.iv_pair.specs.Hits.{hits};
 
     ghost Value = { List Row };
 
-    ghost view = { λ h. hits h.rows h.seq h.start h.stop };
+    ghost view = { λ h. held h.carried.now ++ hits h.rows h.seq h.start h.stop };
 
-    ghost invariant = { λ h. AreInOrder h.rows × (length h.rows < 2 ^ 32) };
+    ghost invariant = { λ h. AreInOrder h.rows × (length h.rows < 2 ^ 32) × (length h.carried.now ≤ 32) };
 }
 
 impl<'a, A: Allocator + Copy> Hits<'a, A> {
-    /// Those among the records of a walk.
-    pub(crate) fn of(rows: Rows<'a, A>, seq: u32, start: u64, stop: u64) -> Self
+    /// These, and behind them those among the records of a walk.
+    pub(crate) fn of(
+        carried: &'a [Option<&'a Record<A>>],
+        rows: Rows<'a, A>,
+        seq: u32,
+        start: u64,
+        stop: u64,
+    ) -> Self
         requires ordered { AreInOrder rows }
         requires few { length rows < 2 ^ 32 }
-        ensures { result ≡ hits rows.entry seq start stop }
+        requires few_carried { length carried.now ≤ 32 }
+        ensures { result ≡ held carried.now ++ hits rows.entry seq start stop }
     {
         Hits {
+            carried,
             rows,
             meter: Meter::new(),
             seq,
@@ -51,9 +63,9 @@ impl<'a, A: Allocator + Copy> Hits<'a, A> {
         }
     }
 
-    /// A law for callers' proofs: 32 bits count those that are left. The call does nothing.
+    /// A law for callers' proofs: 33 bits count those that are left. The call does nothing.
     pub(crate) fn law_of_few(&self)
-        ensures { length self.now < 2 ^ 32 }
+        ensures { length self.now < 2 ^ 33 }
     {
         // What is read has its invariant.
         let _seq = self.seq;
@@ -68,6 +80,12 @@ impl<'a, A: Allocator + Copy> Iterator for Hits<'a, A> {
     ghost remaining = { item_count (λ h. h) };
 
     fn next(&mut self) -> Option<&'a Record<A>> {
+        while let [slot, others @ ..] = self.carried {
+            self.carried = others;
+            if let Some(row) = slot {
+                return Some(*row);
+            }
+        }
         while let Some(row) = self.rows.next(&mut self.meter) {
             if overlaps(row, self.seq, self.start, self.stop) {
                 return Some(row);

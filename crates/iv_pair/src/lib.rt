@@ -2,6 +2,7 @@
 //! `iv_fasta` are passed on.
 #![tactic(auto)]
 
+mod carried;
 mod counted_edits;
 mod finder;
 mod hits;

@@ -27,7 +27,8 @@ pub fn print_pairs<A: Allocator + Copy, S: Sink>(
     let mut finder = Finder::of(second, meter);
     let mut walk = track.walk(0, 0, meter);
     while let Some(row) = walk.next(meter) {
-        let hits = finder.hits(row.seq(), row.start(), row.stop(), meter);
+        finder.seek(row.seq(), row.start(), row.stop(), meter);
+        let hits = finder.hits();
         hits.law_of_few();
         put_pair_rows(rows, genome, row, hits, sink)?;
     }

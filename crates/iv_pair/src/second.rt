@@ -164,8 +164,7 @@ impl<A: Allocator + Copy> Second<A> {
     {
         let mut meter = Meter::new();
         let from = first_start(start, self.longest(seq, &mut meter));
-        let hits = Hits::of(self.walk(seq, from, &mut meter), seq, start, stop);
-        hits.law_of_few();
+        let hits = Hits::of(&[], self.walk(seq, from, &mut meter), seq, start, stop);
         hits
     }
 

@@ -8,4 +8,6 @@ mod fixtures;
 #[cfg(test)]
 mod hits;
 #[cfg(test)]
+mod long_records;
+#[cfg(test)]
 mod refusals;

@@ -7,7 +7,7 @@ use Rattle.iv_pair.specs.PairRows.{pair_rows, pair_text}
 -- the rows of the records that are left are to come
 abbrev pub invariant-loop-row : goal.invariant-loop-row
 invariant-loop-row g l = record {
-  finder : l.finder ≡ l.second.rows;
+  finder : l.finder.records ≡ l.second.rows;
   put : Underway (g.S.Sink.state l.fn.sink) (g.S.Sink.state l.sink)
       (flat_map (λ a. pair_rows l.rows l.genome a l.second.rows) l.walk)
       (pair_text l.rows l.genome l.track.rows l.second.rows);

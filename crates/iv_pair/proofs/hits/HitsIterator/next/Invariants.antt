@@ -1,11 +1,25 @@
-use Rattle.std.proofs.Common.{◌≡◌, ◌<◌, ◌^◌, length}
+use Rattle.std.proofs.Common.{◌≡◌, ◌<◌, ◌≤◌, ◌^◌, ◌++◌, [], length}
 use Rattle.iv_text.specs.Ordered.{AreInOrder}
+use Rattle.iv_pair.specs.Finder.{held}
 use Rattle.iv_pair.specs.Hits.{hits}
 use Rattle.iv_pair.proofs.hits.HitsIterator.next.Given as goal
 
--- the records left are in order and few, and the hits among them are all that were left
+-- slots without a record were passed
+abbrev pub invariant-loop-self : goal.invariant-loop-self
+invariant-loop-self g l = record {
+  ordered : AreInOrder l.self-inside.rows;
+  few : length l.self-inside.rows < 2 ^ 32;
+  few_carried : length l.self-inside.carried.now ≤ 32;
+  same : held l.self-inside.carried.now ++ hits l.self-inside.rows l.self-inside.seq l.self-inside.start l.self-inside.stop ≡ l.fn.self;
+}
+
+abbrev pub decreases-loop-self : goal.decreases-loop-self
+decreases-loop-self g l = length l.self-inside.carried.now
+
+-- none is carried, the records left are in order and few, and the hits among them are all that were left
 abbrev pub invariant-loop-row : goal.invariant-loop-row
 invariant-loop-row g l = record {
+  carried : l.self-inside.carried.now ≡ [];
   ordered : AreInOrder l.self-inside.rows;
   few : length l.self-inside.rows < 2 ^ 32;
   same : hits l.self-inside.rows l.self-inside.seq l.self-inside.start l.self-inside.stop ≡ l.fn.self;

@@ -3,7 +3,7 @@ use Rattle.iv_text.specs.Ordered.{AreInOrder}
 use Rattle.iv_text.specs.Row.{row_cmp, Row}
 use Rattle.iv_cover.proofs.InOrder.{in_order-filter}
 use Rattle.iv_track.specs.Tracked.{is_from}
-use Rattle.iv_pair.specs.Hits.{hits}
+use Rattle.iv_pair.specs.Hits.{hits, overlaps}
 use Rattle.iv_pair.proofs.HitsLemmas.{hits_from, length-filter_le}
 use Rattle.iv_pair.proofs.second.Second.hits.Goals as goal
 
@@ -18,3 +18,13 @@ returns-clause-hits g c =
     c.of-hits.ensures
     ∙ ap (λ (l : List Row). hits l c.args.seq c.args.start c.args.stop) c.walk.ensures.rows
     ∙ hits_from c.args.self.now.rows c.args.seq c.args.start c.args.stop c.first_start-from.result c.longest.result c.longest.ensures (omega (arith, c.first_start-from.ensures))
+
+pub returns-clause-few : goal.returns-clause-few
+returns-clause-few g c =
+    omega (
+      arith,
+      ap (λ (l : List Row). length l) (c.of-hits.ensures ∙ ap (λ (l : List Row). hits l c.args.seq c.args.start c.args.stop) c.walk.ensures.rows
+          ∙ hits_from c.args.self.now.rows c.args.seq c.args.start c.args.stop c.first_start-from.result c.longest.result c.longest.ensures (omega (arith, c.first_start-from.ensures))),
+      length-filter_le (overlaps c.args.seq c.args.start c.args.stop) c.args.self.now.rows,
+      c.walk.ensures.few,
+    )
