@@ -171,7 +171,7 @@ ends 'the version' 0 ''
 prints 'the version' 'bedkeep 0.1.0\n'
 "$program" --help > out 2> err
 ends 'the help' 0 ''
-for word in 'usage: bedkeep session -g GENOME -i BED' --help --version '-b BED' '-fi FASTA' -width open add remove replace close print printall merge intersect subtract getfasta; do
+for word in 'usage: bedkeep session -g GENOME -i BED' --help --version '-b BED' '-fi FASTA' -width open add remove replace addb removeb replaceb resize close print printall merge intersect subtract getfasta; do
     if ! grep -q -e "$word" out; then
         echo "the help does not speak of $word" >&2
         failed=1

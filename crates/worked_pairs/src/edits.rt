@@ -95,11 +95,7 @@ fn edits_at_the_limit(rt: HostRuntime) -> Result<(), Fail> {
     let mut second = second_within(rt.alloc(), &genome, 2, text)??;
     let wanted = [
         (Edit::Add(b"chr1\t1\t2"), Err(EditFault::Full), 2),
-        (
-            Edit::Replace(b"chr1\t10\t20", b"chr1\t0\t50"),
-            Ok(()),
-            2,
-        ),
+        (Edit::Replace(b"chr1\t10\t20", b"chr1\t0\t50"), Ok(()), 2),
         (
             Edit::Replace(b"chr1\t10\t20", b"chr1\t0\t50"),
             Err(EditFault::Absent),

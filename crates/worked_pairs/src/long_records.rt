@@ -70,7 +70,9 @@ fn pairs_by_looking(
     for (seq, start, stop) in first {
         for (rank, from, to) in second {
             if seq == rank && start < to && from < stop {
-                let row = format!(in rt.alloc(); "chr{seq}\t{start}\t{stop}\tchr{rank}\t{from}\t{to}\n")?;
+                let row = format!(in rt.alloc();
+                    "chr{seq}\t{start}\t{stop}\tchr{rank}\t{from}\t{to}\n"
+                )?;
                 text.push_str(row.as_str())?;
             }
         }
@@ -81,12 +83,7 @@ fn pairs_by_looking(
 fn track_of(rt: &HostRuntime, genome: &Genome, text: &[u8]) -> Result<Track, Fail> {
     let file = BedFile::parse(rt.alloc(), genome, 3, 1_000_000, text)?;
     let width = file.width();
-    Ok(Track::from_records(
-        rt.alloc(),
-        width,
-        1_000_000,
-        file.into_records(),
-    )?)
+    Ok(Track::from_records(rt.alloc(), width, 1_000_000, file.into_records())?)
 }
 
 /// Whether `intersect -wa -wb` prints this.
