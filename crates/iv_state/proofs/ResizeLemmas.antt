@@ -1,11 +1,11 @@
 -- A session with another length of one sequence.
 use denote.Ref.{Bor}
-use Rattle.std.proofs.Common.{◌≡◌, ℕ, ◌+◌, ◌<◌, ◌≤◌, ◌==◌, ◌&&◌, ◌||◌, nat_lt, inl, inr, Bool, true, false, List, [], ◌∷◌, Option, None, Some, Result, Ok, Err, cond, length, arith, refl, sym, ap, ap₂, subst, ◌∙◌}
+use Rattle.std.proofs.Common.{◌≡◌, ℕ, ◌+◌, ◌<◌, ◌≤◌, ◌==◌, ◌&&◌, ◌||◌, nat_lt, inl, inr, Bool, true, false, List, [], ◌∷◌, Option, None, Some, Result, Ok, Err, length, arith, refl, sym, ap, ap₂, subst, ◌∙◌}
 use Rattle.std.specs.Iterator.{YieldsFirstRef}
 use Rattle.std.specs.List.{list_any}
 use Rattle.std.specs.Option.{is_some, option_map, unwrap_or}
 use Rattle.std.specs.Prelude.{All, IfSome, filter, not}
-use Rattle.std.proofs.lemmas.Bool.{and_parts, and_cases, or_parts, or_from, or_left, not-false, cases_Bool, cases_eq, cond-true, cond-false, eq-eqb, ne_eqb, ltb-true, ltb-false, lt-ltb, eqb-true, eqb-false, true≢false, false_from_ne_true}
+use Rattle.std.proofs.lemmas.Bool.{and_parts, and_cases, or_parts, or_from, or_left, not-false, cases_Bool, cases_eq, cond-true, cond-false, ne_eqb, ltb-true, ltb-false, lt-ltb, eqb-true, eqb-false, true≢false, false_from_ne_true}
 use Rattle.std.proofs.lemmas.Map.Views.{exact_unsigned_eq}
 use Rattle.iv_text.specs.Genome.{Sequences, length_at, rank_of, with_length}
 use Rattle.iv_text.specs.Ordered.{AreInOrder}
@@ -19,7 +19,7 @@ use Rattle.iv_pair.specs.Hits.{overlaps}
 use Rattle.iv_pair.proofs.PlaceLemmas.{le_pair, pair_le, from_all}
 use Rattle.iv_view.specs.Views.{second_rows}
 use Rattle.iv_state.specs.OpenViews.{Shown}
-use Rattle.iv_state.specs.Resizes.{reaches_past, has_record_past, has_other_bases, is_other, with_sequence_length, resized_at, resized_if, resized}
+use Rattle.iv_state.specs.Resizes.{reaches_past, has_record_past, has_other_bases, is_other, with_sequence_length, resized_if, resized}
 use Rattle.iv_state.specs.States.{State, IsTrackOn, IsSession}
 use Rattle.iv_state.specs.declared.fault.ResizeFault.{ResizeFault}
 use Rattle.iv_state.specs.declared.fault.ResizeFault.TheVariants as fault

@@ -6,7 +6,7 @@ use Rattle.iv_text.specs.Read.{Fits}
 use Rattle.iv_text.specs.Row.{Row}
 use Rattle.iv_track.specs.Tracked.{Tracked}
 use Rattle.iv_state.specs.OpenViews.{Shown}
-use Rattle.iv_state.specs.States.{State, FitsSecond, IsTrackOn, IsServed, AreServed, IsSession, with_second}
+use Rattle.iv_state.specs.States.{State, FitsSecond, IsTrackOn, AreServed, IsSession, with_second}
 
 -- what holds of the second file, as it stands inside, holds of the session's
 pub of-second : (P : Tracked → Type 0) (inside s : State) (t : Tracked) → inside ≡ s → inside.second ≡ Some t → P t → IsSomeAnd s.second P

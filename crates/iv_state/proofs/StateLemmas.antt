@@ -12,7 +12,6 @@ use Rattle.std.proofs.lemmas.List.Quantifiers.{position-Some}
 use Rattle.indexmap.specs.Layout.{set_value_at}
 use Rattle.indexmap.proofs.MapLemmas.{Missing-position}
 use Rattle.iv_text.specs.Row.{Row}
-use Rattle.iv_track.specs.Steps.{TakesUpTo}
 use Rattle.iv_view.specs.KeptStates.{built_for, keeping_of, IsRight}
 use Rattle.iv_view.specs.declared.kept_state.KeptState.{KeptState}
 use Rattle.iv_view.specs.declared.kept_state.Keeping.{Keeping}
@@ -20,7 +19,7 @@ use Rattle.iv_view.specs.declared.view.View.{View}
 use Rattle.iv_state.specs.Keeping.{seen, all_seen, kept_with, owned, all_owned, IsOwned, IsKept, HaveStates, IsOwnRight, AreOwnRight, AreRight, IsRepaired, AreRepaired, AreMarked, IsMissing, NoneNeeds, current_at}
 use Rattle.iv_state.specs.OpenViews.{Shown, Stales, current, all_current, with_current, stale_count, all_steps, view_steps}
 use Rattle.iv_state.specs.declared.open_view.OpenView.{OpenView}
-use Rattle.iv_state.proofs.OpenViewLemmas.{Midway, midway-begin, midway-next, midway-end, midway-at, Written, written-at, named, all-append, all-front, all-back, all-removed, all-named, all-at, stales-append, stales-trans, stales-same, seen-append, remove-seen}
+use Rattle.iv_state.proofs.OpenViewLemmas.{Midway, midway-begin, midway-next, midway-end, midway-at, Written, written-at, named, all-append, all-front, all-back, all-removed, all-named, all-at, stales-append, stales-same, seen-append, remove-seen}
 
 -- ---- what is kept is among the states
 

@@ -1,7 +1,7 @@
 use Rattle.std.specs.Prelude.{All}
-use Rattle.std.proofs.Common.{◌≡◌, ◌≤◌, ◌∙◌, inr, arith, sym, ap, subst}
+use Rattle.std.proofs.Common.{◌≡◌, ◌∙◌, inr, arith, sym, ap, subst}
 use Rattle.std.proofs.lemmas.Result.{err_from_is_err_and}
-use Rattle.iv_text.specs.Ordered.{added, copies}
+use Rattle.iv_text.specs.Ordered.{added}
 use Rattle.iv_text.specs.Read.{Fits}
 use Rattle.iv_text.specs.Row.{Row}
 use Rattle.iv_track.specs.Tracked.{Tracked}

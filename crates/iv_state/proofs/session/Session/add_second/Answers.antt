@@ -1,11 +1,11 @@
-use Rattle.std.proofs.Common.{◌≡◌, ◌∙◌, ◌⊎◌, inr, arith, sym, ap, subst}
+use Rattle.std.proofs.Common.{◌⊎◌, inr, sym, subst}
 use Rattle.std.proofs.lemmas.Result.{err_from_is_err_and}
 use Rattle.iv_text.specs.Read.{Fits}
 use Rattle.iv_text.specs.Row.{Row}
 use Rattle.iv_track.specs.Edits.{RefusesAdd}
 use Rattle.iv_state.specs.Edits.{RefusesCopy}
 use Rattle.iv_state.specs.Keeping.{all_seen}
-use Rattle.iv_state.specs.States.{State, IsTrackOn}
+use Rattle.iv_state.specs.States.{IsTrackOn}
 use Rattle.iv_state.proofs.SessionLemmas.{track-added}
 use Rattle.iv_state.proofs.SecondLemmas.{of-second, fits-second, second-track, session-second}
 use Rattle.iv_state.proofs.session.Session.add_second.Goals as goal

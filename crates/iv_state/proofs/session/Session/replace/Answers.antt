@@ -5,7 +5,7 @@ use Rattle.iv_text.specs.Named.{names_of}
 use Rattle.iv_text.specs.Ordered.{added, copies}
 use Rattle.iv_text.specs.Read.{Fits}
 use Rattle.iv_text.specs.Row.{Row}
-use Rattle.iv_track.specs.Tracked.{Tracked, removed}
+use Rattle.iv_track.specs.Tracked.{Tracked}
 use Rattle.iv_state.specs.Keeping.{AreRight, all_seen}
 use Rattle.iv_state.specs.OpenViews.{all_steps}
 use Rattle.iv_track.specs.Edits.{with_replaced}

@@ -1,4 +1,4 @@
-use Rattle.std.proofs.Common.{◌≡◌, ◌<◌, ◌∙◌, ◌⊎◌, inr, arith, sym, ap, subst}
+use Rattle.std.proofs.Common.{◌<◌, ◌⊎◌, inr, sym, subst}
 use Rattle.std.proofs.lemmas.Result.{err_from_is_err_and}
 use Rattle.iv_text.specs.Ordered.{copies}
 use Rattle.iv_text.specs.Read.{Fits}
@@ -6,7 +6,7 @@ use Rattle.iv_text.specs.Row.{Row}
 use Rattle.iv_track.specs.Edits.{RefusesReplace}
 use Rattle.iv_state.specs.Edits.{RefusesCopy}
 use Rattle.iv_state.specs.Keeping.{all_seen}
-use Rattle.iv_state.specs.States.{State, IsTrackOn}
+use Rattle.iv_state.specs.States.{IsTrackOn}
 use Rattle.iv_state.proofs.SessionLemmas.{track-replaced}
 use Rattle.iv_state.proofs.SecondLemmas.{of-second, fits-second, second-track, session-second}
 use Rattle.iv_state.proofs.session.Session.replace_second.Goals as goal

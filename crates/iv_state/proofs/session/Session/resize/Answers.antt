@@ -1,9 +1,8 @@
-use Rattle.std.proofs.Common.{◌≡◌, ◌∙◌, List, ℕ, true, false, sym, ap, subst}
+use Rattle.std.proofs.Common.{◌∙◌, List, ℕ, sym, ap, subst}
 use Rattle.iv_text.specs.Genome.{rank_of}
 use Rattle.iv_text.specs.Named.{names_of}
 use Rattle.iv_text.proofs.LengthLemmas.{names-with_length, rank-within}
 use Rattle.iv_state.specs.Keeping.{AreRight, all_seen}
-use Rattle.iv_state.specs.Resizes.{has_record_past, has_other_bases}
 use Rattle.iv_state.specs.States.{State}
 use Rattle.iv_state.proofs.ResizeLemmas.{session-resized, resized-unknown, resized-shorter, resized-fixed, resized-in}
 use Rattle.iv_state.proofs.session.Session.resize.Goals as goal

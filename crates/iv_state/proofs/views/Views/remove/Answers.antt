@@ -1,4 +1,4 @@
-use Rattle.std.proofs.Common.{◌≡◌, ◌∙◌, ◌∷◌, sym, ap, map, subst}
+use Rattle.std.proofs.Common.{◌∙◌, ◌∷◌, sym, ap, map, subst}
 use Rattle.std.specs.Map.{lookup, remove_entry}
 use Rattle.std.specs.Str.{bytes_eq}
 use Rattle.iv_text.proofs.NamedLemmas.{lookup-is, remove-is}

@@ -1,4 +1,4 @@
-use Rattle.std.proofs.Common.{◌∙◌, sym, arith}
+use Rattle.std.proofs.Common.{arith}
 use Rattle.iv_state.proofs.OpenViewLemmas.{stale-yes, stale-no}
 use Rattle.iv_state.proofs.views.Views.stale.Goals as goal
 use Rattle.iv_state.proofs.views.Views.stale.Goals.{then-index, else-index}
