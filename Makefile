@@ -10,7 +10,7 @@ PROGRAM := build/bedkeep
 help:
 	@echo 'make build   prove and build the program; it is left at $(PROGRAM)'
 	@echo 'make demo    build it, then run the scripts of examples/ over the files beside them'
-	@echo 'make test    the whole gate: searches, every proof from nothing, the wrong bodies, the tests, the stored run, a run through pipes, every exit'
+	@echo 'make test    the whole gate: searches, every proof from nothing, the wrong bodies, the tests, the stored run, a run through pipes, every exit, the examples'
 	@echo 'make wrong-bodies   the wrong bodies that the gate leaves out, an hour or more'
 	@echo 'make clean   remove all that builds and proofs left behind'
 	@echo 'make help    this list'
@@ -20,13 +20,8 @@ build:
 	cd crates/bedkeep && $(RT) run -- session -g data/sizes -i data/empty.bed < stdin > /dev/null
 	mkdir -p build && cp crates/bedkeep/out/bedkeep $(PROGRAM)
 
-# Status 1 says that the script has refused lines, and the first one has.
 demo: build
-	$(PROGRAM) session -g examples/human.genome -i examples/genes.bed < examples/corrections.script || test $$? -eq 1
-	$(PROGRAM) session -g examples/human.genome -i examples/genes.bed -b examples/mask.bed < examples/mask.script
-	$(PROGRAM) session -g examples/human.genome -i examples/genes.bed -b examples/mask.bed < examples/correct_mask.script
-	$(PROGRAM) session -g examples/human.genome -i examples/genes.bed -b /dev/null < examples/write_out.script
-	$(PROGRAM) session -g examples/contigs.genome -i examples/coding.bed -fi examples/contigs.fa < examples/sequences.script
+	scripts/examples.sh --show $(PROGRAM)
 
 # rt ci leaves the program that it proved and built beside the crate.
 test:
@@ -36,6 +31,7 @@ test:
 	mkdir -p build && cp crates/bedkeep/out/bedkeep $(PROGRAM)
 	scripts/answers_at_once.sh $(PROGRAM)
 	scripts/exits.sh $(PROGRAM)
+	scripts/examples.sh $(PROGRAM)
 
 wrong-bodies:
 	RT=$(RT) scripts/wrong_bodies.sh

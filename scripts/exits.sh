@@ -158,6 +158,9 @@ if [ -w /dev/full ]; then
     : > err
     (exit "$status")
     ends 'a full device for messages' 4 ''
+else
+    echo '/dev/full is not there, so no run was made with a full device' >&2
+    failed=1
 fi
 # The reader of the pipe is gone before the script comes.
 (sleep 0.5; cat prints) | "$program" session -g sizes -i records.bed > >(true) 2> err
