@@ -11,7 +11,7 @@ const SIZES: &[u8] = b"chr0\t2000\nchr1\t2000\nchr2\t2000\n";
 const ROOM: usize = 400_000;
 
 /// The rank of a sequence, start and stop.
-type Interval = (u32, u64, u64);
+type Interval = (u64, u64, u64);
 
 /// The next of a row of numbers that look random.
 fn next_number(state: &mut u64) -> u64 {
@@ -37,7 +37,7 @@ fn intervals(
     let mut state = seed;
     let mut intervals = Vec::new(rt.alloc());
     for _ in 0..count {
-        let seq = below(&mut state, 3) as u32;
+        let seq = below(&mut state, 3);
         let start = below(&mut state, 700);
         let most = if below(&mut state, long) == 0 {
             700
