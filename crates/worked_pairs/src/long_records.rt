@@ -101,19 +101,58 @@ fn prints(
     Ok(sink.bytes() == want)
 }
 
-/// Whether one case prints what a look at each pair gives; and how many bytes that is.
-fn case(rt: &HostRuntime, seed: u64, long: u64, many: u32, few: u32) -> Result<usize, Fail> {
+/// The same, beside the second file of a text.
+fn prints_beside(
+    rt: &HostRuntime,
+    genome: &Genome,
+    track: &Track,
+    second: &[u8],
+    want: &[u8],
+) -> Result<bool, Fail> {
+    let second = second_of(rt.alloc(), genome, second)??;
+    prints(rt, genome, track, &second, want)
+}
+
+/// The same, of the track of a text.
+fn prints_of(
+    rt: &HostRuntime,
+    genome: &Genome,
+    first: &[u8],
+    second: &[u8],
+    want: &[u8],
+) -> Result<bool, Fail> {
+    let track = track_of(rt, genome, first)?;
+    prints_beside(rt, genome, &track, second, want)
+}
+
+/// The same, of the track and the second file of these intervals.
+fn prints_from(
+    rt: &HostRuntime,
+    first: &[Interval],
+    second: &[Interval],
+    want: &[u8],
+) -> Result<bool, Fail> {
     let genome = Genome::parse(rt.alloc(), SIZES)?;
+    let first = lines(rt, first)?;
+    let second = lines(rt, second)?;
+    prints_of(rt, &genome, first.as_bytes(), second.as_bytes(), want)
+}
+
+/// How many bytes a look at each pair gives, where the print is the same.
+fn compare(rt: &HostRuntime, first: &[Interval], second: &[Interval]) -> Result<usize, Fail> {
+    let want = pairs_by_looking(rt, first, second)?;
+    if prints_from(rt, first, second, want.as_bytes())? {
+        Ok(want.len())
+    } else {
+        Err(Fail::new("other rows"))
+    }
+}
+
+/// The same, of one case.
+fn case(rt: &HostRuntime, seed: u64, long: u64, many: u32, few: u32) -> Result<usize, Fail> {
     let first = intervals(rt, seed, few, 5, 12)?;
     let second = intervals(rt, seed.wrapping_add(77), many, long, 1 + seed % 12)?;
-    let want = pairs_by_looking(rt, first.as_slice(), second.as_slice())?;
-    let track = track_of(rt, &genome, lines(rt, first.as_slice())?.as_bytes())?;
-    let beside = lines(rt, second.as_slice())?;
-    let second = second_of(rt.alloc(), &genome, beside.as_bytes())??;
-    if !prints(rt, &genome, &track, &second, want.as_bytes())? {
-        return Err(Fail::new("other rows"));
-    }
-    Ok(want.len())
+    compare(rt, first.as_slice(), second.as_slice())
 }
 
 /// From none to all of the records are long, so that up to 77 of them overlap one place.
