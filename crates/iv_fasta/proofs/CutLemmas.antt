@@ -1,5 +1,5 @@
 -- The sequences that headers and the bases behind them say.
-use Rattle.std.proofs.Common.{◌≡◌, ℕ, zero, suc, ◌+◌, ◌-◌, ◌<◌, ◌≤◌, List, [], ◌∷◌, ◌++◌, Option, None, Some, length, take, drop, slice_get, refl, sym, ◌∙◌, ap, arith, length-drop, add-one, cond, false, true, position, get_or, Bool, is_some, true≢false, length-append}
+use Rattle.std.proofs.Common.{◌≡◌, ℕ, zero, suc, ◌+◌, ◌-◌, ◌<◌, ◌≤◌, List, [], ◌∷◌, ◌++◌, Option, None, Some, length, take, drop, slice_get, refl, sym, ◌∙◌, ap, arith, length-drop, add-one, false, true, position, get_or, Bool, is_some, true≢false}
 use Rattle.std.proofs.lemmas.List.{take-append-le, drop-append-le, take_rest}
 use Rattle.std.proofs.lemmas.List.Edits.{between_none}
 use Rattle.std.specs.List.{slice_range}

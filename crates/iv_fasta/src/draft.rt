@@ -118,7 +118,7 @@ impl<A: Allocator + Copy> FastaDraft<A> {
             line: number,
             start,
         };
-        self.headers.push(alloc, name, header)?;
+        self.headers.push(alloc, name, header, self.text.coming())?;
         self.named = genome.rank(name).is_some();
         Ok(())
     }

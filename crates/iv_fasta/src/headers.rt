@@ -1,13 +1,22 @@
 //! The headers of a FASTA file.
-ghost use Rattle.std.specs.Prelude.{◌≡◌, ◌++◌, ◌∷◌, [], ◌<◌, ◌^◌, None, OnOk, OnErr, IfSome, length, slice_get};
+ghost use Rattle.std.specs.Prelude.{◌≡◌, ◌++◌, ◌∷◌, [], ◌<◌, ◌^◌, None, OnOk, OnErr, IfSome, length, slice_get, filter, fold};
+ghost use Rattle.std.specs.Hash.DefaultHasher.{initial, write};
 ghost use Rattle.std.specs.Option.{option_map};
+ghost use Rattle.iv_text.specs.GenomeFile.{begins_with};
+ghost use Rattle.iv_text.specs.Lines.{lines};
 ghost use Rattle.iv_text.specs.Named.{place_of};
+ghost use Rattle.iv_text.specs.declared.after_text.NameHasher.TheVariants as hasher;
 ghost use Rattle.iv_fasta.specs.Drafts.{end_at};
+ghost use Rattle.iv_fasta.specs.Fasta.{header_sign};
 
 use indexmap::IndexMap;
+use iv_text::{AfterText, lines_of};
 use std::alloc::{AllocError, Allocator};
-use std::hash::{BuildHasherDefault, FoldHasher};
+use std::hash::{DefaultHasher, Hasher};
 use std::marker::Model;
+
+/// How many names are hashed before the headers to come are looked at. So few take no time, whether or not they collide.
+const FEW: usize = 1000;
 
 /// A header: the number of its line, and where the bases behind it start among all that are kept.
 #[derive(Clone, Copy, Debug, PartialEq, Eq)]
@@ -19,7 +28,7 @@ pub(crate) struct Header {
 /// Headers, each under its name, in the order of the file.
 #[derive(Drop)]
 pub(crate) struct Headers<A: Allocator> {
-    headers: IndexMap<Vec<u8, A>, Header, BuildHasherDefault<FoldHasher>, A>,
+    headers: IndexMap<Vec<u8, A>, Header, AfterText, A>,
 }
 
 impl<A: Allocator> Model for Headers<A> {
@@ -31,18 +40,61 @@ impl<A: Allocator> Model for Headers<A> {
     ghost view = { λ h. map (λ e. (e.0.items, e.1)) h.headers.entries };
 }
 
+/// For names that are hashed after all headers of a text.
+fn after_headers(text: &[u8]) -> AfterText
+    ensures { result.begun ≡ hasher.Seeded (fold write initial (filter (begins_with header_sign) (lines text.now))) }
+{
+    let mut begun = DefaultHasher::new();
+    for line in lines_of(text) {
+        if !line.is_empty() && line[0] == b'>' {
+            begun.write(line);
+        }
+    }
+    AfterText::begun(begun)
+}
+
 impl<A: Allocator + Copy> Headers<A> {
     /// No header.
     pub(crate) fn new(alloc: A) -> Self
         ensures { result ≡ [] }
     {
         Headers {
-            headers: IndexMap::new(alloc),
+            headers: IndexMap::with_hasher(alloc, AfterText::of(b"")),
         }
     }
 
-    /// Adds a header at the end. After a fault the headers are as before.
-    pub(crate) fn push(&mut self, alloc: A, name: &[u8], header: Header) -> Result<(), AllocError>
+    /// Hashes the names anew, after all headers of a text. The headers stay, also after a fault.
+    fn hash_after(&mut self, alloc: A, text: &[u8]) -> Result<(), AllocError>
+        ensures ok { OnOk result (self.new ≡ self.old) }
+        ensures err { OnErr result (self.new ≡ self.old) }
+    {
+        let count = self.headers.len();
+        let mut anew = IndexMap::with_capacity_and_hasher(alloc, count, after_headers(text))?;
+        anew.append(&mut self.headers)?;
+        self.headers = anew;
+        Ok(())
+    }
+
+    /// Adds a header at the end, where a text begins with it that has all those to come. After a fault the headers are as before.
+    pub(crate) fn push(
+        &mut self,
+        alloc: A,
+        name: &[u8],
+        header: Header,
+        text: &[u8],
+    ) -> Result<(), AllocError>
+        requires fresh { place_of self.old name.now ≡ None }
+        ensures ok { OnOk result (self.new ≡ self.old ++ (name.now, header) ∷ []) }
+        ensures err { OnErr result (self.new ≡ self.old) }
+    {
+        if self.headers.len() == FEW {
+            self.hash_after(alloc, text)?;
+        }
+        self.insert(alloc, name, header)
+    }
+
+    /// Puts a header at the end. After a fault the headers are as before.
+    fn insert(&mut self, alloc: A, name: &[u8], header: Header) -> Result<(), AllocError>
         requires fresh { place_of self.old name.now ≡ None }
         ensures ok { OnOk result (self.new ≡ self.old ++ (name.now, header) ∷ []) }
         ensures err { OnErr result (self.new ≡ self.old) }

@@ -14,3 +14,4 @@ pub mod Ordered
 pub mod RecordText
 pub mod OnePass
 pub mod Texts
+pub mod NameHash

@@ -1,6 +1,7 @@
 //! Genome files, BED lines and records. The sinks and sources of `iv_bytes` are passed on.
 #![tactic(auto)]
 
+mod after_text;
 mod bed_file;
 mod bed_record;
 mod bounded_texts;
@@ -23,6 +24,7 @@ mod short_line;
 mod strand;
 mod texts;
 
+pub use after_text::{AfterText, NameHasher};
 pub use bed_file::{BedFile, is_unread, width_for};
 pub use bed_record::BedRecord;
 pub use fault::{LoadCause, LoadFault, RecordFault, fault_text, load_text};

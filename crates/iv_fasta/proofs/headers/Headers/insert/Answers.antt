@@ -2,7 +2,7 @@ use Rattle.std.proofs.Common.{◌∙◌, ap, ◌≡◌, ◌++◌, ◌∷◌, [],
 use Rattle.std.specs.Str.{bytes_eq}
 use Rattle.iv_text.specs.Named.{place_of}
 use Rattle.iv_text.proofs.NamedLemmas.{push-is}
-use Rattle.iv_fasta.proofs.headers.Headers.push.Goals as goal
+use Rattle.iv_fasta.proofs.headers.Headers.insert.Goals as goal
 
 pub returns-clause-ok : goal.returns-clause-ok
 returns-clause-ok g c =
