@@ -6,7 +6,7 @@ use Rattle.std.specs.Ordering.{is_le}
 use Rattle.std.proofs.lemmas.Bool.{cases_lt, lt-ltb, le-ltb}
 use Rattle.std.proofs.lemmas.List.Concat.{flat_map-append}
 use Rattle.iv_bytes.specs.Sinks.{SinkState, Takes, FailsIn}
-use Rattle.iv_bytes.proofs.Putting.{Underway, Underway-begin, Underway-fails, Underway-more}
+use Rattle.iv_bytes.proofs.Putting.{Underway, Underway-begin, Underway-ends, Underway-fails, Underway-more}
 use Rattle.iv_text.specs.Ordered.{AreInOrder}
 use Rattle.iv_text.specs.Row.{Row, row_cmp}
 use Rattle.iv_cover.specs.Depth.{covers, depth}
@@ -212,3 +212,12 @@ module _ (row : Run → List ℕ) (second : List Row) (seq start to : ℕ) (begu
       subst (λ t. Underway begun mid t (flat_map row (empty_runs (depth second seq) start to)))
       (ap (flat_map row) (empty_runs-rest (depth second seq) from to (λ p low high. r.left.same p low high ∙ ap (λ xs. depth xs seq p) none)) ∙ gap-text row from to)
       r.put
+
+  -- the rest is covered: nothing is left to put
+  pub Remains-covered : (from : ℕ) (found : List Row) (mid : SinkState) → to ≤ from → Remains row second seq start from to found begun mid
+      → Takes begun mid (flat_map row (empty_runs (depth second seq) start to))
+  Remains-covered from found mid past r =
+      Underway-ends _ _ _
+      (subst (λ t. Underway begun mid t (flat_map row (empty_runs (depth second seq) start to)))
+      (ap (flat_map row) (empty_runs-none (depth second seq) from to past))
+      r.put)

@@ -32,7 +32,8 @@ pub fn put_subtract<
     }
 }
 
-/// Puts a line for each maximal part of a record that no hit covers.
+/// Puts a line for each maximal part of a record that no hit covers. It asks for no further hit once the rest of the record is
+/// covered.
 fn put_uncovered<A: Allocator + Copy, R: BedRecord, T: BedRecord, H: Iterator<Item = T>, S: Sink>(
     genome: &Genome<A>,
     row: &R,
@@ -48,6 +49,9 @@ fn put_uncovered<A: Allocator + Copy, R: BedRecord, T: BedRecord, H: Iterator<It
         let (start, stop) = (hit.start(), hit.stop());
         put_part(genome, row, from, start.min(row.stop()), sink)?;
         from = from.max(stop);
+        if from >= row.stop() {
+            return Ok(());
+        }
     }
     put_part(genome, row, from, row.stop(), sink)
 }
