@@ -1,25 +1,31 @@
 -- A run by one sweep.
-use Rattle.std.proofs.Common.{◌≡◌, ◌⊎◌, inl, inr, ℕ, Bool, false, List, [], Option, Some, None, Result, Ok, Err, refl, sym, ap, ◌∙◌}
-use Rattle.std.specs.Option.{is_some, option_map, option_transpose, unwrap_or}
+use Rattle.std.proofs.Common.{◌≡◌, ◌⊎◌, inl, inr, ℕ, false, List, [], map, Option, Result, Ok, Err, refl, sym, ap, ◌∙◌, subst}
+use Rattle.std.specs.Prelude.{All}
+use Rattle.std.specs.Option.{is_some}
 use Rattle.iv_bytes.specs.Sinks.{SinkState, Takes}
 use Rattle.iv_text.specs.BedFile.{Bed, bed_of}
 use Rattle.iv_text.specs.Genome.{Sequences}
 use Rattle.iv_text.specs.GenomeFile.{genome_of}
 use Rattle.iv_text.specs.Ordered.{ordered}
-use Rattle.iv_text.specs.Row.{Row}
+use Rattle.iv_text.specs.Read.{LiesOn}
 use Rattle.iv_text.specs.declared.fault.LoadFault.{LoadFault}
+use Rattle.iv_places.specs.Places.{bare}
+use Rattle.iv_places.proofs.BareLemmas.{lying-bare, ordered-bare}
+use Rattle.iv_places.proofs.SortedLemmas.{lying-sorted}
 use Rattle.iv_fasta.specs.Fasta.{Bases}
-use Rattle.iv_view.specs.Views.{read_words, view_text}
+use Rattle.iv_view.specs.Views.{kept_text, read_words, view_text}
 use Rattle.iv_view.specs.declared.fault.ViewFault.{ViewFault}
 use Rattle.iv_view.specs.declared.fault.ViewFault.TheVariants as viewing
+use Rattle.iv_view.specs.declared.view.KeptView.{KeptView}
 use Rattle.iv_view.specs.declared.view.View.{View}
+use Rattle.iv_sweep.specs.Places.{NeedsPlacesAlone}
 use Rattle.iv_sweep.specs.Prints.{Prints}
 use Rattle.iv_sweep.specs.declared.fault.SweepFault.{SweepFault}
 use Rattle.iv_sweep.specs.declared.fault.SweepFault.TheVariants as sweeping
 use Rattle.iv_files.specs.declared.fault.CliFault.{CliFault}
 use Rattle.iv_files.specs.declared.fault.CliFault.TheVariants as fault
 use Rattle.iv_files.specs.Loading.{Parsed, parsed, second_of, bases_said, with_bases, with_second, with_first, with_genome, fault_of_view, fault_of_sweep}
-use Rattle.iv_files.specs.Shots.{Sorted, AreSorted, AreSortedOthers, IsSorted, Shows, shown_of, sorted_file, text_or_fault, view_beside, ordered_other}
+use Rattle.iv_files.specs.Shots.{Shows, Texts, ordered_other, shown_of, text_or_fault, without_bases}
 
 -- ---- damaged files
 
@@ -54,50 +60,12 @@ shows-damage width sizes first other bases limit words (fault.Damaged slot damag
 
 -- ---- sound files
 
-some-mapped : (second : Option Bed) → is_some (option_map (λ (file : Bed). ordered file.rows) second) ≡ is_some second
-some-mapped None = refl
-some-mapped (Some file) = refl
-
--- a sound second file is there
-pub second-sound : (g : Sequences) (width limit : ℕ) (text : List ℕ) (file : Bed) → bed_of g width limit text ≡ Ok file → second_of g width limit (Some text) ≡ Ok (Some file)
-second-sound g width limit text file is = ap (λ (r : Result Bed LoadFault). option_transpose (Some r)) is
-
-rows-of : (second : Option Bed) → option_map (λ (file : Bed). file.rows) (option_map sorted_file second) ≡ option_map (λ (file : Bed). ordered file.rows) second
-rows-of None = refl
-rows-of (Some file) = refl
-
-abbrev sorted_as : Sequences → ℕ → List Row → Option (List Row) → Sorted
-sorted_as g width rows others = record { genome = g; width = width; rows = rows; others = others }
-
--- files that are read one after another and sorted are sorted files
-pub are-sorted : (width : ℕ) (sizes first : List ℕ) (other : Option (List ℕ)) (limit : ℕ) (g : Sequences) (sorted : Bed) (others : Option Bed)
-    → genome_of sizes ≡ Ok g → IsSorted (bed_of g width limit first) sorted → AreSortedOthers (second_of g width limit other) others
-    → AreSorted (parsed width sizes first other None limit)
-    (record { genome = g; width = sorted.width; rows = sorted.rows; others = option_map (λ (file : Bed). file.rows) others })
-are-sorted width sizes first other limit g sorted others genome one two = (
-  record { genome = g; first = one.0; second = two.0; bases = None; limit = limit },
-  ap (with_genome width first other None limit) genome ∙ ap (with_first g width other None limit) one.1 ∙ ap (with_second g one.0 None limit) two.1,
-  ap (λ (b : Bed). sorted_as g b.width b.rows (option_map (λ (file : Bed). file.rows) others)) one.2
-      ∙ ap (λ (o : Option (List Row)). sorted_as g one.0.width (ordered one.0.rows) o) (ap (option_map (λ (file : Bed). file.rows)) two.2 ∙ rows-of two.0),
-  refl,
-)
-
-module _ (said : Result Parsed CliFault) (s : Sorted) (are : AreSorted said s) (words : List (List ℕ)) where
-  abbrev files : Parsed
-  files = are.0
-
-  -- the words ask for the same view beside these files
-  view-is : read_words s.width (is_some s.others) false words ≡ view_beside files words
-  view-is =
-      ap (λ (t : Sorted). read_words t.width (is_some t.others) false words) are.2
-      ∙ ap (λ (b : Bool). read_words files.first.width b false words) (some-mapped files.second)
-      ∙ ap (λ (o : Option Bases). read_words files.first.width (is_some files.second) (is_some o) words) (sym are.3)
-
-  asked-is : (r : Result View ViewFault) → read_words s.width (is_some s.others) false words ≡ r → shown_of words said ≡ text_or_fault files r
-  asked-is r asked = ap (shown_of words) are.1 ∙ ap (text_or_fault files) (sym view-is ∙ asked)
+module _ (said : Result Parsed CliFault) (limit : ℕ) (t : Texts) (is : said ≡ Ok (without_bases limit t)) (words : List (List ℕ)) where
+  asked-is : (r : Result View ViewFault) → read_words t.first.width (is_some t.second) false words ≡ r → shown_of words said ≡ text_or_fault (without_bases limit t) r
+  asked-is r asked = ap (shown_of words) is ∙ ap (text_or_fault (without_bases limit t)) asked
 
   -- a fault of the words is told, and nothing is printed
-  pub shows-words : (why : ViewFault) (old : SinkState) → read_words s.width (is_some s.others) false words ≡ Err why → Shows old old (Err (fault_of_view why)) (shown_of words said)
+  pub shows-words : (why : ViewFault) (old : SinkState) → read_words t.first.width (is_some t.second) false words ≡ Err why → Shows old old (Err (fault_of_view why)) (shown_of words said)
   shows-words viewing.NoMemory old asked = refl
   shows-words viewing.BadName old asked = (asked-is (Err viewing.BadName) asked, refl)
   shows-words viewing.Taken old asked = (asked-is (Err viewing.Taken) asked, refl)
@@ -108,18 +76,35 @@ module _ (said : Result Parsed CliFault) (s : Sorted) (are : AreSorted said s) (
   shows-words viewing.NoSecond old asked = (asked-is (Err viewing.NoSecond) asked, refl)
   shows-words viewing.NoFasta old asked = (asked-is (Err viewing.NoFasta) asked, refl)
 
-  module _ (view : View) (asked : read_words s.width (is_some s.others) false words ≡ Ok view) where
-    text-is : shown_of words said ≡ Ok (view_text view s.genome s.rows (unwrap_or s.others []) [])
-    text-is =
-        asked-is (Ok view) asked
-        ∙ ap (λ (o : Option Bases). Ok (view_text view files.genome (ordered files.first.rows) (ordered_other files.second) (unwrap_or o []))) are.3
-        ∙ ap (λ (t : Sorted). Ok (view_text view t.genome t.rows (unwrap_or t.others []) [])) (sym are.2)
+  module _ (view : View) (asked : read_words t.first.width (is_some t.second) false words ≡ Ok view) where
+    -- the text of the view for the records in track order
+    abbrev text : List ℕ
+    text = view_text view t.genome (ordered t.first.rows) (ordered_other t.second) []
 
     -- the text is printed
-    pub shows-text : (old new : SinkState) → Takes old new (view_text view s.genome s.rows (unwrap_or s.others []) []) → Shows old new (Ok tt) (shown_of words said)
-    shows-text old new takes = (view_text view s.genome s.rows (unwrap_or s.others []) [], text-is, takes)
+    pub shows-text : (old new : SinkState) → Takes old new text → Shows old new (Ok tt) (shown_of words said)
+    shows-text old new takes = (text, asked-is (Ok view) asked, takes)
 
     -- a prefix of it is, and the output failed; or nothing is, for want of memory
-    pub shows-fault : (old new : SinkState) (why : SweepFault) → Prints old new (Err why) (view_text view s.genome s.rows (unwrap_or s.others []) []) → Shows old new (Err (fault_of_sweep why)) (shown_of words said)
-    shows-fault old new sweeping.Write fails = (view_text view s.genome s.rows (unwrap_or s.others []) [], text-is, fails)
+    pub shows-fault : (old new : SinkState) (why : SweepFault) → Prints old new (Err why) text → Shows old new (Err (fault_of_sweep why)) (shown_of words said)
+    shows-fault old new sweeping.Write fails = (text, asked-is (Ok view) asked, fails)
     shows-fault old new sweeping.NoMemory same = same
+
+-- ---- records that are sorted for a view
+
+-- the records that are sorted: those of the file, or where the view needs no more of them, their places
+abbrev pub AreEnough : KeptView → Bed → Bed → Type 0
+AreEnough view file left = (left ≡ file) ⊎ (NeedsPlacesAlone view × (left ≡ record file { width = 3; rows = map bare file.rows }))
+
+module _ (view : KeptView) (file left sorted : Bed) (is : sorted ≡ record left { rows = ordered left.rows }) (g : Sequences) where
+  -- they have the text of all the file's records in track order
+  pub text-sorted_for : AreEnough view file left → kept_text view g sorted.rows ≡ kept_text view g (ordered file.rows)
+  text-sorted_for (inl same) = ap (λ (b : Bed). kept_text view g b.rows) is ∙ ap (λ (b : Bed). kept_text view g (ordered b.rows)) same
+  text-sorted_for (inr (needs, same)) =
+      ap (λ (b : Bed). kept_text view g b.rows) is ∙ ap (λ (b : Bed). kept_text view g (ordered b.rows)) same
+      ∙ ap (kept_text view g) (ordered-bare file.rows) ∙ needs g (ordered file.rows)
+
+  -- and lie where those do
+  pub lying-sorted_for : AreEnough view file left → All (LiesOn g) file.rows → All (LiesOn g) sorted.rows
+  lying-sorted_for (inl same) lie = lying-sorted g left sorted (subst (λ (b : Bed). All (LiesOn g) b.rows) (sym same) lie) is
+  lying-sorted_for (inr (needs, same)) lie = lying-sorted g left sorted (subst (λ (b : Bed). All (LiesOn g) b.rows) (sym same) (lying-bare g file.rows lie)) is

@@ -62,41 +62,12 @@ Shows old new (Err fault.Memory) said = new ≡ old
 Shows old new (Err (fault.Words code)) said = (said ≡ Err (fault.Words code)) × (new ≡ old)
 Shows old new (Err (fault.Damaged slot damage)) said = (said ≡ Err (fault.Damaged slot damage)) × (new ≡ old)
 
--- a genome, the records of the first BED file in the order of a track, and those of the second, where there is one
--- (from here on: of a run by one sweep, and no part of what is promised)
-pub record Sorted : Type 0 where
+-- a genome, and what the BED files say (from here on: of a run by one sweep, and no part of what is promised)
+pub record Texts : Type 0 where
   pub genome : Sequences
-  pub width : ℕ
-  pub rows : List Row
-  pub others : Option (List Row)
+  pub first : Bed
+  pub second : Option Bed
 
--- the records stand in order, and those of the first file lie on the genome
-pub record AreInPlace (s : Sorted) : Type 0 where
-  pub order : AreInOrder s.rows
-  pub lying : All (LiesOn s.genome) s.rows
-  pub others : IfSome s.others AreInOrder
-
--- a BED file, its records in the order of a track
-abbrev pub sorted_file : Bed → Bed
-sorted_file file = record file { rows = ordered file.rows }
-
--- a sound BED file, sorted
-abbrev pub IsSorted : Result Bed LoadFault → Bed → Type 0
-IsSorted said sorted = (file : Bed) × (said ≡ Ok file) × (sorted ≡ sorted_file file)
-
--- a sound BED file that may be left out, sorted
-abbrev pub AreSortedOthers : Result (Option Bed) LoadFault → Option Bed → Type 0
-AreSortedOthers said sorted = (second : Option Bed) × (said ≡ Ok second) × (sorted ≡ option_map sorted_file second)
-
--- what files say, their records in the order of a track
-abbrev pub sorted_of : Parsed → Sorted
-sorted_of files = record {
-  genome = files.genome;
-  width = files.first.width;
-  rows = ordered files.first.rows;
-  others = option_map (λ file. ordered file.rows) files.second;
-}
-
--- sound files, without a FASTA file, sorted
-abbrev pub AreSorted : Result Parsed CliFault → Sorted → Type 0
-AreSorted said s = (files : Parsed) × (said ≡ Ok files) × (s ≡ sorted_of files) × (files.bases ≡ None)
+-- what files say among which there is no FASTA file
+abbrev pub without_bases : ℕ → Texts → Parsed
+without_bases limit t = record { genome = t.genome; first = t.first; second = t.second; bases = None; limit = limit }

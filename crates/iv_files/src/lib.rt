@@ -5,7 +5,7 @@ mod fault;
 mod inputs;
 mod one_shot;
 mod reading;
-mod sorted_files;
+mod text_files;
 
 pub use fault::{CliFault, FileFault};
 pub use inputs::{Inputs, ParsedFiles, load};

@@ -6,7 +6,7 @@ ghost use Rattle.iv_files.specs.Shots.{Shows, shown, shown_in};
 
 use crate::fault::CliFault;
 use crate::inputs::{Inputs, load};
-use crate::sorted_files::SortedFiles;
+use crate::text_files::TextFiles;
 use iv_bytes::Sink;
 use iv_plan::Plan;
 use iv_state::Session;
@@ -73,7 +73,7 @@ fn shot_by_sweep<A: Allocator + Copy, S: Sink>(
     ensures { Shows (S.state sink.old) (S.state sink.new) result
         (shown plan.now inputs.now.sizes.now inputs.now.first.now (option_copied inputs.now.other) None limit) }
 {
-    let files = SortedFiles::read(alloc, plan, inputs, limit)?;
+    let files = TextFiles::read(alloc, plan, inputs, limit)?;
     let has_second = files.has_second();
     let view = View::read(alloc, files.width(), has_second, false, plan.view_words())?;
     match view {

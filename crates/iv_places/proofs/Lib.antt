@@ -2,3 +2,6 @@ pub mod PlaceLemmas
 pub mod ReadingLemmas
 pub mod OrderLemmas
 pub mod SortedLemmas
+pub mod BareLemmas
+pub mod DedupLemmas
+pub mod JoinLemmas

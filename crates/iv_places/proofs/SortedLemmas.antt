@@ -13,10 +13,13 @@ use Rattle.iv_text.proofs.OrderedLemmas.{all-all_added, ordered-in_order}
 ordered-all : (P : Row → Type 0) (rows : List Row) → All P rows → All P (ordered rows)
 ordered-all P rows all = All-from_recursion P (ordered rows) (all-all_added row_cmp P rows [] (recursion_from_All P rows all) tt)
 
+-- records that fit a genome lie on it
+pub lying-fit : (g : Sequences) (file : Bed) → All (Fits g file.width) file.rows → All (LiesOn g) file.rows
+lying-fit g file fit = λ k e within. let fits : Fits g file.width _ = fit k e within in fits.lies
+
 -- they lie where they did
-pub lying-sorted : (g : Sequences) (file sorted : Bed) → All (Fits g file.width) file.rows → sorted ≡ record file { rows = ordered file.rows } → All (LiesOn g) sorted.rows
-lying-sorted g file sorted fit is = subst (λ (b : Bed). All (LiesOn g) b.rows) (sym is)
-    (λ k e within. let fits : Fits g file.width _ = ordered-all (Fits g file.width) file.rows fit k e within in fits.lies)
+pub lying-sorted : (g : Sequences) (file sorted : Bed) → All (LiesOn g) file.rows → sorted ≡ record file { rows = ordered file.rows } → All (LiesOn g) sorted.rows
+lying-sorted g file sorted lie is = subst (λ (b : Bed). All (LiesOn g) b.rows) (sym is) (ordered-all (LiesOn g) file.rows lie)
 
 -- they are in order
 pub order-sorted : (file sorted : Bed) → sorted ≡ record file { rows = ordered file.rows } → AreInOrder sorted.rows

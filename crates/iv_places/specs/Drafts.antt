@@ -9,6 +9,7 @@ use Rattle.iv_text.specs.Genome.{Sequences}
 use Rattle.iv_text.specs.BedFile.{Draft, after_rows, IsSoundDraft}
 use Rattle.iv_text.specs.declared.fault.LoadFault.{LoadFault}
 use Rattle.iv_places.specs.Places.{HasBase, row_at, rows_at}
+use Rattle.iv_places.specs.declared.heads.Headed.{Headed}
 use Rattle.iv_places.specs.declared.place.Place.{Place}
 
 -- the places are those of records that have a base, and of a width
@@ -40,3 +41,7 @@ left_after g limit n c = after_rows g limit n (known c) (lines (drop c.at c.text
 pub record IsUnderway (g : Sequences) (limit : ℕ) (c : Cursor) : Type 0 where
   pub sound : IsSoundDraft g limit (known c)
   pub small : length c.text < 2 ^ 32
+
+-- the place of a place with a head
+abbrev pub place_of : Headed → Place
+place_of headed = headed.place

@@ -1,2 +1,4 @@
 pub mod Places
 pub mod Drafts
+pub mod Cover
+pub mod Joins

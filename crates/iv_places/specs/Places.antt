@@ -31,6 +31,10 @@ row_at width text p = row_of width (line_at text p.line) p
 abbrev pub rows_at : ℕ → List ℕ → List Place → List Row
 rows_at width text places = map (row_at width text) places
 
+-- the record in three columns: its place, and nothing beside
+abbrev pub bare : Row → Row
+bare r = record { seq = r.seq; start = r.start; stop = r.stop; name = []; score = []; strand = None; width = 3 }
+
 -- the place has a base
 abbrev pub HasBase : Place → Type 0
 HasBase p = p.start < p.stop

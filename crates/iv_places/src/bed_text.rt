@@ -1,16 +1,19 @@
 //! The records of a BED file as places in its text.
-ghost use Rattle.std.specs.Prelude.{◌≡◌, ◌<◌, ◌≤◌, ◌^◌, ◌⊎◌, All, length, Ok, Err, IfOk, IfErr};
+ghost use Rattle.std.specs.Prelude.{◌≡◌, ◌<◌, ◌≤◌, ◌^◌, ◌⊎◌, ℕ, All, length, map, Ok, Err, IfOk, IfErr, OnOk};
 ghost use Rattle.iv_text.specs.BedFile.{bed_of};
-ghost use Rattle.iv_text.specs.Ordered.{ordered};
+ghost use Rattle.iv_text.specs.Ordered.{AreInOrder, ordered};
 ghost use Rattle.iv_text.specs.Read.{Fits};
 ghost use Rattle.iv_text.specs.declared.fault.LoadCause.TheVariants as cause;
+ghost use Rattle.iv_places.specs.Cover.{AreApart, is_covered};
+ghost use Rattle.iv_places.specs.Places.{bare};
 
 use crate::draft::TextDraft;
-use crate::order::{are_in_order, compare, order_ties};
+use crate::join::join_places;
+use crate::order::{are_in_order, compare, order_nearly};
 use crate::place::Place;
 use crate::text_records::TextRecords;
 use iv_text::{Genome, LoadFault};
-use std::alloc::{Allocator, Global};
+use std::alloc::{AllocError, Allocator, Global};
 use std::marker::Model;
 
 /// The records of a BED file, in the order of the file or of a track, all of one width.
@@ -92,20 +95,58 @@ impl<'t, A: Allocator + Copy> BedText<'t, A> {
         TextRecords::of_places(self.text, self.places.as_slice(), self.width)
     }
 
-    /// Sorts the records in the order of a track. It takes no memory, and one pass where they are sorted, or at most three
-    /// where they are but for a few records of one start.
+    /// Lets go of the columns after the third: of each record only its place is kept.
     ///
-    /// Lines are looked at only for records of one place, and none at width 3.
-    pub fn sort(&mut self)
-        ensures { self.new ≡ record self.old { rows = ordered self.old.rows } }
+    /// The text isn't looked at, here or by a sort after this call.
+    pub fn drop_columns(&mut self)
+        ensures { self.new ≡ record self.old { width = 3; rows = map bare self.old.rows } }
+    {
+        self.width = 3;
+    }
+
+    /// Sorts the records in the order of a track, in one pass where they are sorted, or at most three where they are but for a
+    /// few records of one start. Lines are looked at only for records of one place, and none at width 3.
+    ///
+    /// Memory is taken only where many records of one place are out of order: 24 bytes for each record, while it sorts.
+    ///
+    /// # Errors
+    ///
+    /// Memory was refused.
+    pub fn sort(&mut self, alloc: A) -> Result<(), AllocError>
+        ensures { OnOk result (self.new ≡ record self.old { rows = ordered self.old.rows }) }
     {
         let text = self.text;
         let width = self.width;
         if are_in_order(text, width, &self.places) {
-            return;
+            return Ok(());
         }
-        order_ties(text, width, &mut self.places);
+        order_nearly(alloc, text, width, &mut self.places)?;
         self.places
             .sort_unstable_by(|first, second| compare(text, width, first, second));
+        Ok(())
+    }
+
+    /// Joins records that overlap or are book-ended into one, and drops the columns after the third. What is left covers
+    /// the same positions, each once. It is one pass, and takes no memory.
+    ///
+    /// The records are sorted, and what is left is sorted too.
+    pub fn join(&mut self)
+        requires { AreInOrder self.old.rows }
+        ensures width { self.new.width ≡ 3 }
+        ensures bare { All (λ r. r ≡ bare r) self.new.rows }
+        ensures order { AreInOrder self.new.rows }
+        ensures covered { (seq p : ℕ) → is_covered self.new.rows seq p ≡ is_covered self.old.rows seq p }
+        ensures apart { AreApart self.new.rows }
+    {
+        join_places(&mut self.places);
+        self.drop_columns();
+    }
+
+    /// A law for callers' proofs: each record has a base. The call does nothing.
+    pub fn law_of_bases(&self)
+        ensures { All (λ r. r.start < r.stop) self.now.rows }
+    {
+        // What is read has its invariant.
+        let _width = self.width;
     }
 }

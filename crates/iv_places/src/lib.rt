@@ -4,6 +4,8 @@
 mod bed_text;
 mod beside;
 mod draft;
+mod heads;
+mod join;
 mod line;
 mod order;
 mod place;

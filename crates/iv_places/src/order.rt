@@ -9,8 +9,9 @@ ghost use Rattle.iv_places.specs.Drafts.{AreInOrder};
 ghost use Rattle.iv_places.specs.Places.{row_at};
 
 use crate::beside::{Beside, beside_of};
+use crate::heads::sort_by_heads;
 use crate::place::Place;
-use std::alloc::Allocator;
+use std::alloc::{AllocError, Allocator};
 use std::cmp::Ordering;
 
 /// Name, score and strand in the order of a track.
@@ -33,6 +34,13 @@ fn compare_beside(text: &[u8], width: u8, first: &Place, second: &Place) -> Orde
         &beside_of(text, *first, width),
         &beside_of(text, *second, width),
     )
+}
+
+/// By where they lie alone.
+pub(crate) fn compare_places(first: &Place, second: &Place) -> Ordering {
+    let stops = first.stop.cmp(&second.stop);
+    let starts = first.start.cmp(&second.start);
+    first.seq.cmp(&second.seq).then(starts.then(stops))
 }
 
 /// The records of two places in the order of a track.
@@ -61,18 +69,54 @@ pub(crate) fn are_in_order(text: &[u8], width: u8, places: &[Place]) -> bool
 /// The most places that one is moved past.
 const MOST_MOVES: usize = 16;
 
-/// Moves each place past a few others of its start that belong behind it. So files that are in order but for records of
-/// one start, as most tools leave them, are then in the order of a track.
-pub(crate) fn order_ties<A: Allocator>(text: &[u8], width: u8, places: &mut Vec<Place, A>)
+/// Brings places into the order of a track, or near to it: what is left to a sort is mostly to see that they are in order.
+///
+/// Records of one place are the slow part of a sort, since each comparison cuts two lines. A few of them are moved past each
+/// other. Where there are many of one place, they are sorted by a few bytes of their names, which takes memory.
+///
+/// # Errors
+///
+/// Memory was refused.
+pub(crate) fn order_nearly<A: Allocator + Copy>(
+    alloc: A,
+    text: &[u8],
+    width: u8,
+    places: &mut Vec<Place, A>,
+) -> Result<(), AllocError>
+    ensures { IsPermutation places.old.items places.new.items }
+{
+    order_ties(text, width, places);
+    if are_in_order(text, width, places) {
+        return Ok(());
+    }
+    places.sort_unstable_by(compare_places);
+    if order_ties(text, width, places) {
+        return Ok(());
+    }
+    sort_by_heads(alloc, text, width, places)
+}
+
+/// Moves each place past a few others of its start that belong after it. So files that are in order but for records of
+/// one start, as most tools leave them, are then in the order of a track. It stops where there are more than a few, and says
+/// whether it came to the end.
+fn order_ties<A: Allocator>(text: &[u8], width: u8, places: &mut Vec<Place, A>) -> bool
     ensures { IsPermutation places.old.items places.new.items }
 {
     for index in 1..places.len() {
-        move_forward(text, width, places, index);
+        if !move_forward(text, width, places, index) {
+            return false;
+        }
     }
+    true
 }
 
-/// Moves the place at an index past a few others of its start that belong behind it.
-fn move_forward<A: Allocator>(text: &[u8], width: u8, places: &mut Vec<Place, A>, index: usize)
+/// Moves the place at an index past a few others of its start that belong after it, and says whether that was enough.
+fn move_forward<A: Allocator>(
+    text: &[u8],
+    width: u8,
+    places: &mut Vec<Place, A>,
+    index: usize,
+) -> bool
     requires { index < length places.old.items }
     ensures { IsPermutation places.old.items places.new.items }
 {
@@ -80,12 +124,13 @@ fn move_forward<A: Allocator>(text: &[u8], width: u8, places: &mut Vec<Place, A>
     while at > 0 && index - at < MOST_MOVES {
         let (before, here) = (places[at - 1], places[at]);
         if before.seq != here.seq || before.start != here.start {
-            return;
+            return true;
         }
         if compare(text, width, &before, &here) != Ordering::Greater {
-            return;
+            return true;
         }
         places.swap(at - 1, at);
         at -= 1;
     }
+    index - at < MOST_MOVES
 }

@@ -2,6 +2,7 @@
 ghost use Rattle.std.specs.Prelude.{◌≡◌, All, Err, IsTrue};
 ghost use Rattle.iv_text.specs.Ordered.{AreInOrder};
 ghost use Rattle.iv_text.specs.Read.{LiesOn};
+ghost use Rattle.iv_sweep.specs.Places.{NeedsPlacesAlone};
 ghost use Rattle.iv_sweep.specs.Prints.{Prints};
 ghost use Rattle.iv_sweep.specs.declared.fault.SweepFault.TheVariants.{NoMemory};
 ghost use Rattle.iv_sweep_blocks.specs.Plain.{IsPlain};
@@ -16,6 +17,18 @@ use iv_sweep_merge::MergeSweep;
 use iv_text::{Buffered, Genome, Sink};
 use iv_view::KeptView;
 use std::alloc::Allocator;
+
+/// Whether the rows of a view depend on nothing of a record but its place, as those of `complement`, of `genomecov`, and of a
+/// `merge` that joins both strands and asks nothing of a block.
+pub fn needs_places_alone(view: &KeptView) -> bool
+    ensures { IsTrue result → NeedsPlacesAlone view.now }
+{
+    match view {
+        KeptView::Merge(options) => is_plain(options),
+        KeptView::Cluster(_) => false,
+        KeptView::Complement(_) | KeptView::Genomecov(_) => true,
+    }
+}
 
 /// Prints the text of a view, for records in the order of a track that lie on the genome, through one buffer.
 ///

@@ -6,5 +6,5 @@ mod kept;
 mod pairs;
 
 pub use fault::SweepFault;
-pub use kept::print_kept;
+pub use kept::{needs_places_alone, print_kept};
 pub use pairs::print_pairs;

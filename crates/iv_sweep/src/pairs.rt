@@ -1,12 +1,14 @@
 //! The views of the records of two texts: intersect and subtract.
+ghost use Rattle.std.specs.Prelude.{◌≡◌, Err};
 ghost use Rattle.iv_text.specs.Ordered.{AreInOrder};
 ghost use Rattle.iv_pair.specs.PairRows.{pair_text};
 ghost use Rattle.iv_sweep.specs.Prints.{Prints};
+ghost use Rattle.iv_sweep.specs.declared.fault.SweepFault.TheVariants.{NoMemory};
 
 use crate::fault::SweepFault;
-use iv_pair::PairRows;
+use iv_pair::{IntersectRows, PairRows};
 use iv_places::TextRecords;
-use iv_sweep_pairs::PairSweep;
+use iv_sweep_pairs::{CountSweep, PairSweep};
 use iv_text::{Buffered, Genome, Sink};
 use std::alloc::Allocator;
 
@@ -29,9 +31,35 @@ pub fn print_pairs<'t, A: Allocator + Copy, S: Sink>(
     requires second { AreInOrder second.now }
     ensures { Prints (S.state sink.old) (S.state sink.new) result (pair_text rows genome.now first.now second.now) }
 {
-    let mut sweep = PairSweep::new(alloc, first, second)?;
     let mut buffer = Buffered::new(sink);
-    sweep.print(rows, genome, &mut buffer)?;
+    put_pairs(alloc, rows, first, second, genome, &mut buffer)?;
     buffer.finish()?;
+    Ok(())
+}
+
+/// Puts the rows straight into the sink. Where memory is refused the sink is not touched.
+///
+/// Where only the number of hits is wanted, no hit is looked at.
+fn put_pairs<'t, A: Allocator + Copy, S: Sink>(
+    alloc: A,
+    rows: PairRows,
+    first: &TextRecords<'t>,
+    second: &TextRecords<'t>,
+    genome: &Genome<A>,
+    sink: &mut S,
+) -> Result<(), SweepFault>
+    requires first { AreInOrder first.now }
+    requires second { AreInOrder second.now }
+    ensures text { Prints (S.state sink.old) (S.state sink.new) result (pair_text rows genome.now first.now second.now) }
+    ensures alone { result ≡ Err NoMemory → sink.new ≡ sink.old }
+{
+    match rows {
+        PairRows::Intersect(IntersectRows::Count) => {
+            CountSweep::new(alloc, first, second)?.print(genome, sink)?;
+        }
+        _ => {
+            PairSweep::new(alloc, first, second)?.print(rows, genome, sink)?;
+        }
+    }
     Ok(())
 }

@@ -1,2 +1,6 @@
+mod FrontLemmas
+mod CountLemmas
 mod Lying
 mod StepLemmas
+mod EmptyAlike
+mod CoverLemmas

@@ -1,2 +1,4 @@
+pub mod Counts
 pub mod Pairs
 pub mod Sweeps
+pub mod CoverAlone

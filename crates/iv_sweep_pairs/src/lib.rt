@@ -4,8 +4,14 @@
 #![tactic(auto)]
 
 mod beside;
+mod count_sweep;
+mod cover_alone;
+mod ends;
 mod hits;
 mod pair_sweep;
 mod printing;
+mod starts;
 
+pub use count_sweep::CountSweep;
+pub use cover_alone::needs_cover_alone;
 pub use pair_sweep::PairSweep;

@@ -175,11 +175,11 @@ fn are_same(texts: TextRecords<'_>, records: &[Record]) -> bool {
 
 /// Whether a text and its parsed file have the same records, in the order of the file and sorted.
 fn sorts_as_its_file(rt: &HostRuntime, genome: &Genome, text: &[u8]) -> Result<bool, Fail> {
-    let mut records = BedFile::parse(rt.alloc(), genome, 5, 99, text)?.into_records();
-    let mut bed = bed_text(rt.alloc(), genome, 99, text)?;
+    let mut records = BedFile::parse(rt.alloc(), genome, 5, 999, text)?.into_records();
+    let mut bed = bed_text(rt.alloc(), genome, 999, text)?;
     let unsorted = are_same(bed.records(), records.as_slice());
     records.sort()?;
-    bed.sort();
+    bed.sort(rt.alloc())?;
     Ok(unsorted && are_same(bed.records(), records.as_slice()))
 }
 
@@ -209,6 +209,31 @@ fn records_of_one_start(rt: HostRuntime) -> Result<(), Fail> {
     let genome = Genome::parse(rt.alloc(), SIZES)?;
     for count in [2, 3, 16, 17, 18, 40] {
         let text = tied_lines(&rt, count)?;
+        assert!(rt; sorts_as_its_file(&rt, &genome, text.as_bytes())?);
+    }
+    Ok(())
+}
+
+/// The lines of so many records of one place, the columns after the third in no order: names of one to nine bytes after a
+/// beginning that all have, some of them the same, so that scores and strands decide.
+fn named_lines(rt: &HostRuntime, count: u32) -> Result<String, Fail> {
+    let mut text = String::new(rt.alloc());
+    for index in 0..count {
+        let number = index.wrapping_mul(7919) % 251;
+        let name = number.wrapping_mul(number).wrapping_mul(number);
+        let strand = ["+", "-", "."][(index % 3) as usize];
+        let line = format!(in rt.alloc(); "chr1\t5\t9\tread:{name}\t{}\t{strand}\n", index % 5)?;
+        text.push_str(&line)?;
+    }
+    Ok(text)
+}
+
+/// Many records of one place are sorted by the bytes of their names.
+#[test]
+fn records_of_one_place(rt: HostRuntime) -> Result<(), Fail> {
+    let genome = Genome::parse(rt.alloc(), SIZES)?;
+    for count in [3, 17, 300] {
+        let text = named_lines(&rt, count)?;
         assert!(rt; sorts_as_its_file(&rt, &genome, text.as_bytes())?);
     }
     Ok(())
@@ -310,7 +335,7 @@ fn many_records_of_a_text(rt: HostRuntime) -> Result<(), Fail> {
     let genome = Genome::parse(rt.alloc(), SIZES)?;
     let text = many_lines(&rt)?;
     let mut bed = bed_text(rt.alloc(), &genome, MANY, text.as_bytes())?;
-    bed.sort();
+    bed.sort(rt.alloc())?;
     assert!(rt; are_many(bed.records()));
     Ok(())
 }
@@ -345,5 +370,30 @@ fn each_growth_of_places_refused(rt: HostRuntime) -> Result<(), Fail> {
     let text = many_lines(&rt)?;
     let lines = &text.as_bytes()[..text.len().min(40 * 18)];
     assert!(rt; 2 < refuse_each(rt.alloc(), |alloc| refused_reads(alloc, lines))?);
+    Ok(())
+}
+
+/// How many sorts of these records were refused memory, one or none.
+fn refused_sorts(alloc: &RefusesNth<Global>, text: &[u8]) -> Result<u32, Fail> {
+    let Ok(genome) = Genome::parse(alloc, SIZES) else {
+        return Ok(0);
+    };
+    let Ok(mut bed) = bed_text(alloc, &genome, MANY, text) else {
+        return Ok(0);
+    };
+    let before = alloc.has_refused();
+    match bed.sort(alloc) {
+        Ok(()) if alloc.has_refused() == before => Ok(0),
+        Err(_) if alloc.has_refused() != before => Ok(1),
+        _ => Err(Fail::new("a sort that ends otherwise than its memory")),
+    }
+}
+
+/// A sort takes memory once, where many records of one place are out of order, and else none.
+#[test]
+fn memory_of_a_sort_refused(rt: HostRuntime) -> Result<(), Fail> {
+    let named = named_lines(&rt, 40)?;
+    assert!(rt; refuse_each(rt.alloc(), |alloc| refused_sorts(alloc, SHUFFLED))? == 0);
+    assert!(rt; refuse_each(rt.alloc(), |alloc| refused_sorts(alloc, named.as_bytes()))? == 1);
     Ok(())
 }

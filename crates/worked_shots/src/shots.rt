@@ -371,6 +371,31 @@ fn intersect_with_a_long_record(rt: HostRuntime) -> Result<(), Fail> {
     Ok(())
 }
 
+/// Long, nested and equal records on two sequences, and others that only touch. Each file is counted beside the other.
+#[test]
+fn counts_of_hits(rt: HostRuntime) -> Result<(), Fail> {
+    let some =
+        b"chr1\t0\t1\nchr1\t0\t100\nchr1\t0\t100\nchr1\t9\t10\nchr1\t13\t21\nchr1\t14\t15\nchr1\t20\t21\nchr1\t30\t40\nchr1\t50\t60\nchr2\t0\t5\nchr2\t10\t11\nchr2\t20\t50\n".as_slice();
+    let others =
+        b"chr1\t0\t100\nchr1\t10\t20\nchr1\t10\t20\nchr1\t12\t15\nchr1\t13\t14\nchr1\t20\t30\nchr1\t21\t22\nchr1\t23\t24\nchr1\t25\t26\nchr1\t27\t28\nchr1\t40\t50\nchr2\t0\t10\nchr2\t5\t50\nchr2\t10\t11\nchr2\t10\t20\n".as_slice();
+    for (first, second, rows) in [
+        (
+            some,
+            others,
+            b"chr1\t0\t1\t1\nchr1\t0\t100\t11\nchr1\t0\t100\t11\nchr1\t9\t10\t1\nchr1\t13\t21\t6\nchr1\t14\t15\t4\nchr1\t20\t21\t2\nchr1\t30\t40\t1\nchr1\t50\t60\t1\nchr2\t0\t5\t1\nchr2\t10\t11\t3\nchr2\t20\t50\t1\n".as_slice(),
+        ),
+        (
+            others,
+            some,
+            b"chr1\t0\t100\t9\nchr1\t10\t20\t4\nchr1\t10\t20\t4\nchr1\t12\t15\t4\nchr1\t13\t14\t3\nchr1\t20\t30\t4\nchr1\t21\t22\t2\nchr1\t23\t24\t2\nchr1\t25\t26\t2\nchr1\t27\t28\t2\nchr1\t40\t50\t2\nchr2\t0\t10\t1\nchr2\t5\t50\t2\nchr2\t10\t11\t1\nchr2\t10\t20\t1\n",
+        ),
+    ] {
+        let inputs = beside(first, second);
+        assert!(rt; prints(&rt, b"intersect -c -g g -a a -b b", &inputs, rows)?);
+    }
+    Ok(())
+}
+
 /// What second files leave of one record, by its parts and as a whole.
 #[test]
 fn subtract(rt: HostRuntime) -> Result<(), Fail> {

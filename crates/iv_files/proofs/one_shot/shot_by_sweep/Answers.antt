@@ -12,7 +12,7 @@ print_pairs-requires g c =
     let two : c.in-Written-Paired.field-0 ≡ written.Paired c.in-Written-Paired.rows = rw one at c.in-Written-Paired.field-0-is in
     let view-is : c.in_ok-view.view ≡ view.Written (written.Paired c.in-Written-Paired.rows) = one ∙ ap view.Written two in
     let asked = sym (rw (c.width.ensures, c.has_second-has_second.ensures, c.view_words.ensures) at c.in_ok-view.ensures) in
-    needs-there c.in_ok-files.files.width (is_some c.in_ok-files.files.others) false c.args.plan.now.view (view.Written (written.Paired c.in-Written-Paired.rows)) (asked ∙ ap Ok view-is) refl
+    needs-there c.in_ok-files.files.first.width (is_some c.in_ok-files.files.second) false c.args.plan.now.view (view.Written (written.Paired c.in-Written-Paired.rows)) (asked ∙ ap Ok view-is) refl
 
 pub returns-in-Written-Paired : goal.returns-in-Written-Paired
 returns-in-Written-Paired g c =
@@ -20,4 +20,4 @@ returns-in-Written-Paired g c =
     let two : c.in-Written-Paired.field-0 ≡ written.Paired c.in-Written-Paired.rows = rw one at c.in-Written-Paired.field-0-is in
     let view-is : c.in_ok-view.view ≡ view.Written (written.Paired c.in-Written-Paired.rows) = one ∙ ap view.Written two in
     let asked = sym (rw (c.width.ensures, c.has_second-has_second.ensures, c.view_words.ensures) at c.in_ok-view.ensures) in
-    shows-text _ c.in_ok-files.files c.in_ok-files.ensures.ok c.args.plan.now.view (view.Written (written.Paired c.in-Written-Paired.rows)) (asked ∙ ap Ok view-is) _ _ c.in_ok-print_pairs-in-Written-Paired.ensures
+    shows-text _ c.args.limit c.in_ok-files.files c.in_ok-files.ensures.ok c.args.plan.now.view (view.Written (written.Paired c.in-Written-Paired.rows)) (asked ∙ ap Ok view-is) _ _ c.in_ok-print_pairs-in-Written-Paired.ensures

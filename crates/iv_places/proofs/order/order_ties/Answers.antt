@@ -9,3 +9,6 @@ loop-index-preserved g c =
       permutation = IsPermutation-trans _ _ _ c.loop-index.invariant.permutation moved;
       len = length_permutation _ _ moved ∙ c.loop-index.invariant.len;
     }
+
+pub returns-then-not-move_forward : goal.returns-then-not-move_forward
+returns-then-not-move_forward g c = IsPermutation-trans _ _ _ c.loop-index.invariant.permutation c.move_forward.ensures

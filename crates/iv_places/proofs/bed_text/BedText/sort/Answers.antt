@@ -11,7 +11,16 @@ use Rattle.iv_places.proofs.bed_text.BedText.sort.Goals as goal
 pub invariant_of-self : goal.invariant_of-self
 invariant_of-self g c =
     let s = c.self.invariant in
-    let moved = IsPermutation-trans c.self.inside.places.items c.order_ties.new.places.items c.sort_unstable_by.new.self.items c.order_ties.ensures c.sort_unstable_by.ensures.permutation in
+    record {
+      low = s.low;
+      high = s.high;
+      some = All-permutation HasBase c.self.inside.places.items c.order_nearly.new.places.items c.order_nearly.ensures s.some;
+    }
+
+pub invariant_of-self-2 : goal.invariant_of-self-2
+invariant_of-self-2 g c =
+    let s = c.self.invariant in
+    let moved = IsPermutation-trans c.self.inside.places.items c.order_nearly.new.places.items c.sort_unstable_by.new.self.items c.order_nearly.ensures c.sort_unstable_by.ensures.permutation in
     record {
       low = s.low;
       high = s.high;
@@ -32,7 +41,7 @@ pub returns : goal.returns
 returns g c =
     let w = c.self.inside.width in
     let text = c.self.inside.text.now in
-    let moved = IsPermutation-trans c.self.inside.places.items c.order_ties.new.places.items c.sort_unstable_by.new.self.items c.order_ties.ensures c.sort_unstable_by.ensures.permutation in
+    let moved = IsPermutation-trans c.self.inside.places.items c.order_nearly.new.places.items c.sort_unstable_by.new.self.items c.order_nearly.ensures c.sort_unstable_by.ensures.permutation in
     let with_rows : List Row → Bed = λ rows. record { width = w; rows = rows } in
     let in_order : Bed → Bed = λ b. record { width = b.width; rows = ordered b.rows } in
     ap with_rows (sorted-rows w text c.self.inside.places.items c.sort_unstable_by.new.self.items moved

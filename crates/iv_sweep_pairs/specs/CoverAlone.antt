@@ -1,0 +1,34 @@
+-- Rows that depend on the second list only by which positions it covers.
+use Rattle.std.specs.Prelude.{◌≡◌, ◌<◌, ℕ, Bool, true, false, List, All}
+use Rattle.iv_text.specs.Genome.{Sequences}
+use Rattle.iv_text.specs.Row.{Row}
+use Rattle.iv_places.specs.Cover.{is_covered}
+use Rattle.iv_pair.specs.PairRows.{pair_text}
+use Rattle.iv_pair.specs.declared.intersect.IntersectRows.TheVariants.{Shared, SharedAndHit, Whole, WholeAndHit, IfHit, IfNoHit, Count}
+use Rattle.iv_pair.specs.declared.pair_rows.PairRows.{PairRows}
+use Rattle.iv_pair.specs.declared.pair_rows.PairRows.TheVariants.{Intersect, Subtract}
+
+-- each record has a base
+abbrev pub HaveBases : List Row → Type 0
+HaveBases rows = All (λ r. r.start < r.stop) rows
+
+-- the same positions of each sequence are covered
+abbrev pub CoverAlike : List Row → List Row → Type 0
+CoverAlike second other = (seq p : ℕ) → is_covered second seq p ≡ is_covered other seq p
+
+-- two second lists that cover the same positions give one text, whatever the first list
+abbrev pub DependsOnCoverAlone : PairRows → Type 0
+DependsOnCoverAlone rows =
+    (g : Sequences) (first second other : List Row) → HaveBases first → HaveBases second → HaveBases other → CoverAlike second other
+    → pair_text rows g first second ≡ pair_text rows g first other
+
+-- an intersect that only asks whether there is a hit, and each subtract
+abbrev pub needs_cover_alone : PairRows → Bool
+needs_cover_alone (Intersect Shared) = false
+needs_cover_alone (Intersect SharedAndHit) = false
+needs_cover_alone (Intersect Whole) = false
+needs_cover_alone (Intersect WholeAndHit) = false
+needs_cover_alone (Intersect IfHit) = true
+needs_cover_alone (Intersect IfNoHit) = true
+needs_cover_alone (Intersect Count) = false
+needs_cover_alone (Subtract whole) = true
