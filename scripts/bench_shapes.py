@@ -31,6 +31,10 @@ VIEWS = ["merge", "merge -s", "merge -c 4 -o collapse", "cluster", "complement",
          "intersect", "intersect -u", "intersect -v", "intersect -c", "intersect -wa", "intersect -wb", "intersect -wa -wb",
          "subtract", "subtract -A", "getfasta"]
 MOST_RATIO = 5
+# sequences of the genome file of the shape that has many
+SEQUENCES = 1_000_000
+# shapes whose file isn't sorted
+UNSORTED = ("shuffled", "one start")
 FORMAT = os.path.join(TOP, "docs", "FORMAT.md")
 
 
@@ -89,6 +93,11 @@ def views_of(shape):
     """The views that are timed over a shape."""
     if shape == "short lines":
         return ["getfasta"]
+    if shape in ("nested", "a deep place in both"):
+        # The others have a row for each of billions of overlaps, or of gaps.
+        rows_of_overlaps = ["intersect", "intersect -wa", "intersect -wb", "intersect -wa -wb"]
+        rows_of_gaps = ["subtract"] if shape == "nested" else []
+        return [view for view in VIEWS[:-1] if view not in rows_of_overlaps + rows_of_gaps]
     return VIEWS if shape == "spread" else VIEWS[:-1]
 
 
@@ -171,7 +180,11 @@ def one_block(count):
 
 
 def many_sequences(count):
-    return [(f"contig{number}", 10, 500) for number in range(count)]
+    return [(f"contig{number * SEQUENCES // count}", 10, 500) for number in range(count)]
+
+
+def deep_place(count):
+    return [("chr1", 99_950_000 + number * 7 % 90_000, 99_950_100 + number * 7 % 90_000 + number % 500) for number in range(count)]
 
 
 def beside_spread(count):
@@ -203,6 +216,7 @@ SHAPES = {
     "a long second record": (spread, lambda count: with_long(beside_spread(count))),
     "ten long second records": (spread, lambda count: with_ten_long(beside_spread(count))),
     "a deep second file": (spread, lambda count: deep(beside_spread(count))),
+    "a deep place in both": (deep_place, lambda count: deep(beside_spread(count))),
     "many sequences": (many_sequences, lambda count: many_sequences(count)),
     "short lines": (spread, beside_spread),
 }
@@ -215,14 +229,14 @@ def write_files(folder, shape, count, second_count):
     if shape == "copies":
         rows = [(*row[:3], "name", "0", "+") for row in rows]
     others = second(second_count)
-    contigs = sorted({row[0] for row in rows + others if row[0].startswith("contig")})
+    contigs = sorted(f"contig{number}" for number in range(SEQUENCES)) if shape == "many sequences" else []
     genome, bed, in_order, beside, bases, fasta = (
         os.path.join(folder, f"{shape.replace(' ', '_')}.{ending}") for ending in ("sizes", "bed", "sorted.bed", "second.bed", "bases", "fa"))
     with open(genome, "w") as file:
         file.writelines(f"{name}\t{length}\n" for name, length in [(name, 600) for name in contigs] or sorted(CHROMOSOMES))
     write_rows(in_order, sorted(rows))
     write_rows(beside, sorted(others))
-    if shape == "shuffled":
+    if shape in UNSORTED:
         random.Random(SEED).shuffle(rows)
         write_rows(bed, rows)
     else:

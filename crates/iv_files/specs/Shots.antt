@@ -1,13 +1,11 @@
 -- What a run of one subcommand prints.
-use Rattle.std.specs.Prelude.{◌≡◌, ℕ, All, List, [], Option, None, IfSome, Result, Ok, Err}
+use Rattle.std.specs.Prelude.{◌≡◌, ℕ, List, [], Option, None, Result, Ok, Err}
 use Rattle.std.specs.Option.{is_some, option_map, unwrap_or}
 use Rattle.iv_bytes.specs.Sinks.{SinkState, Takes, FailsIn}
 use Rattle.iv_text.specs.BedFile.{Bed}
 use Rattle.iv_text.specs.Genome.{Sequences}
-use Rattle.iv_text.specs.Ordered.{ordered, AreInOrder}
-use Rattle.iv_text.specs.Read.{LiesOn}
+use Rattle.iv_text.specs.Ordered.{ordered}
 use Rattle.iv_text.specs.Row.{Row}
-use Rattle.iv_text.specs.declared.fault.LoadFault.{LoadFault}
 use Rattle.iv_view.specs.Views.{read_words, view_code, view_text}
 use Rattle.iv_view.specs.declared.view.View.{View}
 use Rattle.iv_view.specs.declared.fault.ViewFault.{ViewFault}

@@ -14,8 +14,8 @@ print_pairs-requires g c =
     let asked = sym (rw (c.width.ensures, c.has_second-has_second.ensures, c.view_words.ensures) at c.in_ok-view.ensures) in
     needs-there c.in_ok-files.files.first.width (is_some c.in_ok-files.files.second) false c.args.plan.now.view (view.Written (written.Paired c.in-Written-Paired.rows)) (asked ∙ ap Ok view-is) refl
 
-pub returns-in-Written-Paired : goal.returns-in-Written-Paired
-returns-in-Written-Paired g c =
+pub returns-in_ok-print_pairs-in-Written-Paired : goal.returns-in_ok-print_pairs-in-Written-Paired
+returns-in_ok-print_pairs-in-Written-Paired g c =
     let one = c.in-Written-Paired.is in
     let two : c.in-Written-Paired.field-0 ≡ written.Paired c.in-Written-Paired.rows = rw one at c.in-Written-Paired.field-0-is in
     let view-is : c.in_ok-view.view ≡ view.Written (written.Paired c.in-Written-Paired.rows) = one ∙ ap view.Written two in
