@@ -5,6 +5,7 @@ pub mod NamedLemmas
 pub mod LengthLemmas
 pub mod ReadLemmas
 pub mod FileLemmas
+pub mod FileLawLemmas
 pub mod OnePassLemmas
 pub mod ShortLemmas
 pub mod BedLemmas

@@ -9,6 +9,7 @@ pub mod Read
 pub mod Fault
 pub mod GenomeFile
 pub mod BedFile
+pub mod FileLaws
 pub mod ShortLine
 pub mod Ordered
 pub mod RecordText
