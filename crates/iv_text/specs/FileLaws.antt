@@ -1,9 +1,13 @@
--- What genome files say, line by line: a genome where no line has a cause to refuse it, else the first fault.
-use Rattle.std.specs.Prelude.{◌≡◌, ℕ, ◌+◌, ◌++◌, not, cond, List, ◌∷◌, Option, None, Some, length, map, filter, find}
+-- What genome files and BED files say, line by line: a value where no line has a cause to refuse it, else the first fault.
+use Rattle.std.specs.Prelude.{◌≡◌, ℕ, ◌+◌, ◌++◌, nat_le, not, Bool, false, cond, List, [], ◌∷◌, Option, None, Some, length, map, filter, find, slice_get, option_map, unwrap_or}
 use Rattle.iv_text.specs.Fields.{columns}
 use Rattle.iv_text.specs.Genome.{Sequences}
 use Rattle.iv_text.specs.GenomeFile.{is_skipped, has_cause, causes, sequence}
+use Rattle.iv_text.specs.Row.{Row}
+use Rattle.iv_text.specs.Read.{has_fault, faults, row}
+use Rattle.iv_text.specs.BedFile.{is_unread, is_width, Bed}
 use Rattle.iv_text.specs.declared.fault.LoadCause.{LoadCause}
+use Rattle.iv_text.specs.declared.fault.LoadCause.TheVariants as cause
 use Rattle.iv_text.specs.declared.fault.LoadFault.{LoadFault}
 
 -- no line has a cause, each looked at after the lines before it
@@ -27,3 +31,38 @@ sequences_of lines = map (λ line. sequence (columns line)) (filter (λ line. no
 -- the first cause of a line after these lines, unless it is skipped
 abbrev pub sequence_cause : List (List ℕ) → List ℕ → Option LoadCause
 sequence_cause before line = cond (is_skipped line) None (find (has_cause (sequences_of before) (columns line)) causes)
+
+-- the lines that say a record
+abbrev pub record_lines : List (List ℕ) → List (List ℕ)
+record_lines lines = filter (λ line. not (is_unread line)) lines
+
+-- the width that lines say: the number of columns of the first that says a record
+abbrev pub first_width : List (List ℕ) → Option ℕ
+first_width lines = option_map (λ line. length (columns line)) (slice_get (record_lines lines) 0)
+
+-- the records that lines say, all of that width
+abbrev pub rows_of : Sequences → List (List ℕ) → List Row
+rows_of g lines = map (λ line. row g (unwrap_or (first_width lines) 0) (columns line)) (record_lines lines)
+
+-- the BED file that lines say; where none says a record, its width is the one handed in
+abbrev pub bed_from : Sequences → ℕ → List (List ℕ) → Bed
+bed_from g empty lines = record { width = unwrap_or (first_width lines) empty; rows = rows_of g lines }
+
+-- the width for a line after these lines: theirs, or the number of its own columns where none of them says a record
+abbrev pub width_after : List (List ℕ) → List ℕ → ℕ
+width_after before line = unwrap_or (first_width before) (length (columns line))
+
+-- whether a line after these lines has a cause: the width isn't 3 to 6, its record has a fault, or there are as many records as the limit
+abbrev pub has_row_cause : Sequences → ℕ → List (List ℕ) → List ℕ → LoadCause → Bool
+has_row_cause g limit before line cause.Columns = not (is_width (width_after before line))
+has_row_cause g limit before line (cause.Record f) = has_fault g (width_after before line) (columns line) f
+has_row_cause g limit before line cause.TooMany = nat_le limit (length (rows_of g before))
+has_row_cause g limit before line other = false
+
+-- these causes, in the order in which they are reported
+abbrev pub row_causes : List LoadCause
+row_causes = cause.Columns ∷ (map cause.Record faults ++ cause.TooMany ∷ [])
+
+-- the first cause of a line after these lines, unless it says no record
+abbrev pub row_cause : Sequences → ℕ → List (List ℕ) → List ℕ → Option LoadCause
+row_cause g limit before line = cond (is_unread line) None (find (has_row_cause g limit before line) row_causes)

@@ -36,8 +36,8 @@ pub use iv_bytes::{
     WriteFault, put_all, put_pieces,
 };
 pub use laws::{
-    first_line_ends_at_feed, genome_or_first_fault, last_line_ends_at_end, one_length_changes,
-    one_ordered_list,
+    bed_or_first_fault, first_line_ends_at_feed, genome_or_first_fault, last_line_ends_at_end,
+    one_length_changes, one_ordered_list,
 };
 pub use lines::{lines_of, split_line};
 pub use number::{read_digits, read_number};

@@ -1,0 +1,164 @@
+-- A BED file read line by line has the records of its lines where none has a cause, else the first fault.
+use Rattle.std.proofs.Common.{◌≡◌, ◌↔◌, ℕ, ◌+◌, ◌++◌, nat_le, Bool, true, false, not, cond, List, [], ◌∷◌, Option, None, Some, Result, Ok, Err, length, map, find, option_map, slice_get, refl, sym, ◌∙◌, ap}
+use Rattle.std.specs.Option.{unwrap_or, option_or}
+use Rattle.std.proofs.lemmas.Bool.{cond-true, cond-false, not_from_true, not_from_false}
+use Rattle.std.proofs.lemmas.List.{map-append}
+use Rattle.std.proofs.lemmas.List.Folds.{find-append}
+use Rattle.std.proofs.lemmas.Option.{none-some}
+use Rattle.iv_text.specs.Fields.{columns}
+use Rattle.iv_text.specs.Lines.{lines}
+use Rattle.iv_text.specs.Genome.{Sequences}
+use Rattle.iv_text.specs.Read.{has_fault, faults, row, told}
+use Rattle.iv_text.specs.Row.{Row}
+use Rattle.iv_text.specs.BedFile.{is_unread, is_width, with_row, Bed, Draft, drafted, width_at, after_row, after_rows, finished, bed_of}
+use Rattle.iv_text.specs.FileLaws.{HaveNoCause, IsFirstFault, record_lines, first_width, rows_of, bed_from, width_after, has_row_cause, row_causes, row_cause}
+use Rattle.iv_text.specs.declared.fault.RecordFault.{RecordFault}
+use Rattle.iv_text.specs.declared.fault.LoadCause.{LoadCause}
+use Rattle.iv_text.specs.declared.fault.LoadCause.TheVariants as cause
+use Rattle.iv_text.specs.declared.fault.LoadFault.{LoadFault}
+use Rattle.iv_text.proofs.BedLemmas.{row-unread}
+use Rattle.iv_text.proofs.FileLawLemmas.{same-ok, same-err, ok-err, IsRun, run-value, run-fault, kept, kept-not}
+
+-- ---- what is known after lines
+
+-- from the lines that say a record
+abbrev draft_of : Sequences → List (List ℕ) → Draft
+draft_of g said = record {
+  width = option_map (λ line. length (columns line)) (slice_get said 0);
+  rows = map (λ line. row g (unwrap_or (option_map (λ line. length (columns line)) (slice_get said 0)) 0) (columns line)) said;
+}
+
+abbrev draft : Sequences → List (List ℕ) → Draft
+draft g before = record { width = first_width before; rows = rows_of g before }
+
+-- with the record of one more line
+abbrev with_line : Sequences → Draft → List ℕ → Draft
+with_line g d line = record { width = Some (width_at d line); rows = d.rows ++ row g (width_at d line) (columns line) ∷ [] }
+
+draft-push : (g : Sequences) (said : List (List ℕ)) (line : List ℕ) → draft_of g (said ++ line ∷ []) ≡ with_line g (draft_of g said) line
+draft-push g [] line = refl
+draft-push g (l ∷ said) line =
+    ap {B = Draft} (λ (rows : List Row). record { width = Some (length (columns l)); rows = row g (length (columns l)) (columns l) ∷ rows })
+    (map-append (λ (m : List ℕ). row g (length (columns l)) (columns m)) said (line ∷ []))
+
+draft-unread : (g : Sequences) (before : List (List ℕ)) (line : List ℕ) → is_unread line ≡ true → draft g (before ++ line ∷ []) ≡ draft g before
+draft-unread g before line unread = ap (draft_of g) (kept-not (λ l. not (is_unread l)) before line (not_from_true (is_unread line) unread))
+
+draft-read : (g : Sequences) (before : List (List ℕ)) (line : List ℕ) → is_unread line ≡ false → draft g (before ++ line ∷ []) ≡ with_line g (draft g before) line
+draft-read g before line read =
+    ap (draft_of g) (kept (λ l. not (is_unread l)) before line (not_from_false (is_unread line) read))
+    ∙ draft-push g (record_lines before) line
+
+-- ---- the first cause of a line
+
+find-map : (p : LoadCause → Bool) (fs : List RecordFault) → find p (map cause.Record fs) ≡ option_map cause.Record (find (λ f. p (cause.Record f)) fs)
+find-map p [] = refl
+find-map p (f ∷ fs) = by (p (cause.Record f)) (find-map p fs)
+  where
+    by : (t : Bool) → find p (map cause.Record fs) ≡ option_map cause.Record (find (λ e. p (cause.Record e)) fs)
+        → cond t (Some (cause.Record f)) (find p (map cause.Record fs)) ≡ option_map cause.Record (cond t (Some f) (find (λ e. p (cause.Record e)) fs))
+    by true rest = refl
+    by false rest = rest
+
+-- the first of the three kinds of causes
+abbrev cause_by : Bool → Option RecordFault → Bool → Option LoadCause
+cause_by fits f full = cond (not fits) (Some cause.Columns) (option_or (option_map cause.Record f) (cond full (Some cause.TooMany) None))
+
+cause-unread : (g : Sequences) (limit : ℕ) (before : List (List ℕ)) (line : List ℕ) → is_unread line ≡ true → row_cause g limit before line ≡ None
+cause-unread g limit before line unread = cond-true (is_unread line) None (find (has_row_cause g limit before line) row_causes) unread
+
+cause-read : (g : Sequences) (limit : ℕ) (before : List (List ℕ)) (line : List ℕ) → is_unread line ≡ false
+    → row_cause g limit before line ≡ cause_by (is_width (width_after before line)) (find (has_fault g (width_after before line) (columns line)) faults) (nat_le limit (length (rows_of g before)))
+cause-read g limit before line read =
+    cond-false (is_unread line) None (find (has_row_cause g limit before line) row_causes) read
+    ∙ ap (λ (o : Option LoadCause). cond (not (is_width (width_after before line))) (Some cause.Columns) o)
+    (find-append (has_row_cause g limit before line) (map cause.Record faults) (cause.TooMany ∷ [])
+    ∙ ap (λ (o : Option LoadCause). option_or o (cond (nat_le limit (length (rows_of g before))) (Some cause.TooMany) None)) (find-map (has_row_cause g limit before line) faults))
+
+-- ---- one more line
+
+abbrev outcome : Draft → Option LoadCause → Result Draft LoadCause
+outcome more None = Ok more
+outcome more (Some c) = Err c
+
+row-by : (limit w : ℕ) (rows : List Row) (r : Row) (fits : Bool) (f : Option RecordFault)
+    → cond fits (drafted w (with_row limit rows (told f r))) (Err cause.Columns) ≡ outcome (record { width = Some w; rows = rows ++ r ∷ [] }) (cause_by fits f (nat_le limit (length rows)))
+row-by limit w rows r false f = refl
+row-by limit w rows r true (Some f) = refl
+row-by limit w rows r true None = by (nat_le limit (length rows))
+  where
+    by : (full : Bool) → drafted w (cond full (Err cause.TooMany) (Ok (rows ++ r ∷ []))) ≡ outcome (record { width = Some w; rows = rows ++ r ∷ [] }) (cond full (Some cause.TooMany) None)
+    by true = refl
+    by false = refl
+
+row-outcome : (g : Sequences) (limit : ℕ) (before : List (List ℕ)) (line : List ℕ) → is_unread line ≡ false
+    → after_row g limit (draft g before) line ≡ outcome (with_line g (draft g before) line) (row_cause g limit before line)
+unfolding after_row
+row-outcome g limit before line read =
+    cond-false _ _ _ read
+    ∙ row-by limit (width_after before line) (rows_of g before) (row g (width_after before line) (columns line))
+    (is_width (width_after before line)) (find (has_fault g (width_after before line) (columns line)) faults)
+    ∙ ap (outcome (with_line g (draft g before) line)) (sym (cause-read g limit before line read))
+
+row-goes : (g : Sequences) (limit : ℕ) (before : List (List ℕ)) (line : List ℕ) → row_cause g limit before line ≡ None
+    → after_row g limit (draft g before) line ≡ Ok (draft g (before ++ line ∷ []))
+row-goes g limit before line none = by (is_unread line) refl
+  where
+    by : (t : Bool) → is_unread line ≡ t → after_row g limit (draft g before) line ≡ Ok (draft g (before ++ line ∷ []))
+    by true unread = row-unread g limit (draft g before) line unread ∙ ap Ok (sym (draft-unread g before line unread))
+    by false read =
+        row-outcome g limit before line read
+        ∙ ap (outcome (with_line g (draft g before) line)) none
+        ∙ ap Ok (sym (draft-read g before line read))
+
+row-stops : (g : Sequences) (limit : ℕ) (before : List (List ℕ)) (line : List ℕ) (c : LoadCause) → row_cause g limit before line ≡ Some c
+    → after_row g limit (draft g before) line ≡ Err c
+row-stops g limit before line c is = by (is_unread line) refl
+  where
+    by : (t : Bool) → is_unread line ≡ t → after_row g limit (draft g before) line ≡ Err c
+    by true unread = absurd (none-some c (sym (cause-unread g limit before line unread) ∙ is))
+    by false read = row-outcome g limit before line read ∙ ap (outcome (with_line g (draft g before) line)) is
+
+-- ---- all lines
+
+-- the loop's next step, from what one more line gives
+rows-step : (g : Sequences) (limit n : ℕ) (d : Draft) (line : List ℕ) (lines : List (List ℕ)) (r : Result Draft LoadCause) → after_row g limit d line ≡ r
+    → after_rows g limit n d (line ∷ lines) ≡ elim r as (λ _. Result Draft LoadFault) [ Ok more ↦ after_rows g limit (n + 1) more lines | Err c ↦ Err (record { line = n; cause = c }) ]
+rows-step g limit n d line lines r is =
+    ap (λ (o : Result Draft LoadCause). elim o as (λ _. Result Draft LoadFault) [ Ok more ↦ after_rows g limit (n + 1) more lines | Err c ↦ Err (record { line = n; cause = c }) ]) is
+
+bed-run : (g : Sequences) (limit : ℕ) → IsRun (row_cause g limit) (draft g) (after_rows g limit)
+bed-run g limit = record {
+  ends = λ n d. refl;
+  goes = λ n before line lines none. rows-step g limit n (draft g before) line lines (Ok (draft g (before ++ line ∷ []))) (row-goes g limit before line none);
+  stops = λ n before line lines c is. rows-step g limit n (draft g before) line lines (Err c) (row-stops g limit before line c is);
+}
+
+abbrev bed_at : ℕ → Draft → Bed
+bed_at empty d = record { width = unwrap_or d.width empty; rows = d.rows }
+
+pub bed-value : (g : Sequences) (empty limit : ℕ) (text : List ℕ) (b : Bed)
+    → (bed_of g empty limit text ≡ Ok b) ↔ (HaveNoCause (row_cause g limit) (lines text) × (b ≡ bed_from g empty (lines text)))
+bed-value g empty limit text b = (forth (after_rows g limit 1 (draft g []) (lines text)) refl, back)
+  where
+    forth : (r : Result Draft LoadFault) → after_rows g limit 1 (draft g []) (lines text) ≡ r → finished empty r ≡ Ok b → HaveNoCause (row_cause g limit) (lines text) × (b ≡ bed_from g empty (lines text))
+    forth (Ok d) was is =
+        let h = (run-value (row_cause g limit) (draft g) (after_rows g limit) (bed-run g limit) (lines text) d).0 was in
+        (h.0, sym (same-ok (bed_at empty d) b is) ∙ ap (bed_at empty) h.1)
+    forth (Err f) was is = absurd (ok-err b f (sym is))
+
+    back : HaveNoCause (row_cause g limit) (lines text) × (b ≡ bed_from g empty (lines text)) → bed_of g empty limit text ≡ Ok b
+    back h =
+        ap (finished empty) ((run-value (row_cause g limit) (draft g) (after_rows g limit) (bed-run g limit) (lines text) (draft g (lines text))).1 (h.0, refl))
+        ∙ ap Ok (sym h.1)
+
+-- a fault of a file is one of its lines
+unfinished : (empty : ℕ) (r : Result Draft LoadFault) (f : LoadFault) → finished empty r ≡ Err f → r ≡ Err f
+unfinished empty (Ok d) f is = absurd (ok-err (bed_at empty d) f is)
+unfinished empty (Err e) f is = ap Err (same-err {X = Bed} e f is)
+
+pub bed-fault : (g : Sequences) (empty limit : ℕ) (text : List ℕ) (f : LoadFault) → (bed_of g empty limit text ≡ Err f) ↔ IsFirstFault (row_cause g limit) (lines text) f
+bed-fault g empty limit text f = (λ is. both.0 (unfinished empty (after_rows g limit 1 (draft g []) (lines text)) f is), λ w. ap (finished empty) (both.1 w))
+  where
+    both : (after_rows g limit 1 (draft g []) (lines text) ≡ Err f) ↔ IsFirstFault (row_cause g limit) (lines text) f
+    both = run-fault (row_cause g limit) (draft g) (after_rows g limit) (bed-run g limit) (lines text) f

@@ -1,0 +1,8 @@
+use Rattle.iv_text.proofs.BedLawLemmas.{bed-value, bed-fault}
+use Rattle.iv_text.proofs.laws.bed_or_first_fault.Goals as goal
+
+pub returns-clause-value : goal.returns-clause-value
+returns-clause-value c = bed-value
+
+pub returns-clause-fault : goal.returns-clause-fault
+returns-clause-fault c = bed-fault
