@@ -1,6 +1,7 @@
 pub mod CountedLemmas
 pub mod BuiltLemmas
 pub mod Counts
+mod EditLaws
 pub mod Edits
 pub mod Nearest
 pub mod NumberOrder

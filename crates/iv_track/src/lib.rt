@@ -3,11 +3,13 @@
 
 mod counted;
 mod fault;
+mod laws;
 mod ledger;
 mod meter;
 mod track;
 
 pub use fault::EditFault;
+pub use laws::{one_record_added, one_record_removed};
 pub use ledger::{Ledger, Walk};
 pub use meter::Meter;
 pub use track::{Rows, Track};

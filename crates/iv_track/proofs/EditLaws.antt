@@ -1,0 +1,54 @@
+-- What one copy more and one copy less of a record change.
+use Rattle.std.proofs.Common.{◌≡◌, ◌≢◌, ℕ, ◌+◌, ◌<◌, Bool, true, false, cond, List, [], ◌∷◌, refl, sym, ap, ◌∙◌, inl, inr, arith}
+use Rattle.std.specs.declared.cmp.Ordering.{Ordering}
+use Rattle.std.specs.Ordering.{is_eq}
+use Rattle.std.specs.Cmp.{tied_itself, Equal-is}
+use Rattle.std.proofs.lemmas.Bool.{cases_lt}
+use Rattle.std.proofs.lemmas.List.Sums.{sum_by-cons}
+use Rattle.iv_text.specs.Ordered.{copies_by, copies, added}
+use Rattle.iv_text.specs.Row.{Row, row_cmp, rows_total}
+use Rattle.iv_text.proofs.RowLemmas.{rows_exact}
+use Rattle.iv_text.proofs.OrderedLemmas.{copies-added}
+use Rattle.iv_track.specs.Copies.{removed_by}
+use Rattle.iv_track.specs.Tracked.{removed}
+use Rattle.iv_track.proofs.Counts.{copies-removed}
+
+module _ {K : Type 0} (cmp : K → K → Ordering) where
+  copies-cons : (x k : K) (xs : List K) → copies_by cmp (x ∷ xs) k ≡ cond (is_eq (cmp k x)) 1 0 + copies_by cmp xs k
+  copies-cons x k xs = sum_by-cons (λ y. cond (is_eq (cmp k y)) 1 0) x xs
+
+  -- what is not there is not taken
+  pub removed-absent : (xs : List K) (x : K) → copies_by cmp xs x ≡ 0 → removed_by cmp xs x ≡ xs
+  removed-absent [] x none = refl
+  removed-absent (q ∷ xs) x none =
+      (elim (is_eq (cmp x q)) as (λ b. cond b 1 0 + copies_by cmp xs x ≡ 0 → cond b xs (q ∷ removed_by cmp xs x) ≡ q ∷ xs) [
+        | true ↦ λ some. absurd (omega arith)
+        | false ↦ λ less. ap (λ (l : List K). q ∷ l) (removed-absent xs x (omega arith))
+      ]) (sym (copies-cons q x xs) ∙ none)
+
+-- a record is a copy of itself
+own : (r : Row) → cond {A = ℕ} (is_eq (row_cmp r r)) 1 0 ≡ 1
+own r = ap {B = ℕ} (λ (o : Ordering). cond (is_eq o) 1 0) (tied_itself rows_total r)
+
+-- and of no other
+other : (q r : Row) → q ≢ r → cond {A = ℕ} (is_eq (row_cmp q r)) 1 0 ≡ 0
+other q r ne = by (is_eq (row_cmp q r)) refl
+  where
+    by : (b : Bool) → is_eq (row_cmp q r) ≡ b → cond {A = ℕ} b 1 0 ≡ 0
+    by true is = absurd (ne (rows_exact q r ((Equal-is (row_cmp q r)).0 is)))
+    by false is = refl
+
+pub added-itself : (rows : List Row) (r : Row) → copies (added rows r) r ≡ copies rows r + 1
+added-itself rows r = omega (arith, copies-added row_cmp rows r r, own r)
+
+pub added-others : (rows : List Row) (r q : Row) → q ≢ r → copies (added rows r) q ≡ copies rows q
+added-others rows r q ne = omega (arith, copies-added row_cmp rows r q, other q r ne)
+
+pub removed-itself : (rows : List Row) (r : Row) → 0 < copies rows r → copies (removed rows r) r + 1 ≡ copies rows r
+removed-itself rows r there = omega (arith, copies-removed row_cmp rows_total rows r r there, own r)
+
+pub removed-others : (rows : List Row) (r q : Row) → q ≢ r → copies (removed rows r) q ≡ copies rows q
+removed-others rows r q ne = elim (cases_lt 0 (copies rows r)) [
+  | inl there ↦ omega (arith, copies-removed row_cmp rows_total rows r q there, other q r ne)
+  | inr none ↦ ap (λ (l : List Row). copies l q) (removed-absent row_cmp rows r (omega arith))
+]
