@@ -1,6 +1,7 @@
 mod CuttingLemmas
 mod FlagLemmas
 mod ListLemmas
+mod OptionLemmas
 mod RowLemmas
 mod SaidLemmas
 mod SameLemmas

@@ -1,5 +1,6 @@
 pub mod Lists
 pub mod Merge
+pub mod MergeOptions
 pub mod Complement
 pub mod Genomecov
 pub mod Flags
