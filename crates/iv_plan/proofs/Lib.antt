@@ -1,2 +1,3 @@
 pub mod DraftLemmas
+mod PieceLemmas
 pub mod WordLemmas

@@ -4,11 +4,13 @@
 mod draft;
 mod fault;
 mod help;
+mod laws;
 mod notice;
 mod plan;
 mod run;
 
 pub use fault::PlanFault;
+pub use laws::{no_option_twice, options_among_view_words};
 pub use notice::Notice;
 pub use plan::{Plan, Slot};
 pub use run::Run;
