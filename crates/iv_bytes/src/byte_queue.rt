@@ -70,13 +70,17 @@ impl ByteQueue {
         n
     }
 
-    /// Pulls, if nothing is held. Whether anything is held then; if not, the input is at its end.
+    /// Pulls, if nothing is held; else it leaves the source alone. Whether anything is held then; if not, the input is at its end.
+    /// After a fault nothing is held.
     pub fn fill<S: Source>(&mut self, source: &mut S) -> Result<bool, ReadFault>
         ensures some { IfOk result (λ some. IsTrue some ↔ 0 < length self.new) }
         ensures end { IfOk result (λ some. some ≡ false → IsAtEnd (S.state source.new).coming) }
         ensures reads { Reads self.old self.new (S.state source.old) (S.state source.new) [] }
         ensures failed { IfOk result (λ _. (S.state source.new).failed ≡ (S.state source.old).failed) }
         ensures err { OnErr result ((S.state source.new).failed ≡ true) }
+        ensures none { OnErr result (self.new ≡ []) }
+        ensures held { 0 < length self.old → (self.new ≡ self.old) × (S.state source.new ≡ S.state source.old) }
+        ensures few { length self.new ≤ 8192 }
     {
         if self.start < self.end {
             return Ok(true);

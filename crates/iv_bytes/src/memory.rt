@@ -54,6 +54,7 @@ impl<A: Allocator> Sink for MemSink<A> {
         ensures failing { IsTrue self.old.failed → IsErr result }
         ensures full { IsErr result ↔ (IsTrue self.old.failed ⊎ (length self.old.bytes.items ≡ self.old.room)) }
         ensures piece { IfOk result (λ n. n ≤ self.old.piece) }
+        ensures same { (self.new.room ≡ self.old.room) × (self.new.piece ≡ self.old.piece) }
     {
         let left = self.room - self.bytes.len();
         if self.failed || left == 0 {
@@ -112,6 +113,7 @@ impl Source for MemSource<'_> {
         ensures failing { IsTrue self.old.failed → IsErr result }
         ensures spent { IsErr result ↔ (IsTrue self.old.failed ⊎ (self.old.at ≡ self.old.good)) }
         ensures piece { IfOk result (λ n. n ≤ self.old.piece) }
+        ensures same { (self.new.bytes.now ≡ self.old.bytes.now) × (self.new.good ≡ self.old.good) × (self.new.piece ≡ self.old.piece) }
     {
         if self.failed || self.at == self.good {
             self.failed = true;
