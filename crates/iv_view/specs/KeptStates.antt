@@ -1,9 +1,13 @@
 -- What is kept for views, kind by kind.
-use Rattle.std.specs.Prelude.{ℕ, List, Option, None, Some}
+use Rattle.std.specs.Prelude.{ℕ, ◌+◌, ◌*◌, List, Option, None, Some, length}
+use Rattle.iv_text.specs.Genome.{Sequences}
 use Rattle.iv_text.specs.Row.{Row}
+use Rattle.iv_track.specs.Steps.{TakesUpTo}
 use Rattle.iv_blocks.specs.Groups.{joined}
 use Rattle.iv_blocks.specs.KeptBlocks.{AreBlocksOf, block_steps}
+use Rattle.iv_blocks.specs.MergeRows.{all_blocks}
 use Rattle.iv_depth.specs.Changes.{AreChangesOf}
+use Rattle.iv_depth.specs.DepthRows.{all_covered_runs}
 use Rattle.iv_view.specs.declared.kept_state.KeptState.{KeptState}
 use Rattle.iv_view.specs.declared.kept_state.KeptState.TheVariants as state
 use Rattle.iv_view.specs.declared.kept_state.Keeping.{Keeping}
@@ -44,3 +48,11 @@ repair_steps keep.Depth rows r = 8
 abbrev pub repair_steps_of : View → List Row → Row → ℕ
 repair_steps_of (view.Kept v) rows r = repair_steps (keeping v) rows r
 repair_steps_of (view.Written v) rows r = 0
+
+-- how many steps lie between two readings at most while a view is printed from what is kept for it: two, and one more for each
+-- block, or two more for each row of a depth above 0; `cluster`, which prints every record, may take as many as it needs
+abbrev pub PrintsWithin : KeptView → Sequences → List Row → ℕ → ℕ → Type 0
+PrintsWithin (kept.Merge options) g rows old new = TakesUpTo old new (2 + length (all_blocks options g rows))
+PrintsWithin (kept.Cluster distance) g rows old new = Unit {0}
+PrintsWithin (kept.Complement limited) g rows old new = TakesUpTo old new (2 + length (all_blocks (joined 0) g rows))
+PrintsWithin (kept.Genomecov shown) g rows old new = TakesUpTo old new (2 + 2 * length (all_covered_runs g rows))

@@ -3,7 +3,7 @@ ghost use Rattle.std.specs.Prelude.{◌≡◌, ◌↔◌, All, IsTrue};
 ghost use Rattle.iv_bytes.specs.Sinks.{Puts};
 ghost use Rattle.iv_text.specs.Named.{names_of};
 ghost use Rattle.iv_text.specs.Read.{Fits};
-ghost use Rattle.iv_view.specs.KeptStates.{built_for as what_is_kept, keeping as kept_for, keeping_of, IsRight, repair_steps};
+ghost use Rattle.iv_view.specs.KeptStates.{built_for as what_is_kept, keeping as kept_for, keeping_of, IsRight, PrintsWithin, repair_steps};
 ghost use Rattle.iv_view.specs.Views.{kept_text};
 
 use crate::view::{KeptView, View};
@@ -46,6 +46,9 @@ impl KeptView {
     }
 
     /// Prints the view from what is kept for it. It takes no memory; on a fault the sink has taken a prefix of the text.
+    ///
+    /// It takes two steps, and one for each block (`merge`, `complement`) or two for each row of a depth above 0 (`genomecov`).
+    /// `cluster` goes over all records.
     pub fn print<A: Allocator + Copy, S: Sink>(
         self,
         state: &KeptState<A>,
@@ -57,7 +60,8 @@ impl KeptView {
         requires kept { what_is_kept state.now ≡ kept_for self }
         requires right { IsRight state.now (names_of genome.now) track.now.rows }
         requires fit { All (Fits genome.now track.now.width) track.now.rows }
-        ensures { Puts (S.state sink.old) (S.state sink.new) result (kept_text self genome.now track.now.rows) }
+        ensures text { Puts (S.state sink.old) (S.state sink.new) result (kept_text self genome.now track.now.rows) }
+        ensures steps { PrintsWithin self genome.now track.now.rows meter.old meter.new }
     {
         match (self, state) {
             (KeptView::Merge(_), KeptState::Blocks(blocks)) => {
