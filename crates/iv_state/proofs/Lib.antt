@@ -1,6 +1,6 @@
 mod SessionLemmas
 mod SecondLemmas
-mod OpenViewLemmas
+pub mod OpenViewLemmas
 mod StateLemmas
 mod PrintLemmas
 mod ResizeLemmas

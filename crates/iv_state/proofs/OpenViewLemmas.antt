@@ -10,10 +10,10 @@ use Rattle.std.proofs.lemmas.List.{length-append, length-map, map-append}
 use Rattle.indexmap.specs.Layout.{set_value_at}
 use Rattle.iv_text.specs.Row.{Row}
 use Rattle.iv_text.proofs.NamedLemmas.{lookup-is}
-use Rattle.iv_view.specs.KeptStates.{repair_steps_of}
+use Rattle.iv_view.specs.KeptStates.{keeping_of, repair_steps_of}
 use Rattle.iv_view.specs.declared.view.View.{View}
 use Rattle.iv_state.specs.Keeping.{all_seen, seen}
-use Rattle.iv_state.specs.OpenViews.{Shown, Stales, current, all_current, with_current, stale_count, all_steps, view_steps}
+use Rattle.iv_state.specs.OpenViews.{Shown, Stales, Freshens, current, all_current, with_current, stale_count, all_steps, view_steps}
 use Rattle.iv_state.specs.declared.open_view.OpenView.{OpenView}
 
 -- ---- a walk over the places of a map, each of which is written
@@ -118,7 +118,7 @@ stales-steps [] [] rows r less = omega arith
 stales-steps [] (w ∷ new) rows r less = absurd less
 stales-steps (v ∷ old) [] rows r less = absurd less
 stales-steps (v ∷ old) (w ∷ new) rows r less =
-    omega (arith, one v.1 w.1 less.1 less.2, stales-steps old new rows r less.3)
+    omega (arith, one v.1 w.1 less.1 less.2, stales-steps old new rows r less.4)
   where
     one : (v w : Shown) → w.view ≡ v.view → (v.stale ≡ true → w.stale ≡ true) → view_steps w rows r ≤ view_steps v rows r
     one v w view stays = by v.stale w.stale _ _ (ap (λ (s : View). repair_steps_of s rows r) view) stays
@@ -134,8 +134,13 @@ stales-trans [] [] new first second = second
 stales-trans [] (m ∷ mid) new first second = absurd first
 stales-trans (v ∷ old) [] new first second = absurd first
 stales-trans (v ∷ old) (m ∷ mid) [] first second = absurd second
-stales-trans (v ∷ old) (m ∷ mid) (w ∷ new) first second =
-    (second.0 ∙ first.0, second.1 ∙ first.1, λ stale. second.2 (first.2 stale), stales-trans old mid new first.3 second.3)
+stales-trans (v ∷ old) (m ∷ mid) (w ∷ new) first second = (
+  second.0 ∙ first.0,
+  second.1 ∙ first.1,
+  λ stale. second.2 (first.2 stale),
+  λ none. second.3 (ap keeping_of first.1 ∙ none) ∙ first.3 none,
+  stales-trans old mid new first.4 second.4,
+)
 
 -- ---- the view at a place
 
@@ -174,17 +179,28 @@ midway-at {K} {V} items Done P old es place v mid found all =
 
 pub stales-same : (views : List (List ℕ × Shown)) → Stales views views
 stales-same [] = tt
-stales-same (v ∷ views) = (refl, refl, λ stale. stale, stales-same views)
+stales-same (v ∷ views) = (refl, refl, λ stale. stale, λ none. refl, stales-same views)
 
 pub stales-append : (old new old2 new2 : List (List ℕ × Shown)) → Stales old new → Stales old2 new2 → Stales (old ++ old2) (new ++ new2)
 stales-append [] [] old2 new2 a b = b
 stales-append [] (w ∷ new) old2 new2 a b = absurd a
 stales-append (v ∷ old) [] old2 new2 a b = absurd a
-stales-append (v ∷ old) (w ∷ new) old2 new2 a b = (a.0, a.1, a.2, stales-append old new old2 new2 a.3 b)
+stales-append (v ∷ old) (w ∷ new) old2 new2 a b = (a.0, a.1, a.2, a.3, stales-append old new old2 new2 a.4 b)
 
-pub stales-current : (views : List (List ℕ × Shown)) → Stales (all_current views) views
-stales-current [] = tt
-stales-current (v ∷ views) = (refl, refl, λ e. absurd (cc (e)), stales-current views)
+pub freshens-same : (views : List (List ℕ × Shown)) → Freshens views views
+freshens-same [] = tt
+freshens-same (v ∷ views) = (refl, refl, λ stale. stale, freshens-same views)
+
+pub freshens-all : (views : List (List ℕ × Shown)) → Freshens views (all_current views)
+freshens-all [] = tt
+freshens-all (v ∷ views) = (refl, refl, λ e. absurd (cc (e)), freshens-all views)
+
+pub freshens-one : (views : List (List ℕ × Shown)) (name : List ℕ) → Freshens views (with_current views name)
+freshens-one [] name = tt
+freshens-one (v ∷ views) name = elim (bytes_eq name v.0) as (λ b. Freshens (v ∷ views) (cond b ((v.0, current v.1) ∷ views) (v ∷ with_current views name))) [
+  | true ↦ (refl, refl, λ e. absurd (cc (e)), freshens-same views)
+  | false ↦ (refl, refl, λ stale. stale, freshens-one views name)
+]
 
 pub seen-append : {A : Type 0} (xs ys : List (List ℕ × OpenView A)) → all_seen (xs ++ ys) ≡ all_seen xs ++ all_seen ys
 seen-append xs ys = map-append _ xs ys

@@ -222,6 +222,7 @@ session-resized inside s g views seq n same is new none =
       track_is = track-resized inside.genome inside.track seq n is.track_is clear.0;
       second_is = second-resized inside.genome inside.second seq n is.second_is clear.1;
       served = is.served;
+      fresh = is.fresh;
     })
 
 -- ---- what a resize answers

@@ -51,4 +51,5 @@ session-second g track second u views whole on = record {
   track_is = whole.track_is;
   second_is = on;
   served = served-second second u views whole.served;
+  fresh = whole.fresh;
 }

@@ -1,6 +1,6 @@
 -- The records of a session.
-use Rattle.std.specs.Prelude.{All, IfSome, option_map}
-use Rattle.std.proofs.Common.{◌≡◌, ◌∙◌, ℕ, ◌<◌, ◌≤◌, true, false, List, [], ◌∷◌, Option, None, Some, Ok, length, arith, refl, sym, ap, subst}
+use Rattle.std.specs.Prelude.{All, IfSome, IsSome, option_map}
+use Rattle.std.proofs.Common.{◌≡◌, ◌∙◌, ℕ, ◌<◌, ◌≤◌, Bool, true, false, List, [], ◌∷◌, Option, None, Some, Ok, length, arith, refl, sym, ap, subst}
 use Rattle.std.specs.Option.{is_some}
 use Rattle.std.proofs.lemmas.Bool.{lt-leb}
 use Rattle.iv_text.specs.Genome.{Sequences}
@@ -14,11 +14,13 @@ use Rattle.std.proofs.lemmas.List.Elements.{All-from_recursion, recursion_from_A
 use Rattle.iv_track.specs.Tracked.{Tracked, removed}
 use Rattle.iv_track.proofs.Counts.{length-removed, removed-added}
 use Rattle.iv_track.proofs.Edits.{All-added, All-removed, added-removed}
+use Rattle.iv_view.specs.declared.kept_state.Keeping.{Keeping}
 use Rattle.iv_view.specs.declared.view.View.{View}
-use Rattle.iv_state.specs.OpenViews.{Shown, Stales, all_current, with_current}
+use Rattle.iv_view.specs.KeptStates.{keeping_of}
+use Rattle.iv_state.specs.OpenViews.{Shown, Stales, Freshens, all_current, with_current}
 use Rattle.iv_state.specs.Views.{is_view_name, view_named, words_said, opened}
-use Rattle.iv_state.proofs.OpenViewLemmas.{all-current, stales-current}
-use Rattle.iv_state.specs.States.{State, IsTrackOn, IsServed, AreServed, IsButStale, tracked}
+use Rattle.iv_state.proofs.OpenViewLemmas.{all-current, freshens-all, freshens-one}
+use Rattle.iv_state.specs.States.{State, IsTrackOn, IsServed, AreServed, IsWrittenFresh, AreWrittenFresh, IsButStale, IsSession, tracked}
 
 -- the records fit with one more that fits
 pub fit-added : (g : Sequences) (t : Tracked) (r : Row) → IsTrackOn g t → Fits g t.width r → All (Fits g t.width) (added t.rows r)
@@ -110,27 +112,86 @@ no-name_fault inside s name words v same good free few said =
 -- ---- views beside a second file
 
 -- views that are the same, but for which of them are stale, stand beside it too
-pub served-stales : (second : Option Tracked) (old new : List (List ℕ × Shown)) → Stales old new → AreServed second old → AreServed second new
+served-stales : (second : Option Tracked) (old new : List (List ℕ × Shown)) → Stales old new → AreServed second old → AreServed second new
 served-stales second [] [] less served = tt
 served-stales second [] (w ∷ new) less served = absurd less
 served-stales second (v ∷ old) [] less served = absurd less
 served-stales second (v ∷ old) (w ∷ new) less served =
-    (subst (IsServed second) (sym less.1) served.0, served-stales second old new less.3 served.1)
+    (subst (IsServed second) (sym less.1) served.0, served-stales second old new less.4 served.1)
 
-pub served-fresher : (second : Option Tracked) (old new : List (List ℕ × Shown)) → Stales new old → AreServed second old → AreServed second new
+served-fresher : (second : Option Tracked) (old new : List (List ℕ × Shown)) → Freshens old new → AreServed second old → AreServed second new
 served-fresher second [] [] less served = tt
 served-fresher second [] (w ∷ new) less served = absurd less
 served-fresher second (v ∷ old) [] less served = absurd less
 served-fresher second (v ∷ old) (w ∷ new) less served =
-    (subst (IsServed second) less.1 served.0, served-fresher second old new less.3 served.1)
+    (subst (IsServed second) (sym less.1) served.0, served-fresher second old new less.3 served.1)
 
 -- those of which one is current, and those of which all are
 pub served-current : (second : Option Tracked) (name : List ℕ) (old new : List (List ℕ × Shown)) → new ≡ with_current old name → AreServed second old → AreServed second new
 served-current second name old new are served = subst (AreServed second) (sym are) (all-current (IsServed second) name old served)
 
-pub served-all_current : (second : Option Tracked) (old new : List (List ℕ × Shown)) → new ≡ all_current old → AreServed second old → AreServed second new
-served-all_current second old new are served =
-    served-fresher second old new (subst (λ (l : List (List ℕ × Shown)). Stales l old) (sym are) (stales-current old)) served
+-- ---- views of which nothing is kept
+
+fresh-stales : (old new : List (List ℕ × Shown)) → Stales old new → AreWrittenFresh old → AreWrittenFresh new
+fresh-stales [] [] less fresh = tt
+fresh-stales [] (w ∷ new) less fresh = absurd less
+fresh-stales (v ∷ old) [] less fresh = absurd less
+fresh-stales (v ∷ old) (w ∷ new) less fresh = (
+  λ none.
+      let was : keeping_of v.1.view ≡ None = ap keeping_of (sym less.1) ∙ none in
+      less.3 was ∙ fresh.0 was,
+  fresh-stales old new less.4 fresh.1,
+)
+
+fresh-fresher : (old new : List (List ℕ × Shown)) → Freshens old new → AreWrittenFresh old → AreWrittenFresh new
+fresh-fresher [] [] less fresh = tt
+fresh-fresher [] (w ∷ new) less fresh = absurd less
+fresh-fresher (v ∷ old) [] less fresh = absurd less
+fresh-fresher (v ∷ old) (w ∷ new) less fresh =
+    (λ none. still w.1.stale v.1.stale less.2 (fresh.0 (ap keeping_of (sym less.1) ∙ none)), fresh-fresher old new less.3 fresh.1)
+  where
+    still : (b c : Bool) → (b ≡ true → c ≡ true) → c ≡ false → b ≡ false
+    still false c up is = refl
+    still true c up is = let both : true ≡ false = sym (up refl) ∙ is in absurd (cc (both))
+
+-- a view that is stale is one of which something is kept
+pub stale-kept : (v : Shown) → IsWrittenFresh v → v.stale ≡ true → IsSome (keeping_of v.view)
+stale-kept v fresh stale = by (keeping_of v.view) refl
+  where
+    by : (o : Option Keeping) → keeping_of v.view ≡ o → IsSome o
+    by None none = let both : true ≡ false = sym stale ∙ fresh none in absurd (cc (both))
+    by (Some what) is = refl
+
+-- ---- what a session keeps true while its views become stale or current
+
+pub session-stales : (g : Sequences) (track t : Tracked) (second : Option Tracked) (old new : List (List ℕ × Shown))
+    → IsSession g track second old → IsTrackOn g t → Stales old new → IsSession g t second new
+session-stales g track t second old new whole on less = record {
+  track_is = on;
+  second_is = whole.second_is;
+  served = served-stales second old new less whole.served;
+  fresh = fresh-stales old new less whole.fresh;
+}
+
+pub session-fresher : (g : Sequences) (track : Tracked) (second : Option Tracked) (old new : List (List ℕ × Shown))
+    → IsSession g track second old → Freshens old new → IsSession g track second new
+session-fresher g track second old new whole less = record {
+  track_is = whole.track_is;
+  second_is = whole.second_is;
+  served = served-fresher second old new less whole.served;
+  fresh = fresh-fresher old new less whole.fresh;
+}
+
+-- the views, that of one name current, or all of them
+pub session-printed : (g : Sequences) (track : Tracked) (second : Option Tracked) (name : List ℕ) (old new : List (List ℕ × Shown))
+    → IsSession g track second old → new ≡ with_current old name → IsSession g track second new
+session-printed g track second name old new whole are =
+    session-fresher g track second old new whole (subst (Freshens old) (sym are) (freshens-one old name))
+
+pub session-all_printed : (g : Sequences) (track : Tracked) (second : Option Tracked) (old new : List (List ℕ × Shown))
+    → IsSession g track second old → new ≡ all_current old → IsSession g track second new
+session-all_printed g track second old new whole are =
+    session-fresher g track second old new whole (subst (Freshens old) (sym are) (freshens-all old))
 
 -- ---- the tracks of files
 

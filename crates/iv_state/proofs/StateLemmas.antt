@@ -17,9 +17,9 @@ use Rattle.iv_view.specs.declared.kept_state.KeptState.{KeptState}
 use Rattle.iv_view.specs.declared.kept_state.Keeping.{Keeping}
 use Rattle.iv_view.specs.declared.view.View.{View}
 use Rattle.iv_state.specs.Keeping.{seen, all_seen, kept_with, owned, all_owned, IsOwned, IsKept, HaveStates, IsOwnRight, AreOwnRight, AreRight, IsRepaired, AreRepaired, AreMarked, IsMissing, NoneNeeds, current_at}
-use Rattle.iv_state.specs.OpenViews.{Shown, Stales, current, all_current, with_current, stale_count, all_steps, view_steps}
+use Rattle.iv_state.specs.OpenViews.{Shown, Stales, Freshens, current, all_current, with_current, stale_count, all_steps, view_steps}
 use Rattle.iv_state.specs.declared.open_view.OpenView.{OpenView}
-use Rattle.iv_state.proofs.OpenViewLemmas.{Midway, midway-begin, midway-next, midway-end, midway-at, Written, written-at, named, all-append, all-front, all-back, all-removed, all-named, all-at, stales-append, stales-same, seen-append, remove-seen}
+use Rattle.iv_state.proofs.OpenViewLemmas.{Midway, midway-begin, midway-next, midway-end, midway-at, Written, written-at, named, all-append, all-front, all-back, all-removed, all-named, all-at, stales-append, freshens-same, seen-append, remove-seen}
 
 -- ---- what is kept is among the states
 
@@ -57,6 +57,10 @@ kept-more states more view grows kept = by (keeping_of view) kept
     by : (o : Option Keeping) → IfSome o (λ what. IsOwned what states) → IfSome o (λ what. IsOwned what more)
     by None kept = tt
     by (Some what) kept = grows what kept
+
+-- a view of which nothing is kept needs no state
+kept-none : (states : List (Option Keeping)) (view : View) → keeping_of view ≡ None → IsKept states view
+kept-none states view none = subst (λ (o : Option Keeping). IfSome o (λ what. IsOwned what states)) (sym none) tt
 
 have-more : (states more : List (Option Keeping)) (views : List (List ℕ × Shown)) → ((what : Keeping) → IsOwned what states → IsOwned what more) → HaveStates states views → HaveStates more views
 have-more states more [] grows have = tt
@@ -112,7 +116,7 @@ module _ {A : Type 0} (names : List (List ℕ)) (rows with_r : List Row) (r : Ro
               seen_new ∙ ap₂ (λ (l : List (List ℕ × Shown)) (s : Shown). l ++ (n, s) ∷ []) before.0 shown ∙ sym seen_old,
               owned-append new ((n, w) ∷ []) ∙ ap₂ (λ (l : List (Option Keeping)) (o : Option Keeping). l ++ o ∷ []) before.1 here.1 ∙ sym (owned-append old ((n, v) ∷ [])),
             );
-        stales = rw (seen_old, seen_new) (stales-append (all_seen old) (all_seen new) ((n, seen v) ∷ []) ((n, seen w) ∷ []) all.stales (refl, one.same, one.stays, tt));
+        stales = rw (seen_old, seen_new) (stales-append (all_seen old) (all_seen new) ((n, seen v) ∷ []) ((n, seen w) ∷ []) all.stales (refl, one.same, one.stays, one.written, tt));
         right = all-append (λ e. IsOwnRight e.1 names rows) new ((n, w) ∷ []) all.right (one.right, tt);
         steps = record { no_less = omega (arith, all.steps.no_less, one.steps.no_less); at_most = omega (arith, all.steps.at_most, one.steps.at_most, steps_are) };
       }
@@ -194,7 +198,7 @@ module _ {A : Type 0} (states : List (Option Keeping)) (v : OpenView A) (b : Boo
             let front = all.right names rows (all-front (λ e. IsOwnRight e.1 names rows) old ((n, v) ∷ []) right) in
             let here = (all-back (λ e. IsOwnRight e.1 names rows) old ((n, v) ∷ []) right).0 in
             all-append (λ e. IsOwnRight e.1 names rows) new ((n, w) ∷ []) front (marked-right keeps among names rows here, tt);
-        stales = rw (seen_old, seen_new) (stales-append (all_seen old) (all_seen new) ((n, seen v) ∷ []) ((n, seen w) ∷ []) all.stales (refl, refl, stays, tt));
+        stales = rw (seen_old, seen_new) (stales-append (all_seen old) (all_seen new) ((n, seen v) ∷ []) ((n, seen w) ∷ []) all.stales (refl, refl, stays, λ none. keeps (kept-none states v.view none), tt));
         have = rw seen_new (all-append (λ e. e.1.stale ≡ false → IsKept states e.1.view) (all_seen new) ((n, seen w) ∷ []) all.have (lost, tt));
       }
 
@@ -520,10 +524,10 @@ current-all place [] past = refl
 current-all zero (v ∷ views) past = absurd (omega (arith, past))
 current-all (suc place) (v ∷ views) past = ap (λ (l : List (List ℕ × Shown)). (v.0, current v.1) ∷ l) (current-all place views (omega (arith, past)))
 
-pub current-stales : (place : ℕ) (views : List (List ℕ × Shown)) → Stales (current_to place views) views
-current-stales place [] = tt
-current-stales zero (v ∷ views) = stales-same (v ∷ views)
-current-stales (suc place) (v ∷ views) = (refl, refl, λ e. absurd (cc (e)), current-stales place views)
+pub current-freshens : (place : ℕ) (views : List (List ℕ × Shown)) → Freshens views (current_to place views)
+current-freshens place [] = tt
+current-freshens zero (v ∷ views) = freshens-same (v ∷ views)
+current-freshens (suc place) (v ∷ views) = (refl, refl, λ e. absurd (cc (e)), current-freshens place views)
 
 -- a view that is stale among them is one of the stale ones
 pub stale-among : (place at : ℕ) (views : List (List ℕ × Shown)) → IfSome (slice_get (current_to place views) at) (λ v. v.1.stale ≡ true) → at < length views → 0 < stale_count views

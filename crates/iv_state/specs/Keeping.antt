@@ -66,6 +66,7 @@ pub record IsRepaired {A : Type 0} (names : List (List ℕ)) (rows with_r : List
   pub same : new.view ≡ old.view
   pub stays : old.stale ≡ true → new.stale ≡ true
   pub unless : kept ≡ true → (new.stale ≡ old.stale) × (owned new ≡ owned old)
+  pub written : keeping_of old.view ≡ None → new.stale ≡ old.stale
   pub right : IsOwnRight new names rows
   pub steps : TakesUpTo before after (view_steps (seen old) with_r r)
 

@@ -1,8 +1,8 @@
 -- The open views as contracts see them, and what edits and prints leave of them.
-use Rattle.std.specs.Prelude.{◌≡◌, ℕ, ◌+◌, Bool, true, false, if◌then◌else◌, List, [], ◌∷◌, map}
+use Rattle.std.specs.Prelude.{◌≡◌, ℕ, ◌+◌, Bool, true, false, if◌then◌else◌, List, [], ◌∷◌, None, map}
 use Rattle.std.specs.Str.{bytes_eq}
 use Rattle.iv_text.specs.Row.{Row}
-use Rattle.iv_view.specs.KeptStates.{repair_steps_of}
+use Rattle.iv_view.specs.KeptStates.{keeping_of, repair_steps_of}
 use Rattle.iv_view.specs.declared.view.View.{View}
 
 -- an open view: which one it is, and whether it has to be built anew before it is printed
@@ -23,12 +23,22 @@ abbrev pub with_current : List (List ℕ × Shown) → List ℕ → List (List �
 with_current [] name = []
 with_current (v ∷ views) name = if bytes_eq name v.0 then (v.0, current v.1) ∷ views else v ∷ with_current views name
 
--- the views are the same, but that some may have become stale
+-- the views are the same, but that some may have become stale, of which something is kept
 abbrev pub Stales : List (List ℕ × Shown) → List (List ℕ × Shown) → Type 0
 Stales [] [] = Unit {0}
 Stales [] (w ∷ new) = ⊥
 Stales (v ∷ old) [] = ⊥
-Stales (v ∷ old) (w ∷ new) = (w.0 ≡ v.0) × (w.1.view ≡ v.1.view) × (v.1.stale ≡ true → w.1.stale ≡ true) × Stales old new
+Stales (v ∷ old) (w ∷ new) =
+    (w.0 ≡ v.0) × (w.1.view ≡ v.1.view) × (v.1.stale ≡ true → w.1.stale ≡ true)
+    × (keeping_of v.1.view ≡ None → w.1.stale ≡ v.1.stale) × Stales old new
+
+-- the views are the same, but that some that were stale may have become current
+abbrev pub Freshens : List (List ℕ × Shown) → List (List ℕ × Shown) → Type 0
+Freshens [] [] = Unit {0}
+Freshens [] (w ∷ new) = ⊥
+Freshens (v ∷ old) [] = ⊥
+Freshens (v ∷ old) (w ∷ new) =
+    (w.0 ≡ v.0) × (w.1.view ≡ v.1.view) × (w.1.stale ≡ true → v.1.stale ≡ true) × Freshens old new
 
 -- how many views are stale
 abbrev pub stale_count : List (List ℕ × Shown) → ℕ

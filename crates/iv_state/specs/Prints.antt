@@ -1,7 +1,8 @@
 -- What prints of views leave.
-use Rattle.std.specs.Prelude.{◌≡◌, ◌<◌, ℕ, true, List, Result, Ok, Err}
+use Rattle.std.specs.Prelude.{◌≡◌, ◌<◌, ℕ, true, List, Result, Ok, Err, IsSome}
 use Rattle.iv_bytes.specs.Sinks.{SinkState, Takes, FailsIn}
-use Rattle.iv_state.specs.OpenViews.{Shown, Stales, all_current, stale_count, with_current}
+use Rattle.iv_view.specs.KeptStates.{keeping_of}
+use Rattle.iv_state.specs.OpenViews.{Shown, Freshens, all_current, stale_count, with_current}
 use Rattle.iv_state.specs.States.{State}
 use Rattle.iv_state.specs.Views.{all_text, text_in}
 use Rattle.iv_state.specs.declared.fault.PrintFault.{PrintFault}
@@ -17,14 +18,15 @@ with_all_printed s = record s { views = all_current s.views }
 
 -- the session, but that some stale views may have become current
 abbrev pub IsButCurrent : State → State → Type 0
-IsButCurrent old new = (new ≡ record old { views = new.views }) × Stales new.views old.views
+IsButCurrent old new = (new ≡ record old { views = new.views }) × Freshens old.views new.views
 
 -- what a print of the view of a name leaves: its text, or a prefix, and the view current;
--- or, where memory for a stale view was refused, all as before and nothing written
+-- or, where memory was refused for a stale view of which something is kept, all as before and nothing written
 abbrev pub PrintedView : State → List ℕ → Shown → State → SinkState → SinkState → Result (Unit {0}) PrintFault → Type 0
 PrintedView old name v new out0 out1 (Ok done) = Takes out0 out1 (text_in old v.view) × (new ≡ with_printed old name)
 PrintedView old name v new out0 out1 (Err printing.Write) = FailsIn out0 out1 (text_in old v.view) × (new ≡ with_printed old name)
-PrintedView old name v new out0 out1 (Err printing.NoMemory) = (v.stale ≡ true) × (out1 ≡ out0) × (new ≡ old)
+PrintedView old name v new out0 out1 (Err printing.NoMemory) =
+    (v.stale ≡ true) × IsSome (keeping_of v.view) × (out1 ≡ out0) × (new ≡ old)
 PrintedView old name v new out0 out1 (Err printing.NoView) = ⊥
 
 -- what a print of all views leaves: their texts, or a prefix, and all current;

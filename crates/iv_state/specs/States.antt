@@ -1,5 +1,5 @@
 -- A session as contracts see it.
-use Rattle.std.specs.Prelude.{◌≡◌, ◌≤◌, ℕ, false, List, [], ◌∷◌, ◌++◌, Option, All, IsTrue, IsSome, IfSome, IsSomeAnd, length, option_map}
+use Rattle.std.specs.Prelude.{◌≡◌, ◌≤◌, ℕ, false, List, [], ◌∷◌, ◌++◌, Option, None, All, IsTrue, IsSome, IfSome, IsSomeAnd, length, option_map}
 use Rattle.std.specs.List.{AllByRecursion}
 use Rattle.std.specs.Map.{remove_entry}
 use Rattle.std.specs.Str.{bytes_eq}
@@ -10,6 +10,7 @@ use Rattle.iv_text.specs.Ordered.{ordered}
 use Rattle.iv_text.specs.Read.{Fits}
 use Rattle.iv_fasta.specs.Fasta.{Bases}
 use Rattle.iv_track.specs.Tracked.{Tracked}
+use Rattle.iv_view.specs.KeptStates.{keeping_of}
 use Rattle.iv_view.specs.Views.{needs_second}
 use Rattle.iv_view.specs.declared.view.View.{View}
 use Rattle.iv_state.specs.OpenViews.{Shown, Stales}
@@ -73,11 +74,20 @@ IsServed second view = IsTrue (needs_second view) → IsSome second
 abbrev pub AreServed : Option Tracked → List (List ℕ × Shown) → Type 0
 AreServed second views = AllByRecursion (λ v. IsServed second v.1.view) views
 
+-- a view of which nothing is kept isn't stale
+abbrev pub IsWrittenFresh : Shown → Type 0
+IsWrittenFresh v = keeping_of v.view ≡ None → v.stale ≡ false
+
+-- none of the views is
+abbrev pub AreWrittenFresh : List (List ℕ × Shown) → Type 0
+AreWrittenFresh views = AllByRecursion (λ v. IsWrittenFresh v.1) views
+
 -- what each session keeps true
 pub record IsSession (genome : Sequences) (track : Tracked) (second : Option Tracked) (views : List (List ℕ × Shown)) : Type 0 where
   pub track_is : IsTrackOn genome track
   pub second_is : IfSome second (IsTrackOn genome)
   pub served : AreServed second views
+  pub fresh : AreWrittenFresh views
 
 -- the session as it is to be, but that some views may have become stale
 abbrev pub IsButStale : State → State → Type 0

@@ -14,7 +14,7 @@ ghost use Rattle.iv_cover.specs.Kept.{IsRightWithout};
 ghost use Rattle.iv_view.specs.KeptStates.{built_for, keeping_of, IsRight};
 ghost use Rattle.iv_view.specs.Views.{second_rows, view_text};
 ghost use Rattle.iv_state.specs.Keeping.{AreMarked, AreOwnRight, AreRight, HaveStates, IsKept, IsMissing, IsOwned, NoneNeeds, AreRepaired, all_owned, all_seen, current_at, kept_with, seen};
-ghost use Rattle.iv_state.specs.OpenViews.{Stales, all_current, all_steps, stale_count, with_current};
+ghost use Rattle.iv_state.specs.OpenViews.{Freshens, Stales, all_current, all_steps, stale_count, with_current};
 ghost use Rattle.iv_state.specs.States.{IsServed};
 ghost use Rattle.iv_state.specs.Views.{view_named};
 
@@ -378,7 +378,7 @@ impl<A: Allocator + Copy> Views<A> {
         requires fit { All (Fits genome.now track.now.width) track.now.rows }
         ensures right { AreRight self.new (names_of genome.now) track.now.rows }
         ensures ok { OnOk result (all_seen self.new ≡ all_current (all_seen self.old)) }
-        ensures err { OnErr result (Stales (all_seen self.new) (all_seen self.old)) }
+        ensures err { OnErr result (Freshens (all_seen self.old) (all_seen self.new)) }
         ensures stale { OnErr result (0 < stale_count (all_seen self.old)) }
     {
         for place in 0..self.views.len() {

@@ -10,7 +10,7 @@ use Rattle.iv_state.specs.OpenViews.{all_steps}
 use Rattle.iv_track.specs.Edits.{RefusesAdd, with_record}
 use Rattle.iv_state.specs.States.{State, IsTrackOn}
 use Rattle.iv_state.specs.declared.session.Accepted.{Accepted}
-use Rattle.iv_state.proofs.SessionLemmas.{edited, fit-added, track-added, served-stales}
+use Rattle.iv_state.proofs.SessionLemmas.{edited, fit-added, track-added, session-stales}
 use Rattle.iv_state.proofs.session.Session.add.Goals as goal
 
 pub added-requires-clause-right : goal.added-requires-clause-right
@@ -40,13 +40,9 @@ invariant_of-self-2 g c =
     let F : State → Type 0 = λ s. Fits s.genome s.track.width c.args.row.now in
     let fits : Fits inside.genome inside.track.width c.in_ok-record.record =
     subst (λ (r : Row). Fits inside.genome inside.track.width r) (sym c.in_ok-record.ensures.ok) (subst F (sym c.self.view_is) c.requires) in (
-      record {
-        track_is = subst (IsTrackOn inside.genome) (sym c.in_ok-add.ensures.ok)
-            (track-added inside.genome inside.track c.in_ok-record.record c.self.invariant.0.track_is fits
-            c.in_ok-add.ensures.room);
-        second_is = c.self.invariant.0.second_is;
-        served = served-stales inside.second _ _ c.added.ensures.stales c.self.invariant.0.served;
-      },
+      session-stales inside.genome inside.track _ inside.second _ _ c.self.invariant.0
+          (subst (IsTrackOn inside.genome) (sym c.in_ok-add.ensures.ok) (track-added inside.genome inside.track c.in_ok-record.record c.self.invariant.0.track_is fits c.in_ok-add.ensures.room))
+          c.added.ensures.stales,
       c.added.ensures.right,
     )
 

@@ -4,7 +4,7 @@ use Rattle.std.specs.Str.{bytes_eq}
 use Rattle.std.specs.Prelude.{IsSome}
 use Rattle.iv_text.specs.Named.{names_of}
 use Rattle.iv_state.specs.Keeping.{all_seen}
-use Rattle.iv_state.specs.States.{State, IsServed}
+use Rattle.iv_state.specs.States.{State, IsServed, IsWrittenFresh}
 use Rattle.iv_state.specs.Views.{view_named}
 use Rattle.iv_state.proofs.OpenViewLemmas.{all-removed}
 use Rattle.iv_state.proofs.SessionLemmas.{views-changed}
@@ -20,6 +20,7 @@ invariant_of-self g c =
         track_is = c.self.invariant.0.track_is;
         second_is = c.self.invariant.0.second_is;
         served = rw c.remove.ensures.seen (all-removed (λ v. IsServed i.second v.view) c.args.name.now (all_seen i.views) c.self.invariant.0.served);
+        fresh = rw c.remove.ensures.seen (all-removed IsWrittenFresh c.args.name.now (all_seen i.views) c.self.invariant.0.fresh);
       },
       c.remove.ensures.right (names_of i.genome) i.track.rows c.self.invariant.1,
     )

@@ -21,6 +21,7 @@ invariant_of-result g c =
         second_is = subst (λ (o : Option Tracked). IfSome o (IsTrackOn a.genome)) (sym c.in_ok-second.ensures.value)
             (second-of_file a.genome a.second a.limit c.in_ok-second.ensures.known c.requires.second_fit c.requires.second_few);
         served = rw c.new.ensures tt;
+        fresh = rw c.new.ensures tt;
       },
       rw c.new.ensures (tt, tt),
     )

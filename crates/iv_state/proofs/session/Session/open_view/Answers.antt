@@ -1,4 +1,4 @@
-use Rattle.std.proofs.Common.{◌≡◌, ◌∙◌, ℕ, ◌<◌, List, [], ◌∷◌, ◌++◌, Ok, true, false, length, map, arith, sym, subst}
+use Rattle.std.proofs.Common.{◌≡◌, ◌∙◌, ℕ, ◌<◌, List, [], ◌∷◌, ◌++◌, Ok, true, false, length, map, arith, refl, sym, subst}
 use Rattle.std.specs.Option.{is_some}
 use Rattle.std.proofs.lemmas.List.{length-map}
 use Rattle.iv_view.specs.Views.{read_words}
@@ -6,7 +6,7 @@ use Rattle.iv_view.proofs.WordLemmas.{needs-there}
 use Rattle.iv_state.specs.Keeping.{all_seen, seen}
 use Rattle.iv_state.specs.declared.open_view.OpenView.{OpenView}
 use Rattle.iv_state.specs.OpenViews.{Shown}
-use Rattle.iv_state.specs.States.{IsServed, AreServed}
+use Rattle.iv_state.specs.States.{IsServed, AreServed, IsWrittenFresh, AreWrittenFresh}
 use Rattle.iv_state.specs.Views.{is_view_name, view_named}
 use Rattle.iv_state.proofs.OpenViewLemmas.{all-pushed}
 use Rattle.iv_state.proofs.SessionLemmas.{no-name_fault, views-changed}
@@ -25,6 +25,8 @@ invariant_of-self-2 g c =
         second_is = c.self.invariant.0.second_is;
         served = subst (AreServed i.second) (sym c.in_ok-open.ensures.ok)
             (all-pushed (λ v. IsServed i.second v.view) name (all_seen i.views) (record { view = view; stale = false }) c.self.invariant.0.served served);
+        fresh = subst AreWrittenFresh (sym c.in_ok-open.ensures.ok)
+            (all-pushed IsWrittenFresh name (all_seen i.views) (record { view = view; stale = false }) c.self.invariant.0.fresh (λ none. refl));
       },
       c.in_ok-open.ensures.right,
     )

@@ -1,11 +1,11 @@
 use Rattle.std.proofs.Common.{◌∙◌, ◌<◌, refl, ap, subst}
 use Rattle.std.proofs.lemmas.Result.{err_from_is_err_and}
 use Rattle.iv_state.specs.Keeping.{all_seen}
-use Rattle.iv_state.specs.OpenViews.{Stales, all_current, stale_count}
+use Rattle.iv_state.specs.OpenViews.{Freshens, all_current, stale_count}
 use Rattle.iv_state.specs.States.{State}
 use Rattle.iv_state.specs.Views.{all_text}
 use Rattle.iv_state.proofs.PrintLemmas.{all-fresh, same-all_text, Takes-text, FailsIn-text}
-use Rattle.iv_state.proofs.SessionLemmas.{served-fresher, served-all_current, views-changed}
+use Rattle.iv_state.proofs.SessionLemmas.{session-fresher, session-all_printed, views-changed}
 use Rattle.iv_state.proofs.session.Session.print_all.Goals as goal
 
 pub returns-in_err-refresh_all : goal.returns-in_err-refresh_all
@@ -15,7 +15,7 @@ returns-in_err-refresh_all g c =
     rw (p.1, p.2) (
       subst (λ (s : State). 0 < stale_count s.views) c.self.view_is c.in_err-refresh_all.ensures.stale,
       refl,
-      (ap (λ (s : State). record s { views = more }) c.self.view_is, subst (λ (s : State). Stales more s.views) c.self.view_is c.in_err-refresh_all.ensures.err),
+      (ap (λ (s : State). record s { views = more }) c.self.view_is, subst (λ (s : State). Freshens s.views more) c.self.view_is c.in_err-refresh_all.ensures.err),
     )
 
 pub put_all-requires : goal.put_all-requires
@@ -34,20 +34,14 @@ returns g c =
 
 pub invariant_of-self : goal.invariant_of-self
 invariant_of-self g c = (
-  record {
-    track_is = c.self.invariant.0.track_is;
-    second_is = c.self.invariant.0.second_is;
-    served = served-fresher c.self.inside.second (all_seen c.self.inside.views) (all_seen c.refresh_all.new.self) c.in_err-refresh_all.ensures.err c.self.invariant.0.served;
-  },
+  session-fresher c.self.inside.genome c.self.inside.track c.self.inside.second (all_seen c.self.inside.views) (all_seen c.refresh_all.new.self) c.self.invariant.0
+      c.in_err-refresh_all.ensures.err,
   c.refresh_all.ensures.right,
 )
 
 pub invariant_of-self-2 : goal.invariant_of-self-2
 invariant_of-self-2 g c = (
-  record {
-    track_is = c.self.invariant.0.track_is;
-    second_is = c.self.invariant.0.second_is;
-    served = served-all_current c.self.inside.second (all_seen c.self.inside.views) (all_seen c.refresh_all.new.self) c.in_ok-refresh_all.ensures.ok c.self.invariant.0.served;
-  },
+  session-all_printed c.self.inside.genome c.self.inside.track c.self.inside.second (all_seen c.self.inside.views) (all_seen c.refresh_all.new.self) c.self.invariant.0
+      c.in_ok-refresh_all.ensures.ok,
   c.refresh_all.ensures.right,
 )

@@ -2,11 +2,11 @@ use Rattle.std.proofs.Common.{◌≡◌, ◌∙◌, false, true, refl, ap, sym}
 use Rattle.std.proofs.lemmas.Result.{err_from_is_err_and}
 use Rattle.iv_state.specs.Keeping.{IsKept, all_owned, all_seen, seen}
 use Rattle.iv_state.specs.OpenViews.{with_current}
-use Rattle.iv_state.specs.States.{State, IsServed}
+use Rattle.iv_state.specs.States.{State, IsServed, IsWrittenFresh}
 use Rattle.iv_state.specs.Views.{view_named}
 use Rattle.iv_state.proofs.OpenViewLemmas.{all-named}
 use Rattle.iv_state.proofs.PrintLemmas.{match-none, match-some, if-some, found-again, found-not, same-text, Takes-text, FailsIn-text}
-use Rattle.iv_state.proofs.SessionLemmas.{served-current, views-changed}
+use Rattle.iv_state.proofs.SessionLemmas.{served-current, session-printed, stale-kept, views-changed}
 use Rattle.iv_state.proofs.session.Session.print_view.Goals as goal
 
 pub returns-in_default : goal.returns-in_default
@@ -17,9 +17,11 @@ pub returns-in_err-refresh : goal.returns-in_err-refresh
 returns-in_err-refresh g c =
     let p = err_from_is_err_and c.from_residual.result c.from_residual.ensures.1 in
     let stale = if-some _ (λ v. v.stale ≡ true) (seen c.in-Some.field-0.now) c.in-Some.ensures.seen c.in_err-refresh.ensures.stale in
+    let fresh = all-named IsWrittenFresh c.args.name.now (all_seen c.self.inside.views) (seen c.in-Some.field-0.now) (sym c.in-Some.ensures.seen) c.self.invariant.0.fresh in
     let same = views-changed (λ views. views) _ c.args.self.now (all_seen c.refresh.new.self) c.self.view_is (ap all_seen c.in_err-refresh.ensures.err) in
     rw (p.1, p.2)
-    (match-some _ _ _ (seen c.in-Some.field-0.now) (c.in-Some.ensures.seen ∙ ap (λ (s : State). view_named s.views c.args.name.now) c.self.view_is) (stale, refl, same))
+    (match-some _ _ _ (seen c.in-Some.field-0.now) (c.in-Some.ensures.seen ∙ ap (λ (s : State). view_named s.views c.args.name.now) c.self.view_is)
+    (stale, stale-kept (seen c.in-Some.field-0.now) fresh stale, refl, same))
 
 pub unreachable-requires : goal.unreachable-requires
 unreachable-requires g c =
@@ -67,20 +69,14 @@ print-requires-clause-served g c =
 
 pub invariant_of-self-in_err-print : goal.invariant_of-self-in_err-print
 invariant_of-self-in_err-print g c = (
-  record {
-    track_is = c.self.invariant.0.track_is;
-    second_is = c.self.invariant.0.second_is;
-    served = served-current c.self.inside.second c.args.name.now (all_seen c.self.inside.views) (all_seen c.refresh.new.self) c.in_ok-refresh.ensures.ok c.self.invariant.0.served;
-  },
+  session-printed c.self.inside.genome c.self.inside.track c.self.inside.second c.args.name.now (all_seen c.self.inside.views) (all_seen c.refresh.new.self) c.self.invariant.0
+      c.in_ok-refresh.ensures.ok,
   c.refresh.ensures.right,
 )
 
 pub invariant_of-self-2 : goal.invariant_of-self-2
 invariant_of-self-2 g c = (
-  record {
-    track_is = c.self.invariant.0.track_is;
-    second_is = c.self.invariant.0.second_is;
-    served = served-current c.self.inside.second c.args.name.now (all_seen c.self.inside.views) (all_seen c.refresh.new.self) c.in_ok-refresh.ensures.ok c.self.invariant.0.served;
-  },
+  session-printed c.self.inside.genome c.self.inside.track c.self.inside.second c.args.name.now (all_seen c.self.inside.views) (all_seen c.refresh.new.self) c.self.invariant.0
+      c.in_ok-refresh.ensures.ok,
   c.refresh.ensures.right,
 )

@@ -11,7 +11,7 @@ use Rattle.iv_track.specs.Edits.{RefusesRemove, without_record}
 use Rattle.iv_state.specs.States.{State, IsTrackOn}
 use Rattle.iv_state.specs.declared.session.Accepted.{Accepted}
 use Rattle.iv_track.proofs.Edits.{added-removed}
-use Rattle.iv_state.proofs.SessionLemmas.{edited, track-removed, served-stales}
+use Rattle.iv_state.proofs.SessionLemmas.{edited, track-removed, session-stales}
 use Rattle.iv_state.proofs.session.Session.remove.Goals as goal
 
 -- the records before, by those after and the one that was taken out
@@ -41,12 +41,9 @@ removed-requires-clause-fits g c =
 pub invariant_of-self-2 : goal.invariant_of-self-2
 invariant_of-self-2 g c =
     let inside = c.self.inside in (
-      record {
-        track_is = subst (IsTrackOn inside.genome) (sym c.in_ok-remove.ensures.ok)
-            (track-removed inside.genome inside.track c.in_ok-record.record c.self.invariant.0.track_is c.in_ok-remove.ensures.there);
-        second_is = c.self.invariant.0.second_is;
-        served = served-stales inside.second _ _ c.removed.ensures.stales c.self.invariant.0.served;
-      },
+      session-stales inside.genome inside.track _ inside.second _ _ c.self.invariant.0
+          (subst (IsTrackOn inside.genome) (sym c.in_ok-remove.ensures.ok) (track-removed inside.genome inside.track c.in_ok-record.record c.self.invariant.0.track_is c.in_ok-remove.ensures.there))
+          c.removed.ensures.stales,
       c.removed.ensures.right,
     )
 

@@ -13,7 +13,7 @@ use Rattle.iv_state.specs.States.{State}
 use Rattle.iv_state.specs.declared.session.Accepted.{Accepted}
 use Rattle.iv_track.proofs.Edits.{refused-absent}
 use Rattle.iv_state.proofs.OpenViewLemmas.{stales-trans, stales-steps}
-use Rattle.iv_state.proofs.SessionLemmas.{edited, fit-added, replaced-in, served-stales, staged-there}
+use Rattle.iv_state.proofs.SessionLemmas.{edited, fit-added, replaced-in, session-stales, staged-there}
 use Rattle.iv_state.proofs.session.Session.replace.Goals as goal
 
 pub returns-in_err-stage-clause-why : goal.returns-in_err-stage-clause-why
@@ -75,11 +75,7 @@ invariant_of-self-2 g c =
     let whole = replaced-in _ _ _ _ _ _ _ _ c.self.view_is c.in_ok-before.ensures.ok c.in_ok-after.ensures.ok c.self.invariant.0.track_is c.copies.ensures.ordered there c.requires.new
     c.in_ok-stage.ensures.ok c.in-Ok.ensures.ok in
     let less = stales-trans _ _ _ c.added.ensures.stales c.removed.ensures.stales in (
-      record {
-        track_is = whole.track_is;
-        second_is = c.self.invariant.0.second_is;
-        served = served-stales c.self.inside.second _ _ less c.self.invariant.0.served;
-      },
+      session-stales c.self.inside.genome c.self.inside.track _ c.self.inside.second _ _ c.self.invariant.0 whole.track_is less,
       c.removed.ensures.right,
     )
 

@@ -2,9 +2,9 @@ use Rattle.std.proofs.Common.{◌≡◌, ◌∙◌, true, add-one, ap, slice_get
 use Rattle.std.specs.Prelude.{IfSome}
 use Rattle.iv_bytes.proofs.Putting.{OnErr-all}
 use Rattle.iv_state.specs.Keeping.{all_seen, current_at}
-use Rattle.iv_state.specs.OpenViews.{Stales}
+use Rattle.iv_state.specs.OpenViews.{Freshens}
 use Rattle.iv_state.proofs.OpenViewLemmas.{named-length}
-use Rattle.iv_state.proofs.StateLemmas.{current_to, current-none, current-next, current-length, current-all, current-stales, seen-length, stale-among}
+use Rattle.iv_state.proofs.StateLemmas.{current_to, current-none, current-next, current-length, current-all, current-freshens, seen-length, stale-among}
 use Rattle.iv_state.proofs.views.Views.refresh_all.Goals as goal
 
 pub loop-place-init : goal.loop-place-init
@@ -20,7 +20,7 @@ refresh_at-requires-clause-within g c = omega (arith, c.loop-place-test.true, c.
 pub returns-in_err-refresh_at-clause-err : goal.returns-in_err-refresh_at-clause-err
 returns-in_err-refresh_at-clause-err g c =
     OnErr-all c.from_residual.result
-    (subst (λ l. Stales l (all_seen c.args.self.now)) (sym (ap all_seen c.in_err-refresh_at.ensures.err ∙ c.loop-place.invariant.1)) (current-stales c.loop-place.place (all_seen c.args.self.now)))
+    (subst (λ l. Freshens (all_seen c.args.self.now) l) (sym (ap all_seen c.in_err-refresh_at.ensures.err ∙ c.loop-place.invariant.1)) (current-freshens c.loop-place.place (all_seen c.args.self.now)))
 
 pub returns-in_err-refresh_at-clause-stale : goal.returns-in_err-refresh_at-clause-stale
 returns-in_err-refresh_at-clause-stale g c =
