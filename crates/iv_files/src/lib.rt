@@ -3,11 +3,13 @@
 
 mod fault;
 mod inputs;
+mod laws;
 mod one_shot;
 mod reading;
 mod text_files;
 
 pub use fault::{CliFault, FileFault};
 pub use inputs::{Inputs, ParsedFiles, load};
+pub use laws::too_long_above_the_limit;
 pub use one_shot::shot;
 pub use reading::read_all;

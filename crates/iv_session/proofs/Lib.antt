@@ -1,3 +1,4 @@
+pub mod SizeLemmas
 pub mod ReadLemmas
 pub mod ScriptLemmas
 pub mod StopLemmas
@@ -5,3 +6,4 @@ pub mod ColumnLemmas
 pub mod SecondLemmas
 pub mod RunLemmas
 pub mod Examples
+pub mod EndingLemmas

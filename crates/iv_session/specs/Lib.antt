@@ -1,7 +1,9 @@
 pub mod Streams
 pub mod Written
 pub mod Requests
+pub mod Limits
 pub mod Running
 pub mod Reading
 pub mod Scripts
 pub mod Stops
+pub mod Endings

@@ -19,6 +19,8 @@ use Rattle.iv_session.specs.declared.fault.LineFault.TheVariants as fault
 use Rattle.iv_session.specs.declared.fault.RequestFault.{RequestFault}
 use Rattle.iv_session.specs.declared.request.Request.{Request}
 use Rattle.iv_session.specs.declared.request.Request.TheVariants as request
+use Rattle.iv_session.specs.declared.script.RunCause.{RunCause}
+use Rattle.iv_session.specs.declared.script.RunCause.TheVariants as cause
 
 -- a request is done: it leads from this state to that one, and this is its text. After an edit some views may be
 -- stale, but after one of the second file none becomes so; a view that is printed is current
@@ -87,6 +89,23 @@ Ends asks old new written =
 abbrev pub Runs : State → List ℕ → State → Written → Type 0
 Runs old line new written = Ends (asked old line) old new written
 
+-- a view is to be printed, or all of them
+abbrev pub AsksToPrint : Result Request RequestFault → Type 0
+AsksToPrint (Ok (request.Print name)) = Unit {0}
+AsksToPrint (Ok request.PrintAll) = Unit {0}
+AsksToPrint other = ⊥
+
+-- the line with which a run ends at a sink: at the output only a print that isn't refused, at the messages only a refused line. The
+-- session is as before, but that some views may have become current
+abbrev pub EndsAt : RunCause → Result Request RequestFault → State → State → Written → Type 0
+EndsAt cause.Output asks old new written = AsksToPrint asks × (written.refusal ≡ None) × IsButCurrent old new
+EndsAt cause.Messages asks old new written = IsSome written.refusal × IsButCurrent old new
+EndsAt other asks old new written = ⊥
+
+-- what the last line of a run may do that ends at a sink for this cause: what lines may do, and no more than that
+abbrev pub RunsLast : RunCause → State → List ℕ → State → Written → Type 0
+RunsLast failed old line new written = Runs old line new written × EndsAt failed (asked old line) old new written
+
 -- what is written of a line that was not done, by the number of its fault: with one it is refused, and without one
 -- the output failed at its text. No part of what is promised
 abbrev pub WritesFault : Option ℕ → SinkState → SinkState → Written → Type 0
@@ -98,8 +117,14 @@ abbrev pub WritesAs : Result (Unit {0}) LineFault → SinkState → SinkState �
 WritesAs (Ok done) out0 out1 written = Takes out0 out1 written.output × (written.refusal ≡ None)
 WritesAs (Err f) out0 out1 written = WritesFault (fault_code f) out0 out1 written
 
--- a line that may write this writes its text. No part of what is promised
-pub record Writes (may : Written → Type 0) (out0 out1 : SinkState) (result : Result (Unit {0}) LineFault) : Type 0 where
+-- a line of whose fault no number is known is a print
+abbrev pub PrintsUnless : Result (Unit {0}) LineFault → Result Request RequestFault → Type 0
+PrintsUnless (Ok done) asks = Unit {0}
+PrintsUnless (Err f) asks = fault_code f ≡ None → AsksToPrint asks
+
+-- a line that asks for this ends as it may, and writes its text. No part of what is promised
+pub record Writes (asks : Result Request RequestFault) (old new : State) (out0 out1 : SinkState) (result : Result (Unit {0}) LineFault) : Type 0 where
   pub written : Written
-  pub ends : may written
+  pub ends : Ends asks old new written
   pub writes : WritesAs result out0 out1 written
+  pub prints : PrintsUnless result asks

@@ -3,6 +3,7 @@
 
 mod fault;
 mod fields;
+mod laws;
 mod line;
 mod message;
 mod request;
@@ -14,4 +15,5 @@ pub use iv_view::{
     DepthRows, FastaRows, IntersectRows, KeptView, PairRows, View as ViewWords, ViewFault,
     WrittenView,
 };
+pub use laws::{first_over_is_first, sizes_are_of_lines, too_long_is_exact};
 pub use script::{RunCause, RunFault, ScriptLimits, Summary, run_script};

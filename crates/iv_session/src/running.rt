@@ -1,7 +1,7 @@
 //! Running one line of a script.
 ghost use Rattle.std.specs.Prelude.{◌≡◌, Ok, MatchResult};
-ghost use Rattle.iv_session.specs.Requests.{RequestFits, fault_code};
-ghost use Rattle.iv_session.specs.Running.{Ends, Runs, Writes};
+ghost use Rattle.iv_session.specs.Requests.{RequestFits, asked, fault_code};
+ghost use Rattle.iv_session.specs.Running.{Runs, RunsLast, Writes};
 ghost use Rattle.iv_session.specs.Scripts.{Tells, RanLine, FailedLine, refusals_of};
 
 use crate::fault::LineFault;
@@ -39,7 +39,7 @@ fn run_request<A: Allocator + Copy, W: Sink>(
     output: &mut W,
 ) -> Result<(), LineFault>
     requires { RequestFits session.old request }
-    ensures { Writes (Ends (Ok request.entry) session.old session.new) (W.state output.old) (W.state output.new) result }
+    ensures { Writes (Ok request.entry) session.old session.new (W.state output.old) (W.state output.new) result }
 {
     match request {
         Request::Nothing => Ok(()),
@@ -96,7 +96,7 @@ fn answer_line<A: Allocator + Copy, W: Sink>(
     line: &[u8],
     output: &mut W,
 ) -> Result<(), LineFault>
-    ensures { Writes (Runs session.old line.now session.new) (W.state output.old) (W.state output.new) result }
+    ensures { Writes (asked session.old line.now) session.old session.new (W.state output.old) (W.state output.new) result }
 {
     let request = Request::read(session, line)?;
     run_request(session, request, output)
@@ -124,9 +124,9 @@ pub(crate) fn run_line<A: Allocator + Copy, W: Sink, E: Sink>(
     messages: &mut E,
 ) -> Result<Outcome, RunCause>
     ensures { MatchResult result
-        (λ outcome. RanLine (λ written. Runs session.old line.now session.new written) number
+        (λ outcome. RanLine (Runs session.old line.now session.new) number
         (W.state output.old) (W.state output.new) (E.state messages.old) (E.state messages.new) outcome)
-        (λ cause. FailedLine (λ written. Runs session.old line.now session.new written) number
+        (λ cause. FailedLine (RunsLast cause session.old line.now session.new) number
         (W.state output.old) (W.state output.new) (E.state messages.old) (E.state messages.new) cause) }
 {
     match answer_line(session, line, output) {
