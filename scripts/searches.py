@@ -1,5 +1,5 @@
 #!/usr/bin/env python3
-"""Searches in the crates for two things that no contract can say and that only reading shows.
+"""Searches in the crates for three things that no contract can say and that only reading shows.
 
 Memory: a value that says that memory ran out is made only where a refused growth is turned into a fault, in a
 block `impl From<..> for FAULT`; all other code hands it on by `?`. A contract cannot tell a call that met a refusal
@@ -8,9 +8,12 @@ AllocError may stand in patterns, comparisons, types, declarations and `use` lin
 alone. AllocError itself is made in `refusing` alone, the allocator that refuses on purpose.
 
 Meter: steps are counted by the meter that is handed in; a call that made a meter of its own would hide its steps.
-So `Meter::new` stands never in a crate of kept views; in iv_track only in `from_records`; in iv_pair, which counts no steps, only where
-a `Second`, a `Finder` or `Hits` is made, in functions `new`, `of` and `hits`, at most once in each; in the session's crates at most
-once in a function, and in no loop; elsewhere not at all.
+So a meter is made only in the functions that MAKES_A_METER names, file by file, once in each and in no loop: in the calls of a
+session, one for each, and in iv_pair, which counts no steps there, where a `Second` or its hits are made. No crate of kept
+views makes one, and no repair or print of a view.
+
+Flush: `main` ends a run by what the last flush of standard output says. Standard output holds nothing back in this toolchain,
+so a flush never fails and no run can show that it is looked at. So `after_flush` is called with the flush's own answer alone.
 
 The crates of tests, worked_*, may name such faults as values that they expect, and make meters.
 
@@ -27,7 +30,17 @@ TOP = Path(__file__).resolve().parent.parent
 OPENING, CLOSING = "([{", ")]}"
 REFUSED = re.compile(r"\b(NoMemory|Memory|AllocError)\b")
 RENAMED = re.compile(r"\b(NoMemory|Memory|AllocError|Meter)\s+as\b")
+FLUSH = re.compile(r"\bafter_flush\s*\((.*)\)")
+LOOKS_AT_THE_FLUSH = "rt.stdout().flush().is_ok()"
 METER = re.compile(r"\bMeter\s*>?\s*::\s*new\b")
+MAKES_A_METER = {
+    "iv_pair/src/hits.rt": {"of"},
+    "iv_pair/src/second.rt": {"new", "hits"},
+    "iv_state/src/session.rt": {
+        "add", "remove", "replace", "add_second", "remove_second", "replace_second", "has_record_past", "open_view",
+        "print_view", "print_all",
+    },
+}
 METER_CALLED_OTHERWISE = re.compile(r"\btype\s+\w+\s*=\s*[\w:]*\bMeter\b")
 
 
@@ -139,8 +152,9 @@ def is_in(at, stretches):
     return any(start <= at < end for start, end in stretches)
 
 
-def memory_made(crate, code):
+def memory_made(place, code):
     """The places where a value is made that says that memory ran out."""
+    crate = crate_of(place)
     allowed = [*patterns(code), *declarations(code), *conversions(code)]
     for m in REFUSED.finditer(code):
         only_named = crate.startswith("worked_") and m.group() != "AllocError"
@@ -148,10 +162,11 @@ def memory_made(crate, code):
             yield m.start(), f"{m.group()} is made here, where only a refused growth may say it"
 
 
-def meters_made(crate, code):
+def meters_made(place, code):
     """The places where a meter is made that may make none."""
-    if crate.startswith("worked_"):
+    if crate_of(place).startswith("worked_"):
         return
+    makers = MAKES_A_METER.get(place, set())
     functions = list(bodies(code, "fn"))
     loops = [body for _, body in bodies(code, "for|while|loop")]
     seen = set()
@@ -160,18 +175,28 @@ def meters_made(crate, code):
         start, head = max(around, default=(0, ""))
         name = head.split("(")[0].split("<")[0].strip()
         once = around and start not in seen and not is_in(m.start(), loops)
-        in_session = crate in ("iv_session", "iv_state") and once
-        in_pair = crate == "iv_pair" and name in ("new", "of", "hits") and once
-        in_track = crate == "iv_track" and name == "from_records"
-        if not in_session and not in_pair and not in_track:
+        if not once or name not in makers:
             yield m.start(), "a meter of its own"
         seen.add(start)
 
 
-def renamed(_crate, code):
+def flush_passed_over(place, code):
+    """The places where a run ends by something else than what the last flush says."""
+    if crate_of(place) == "bedkeep":
+        for m in FLUSH.finditer(code):
+            if m.group(1) != LOOKS_AT_THE_FLUSH:
+                yield m.start(), "the last flush is not looked at"
+
+
+def renamed(_place, code):
     """The places where a name that is looked for is given another one."""
     for m in [*RENAMED.finditer(code), *METER_CALLED_OTHERWISE.finditer(code)]:
         yield m.start(), "another name for what is looked for"
+
+
+def crate_of(place):
+    """The crate of a file, given by its path from `crates/` on."""
+    return place.split("/")[0]
 
 
 def search(top):
@@ -179,9 +204,9 @@ def search(top):
     found = []
     for path in sorted(top.glob("crates/*/src/**/*.rt")):
         text = path.read_text()
-        crate = path.relative_to(top / "crates").parts[0]
-        for look in (memory_made, meters_made, renamed):
-            for at, why in look(crate, code_of(text)):
+        place = path.relative_to(top / "crates").as_posix()
+        for look in (memory_made, meters_made, flush_passed_over, renamed):
+            for at, why in look(place, code_of(text)):
                 number = text.count("\n", 0, at) + 1
                 line = text.splitlines()[number - 1].strip()
                 found.append(f"{path.relative_to(top)}:{number}: {why}: {line}")
@@ -191,8 +216,10 @@ def search(top):
 MADE = "is made here"
 METERS = "a meter of its own"
 OTHER_NAME = "another name"
+NO_FLUSH = "the last flush is not looked at"
 
-# A crate, what is planted there, and the reason why it is refused, none where it is let through.
+# A crate, what is planted there, and the reason why it is refused, none where it is let through. A function called `may` is one
+# that may make a meter, in a crate that has such functions.
 PLANTED = [
     ("iv_text", "fn f(n: usize) -> Result<(), LoadCause> { if n > 1000 { return Err(LoadCause::Memory); } Ok(()) }", MADE),
     ("iv_track", "fn f(n: u32) -> Result<(), AddFault> { match n { 0 => Ok(()), _ => Err(AddFault::NoMemory), } }", MADE),
@@ -218,17 +245,19 @@ PLANTED = [
     ("iv_cover", "fn f() -> u64 { let mut meter = Meter::new(); meter.steps() }", METERS),
     ("iv_cover", "fn f() -> u64 { <Meter>::new().steps() }", METERS),
     ("iv_cover", "type Count = iv_track::Meter;", OTHER_NAME),
-    ("iv_track", "fn from_record() -> Meter { Meter::new() }", METERS),
-    ("iv_session", "fn f() { g(Meter::new()); g(Meter::new()); }", METERS),
-    ("iv_session", "fn f() { for _ in 0..9 { g(Meter::new()); } }", METERS),
+    ("iv_track", "fn from_records<A>(a: A) -> Meter { Meter::new() }", METERS),
+    ("iv_state", "fn may() { g(Meter::new()); g(Meter::new()); }", METERS),
+    ("iv_state", "fn may() { for _ in 0..9 { g(Meter::new()); } }", METERS),
+    ("iv_state", "impl OpenView { fn added(&mut self) { self.state.added(&mut Meter::new()); } }", METERS),
     ("iv_session", "const MAKE: fn() -> Meter = Meter::new;", METERS),
     ("iv_cli", "fn f() -> Meter { Meter::new() }", METERS),
     ("iv_pair", "fn print_pairs() { g(Meter::new()); }", METERS),
-    ("iv_pair", "fn hits<A>() { g(Meter::new()); g(Meter::new()); }", METERS),
-    ("iv_pair", "fn hits(n: u8) { for _ in 0..n { g(Meter::new()); } }", METERS),
-    ("iv_track", "fn from_records<A>(a: A) -> Meter { Meter::new() }", None),
-    ("iv_pair", "fn hits<A>(&self) { g(Meter::new()); }\nfn of() { g(Meter::new()); }", None),
-    ("iv_session", "fn f() { g(Meter::new()); }\nfn h() { g(Meter::new()); }", None),
+    ("iv_pair", "fn may<A>() { g(Meter::new()); g(Meter::new()); }", METERS),
+    ("iv_pair", "fn may(n: u8) { for _ in 0..n { g(Meter::new()); } }", METERS),
+    ("iv_pair", "fn may<A>(&self) { g(Meter::new()); }", None),
+    ("iv_state", "fn may(&mut self) { let mut meter = Meter::new(); }", None),
+    ("bedkeep", "fn f(rt: &R, ending: Ending) -> Ending { ending.after_flush(true) }", NO_FLUSH),
+    ("bedkeep", "fn f(rt: &R, ending: Ending) -> Ending { ending.after_flush(rt.stdout().flush().is_ok()) }", None),
     ("worked_rows", "fn f() { g(Meter::new()); g(Meter::new()); }", None),
 ]
 
@@ -243,6 +272,8 @@ def try_planted():
             folder = top / "crates" / crate / "src"
             folder.mkdir(parents=True, exist_ok=True)
             (folder / f"planted_{number}.rt").write_text(text + "\n")
+            if crate in map(crate_of, list(MAKES_A_METER)):
+                MAKES_A_METER[f"{crate}/src/planted_{number}.rt"] = {"may"}
         found = search(top)
     for number, (crate, text, why) in enumerate(PLANTED):
         told = [line for line in found if f"/planted_{number}.rt:" in line]
