@@ -35,6 +35,13 @@ impl<B> RefusesNth<B> {
         }
     }
 
+    /// Refuses one more growth, that of the given number from here on, which counts from 1.
+    pub fn again(&self, number: u64)
+        requires { 0 < number }
+    {
+        self.left.set(number);
+    }
+
     /// Whether the growth to be refused has come.
     pub fn has_refused(&self) -> bool {
         self.left.get() == 0
@@ -75,11 +82,12 @@ unsafe impl<B: Allocator> Allocator for RefusesNth<B> {
 }
 
 /// Makes a run with its first growth refused, one with its second, and so on, until one meets no refusal. The sum of what
-/// the runs give, such as how many of their calls ended for want of memory.
+/// the runs give: how many of their calls were answered with out of memory, at most one in a run whose growth was refused,
+/// and none in the last one.
 ///
 /// # Errors
 ///
-/// That of the first run that has one, and one where there is no end of growths.
+/// That of the first run that has one; and one where a run gives more than that, or where there is no end of growths.
 pub fn refuse_each<B, F>(inner: B, run: F) -> Result<u32, Fail>
 where
     B: Allocator + Copy,
@@ -89,7 +97,11 @@ where
     let mut sum = 0u32;
     for number in 1..10_000u64 {
         let alloc = RefusesNth::new(inner, number);
-        sum = sum.saturating_add(run(&alloc)?);
+        let met = run(&alloc)?;
+        if met > u32::from(alloc.has_refused()) {
+            return Err(Fail::new("out of memory, though no growth was refused"));
+        }
+        sum = sum.saturating_add(met);
         if !alloc.has_refused() {
             return Ok(sum);
         }

@@ -1,4 +1,5 @@
 //! What several tests begin with.
+use crate::failing::check_failing;
 use iv_fasta::Fasta;
 use iv_session::{RunFault, ScriptLimits, Session, Summary, run_script};
 use iv_text::{BedFile, Genome, MemSink, MemSource};
@@ -38,7 +39,7 @@ fn fasta_of(
 }
 
 /// A session of a genome file, a BED file and what stands beside it. Where a BED file has no record, it has the width.
-fn session_beside(
+pub(crate) fn session_beside(
     rt: &HostRuntime,
     sizes: &[u8],
     width: u8,
@@ -213,7 +214,8 @@ pub(crate) fn check(rt: &HostRuntime, examples: &[Example<'_>]) -> Result<(), Fa
     check_beside(rt, ALONE, examples)
 }
 
-/// Runs the script of each example beside a second file, a FASTA file or neither, whole and in small pieces.
+/// Runs the script of each example beside a second file, a FASTA file or neither, whole and in small pieces; and then over an input
+/// and outputs that fail at each byte.
 pub(crate) fn check_beside(
     rt: &HostRuntime,
     beside: Beside<'_>,
@@ -224,6 +226,9 @@ pub(crate) fn check_beside(
             if !holds(rt, beside, example, piece)? {
                 return Err(Fail::new("another outcome"));
             }
+        }
+        for piece in [1, 3] {
+            check_failing(rt, beside, example, piece)?;
         }
     }
     Ok(())

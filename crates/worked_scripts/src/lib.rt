@@ -10,9 +10,13 @@ mod devices;
 #[cfg(test)]
 mod edits;
 #[cfg(test)]
+mod failing;
+#[cfg(test)]
 mod fixtures;
 #[cfg(test)]
 mod lengths;
+#[cfg(test)]
+mod refusals;
 #[cfg(test)]
 mod scripts;
 #[cfg(test)]

@@ -102,6 +102,37 @@ fn depth_of_records(rt: HostRuntime) -> Result<(), Fail> {
     check(&rt, &examples)
 }
 
+/// What each sequence has left, of two kinds, while views are opened, closed and printed together.
+#[test]
+fn gaps_beside_blocks_and_depth(rt: HostRuntime) -> Result<(), Fail> {
+    let examples = [
+        Example {
+            width: 3,
+            first: b"",
+            limit: 9,
+            script: b"open\tb\tmerge\nopen\ta\tcomplement -L\nadd\tchr1\t10\t20\nprintall\nclose\tb\nopen\tb\tgenomecov -bg\nprintall\n",
+            output: b"#b\nchr1\t10\t20\n#a\nchr1\t0\t10\nchr1\t20\t100\n#a\nchr1\t0\t10\nchr1\t20\t100\n#b\nchr1\t10\t20\t1\n",
+            messages: b"",
+            lines: 7,
+            refused: 0,
+            left: 1,
+        },
+        // A sequence that is covered whole has no gap.
+        Example {
+            width: 3,
+            first: b"chr1\t0\t100\nchr1\t50\t100\n",
+            limit: 9,
+            script: b"open\tc\tcomplement\nopen\tl\tcomplement -L\nopen\tg\tgenomecov -bg -d\nopen\tg\tgenomecov\nprintall\n",
+            output: b"#c\nchr2\t0\t50\n#l\n",
+            messages: b"line 3: bad options\nline 4: bad options\n",
+            lines: 5,
+            refused: 2,
+            left: 2,
+        },
+    ];
+    check(&rt, &examples)
+}
+
 /// A script that opens 64 views, what is refused then, a close and an open, and a print of all views.
 fn full_script(rt: &HostRuntime) -> Result<String, Fail> {
     let mut script = String::new(rt.alloc());

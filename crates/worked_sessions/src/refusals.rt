@@ -34,13 +34,14 @@ fn line(rt: &HostRuntime, start: u32) -> Result<String, Fail> {
     Ok(format!(in rt.alloc(); "chr1\t{start}\t{stop}\tname")?)
 }
 
-/// Whether the session holds one record at each start from the first one on, this number in all.
-fn holds_starts(session: &Session<&RefusesNth<Global>>, first: u32, count: u32) -> bool {
+/// Whether the session holds just the records of the lines with these starts, from the first one on, this number in all.
+fn holds_lines(session: &Session<&RefusesNth<Global>>, first: u32, count: u32) -> bool {
     let mut meter = Meter::new();
     let mut rows = session.track().walk(0, 0, &mut meter);
     for start in first..first.saturating_add(count) {
+        let (start, stop) = (u64::from(start), u64::from(start).saturating_add(10));
         match rows.next(&mut meter) {
-            Some(row) if row.start() == u64::from(start) => {}
+            Some(row) if (row.start(), row.stop(), row.name()) == (start, stop, b"name") => {}
             _ => return false,
         }
     }
@@ -81,7 +82,7 @@ fn is_refused(
         return Ok(false);
     }
     let (first, count) = edit.before(done);
-    if !holds_starts(session, first, count) {
+    if !holds_lines(session, first, count) {
         return Err(Fail::new("changed by a refused edit"));
     }
     if !is_done(session, edit, here, there)? {
@@ -115,7 +116,7 @@ fn refused_edits(
             }
         }
         let (first, count) = edit.before(COUNT);
-        if !holds_starts(session, first, count) {
+        if !holds_lines(session, first, count) {
             return Err(Fail::new("other records"));
         }
     }
@@ -143,7 +144,7 @@ fn refused_in(
     if is_empty {
         return refused_edits(rt, session);
     }
-    if holds_starts(session, 0, COUNT) {
+    if holds_lines(session, 0, COUNT) {
         Ok(0)
     } else {
         Err(Fail::new("other records"))

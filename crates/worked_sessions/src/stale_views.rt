@@ -163,59 +163,100 @@ fn refused_edits(session: &mut Session<&RefusesNth<Global>>) -> Result<(u32, u32
     Ok((refused, most))
 }
 
-/// Prints a view, or all, again where memory is refused. How often it was.
-fn refused_prints(
+/// Prints a view, or all, with its first growth refused, and again where there was one. Whether there was.
+fn is_print_refused_once(
     rt: &HostRuntime,
+    alloc: &RefusesNth<Global>,
     session: &mut Session<&RefusesNth<Global>>,
     name: Option<&[u8]>,
     want: &[u8],
-) -> Result<u32, Fail> {
-    if !is_print_refused(rt, session, name, want)? {
-        return Ok(0);
+) -> Result<bool, Fail> {
+    let stale = count_stale(session);
+    alloc.again(1);
+    let refused = is_print_refused(rt, session, name, want)?;
+    if refused != alloc.has_refused() || refused && count_stale(session) != stale {
+        return Err(Fail::new("another answer to a refused print"));
     }
-    if is_print_refused(rt, session, name, want)? {
+    if refused && is_print_refused(rt, session, name, want)? {
         return Err(Fail::new("refused twice"));
     }
-    Ok(1)
+    Ok(refused)
 }
 
-/// Opens the views, does the edits, and prints all views at once or each by itself. How many calls met the refusal,
-/// and the most views that were stale.
-fn refused_work(
-    rt: &HostRuntime,
-    session: &mut Session<&RefusesNth<Global>>,
-    at_once: bool,
-) -> Result<(u32, u32), Fail> {
-    let opened = refused_openings(rt, session)?;
-    let (edited, stale) = refused_edits(session)?;
-    let mut printed = 0u32;
-    if at_once {
-        let all = all_texts(rt, &VIEWS, true)?;
-        printed = refused_prints(rt, session, None, all.as_slice())?;
-    }
-    for (name, _, _, text) in VIEWS {
-        printed = printed.saturating_add(refused_prints(rt, session, Some(name), text)?);
-    }
-    if count_stale(session) > 0 {
-        return Err(Fail::new("stale behind its print"));
-    }
-    let refused = opened.saturating_add(edited);
-    Ok((refused.saturating_add(printed), stale))
-}
-
-/// All that is done to a session, from its making on. How many calls met the refusal, and the most views that were stale.
-fn refused_calls(
+/// Prints all views at once, if that is asked for, and then each by itself, with a growth of each print refused. How many
+/// prints met the refusal.
+fn refused_prints(
     rt: &HostRuntime,
     alloc: &RefusesNth<Global>,
+    session: &mut Session<&RefusesNth<Global>>,
     at_once: bool,
-) -> Result<(u32, u32), Fail> {
+) -> Result<u32, Fail> {
+    let mut refused = 0u32;
+    if at_once {
+        let all = all_texts(rt, &VIEWS, true)?;
+        refused = u32::from(is_print_refused_once(rt, alloc, session, None, all.as_slice())?);
+    }
+    for (name, _, _, text) in VIEWS {
+        let met = is_print_refused_once(rt, alloc, session, Some(name), text)?;
+        refused = refused.saturating_add(u32::from(met));
+    }
+    if count_stale(session) > 0 {
+        return Err(Fail::new("stale after its print"));
+    }
+    Ok(refused)
+}
+
+/// What a run met.
+#[derive(Clone, Copy)]
+struct Met {
+    /// How many openings and edits were refused.
+    calls: u32,
+    /// The most views that were stale after an edit.
+    stale: u32,
+    /// How many prints were refused.
+    prints: u32,
+    /// Whether the growth to be refused came before the prints.
+    is_spent: bool,
+}
+
+/// Opens the views, does the edits, and prints.
+fn refused_work(
+    rt: &HostRuntime,
+    alloc: &RefusesNth<Global>,
+    session: &mut Session<&RefusesNth<Global>>,
+    at_once: bool,
+) -> Result<Met, Fail> {
+    let opened = refused_openings(rt, session)?;
+    let (edited, stale) = refused_edits(session)?;
+    let is_spent = alloc.has_refused();
+    let prints = refused_prints(rt, alloc, session, at_once)?;
+    Ok(Met {
+        calls: opened.saturating_add(edited),
+        stale,
+        prints,
+        is_spent,
+    })
+}
+
+/// All that is done to a session, from its making on.
+fn refused_calls(rt: &HostRuntime, alloc: &RefusesNth<Global>, at_once: bool) -> Result<Met, Fail> {
     let files = Files {
         second: Some(SECOND),
         ..alone(FIRST, LIMIT)
     };
     let (mut session, begun) = begun_again(alloc, files)?;
-    let (refused, stale) = refused_work(rt, &mut session, at_once)?;
-    Ok((begun.saturating_add(refused), stale))
+    let met = refused_work(rt, alloc, &mut session, at_once)?;
+    Ok(Met {
+        calls: begun.saturating_add(met.calls),
+        ..met
+    })
+}
+
+/// Whether a run met what it may: a refused growth is the answer of one call, or leaves views stale, or is made up for at another
+/// size; and then just the prints of stale views are refused.
+fn is_sound(met: Met) -> bool {
+    let answers = met.calls.saturating_add(u32::from(met.stale > 0));
+    answers <= u32::from(met.is_spent) && (met.prints > 0) == (met.stale > 0)
 }
 
 /// Refuses each growth in turn, until none is refused any more. How many calls met the refusal, and the most views
@@ -225,10 +266,13 @@ fn refused_in_turn(rt: &HostRuntime, at_once: bool) -> Result<(u32, u32), Fail> 
     let mut most = 0u32;
     for number in 1..10_000u64 {
         let alloc = RefusesNth::new(rt.alloc(), number);
-        let (met, stale) = refused_calls(rt, &alloc, at_once)?;
-        refused = refused.saturating_add(met);
-        most = most.max(stale);
-        if !alloc.has_refused() {
+        let met = refused_calls(rt, &alloc, at_once)?;
+        if !is_sound(met) {
+            return Err(Fail::new("more was refused than the one growth"));
+        }
+        refused = refused.saturating_add(met.calls);
+        most = most.max(met.stale);
+        if !met.is_spent {
             return Ok((refused, most));
         }
     }
