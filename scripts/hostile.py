@@ -9,13 +9,15 @@ script of `add`, `remove` and `merge` alone is compared with a plain reference i
 ways, at random: with little memory, with an output whose reader goes away, on a full device, with a reader that is slow, with an
 input that ends in the middle of a line, with a SIGTERM at some time.
 
-What must hold each time: the exit status is one of the table for what happened; standard output is a part of what the undisturbed run
-printed, from its first byte on, and all of it where the status says so; each line of standard error is one that the program has;
-no signal but the one that was sent; no run takes longer than ten seconds.
+What must hold each time: the exit status is that of the table for what happened; standard output is the beginning of what the
+undisturbed run printed, and all of it where the status says so; each line of standard error is one that the program has; no run ends
+by a signal but the one that was sent, or takes longer than ten seconds. After a line that was refused memory only whole lines are
+asked for; and with so little memory that nothing was written at all, a run may not have been started.
 """
 
 import argparse
 import collections
+import contextlib
 import os
 import random
 import re
@@ -183,9 +185,10 @@ def slow_reader(case, chance):
     feeder = threading.Thread(target=feed, args=(process, case.script, chance.randrange(1, 400), 0.0005))
     feeder.start()
     output = b""
-    while piece := os.read(process.stdout.fileno(), chance.randrange(1, 300)):
-        output += piece
-        time.sleep(0.0003)
+    with watched(process):
+        while piece := os.read(process.stdout.fileno(), chance.randrange(1, 300)):
+            output += piece
+            time.sleep(0.0003)
     feeder.join()
     process.stdin = None
     status, _, messages = finish(process, None)
@@ -210,9 +213,10 @@ def killed(case, chance):
     feeder.start()
     timer = threading.Timer(chance.random() * 0.05, process.terminate)
     timer.start()
-    output = process.stdout.read()
-    messages = process.stderr.read()
-    status = process.wait(LONGEST)
+    with watched(process):
+        output = process.stdout.read()
+        messages = process.stderr.read()
+        status = process.wait()
     timer.join()
     feeder.join()
     require(status in (case.status, -signal.SIGTERM), f"killed: status {status}")
@@ -220,6 +224,17 @@ def killed(case, chance):
     if status == case.status:
         require((output, messages) == (case.output, case.messages), "killed too late: another answer")
     return status
+
+
+@contextlib.contextmanager
+def watched(process):
+    """Ends a run that takes too long, by a signal that no case allows."""
+    timer = threading.Timer(LONGEST, process.kill)
+    timer.start()
+    try:
+        yield
+    finally:
+        timer.cancel()
 
 
 def feed(process, script, size, seconds):

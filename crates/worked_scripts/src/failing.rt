@@ -58,10 +58,51 @@ fn ran_to(
     ran(rt, beside, example, script, 1000)
 }
 
-/// Whether a run has written what one of the lines before has, and as much of a line's text as there is room for: of these bytes in
-/// all, `before` up to that line and `after` with it.
-fn is_cut(written: &[u8], all: &[u8], room: usize, before: usize, after: usize) -> bool {
-    written.len() == room && all.starts_with(written) && before <= room && room < after
+/// What a run writes to.
+#[derive(Clone, Copy)]
+enum Writer {
+    Output,
+    Messages,
+}
+
+impl Writer {
+    /// What a run has written to it.
+    fn written(self, ran: &Ran) -> &[u8] {
+        match self {
+            Writer::Output => ran.output.bytes(),
+            Writer::Messages => ran.messages.bytes(),
+        }
+    }
+
+    /// The other one.
+    fn other(self) -> Writer {
+        match self {
+            Writer::Output => Writer::Messages,
+            Writer::Messages => Writer::Output,
+        }
+    }
+
+    /// Why a run ends that finds no room in it.
+    fn cause(self) -> RunCause {
+        match self {
+            Writer::Output => RunCause::Output,
+            Writer::Messages => RunCause::Messages,
+        }
+    }
+
+    /// The example's script, with room for so many bytes in it.
+    fn with_room<'a>(self, example: &Example<'a>, room: usize) -> Script<'a> {
+        match self {
+            Writer::Output => Script {
+                output: room,
+                ..whole(example)
+            },
+            Writer::Messages => Script {
+                messages: room,
+                ..whole(example)
+            },
+        }
+    }
 }
 
 /// The line at which a run ended for this cause, 0 where it ended otherwise.
@@ -72,18 +113,20 @@ fn line_of(ran: &Ran, cause: RunCause) -> u64 {
     }
 }
 
-/// Whether a run ended at its output as it is to, beside runs of the lines before and of those with the one it ended at.
-fn is_cut_output(ran: &Ran, before: &Ran, after: &Ran, all: &[u8], room: usize) -> bool {
-    let sizes = (before.output.bytes().len(), after.output.bytes().len());
-    is_cut(ran.output.bytes(), all, room, sizes.0, sizes.1)
-        && ran.messages.bytes() == before.messages.bytes()
+/// Whether what a run wrote is the beginning of what the example is to write.
+fn begins(ran: &Ran, example: &Example<'_>) -> bool {
+    example.output.starts_with(ran.output.bytes())
+        && example.messages.starts_with(ran.messages.bytes())
 }
 
-/// Whether a run ended at its messages as it is to.
-fn is_cut_messages(ran: &Ran, before: &Ran, after: &Ran, all: &[u8], room: usize) -> bool {
-    let sizes = (before.messages.bytes().len(), after.messages.bytes().len());
-    is_cut(ran.messages.bytes(), all, room, sizes.0, sizes.1)
-        && ran.output.bytes() == before.output.bytes()
+/// Whether a run filled the room of a writer at a line, beside runs of the lines before and of those with that line: it wrote to the
+/// other writer what the lines before did.
+fn is_cut(ran: &Ran, before: &Ran, after: &Ran, writer: Writer, room: usize) -> bool {
+    let other = writer.other();
+    writer.written(ran).len() == room
+        && writer.written(before).len() <= room
+        && room < writer.written(after).len()
+        && other.written(ran) == other.written(before)
 }
 
 /// Whether a run wrote just what another one did.
@@ -91,45 +134,23 @@ fn is_same(ran: &Ran, before: &Ran) -> bool {
     ran.output.bytes() == before.output.bytes() && ran.messages.bytes() == before.messages.bytes()
 }
 
-/// Whether the example's script, over an output with this room, ends at the line whose text has no room.
-fn ends_at_output(
+/// Whether the example's script, over a writer with this room, ends at the line whose text has no room.
+fn ends_at(
     rt: &HostRuntime,
     beside: Beside<'_>,
     example: &Example<'_>,
+    writer: Writer,
     room: usize,
     piece: usize,
 ) -> Result<bool, Fail> {
-    let script = Script {
-        output: room,
-        ..whole(example)
-    };
-    let ended = ran(rt, beside, example, script, piece)?;
-    let line = line_of(&ended, RunCause::Output);
+    let ended = ran(rt, beside, example, writer.with_room(example, room), piece)?;
+    let line = line_of(&ended, writer.cause());
     let before = ran_to(rt, beside, example, line.saturating_sub(1))?;
     let after = ran_to(rt, beside, example, line)?;
-    Ok(is_cut_output(&ended, &before, &after, example.output, room))
+    Ok(begins(&ended, example) && is_cut(&ended, &before, &after, writer, room))
 }
 
-/// Whether the example's script, over messages with this room, ends at the line whose message has no room.
-fn ends_at_messages(
-    rt: &HostRuntime,
-    beside: Beside<'_>,
-    example: &Example<'_>,
-    room: usize,
-    piece: usize,
-) -> Result<bool, Fail> {
-    let script = Script {
-        messages: room,
-        ..whole(example)
-    };
-    let ended = ran(rt, beside, example, script, piece)?;
-    let line = line_of(&ended, RunCause::Messages);
-    let before = ran_to(rt, beside, example, line.saturating_sub(1))?;
-    let after = ran_to(rt, beside, example, line)?;
-    Ok(is_cut_messages(&ended, &before, &after, example.messages, room))
-}
-
-/// Whether the example's script, over an input that fails behind so many bytes, ends at the line that these bytes end in.
+/// Whether the example's script, over an input that fails after so many bytes, ends at the line that these bytes end in.
 fn ends_at_input(
     rt: &HostRuntime,
     beside: Beside<'_>,
@@ -150,7 +171,7 @@ fn ends_at_input(
     let ended = ran(rt, beside, example, script, piece)?;
     let before = ran_to(rt, beside, example, lines)?;
     let is_there = line_of(&ended, RunCause::Input) == lines.saturating_add(1);
-    Ok(is_there && is_same(&ended, &before))
+    Ok(is_there && begins(&ended, example) && is_same(&ended, &before))
 }
 
 /// Runs the example's script over each room of its outputs and each number of good bytes of its input.
@@ -160,14 +181,14 @@ pub(crate) fn check_failing(
     example: &Example<'_>,
     piece: usize,
 ) -> Result<(), Fail> {
-    for room in 0..example.output.len() {
-        if !ends_at_output(rt, beside, example, room, piece)? {
-            return Err(Fail::new("another end at the output"));
-        }
-    }
-    for room in 0..example.messages.len() {
-        if !ends_at_messages(rt, beside, example, room, piece)? {
-            return Err(Fail::new("another end at the messages"));
+    for (writer, text) in [
+        (Writer::Output, example.output),
+        (Writer::Messages, example.messages),
+    ] {
+        for room in 0..text.len() {
+            if !ends_at(rt, beside, example, writer, room, piece)? {
+                return Err(Fail::new("another end at a writer"));
+            }
         }
     }
     for good in 0..example.script.len() {
