@@ -9,7 +9,7 @@ use std::alloc::Allocator;
 use std::marker::Model;
 
 /// How many records are carried at most.
-const MOST_CARRIED: usize = 32;
+const MOST_CARRIED: usize = 64;
 
 /// A few records of the second file, in its order, on the stack: those that a search has passed and that reach past the place
 /// where it stands.
@@ -43,7 +43,7 @@ impl<'a, A: Allocator + Copy> Carried<'a, A> {
     /// They, each in a slot.
     pub(crate) fn slots(&self) -> &[Option<&'a Record<A>>]
         ensures held { held result.now ≡ self.now }
-        ensures few { length result.now ≤ 32 }
+        ensures few { length result.now ≤ 64 }
     {
         self.slots.as_slice()
     }

@@ -36,7 +36,7 @@ impl<'a, A: Allocator + Copy> Model for Hits<'a, A> {
 
     ghost view = { λ h. held h.carried.now ++ hits h.rows h.seq h.start h.stop };
 
-    ghost invariant = { λ h. AreInOrder h.rows × (length h.rows < 2 ^ 32) × (length h.carried.now ≤ 32) };
+    ghost invariant = { λ h. AreInOrder h.rows × (length h.rows < 2 ^ 32) × (length h.carried.now ≤ 64) };
 }
 
 impl<'a, A: Allocator + Copy> Hits<'a, A> {
@@ -50,7 +50,7 @@ impl<'a, A: Allocator + Copy> Hits<'a, A> {
     ) -> Self
         requires ordered { AreInOrder rows }
         requires few { length rows < 2 ^ 32 }
-        requires few_carried { length carried.now ≤ 32 }
+        requires few_carried { length carried.now ≤ 64 }
         ensures { result ≡ held carried.now ++ hits rows.entry seq start stop }
     {
         Hits {

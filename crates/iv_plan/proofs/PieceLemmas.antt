@@ -11,6 +11,7 @@ use Rattle.iv_plan.specs.declared.run.RunOption.TheVariants as option
 use Rattle.iv_plan.specs.Words.{RunPlan, IsPlan, Setting, Parted, parted, last_parted, next_parted, with_setting, with_words, run_of, option_of, takes_value, lead, values_of, is_option, width_said}
 use Rattle.iv_plan.specs.Pieces.{Piece, piece_words, IsPiece}
 use Rattle.iv_plan.proofs.DraftLemmas.{none≢some, some-same}
+use Rattle.iv_plan.proofs.WordLemmas.{width-once, few-listed}
 
 -- ---- what a piece adds to the parts of the words after it
 
@@ -234,16 +235,6 @@ two-values run k (c ∷ front) middle a b p first second =
     let some = two-values run k front middle a b p first second in
     let more = put-more k (option_of run c.word) c (put_all run (front ++ a ∷ (middle ++ b ∷ [])) p) in
     omega (arith, some, more)
-
--- a width is said by one value at most
-width-once : (values : List (List ℕ)) (width : ℕ) → width_said values ≡ Some width → length values ≤ 1
-width-once [] width h = omega arith
-width-once (value ∷ []) width h = omega arith
-width-once (value ∷ next ∷ values) width h = absurd (none≢some width h)
-
-few-listed : (o : Option (List ℕ)) → length (option_to_list o) ≤ 1
-few-listed None = omega arith
-few-listed (Some value) = omega arith
 
 -- each option has one value at most in a plan
 at-most-one : (words : List (List ℕ)) (plan : RunPlan) (is : IsPlan words plan) (k : RunOption) → count_of k is.parts ≤ 1

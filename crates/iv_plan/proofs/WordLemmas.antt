@@ -46,6 +46,17 @@ needed-by false bases true b f g = absurd (no (f refl))
     no : false ≡ true → ⊥
     no e = cc
 
+-- a width is said by one value at most
+pub width-once : (values : List (List ℕ)) (width : ℕ) → width_said values ≡ Some width → length values ≤ 1
+width-once [] width h = omega arith
+width-once (value ∷ []) width h = omega arith
+width-once (value ∷ next ∷ values) width h = absurd (none≢some width h)
+
+-- a value that may be left out is one at most
+pub few-listed : (o : Option (List ℕ)) → length (option_to_list o) ≤ 1
+few-listed None = omega arith
+few-listed (Some value) = omega arith
+
 module _ (word : List ℕ) (rest : List (List ℕ)) (run : Run) (is_run : Some run ≡ run_of word) where
   -- ---- words that are a plan
 
@@ -103,17 +114,6 @@ module _ (word : List ℕ) (rest : List (List ℕ)) (run : Run) (is_run : Some r
 
       tail : {a b : List ℕ} {xs ys : List (List ℕ)} → a ∷ xs ≡ b ∷ ys → ys ≡ xs
       tail e = cc
-
-  -- a width is said by one value at most
-  width-once : (values : List (List ℕ)) (width : ℕ) → width_said values ≡ Some width → length values ≤ 1
-  width-once [] width h = omega arith
-  width-once (value ∷ []) width h = omega arith
-  width-once (value ∷ next ∷ values) width h = absurd (none≢some width h)
-
-  -- a value that may be left out is one at most
-  few-listed : (o : Option (List ℕ)) → length (option_to_list o) ≤ 1
-  few-listed None = omega arith
-  few-listed (Some value) = omega arith
 
   -- each option is given once at most in a plan
   once : (plan : RunPlan) (is : IsPlan (word ∷ rest) plan) (k : RunOption) → length (values_of k is.parts.settings) ≤ 1

@@ -22,6 +22,8 @@ pub struct RefusesNth<B> {
     inner: B,
     /// How many growths are to come up to the one that is refused, which counts; none after it.
     left: Cell<u64>,
+    /// How many growths were refused.
+    refused: Cell<u64>,
 }
 
 impl<B> RefusesNth<B> {
@@ -32,6 +34,7 @@ impl<B> RefusesNth<B> {
         RefusesNth {
             inner,
             left: Cell::new(number),
+            refused: Cell::new(0),
         }
     }
 
@@ -42,9 +45,14 @@ impl<B> RefusesNth<B> {
         self.left.set(number);
     }
 
-    /// Whether the growth to be refused has come.
+    /// How many growths were refused.
+    pub fn refusals(&self) -> u64 {
+        self.refused.get()
+    }
+
+    /// Whether a growth was refused.
     pub fn has_refused(&self) -> bool {
-        self.left.get() == 0
+        self.refusals() > 0
     }
 
     /// The allocator inside, unless this growth is the one to be refused.
@@ -55,6 +63,7 @@ impl<B> RefusesNth<B> {
             0 => Some(&self.inner),
             1 => {
                 self.left.set(0);
+                self.refused.set(self.refusals().saturating_add(1));
                 None
             }
             left => {
@@ -82,8 +91,8 @@ unsafe impl<B: Allocator> Allocator for RefusesNth<B> {
 }
 
 /// Makes a run with its first growth refused, one with its second, and so on, until one meets no refusal. The sum of what
-/// the runs give: how many of their calls were answered with out of memory, at most one in a run whose growth was refused,
-/// and none in the last one.
+/// the runs give: how many of their calls were answered with out of memory. That is never more than growths were refused in
+/// the run, so it is 0 in the last one.
 ///
 /// # Errors
 ///
@@ -98,8 +107,8 @@ where
     for number in 1..10_000u64 {
         let alloc = RefusesNth::new(inner, number);
         let met = run(&alloc)?;
-        if met > u32::from(alloc.has_refused()) {
-            return Err(Fail::new("out of memory, though no growth was refused"));
+        if u64::from(met) > alloc.refusals() {
+            return Err(Fail::new("more calls out of memory than growths were refused"));
         }
         sum = sum.saturating_add(met);
         if !alloc.has_refused() {

@@ -9,7 +9,7 @@ abbrev pub invariant-loop-self : goal.invariant-loop-self
 invariant-loop-self g l = record {
   ordered : AreInOrder l.self-inside.rows;
   few : length l.self-inside.rows < 2 ^ 32;
-  few_carried : length l.self-inside.carried.now ≤ 32;
+  few_carried : length l.self-inside.carried.now ≤ 64;
   same : held l.self-inside.carried.now ++ hits l.self-inside.rows l.self-inside.seq l.self-inside.start l.self-inside.stop ≡ l.fn.self;
 }
 
