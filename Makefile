@@ -10,7 +10,7 @@ PROGRAM := build/bedkeep
 help:
 	@echo 'make build   prove and build the program; it is left at $(PROGRAM)'
 	@echo 'make demo    build it, then run the scripts of examples/ over the files beside them'
-	@echo 'make test    the whole gate: searches, every proof from nothing, the wrong bodies, the tests, the stored run, a run through pipes, every exit, the examples'
+	@echo 'make test    the whole gate: searches, every proof from nothing, the wrong bodies, the tests, the stored run, a run through pipes, every exit, the examples, random scripts while something goes wrong'
 	@echo 'make wrong-bodies   the wrong bodies that the gate leaves out, an hour or more'
 	@echo 'make clean   remove all that builds and proofs left behind'
 	@echo 'make help    this list'
@@ -32,6 +32,7 @@ test:
 	scripts/answers_at_once.sh $(PROGRAM)
 	scripts/exits.sh $(PROGRAM)
 	scripts/examples.sh $(PROGRAM)
+	python3 scripts/hostile.py $(PROGRAM) --seed 1 --seconds 20
 
 wrong-bodies:
 	RT=$(RT) scripts/wrong_bodies.sh

@@ -23,6 +23,7 @@ import shutil
 import subprocess
 import sys
 import tempfile
+import threading
 import time
 
 from bench_views import CHROMOSOMES, SEED, TOP, TWO_FILES, places
@@ -131,16 +132,33 @@ def least(words, given, wanted):
     """The least seconds of the runs, nothing where one takes too long."""
     found = []
     for _ in range(wanted.runs):
-        begun = time.perf_counter()
-        with open(given, "rb") as standard_input:
-            try:
-                done = subprocess.run(words, stdin=standard_input, stdout=subprocess.DEVNULL, timeout=wanted.most)
-            except subprocess.TimeoutExpired:
-                return None
-        found.append(time.perf_counter() - begun)
-        if done.returncode != 0:
-            sys.exit(f"status {done.returncode}: {' '.join(words)}")
+        seconds, status, late = timed(words, given, wanted.most)
+        if late:
+            return None
+        if status != 0:
+            sys.exit(f"status {status}: {' '.join(words)}")
+        found.append(seconds)
     return min(found)
+
+
+def timed(words, given, most):
+    """The seconds of one run, its status, and whether it was stopped."""
+    late = threading.Event()
+
+    def stop():
+        late.set()
+        process.kill()
+
+    begun = time.perf_counter()
+    with open(given, "rb") as standard_input:
+        process = subprocess.Popen(words, stdin=standard_input, stdout=subprocess.DEVNULL)
+    # A wait with a limit of time looks only every 50 ms, so a timer stops a run that takes too long.
+    timer = threading.Timer(most, stop)
+    timer.start()
+    status = process.wait()
+    seconds = time.perf_counter() - begun
+    timer.cancel()
+    return seconds, status, late.is_set()
 
 
 def named_slow():

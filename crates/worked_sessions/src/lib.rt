@@ -2,6 +2,8 @@
 #![tactic(auto)]
 
 #[cfg(test)]
+mod apart;
+#[cfg(test)]
 mod around;
 #[cfg(test)]
 mod bases;
@@ -11,6 +13,8 @@ mod fixtures;
 mod lengths;
 #[cfg(test)]
 mod refusals;
+#[cfg(test)]
+mod regular;
 #[cfg(test)]
 mod repairs;
 #[cfg(test)]

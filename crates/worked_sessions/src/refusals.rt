@@ -1,5 +1,5 @@
 //! Each growth of a session's memory, refused in turn.
-use crate::fixtures::{Files, alone, session_of};
+use crate::fixtures::{Edit as Call, Files, alone, answer, session_of};
 use iv_state::{EditFault, Session};
 use iv_track::Meter;
 use refusing::{RefusesNth, refuse_each};
@@ -161,7 +161,7 @@ fn refused_calls(rt: &HostRuntime, alloc: &RefusesNth<Global>, text: &[u8]) -> R
     Ok(refused_in(rt, &mut session, text.is_empty())?.saturating_add(refused))
 }
 
-/// Whether some growth was refused, and none is any more behind the last one.
+/// Whether some growth was refused, and none is any more after the last one.
 fn is_refused_in_turn(rt: &HostRuntime, text: &[u8]) -> Result<bool, Fail> {
     let met = refuse_each(rt.alloc(), |alloc| refused_calls(rt, alloc, text))?;
     Ok(met > 0)
@@ -176,5 +176,38 @@ fn each_growth_refused(rt: HostRuntime) -> Result<(), Fail> {
     }
     assert!(rt; is_refused_in_turn(&rt, b"")?);
     assert!(rt; is_refused_in_turn(&rt, text.as_bytes())?);
+    Ok(())
+}
+
+/// The answers of a session of no record to the first edits: an `add` and a `remove` with the first growth refused, and the
+/// `remove` with memory. Whether all is as before after each, and the view current.
+fn first_answers(
+    alloc: &RefusesNth<Global>,
+    session: &mut Session<&RefusesNth<Global>>,
+) -> Result<bool, Fail> {
+    session.open_view(b"m", &[b"merge"])?;
+    let mut as_before = true;
+    for (edit, refused, want) in [
+        (Call::Add(b"chr1\t10\t20\ta"), true, EditFault::NoMemory),
+        (Call::Remove(b"chr1\t10\t20\tz"), true, EditFault::NoMemory),
+        (Call::Remove(b"chr1\t10\t20\tz"), false, EditFault::Absent),
+    ] {
+        alloc.again(if refused { 1 } else { u64::MAX });
+        let fault = answer(session, edit)?.err();
+        as_before &= fault == Some(want) && session.len() == 0 && session.is_current(b"m");
+    }
+    Ok(as_before)
+}
+
+/// A copy of the record comes first, so a record that isn't there is out of memory too.
+#[test]
+fn first_growth_of_an_edit_refused(rt: HostRuntime) -> Result<(), Fail> {
+    let alloc = RefusesNth::new(rt.alloc(), u64::MAX);
+    let files = Files {
+        width: 4,
+        ..alone(b"", COUNT)
+    };
+    let (mut session, _) = begun_again(&alloc, files)?;
+    assert!(rt; first_answers(&alloc, &mut session)?);
     Ok(())
 }

@@ -5,8 +5,9 @@ use crate::refusals::begun_again;
 use iv_state::{EditFault, PrintFault, Session};
 use iv_text::MemSink;
 use iv_view::ViewFault;
-use refusing::RefusesNth;
+use refusing::{RefusesNth, refuse_each};
 use std::alloc::Global;
+use std::cell::Cell;
 use std::test::Fail;
 
 /// The views that are open: the name and the words of each, and its text before the edits and after them.
@@ -171,10 +172,11 @@ fn is_print_refused_once(
     name: Option<&[u8]>,
     want: &[u8],
 ) -> Result<bool, Fail> {
-    let stale = count_stale(session);
+    let (stale, before) = (count_stale(session), alloc.refusals());
     alloc.again(1);
     let refused = is_print_refused(rt, session, name, want)?;
-    if refused != alloc.has_refused() || refused && count_stale(session) != stale {
+    let is_met = alloc.refusals() != before;
+    if refused != is_met || refused && count_stale(session) != stale {
         return Err(Fail::new("another answer to a refused print"));
     }
     if refused && is_print_refused(rt, session, name, want)? {
@@ -252,31 +254,34 @@ fn refused_calls(rt: &HostRuntime, alloc: &RefusesNth<Global>, at_once: bool) ->
     })
 }
 
-/// Whether a run met what it may: a refused growth is the answer of one call, or leaves views stale, or is made up for at another
-/// size; and then just the prints of stale views are refused.
-fn is_sound(met: Met) -> bool {
-    let answers = met.calls.saturating_add(u32::from(met.stale > 0));
-    answers <= u32::from(met.is_spent) && (met.prints > 0) == (met.stale > 0)
+impl Met {
+    /// How many growths were refused, as far as the answers show.
+    fn growths(self) -> u32 {
+        let stale = u32::from(self.stale > 0);
+        self.calls.saturating_add(stale).saturating_add(self.prints)
+    }
+
+    /// Whether a run met what it may: up to the prints one growth was refused, if any, which is the answer of one call, or
+    /// leaves views stale, or is made up for at another size; and then just the prints of stale views are refused.
+    fn is_sound(self) -> bool {
+        let answers = self.calls.saturating_add(u32::from(self.stale > 0));
+        answers <= u32::from(self.is_spent) && (self.prints > 0) == (self.stale > 0)
+    }
 }
 
-/// Refuses each growth in turn, until none is refused any more. How many calls met the refusal, and the most views
-/// that were stale.
+/// Refuses each growth in turn, until none is refused any more. How many growths were, and the most views that were stale.
 fn refused_in_turn(rt: &HostRuntime, at_once: bool) -> Result<(u32, u32), Fail> {
-    let mut refused = 0u32;
-    let mut most = 0u32;
-    for number in 1..10_000u64 {
-        let alloc = RefusesNth::new(rt.alloc(), number);
-        let met = refused_calls(rt, &alloc, at_once)?;
-        if !is_sound(met) {
-            return Err(Fail::new("more was refused than the one growth"));
+    let most = Cell::new(0u32);
+    let refused = refuse_each(rt.alloc(), |alloc| {
+        let met = refused_calls(rt, alloc, at_once)?;
+        most.set(most.get().max(met.stale));
+        if met.is_sound() {
+            Ok(met.growths())
+        } else {
+            Err(Fail::new("more was refused than the one growth"))
         }
-        refused = refused.saturating_add(met.calls);
-        most = most.max(met.stale);
-        if !met.is_spent {
-            return Ok((refused, most));
-        }
-    }
-    Err(Fail::new("refused without end"))
+    })?;
+    Ok((refused, most.get()))
 }
 
 #[test]
