@@ -5,6 +5,8 @@
 #[cfg(test)]
 mod bases;
 #[cfg(test)]
+mod cut_files;
+#[cfg(test)]
 mod faults;
 #[cfg(test)]
 mod files;

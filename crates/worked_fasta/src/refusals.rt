@@ -32,12 +32,11 @@ fn refused_beside<'a>(
     }
 }
 
-/// The same of a genome and a FASTA file. Where the genome met the refusal the FASTA file did not.
-fn refused(alloc: &RefusesNth<Global>, text: &[u8]) -> Result<u32, Fail> {
-    match Genome::parse(alloc, SIZES) {
-        Ok(genome) => refused_beside(alloc, &genome, text),
-        Err(_) => Ok(0),
-    }
+/// The same over a genome whose growths are all granted.
+fn refused(rt: &HostRuntime, alloc: &RefusesNth<Global>, text: &[u8]) -> Result<u32, Fail> {
+    let granting = RefusesNth::new(rt.alloc(), u64::MAX);
+    let genome = Genome::parse(&granting, SIZES)?;
+    refused_beside(alloc, &genome, text)
 }
 
 /// How often memory was refused, by the fault of a sound file: once, since it can have no other, and that at no line.
@@ -56,7 +55,8 @@ fn memory_of(fault: LoadFault) -> Result<u32, Fail> {
 #[test]
 fn each_growth_refused_in_turn(rt: HostRuntime) -> Result<(), Fail> {
     let text = lines(&rt)?;
-    assert!(rt; COUNT < refuse_each(rt.alloc(), |alloc| refused(alloc, text.as_bytes()))?);
+    let text = text.as_bytes();
+    assert!(rt; COUNT < refuse_each(rt.alloc(), |alloc| refused(&rt, alloc, text))?);
     Ok(())
 }
 
@@ -68,7 +68,7 @@ fn fault_beside<'a>(
     fasta_of(alloc, genome, b">s\nACGTNacgtR\n>x\nA C\n").err()
 }
 
-/// The same by the fault of the file whose last line is damaged: never, where the damage is told.
+/// The same by the fault of the file whose last line is damaged: never, where the damage is reported.
 fn refusal_of(fault: LoadFault) -> Result<u32, Fail> {
     let damage = LoadFault {
         line: 4,
@@ -82,10 +82,9 @@ fn refusal_of(fault: LoadFault) -> Result<u32, Fail> {
 }
 
 /// Reads that file, and says how often it met the refusal, once or never.
-fn refused_beside_damage(alloc: &RefusesNth<Global>) -> Result<u32, Fail> {
-    let Ok(genome) = Genome::parse(alloc, SIZES) else {
-        return Ok(0);
-    };
+fn refused_beside_damage(rt: &HostRuntime, alloc: &RefusesNth<Global>) -> Result<u32, Fail> {
+    let granting = RefusesNth::new(rt.alloc(), u64::MAX);
+    let genome = Genome::parse(&granting, SIZES)?;
     match fault_beside(alloc, &genome) {
         Some(fault) => refusal_of(fault),
         None => Err(Fail::new("no fault")),
@@ -94,6 +93,6 @@ fn refused_beside_damage(alloc: &RefusesNth<Global>) -> Result<u32, Fail> {
 
 #[test]
 fn damaged_files_without_memory(rt: HostRuntime) -> Result<(), Fail> {
-    assert!(rt; 0 < refuse_each(rt.alloc(), refused_beside_damage)?);
+    assert!(rt; 0 < refuse_each(rt.alloc(), |alloc| refused_beside_damage(&rt, alloc))?);
     Ok(())
 }

@@ -5,6 +5,10 @@
 #[cfg(test)]
 mod bytes;
 #[cfg(test)]
+mod copy_refusals;
+#[cfg(test)]
+mod cut_files;
+#[cfg(test)]
 mod devices;
 #[cfg(test)]
 mod files;
@@ -12,6 +16,8 @@ mod files;
 mod fixtures;
 #[cfg(test)]
 mod ledgers;
+#[cfg(test)]
+mod parse_refusals;
 #[cfg(test)]
 mod places;
 #[cfg(test)]
@@ -25,7 +31,11 @@ mod sinks;
 #[cfg(test)]
 mod sizes;
 #[cfg(test)]
+mod sorted_places;
+#[cfg(test)]
 mod sources;
+#[cfg(test)]
+mod std_files;
 #[cfg(test)]
 mod texts;
 #[cfg(test)]

@@ -1,16 +1,15 @@
 //! BED files as places in their text.
 use iv_places::{BedText, TextRecord, TextRecords};
-use iv_text::{BedFile, Genome, LoadCause, LoadFault, Record, RecordFault, Strand};
-use refusing::{RefusesNth, refuse_each};
-use std::alloc::{Allocator, Global};
+use iv_text::{Genome, LoadCause, LoadFault, RecordFault, Strand};
+use std::alloc::Allocator;
 use std::mem::size_of;
 use std::test::Fail;
 
 /// A genome of three sequences, of 100 bases, of 50 and of a million.
-const SIZES: &[u8] = b"chr1\t100\nchr2\t50\nbig\t1000000\n";
+pub(crate) const SIZES: &[u8] = b"chr1\t100\nchr2\t50\nbig\t1000000\n";
 
 /// The records of a text that is below 4 GiB. An empty one has the width 5.
-fn bed_text<'t, A: Allocator + Copy>(
+pub(crate) fn bed_text<'t, A: Allocator + Copy>(
     alloc: A,
     genome: &Genome<A>,
     limit: u32,
@@ -73,10 +72,10 @@ fn texts_of_bed_files(rt: HostRuntime) -> Result<(), Fail> {
 }
 
 /// Rank, start and stop, name and score, strand.
-type Cells<'t> = ((u32, u64, u64), (&'t [u8], &'t [u8]), Option<Strand>);
+pub(crate) type Cells<'t> = ((u32, u64, u64), (&'t [u8], &'t [u8]), Option<Strand>);
 
 /// Whether the record has these columns, one by one and all at once.
-fn has_cells(record: &TextRecord<'_>, width: u8, cells: Cells<'_>) -> bool {
+pub(crate) fn has_cells(record: &TextRecord<'_>, width: u8, cells: Cells<'_>) -> bool {
     let (place, texts, strand) = cells;
     let row = record.to_ref();
     let one_by_one = record.width() == width
@@ -136,106 +135,6 @@ fn have_columns(rt: &HostRuntime, genome: &Genome) -> Result<bool, Fail> {
 fn columns_of_text_records(rt: HostRuntime) -> Result<(), Fail> {
     let genome = Genome::parse(rt.alloc(), SIZES)?;
     assert!(rt; have_columns(&rt, &genome)?);
-    Ok(())
-}
-
-/// Records of one place among others, in no order, copies and headers among them.
-const SHUFFLED: &[u8] = b"chr2\t5\t9\tb\t1\t+
-#comment
-chr1\t30\t40\tb\t1\t+
-chr1\t30\t40\tb\t1\t-
-chr1\t30\t40\ta\t9\t.\r
-track
-chr1\t30\t39\tz\t9\t.
-chr1\t30\t40\tb\t0\t+
-chr2\t5\t9\tb\t1\t+
-chr1\t2\t99\tlong name\t1e-9\t+";
-
-/// Whether the records of a text are these records, in order.
-fn are_same(texts: TextRecords<'_>, records: &[Record]) -> bool {
-    if texts.len() != records.len() {
-        return false;
-    }
-    let mut wanted = records.iter();
-    for text in texts {
-        let cells = match wanted.next() {
-            Some(record) => (
-                (record.seq(), record.start(), record.stop()),
-                (record.name(), record.score()),
-                record.strand(),
-            ),
-            None => return false,
-        };
-        if !has_cells(&text, 6, cells) {
-            return false;
-        }
-    }
-    true
-}
-
-/// Whether a text and its parsed file have the same records, in the order of the file and sorted.
-fn sorts_as_its_file(rt: &HostRuntime, genome: &Genome, text: &[u8]) -> Result<bool, Fail> {
-    let mut records = BedFile::parse(rt.alloc(), genome, 5, 999, text)?.into_records();
-    let mut bed = bed_text(rt.alloc(), genome, 999, text)?;
-    let unsorted = are_same(bed.records(), records.as_slice());
-    records.sort()?;
-    bed.sort(rt.alloc())?;
-    Ok(unsorted && are_same(bed.records(), records.as_slice()))
-}
-
-#[test]
-fn records_in_the_order_of_a_track(rt: HostRuntime) -> Result<(), Fail> {
-    let genome = Genome::parse(rt.alloc(), SIZES)?;
-    assert!(rt; sorts_as_its_file(&rt, &genome, SHUFFLED)?);
-    Ok(())
-}
-
-/// The lines of records in order, but for so many of one start, of which the longest come first.
-fn tied_lines(rt: &HostRuntime, count: u32) -> Result<String, Fail> {
-    let mut text = String::new(rt.alloc());
-    text.push_str("chr1\t1\t2\tn\t0\t+\n")?;
-    for index in 0..count {
-        let stop = 99u32.saturating_sub(index);
-        let line = format!(in rt.alloc(); "chr1\t5\t{stop}\tn\t0\t+\n")?;
-        text.push_str(&line)?;
-    }
-    text.push_str("chr1\t6\t7\tn\t0\t+\n")?;
-    Ok(text)
-}
-
-/// A few records of one start are put in order beforehand; many are not, and are sorted all the same.
-#[test]
-fn records_of_one_start(rt: HostRuntime) -> Result<(), Fail> {
-    let genome = Genome::parse(rt.alloc(), SIZES)?;
-    for count in [2, 3, 16, 17, 18, 40] {
-        let text = tied_lines(&rt, count)?;
-        assert!(rt; sorts_as_its_file(&rt, &genome, text.as_bytes())?);
-    }
-    Ok(())
-}
-
-/// The lines of so many records of one place, the columns after the third in no order: names of one to nine bytes after a
-/// beginning that all have, some of them the same, so that scores and strands decide.
-fn named_lines(rt: &HostRuntime, count: u32) -> Result<String, Fail> {
-    let mut text = String::new(rt.alloc());
-    for index in 0..count {
-        let number = index.wrapping_mul(7919) % 251;
-        let name = number.wrapping_mul(number).wrapping_mul(number);
-        let strand = ["+", "-", "."][(index % 3) as usize];
-        let line = format!(in rt.alloc(); "chr1\t5\t9\tread:{name}\t{}\t{strand}\n", index % 5)?;
-        text.push_str(&line)?;
-    }
-    Ok(text)
-}
-
-/// Many records of one place are sorted by the bytes of their names.
-#[test]
-fn records_of_one_place(rt: HostRuntime) -> Result<(), Fail> {
-    let genome = Genome::parse(rt.alloc(), SIZES)?;
-    for count in [3, 17, 300] {
-        let text = named_lines(&rt, count)?;
-        assert!(rt; sorts_as_its_file(&rt, &genome, text.as_bytes())?);
-    }
     Ok(())
 }
 
@@ -302,98 +201,4 @@ fn ways_to_the_records(rt: HostRuntime) -> Result<(), Fail> {
 #[test]
 fn a_place_takes_16_bytes(rt: HostRuntime) {
     assert_eq!(rt; size_of::<iv_places::Place>(), 16);
-}
-
-/// How many records are many.
-const MANY: u32 = 100_000;
-
-/// A BED file of one record at each tenth start, the last one first.
-fn many_lines(rt: &HostRuntime) -> Result<String, Fail> {
-    let mut text = String::new(rt.alloc());
-    for number in 0..MANY {
-        let start = 10 * u64::from(MANY - 1 - number);
-        text.push_str(format!(in rt.alloc(); "big\t{start}\t{}\n", start + 5)?.as_str())?;
-    }
-    Ok(text)
-}
-
-/// Whether the records are one at each tenth start.
-fn are_many(records: TextRecords<'_>) -> bool {
-    let mut start = 0u64;
-    let count = records.len();
-    for record in records {
-        if record.start() != start || record.stop() != start.wrapping_add(5) {
-            return false;
-        }
-        start = start.wrapping_add(10);
-    }
-    count == MANY as usize
-}
-
-#[test]
-fn many_records_of_a_text(rt: HostRuntime) -> Result<(), Fail> {
-    let genome = Genome::parse(rt.alloc(), SIZES)?;
-    let text = many_lines(&rt)?;
-    let mut bed = bed_text(rt.alloc(), &genome, MANY, text.as_bytes())?;
-    bed.sort(rt.alloc())?;
-    assert!(rt; are_many(bed.records()));
-    Ok(())
-}
-
-/// How many records a text has, or its fault.
-fn count_of<'a>(
-    alloc: &'a RefusesNth<Global>,
-    genome: &Genome<&'a RefusesNth<Global>>,
-    text: &[u8],
-) -> Result<usize, LoadFault> {
-    Ok(bed_text(alloc, genome, MANY, text)?.records().len())
-}
-
-/// How many reads of a text of forty records met the refusal, one or none: its fault is then want of memory, at line 0.
-fn refused_reads(alloc: &RefusesNth<Global>, text: &[u8]) -> Result<u32, Fail> {
-    let Ok(genome) = Genome::parse(alloc, SIZES) else {
-        return Ok(1);
-    };
-    let memory = LoadFault {
-        line: 0,
-        cause: LoadCause::Memory,
-    };
-    match count_of(alloc, &genome, text) {
-        Ok(40) if !alloc.has_refused() => Ok(0),
-        Err(fault) if fault == memory => Ok(1),
-        _ => Err(Fail::new("other records, or another fault")),
-    }
-}
-
-#[test]
-fn each_growth_of_places_refused(rt: HostRuntime) -> Result<(), Fail> {
-    let text = many_lines(&rt)?;
-    let lines = &text.as_bytes()[..text.len().min(40 * 18)];
-    assert!(rt; 2 < refuse_each(rt.alloc(), |alloc| refused_reads(alloc, lines))?);
-    Ok(())
-}
-
-/// How many sorts of these records were refused memory, one or none.
-fn refused_sorts(alloc: &RefusesNth<Global>, text: &[u8]) -> Result<u32, Fail> {
-    let Ok(genome) = Genome::parse(alloc, SIZES) else {
-        return Ok(0);
-    };
-    let Ok(mut bed) = bed_text(alloc, &genome, MANY, text) else {
-        return Ok(0);
-    };
-    let before = alloc.has_refused();
-    match bed.sort(alloc) {
-        Ok(()) if alloc.has_refused() == before => Ok(0),
-        Err(_) if alloc.has_refused() != before => Ok(1),
-        _ => Err(Fail::new("a sort that ends otherwise than its memory")),
-    }
-}
-
-/// A sort takes memory once, where many records of one place are out of order, and else none.
-#[test]
-fn memory_of_a_sort_refused(rt: HostRuntime) -> Result<(), Fail> {
-    let named = named_lines(&rt, 40)?;
-    assert!(rt; refuse_each(rt.alloc(), |alloc| refused_sorts(alloc, SHUFFLED))? == 0);
-    assert!(rt; refuse_each(rt.alloc(), |alloc| refused_sorts(alloc, named.as_bytes()))? == 1);
-    Ok(())
 }

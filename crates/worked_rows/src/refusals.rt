@@ -1,8 +1,8 @@
 //! Each growth of a ledger's or a track's memory, refused in turn.
 ghost use Rattle.std.specs.Prelude.{◌≡◌, IfOk};
 
-use crate::fixtures::{SIZES, add, genome, replace, stage, track_of};
-use iv_text::{Genome, LoadCause, Record, read_record};
+use crate::fixtures::{SIZES, add, genome, replace, stage};
+use iv_text::{BedFile, Genome, Record, read_record};
 use iv_track::{Ledger, Meter, Track};
 use refusing::{RefusesNth, refuse_each};
 use std::alloc::{AllocError, Allocator, Global};
@@ -22,7 +22,7 @@ enum Call {
 }
 
 impl Call {
-    /// At which start the first record stands before the edits of this kind that were done, and how many there are.
+    /// At which start the first record is before the edits of this kind that were done, and how many there are.
     fn before(self, done: u32) -> (u32, u32) {
         match self {
             Call::Replace => (done, COUNT),
@@ -43,7 +43,7 @@ fn holds_keys<A: Allocator + Clone + Drop>(ledger: &Ledger<u32, u32, A>, count: 
     walk.next(&mut meter).is_none() && ledger.len() == count as usize
 }
 
-/// Whether the track holds one record at each start from the first one on, this number in all.
+/// Whether the track holds one record of those lines at each start from the first one on, this number in all.
 fn holds_starts<A: Allocator + Copy>(track: &Track<A>, first: u32, count: u32) -> bool {
     let mut meter = Meter::new();
     let mut rows = track.walk(0, 0, &mut meter);
@@ -52,7 +52,8 @@ fn holds_starts<A: Allocator + Copy>(track: &Track<A>, first: u32, count: u32) -
             return false;
         };
         let start = u64::from(first) + u64::from(i);
-        if row.start() != start || track.copies(row, &mut meter) != 1 {
+        let is_there = (row.start(), row.stop(), row.name()) == (start, start + 10, b"name");
+        if !is_there || track.copies(row, &mut meter) != 1 {
             return false;
         }
     }
@@ -184,25 +185,16 @@ fn lines(rt: &HostRuntime) -> Result<String, Fail> {
     Ok(text)
 }
 
-/// Builds a track from the records of a text, and says how many calls met the refusal.
-fn refused_build_on<'a>(
-    alloc: &'a RefusesNth<Global>,
-    genome: &Genome<&'a RefusesNth<Global>>,
-    text: &[u8],
-) -> Result<u32, Fail> {
-    match track_of(alloc, genome, text) {
-        Ok(Ok(track)) if holds_starts(&track, 0, COUNT) => Ok(0),
-        Ok(Err(_)) => Ok(1),
-        Err(fault) if fault.cause == LoadCause::Memory => Ok(0),
-        _ => Err(Fail::new("another track, or a bad file")),
-    }
-}
-
-/// The same of a genome and the track. Where the genome met the refusal the track did not.
-fn refused_build(alloc: &RefusesNth<Global>, text: &[u8]) -> Result<u32, Fail> {
-    match Genome::parse(alloc, SIZES) {
-        Ok(genome) => refused_build_on(alloc, &genome, text),
-        Err(_) => Ok(0),
+/// Builds a track from the records of a text, which are read with no growth refused, and says how often memory was refused,
+/// once or never.
+fn refused_build(rt: &HostRuntime, alloc: &RefusesNth<Global>, text: &[u8]) -> Result<u32, Fail> {
+    let granting = RefusesNth::new(rt.alloc(), u64::MAX);
+    let genome = Genome::parse(&granting, SIZES)?;
+    let file = BedFile::parse(&granting, &genome, 4, COUNT, text)?;
+    match Track::from_records(alloc, file.width(), COUNT, file.into_records()) {
+        Ok(track) if holds_starts(&track, 0, COUNT) => Ok(0),
+        Ok(_) => Err(Fail::new("another track")),
+        Err(_) => Ok(1),
     }
 }
 
@@ -219,7 +211,7 @@ fn refused(rt: &HostRuntime, call: Call, alloc: &RefusesNth<Global>) -> Result<u
             refused_edits(rt, &mut track, alloc, Call::Stage)?;
             refused_edits(rt, &mut track, alloc, call)
         }
-        Call::FromRecords => refused_build(alloc, lines(rt)?.as_bytes()),
+        Call::FromRecords => refused_build(rt, alloc, lines(rt)?.as_bytes()),
     }
 }
 

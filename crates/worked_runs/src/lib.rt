@@ -4,6 +4,10 @@
 #[cfg(test)]
 mod endings;
 #[cfg(test)]
+mod limits;
+#[cfg(test)]
+mod read_refusals;
+#[cfg(test)]
 mod reading;
 #[cfg(test)]
 mod refusals;

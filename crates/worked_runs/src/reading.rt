@@ -4,20 +4,32 @@ use iv_text::{MemSource, StdSource};
 use refusing::{Bad, Device, FAILURES};
 use std::test::Fail;
 
-/// What reading a file gives that fails at its third read, and how often the file was read.
-fn read(rt: &HostRuntime, bad: Bad) -> (Result<usize, FileFault>, u32) {
-    let mut device = Device::new(b"chr1\t100\n", 3, bad);
+/// What reading a file gives that fails at the read of this number, and how often the file was read.
+fn read(rt: &HostRuntime, number: u32, bad: Bad) -> (Result<usize, FileFault>, u32) {
+    let mut device = Device::new(b"chr1\t100\n", number, bad);
     let read = read_all(rt.alloc(), &mut StdSource::new(&mut device), 100);
     (read.map(|bytes| bytes.len()), device.calls())
 }
 
+/// The bytes come in three reads, and the fourth one says that the file ends.
 #[test]
-fn files_that_fail_once(rt: HostRuntime) {
-    for bad in FAILURES {
-        assert!(rt; read(&rt, bad) == (Err(FileFault::Input), 3));
+fn each_read_bad_in_turn(rt: HostRuntime) {
+    for number in 1..=4 {
+        for bad in FAILURES {
+            assert!(rt; read(&rt, number, bad) == (Err(FileFault::Input), number));
+        }
     }
-    // A read of no byte is the file's end.
-    assert!(rt; read(&rt, Bad::Nothing) == (Ok(6), 3));
+    for bad in FAILURES {
+        assert!(rt; read(&rt, 5, bad) == (Ok(9), 4));
+    }
+}
+
+/// A read of no byte is the file's end.
+#[test]
+fn each_read_of_no_byte_in_turn(rt: HostRuntime) {
+    for (number, bytes) in [(1, 0), (2, 3), (3, 6), (4, 9)] {
+        assert!(rt; read(&rt, number, Bad::Nothing) == (Ok(bytes), number));
+    }
 }
 
 /// A text of this number of letters.

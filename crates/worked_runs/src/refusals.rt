@@ -32,19 +32,20 @@ fn loaded_by<'a>(
     }
 }
 
-/// The bytes of a FASTA file, where there is one, `None` where memory is refused.
+/// The bytes of a FASTA file, where there is one, in memory that is not refused.
 fn copied<'a>(
-    alloc: &'a RefusesNth<Global>,
+    granting: &'a RefusesNth<Global>,
     bases: Option<&[u8]>,
-) -> Option<Option<Vec<u8, &'a RefusesNth<Global>>>> {
+) -> Result<Option<Vec<u8, &'a RefusesNth<Global>>>, Fail> {
     match bases {
-        Some(text) => Some(Some(text.to_vec(alloc).ok()?)),
-        None => Some(None),
+        Some(text) => Ok(Some(text.to_vec(granting)?)),
+        None => Ok(None),
     }
 }
 
-/// How many records the track of the files holds, `None` where memory is refused.
+/// How many records the track of the files holds, `None` where memory is refused. That of the words isn't.
 fn loaded(
+    rt: &HostRuntime,
     alloc: &RefusesNth<Global>,
     inputs: &Inputs<'_>,
     bases: Option<&[u8]>,
@@ -52,31 +53,30 @@ fn loaded(
     let words: [&[u8]; 9] = [
         b"session", b"-g", b"g", b"-i", b"a", b"-b", b"b", b"-fi", b"f",
     ];
-    let plan = Plan::read(alloc, &words)?;
-    match copied(alloc, bases) {
-        Some(bases) => loaded_by(alloc, &plan, inputs, bases),
-        None => Ok(None),
-    }
+    let granting = RefusesNth::new(rt.alloc(), u64::MAX);
+    let bases = copied(&granting, bases)?;
+    let plan = Plan::read(&granting, &words)?;
+    loaded_by(alloc, &plan, inputs, bases)
 }
 
-/// Loads the files, and says how often that ended in want of memory, once or never. Else they are loaded whole, though a
-/// growth was refused: it may have been tried again at another size.
+/// Loads the files, and says how often that was out of memory, once or never. Else they are loaded whole, though a growth was
+/// refused: it may have been tried again at another size.
 fn refused_load(
+    rt: &HostRuntime,
     alloc: &RefusesNth<Global>,
     inputs: &Inputs<'_>,
     bases: Option<&[u8]>,
 ) -> Result<u32, Fail> {
-    match loaded(alloc, inputs, bases)? {
+    match loaded(rt, alloc, inputs, bases)? {
         Some(COUNT) => Ok(0),
-        None if alloc.has_refused() => Ok(1),
-        None => Err(Fail::new("no memory, and none was refused")),
-        _ => Err(Fail::new("other records")),
+        Some(_) => Err(Fail::new("other records")),
+        None => Ok(1),
     }
 }
 
 /// How many loads ended so, each of their growths refused in turn.
 fn refused_loads(rt: &HostRuntime, inputs: &Inputs<'_>, bases: Option<&[u8]>) -> Result<u32, Fail> {
-    refuse_each(rt.alloc(), |alloc| refused_load(alloc, inputs, bases))
+    refuse_each(rt.alloc(), |alloc| refused_load(rt, alloc, inputs, bases))
 }
 
 #[test]

@@ -90,6 +90,23 @@ fn summaries_of_blocks(rt: HostRuntime) -> Result<(), Fail> {
     check(&rt, &examples)
 }
 
+/// The greatest numbers, and a value of one digit more, which is none.
+#[test]
+fn sums_of_the_greatest_numbers(rt: HostRuntime) -> Result<(), Fail> {
+    let examples = [Example {
+        width: 5,
+        first: b"chr1\t10\t20\ta\t999999999999999\nchr1\t10\t20\ta\t999999999999999\n",
+        limit: 9,
+        script: b"open\ts\tmerge -c 5\nprint\ts\nadd\tchr1\t10\t20\ta\t1000000000000000\nprint\ts\nopen\tp\tmerge -c 5,5,5,5,5,5,5,5,5,5,5,5,5,5,5,5,5\nopen\tp\tmerge -c 5,5,5,5,5,5,5,5,5,5,5,5,5,5,5,5\nremove\tchr1\t10\t20\ta\t1000000000000000\nprint\ts\nprint\tp\n",
+        output: b"chr1\t10\t20\t1999999999999998\nchr1\t10\t20\t.\nchr1\t10\t20\t1999999999999998\nchr1\t10\t20\t1999999999999998\t1999999999999998\t1999999999999998\t1999999999999998\t1999999999999998\t1999999999999998\t1999999999999998\t1999999999999998\t1999999999999998\t1999999999999998\t1999999999999998\t1999999999999998\t1999999999999998\t1999999999999998\t1999999999999998\t1999999999999998\n",
+        messages: b"line 5: bad options\n",
+        lines: 9,
+        refused: 1,
+        left: 2,
+    }];
+    check(&rt, &examples)
+}
+
 /// Blocks of one strand.
 #[test]
 fn strands_apart(rt: HostRuntime) -> Result<(), Fail> {

@@ -1,5 +1,5 @@
 //! Each example's script once more over an input that fails after each number of bytes, and over outputs with room for each number.
-use crate::fixtures::{Beside, Example, Ran, SIZES, Script, run_within, session_beside};
+use crate::fixtures::{Beside, Example, Ran, Script, is_whole, run_within, session_beside};
 use iv_session::{RunCause, RunFault};
 use std::test::Fail;
 
@@ -24,7 +24,7 @@ fn ran(
     piece: usize,
 ) -> Result<Ran, Fail> {
     let (width, limit) = (example.width, example.limit);
-    let mut session = session_beside(rt, SIZES, width, example.first, beside, limit)?;
+    let mut session = session_beside(rt, width, example.first, beside, limit)?;
     run_within(rt, &mut session, script, piece)
 }
 
@@ -120,18 +120,21 @@ fn begins(ran: &Ran, example: &Example<'_>) -> bool {
 }
 
 /// Whether a run filled the room of a writer at a line, beside runs of the lines before and of those with that line: it wrote to the
-/// other writer what the lines before did.
+/// other writer, and left of the track, what the lines before did.
 fn is_cut(ran: &Ran, before: &Ran, after: &Ran, writer: Writer, room: usize) -> bool {
     let other = writer.other();
     writer.written(ran).len() == room
         && writer.written(before).len() <= room
         && room < writer.written(after).len()
         && other.written(ran) == other.written(before)
+        && ran.left == before.left
 }
 
-/// Whether a run wrote just what another one did.
+/// Whether a run wrote, and left of the track, just what another one did.
 fn is_same(ran: &Ran, before: &Ran) -> bool {
-    ran.output.bytes() == before.output.bytes() && ran.messages.bytes() == before.messages.bytes()
+    ran.output.bytes() == before.output.bytes()
+        && ran.messages.bytes() == before.messages.bytes()
+        && ran.left == before.left
 }
 
 /// Whether the example's script, over a writer with this room, ends at the line whose text has no room.
@@ -174,6 +177,17 @@ fn ends_at_input(
     Ok(is_there && begins(&ended, example) && is_same(&ended, &before))
 }
 
+/// Whether the example's script runs to its end where its outputs have room for all that it writes, and for no byte more.
+fn ends_well(
+    rt: &HostRuntime,
+    beside: Beside<'_>,
+    example: &Example<'_>,
+    piece: usize,
+) -> Result<bool, Fail> {
+    let ended = ran(rt, beside, example, whole(example), piece)?;
+    Ok(is_whole(&ended, example))
+}
+
 /// Runs the example's script over each room of its outputs and each number of good bytes of its input.
 pub(crate) fn check_failing(
     rt: &HostRuntime,
@@ -181,6 +195,9 @@ pub(crate) fn check_failing(
     example: &Example<'_>,
     piece: usize,
 ) -> Result<(), Fail> {
+    if !ends_well(rt, beside, example, piece)? {
+        return Err(Fail::new("another end where there is room"));
+    }
     for (writer, text) in [
         (Writer::Output, example.output),
         (Writer::Messages, example.messages),

@@ -1,8 +1,12 @@
 //! What several tests begin with.
+ghost use Rattle.std.specs.Prelude.{◌≤◌, All, IfOk, IfSome, length};
+ghost use Rattle.iv_text.specs.Read.{Fits};
+
 use crate::failing::check_failing;
 use iv_fasta::Fasta;
 use iv_session::{RunFault, ScriptLimits, Session, Summary, run_script};
 use iv_text::{BedFile, Genome, MemSink, MemSource};
+use std::alloc::Allocator;
 use std::test::Fail;
 
 /// A genome of three sequences, of 100 bases, of 50 and of none.
@@ -11,53 +15,81 @@ pub(crate) const SIZES: &[u8] = b"chr1\t100\nchr2\t50\nchr3\t0\n";
 /// What stands beside the track of a session.
 #[derive(Clone, Copy)]
 pub(crate) struct Beside<'a> {
+    /// The genome file.
+    pub(crate) sizes: &'a [u8],
     /// The second file.
     pub(crate) second: Option<&'a [u8]>,
     /// The FASTA file.
     pub(crate) bases: Option<&'a [u8]>,
 }
 
-/// Neither a second file nor a FASTA file.
+/// That genome, and neither a second file nor a FASTA file.
 pub(crate) const ALONE: Beside<'static> = Beside {
+    sizes: SIZES,
     second: None,
     bases: None,
 };
 
 /// What a FASTA file says, where there is one.
-fn fasta_of(
-    rt: &HostRuntime,
-    genome: &Genome,
+fn fasta_of<A: Allocator + Copy>(
+    alloc: A,
+    genome: &Genome<A>,
     bases: Option<&[u8]>,
-) -> Result<Option<Fasta>, Fail> {
+) -> Result<Option<Fasta<A>>, Fail> {
     match bases {
         Some(bases) => {
-            let text = bases.to_vec(rt.alloc())?;
-            Ok(Some(Fasta::parse(rt.alloc(), genome, text)?))
+            let text = bases.to_vec(alloc)?;
+            Ok(Some(Fasta::parse(alloc, genome, text)?))
         }
         None => Ok(None),
     }
 }
 
-/// A session of a genome file, a BED file and what stands beside it. Where a BED file has no record, it has the width.
+/// What a second BED file says, where there is one.
+fn second_of<A: Allocator + Copy>(
+    alloc: A,
+    genome: &Genome<A>,
+    width: u8,
+    limit: u32,
+    text: Option<&[u8]>,
+) -> Result<Option<BedFile<A>>, Fail>
+    requires { (3 ≤ width) × (width ≤ 6) }
+    ensures fit { IfOk result (λ second. IfSome second (λ file. All (Fits genome.now file.width) file.rows)) }
+    ensures few { IfOk result (λ second. IfSome second (λ file. length file.rows ≤ limit)) }
+{
+    let Some(text) = text else {
+        return Ok(None);
+    };
+    Ok(Some(BedFile::parse(alloc, genome, width, limit, text)?))
+}
+
+/// A session of a BED file and what stands beside it, in memory of the allocator. Where a BED file has no record, it has the width.
+pub(crate) fn session_in<A: Allocator + Copy>(
+    alloc: A,
+    width: u8,
+    first: &[u8],
+    beside: Beside<'_>,
+    limit: u32,
+) -> Result<Session<A>, Fail> {
+    if width < 3 || width > 6 || limit > 4_000_000 {
+        return Err(Fail::new("no width or limit of a session"));
+    }
+    let genome = Genome::parse(alloc, beside.sizes)?;
+    let file = BedFile::parse(alloc, &genome, width, limit, first)?;
+    let second = second_of(alloc, &genome, width, limit, beside.second)?;
+    let fasta = fasta_of(alloc, &genome, beside.bases)?;
+    Ok(Session::new(alloc, genome, file, second, fasta, limit)?)
+}
+
+/// A session of a BED file and what stands beside it.
 pub(crate) fn session_beside(
     rt: &HostRuntime,
-    sizes: &[u8],
     width: u8,
     first: &[u8],
     beside: Beside<'_>,
     limit: u32,
 ) -> Result<Session, Fail> {
-    if width < 3 || width > 6 || limit > 4_000_000 {
-        return Err(Fail::new("no width or limit of a session"));
-    }
-    let genome = Genome::parse(rt.alloc(), sizes)?;
-    let file = BedFile::parse(rt.alloc(), &genome, width, limit, first)?;
-    let second = match beside.second {
-        Some(second) => Some(BedFile::parse(rt.alloc(), &genome, width, limit, second)?),
-        None => None,
-    };
-    let fasta = fasta_of(rt, &genome, beside.bases)?;
-    Ok(Session::new(rt.alloc(), genome, file, second, fasta, limit)?)
+    session_in(rt.alloc(), width, first, beside, limit)
 }
 
 /// A session of a genome file and a BED file. Where that has no record, it has the width.
@@ -68,7 +100,7 @@ pub(crate) fn session_of(
     first: &[u8],
     limit: u32,
 ) -> Result<Session, Fail> {
-    session_beside(rt, sizes, width, first, ALONE, limit)
+    session_beside(rt, width, first, Beside { sizes, ..ALONE }, limit)
 }
 
 /// A session of that genome and a BED file of three columns or of its own width.
@@ -76,12 +108,13 @@ pub(crate) fn session(rt: &HostRuntime, first: &[u8], limit: u32) -> Result<Sess
     session_of(rt, SIZES, 3, first, limit)
 }
 
-/// What a script wrote, and how it ended.
+/// What a script wrote, how it ended, and how many records the session then had.
 #[derive(Drop)]
 pub(crate) struct Ran {
     pub(crate) output: MemSink,
     pub(crate) messages: MemSink,
     pub(crate) done: Result<Summary, RunFault>,
+    pub(crate) left: u32,
 }
 
 /// A script under limits, over an input and outputs that fail after a number of bytes.
@@ -124,6 +157,7 @@ pub(crate) fn run_within(
         output,
         messages,
         done,
+        left: session.len(),
     })
 }
 
@@ -159,7 +193,7 @@ pub(crate) struct Example<'a> {
     /// How many lines the script has, and how many of them are refused.
     pub(crate) lines: u64,
     pub(crate) refused: u64,
-    /// How many records the session has behind the script.
+    /// How many records the session has after the script.
     pub(crate) left: u32,
 }
 
@@ -171,19 +205,12 @@ fn is_done(done: Result<Summary, RunFault>, example: &Example<'_>) -> bool {
     }
 }
 
-/// Whether the example's script, in pieces of this number of bytes, writes over a session what it is to.
-fn writes(
-    rt: &HostRuntime,
-    session: &mut Session,
-    example: &Example<'_>,
-    piece: usize,
-) -> Result<bool, Fail> {
-    let ran = run(rt, session, example.script, piece, 1000)?;
-    Ok(
-        ran.output.bytes() == example.output
-            && ran.messages.bytes() == example.messages
-            && is_done(ran.done, example),
-    )
+/// Whether a run wrote, and left, what the example's script is to.
+pub(crate) fn is_whole(ran: &Ran, example: &Example<'_>) -> bool {
+    ran.output.bytes() == example.output
+        && ran.messages.bytes() == example.messages
+        && ran.left == example.left
+        && is_done(ran.done, example)
 }
 
 /// Whether the example's script, in pieces of this number of bytes, writes and leaves over a session what it is to.
@@ -193,8 +220,8 @@ fn writes_and_leaves(
     example: &Example<'_>,
     piece: usize,
 ) -> Result<bool, Fail> {
-    let is_written = writes(rt, session, example, piece)?;
-    Ok(is_written && session.len() == example.left)
+    let ran = run(rt, session, example.script, piece, 1000)?;
+    Ok(is_whole(&ran, example))
 }
 
 /// Whether it does so over the example's session.
@@ -205,7 +232,7 @@ fn holds(
     piece: usize,
 ) -> Result<bool, Fail> {
     let (width, limit) = (example.width, example.limit);
-    let mut session = session_beside(rt, SIZES, width, example.first, beside, limit)?;
+    let mut session = session_beside(rt, width, example.first, beside, limit)?;
     writes_and_leaves(rt, &mut session, example, piece)
 }
 
@@ -215,7 +242,7 @@ pub(crate) fn check(rt: &HostRuntime, examples: &[Example<'_>]) -> Result<(), Fa
 }
 
 /// Runs the script of each example beside a second file, a FASTA file or neither, whole and in small pieces; and then over an input
-/// and outputs that fail at each byte.
+/// and outputs that fail at each byte, and over outputs that are just large enough.
 pub(crate) fn check_beside(
     rt: &HostRuntime,
     beside: Beside<'_>,
@@ -232,4 +259,13 @@ pub(crate) fn check_beside(
         }
     }
     Ok(())
+}
+
+/// Texts one after another.
+pub(crate) fn joined(rt: &HostRuntime, texts: &[&[u8]]) -> Result<Vec<u8>, Fail> {
+    let mut all = Vec::new(rt.alloc());
+    for text in texts {
+        all.extend_from_slice(text)?;
+    }
+    Ok(all)
 }

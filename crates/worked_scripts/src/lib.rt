@@ -6,6 +6,10 @@ mod bases;
 #[cfg(test)]
 mod blocks;
 #[cfg(test)]
+mod cuts;
+#[cfg(test)]
+mod damaged;
+#[cfg(test)]
 mod devices;
 #[cfg(test)]
 mod edits;
@@ -14,9 +18,19 @@ mod failing;
 #[cfg(test)]
 mod fixtures;
 #[cfg(test)]
+mod genomes;
+#[cfg(test)]
 mod lengths;
 #[cfg(test)]
+mod long_prints;
+#[cfg(test)]
+mod many_views;
+#[cfg(test)]
 mod refusals;
+#[cfg(test)]
+mod refused_lines;
+#[cfg(test)]
+mod rooms;
 #[cfg(test)]
 mod scripts;
 #[cfg(test)]

@@ -136,6 +136,27 @@ fn record_that_begins_long_before(rt: HostRuntime) -> Result<(), Fail> {
     check_beside(&rt, beside, &examples)
 }
 
+/// A record within one that begins long before it, with another between the two starts.
+#[test]
+fn record_within_a_long_one(rt: HostRuntime) -> Result<(), Fail> {
+    let examples = [Example {
+        width: 3,
+        first: b"chr1\t50\t60\n",
+        limit: 9,
+        script: b"open\ti\tintersect\nopen\tb\tintersect -wa -wb\nopen\ts\tsubtract\nopen\ta\tsubtract -A\nprintall\n",
+        output: b"#i\nchr1\t50\t60\n#b\nchr1\t50\t60\tchr1\t0\t90\n#s\n#a\n",
+        messages: b"",
+        lines: 5,
+        refused: 0,
+        left: 1,
+    }];
+    let beside = Beside {
+        second: Some(b"chr1\t0\t90\nchr1\t5\t6\n"),
+        ..ALONE
+    };
+    check_beside(&rt, beside, &examples)
+}
+
 /// Each copy of a record has its rows.
 #[test]
 fn copies_of_the_first_file(rt: HostRuntime) -> Result<(), Fail> {

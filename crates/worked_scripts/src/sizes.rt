@@ -1,5 +1,5 @@
 //! Calls at real sizes: a body that gives up above some size and says that memory ran out is seen here alone.
-use crate::fixtures::{SIZES, run, session_of};
+use crate::fixtures::{SIZES, joined, run, session_of};
 use iv_session::Session;
 use std::test::Fail;
 
@@ -72,15 +72,6 @@ fn files_of_megabytes(rt: HostRuntime) -> Result<(), Fail> {
     Ok(())
 }
 
-/// Puts texts one behind the other.
-fn joined(rt: &HostRuntime, texts: &[&[u8]]) -> Result<Vec<u8>, Fail> {
-    let mut all = Vec::new(rt.alloc());
-    for text in texts {
-        all.extend_from_slice(text)?;
-    }
-    Ok(all)
-}
-
 /// A script of lines with a name of this number of letters.
 fn script_with_name(rt: &HostRuntime, count: usize) -> Result<Vec<u8>, Fail> {
     let name = vec![in rt.alloc(); b'n'; count]?;
@@ -128,6 +119,30 @@ fn long_lines(rt: HostRuntime) -> Result<(), Fail> {
     for count in [1_001, 10_000, 100_000] {
         assert!(rt; runs_with_name(&rt, count)?);
     }
+    Ok(())
+}
+
+/// Records at one place, with each of the names from 1 to 1000.
+fn thousand_at_one_place(rt: &HostRuntime) -> Result<String, Fail> {
+    let mut first = String::new(rt.alloc());
+    for name in 1..1_001u32 {
+        first.push_str(format!(in rt.alloc(); "big\t0\t10\t{name}\n")?.as_str())?;
+    }
+    Ok(first)
+}
+
+/// Whether their views are one row each.
+fn prints_one_place(rt: &HostRuntime, first: &[u8]) -> Result<bool, Fail> {
+    let mut session = session_of(rt, b"big\t1000000\n", 4, first, 1000)?;
+    let script = b"open\tm\tmerge\nopen\tc\tcomplement\nopen\tg\tgenomecov -bg\nprintall\n";
+    let want = b"#m\nbig\t0\t10\n#c\nbig\t10\t1000000\n#g\nbig\t0\t10\t1000\n";
+    prints(rt, &mut session, script, want)
+}
+
+#[test]
+fn many_records_at_one_place(rt: HostRuntime) -> Result<(), Fail> {
+    let first = thousand_at_one_place(&rt)?;
+    assert!(rt; prints_one_place(&rt, first.as_bytes())?);
     Ok(())
 }
 

@@ -1,5 +1,5 @@
 //! Several views of a session: opening, closing, printing one and all.
-use crate::fixtures::{Example, Ran, SIZES, check, run, session};
+use crate::fixtures::{Example, check};
 use iv_session::{
     DepthRows, FastaRows, IntersectRows, KeptView, PairRows, ViewFault, ViewWords, WrittenView,
 };
@@ -133,37 +133,6 @@ fn gaps_beside_blocks_and_depth(rt: HostRuntime) -> Result<(), Fail> {
     check(&rt, &examples)
 }
 
-/// A script that opens 64 views, what is refused then, a close and an open, and a print of all views.
-fn full_script(rt: &HostRuntime) -> Result<String, Fail> {
-    let mut script = String::new(rt.alloc());
-    for number in 10..74u32 {
-        script.push_str(format!(in rt.alloc(); "open\tv{number}\tmerge\n")?.as_str())?;
-    }
-    script.push_str(
-        "open\tc\tmerge\nopen\tv20\tmerge\nopen\tc\tpaint\nopen\t\tmerge\nclose\tv20\n",
-    )?;
-    script.push_str("open\tc\tpaint\nopen\tc\tmerge\nprintall\n")?;
-    Ok(script)
-}
-
-/// Runs that script over a session of one record.
-fn run_full_script(rt: &HostRuntime) -> Result<Ran, Fail> {
-    let script = full_script(rt)?;
-    let mut session = session(rt, b"chr1\t10\t20\n", 9)?;
-    run(rt, &mut session, script.as_bytes(), 100, 2000)
-}
-
-#[test]
-fn sixty_four_views(rt: HostRuntime) -> Result<(), Fail> {
-    let ran = run_full_script(&rt)?;
-    let messages =
-        b"line 65: too many views\nline 66: view name taken\nline 67: too many views\nline 68: bad view name\nline 70: bad options\n";
-    assert!(rt; ran.messages.bytes() == messages.as_slice());
-    assert!(rt; ran.output.bytes().len() == 63 * 16 + 14);
-    assert!(rt; ran.output.bytes().ends_with(b"#c\nchr1\t10\t20\n"));
-    Ok(())
-}
-
 /// What words say for a track of three columns beside a second file.
 fn view_of(rt: &HostRuntime, words: &[&[u8]]) -> Result<ViewWords, ViewFault> {
     ViewWords::read(rt.alloc(), 3, true, false, words)
@@ -280,6 +249,7 @@ fn words_that_ask_for_no_view(rt: HostRuntime) {
         (&[b"cluster", b"-s"], ViewFault::Words),
         (&[b"genomecov"], ViewFault::Words),
         (&[b"genomecov", b"-dz"], ViewFault::Words),
+        (&[b"genomecov", b"-bg", b"-d"], ViewFault::Words),
         (&[b"-bg", b"genomecov"], ViewFault::Words),
         (&[b"genomecov", b"-bg", b"-bg"], ViewFault::Words),
         (&[b"intersect", b"-u", b"-v"], ViewFault::Words),

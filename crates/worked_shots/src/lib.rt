@@ -2,6 +2,14 @@
 #![tactic(auto)]
 
 #[cfg(test)]
+mod fixtures;
+#[cfg(test)]
+mod pairs;
+#[cfg(test)]
+mod patterns;
+#[cfg(test)]
+mod shot_outputs;
+#[cfg(test)]
 mod shot_refusals;
 #[cfg(test)]
 mod shots;

@@ -1,44 +1,70 @@
 //! Each growth of a run of one subcommand, refused in turn.
+use crate::patterns::{Case, cases, texts_of};
 use iv_files::{CliFault, Inputs, shot};
 use iv_plan::{Plan, PlanFault};
 use iv_text::MemSink;
-use refusing::{RefusesNth, refuse_each};
+use refusing::{RefusesNth, refuse_each, words_of};
 use std::alloc::Global;
 use std::test::Fail;
 
-/// Whether a run is refused memory, from its words on, and what it has printed.
+/// The bytes of a FASTA file, where there is one, in memory that is not refused.
+fn copied<'a>(
+    granting: &'a RefusesNth<Global>,
+    bases: Option<&[u8]>,
+) -> Result<Option<Vec<u8, &'a RefusesNth<Global>>>, Fail> {
+    match bases {
+        Some(text) => Ok(Some(text.to_vec(granting)?)),
+        None => Ok(None),
+    }
+}
+
+/// Whether a run of a plan is refused memory.
+fn is_refused<'a>(
+    alloc: &'a RefusesNth<Global>,
+    plan: &Plan<'_, &'a RefusesNth<Global>>,
+    inputs: &Inputs<'_>,
+    bases: Option<Vec<u8, &'a RefusesNth<Global>>>,
+    sink: &mut MemSink,
+) -> Result<bool, Fail> {
+    match shot(alloc, plan, inputs, bases, 100, sink) {
+        Ok(()) => Ok(false),
+        Err(CliFault::Memory) => Ok(true),
+        Err(_) => Err(Fail::new("another fault")),
+    }
+}
+
+/// Whether a run is refused memory, from its words on.
 fn run(
     rt: &HostRuntime,
     alloc: &RefusesNth<Global>,
     words: &[&[u8]],
     inputs: &Inputs<'_>,
-) -> Result<(bool, MemSink), Fail> {
-    let mut sink = MemSink::new(rt.alloc(), 1000, 9)?;
-    let plan = match Plan::read(alloc, words) {
-        Ok(plan) => plan,
-        Err(PlanFault::Memory) => return Ok((true, sink)),
-        Err(PlanFault::Words) => return Err(Fail::new("other words")),
-    };
-    match shot(alloc, &plan, inputs, None, 100, &mut sink) {
-        Ok(()) => Ok((false, sink)),
-        Err(CliFault::Memory) => Ok((true, sink)),
-        Err(_) => Err(Fail::new("another fault")),
+    bases: Option<&[u8]>,
+    sink: &mut MemSink,
+) -> Result<bool, Fail> {
+    let granting = RefusesNth::new(rt.alloc(), u64::MAX);
+    let bases = copied(&granting, bases)?;
+    match Plan::read(alloc, words) {
+        Ok(plan) => is_refused(alloc, &plan, inputs, bases, sink),
+        Err(PlanFault::Memory) => Ok(true),
+        Err(PlanFault::Words) => Err(Fail::new("other words")),
     }
 }
 
-/// Runs it, and says how often that ended in want of memory with nothing printed, once or never. Else these rows are
-/// printed, though a growth was refused: it may have been tried again at another size.
+/// Runs it, and says how often that was out of memory with nothing printed, once or never. Else these rows are printed, though
+/// a growth was refused: it may have been tried again at another size.
 fn refused_run(
     rt: &HostRuntime,
     alloc: &RefusesNth<Global>,
     words: &[&[u8]],
     inputs: &Inputs<'_>,
+    bases: Option<&[u8]>,
     rows: &[u8],
 ) -> Result<u32, Fail> {
-    let (is_refused, sink) = run(rt, alloc, words, inputs)?;
-    match is_refused {
-        true if alloc.has_refused() && sink.bytes().is_empty() => Ok(1),
-        true => Err(Fail::new("no refusal, or a row too many")),
+    let mut sink = MemSink::new(rt.alloc(), 1000, 9)?;
+    match run(rt, alloc, words, inputs, bases, &mut sink)? {
+        true if sink.bytes().is_empty() => Ok(1),
+        true => Err(Fail::new("a row too many")),
         false if sink.bytes() == rows => Ok(0),
         false => Err(Fail::new("other rows")),
     }
@@ -49,12 +75,34 @@ fn refused_runs(
     rt: &HostRuntime,
     words: &[&[u8]],
     inputs: &Inputs<'_>,
+    bases: Option<&[u8]>,
     rows: &[u8],
 ) -> Result<u32, Fail> {
     refuse_each(
         rt.alloc(),
-        |alloc| refused_run(rt, alloc, words, inputs, rows),
+        |alloc| refused_run(rt, alloc, words, inputs, bases, rows),
     )
+}
+
+/// The same of a case.
+fn refused_case(rt: &HostRuntime, case: &Case<'_>) -> Result<u32, Fail> {
+    let texts = texts_of(rt, case)?;
+    let words = words_of(rt.alloc(), case.words)?;
+    refused_runs(
+        rt,
+        words.as_slice(),
+        &texts.inputs(),
+        texts.bases(),
+        texts.printed(),
+    )
+}
+
+#[test]
+fn each_growth_of_each_subcommand_refused(rt: HostRuntime) -> Result<(), Fail> {
+    for case in cases() {
+        assert!(rt; 3 < refused_case(&rt, &case)?);
+    }
+    Ok(())
 }
 
 #[test]
@@ -76,7 +124,7 @@ fn each_growth_of_a_merge_refused(rt: HostRuntime) -> Result<(), Fail> {
         b"a",
     ];
     let rows = b"chr1\t10\t40\ta,b\nchr1\t50\t60\tc\n";
-    assert!(rt; 3 < refused_runs(&rt, &words, &inputs, rows)?);
+    assert!(rt; 3 < refused_runs(&rt, &words, &inputs, None, rows)?);
     Ok(())
 }
 
@@ -89,7 +137,7 @@ fn each_growth_of_an_intersect_refused(rt: HostRuntime) -> Result<(), Fail> {
     };
     let words: [&[u8]; 7] = [b"intersect", b"-g", b"g", b"-a", b"a", b"-b", b"b"];
     let rows = b"chr1\t20\t32\nchr1\t30\t32\n";
-    assert!(rt; 3 < refused_runs(&rt, &words, &inputs, rows)?);
+    assert!(rt; 3 < refused_runs(&rt, &words, &inputs, None, rows)?);
     Ok(())
 }
 
@@ -102,6 +150,6 @@ fn each_growth_of_a_genomecov_refused(rt: HostRuntime) -> Result<(), Fail> {
     };
     let words: [&[u8]; 6] = [b"genomecov", b"-bg", b"-g", b"g", b"-i", b"a"];
     let rows = b"chr1\t10\t30\t1\nchr1\t30\t35\t2\nchr1\t35\t40\t1\n";
-    assert!(rt; 3 < refused_runs(&rt, &words, &inputs, rows)?);
+    assert!(rt; 3 < refused_runs(&rt, &words, &inputs, None, rows)?);
     Ok(())
 }

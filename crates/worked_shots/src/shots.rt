@@ -1,83 +1,9 @@
 //! Runs of one subcommand on the bytes of their files.
-use iv_files::{CliFault, Inputs, shot};
-use iv_plan::{Plan, Slot};
-use iv_text::{LoadCause, LoadFault, MemSink, RecordFault};
-use refusing::words_of;
+use crate::fixtures::{alone, beside, ends, is_reported, prints};
+use iv_files::{CliFault, Inputs};
+use iv_plan::Slot;
+use iv_text::{LoadCause, LoadFault, RecordFault};
 use std::test::Fail;
-
-const GENOME: &[u8] = b"chr1\t100\nchr2\t50\nchr3\t0\n";
-
-/// How many records a file may have.
-const MOST: u32 = 100;
-
-/// A genome of three sequences, and records.
-fn alone(first: &[u8]) -> Inputs<'_> {
-    Inputs {
-        sizes: GENOME,
-        first,
-        other: None,
-    }
-}
-
-/// The same, and a second file.
-fn beside<'a>(first: &'a [u8], other: &'a [u8]) -> Inputs<'a> {
-    Inputs {
-        other: Some(other),
-        ..alone(first)
-    }
-}
-
-/// What a run of the plan answers, and what it has printed, into a sink that takes so many bytes.
-fn run(
-    rt: &HostRuntime,
-    plan: &Plan<'_>,
-    inputs: &Inputs<'_>,
-    bases: Option<&[u8]>,
-    room: usize,
-) -> Result<(Option<CliFault>, MemSink), Fail> {
-    let mut sink = MemSink::new(rt.alloc(), room, 9)?;
-    let bases = match bases {
-        Some(text) => Some(text.to_vec(rt.alloc())?),
-        None => None,
-    };
-    let fault = shot(rt.alloc(), plan, inputs, bases, MOST, &mut sink).err();
-    Ok((fault, sink))
-}
-
-/// Whether a run of these words, parted by spaces, ends so and has printed just this.
-fn ends(
-    rt: &HostRuntime,
-    text: &[u8],
-    inputs: &Inputs<'_>,
-    bases: Option<&[u8]>,
-    fault: Option<CliFault>,
-    printed: &[u8],
-) -> Result<bool, Fail> {
-    let words = words_of(rt.alloc(), text)?;
-    let plan = Plan::read(rt.alloc(), words.as_slice())?;
-    let (found, sink) = run(rt, &plan, inputs, bases, 1000)?;
-    Ok(found == fault && sink.bytes() == printed)
-}
-
-/// Whether it prints this and is done.
-fn prints(
-    rt: &HostRuntime,
-    text: &[u8],
-    inputs: &Inputs<'_>,
-    printed: &[u8],
-) -> Result<bool, Fail> {
-    ends(rt, text, inputs, None, None, printed)
-}
-
-/// Whether it ends with the fault, and prints nothing.
-fn is_told(
-    rt: &HostRuntime,
-    text: &[u8],
-    inputs: &Inputs<'_>,
-    fault: CliFault,
-) -> Result<bool, Fail> {
-    ends(rt, text, inputs, None, Some(fault), b"")
-}
 
 #[test]
 fn merge_and_cluster(rt: HostRuntime) -> Result<(), Fail> {
@@ -135,7 +61,7 @@ fn merge_with_summaries(rt: HostRuntime) -> Result<(), Fail> {
     let inputs = alone(b"chr1\t10\t20\ta\t5\nchr1\t14\t20\td\t2.5\n");
     let rows = b"chr1\t10\t20\t.\t.\t.\n";
     assert!(rt; prints(&rt, b"merge -c 5 -o sum,min,max -g g -i a", &inputs, rows)?);
-    assert!(rt; is_told(&rt, b"merge -g g -i a -c 6", &inputs, CliFault::Words(17))?);
+    assert!(rt; is_reported(&rt, b"merge -g g -i a -c 6", &inputs, CliFault::Words(17))?);
     Ok(())
 }
 
@@ -270,162 +196,16 @@ fn files_without_a_record(rt: HostRuntime) -> Result<(), Fail> {
         )?
     );
     assert!(rt; prints(&rt, b"complement -g g -i a -L", &inputs, b"")?);
-    assert!(rt; is_told(&rt, b"merge -g g -i a -s", &inputs, CliFault::Words(18))?);
+    assert!(rt; is_reported(&rt, b"merge -g g -i a -s", &inputs, CliFault::Words(18))?);
     assert!(rt; prints(&rt, b"merge -g g -i a -s -width 6", &inputs, b"")?);
     assert!(rt;
-        is_told(
+        is_reported(
             &rt,
             b"merge -g g -i a -c 5 -width 4",
             &inputs,
             CliFault::Words(17)
         )?
     );
-    Ok(())
-}
-
-#[test]
-fn intersect(rt: HostRuntime) -> Result<(), Fail> {
-    let inputs = beside(
-        b"chr1\t30\t40\nchr1\t10\t20\n",
-        b"chr1\t20\t30\nchr1\t15\t18\nchr1\t15\t18\n",
-    );
-    for (words, rows) in [
-        (
-            b"intersect -g g -a a -b b".as_slice(),
-            b"chr1\t15\t18\nchr1\t15\t18\n".as_slice(),
-        ),
-        (
-            b"intersect -g g -a a -b b -wa",
-            b"chr1\t10\t20\nchr1\t10\t20\n",
-        ),
-        (
-            b"intersect -g g -a a -b b -wb",
-            b"chr1\t15\t18\tchr1\t15\t18\nchr1\t15\t18\tchr1\t15\t18\n",
-        ),
-        (
-            b"intersect -g g -wa -wb -a a -b b",
-            b"chr1\t10\t20\tchr1\t15\t18\nchr1\t10\t20\tchr1\t15\t18\n",
-        ),
-        (b"intersect -u -g g -a a -b b", b"chr1\t10\t20\n"),
-        (b"intersect -v -g g -a a -b b", b"chr1\t30\t40\n"),
-        (
-            b"intersect -c -wa -g g -a a -b b",
-            b"chr1\t10\t20\t2\nchr1\t30\t40\t0\n",
-        ),
-    ] {
-        assert!(rt; prints(&rt, words, &inputs, rows)?);
-    }
-    Ok(())
-}
-
-#[test]
-fn intersect_of_two_widths(rt: HostRuntime) -> Result<(), Fail> {
-    let inputs = beside(
-        b"chr1\t10\t20\tx\t7\t-\n",
-        b"chr1\t15\t30\ty\nchr1\t0\t12\tz\n",
-    );
-    for (words, rows) in [
-        (
-            b"intersect -g g -a a -b b".as_slice(),
-            b"chr1\t10\t12\tx\t7\t-\nchr1\t15\t20\tx\t7\t-\n".as_slice(),
-        ),
-        (
-            b"intersect -g g -a a -b b -wb",
-            b"chr1\t10\t12\tx\t7\t-\tchr1\t0\t12\tz\nchr1\t15\t20\tx\t7\t-\tchr1\t15\t30\ty\n",
-        ),
-        (
-            b"intersect -g g -wa -wb -a a -b b",
-            b"chr1\t10\t20\tx\t7\t-\tchr1\t0\t12\tz\nchr1\t10\t20\tx\t7\t-\tchr1\t15\t30\ty\n",
-        ),
-        (
-            b"intersect -c -g g -a a -b b",
-            b"chr1\t10\t20\tx\t7\t-\t2\n",
-        ),
-    ] {
-        assert!(rt; prints(&rt, words, &inputs, rows)?);
-    }
-    Ok(())
-}
-
-/// The second file has a record of all the sequence, eleven short ones in its midst, and one on another sequence.
-#[test]
-fn intersect_with_a_long_record(rt: HostRuntime) -> Result<(), Fail> {
-    let inputs = beside(
-        b"chr1\t5\t6\nchr1\t31\t33\nchr1\t80\t90\nchr2\t0\t40\nchr2\t44\t50\n",
-        b"chr1\t0\t100\nchr1\t11\t12\nchr1\t13\t14\nchr1\t15\t16\nchr1\t17\t18\nchr1\t19\t20\nchr1\t21\t22\nchr1\t23\t24\nchr1\t25\t26\nchr1\t27\t28\nchr1\t29\t30\nchr1\t31\t32\nchr2\t40\t45\n",
-    );
-    for (words, rows) in [
-        (
-            b"intersect -g g -a a -b b".as_slice(),
-            b"chr1\t5\t6\nchr1\t31\t33\nchr1\t31\t32\nchr1\t80\t90\nchr2\t44\t45\n".as_slice(),
-        ),
-        (
-            b"intersect -c -g g -a a -b b",
-            b"chr1\t5\t6\t1\nchr1\t31\t33\t2\nchr1\t80\t90\t1\nchr2\t0\t40\t0\nchr2\t44\t50\t1\n",
-        ),
-        (b"subtract -g g -a a -b b", b"chr2\t0\t40\nchr2\t45\t50\n"),
-        (b"subtract -g g -a a -b b -A", b"chr2\t0\t40\n"),
-    ] {
-        assert!(rt; prints(&rt, words, &inputs, rows)?);
-    }
-    Ok(())
-}
-
-/// Long, nested and equal records on two sequences, and others that only touch. Each file is counted beside the other.
-#[test]
-fn counts_of_hits(rt: HostRuntime) -> Result<(), Fail> {
-    let some =
-        b"chr1\t0\t1\nchr1\t0\t100\nchr1\t0\t100\nchr1\t9\t10\nchr1\t13\t21\nchr1\t14\t15\nchr1\t20\t21\nchr1\t30\t40\nchr1\t50\t60\nchr2\t0\t5\nchr2\t10\t11\nchr2\t20\t50\n".as_slice();
-    let others =
-        b"chr1\t0\t100\nchr1\t10\t20\nchr1\t10\t20\nchr1\t12\t15\nchr1\t13\t14\nchr1\t20\t30\nchr1\t21\t22\nchr1\t23\t24\nchr1\t25\t26\nchr1\t27\t28\nchr1\t40\t50\nchr2\t0\t10\nchr2\t5\t50\nchr2\t10\t11\nchr2\t10\t20\n".as_slice();
-    for (first, second, rows) in [
-        (
-            some,
-            others,
-            b"chr1\t0\t1\t1\nchr1\t0\t100\t11\nchr1\t0\t100\t11\nchr1\t9\t10\t1\nchr1\t13\t21\t6\nchr1\t14\t15\t4\nchr1\t20\t21\t2\nchr1\t30\t40\t1\nchr1\t50\t60\t1\nchr2\t0\t5\t1\nchr2\t10\t11\t3\nchr2\t20\t50\t1\n".as_slice(),
-        ),
-        (
-            others,
-            some,
-            b"chr1\t0\t100\t9\nchr1\t10\t20\t4\nchr1\t10\t20\t4\nchr1\t12\t15\t4\nchr1\t13\t14\t3\nchr1\t20\t30\t4\nchr1\t21\t22\t2\nchr1\t23\t24\t2\nchr1\t25\t26\t2\nchr1\t27\t28\t2\nchr1\t40\t50\t2\nchr2\t0\t10\t1\nchr2\t5\t50\t2\nchr2\t10\t11\t1\nchr2\t10\t20\t1\n",
-        ),
-    ] {
-        let inputs = beside(first, second);
-        assert!(rt; prints(&rt, b"intersect -c -g g -a a -b b", &inputs, rows)?);
-    }
-    Ok(())
-}
-
-/// What second files leave of one record, by its parts and as a whole.
-#[test]
-fn subtract(rt: HostRuntime) -> Result<(), Fail> {
-    let first = b"chr1\t10\t20\tx\t7\t-\n".as_slice();
-    for (second, parts, whole) in [
-        (
-            b"chr1\t12\t14\nchr1\t13\t16\n".as_slice(),
-            b"chr1\t10\t12\tx\t7\t-\nchr1\t16\t20\tx\t7\t-\n".as_slice(),
-            b"".as_slice(),
-        ),
-        (b"chr1\t20\t30\n", first, first),
-        (b"chr1\t0\t10\nchr2\t10\t20\n", first, first),
-        (b"chr1\t0\t100\n", b"", b""),
-        (
-            b"chr1\t12\t13\nchr1\t12\t13\n",
-            b"chr1\t10\t12\tx\t7\t-\nchr1\t13\t20\tx\t7\t-\n",
-            b"",
-        ),
-        (
-            b"chr1\t0\t15\nchr1\t11\t12\nchr1\t15\t18\n",
-            b"chr1\t18\t20\tx\t7\t-\n",
-            b"",
-        ),
-        (b"chr1\t0\t19\nchr1\t19\t20\n", b"", b""),
-        (b"", first, first),
-    ] {
-        let inputs = beside(first, second);
-        assert!(rt; prints(&rt, b"subtract -g g -a a -b b", &inputs, parts)?);
-        assert!(rt; prints(&rt, b"subtract -A -g g -a a -b b", &inputs, whole)?);
-    }
     Ok(())
 }
 
@@ -481,12 +261,12 @@ fn files_that_are_damaged(rt: HostRuntime) -> Result<(), Fail> {
     let past_end = LoadCause::Record(RecordFault::PastEnd);
     let first = b"chr1\t1\t2\nchr1\t1\t200\n".as_slice();
     let fault = damage(Slot::First, 2, past_end);
-    assert!(rt; is_told(&rt, b"merge -g g -i a", &alone(first), fault)?);
-    assert!(rt; is_told(&rt, b"merge -g g -i a -c 5", &alone(first), fault)?);
+    assert!(rt; is_reported(&rt, b"merge -g g -i a", &alone(first), fault)?);
+    assert!(rt; is_reported(&rt, b"merge -g g -i a -c 5", &alone(first), fault)?);
     // The first file is damaged too, or alone the second.
     let inputs = beside(b"chr1\t1\t2\n", first);
     assert!(rt;
-        is_told(
+        is_reported(
             &rt,
             b"intersect -g g -a a -b b",
             &beside(first, first),
@@ -494,8 +274,8 @@ fn files_that_are_damaged(rt: HostRuntime) -> Result<(), Fail> {
         )?
     );
     let fault = damage(Slot::Other, 2, past_end);
-    assert!(rt; is_told(&rt, b"intersect -g g -a a -b b", &inputs, fault)?);
-    assert!(rt; is_told(&rt, b"subtract -g g -a a -b b", &inputs, fault)?);
+    assert!(rt; is_reported(&rt, b"intersect -g g -a a -b b", &inputs, fault)?);
+    assert!(rt; is_reported(&rt, b"subtract -g g -a a -b b", &inputs, fault)?);
     let inputs = alone(b"chr1\t1\t2\n");
     let bases = Some(b">chr9\nAC GT\n".as_slice());
     let fault = Some(damage(Slot::Bases, 2, LoadCause::Base));
@@ -509,46 +289,5 @@ fn files_that_are_damaged(rt: HostRuntime) -> Result<(), Fail> {
             b""
         )?
     );
-    Ok(())
-}
-
-/// Whether a sink with room for so many bytes takes these, and the run tells of it.
-fn is_cut(
-    rt: &HostRuntime,
-    plan: &Plan<'_>,
-    inputs: &Inputs<'_>,
-    room: usize,
-    printed: &[u8],
-) -> Result<bool, Fail> {
-    let (fault, sink) = run(rt, plan, inputs, None, room)?;
-    Ok(fault == Some(CliFault::Output) && sink.bytes() == printed)
-}
-
-#[test]
-fn an_output_that_fails(rt: HostRuntime) -> Result<(), Fail> {
-    let inputs = alone(b"chr1\t30\t40\nchr1\t10\t35\nchr2\t5\t9\n");
-    let rows = b"chr1\t10\t40\nchr2\t5\t9\n".as_slice();
-    let plan = Plan::read(rt.alloc(), &[b"merge", b"-g", b"g", b"-i", b"a"])?;
-    for room in 0..rows.len() {
-        assert!(rt;
-            is_cut(&rt, &plan, &inputs, room, &rows[..room])?,
-            "{room} bytes"
-        );
-    }
-    Ok(())
-}
-
-#[test]
-fn an_output_that_fails_within_results(rt: HostRuntime) -> Result<(), Fail> {
-    let inputs = alone(b"chr1\t30\t40\tb\nchr1\t10\t35\ta\nchr2\t5\t9\tb\n");
-    let rows = b"chr1\t10\t40\t2\ta,b\nchr2\t5\t9\t1\tb\n".as_slice();
-    let words = words_of(rt.alloc(), b"merge -c 4 -o count,distinct -g g -i a")?;
-    let plan = Plan::read(rt.alloc(), words.as_slice())?;
-    for room in [0, 3, 12, 13, 17, 29] {
-        assert!(rt;
-            is_cut(&rt, &plan, &inputs, room, &rows[..room])?,
-            "{room} bytes"
-        );
-    }
     Ok(())
 }
