@@ -33,7 +33,7 @@ from bench_views import TOP, digest_of, in_own_process, measure, milliseconds
 SEED = 22
 VIEWS = ["getfasta", "getfasta -s", "getfasta -tab", "getfasta -s -tab"]
 LINE = 60
-# the share of all bases that lie on each chromosome
+# the share of all bases that are on each chromosome
 CHROMOSOMES = [("chr1", 0.31), ("chr2", 0.27), ("chr3", 0.23), ("chr4", 0.19)]
 # what each random byte gives: mostly capitals, a quarter small letters, some N
 LETTERS = (b"ACGT" * 47 + b"acgt" * 16).ljust(256, b"N")
@@ -111,7 +111,7 @@ def write_data(folder, bases, records):
 
 
 def write_bases(folder, chromosomes, chance):
-    """The FASTA file under two names; beside one of them stands its index."""
+    """The FASTA file under two names; beside one of them is its index."""
     indexed, bare = (os.path.join(folder, name) for name in ("indexed.fa", "bare.fa"))
     with open(indexed, "wb") as file:
         for name, length in chromosomes:

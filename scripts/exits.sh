@@ -1,5 +1,5 @@
 #!/usr/bin/env bash
-# How the built program ends: its exit status, what stands on standard error and what on standard output, for each
+# How the built program ends: its exit status, what uses standard error and what on standard output, for each
 # way in which a run can end.
 #
 #   scripts/exits.sh build/bedkeep
@@ -58,7 +58,7 @@ ends 'a refused line' 1 "line 2: end past the sequence's end\n"
 prints 'a refused line' 'chr1\t10\t20\n'
 
 for words in '' 'merge' 'merge -i records.bed' 'merge -g sizes -a records.bed' 'merge -g -i records.bed' 'merge -g sizes -i records.bed -L' 'cluster -g sizes -i records.bed -s' 'complement -g sizes -i records.bed -d 1' 'genomecov -g sizes -i records.bed' 'intersect -g sizes -i records.bed -b records.bed' 'intersect -g sizes -a records.bed' 'subtract -g sizes -b records.bed' 'getfasta -g sizes -bed records.bed' 'getfasta -g sizes -i records.bed -fi bases.fa' 'sort -g sizes -i records.bed' '--help sort' '--help merge cluster' 'session' 'session -g sizes' 'session -g sizes -i records.bed -width 7' 'session -g sizes -i records.bed -b' 'session -b b -g sizes -i records.bed -b b' 'session -g sizes -b records.bed' 'session -g sizes -i records.bed -fi' 'session -fi f -g sizes -i records.bed -fi f' '--help me' '--help --version' '-help'; do
-    # shellcheck disable=SC2086 # the words are to be parted
+    # shellcheck disable=SC2086 # the words are to be separated
     "$program" $words > out 2> err < prints
     ends "words: $words" 2 'bedkeep: bad options\n'
     prints "words: $words" ''

@@ -5,7 +5,7 @@ Memory: a value that says that memory ran out is made only where a refused growt
 block `impl From<..> for FAULT`; all other code hands it on by `?`. A contract cannot tell a call that met a refusal
 from one that gave up, since an allocator's refusals have no place in the logic. So the names NoMemory, Memory and
 AllocError may stand in patterns, comparisons, types, declarations and `use` lines, and as values in those blocks
-alone. AllocError itself is made in `refusing` alone, the allocator that refuses on purpose.
+alone. AllocError itself is made in `test_faults` alone, the allocator that refuses on purpose.
 
 Meter: steps are counted by the meter that is handed in; a call that made a meter of its own would hide its steps.
 So a meter is made only in the functions that MAKES_A_METER names, file by file, once in each and in no loop: in the calls of a
@@ -15,7 +15,7 @@ views makes one, and no repair or print of a view.
 Flush: `main` ends a run by what the last flush of standard output says. Standard output holds nothing back in this toolchain,
 so a flush never fails and no run can show that it is looked at. So `after_flush` is called with the flush's own answer alone.
 
-The crates of tests, worked_*, may name such faults as values that they expect, and make meters.
+The crates of tests, test_*, may name such faults as values that they expect, and make meters.
 
     scripts/searches.py         searches the crates; status 1 where a line is refused
     scripts/searches.py --try   plants lines in a copy, and sees each refused, or let through where it is harmless
@@ -36,7 +36,7 @@ METER = re.compile(r"\bMeter\s*>?\s*::\s*new\b")
 MAKES_A_METER = {
     "iv_pair/src/hits.rt": {"of"},
     "iv_pair/src/second.rt": {"new", "hits"},
-    "iv_state/src/session.rt": {
+    "iv_workspace/src/session.rt": {
         "add", "remove", "replace", "add_second", "remove_second", "replace_second", "has_record_past", "open_view",
         "print_view", "print_all",
     },
@@ -60,7 +60,7 @@ def code_of(text):
 
 
 def after_group(text, at):
-    """The place behind the group whose bracket opens here."""
+    """The place after the group whose bracket opens here."""
     depth = 0
     for place in range(at, len(text)):
         depth += (text[place] in OPENING) - (text[place] in CLOSING)
@@ -80,14 +80,14 @@ def before_group(text, at):
 
 
 def pattern_start(code, arrow):
-    """Where the pattern left of an arrow `=>` begins: behind the comma or the bracket before it."""
+    """Where the pattern left of an arrow `=>` begins: after the comma or the bracket before it."""
     at = arrow - 1
     while at >= 0:
         if code[at] in ",;" or code[at] in OPENING:
             break
         if code[at] in CLOSING:
             opening = before_group(code, at)
-            # behind a closing brace a new arm begins, unless the braces are those of a pattern such as `Fault { line, cause }`
+            # after a closing brace a new arm begins, unless the braces are those of a pattern such as `Fault { line, cause }`
             if code[at] == "}" and not re.search(r"\b[A-Z]\w*\s*$", code[:opening]):
                 break
             at = opening
@@ -96,7 +96,7 @@ def pattern_start(code, arrow):
 
 
 def until(code, start, stops):
-    """The place of the first of these characters behind the start that stands in no group."""
+    """The place of the first of these characters after the start that is in no group."""
     at = start
     while at < len(code):
         if code[at] in stops or code[at] in CLOSING:
@@ -141,7 +141,7 @@ def conversions(code):
 
 
 def bodies(code, word):
-    """The bodies of functions, or of loops, with what stands between the word and the body."""
+    """The bodies of functions, or of loops, with what is between the word and the body."""
     for m in re.finditer(rf"\b(?:{word})\b", code):
         start = until(code, m.end(), "{;=")
         if code[start : start + 1] == "{":
@@ -157,14 +157,14 @@ def memory_made(place, code):
     crate = crate_of(place)
     allowed = [*patterns(code), *declarations(code), *conversions(code)]
     for m in REFUSED.finditer(code):
-        only_named = crate.startswith("worked_") and m.group() != "AllocError"
-        if crate != "refusing" and not only_named and not is_in(m.start(), allowed):
+        only_named = crate.startswith("test_") and m.group() != "AllocError"
+        if crate != "test_faults" and not only_named and not is_in(m.start(), allowed):
             yield m.start(), f"{m.group()} is made here, where only a refused growth may say it"
 
 
 def meters_made(place, code):
     """The places where a meter is made that may make none."""
-    if crate_of(place).startswith("worked_"):
+    if crate_of(place).startswith("test_"):
         return
     makers = MAKES_A_METER.get(place, set())
     functions = list(bodies(code, "fn"))
@@ -232,7 +232,7 @@ PLANTED = [
     ("iv_session", "impl From<u8> for EditFault { fn from(_: u8) -> EditFault { EditFault::NoMemory } }", MADE),
     ("iv_session", "fn f() -> EditFault { let fault = EditFault::NoMemory; fault }", MADE),
     ("iv_session", "const MAKE: fn(u8) -> EditFault = |_| EditFault::NoMemory;", MADE),
-    ("worked_rows", "fn f() -> Result<(), AllocError> { Err(AllocError) }", MADE),
+    ("test_rows", "fn f() -> Result<(), AllocError> { Err(AllocError) }", MADE),
     ("bedkeep", "use iv_session::EditFault::NoMemory as Full;", OTHER_NAME),
     ("iv_text", "/// Memory was refused: `AllocError`.\nfn f<A>(a: A) -> Result<Vec<u8, A>, AllocError>\n    ensures { OnErr result (g.fault ≡ LoadCause.Memory) }\n{\n    g(\"Memory\")\n}", None),
     ("iv_text", "fn f(c: LoadCause) -> u8 { match c { LoadCause::Memory => 10, LoadCause::TooMany => { 9 } Fault { cause: LoadCause::Memory } | LoadCause::Memory if true => 1 } }", None),
@@ -240,25 +240,25 @@ PLANTED = [
     ("iv_text", "impl From<AllocError> for Why { fn from(_: AllocError) -> Why { Why::Memory } }", None),
     ("iv_cli", "impl From<Why> for Fault { fn from(why: Why) -> Fault { match why { Why::Memory => Fault::Memory, _ => Fault::Other } } }", None),
     ("iv_cli", "fn f(why: Why) -> bool { why == Why::Memory || matches!(why, Why::Memory | Why::Other) }", None),
-    ("worked_rows", "fn f() -> bool { g() == Err(EditFault::NoMemory) }", None),
+    ("test_rows", "fn f() -> bool { g() == Err(EditFault::NoMemory) }", None),
     ("iv_depth", "fn f() -> u64 { let meter = Meter::new(); meter.steps() }", METERS),
     ("iv_cover", "fn f() -> u64 { let mut meter = Meter::new(); meter.steps() }", METERS),
     ("iv_cover", "fn f() -> u64 { <Meter>::new().steps() }", METERS),
     ("iv_cover", "type Count = iv_track::Meter;", OTHER_NAME),
     ("iv_track", "fn from_records<A>(a: A) -> Meter { Meter::new() }", METERS),
-    ("iv_state", "fn may() { g(Meter::new()); g(Meter::new()); }", METERS),
-    ("iv_state", "fn may() { for _ in 0..9 { g(Meter::new()); } }", METERS),
-    ("iv_state", "impl OpenView { fn added(&mut self) { self.state.added(&mut Meter::new()); } }", METERS),
+    ("iv_workspace", "fn may() { g(Meter::new()); g(Meter::new()); }", METERS),
+    ("iv_workspace", "fn may() { for _ in 0..9 { g(Meter::new()); } }", METERS),
+    ("iv_workspace", "impl OpenView { fn added(&mut self) { self.state.added(&mut Meter::new()); } }", METERS),
     ("iv_session", "const MAKE: fn() -> Meter = Meter::new;", METERS),
     ("iv_cli", "fn f() -> Meter { Meter::new() }", METERS),
     ("iv_pair", "fn print_pairs() { g(Meter::new()); }", METERS),
     ("iv_pair", "fn may<A>() { g(Meter::new()); g(Meter::new()); }", METERS),
     ("iv_pair", "fn may(n: u8) { for _ in 0..n { g(Meter::new()); } }", METERS),
     ("iv_pair", "fn may<A>(&self) { g(Meter::new()); }", None),
-    ("iv_state", "fn may(&mut self) { let mut meter = Meter::new(); }", None),
+    ("iv_workspace", "fn may(&mut self) { let mut meter = Meter::new(); }", None),
     ("bedkeep", "fn f(rt: &R, ending: Ending) -> Ending { ending.after_flush(true) }", NO_FLUSH),
     ("bedkeep", "fn f(rt: &R, ending: Ending) -> Ending { ending.after_flush(rt.stdout().flush().is_ok()) }", None),
-    ("worked_rows", "fn f() { g(Meter::new()); g(Meter::new()); }", None),
+    ("test_rows", "fn f() { g(Meter::new()); g(Meter::new()); }", None),
 ]
 
 

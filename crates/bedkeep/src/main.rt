@@ -1,14 +1,15 @@
 //! `bedkeep session -g GENOME -i RECORDS [-b RECORDS] [-fi FASTA]`: keeps a track of records by a script on standard input.
 //! `bedkeep SUBCOMMAND ..`: prints one view of its files.
 //!
-//! It opens files, hands over and exits. What the words mean, how a run ends and what is said of it stands in `iv_cli`.
+//! It opens files, hands over and exits. What the words mean, how a run ends and what is said of it is in `iv_cli`.
 #![tactic(auto)]
 
+use iv_args::{Notice, Plan, Slot};
 use iv_bytes::{StdSink, StdSource, put_all};
-use iv_cli::{
-    CliFault, Ending, FileFault, Inputs, Notice, ParsedFiles, Plan, Slot, read_all, shot,
-};
-use iv_session::{ScriptLimits, Session, run_script};
+use iv_cli::Ending;
+use iv_run::{CliFault, FileFault, Inputs, ParsedFiles, read_all, shot};
+use iv_session::{ScriptLimits, run_script};
+use iv_workspace::Session;
 use std::fs::File;
 use std::io::Write;
 use std::process::ExitCode;

@@ -18,7 +18,7 @@ use Rattle.iv_blocks.specs.Putting.{ArePut, ArePutOn}
 use Rattle.iv_blocks.specs.declared.group.Group.{Group}
 use Rattle.iv_blocks.specs.declared.options.Options.{Options}
 use Rattle.iv_blocks.proofs.GroupSweeps.{member-in}
-use Rattle.iv_blocks.proofs.Walks.{between-from}
+use Rattle.iv_blocks.proofs.MembersLemmas.{between-from}
 
 -- the sequences below this rank have their blocks, and the others have none yet
 pub record IsBuiltTo (genome : Sequences) (rows : List Row) (options : Options) (rank : ℕ) (now : KeptBlocks) : Type 0 where

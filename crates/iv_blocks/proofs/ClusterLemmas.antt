@@ -23,12 +23,12 @@ use Rattle.iv_cover.specs.declared.block.Block.{Block}
 use Rattle.iv_cover.proofs.Groups.{mem-append}
 use Rattle.iv_cover.proofs.Merging.{Precedes, precedes-from}
 use Rattle.iv_cover.proofs.Tests.{Mem, filter-agree, mem-filter}
-use Rattle.iv_blocks.specs.Ahead.{lies_at, starts_until, drop_while, BeginsElse}
+use Rattle.iv_blocks.specs.BlockCursor.{lies_at, starts_until, drop_while, BeginsElse}
 use Rattle.iv_blocks.specs.ClusterRows.{blocks_before, cluster_row}
 use Rattle.iv_blocks.specs.Groups.{is_in_group, group, listed}
 use Rattle.iv_blocks.specs.KeptBlocks.{Key, Kept, Entries, AreBlocksOf, key_cmp, kept_at, kept_block, name_of}
 use Rattle.iv_blocks.specs.declared.options.Options.{Options}
-use Rattle.iv_blocks.proofs.AheadLemmas.{take-all, begins-else, take-first, take-none, drop-first, drop-none}
+use Rattle.iv_blocks.proofs.BlockCursorLemmas.{take-all, begins-else, take-first, take-none, drop-first, drop-none}
 use Rattle.iv_blocks.proofs.EntryLemmas.{from, entry-found, side_entries, rank_entries, all_entries, walked-on, ranks-all}
 use Rattle.iv_blocks.proofs.KeptLemmas.{none-past, side-is, side-other, entry_of, group-other}
 use Rattle.iv_blocks.proofs.ComplementLemmas.{mem-values}
@@ -193,7 +193,7 @@ module _ (o : Options) (g : Sequences) (width : ℕ) (rows : List Row) (entries 
       let none : group o.stranded s true rows ≡ [] = ap (λ b. group b s true rows) together ∙ group-other s rows in
       ap (λ (l : List Row). option_map (kept_block (name_of (names_of g) s) (listed o.summaries)) (block_at start_of stop_of o.distance l p)) none
 
-  -- how many entries stand below a position
+  -- how many entries are below a position
   side-count : (s n : ℕ) → length (side_entries look s false n) ≡ blocks_before o.distance rows s n
   side-count s n =
       ap (λ (l : Entries). length l) (side-is o g rows s false n)

@@ -18,12 +18,12 @@ use Rattle.iv_cover.proofs.Cover.{Free, Covered, some_start, block_at_start, blo
 use Rattle.iv_cover.proofs.Groups.{mem-left, mem-right, mem-append}
 use Rattle.iv_cover.proofs.Positions.{values, values-none, values-some, values-agree, values-none_from}
 use Rattle.iv_cover.proofs.Tests.{Mem, mem-filter_from, all-mem, filter-none, any-found, any-none, mem-place}
-use Rattle.iv_blocks.specs.Ahead.{lies_at, gap_between, gaps_between, starts_until, drop_while, BeginsElse}
+use Rattle.iv_blocks.specs.BlockCursor.{lies_at, gap_between, gaps_between, starts_until, drop_while, BeginsElse}
 use Rattle.iv_blocks.specs.ComplementRows.{gap_row, gap_rows, is_shown, complement_text}
 use Rattle.iv_blocks.specs.Groups.{is_in_group, group, sides}
 use Rattle.iv_blocks.specs.KeptBlocks.{Entries, AreBlocksOf}
 use Rattle.iv_blocks.specs.declared.options.Options.{Options}
-use Rattle.iv_blocks.proofs.AheadLemmas.{take-all, drop-all, begins-else}
+use Rattle.iv_blocks.proofs.BlockCursorLemmas.{take-all, drop-all, begins-else}
 use Rattle.iv_blocks.proofs.GapLemmas.{all_gaps-are}
 use Rattle.iv_blocks.proofs.KeptLemmas.{group-in, entry_of, side_blocks, entries-are, flat_map-agree, map-filter_map}
 use Rattle.iv_blocks.proofs.PlainLemmas.{all-lie, map-flat_map}
@@ -151,7 +151,7 @@ depth-none rows s p free =
 
 -- ---- the blocks of a sequence
 
--- where a block lies that starts at b.0 and stops at b.1.0
+-- where a block is that starts at b.0 and stops at b.1.0
 abbrev pub place_of : ℕ → ℕ → Option (ℕ × List Row) → Option Block
 place_of s x at = option_map (λ (b : ℕ × List Row). record { sequence = s; start = x; stop = b.0 }) at
 
@@ -169,7 +169,7 @@ shown-some : (from to : ℕ) (blocks : List Block) → blocks ≢ [] → gaps_be
 shown-some from to [] some = absurd (some refl)
 shown-some from to (b ∷ blocks) some = refl
 
--- where the block on a sequence lies that starts at a position, if there is one
+-- where the block on a sequence is that starts at a position, if there is one
 abbrev pub lying_at : List Row → ℕ → ℕ → Option Block
 lying_at rows s x = place_of s x (block_at start_of stop_of 0 (group false s false rows) x)
 

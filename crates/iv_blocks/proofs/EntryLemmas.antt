@@ -185,7 +185,7 @@ module _ (look : Key → Option Kept) (long : ℕ → ℕ) (entries : Entries) (
           ∙ ap (λ (l : Entries). l ++ from (s, t, suc p) entries)
           (sym (values-some (λ q. option_map (λ v. ((s, t, q), v)) (look (s, t, q))) p ((s, t, p), v) (ap (option_map (λ v. ((s, t, p), v))) is)))
 
-  -- no entry stands past the end of a side
+  -- no entry is past the end of a side
   none-past : (s : ℕ) (t : Bool) (e : Key × Kept) → Mem e entries → e.0.0 ≡ s → e.0.1 ≡ t → long s ≤ e.0.2 → ⊥
   none-past s t e m rank side high =
       let key : e.0 ≡ (s, t, e.0.2) = rw (rank, side) refl in

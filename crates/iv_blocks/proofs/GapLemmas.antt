@@ -12,7 +12,7 @@ use Rattle.iv_cover.proofs.BlockLemmas.{covered-in_block}
 use Rattle.iv_cover.proofs.Cover.{Free, Covered, Lasting, IsBlock, cases_covered, block_at_start, block-test, block_at-some, block_at-none, block_unique, none_within}
 use Rattle.iv_cover.proofs.EmptyLemmas.{empty_runs-none, empty_runs-run, empty_runs-skip}
 use Rattle.iv_cover.proofs.Tests.{Mem}
-use Rattle.iv_blocks.specs.Ahead.{gap_between, gaps_between}
+use Rattle.iv_blocks.specs.BlockCursor.{gap_between, gaps_between}
 
 -- positions of value 0, up to one of another value or the end, are a gap
 pub runs-gap : (f : ℕ → ℕ) (from mid to : ℕ) → from ≤ mid → mid ≤ to → ((q : ℕ) → from ≤ q → q < mid → f q ≡ 0) → (mid < to → 0 ≢ f mid)
@@ -28,7 +28,7 @@ runs-gap f from mid to low high zeros ends = go (cases_lt from mid)
 
 module _ (G : List Row) (f : ℕ → ℕ) (s to : ℕ) (lasting : Lasting start_of stop_of 0 G) (within : (q : Row) → Mem q G → q.stop ≤ to)
     (some : (p : ℕ) → Covered start_of stop_of 0 G (suc p) → f p ≢ 0) (none : (p : ℕ) → Free start_of stop_of 0 G (suc p) → f p ≡ 0) where
-  -- where the block of a position lies, if one starts there
+  -- where the block of a position is, if one starts there
   abbrev pub lies : ℕ → Option Block
   lies x = option_map (λ (b : ℕ × List Row). record { sequence = s; start = x; stop = b.0 }) (block_at start_of stop_of 0 G x)
 

@@ -20,10 +20,10 @@ use Rattle.iv_blocks.specs.Putting.{key_of, IsOfOther, with_block, ArePut}
 use Rattle.iv_blocks.specs.declared.group.Group.{Group}
 use Rattle.iv_blocks.specs.declared.options.Options.{Options}
 use Rattle.iv_blocks.proofs.Keys.{look-put, look-put_other}
-use Rattle.iv_blocks.proofs.Names.{name-same}
+use Rattle.iv_blocks.proofs.NameLemmas.{name-same}
 use Rattle.iv_blocks.proofs.Sweeping.{shown, IsPut, put-first, put-join, put-open, put-all}
 use Rattle.iv_cover.proofs.InOrder.{in_order-filter}
-use Rattle.iv_blocks.proofs.Walks.{between-true, between-from, in_group-on, in_order-parts}
+use Rattle.iv_blocks.proofs.MembersLemmas.{between-true, between-from, in_group-on, in_order-parts}
 
 -- ---- records of a range
 

@@ -38,7 +38,7 @@ recursion-all : (P : Key → Type 0) (a : Entries) → AllByRecursion P (keys_of
 recursion-all P [] all = tt
 recursion-all P (e ∷ a) all = (all.0, recursion-all P a all.1)
 
--- two ledgers, one behind the other
+-- two ledgers, one after the other
 ordered-append : (a b : Entries) → IsLedger key_cmp a → IsLedger key_cmp b → AllKeys (λ k. AllKeys (λ l. key_cmp k l ≡ Less) b) a → IsLedger key_cmp (a ++ b)
 unfolding IsStrictlySortedBy
 ordered-append [] b first second apart = second
@@ -113,7 +113,7 @@ module _ (look : Key → Option Kept) (long : ℕ → ℕ) where
   abbrev pub IsOf : ℕ → Key → Type 0
   IsOf s k = (k.0 ≡ s) × (k.2 < long k.0)
 
-  -- what stands at one position
+  -- what is at one position
   abbrev pub last : ℕ → Bool → ℕ → Entries
   last s t p = cons_option (option_map (λ v. ((s, t, p), v)) (look (s, t, p))) []
 

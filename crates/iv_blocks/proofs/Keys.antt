@@ -1,4 +1,4 @@
--- Keys of blocks, and what stands at a key after a put.
+-- Keys of blocks, and what is at a key after a put.
 use Rattle.std.proofs.Common.{◌≡◌, ◌⊎◌, inl, inr, ℕ, ◌==◌, Bool, true, false, cond, if◌then◌else◌, List, [], ◌∷◌, Option, Some, Ordering, Less, Equal, Greater, nat_cmp, refl, sym, ap, subst, ◌∙◌, eq-eqb, ne_eqb}
 use Rattle.std.specs.Ordering.{bool_cmp, is_eq}
 use Rattle.std.specs.Cmp.{IsTotalOrder, then_total, on_total, nat_cmp_total, bool_cmp_total, tied_itself, Equal-is}
@@ -29,7 +29,7 @@ keys_exact a b h =
     (exact_pairs _ nat_cmp (exact_pairs nat_cmp bool_cmp exact_unsigned exact_bools) exact_unsigned ((a.0, a.1), a.2) ((b.0, b.1), b.2) h)
 
 module _ {K V : Type 0} (cmp : K → K → Ordering) where
-  -- at the key stands the new value
+  -- at the key is the new value
   pub put-here : IsTotalOrder cmp → (es : List (K × V)) (k : K) (v : V) → value_at cmp (insert_entry cmp es k v) k ≡ Some v
   put-here o [] k v = let tied : cmp k k ≡ Equal = tied_itself o k in rw tied refl
   put-here o (e ∷ es) k v = go (put-here o es k v) (cmp k e.0) refl
@@ -39,7 +39,7 @@ module _ {K V : Type 0} (cmp : K → K → Ordering) where
       go rest Equal is = rw (is, is) refl
       go rest Greater is = rw (is, is) rest
 
-  -- and at each other key what stood there
+  -- and at each other key what was there
   pub put-other : CmpEqualImpliesEq cmp → (es : List (K × V)) (k j : K) (v : V) → is_eq (cmp j k) ≡ false → value_at cmp (insert_entry cmp es k v) j ≡ value_at cmp es j
   put-other exact [] k j v off = rw off refl
   put-other exact (e ∷ es) k j v off = go (put-other exact es k j v off) (cmp k e.0) refl

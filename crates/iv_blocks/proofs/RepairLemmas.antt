@@ -8,7 +8,7 @@ use Rattle.iv_cover.specs.TrackBlocks.{start_of, stop_of}
 use Rattle.iv_cover.proofs.Tests.{Mem, mem-filter, filter-weaker}
 use Rattle.iv_cover.proofs.Groups.{HasOneMore}
 use Rattle.iv_cover.proofs.Cover.{Lasting, lasting-fewer, IsBlock, IsRun, Free, run-alone, run-first, run-all, covered-more, block_unique, block_at_start, block-test, block-stop, block_at-some, block_at-none, no_start-test, none_within, stops_within, same_outside, removed_within, starts_in, starts_in-true, starts_in-from, home, home-starts, home-le, home-last, home-in, stops, free-past_last, free-none}
-use Rattle.iv_summary.specs.declared.column.Summary.{Summary}
+use Rattle.iv_summary.specs.declared.column.ColumnSummary.{ColumnSummary}
 use Rattle.iv_blocks.specs.KeptBlocks.{Kept, kept_block, within_block}
 use Rattle.iv_blocks.specs.Lookups.{IsLastBlock}
 use Rattle.iv_blocks.specs.Repairs.{JoinsOne, JoinsNone, JoinsBefore, JoinsAfter, count_from}
@@ -18,7 +18,7 @@ or-none : {A : Type 0} (o : Option A) → option_or o None ≡ o
 or-none None = refl
 or-none (Some a) = refl
 
-module _ (d : ℕ) (name : List ℕ) (summaries : List Summary) where
+module _ (d : ℕ) (name : List ℕ) (summaries : List ColumnSummary) where
   -- what is to be kept of the block of the records that starts at x, if there is one
   abbrev pub shown : List Row → ℕ → Option Kept
   shown G x = option_map (kept_block name summaries) (block_at start_of stop_of d G x)

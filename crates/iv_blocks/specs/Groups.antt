@@ -3,7 +3,7 @@ use Rattle.std.specs.Prelude.{ℕ, ◌+◌, ◌-◌, ◌++◌, length, replicate
 use Rattle.iv_text.specs.Row.{Row}
 use Rattle.iv_text.specs.declared.strand.Strand.{Strand}
 use Rattle.iv_summary.specs.declared.column.Column.TheVariants.{Sequence}
-use Rattle.iv_summary.specs.declared.column.Summary.{Summary}
+use Rattle.iv_summary.specs.declared.column.ColumnSummary.{ColumnSummary}
 use Rattle.iv_blocks.specs.declared.group.Group.{Group}
 use Rattle.iv_summary.specs.declared.op.Op.TheVariants.{Count}
 use Rattle.iv_blocks.specs.declared.options.Options.{Options}
@@ -51,19 +51,19 @@ abbrev pub sides : Bool → List Bool
 sides stranded = if stranded then false ∷ true ∷ [] else false ∷ []
 
 -- the summaries that are asked, in order
-abbrev pub listed : Summaries → List Summary
+abbrev pub listed : Summaries → List ColumnSummary
 listed s = take s.count s.summaries
 
 -- a place that holds no summary
-abbrev pub unused : Summary
+abbrev pub unused : ColumnSummary
 unused = record { column = Sequence; op = Count }
 
 -- the summaries of a list of at most 16
-abbrev pub filled : List Summary → Summaries
+abbrev pub filled : List ColumnSummary → Summaries
 filled summaries = record { summaries = summaries ++ replicate (16 - length summaries) unused; count = length summaries }
 
 -- one more summary at the end
-abbrev pub pushed : Summaries → Summary → Summaries
+abbrev pub pushed : Summaries → ColumnSummary → Summaries
 pushed s summary = record { summaries = slice_set s.summaries s.count summary; count = s.count + 1 }
 
 -- records of both strands are joined at this distance, and nothing is asked of a block

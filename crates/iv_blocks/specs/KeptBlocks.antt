@@ -8,7 +8,7 @@ use Rattle.iv_track.specs.Entries.{IsLedger, value_at}
 use Rattle.iv_cover.specs.Blocks.{last_passing, is_block_start, block_stop, block_at}
 use Rattle.iv_cover.specs.TrackBlocks.{start_of, stop_of}
 use Rattle.iv_summary.specs.Columns.{results_over}
-use Rattle.iv_summary.specs.declared.column.Summary.{Summary}
+use Rattle.iv_summary.specs.declared.column.ColumnSummary.{ColumnSummary}
 use Rattle.iv_blocks.specs.Groups.{is_on_side, group, listed}
 use Rattle.iv_blocks.specs.declared.options.Options.{Options}
 
@@ -39,7 +39,7 @@ abbrev pub name_of : List (List ℕ) → ℕ → List ℕ
 name_of names rank = unwrap_or (slice_get names rank) []
 
 -- a block that stops at b.0 and has the records b.1, as it is kept
-abbrev pub kept_block : List ℕ → List Summary → ℕ × List Row → Kept
+abbrev pub kept_block : List ℕ → List ColumnSummary → ℕ × List Row → Kept
 kept_block name summaries b = record { stop = b.0; results = results_over name summaries b.1 }
 
 -- the block of a group that starts at a position, if there is one
@@ -50,7 +50,7 @@ block_of o rows k = block_at start_of stop_of o.distance (group o.stranded k.0 k
 abbrev pub kept_at : Options → List (List ℕ) → List Row → Key → Option Kept
 kept_at o names rows k = option_map (kept_block (name_of names k.0) (listed o.summaries)) (block_of o rows k)
 
--- the entries are the blocks of the records: at each key stands the block that starts there, if there is one
+-- the entries are the blocks of the records: at each key is the block that starts there, if there is one
 pub record AreBlocksOf (o : Options) (names : List (List ℕ)) (rows : List Row) (entries : Entries) : Type 0 where
   pub ordered : IsLedger key_cmp entries
   pub blocks : (k : Key) → value_at key_cmp entries k ≡ kept_at o names rows k

@@ -1,11 +1,11 @@
 pub mod Groups
 pub mod Plain
-pub mod Coming
+pub mod MembersLeft
 pub mod KeptBlocks
 pub mod Putting
 pub mod Lookups
 pub mod Repairs
-pub mod Ahead
+pub mod BlockCursor
 pub mod MergeRows
 pub mod ClusterRows
 pub mod ComplementRows

@@ -6,13 +6,13 @@ use Rattle.iv_text.specs.Row.{Row}
 use Rattle.iv_cover.specs.Blocks.{blocks_below}
 use Rattle.iv_cover.specs.TrackBlocks.{start_of, stop_of}
 use Rattle.iv_summary.specs.Columns.{results_over}
-use Rattle.iv_summary.specs.declared.column.Summary.{Summary}
+use Rattle.iv_summary.specs.declared.column.ColumnSummary.{ColumnSummary}
 use Rattle.iv_blocks.specs.Groups.{group, sides, listed}
 use Rattle.iv_blocks.specs.declared.options.Options.{Options}
 
 -- the row of a block that starts at b.0, stops at b.1.0 and has the records b.1.1: the sequence's name, start and stop between
 -- tabs, the results, and a line feed
-abbrev pub block_row : List ℕ → List Summary → ℕ × (ℕ × List Row) → List ℕ
+abbrev pub block_row : List ℕ → List ColumnSummary → ℕ × (ℕ × List Row) → List ℕ
 block_row name summaries b =
     name ++ codes "\t" ++ decimal b.0 ++ codes "\t" ++ decimal b.1.0 ++ results_over name summaries b.1.1 ++ codes "\n"
 

@@ -5,15 +5,16 @@ ghost use Rattle.iv_bytes.specs.Sinks.{Puts};
 ghost use Rattle.iv_text.specs.Named.{names_of};
 ghost use Rattle.iv_text.specs.Read.{Fits};
 ghost use Rattle.iv_track.specs.Steps.{TakesUpTo};
-ghost use Rattle.iv_blocks.specs.Ahead.{starts_until, drop_while, TakesForEach};
+ghost use Rattle.iv_blocks.specs.BlockCursor.{starts_until, drop_while, TakesForEach};
 ghost use Rattle.iv_blocks.specs.ClusterRows.{cluster_text};
 ghost use Rattle.iv_blocks.specs.Groups.{joined};
 ghost use Rattle.iv_blocks.specs.KeptBlocks.{AreBlocksOf};
 ghost use Rattle.iv_blocks.specs.MergeRows.{all_blocks};
 
-use crate::ahead::Ahead;
+use crate::block_cursor::BlockCursor;
 use crate::blocks::Blocks;
-use iv_text::{Genome, Sink, WriteFault, put_numbered};
+use iv_bytes::{Sink, WriteFault};
+use iv_text::{Genome, put_numbered};
 use iv_track::{Meter, Track};
 use std::alloc::Allocator;
 
@@ -41,7 +42,7 @@ impl<A: Allocator + Copy> Blocks<A> {
     {
         // So few blocks are kept that 64 bits number them.
         let _few = self.ledger.len();
-        let mut ahead = Ahead::of(self, meter);
+        let mut ahead = BlockCursor::of(self, meter);
         let mut number: u64 = 0;
         let mut rows = track.walk(0, 0, meter);
         while let Some(row) = rows.next(meter) {
@@ -54,7 +55,7 @@ impl<A: Allocator + Copy> Blocks<A> {
 
 /// Goes past the blocks that start at this position of the sequence of this rank, or before it, and counts them.
 fn count_until<A: Allocator + Copy>(
-    ahead: &mut Ahead<'_, A>,
+    ahead: &mut BlockCursor<'_, A>,
     rank: u32,
     position: u64,
     meter: &mut Meter,

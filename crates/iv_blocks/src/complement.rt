@@ -5,16 +5,17 @@ ghost use Rattle.iv_bytes.specs.Sinks.{Puts};
 ghost use Rattle.iv_text.specs.Named.{names_of};
 ghost use Rattle.iv_text.specs.Read.{Fits};
 ghost use Rattle.iv_track.specs.Steps.{TakesUpTo};
-ghost use Rattle.iv_blocks.specs.Ahead.{gaps_between, starts_until, drop_while, TakesForEach};
+ghost use Rattle.iv_blocks.specs.BlockCursor.{gaps_between, starts_until, drop_while, TakesForEach};
 ghost use Rattle.iv_blocks.specs.KeptBlocks.{AreBlocksOf};
 ghost use Rattle.iv_blocks.specs.ComplementRows.{gap_row, complement_text};
 ghost use Rattle.iv_blocks.specs.Groups.{joined};
 ghost use Rattle.iv_blocks.specs.MergeRows.{all_blocks};
 
-use crate::ahead::Ahead;
+use crate::block_cursor::BlockCursor;
 use crate::blocks::Blocks;
 use crate::rows::put_gap;
-use iv_text::{Genome, Sink, WriteFault};
+use iv_bytes::{Sink, WriteFault};
+use iv_text::Genome;
 use iv_track::{Meter, Track};
 use std::alloc::Allocator;
 
@@ -41,7 +42,7 @@ impl<A: Allocator + Copy> Blocks<A> {
         ensures text { Puts (S.state sink.old) (S.state sink.new) result (complement_text limited genome.now track.now.rows) }
         ensures steps { TakesUpTo meter.old meter.new (2 + length (all_blocks self.now.options genome.now track.now.rows)) }
     {
-        let mut ahead = Ahead::of(self, meter);
+        let mut ahead = BlockCursor::of(self, meter);
         for rank in 0..genome.count() {
             let name = genome.name(rank).unwrap_or(b"");
             let length = genome.length(rank).unwrap_or(0);
@@ -57,7 +58,7 @@ fn put_sequence<A: Allocator + Copy, S: Sink>(
     name: &[u8],
     rank: u32,
     length: u64,
-    ahead: &mut Ahead<'_, A>,
+    ahead: &mut BlockCursor<'_, A>,
     meter: &mut Meter,
     sink: &mut S,
 ) -> Result<(), WriteFault>

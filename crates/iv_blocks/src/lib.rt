@@ -1,7 +1,7 @@
 //! Blocks of records, kept under edits, and their prints: merge, cluster and complement.
 #![tactic(auto)]
 
-mod ahead;
+mod block_cursor;
 mod blocks;
 mod building;
 mod cluster;

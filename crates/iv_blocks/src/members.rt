@@ -3,7 +3,7 @@ ghost use Rattle.std.specs.Prelude.{◌≡◌, length};
 ghost use Rattle.std.specs.Iterator.{YieldsFirstRef};
 ghost use Rattle.iv_text.specs.Ordered.{AreInOrder};
 ghost use Rattle.iv_track.specs.Steps.{TakesUpTo};
-ghost use Rattle.iv_blocks.specs.Coming.{TakesForEach, end_step};
+ghost use Rattle.iv_blocks.specs.MembersLeft.{TakesForEach, end_step};
 ghost use Rattle.iv_blocks.specs.Groups.{between_on, members_between};
 
 use crate::group::Group;
@@ -24,10 +24,10 @@ pub(crate) struct Members<'a, A: Allocator + Copy> {
 
 impl<'a, A: Allocator + Copy> Model for Members<'a, A> {
     ghost use Rattle.std.specs.Prelude.{length};
-    ghost use Rattle.iv_blocks.specs.Coming.{Coming, IsAhead};
+    ghost use Rattle.iv_blocks.specs.MembersLeft.{MembersLeft, IsAhead};
     ghost use Rattle.iv_blocks.specs.Groups.{between_on, members_between};
 
-    ghost Value = { Coming };
+    ghost Value = { MembersLeft };
 
     ghost view = { λ m. record { members = members_between m.group 0 m.to m.rows; records = length (between_on m.group.rank 0 m.to m.rows) } };
 

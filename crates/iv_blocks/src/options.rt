@@ -2,13 +2,13 @@
 ghost use Rattle.std.specs.Prelude.{◌≡◌, [], nat_lt, IsTrue, IsFalse};
 ghost use Rattle.iv_blocks.specs.Groups.{listed, filled, pushed, joined as only_joined};
 
-use iv_summary::{Column, Op, Summary};
+use iv_summary::{Column, ColumnSummary, Op};
 
 /// The summaries that are asked of each block, at most 16, in the order of their columns of output.
 #[derive(Clone, Copy, Debug, PartialEq, Eq, Drop)]
 pub struct Summaries {
     // Those from `count` on mean nothing.
-    summaries: [Summary; 16],
+    summaries: [ColumnSummary; 16],
     count: u8,
 }
 
@@ -17,7 +17,7 @@ impl Summaries {
     pub fn none() -> Summaries
         ensures { result ≡ filled [] }
     {
-        let unused = Summary {
+        let unused = ColumnSummary {
             column: Column::Sequence,
             op: Op::Count,
         };
@@ -28,7 +28,7 @@ impl Summaries {
     }
 
     /// One more summary at the end. Whether there was room for it; else nothing is changed.
-    pub fn push(&mut self, summary: Summary) -> bool
+    pub fn push(&mut self, summary: ColumnSummary) -> bool
         ensures room { result ≡ nat_lt self.old.count 16 }
         ensures pushed { IsTrue result → self.new ≡ pushed self.old summary }
         ensures full { IsFalse result → self.new ≡ self.old }
@@ -42,7 +42,7 @@ impl Summaries {
     }
 
     /// The summaries, in order.
-    pub fn as_slice(&self) -> &[Summary]
+    pub fn as_slice(&self) -> &[ColumnSummary]
         ensures { result.now ≡ listed self.now }
     {
         &self.summaries[..usize::from(self.count).min(16)]

@@ -10,7 +10,7 @@ ghost use Rattle.iv_blocks.specs.Plain.{GivesKept};
 
 use crate::blocks::{Blocks, KeptBlock, Key};
 use crate::options::Options;
-use iv_cover::Blocks as Sweep;
+use iv_cover::BlockWalk;
 use iv_text::Genome;
 use iv_track::{Ledger, Meter, Track};
 use std::alloc::{AllocError, Allocator};
@@ -21,12 +21,12 @@ use std::marker::Model;
 /// Its model is the list of the blocks that are left, each with its records.
 #[derive(Drop)]
 pub(crate) struct PlainBlocks<'a, 'm, A: Allocator + Copy> {
-    sweep: Sweep<'a, A>,
+    sweep: BlockWalk<'a, A>,
     meter: &'m mut Meter,
 }
 
 impl<'a, 'm, A: Allocator + Copy> PlainBlocks<'a, 'm, A> {
-    pub(crate) fn of(sweep: Sweep<'a, A>, meter: &'m mut Meter) -> Self
+    pub(crate) fn of(sweep: BlockWalk<'a, A>, meter: &'m mut Meter) -> Self
         ensures { result ≡ sweep.entry }
     {
         PlainBlocks { sweep, meter }
@@ -79,7 +79,7 @@ impl<A: Allocator + Copy> Blocks<A> {
         ensures right { IfOk result (λ b. AreBlocksOf options (names_of genome.now) track.now.rows b.entries) }
         ensures options { IfOk result (λ b. b.options ≡ options) }
     {
-        let sweep = Sweep::of(track.walk(0, 0, meter), options.distance);
+        let sweep = BlockWalk::of(track.walk(0, 0, meter), options.distance);
         Ok(Blocks {
             options,
             alloc,

@@ -2,10 +2,11 @@
 ghost use Rattle.std.specs.Prelude.{◌++◌, codes, decimal};
 ghost use Rattle.std.specs.List.{flat_map};
 ghost use Rattle.iv_bytes.specs.Sinks.{Puts};
-ghost use Rattle.iv_blocks.specs.Ahead.{gap_between};
+ghost use Rattle.iv_blocks.specs.BlockCursor.{gap_between};
 ghost use Rattle.iv_blocks.specs.ComplementRows.{gap_row};
 
-use iv_text::{RowTail, Sink, WriteFault};
+use iv_bytes::{Sink, WriteFault};
+use iv_text::RowBuffer;
 
 /// Puts the row of an interval, 0-based and half-open: the name of its sequence, start and stop.
 ///
@@ -18,13 +19,13 @@ pub fn put_interval<S: Sink>(
 ) -> Result<(), WriteFault>
     ensures { Puts (S.state sink.old) (S.state sink.new) result (name.now ++ codes "\t" ++ decimal start ++ codes "\t" ++ decimal stop ++ codes "\n") }
 {
-    let mut tail = RowTail::new();
+    let mut tail = RowBuffer::new();
     tail.lay_byte(b'\n');
-    tail.lay_number(stop);
+    tail.prepend_number(stop);
     tail.lay_byte(b'\t');
-    tail.lay_number(start);
+    tail.prepend_number(start);
     tail.lay_byte(b'\t');
-    tail.put_behind(name, sink)
+    tail.put_after(name, sink)
 }
 
 /// Puts the row of a gap, as [`put_interval`] does, if it has a position.

@@ -55,7 +55,7 @@ range_is xs a b low =
     let all : drop a (take (a + (b - a)) xs) ≡ take (b - a) (drop a xs) = drop-take a (b - a) xs in
     sym all ∙ ap (λ (n : ℕ). drop a (take n xs)) (sym long)
 
--- what is held after more bytes were written behind the last
+-- what is held after more bytes were written after the last
 pub held_added : (chunk copied : List ℕ) (start end n : ℕ) → start ≤ end → end + n ≤ length chunk → length copied ≡ n
     → slice_range (put_mid end ((end + n) - end) chunk copied) start (end + n) ≡ slice_range chunk start end ++ copied
 held_added chunk copied start end n low fits long =

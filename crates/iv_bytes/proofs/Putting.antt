@@ -102,7 +102,7 @@ flat_map-drop f xs i d low = rw (drop-cons xs i d low, add-one) refl
 
 -- ---- pieces laid one after another in an array
 
--- the piece was copied behind what is laid
+-- the piece was copied after what is laid
 pub laid-more : {X : Type 0} (f : X → List ℕ) (xs : List X) (i : ℕ) (d : X) (row copied : List ℕ) (at : ℕ) (whole : List ℕ)
     → take at row ++ flat_map f (drop i xs) ≡ whole → i < length xs → at ≤ length row → copied ≡ f (get_or xs i d)
     → take (at + length (f (get_or xs i d))) (put_mid at ((at + length (f (get_or xs i d))) - at) row copied) ++ flat_map f (drop (i + 1) xs) ≡ whole

@@ -11,7 +11,7 @@ pub const CHUNK: usize = 8192;
 
 /// Bytes that came in and did not go out yet, in their order: at most 8 KiB, in an array on the stack.
 ///
-/// Behind a source it holds what was pulled and not yet read; above a sink, what was put and not yet handed on.
+/// After a source it holds what was pulled and not yet read; above a sink, what was put and not yet handed on.
 #[derive(Drop)]
 pub struct ByteQueue {
     chunk: [u8; 8192],

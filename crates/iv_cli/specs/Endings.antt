@@ -10,14 +10,14 @@ use Rattle.iv_session.specs.declared.script.RunCause.{RunCause}
 use Rattle.iv_session.specs.declared.script.RunCause.TheVariants as cause
 use Rattle.iv_cli.specs.declared.ending.Ending.{Ending}
 use Rattle.iv_cli.specs.declared.ending.Ending.TheVariants as ending
-use Rattle.iv_files.specs.declared.fault.CliFault.{CliFault}
-use Rattle.iv_files.specs.declared.fault.CliFault.TheVariants as fault
-use Rattle.iv_files.specs.declared.fault.FileFault.{FileFault}
-use Rattle.iv_files.specs.declared.fault.FileFault.TheVariants as file
-use Rattle.iv_plan.specs.declared.fault.PlanFault.{PlanFault}
-use Rattle.iv_plan.specs.declared.fault.PlanFault.TheVariants as planning
-use Rattle.iv_plan.specs.declared.plan.Slot.{Slot}
-use Rattle.iv_plan.specs.Words.{RunPlan, file_of}
+use Rattle.iv_run.specs.declared.fault.CliFault.{CliFault}
+use Rattle.iv_run.specs.declared.fault.CliFault.TheVariants as fault
+use Rattle.iv_run.specs.declared.fault.FileFault.{FileFault}
+use Rattle.iv_run.specs.declared.fault.FileFault.TheVariants as file
+use Rattle.iv_args.specs.declared.fault.PlanFault.{PlanFault}
+use Rattle.iv_args.specs.declared.fault.PlanFault.TheVariants as planning
+use Rattle.iv_args.specs.declared.plan.Slot.{Slot}
+use Rattle.iv_args.specs.Words.{RunPlan, file_of}
 
 -- the exit status of an ending
 abbrev pub status_of : Ending → ℕ
@@ -85,7 +85,7 @@ is_through ending.Memory = false
 abbrev pub ending_after : Bool → Ending → Ending
 ending_after flushed before = if is_through before then (if flushed then before else ending.Output) else before
 
--- the text of a fault of words; a number that the table of faults lacks is told as bad options
+-- the text of a fault of words; a number that the table of faults lacks is reported as bad options
 abbrev pub words_text : ℕ → List ℕ
 words_text code = if nat_le 1 code && nat_le code 24 then fault_text code else fault_text 16
 

@@ -4,9 +4,9 @@ ghost use Rattle.iv_bytes.specs.Sinks.{Puts};
 ghost use Rattle.iv_cli.specs.Endings.{status_of, ending_of, ending_of_run, ending_after, words_text as text_of_words, name_meant, said, said_of, said_of_line, line_of};
 
 use itoa::Buffer;
+use iv_args::{Plan, PlanFault, Slot};
 use iv_bytes::{Sink, WriteFault, put_pieces};
-use iv_files::{CliFault, FileFault};
-use iv_plan::{Plan, PlanFault, Slot};
+use iv_run::{CliFault, FileFault};
 use iv_session::{RunCause, RunFault, Summary};
 use iv_text::{LoadFault, fault_text, load_text};
 use std::alloc::{AllocError, Allocator};
@@ -137,7 +137,7 @@ impl Ending {
         }
     }
 
-    /// The ending, once standard output was flushed, or could not be. A fault before that stays the one that is told.
+    /// The ending, once standard output was flushed, or could not be. A fault before that stays the one that is reported.
     pub fn after_flush(self, flushed: bool) -> Ending
         ensures { result ≡ ending_after flushed self }
     {
@@ -148,7 +148,7 @@ impl Ending {
     }
 
     /// The exit status: 0 where all was done and 1 where lines of the script were refused; 2 for wrong words, 3 for a
-    /// damaged file, 4 for a file, an input or an output that fails or is too long, 5 for want of memory.
+    /// damaged file, 4 for a file, an input or an output that fails or is too long, 5 for out of memory.
     pub fn status(self) -> u8
         ensures { result ≡ status_of self }
     {

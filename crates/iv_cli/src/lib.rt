@@ -5,5 +5,5 @@
 mod ending;
 
 pub use ending::{Ending, run_status, status};
-pub use iv_files::{CliFault, FileFault, Inputs, ParsedFiles, load, read_all, shot};
-pub use iv_plan::{Notice, Plan, PlanFault, Run, Slot};
+pub use iv_args::{Notice, Plan, PlanFault, Run, Slot};
+pub use iv_run::{CliFault, FileFault, Inputs, ParsedFiles, load, read_all, shot};

@@ -26,7 +26,7 @@ tiles-end : (f : ℕ → ℕ) (from to : ℕ) (xs : List Run) → Tiles f from t
 tiles-end f from to [] t = omega (arith, t)
 tiles-end f from to (x ∷ xs) t = omega (arith, t.0, t.1, tiles-end f x.stop to xs t.4)
 
--- a run has a position, and lies within what is tiled
+-- a run has a position, and is within what is tiled
 pub tiles-bounds : (f : ℕ → ℕ) (from to : ℕ) (xs : List Run) (run : Run) → Tiles f from to xs → Mem run xs
     → (from ≤ run.start) × (run.start < run.stop) × (run.stop ≤ to)
 tiles-bounds f from to [] run t m = absurd m

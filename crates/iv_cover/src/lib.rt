@@ -2,12 +2,12 @@
 #![tactic(auto)]
 
 mod block;
-mod blocks;
+mod block_walk;
 mod kept;
 mod laws;
 
 pub use block::Block;
-pub use blocks::Blocks;
+pub use block_walk::BlockWalk;
 pub use kept::Kept;
 pub use laws::{
     blocks_start_after_gaps, blocks_stop_with_their_last_record, gaps_part_blocks,

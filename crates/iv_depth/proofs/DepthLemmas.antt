@@ -57,7 +57,7 @@ AreChangesOf-placed rows r entries h = AreChangesOf-same (r ∷ rows) (added row
 pub AreChangesOf-in_front : (rows : List Row) (r : Row) (entries : Entries) → AreChangesOf (added rows r) entries → AreChangesOf (r ∷ rows) entries
 AreChangesOf-in_front rows r entries h = AreChangesOf-same (added rows r) (r ∷ rows) entries (λ rank p. sym (depth-with rows r rank p)) h
 
--- or behind
+-- or after
 pub AreChangesOf-behind : (rows : List Row) (r : Row) (entries : Entries) → AreChangesOf (r ∷ rows) entries → AreChangesOf (rows ++ r ∷ []) entries
 AreChangesOf-behind rows r entries h = AreChangesOf-same (r ∷ rows) (rows ++ r ∷ []) entries (λ rank p.
     let back : depth (rows ++ r ∷ []) rank p ≡ depth rows rank p + depth (r ∷ []) rank p = sum_by-append (λ x. cond (covers rank p x) 1 0) rows (r ∷ []) in

@@ -22,7 +22,7 @@ abbrev pub GivesOn : ℕ → Entries → Option (ℕ × ℤ) → Entries → Typ
 GivesOn rank old (Some c) new = old ≡ ((rank, c.0), c.1) ∷ new
 GivesOn rank old None new = (new ≡ old) × BeginsElsewhere rank old
 
--- between the two readings of a meter lies at most one step for each entry that is not left
+-- between the two readings of a meter is at most one step for each entry that is not left
 pub record TakesForEach (before after : ℕ) (all left : Entries) : Type 0 where
   pub no_less : before ≤ after
   pub at_most : after + length left ≤ before + length all

@@ -1,8 +1,8 @@
 //! How many records cover each position: rows of depth, and the changes of depth that are kept for them.
 #![tactic(auto)]
 
+mod change_cursor;
 mod changing;
-mod coming;
 mod depth;
 mod depth_rows;
 mod laws;

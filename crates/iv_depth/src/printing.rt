@@ -7,16 +7,17 @@ ghost use Rattle.iv_depth.specs.DepthRows.{run_row, position_row, rows_between, 
 ghost use Rattle.iv_depth.specs.Walks.{AreFrom, AreOnGenome, IsPast, TakesForEach, depth_by};
 ghost use Rattle.iv_track.specs.Steps.{TakesUpTo};
 
+use crate::change_cursor::ChangeCursor;
 use crate::changing::Changes;
-use crate::coming::Coming;
 use crate::depth_rows::DepthRows;
-use iv_text::{Genome, RowTail, Sink, WriteFault};
+use iv_bytes::{Sink, WriteFault};
+use iv_text::{Genome, RowBuffer};
 use iv_track::Meter;
 use std::alloc::Allocator;
 
 /// Puts the rows of the positions from `start` to `stop`, 0-based and half-open, which are all of this depth.
 ///
-/// There are none where `stop` is not behind `start`.
+/// There are none where `stop` is not after `start`.
 ///
 /// # Errors
 ///
@@ -57,15 +58,15 @@ fn put_run<S: Sink>(
 ) -> Result<(), WriteFault>
     ensures { Puts (S.state sink.old) (S.state sink.new) result (run_row name.now (record { start = start; stop = stop; value = depth })) }
 {
-    let mut tail = RowTail::new();
+    let mut tail = RowBuffer::new();
     tail.lay_byte(b'\n');
-    tail.lay_number(depth);
+    tail.prepend_number(depth);
     tail.lay_byte(b'\t');
-    tail.lay_number(stop);
+    tail.prepend_number(stop);
     tail.lay_byte(b'\t');
-    tail.lay_number(start);
+    tail.prepend_number(start);
     tail.lay_byte(b'\t');
-    tail.put_behind(name, sink)
+    tail.put_after(name, sink)
 }
 
 /// Puts a row for each of the positions, which are all of this depth.
@@ -93,13 +94,13 @@ fn put_position<S: Sink>(
 ) -> Result<(), WriteFault>
     ensures { Puts (S.state sink.old) (S.state sink.new) result (name.now ++ codes "\t" ++ decimal number ++ codes "\t" ++ decimal depth ++ codes "\n") }
 {
-    let mut tail = RowTail::new();
+    let mut tail = RowBuffer::new();
     tail.lay_byte(b'\n');
-    tail.lay_number(depth);
+    tail.prepend_number(depth);
     tail.lay_byte(b'\t');
-    tail.lay_number(number);
+    tail.prepend_number(number);
     tail.lay_byte(b'\t');
-    tail.put_behind(name, sink)
+    tail.put_after(name, sink)
 }
 
 /// Puts the rows of one sequence, and goes past its changes. At most one step for each of them.
@@ -108,7 +109,7 @@ fn put_sequence<S: Sink>(
     name: &[u8],
     rank: u32,
     length: u64,
-    coming: &mut Coming<'_>,
+    coming: &mut ChangeCursor<'_>,
     meter: &mut Meter,
     sink: &mut S,
 ) -> Result<(), WriteFault>
@@ -140,7 +141,7 @@ pub(crate) fn put_genome<A: Allocator + Copy, S: Sink>(
     ensures text { Puts (S.state sink.old) (S.state sink.new) result (text_by shown genome.now (depth_by changes.now)) }
     ensures steps { TakesUpTo meter.old meter.new (2 + length changes.now) }
 {
-    let mut coming = Coming::of(changes, meter);
+    let mut coming = ChangeCursor::of(changes, meter);
     for rank in 0..genome.count() {
         let name = genome.name(rank).unwrap_or(b"");
         let length = genome.length(rank).unwrap_or(0);

@@ -12,6 +12,6 @@ table-is : table ≡ map complement (range_with_len 0 256)
 unfolding table
 table-is = refl
 
--- at each byte stands its complement
+-- at each byte is its complement
 pub table-at : (b : ℕ) → b < 256 → get_or table b 0 ≡ complement b
 table-at b small = ap (λ (l : List ℕ). get_or l b 0) table-is ∙ get_or-map-range_with_len complement 0 256 b b 0 small (omega arith)

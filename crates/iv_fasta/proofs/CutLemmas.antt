@@ -1,4 +1,4 @@
--- The sequences that headers and the bases behind them say.
+-- The sequences that headers and the bases after them say.
 use Rattle.std.proofs.Common.{◌≡◌, ℕ, zero, suc, ◌+◌, ◌-◌, ◌<◌, ◌≤◌, List, [], ◌∷◌, ◌++◌, Option, None, Some, length, take, drop, slice_get, refl, sym, ◌∙◌, ap, arith, length-drop, add-one, false, true, position, get_or, Bool, is_some, true≢false}
 use Rattle.std.proofs.lemmas.List.{take-append-le, drop-append-le, take_rest}
 use Rattle.std.proofs.lemmas.List.Edits.{between_none}
@@ -92,7 +92,7 @@ cut-past [] bases i at = refl
 cut-past (x ∷ hs) bases zero at = cc
 cut-past (x ∷ hs) bases (suc i) at = cut-past hs bases i at
 
--- and where it lies
+-- and where it is
 order-at : (low : ℕ) (hs : Headed) (total i : ℕ) (h : List ℕ × Header) → StartInOrder low hs total → slice_get hs i ≡ Some h
     → (h.1.start ≤ end_at (slice_get hs (suc i)) total) × (end_at (slice_get hs (suc i)) total ≤ total)
 order-at low [] total i h order at = cc
@@ -123,7 +123,7 @@ first-there test (x ∷ es) zero e at is before =
 first-there test (x ∷ es) (suc i) e at is before =
     cond-false _ _ _ (before zero (omega arith)) ∙ first-there test es i e at is (λ k below. before (suc k) (omega arith))
 
--- under a name stands what stands at its place
+-- under a name is what is at its place
 pub lookup-at : {V : Type 0} (es : List (List ℕ × V)) (name : List ℕ) (i : ℕ) (e : List ℕ × V) → place_of es name ≡ Some i → slice_get es i ≡ Some e → lookup (bytes_eq name) es ≡ Some e.1
 lookup-at {V} es name i e there at =
     let found = position-Some (bytes_eq name) (names_of es) i [] there in

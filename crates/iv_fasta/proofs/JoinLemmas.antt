@@ -1,4 +1,4 @@
--- The lines of bases behind a header are joined.
+-- The lines of bases after a header are joined.
 use Rattle.std.proofs.Common.{◌≡◌, ◌≢◌, ℕ, ◌+◌, ◌++◌, ◌==◌, false, List, [], ◌∷◌, Result, Ok, Err, length, append_assoc, append-nil, refl, sym, ◌∙◌, ap, arith, is_some, true≢false}
 use Rattle.std.specs.Prelude.{All}
 use Rattle.std.specs.List.{concat}
@@ -24,7 +24,7 @@ some-pushed found s =
 some-cons : (b : ℕ) (line : List ℕ) → (length (b ∷ line) == 0) ≡ false
 some-cons b line = let some : length (b ∷ line) ≢ 0 = omega arith in ne_eqb (length (b ∷ line)) 0 some
 
--- a line of bases is put behind the last sequence's
+-- a line of bases is put after the last sequence's
 line-joined : (n m : ℕ) (found : Found) (name bases line : List ℕ) → IsBaseLine line
     → after_fasta_line n (found ++ (name, record { line = m; bases = bases }) ∷ []) line ≡ Ok (found ++ (name, record { line = m; bases = bases ++ line }) ∷ [])
 unfolding after_fasta_line

@@ -14,15 +14,15 @@ use Rattle.iv_text.specs.declared.fault.LoadCause.TheVariants as cause
 use Rattle.iv_text.specs.declared.fault.LoadFault.{LoadFault}
 use Rattle.iv_fasta.specs.Fasta.{Stretch, Found, Bases, differs, has_wrong_length, by_rank, with_lengths, bases_of, HasLengthsOf}
 use Rattle.iv_fasta.specs.Places.{bases_at}
-use Rattle.iv_fasta.specs.declared.place.Place.{Place}
+use Rattle.iv_fasta.specs.declared.base_range.BaseRange.{BaseRange}
 
 differs-named : (g : Sequences) (name : List ℕ) (count r n : ℕ) → Some r ≡ rank_of g name → length_at g r ≡ Some n → not (count == n) ≡ differs g name count
 differs-named g name count r n named long =
     let is : length_of g name ≡ n = ap (λ o. unwrap_or (length_at g (unwrap_or o 0)) 0) (sym named) ∙ ap (λ o. unwrap_or o 0) long in
     ap (λ (k : ℕ). not (count == k)) (sym is) ∙ ap (λ (o : Option ℕ). is_some o && not (count == length_of g name)) named
 
--- a sequence whose bases lie at a place is as long as the place
-place-long : (g : Sequences) (name bases : List ℕ) (line : ℕ) (place : Place) → place.stop ≤ length bases
+-- a sequence whose bases are at a place is as long as the place
+place-long : (g : Sequences) (name bases : List ℕ) (line : ℕ) (place : BaseRange) → place.stop ≤ length bases
     → differs g name (place.stop - place.start) ≡ has_wrong_length g (name, record { line = line; bases = bases_at bases place })
 place-long g name bases line place within = ap (differs g name) (sym (length-between bases place.start place.stop within))
 
@@ -30,7 +30,7 @@ at-drop : {X : Type 0} (xs : List X) (i : ℕ) (x : X) → Some x ≡ slice_get 
 at-drop {X} xs i x at =
     drop_more xs i x (slice_get_within xs i x (sym at)) ∙ ap (λ (y : X). y ∷ drop (i + 1) xs) (get_or_from_slice_get xs i x x (sym at))
 
-pub lengths-wrong : (g : Sequences) (found : Found) (i : ℕ) (name bases : List ℕ) (line : ℕ) (place : Place) → place.stop ≤ length bases
+pub lengths-wrong : (g : Sequences) (found : Found) (i : ℕ) (name bases : List ℕ) (line : ℕ) (place : BaseRange) → place.stop ≤ length bases
     → find (has_wrong_length g) (drop i found) ≡ find (has_wrong_length g) found → Some (name, record { line = line; bases = bases_at bases place }) ≡ slice_get found i
     → differs g name (place.stop - place.start) ≡ true → with_lengths g found ≡ Err (record { line = line; cause = cause.WrongLength })
 lengths-wrong g found i name bases line place within rest at wrong =
@@ -38,7 +38,7 @@ lengths-wrong g found i name bases line place within rest at wrong =
     sym rest ∙ ap (find (has_wrong_length g)) (at-drop found i _ at) ∙ cond-true _ _ _ (sym (place-long g name bases line place within) ∙ wrong) in
     ap (λ (o : Option (List ℕ × Stretch)). elim o as (λ _. Result Bases LoadFault) [ None ↦ Ok (by_rank g found) | Some s ↦ Err (record { line = s.1.line; cause = cause.WrongLength }) ]) first
 
-pub lengths-next : (g : Sequences) (found : Found) (i : ℕ) (name bases : List ℕ) (line : ℕ) (place : Place) → place.stop ≤ length bases
+pub lengths-next : (g : Sequences) (found : Found) (i : ℕ) (name bases : List ℕ) (line : ℕ) (place : BaseRange) → place.stop ≤ length bases
     → find (has_wrong_length g) (drop i found) ≡ find (has_wrong_length g) found → Some (name, record { line = line; bases = bases_at bases place }) ≡ slice_get found i
     → differs g name (place.stop - place.start) ≡ false → find (has_wrong_length g) (drop (i + 1) found) ≡ find (has_wrong_length g) found
 lengths-next g found i name bases line place within rest at right =
@@ -57,7 +57,7 @@ lengths-end g found i past rest = sym rest ∙ ap (find (has_wrong_length g)) (d
 abbrev bases_under : Found → List ℕ → Option (List ℕ)
 bases_under found name = option_map (λ (f : Stretch). f.bases) (lookup (bytes_eq name) found)
 
--- what stands under a name has the right length
+-- what is under a name has the right length
 not-wrong : (g : Sequences) (found : Found) (name : List ℕ) (st : Stretch) → find (has_wrong_length g) found ≡ None → lookup (bytes_eq name) found ≡ Some st → differs g name (length st.bases) ≡ false
 not-wrong g [] name st right there = cc
 not-wrong g (s ∷ found) name st right there = by (has_wrong_length g s) refl right (bytes_eq name s.0) (bytes_eq-Decides name s.0).0 there (not-wrong g found name st)

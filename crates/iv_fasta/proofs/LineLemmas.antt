@@ -65,7 +65,7 @@ kept-bases g n d line some not = cond-false _ _ _ some ∙ cond-false _ _ _ (beg
 
 -- ---- lines, one after another
 
--- what is kept of the lines behind one of this number, or its fault
+-- what is kept of the lines after one of this number, or its fault
 abbrev lines-behind : Sequences → ℕ → List (List ℕ) → Result Draft LoadCause → Result Draft LoadFault
 lines-behind g n rest (Ok more) = after_kept_lines g (n + 1) more rest
 lines-behind g n rest (Err why) = Err (record { line = n; cause = why })

@@ -1,4 +1,4 @@
--- The bases of a genome's sequences that lie in one list, by rank.
+-- The bases of a genome's sequences that are in one list, by rank.
 use Rattle.std.proofs.Common.{◌≡◌, ℕ, ◌+◌, ◌-◌, ◌<◌, ◌≤◌, List, [], ◌∷◌, ◌++◌, Option, None, Some, length, take, drop, map, min, get_or, slice_get, subst, length-take, length-drop, refl, sym, ◌∙◌, ap, arith}
 use Rattle.std.specs.Prelude.{All}
 use Rattle.std.proofs.lemmas.List.{drop-take, drop-drop, take-take, take_more, length-map, map-append, same_lists, get_or-take, get_or-drop}
@@ -11,13 +11,13 @@ use Rattle.std.specs.Str.{bytes_eq}
 use Rattle.iv_text.specs.Genome.{Sequences}
 use Rattle.iv_fasta.specs.Fasta.{Stretch, Found, Bases, by_rank, bases_of}
 use Rattle.iv_fasta.specs.Places.{bases_at, placed, LiesWithin, IsPlacedWithin}
-use Rattle.iv_fasta.specs.declared.place.Place.{Place}
+use Rattle.iv_fasta.specs.declared.base_range.BaseRange.{BaseRange}
 
 abbrev bases_under : Found → List ℕ → Option (List ℕ)
 bases_under found name = option_map (λ (f : Stretch). f.bases) (lookup (bytes_eq name) found)
 
 -- one more place
-pub placed-more : (g : Sequences) (found : Found) (places more : List (Option Place)) (bases : List ℕ) (rank : ℕ) (place : Option Place) → rank < length g
+pub placed-more : (g : Sequences) (found : Found) (places more : List (Option BaseRange)) (bases : List ℕ) (rank : ℕ) (place : Option BaseRange) → rank < length g
     → placed places bases ≡ take rank (by_rank g found) → option_map (bases_at bases) place ≡ bases_of (by_rank g found) rank → more ≡ places ++ place ∷ []
     → placed more bases ≡ take (rank + 1) (by_rank g found)
 placed-more g found places more bases rank place within so_far is next =
@@ -27,25 +27,25 @@ placed-more g found places more bases rank place within so_far is next =
     ∙ ap (λ (o : Option (List ℕ)). take rank (by_rank g found) ++ o ∷ []) (is ∙ unwrap_or-slice_get (by_rank g found) rank None)
     ∙ sym (take_more (by_rank g found) rank None long)
 
-placed-at : (places : List (Option Place)) (bases : List ℕ) (seq : ℕ) (place : Place) → Some place ≡ unwrap_or (slice_get places seq) None
+placed-at : (places : List (Option BaseRange)) (bases : List ℕ) (seq : ℕ) (place : BaseRange) → Some place ≡ unwrap_or (slice_get places seq) None
     → bases_of (placed places bases) seq ≡ Some (bases_at bases place)
 placed-at places bases seq place at =
     ap (λ (o : Option (Option (List ℕ))). unwrap_or o None) (slice_get-map (option_map (bases_at bases)) places seq) ∙ by (slice_get places seq) at
   where
-    by : (o : Option (Option Place)) → Some place ≡ unwrap_or o None → unwrap_or (option_map (option_map (bases_at bases)) o) None ≡ Some (bases_at bases place)
+    by : (o : Option (Option BaseRange)) → Some place ≡ unwrap_or o None → unwrap_or (option_map (option_map (bases_at bases)) o) None ≡ Some (bases_at bases place)
     by None is = cc
     by (Some None) is = cc
-    by (Some (Some p)) is = let same : place ≡ p = cc in ap {B = Option (List ℕ)} (λ (q : Place). Some (bases_at bases q)) (sym same)
+    by (Some (Some p)) is = let same : place ≡ p = cc in ap {B = Option (List ℕ)} (λ (q : BaseRange). Some (bases_at bases q)) (sym same)
 
--- where each place lies among so many bases, so does one of them
-lies-at : (places : List (Option Place)) (total seq : ℕ) (place : Place) (o : Option (Option Place)) → All (IsPlacedWithin total) places → slice_get places seq ≡ o
+-- where each place is among so many bases, so is one of them
+lies-at : (places : List (Option BaseRange)) (total seq : ℕ) (place : BaseRange) (o : Option (Option BaseRange)) → All (IsPlacedWithin total) places → slice_get places seq ≡ o
     → Some place ≡ unwrap_or o None → LiesWithin total place
 lies-at places total seq place None all at is = cc
 lies-at places total seq place (Some None) all at is = cc
 lies-at places total seq place (Some (Some p)) all at is =
     let same : place ≡ p = cc in
-    subst (λ (q : Place). LiesWithin total q) (sym same)
-    (subst (λ (q : Option Place). IsPlacedWithin total q) (get_or_from_slice_get places seq (Some p) None at) (all seq None (slice_get_within places seq (Some p) at)))
+    subst (λ (q : BaseRange). LiesWithin total q) (sym same)
+    (subst (λ (q : Option BaseRange). IsPlacedWithin total q) (get_or_from_slice_get places seq (Some p) None at) (all seq None (slice_get_within places seq (Some p) at)))
 
 -- ---- a part of a sequence's bases
 
@@ -73,7 +73,7 @@ range-range bases from to start stop order within =
     ∙ ap (λ n. take n (drop (from + start) bases)) long
 
 -- the part of a sequence's bases that is asked for
-pub part-is : (fasta : Bases) (places : List (Option Place)) (bases shown : List ℕ) (seq start stop from to : ℕ) (place : Place) → placed places bases ≡ fasta → shown ≡ bases
+pub part-is : (fasta : Bases) (places : List (Option BaseRange)) (bases shown : List ℕ) (seq start stop from to : ℕ) (place : BaseRange) → placed places bases ≡ fasta → shown ≡ bases
     → All (IsPlacedWithin (length bases)) places → Some place ≡ unwrap_or (slice_get places seq) None → to ≡ min (place.stop - place.start) stop → from ≡ min to start
     → Some (slice_range shown (place.start + from) (place.start + to)) ≡ option_map (λ b. slice_range b start stop) (bases_of fasta seq)
 part-is fasta places bases shown seq start stop from to place view same all at cut_to cut_from =

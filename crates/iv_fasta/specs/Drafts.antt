@@ -8,7 +8,7 @@ use Rattle.iv_text.specs.Genome.{Sequences, rank_of}
 use Rattle.iv_text.specs.GenomeFile.{begins_with}
 use Rattle.iv_fasta.specs.Fasta.{Stretch, Found, header_sign, is_no_base, header_name, with_header, with_bases}
 use Rattle.iv_fasta.specs.Places.{bases_at}
-use Rattle.iv_fasta.specs.declared.place.Place.{Place}
+use Rattle.iv_fasta.specs.declared.base_range.BaseRange.{BaseRange}
 use Rattle.iv_fasta.specs.declared.headers.Header.{Header}
 use Rattle.iv_text.specs.declared.fault.LoadCause.{LoadCause}
 use Rattle.iv_text.specs.declared.fault.LoadCause.TheVariants as cause
@@ -38,8 +38,8 @@ abbrev pub cut : Headed → List ℕ → Found
 cut [] bases = []
 cut (h ∷ headers) bases = (h.0, record { line = h.1.line; bases = slice_range bases h.1.start (end_before headers (length bases)) }) ∷ cut headers bases
 
--- the sequence whose header stands in this line, and whose bases lie at this place
-abbrev pub sequence_at : List ℕ → ℕ → Place → Stretch
+-- the sequence whose header is in this line, and whose bases are at this place
+abbrev pub sequence_at : List ℕ → ℕ → BaseRange → Stretch
 sequence_at bases line place = record { line = line; bases = bases_at bases place }
 
 -- the headers start in order, from `low` on, and none of them past the bases

@@ -14,7 +14,7 @@ use Rattle.iv_text.specs.declared.fault.LoadCause.{LoadCause}
 use Rattle.iv_text.specs.declared.fault.LoadCause.TheVariants as cause
 use Rattle.iv_text.specs.declared.fault.LoadFault.{LoadFault}
 
--- what stands under a name: the number of its header's line, and its bases, joined over their lines
+-- what is under a name: the number of its header's line, and its bases, joined over their lines
 pub record Stretch : Type 0 where
   pub line : ℕ
   pub bases : List ℕ
@@ -31,7 +31,7 @@ header_sign = 62
 abbrev pub is_blank : ℕ → Bool
 is_blank b = b == space || b == tab
 
--- the name of a header: what stands between `>` and the first blank, or the end of the line
+-- the name of a header: what is between `>` and the first blank, or the end of the line
 abbrev pub header_name : List ℕ → List ℕ
 header_name line = before_first is_blank (drop 1 line)
 

@@ -22,7 +22,7 @@ strand_mark shown strand = if shown.stranded then bracketed strand else []
 abbrev pub head : FastaRows → Sequences → Row → List ℕ
 head shown g r = sequence_name g r.seq ++ codes ":" ++ decimal r.start ++ codes "-" ++ decimal r.stop ++ strand_mark shown r.strand
 
--- the record lies on the strand `-`
+-- the record is on the strand `-`
 abbrev pub is_minus : Option Strand → Bool
 is_minus None = false
 is_minus (Some Plus) = false
@@ -37,7 +37,7 @@ opposite bases = map complement (reverse bases)
 abbrev pub shown_bases : FastaRows → Row → List ℕ → List ℕ
 shown_bases shown r bases = if shown.stranded && is_minus r.strand then opposite bases else bases
 
--- a head and its bases: on one line, parted by a TAB; or each on a line of its own, and `>` before the head
+-- a head and its bases: on one line, separated by a TAB; or each on a line of its own, and `>` before the head
 abbrev pub framed : FastaRows → List ℕ → List ℕ → List ℕ
 framed shown heading bases =
     if shown.tab then heading ++ codes "\t" ++ bases ++ codes "\n"
@@ -56,7 +56,7 @@ fasta_rows shown g fasta r = row_beside shown g r (bases_of fasta r.seq)
 abbrev pub fasta_text : FastaRows → Sequences → Bases → List Row → List ℕ
 fasta_text shown g fasta rows = flat_map (fasta_rows shown g fasta) rows
 
--- what stands before the bases of a row (for a private function: no part of what is promised)
+-- what is before the bases of a row (for a private function: no part of what is promised)
 abbrev pub front : FastaRows → Sequences → Row → List ℕ
 front shown g r =
     (if shown.tab then [] else codes ">") ++ head shown g r ++ (if shown.tab then codes "\t" else codes "\n")

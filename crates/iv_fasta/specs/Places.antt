@@ -1,22 +1,22 @@
--- The bases of sequences that lie in one list.
+-- The bases of sequences that are in one list.
 use Rattle.std.specs.Prelude.{◌≤◌, ℕ, List, Option, IfSome, map, slice_range}
 use Rattle.std.specs.Option.{option_map}
 use Rattle.iv_fasta.specs.Fasta.{Bases}
-use Rattle.iv_fasta.specs.declared.place.Place.{Place}
+use Rattle.iv_fasta.specs.declared.base_range.BaseRange.{BaseRange}
 
 -- the bases at a place
-abbrev pub bases_at : List ℕ → Place → List ℕ
+abbrev pub bases_at : List ℕ → BaseRange → List ℕ
 bases_at bases place = slice_range bases place.start place.stop
 
 -- the bases at each of these places
-abbrev pub placed : List (Option Place) → List ℕ → Bases
+abbrev pub placed : List (Option BaseRange) → List ℕ → Bases
 placed places bases = map (option_map (bases_at bases)) places
 
--- the place lies among so many bases
-pub record LiesWithin (total : ℕ) (place : Place) : Type 0 where
+-- the place is among so many bases
+pub record LiesWithin (total : ℕ) (place : BaseRange) : Type 0 where
   pub in_order : place.start ≤ place.stop
   pub in_bounds : place.stop ≤ total
 
 -- and so it does, if there is one
-abbrev pub IsPlacedWithin : ℕ → Option Place → Type 0
+abbrev pub IsPlacedWithin : ℕ → Option BaseRange → Type 0
 IsPlacedWithin total place = IfSome place (LiesWithin total)

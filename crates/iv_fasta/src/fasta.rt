@@ -4,8 +4,8 @@ ghost use Rattle.std.specs.Option.{is_some, option_map, option_copied, unwrap_or
 ghost use Rattle.iv_text.specs.declared.fault.LoadCause.TheVariants as cause;
 ghost use Rattle.iv_fasta.specs.Fasta.{fasta_of, bases_of, HasLengthsOf};
 
-use crate::draft::FastaDraft;
-use crate::place::Place;
+use crate::base_range::BaseRange;
+use crate::fasta_draft::FastaDraft;
 use iv_text::{Genome, LoadCause, LoadFault};
 use std::alloc::{Allocator, Global};
 use std::marker::Model;
@@ -16,7 +16,7 @@ use std::marker::Model;
 /// its byte in the file, or nothing where the file lacks the sequence.
 #[derive(Drop)]
 pub struct Fasta<A: Allocator = Global> {
-    places: Vec<Option<Place>, A>,
+    places: Vec<Option<BaseRange>, A>,
     bases: Vec<u8, A>,
 }
 
@@ -32,8 +32,8 @@ impl<A: Allocator> Model for Fasta<A> {
     ghost invariant = { λ f. All (IsPlacedWithin (length f.bases.items)) f.places.items };
 }
 
-/// The place that stands at this rank, if one does.
-fn place_in<A: Allocator>(places: &Vec<Option<Place>, A>, seq: u32) -> Option<Place>
+/// The place at this rank, if there is one.
+fn place_in<A: Allocator>(places: &Vec<Option<BaseRange>, A>, seq: u32) -> Option<BaseRange>
     ensures { result ≡ unwrap_or (slice_get places.now.items seq) None }
 {
     *places.get(seq as usize)?
@@ -43,7 +43,7 @@ impl<A: Allocator + Copy> Fasta<A> {
     /// The bases that a FASTA file says, or the file's first fault.
     ///
     /// A header is a line that begins with `>`. Its name ends before the first space or TAB, or at the end of the line, and
-    /// stands once, whether or not the genome has it. The lines behind it are its bases, joined: bytes from 33 to 126. Empty
+    /// is once, whether or not the genome has it. The lines after it are its bases, joined: bytes from 33 to 126. Empty
     /// lines are skipped. Sequences that the genome doesn't name are read and left out. One that it names has the genome's
     /// length: that is looked at in a file without another fault, sequence by sequence, and the line of such a fault is the
     /// header's. After a fault nothing was made.

@@ -18,7 +18,7 @@ use std::marker::Model;
 /// How many names are hashed before the headers to come are looked at. So few take no time, whether or not they collide.
 const FEW: usize = 1000;
 
-/// A header: the number of its line, and where the bases behind it start among all that are kept.
+/// A header: the number of its line, and where the bases after it start among all that are kept.
 #[derive(Clone, Copy, Debug, PartialEq, Eq)]
 pub(crate) struct Header {
     pub(crate) line: u64,

@@ -2,7 +2,7 @@
 ghost use Rattle.std.specs.Prelude.{◌≡◌, ◌+◌, ◌++◌, ◌∷◌, ℕ, List, All, length};
 ghost use Rattle.iv_fasta.specs.Fasta.{Found, after_fasta_lines, IsNewHeader, IsBaseLine, with_joined};
 
-/// The lines of bases behind a header, joined in their order, are the bases of one more sequence.
+/// The lines of bases after a header, joined in their order, are the bases of one more sequence.
 ///
 /// They may be of any number and of any lengths, also empty. The sequence has the header's name and the number of its line.
 pub fn joined_lines_are_a_sequence()

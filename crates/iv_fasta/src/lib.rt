@@ -2,13 +2,13 @@
 #![tactic(auto)]
 
 mod base;
-mod draft;
+mod base_range;
 mod fasta;
+mod fasta_draft;
 mod headers;
 mod kept_text;
 mod laws;
 mod line;
-mod place;
 mod rows;
 
 pub use base::complement;

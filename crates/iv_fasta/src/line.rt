@@ -10,7 +10,7 @@ fn ends_name(b: u8) -> bool
     b == b' ' || b == b'\t'
 }
 
-/// What stands before the first space or TAB of a text, or all of it.
+/// What is before the first space or TAB of a text, or all of it.
 pub(crate) fn before_blank(text: &[u8]) -> &[u8]
     ensures { result.now ≡ before_first is_blank text.now }
 {

@@ -5,7 +5,8 @@ ghost use Rattle.iv_fasta.specs.FastaRows.{opposite, strand_mark as mark_of, is_
 
 use crate::base::complement;
 use crate::fasta::Fasta;
-use iv_text::{Genome, Record, Sink, Strand, WriteFault, put_all, put_pieces};
+use iv_bytes::{Sink, WriteFault, put_all, put_pieces};
+use iv_text::{Genome, Record, Strand};
 use iv_track::{Meter, Track};
 use std::alloc::Allocator;
 
@@ -14,7 +15,7 @@ use std::alloc::Allocator;
 pub struct FastaRows {
     /// `-s`: the head shows the strand, and the bases of a record on `-` are read backwards and complemented.
     pub stranded: bool,
-    /// `-tab`: head and bases stand on one line, parted by a TAB.
+    /// `-tab`: head and bases are on one line, separated by a TAB.
     pub tab: bool,
 }
 
@@ -43,8 +44,8 @@ pub fn print_fasta<A: Allocator + Copy, S: Sink>(
 
 /// Puts the row of a record, as bedtools getfasta does: nothing where the FASTA file lacks the record's sequence.
 ///
-/// The head is the sequence's name, `:`, start, `-` and stop, with strands also the strand in round brackets. It stands
-/// behind a `>` on a line of its own, the bases on the next; or with `-tab` before them, parted by a TAB. With strands the
+/// The head is the sequence's name, `:`, start, `-` and stop, with strands also the strand in round brackets. It is
+/// after a `>` on a line of its own, the bases on the next; or with `-tab` before them, separated by a TAB. With strands the
 /// bases of a record on `-` are read backwards and complemented. It takes no memory. On a fault the sink has taken a prefix
 /// of the row.
 pub fn put_fasta<A: Allocator + Copy, S: Sink>(
@@ -64,7 +65,7 @@ pub fn put_fasta<A: Allocator + Copy, S: Sink>(
     put_all(sink, b"\n")
 }
 
-/// Puts all of a row that stands before its bases.
+/// Puts all of a row that is before its bases.
 fn put_front<A: Allocator + Copy, S: Sink>(
     shown: FastaRows,
     genome: &Genome<A>,
@@ -92,14 +93,14 @@ fn put_front<A: Allocator + Copy, S: Sink>(
     )
 }
 
-/// What stands before a head.
+/// What is before a head.
 fn head_sign<'t>(shown: FastaRows) -> &'t [u8]
     ensures { result.now ≡ (if shown.tab then [] else codes ">") }
 {
     if shown.tab { b"" } else { b">" }
 }
 
-/// What stands between a head and its bases.
+/// What is between a head and its bases.
 fn head_end<'t>(shown: FastaRows) -> &'t [u8]
     ensures { result.now ≡ (if shown.tab then codes "\t" else codes "\n") }
 {
@@ -137,7 +138,7 @@ fn put_bases<A: Allocator, S: Sink>(
     }
 }
 
-/// Whether a record lies on the strand `-`.
+/// Whether a record is on the strand `-`.
 fn is_minus(strand: Option<Strand>) -> bool
     ensures { result ≡ says_minus strand }
 {

@@ -12,7 +12,7 @@ use Rattle.iv_cover.specs.Depth.{covers}
 use Rattle.iv_cover.proofs.Tests.{all-mem, filter-all}
 use Rattle.iv_pair.specs.Hits.{overlaps, hits}
 use Rattle.iv_pair.specs.Lengths.{AreUpTo}
-use Rattle.iv_pair.specs.Finder.{held, keeps, IsOnward, HitAlike, AllCover, AllBegun, IsPlaced}
+use Rattle.iv_pair.specs.HitFinder.{held, keeps, IsOnward, HitAlike, AllCover, AllBegun, IsPlaced}
 use Rattle.iv_pair.proofs.HitsLemmas.{overlaps_parts, overlaps_from, covers_parts, covers_from, length-filter_le}
 use Rattle.iv_pair.proofs.PlaceLemmas.{pair_le, filter-implied}
 
@@ -159,7 +159,7 @@ found seq start stop xs rows whole some cover h =
     ∙ sym (filter-append p xs rows)
     ∙ h seq start stop (onward-itself seq start)
 
--- ---- where a search stands
+-- ---- where a search is
 
 -- before the first record
 pub placed-first : (records carried rows : List Row) → carried ≡ [] → rows ≡ records → AreInOrder records → length records < 2 ^ 32 → IsPlaced records carried rows 0 0

@@ -98,7 +98,7 @@ none_from seq start stop (q ∷ rows) all =
     ap (λ b. cond b (q ∷ hits rows seq start stop) (hits rows seq start stop)) (from_apart seq start stop q (all q (inl refl)))
     ∙ none_from seq start stop rows (λ r m. all r (inr m))
 
--- from a record on that begins at the stop or behind it there are none
+-- from a record on that begins at the stop or after it there are none
 pub hits_beyond : (seq start stop : ℕ) (r : Row) (rows : List Row) → AreInOrder (r ∷ rows) → is_from seq stop r ≡ true → hits rows seq start stop ≡ []
 hits_beyond seq start stop r rows o h = none_from seq start stop rows (λ q m. from_all seq stop r rows o h q (inr m))
 

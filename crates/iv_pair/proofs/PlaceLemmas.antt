@@ -48,7 +48,7 @@ pair_ge a c d h = go (nat_cmp a a) refl
 
 -- ---- records from a place on
 
--- a test that implies another takes the same behind it
+-- a test that implies another takes the same after it
 pub filter-implied : {X : Type 0} (p t : X → Bool) (xs : List X) → ((q : X) → Mem q xs → p q ≡ true → t q ≡ true) → filter p (filter t xs) ≡ filter p xs
 filter-implied p t xs h = filter-filter p t xs ∙ filter-agree (λ q. t q && p q) p xs (λ q m. agree (p q) (t q) (h q m))
   where

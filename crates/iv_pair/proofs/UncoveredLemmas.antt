@@ -30,7 +30,7 @@ covered f from stop to le on = elim (cases_lt stop to) [
   ]
 ]
 
--- one hit: what is empty before it, and then what is empty behind it
+-- one hit: what is empty before it, and then what is empty after it
 empty_runs-hit : (f : ℕ → ℕ) (from start stop to : ℕ) → start < stop → start < to
     → ((p : ℕ) → from ≤ p → p < start → f p ≡ 0) → ((p : ℕ) → start ≤ p → p < stop → from ≤ p → p < to → f p ≢ 0)
     → empty_runs f from to ≡ gap from start ++ empty_runs f (max from stop) to
@@ -70,7 +70,7 @@ gap-text row from to = go (nat_lt from to)
 
 -- ---- the depth of the records, and of the hits that are left
 
--- a record that begins behind a position or ends before it does not cover it
+-- a record that begins after a position or ends before it does not cover it
 off : (seq p : ℕ) (b : Row) → (covers seq p b ≡ true → ⊥) → covers seq p b ≡ false
 off seq p b never = go (covers seq p b) refl
   where
@@ -102,7 +102,7 @@ depth-hits (b ∷ rows) seq start stop p l h =
       | false ↦ λ is. let none : covers seq p b ≡ false = off_apart seq start stop p b l h is in rw none (omega arith)
     ]) refl
 
--- the hits that are left: each is on the sequence, begins at `low` or behind it and before the stop, and they begin in order
+-- the hits that are left: each is on the sequence, begins at `low` or after it and before the stop, and they begin in order
 abbrev pub HitsFrom : ℕ → ℕ → ℕ → List Row → Type 0
 HitsFrom seq low to [] = Unit {0}
 HitsFrom seq low to (b ∷ rows) = (b.seq ≡ seq) × (b.start < to) × (low ≤ b.start) × HitsFrom seq b.start to rows

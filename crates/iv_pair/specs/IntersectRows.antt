@@ -11,7 +11,7 @@ use Rattle.iv_pair.specs.declared.intersect.IntersectRows.TheVariants.{Shared, S
 abbrev pub record_line : Sequences → Row → List ℕ
 record_line g r = record_text g r ++ codes "\n"
 
--- the line of a record with another behind it
+-- the line of a record with another after it
 abbrev pub pair_line : Sequences → Row → Row → List ℕ
 pair_line g a b = record_text g a ++ (codes "\t" ++ record_line g b)
 

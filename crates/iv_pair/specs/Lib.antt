@@ -1,6 +1,6 @@
 pub mod Hits
 pub mod Lengths
-pub mod Finder
+pub mod HitFinder
 pub mod IntersectRows
 pub mod SubtractRows
 pub mod PairRows

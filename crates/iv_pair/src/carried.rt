@@ -1,7 +1,7 @@
-//! Records that a search has passed and that reach past the place where it stands.
+//! Records that a search has passed and that reach past the place where it is.
 ghost use Rattle.std.specs.Prelude.{◌≡◌, ◌∷◌, [], ◌++◌, ◌≤◌, filter, length, true, false};
 ghost use Rattle.iv_cover.specs.Depth.{covers};
-ghost use Rattle.iv_pair.specs.Finder.{held, keeps};
+ghost use Rattle.iv_pair.specs.HitFinder.{held, keeps};
 
 use arrayvec::ArrayVec;
 use iv_text::{BedRecord, Record};
@@ -12,7 +12,7 @@ use std::marker::Model;
 const MOST_CARRIED: usize = 64;
 
 /// A few records of the second file, in its order, on the stack: those that a search has passed and that reach past the place
-/// where it stands.
+/// where it is.
 ///
 /// Its model is their list.
 #[derive(Drop)]
@@ -23,7 +23,7 @@ pub(crate) struct Carried<'a, A: Allocator + Copy> {
 impl<'a, A: Allocator + Copy> Model for Carried<'a, A> {
     ghost use Rattle.std.specs.Prelude.{List};
     ghost use Rattle.iv_text.specs.Row.{Row};
-    ghost use Rattle.iv_pair.specs.Finder.{held};
+    ghost use Rattle.iv_pair.specs.HitFinder.{held};
 
     ghost Value = { List Row };
 
@@ -55,7 +55,7 @@ impl<'a, A: Allocator + Copy> Carried<'a, A> {
         self.slots.clear();
     }
 
-    /// One more behind them, if there is room.
+    /// One more after them, if there is room.
     pub(crate) fn push(&mut self, row: &'a Record<A>) -> bool
         ensures pushed { result ≡ true → self.new ≡ self.old ++ row.now ∷ [] }
         ensures full { result ≡ false → self.new ≡ self.old }

@@ -3,7 +3,7 @@ ghost use Rattle.std.specs.Prelude.{◌≡◌, ◌<◌, ◌≤◌, ◌^◌, ◌+
 ghost use Rattle.std.specs.Iterator.{YieldsFirstRef, item_count};
 ghost use Rattle.iv_text.specs.Ordered.{AreInOrder};
 ghost use Rattle.iv_track.specs.Tracked.{is_from};
-ghost use Rattle.iv_pair.specs.Finder.{held};
+ghost use Rattle.iv_pair.specs.HitFinder.{held};
 ghost use Rattle.iv_pair.specs.Hits.{overlaps, hits};
 
 use iv_text::{BedRecord, Record};
@@ -16,7 +16,7 @@ use std::marker::Model;
 /// A record comes once for each of its copies. Its model is the list of the records that are left.
 #[derive(Drop)]
 pub struct Hits<'a, A: Allocator + Copy = Global> {
-    // Hits that stand before those of the walk.
+    // Hits that are before those of the walk.
     carried: &'a [Option<&'a Record<A>>],
     rows: Rows<'a, A>,
     meter: Meter,
@@ -29,7 +29,7 @@ impl<'a, A: Allocator + Copy> Model for Hits<'a, A> {
     ghost use Rattle.std.specs.Prelude.{◌<◌, ◌≤◌, ◌^◌, ◌++◌, List, length};
     ghost use Rattle.iv_text.specs.Ordered.{AreInOrder};
     ghost use Rattle.iv_text.specs.Row.{Row};
-    ghost use Rattle.iv_pair.specs.Finder.{held};
+    ghost use Rattle.iv_pair.specs.HitFinder.{held};
     ghost use Rattle.iv_pair.specs.Hits.{hits};
 
     ghost Value = { List Row };
@@ -40,7 +40,7 @@ impl<'a, A: Allocator + Copy> Model for Hits<'a, A> {
 }
 
 impl<'a, A: Allocator + Copy> Hits<'a, A> {
-    /// These, and behind them those among the records of a walk.
+    /// These, and after them those among the records of a walk.
     pub(crate) fn of(
         carried: &'a [Option<&'a Record<A>>],
         rows: Rows<'a, A>,
@@ -98,7 +98,7 @@ impl<'a, A: Allocator + Copy> Iterator for Hits<'a, A> {
     }
 }
 
-/// Whether a record lies on this sequence from this start on, or on a later sequence.
+/// Whether a record is on this sequence from this start on, or on a later sequence.
 pub fn is_from<R: BedRecord>(row: &R, seq: u32, start: u64) -> bool
     ensures { result ≡ is_from seq start (R.as_row row.now) }
 {

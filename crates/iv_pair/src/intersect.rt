@@ -10,7 +10,8 @@ ghost use Rattle.iv_pair.specs.IntersectRows.{shared, intersect_rows};
 ghost use Rattle.iv_pair.specs.Putting.{Overlaps, AllOverlap, hit_line};
 
 use crate::lines::{put_count, put_if_hit, put_if_no_hit, put_pair};
-use iv_text::{BedRecord, Genome, RecordRef, Sink, WriteFault, put_line};
+use iv_bytes::{Sink, WriteFault};
+use iv_text::{BedRecord, Genome, RecordRef, put_line};
 use std::alloc::Allocator;
 
 /// Which rows an intersect shows of a record of the first file and its hits, the records of the second that share a position
@@ -19,11 +20,11 @@ use std::alloc::Allocator;
 pub enum IntersectRows {
     /// For each hit the part that the two share.
     Shared,
-    /// For each hit that part, and the hit behind it: `-wb`.
+    /// For each hit that part, and the hit after it: `-wb`.
     SharedAndHit,
     /// For each hit the record: `-wa`.
     Whole,
-    /// For each hit the record, and the hit behind it: `-wa -wb`.
+    /// For each hit the record, and the hit after it: `-wa -wb`.
     WholeAndHit,
     /// The record, if it has a hit: `-u`.
     IfHit,

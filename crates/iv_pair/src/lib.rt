@@ -4,7 +4,7 @@
 
 mod carried;
 mod counted_edits;
-mod finder;
+mod hit_finder;
 mod hits;
 mod intersect;
 mod laws;

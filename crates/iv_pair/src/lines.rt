@@ -7,12 +7,11 @@ ghost use Rattle.iv_text.specs.RecordText.{record_text};
 ghost use Rattle.iv_pair.specs.IntersectRows.{record_line, pair_line, any_line, none_line};
 ghost use Rattle.iv_pair.specs.Putting.{part_line};
 
-use iv_text::{
-    BedRecord, Genome, RecordRef, Sink, WriteFault, put_all, put_line, put_numbered, put_record,
-};
+use iv_bytes::{Sink, WriteFault, put_all};
+use iv_text::{BedRecord, Genome, RecordRef, put_line, put_numbered, put_record};
 use std::alloc::Allocator;
 
-/// Puts the line of a record with another behind it.
+/// Puts the line of a record with another after it.
 ///
 /// On a fault the sink has taken a prefix of the line.
 pub(crate) fn put_pair<A: Allocator + Copy, S: Sink>(
@@ -24,11 +23,11 @@ pub(crate) fn put_pair<A: Allocator + Copy, S: Sink>(
     ensures { Puts (S.state sink.old) (S.state sink.new) result (pair_line genome.now row.now hit.now) }
 {
     put_record(sink, genome, row)?;
-    put_behind(genome, hit, sink)
+    put_after(genome, hit, sink)
 }
 
 /// Puts a TAB and the line of a record.
-fn put_behind<A: Allocator + Copy, S: Sink>(
+fn put_after<A: Allocator + Copy, S: Sink>(
     genome: &Genome<A>,
     row: &RecordRef<'_>,
     sink: &mut S,

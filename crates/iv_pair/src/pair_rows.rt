@@ -9,7 +9,8 @@ ghost use Rattle.iv_pair.specs.PairRows.{pair_rows};
 
 use crate::intersect::{IntersectRows, put_intersect};
 use crate::subtract::put_subtract;
-use iv_text::{BedRecord, Genome, Sink, WriteFault};
+use iv_bytes::{Sink, WriteFault};
+use iv_text::{BedRecord, Genome};
 use std::alloc::Allocator;
 
 /// Which rows are put of a record and its hits.

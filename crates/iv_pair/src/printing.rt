@@ -2,10 +2,11 @@
 ghost use Rattle.iv_bytes.specs.Sinks.{Puts};
 ghost use Rattle.iv_pair.specs.PairRows.{pair_text};
 
-use crate::finder::Finder;
+use crate::hit_finder::HitFinder;
 use crate::pair_rows::{PairRows, put_pair_rows};
 use crate::second::Second;
-use iv_text::{Genome, Sink, WriteFault};
+use iv_bytes::{Sink, WriteFault};
+use iv_text::Genome;
 use iv_track::{Meter, Track};
 use std::alloc::Allocator;
 
@@ -24,7 +25,7 @@ pub fn print_pairs<A: Allocator + Copy, S: Sink>(
 {
     // The records of the second file are in order.
     let _count = second.len();
-    let mut finder = Finder::of(second, meter);
+    let mut finder = HitFinder::of(second, meter);
     let mut walk = track.walk(0, 0, meter);
     while let Some(row) = walk.next(meter) {
         finder.seek(row.seq(), row.start(), row.stop(), meter);

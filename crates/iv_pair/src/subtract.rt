@@ -8,7 +8,8 @@ ghost use Rattle.iv_pair.specs.Hits.{hits_of};
 ghost use Rattle.iv_pair.specs.SubtractRows.{subtract_rows, uncovered_rows};
 
 use crate::lines::{put_if_no_hit, put_part};
-use iv_text::{BedRecord, Genome, Sink, WriteFault};
+use iv_bytes::{Sink, WriteFault};
+use iv_text::{BedRecord, Genome};
 use std::alloc::Allocator;
 
 /// Puts the rows of one record and its hits, in the order of a track, which any iterator may give.

@@ -10,7 +10,7 @@ use Rattle.iv_session.specs.declared.script.RunCause.{RunCause}
 use Rattle.iv_session.specs.declared.script.RunCause.TheVariants.{Input, TooLong, Output, Messages, Memory}
 use Rattle.iv_session.specs.declared.script.RunFault.{RunFault}
 use Rattle.iv_session.specs.declared.script.Summary.{Summary}
-use Rattle.iv_state.specs.States.{State}
+use Rattle.iv_workspace.specs.States.{State}
 use Rattle.iv_session.proofs.SizeLemmas.{length-sizes, whole-sizes, over-behind, over-none, over-first, over-low, over-past, passes-more, some-inj}
 
 -- the input that is known is the text
@@ -72,7 +72,7 @@ stopped-ran old new before after most_lines most n text fault known ran sink is 
     go Memory u (inl other) = absurd (cc other)
     go Memory u (inr other) = absurd (cc other)
 
--- a run that no stream and no want of memory ended
+-- a run that ended neither by a stream nor out of memory
 pub too_long-exact : (old new : State) (before after : Streams) (most_lines most n : ℕ) (text : List ℕ) (ended : Result Summary RunFault)
     → before.input.coming ≡ Some text → Ran old new before after most_lines most ended → AreSound after → HadMemory ended
     → IsTooLongAt n ended ↔ (first_over most_lines most 1 (line_sizes text) ≡ Some n)

@@ -8,16 +8,16 @@ use Rattle.iv_text.specs.declared.fault.RecordFault.TheVariants as record_fault
 use Rattle.iv_session.specs.Requests.{asked}
 use Rattle.iv_session.specs.Running.{Runs}
 use Rattle.iv_session.specs.Scripts.{Steps}
-use Rattle.iv_state.specs.OpenViews.{Shown}
+use Rattle.iv_workspace.specs.OpenViews.{Shown}
 use Rattle.iv_track.specs.Edits.{with_record}
-use Rattle.iv_state.specs.States.{State, with_track}
-use Rattle.iv_state.specs.Views.{opened, all_text, text_in}
+use Rattle.iv_workspace.specs.States.{State, with_track}
+use Rattle.iv_workspace.specs.Views.{opened, all_text, text_in}
 use Rattle.iv_view.specs.Views.{read_words}
 use Rattle.iv_session.specs.Written.{Written, printed, refused_by}
 use Rattle.iv_session.specs.declared.request.Request.TheVariants as request
 use Rattle.iv_session.specs.declared.fault.LineFault.TheVariants as line
 use Rattle.iv_session.specs.declared.fault.RequestFault.TheVariants as request_fault
-use Rattle.iv_state.specs.declared.fault.PrintFault.TheVariants as printing
+use Rattle.iv_workspace.specs.declared.fault.PrintFault.TheVariants as printing
 use Rattle.iv_view.specs.declared.fault.ViewFault.TheVariants as fault
 use Rattle.iv_blocks.specs.Groups.{filled}
 use Rattle.iv_view.specs.declared.view.View.{View}
@@ -80,7 +80,7 @@ records-stand_behind_add = refl
 pub lengths-stand_behind_names : asked empty (codes "resize" ++ tab ++ codes "chr1" ++ tab ++ codes "20") ≡ Ok (request.Resize (codes "chr1") 20)
 lengths-stand_behind_names = refl
 
--- a name is looked for only behind a sound length
+-- a name is looked for only after a sound length
 pub bad_lengths-come_before_names : asked empty (codes "resize" ++ tab ++ codes "chr9" ++ tab ++ codes "x") ≡ Err request_fault.Length
 bad_lengths-come_before_names = refl
 

@@ -7,12 +7,12 @@ use Rattle.iv_bytes.proofs.Putting.{Takes-nothing}
 use Rattle.iv_text.specs.Fields.{words}
 use Rattle.iv_view.specs.declared.fault.ViewFault.{ViewFault}
 use Rattle.iv_view.proofs.WordLemmas.{words-cut}
-use Rattle.iv_state.specs.OpenViews.{Shown}
-use Rattle.iv_state.specs.Prints.{PrintedView, PrintedAll, IsButCurrent}
-use Rattle.iv_state.specs.States.{State}
-use Rattle.iv_state.specs.Views.{view_named, opened, unless_fault, has_name_fault, name_faults, Opens, RefusesOpen, all_text, text_in}
-use Rattle.iv_state.specs.declared.fault.PrintFault.{PrintFault}
-use Rattle.iv_state.specs.declared.fault.PrintFault.TheVariants as printing
+use Rattle.iv_workspace.specs.OpenViews.{Shown}
+use Rattle.iv_workspace.specs.Prints.{PrintedView, PrintedAll, IsButCurrent}
+use Rattle.iv_workspace.specs.States.{State}
+use Rattle.iv_workspace.specs.Views.{view_named, opened, unless_fault, has_name_fault, name_faults, Opens, RefusesOpen, all_text, text_in}
+use Rattle.iv_workspace.specs.declared.fault.PrintFault.{PrintFault}
+use Rattle.iv_workspace.specs.declared.fault.PrintFault.TheVariants as printing
 use Rattle.iv_session.specs.Requests.{asked, request_code, fault_code}
 use Rattle.iv_session.specs.Written.{Written, printed, refused_by, refusal_count, told}
 use Rattle.iv_session.specs.Running.{AsksToPrint, Ends, Runs, RunsLast, DoesAsked, RefusesAsked, Leaves, Writes, WritesFault}
@@ -26,7 +26,7 @@ use Rattle.iv_session.specs.declared.running.Outcome.{Outcome}
 use Rattle.iv_session.specs.declared.running.Outcome.TheVariants as outcome
 use Rattle.iv_session.specs.declared.script.RunCause.{RunCause}
 use Rattle.iv_session.specs.declared.script.RunCause.TheVariants as cause
-use Rattle.iv_state.proofs.OpenViewLemmas.{freshens-same, freshens-all, freshens-one}
+use Rattle.iv_workspace.proofs.OpenViewLemmas.{freshens-same, freshens-all, freshens-one}
 
 -- ---- a request
 
@@ -78,7 +78,7 @@ pub is-asked : (asks : Result Request RequestFault) (old new : State) (out0 out1
 is-asked asks old new out0 out1 r result is writes =
     subst (λ (a : Result Request RequestFault). Writes a old new out0 out1 result) is writes
 
--- words that are cut off behind the ninth open the same view
+-- words that are cut off after the ninth open the same view
 opened-cut : (s : State) (name text : List ℕ) → opened s name (take 9 (words text)) ≡ opened s name (words text)
 opened-cut s name text =
     ap (unless_fault (find (has_name_fault s name) name_faults)) (words-cut s.track.width (is_some s.second) (is_some s.bases) (words text))
@@ -194,7 +194,7 @@ fresher-ends asks old new written (inl (text, does, is)) (inr refusal) =
     let none : IsSome (printed text).refusal = subst (λ (w : Written). IsSome w.refusal) is refusal in absurd (cc (none))
 fresher-ends asks old new written (inr (f, why, left, is)) which = fresher-left asks old new left
 
--- ---- what is told of a line
+-- ---- what is reported of a line
 
 -- the fact that each line ends with
 abbrev pub Ran : State → List ℕ → State → ℕ → SinkState → SinkState → SinkState → SinkState → Result Outcome RunCause → Type 0

@@ -8,14 +8,14 @@ use Rattle.iv_text.specs.Read.{read, read_columns}
 use Rattle.iv_text.specs.Row.{Row}
 use Rattle.iv_text.specs.declared.fault.RecordFault.{RecordFault}
 use Rattle.iv_track.specs.Tracked.{Tracked}
-use Rattle.iv_state.specs.Edits.{of_record, read_beside}
-use Rattle.iv_state.specs.declared.fault.SecondFault.{SecondFault}
-use Rattle.iv_state.specs.declared.fault.SecondFault.TheVariants as other
+use Rattle.iv_workspace.specs.Edits.{of_record, read_beside}
+use Rattle.iv_workspace.specs.declared.fault.SecondFault.{SecondFault}
+use Rattle.iv_workspace.specs.declared.fault.SecondFault.TheVariants as other
 use Rattle.iv_session.specs.Requests.{of_rows, of_second, beside}
 use Rattle.iv_session.specs.declared.request.Request.{Request}
 use Rattle.iv_session.proofs.ColumnLemmas.{fields-behind, miscounted}
 
--- a record is read of what stands behind a command as of its fields: where there are none, the empty text has too few as well
+-- a record is read of what is after a command as of its fields: where there are none, the empty text has too few as well
 behind-read : (g : Sequences) (width : ℕ) (fields : Option (Bor (List ℕ))) (behind empty : Bor (List ℕ)) → empty.now ≡ [] → behind ≡ unwrap_or fields empty → 3 ≤ width
     → read g width behind.now ≡ read_columns g width (fields_left 9 fields)
 behind-read g width fields behind empty none is low = elim (fields-behind fields behind empty none is) [
@@ -35,14 +35,14 @@ module _ (asks : Row → Request) where
   row-of (Ok p) q e = let same : q ≡ p = cc e in ap (λ (k : Row). Ok (asks k)) same
 
 module _ (g : Sequences) (fields : Option (Bor (List ℕ))) (behind empty : Bor (List ℕ)) (none : empty.now ≡ []) (is : behind ≡ unwrap_or fields empty) (asks : Row → Request) where
-  -- the line stands for no record of the second file
+  -- the line means no record of the second file
   pub beside-fault : (second : Option Tracked) → IfSome second (λ t. (3 ≤ t.width) × (t.width ≤ 6)) → (f : SecondFault) → Err f ≡ read_beside g second behind.now
       → Err (of_second f) ≡ beside second (λ t. of_rows asks (read_columns g t.width (fields_left 9 fields)))
   beside-fault None known f e = let same : f ≡ other.NoSecond = cc e in ap (λ (k : SecondFault). Err (of_second k)) same
   beside-fault (Some t) known f e =
       fault-of asks (read g t.width behind.now) f e ∙ ap (of_rows asks) (behind-read g t.width fields behind empty none is known.0)
 
-  -- it stands for one
+  -- it means one
   pub beside-row : (second : Option Tracked) → IfSome second (λ t. (3 ≤ t.width) × (t.width ≤ 6)) → (q : Row) → Ok q ≡ read_beside g second behind.now
       → Ok (asks q) ≡ beside second (λ t. of_rows asks (read_columns g t.width (fields_left 9 fields)))
   beside-row None known q e = absurd (cc e)

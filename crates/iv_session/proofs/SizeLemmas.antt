@@ -140,7 +140,7 @@ grows-step false xs ys g = record {
   low = omega (arith, g.low);
 }
 
--- a line only grows where more comes behind it
+-- a line only grows where more comes after it
 sizes-grow : (b : ℕ) (bs more : List ℕ) → Grows (line_sizes (b ∷ bs)) (line_sizes ((b ∷ bs) ++ more))
 sizes-grow b [] more = by (b == 10)
   where
@@ -153,7 +153,7 @@ sizes-grow b (c ∷ cs) more = grows-step (b == 10) (line_sizes (c ∷ cs)) (lin
 
 -- ---- a line that keeps the limits, and one that passes one
 
--- a part of a line, and nothing behind it
+-- a part of a line, and nothing after it
 pub keeps-part : (left most : ℕ) (part : List ℕ) → HasNoFeed part → length part ≤ most → (0 < length part → 0 < left)
     → Keeps left most 1 (line_sizes part)
 keeps-part left most [] plain fits room = tt
@@ -163,11 +163,11 @@ keeps-part left most (b ∷ bs) plain fits room =
     let low : 1 ≤ left = omega (arith, one) in
     subst (λ (l : List ℕ). Keeps left most 1 l) (sym (sizes-last (b ∷ bs) plain some)) (low, fits)
 
--- nothing stands behind a part of a line, or an LF
+-- nothing is after a part of a line, or an LF
 abbrev pub EndsPart : List ℕ → Type 0
 EndsPart held = (held ≡ []) ⊎ ((later : List ℕ) × (held ≡ 10 ∷ later))
 
--- a part of a line behind which it ends or nothing has come
+-- a part of a line after which it ends or nothing has come
 pub keeps-ending : (left most : ℕ) (part held : List ℕ) → HasNoFeed part → length part ≤ most → 0 < left → EndsPart held
     → Keeps left most 1 (line_sizes (part ++ held))
 keeps-ending left most part held plain fits room (inl none) =
@@ -208,7 +208,7 @@ passes-numbered count left most_lines most [] counted passes = absurd passes
 passes-numbered count left most_lines most (size ∷ sizes) counted (inl full) = inl (omega (arith, counted, full))
 passes-numbered count left most_lines most (size ∷ sizes) counted (inr over) = inr over
 
--- a line that passes a limit does so whatever comes behind
+-- a line that passes a limit does so whatever comes after
 pub passes-more : (most_lines most n : ℕ) (given more : List ℕ) → Passes most_lines most n (line_sizes given)
     → Passes most_lines most n (line_sizes (given ++ more))
 passes-more most_lines most n [] more passes = absurd passes
@@ -262,7 +262,7 @@ pub over-first : (most_lines most n : ℕ) (sizes : List ℕ) → Passes most_li
 over-first most_lines most n [] passes = absurd passes
 over-first most_lines most n (size ∷ sizes) passes = cond-true _ _ _ (over most_lines most n size passes)
 
--- behind lines that pass none
+-- after lines that pass none
 pub over-found : (most_lines most : ℕ) (front back : List ℕ) → AreWithin most_lines most front → Passes most_lines most (length front + 1) back
     → first_over most_lines most 1 (front ++ back) ≡ Some (length front + 1)
 over-found most_lines most front back within passes =
@@ -279,7 +279,7 @@ low-step : (t : Bool) (n m : ℕ) (later : Option ℕ) → (later ≡ Some m →
 low-step true n m later behind is = let same : n ≡ m = some-inj n m is in omega (arith, same)
 low-step false n m later behind is = let low : n + 1 ≤ m = behind is in omega (arith, low)
 
--- it is found at its number or behind
+-- it is found at its number or after
 pub over-low : (most_lines most n m : ℕ) (sizes : List ℕ) → first_over most_lines most n sizes ≡ Some m → n ≤ m
 over-low most_lines most n m [] is = absurd (cc is)
 over-low most_lines most n m (size ∷ sizes) is =

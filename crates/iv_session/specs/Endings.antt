@@ -1,6 +1,6 @@
 -- How a run of a script ends, as its contract says it.
 use Rattle.std.specs.Prelude.{◌≡◌, ◌≢◌, ℕ, ⊤, false, Result, Ok, Err}
-use Rattle.iv_state.specs.States.{State}
+use Rattle.iv_workspace.specs.States.{State}
 use Rattle.iv_session.specs.Running.{Runs, RunsLast}
 use Rattle.iv_session.specs.Scripts.{Done}
 use Rattle.iv_session.specs.Stops.{Stopped}
@@ -20,7 +20,7 @@ Ran old new before after most_lines most (Err fault) =
 abbrev pub AreSound : Streams → Type 0
 AreSound s = (s.input.failed ≡ false) × (s.output.failed ≡ false) × (s.messages.failed ≡ false)
 
--- it was not want of memory that ended the run
+-- the run did not end out of memory
 abbrev pub HadMemory : Result Summary RunFault → Type 0
 HadMemory (Ok summary) = ⊤
 HadMemory (Err fault) = fault.cause ≢ Memory

@@ -13,11 +13,11 @@ use Rattle.iv_text.specs.declared.fault.RecordFault.{RecordFault}
 use Rattle.iv_text.specs.declared.fault.RecordFault.TheVariants as row
 use Rattle.iv_view.specs.Views.{view_code}
 use Rattle.iv_track.specs.Fault.{edit_code}
-use Rattle.iv_state.specs.Resizes.{resize_code}
-use Rattle.iv_state.specs.Views.{print_code}
-use Rattle.iv_state.specs.States.{State, FitsSecond}
-use Rattle.iv_state.specs.declared.fault.SecondFault.{SecondFault}
-use Rattle.iv_state.specs.declared.fault.SecondFault.TheVariants as other
+use Rattle.iv_workspace.specs.Resizes.{resize_code}
+use Rattle.iv_workspace.specs.Views.{print_code}
+use Rattle.iv_workspace.specs.States.{State, FitsSecond}
+use Rattle.iv_workspace.specs.declared.fault.SecondFault.{SecondFault}
+use Rattle.iv_workspace.specs.declared.fault.SecondFault.TheVariants as other
 use Rattle.iv_track.specs.Tracked.{Tracked}
 use Rattle.iv_session.specs.declared.fault.LineFault.{LineFault}
 use Rattle.iv_session.specs.declared.fault.LineFault.TheVariants as line
@@ -42,7 +42,7 @@ fault_code (line.Open f) = Some (view_code f)
 fault_code (line.Close f) = Some 21
 fault_code (line.Print f) = print_code f
 
--- why a line is no request, where it stands for no record of the second file
+-- why a line is no request, where it means no record of the second file
 abbrev pub of_second : SecondFault → RequestFault
 of_second other.NoSecond = fault.NoSecond
 of_second (other.Record f) = fault.Record f
@@ -92,7 +92,7 @@ abbrev pub beside_name : List ℕ → Result ℕ RequestFault → Result (List �
 beside_name name (Ok n) = Ok (name, n)
 beside_name name (Err f) = Err f
 
--- a name and the length that the field behind it says, or the first fault
+-- a name and the length that the field after it says, or the first fault
 abbrev pub name_and_length : Result (List ℕ × List ℕ) RequestFault → Result (List ℕ × ℕ) RequestFault
 name_and_length (Ok fields) = beside_name fields.0 (length_said fields.1)
 name_and_length (Err f) = Err f
@@ -107,7 +107,7 @@ abbrev pub of_rows : {X : Type 0} → (X → Request) → Result X RecordFault �
 of_rows asks (Ok x) = Ok (asks x)
 of_rows asks (Err f) = Err (fault.Record f)
 
--- what is asked of the second file's track: that there is none is told first
+-- what is asked of the second file's track: that there is none is reported first
 abbrev pub beside : Option Tracked → (Tracked → Result Request RequestFault) → Result Request RequestFault
 beside None asks = Err fault.NoSecond
 beside (Some t) asks = asks t

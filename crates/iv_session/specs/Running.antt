@@ -4,14 +4,14 @@ use Rattle.iv_bytes.specs.Sinks.{SinkState, Takes, FailsIn}
 use Rattle.iv_text.specs.Fault.{fault_text}
 use Rattle.iv_text.specs.Fields.{words}
 use Rattle.iv_text.specs.Ordered.{copies}
-use Rattle.iv_state.specs.OpenViews.{Shown, stale_count}
-use Rattle.iv_state.specs.Prints.{with_printed, with_all_printed, IsButCurrent}
+use Rattle.iv_workspace.specs.OpenViews.{Shown, stale_count}
+use Rattle.iv_workspace.specs.Prints.{with_printed, with_all_printed, IsButCurrent}
 use Rattle.iv_track.specs.Edits.{RefusesAdd, RefusesRemove, RefusesReplace, with_record, without_record, with_replaced}
-use Rattle.iv_state.specs.States.{State, IsButStale, with_track, with_second, without_view}
-use Rattle.iv_state.specs.Edits.{RefusesCopy}
-use Rattle.iv_state.specs.Resizes.{resized}
-use Rattle.iv_state.specs.Views.{view_named, Opens, RefusesOpen, all_text, text_in}
-use Rattle.iv_state.specs.declared.fault.PrintFault.TheVariants as printing
+use Rattle.iv_workspace.specs.States.{State, IsButStale, with_track, with_second, without_view}
+use Rattle.iv_workspace.specs.Edits.{RefusesCopy}
+use Rattle.iv_workspace.specs.Resizes.{resized}
+use Rattle.iv_workspace.specs.Views.{view_named, Opens, RefusesOpen, all_text, text_in}
+use Rattle.iv_workspace.specs.declared.fault.PrintFault.TheVariants as printing
 use Rattle.iv_session.specs.Requests.{asked, fault_code}
 use Rattle.iv_session.specs.Written.{Written, printed, refused_by}
 use Rattle.iv_session.specs.declared.fault.LineFault.{LineFault}
@@ -46,7 +46,7 @@ Does (request.Print name) old new text =
     (v : Shown) × (view_named old.views name ≡ Some v) × (new ≡ with_printed old name) × (text ≡ text_in old v.view)
 Does request.PrintAll old new text = (new ≡ with_all_printed old) × (text ≡ all_text old)
 
--- why a request is refused: a print for want of memory only where a view to be printed is stale
+-- why a request is refused: a print for out of memory only where a view to be printed is stale
 abbrev pub Refuses : Request → State → LineFault → Type 0
 Refuses (request.Add r) s (fault.Edit f) = RefusesCopy s.track f ⊎ RefusesAdd s.track r f
 Refuses (request.Remove r) s (fault.Edit f) = RefusesCopy s.track f ⊎ RefusesRemove s.track r f

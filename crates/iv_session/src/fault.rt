@@ -2,9 +2,10 @@
 ghost use Rattle.std.specs.Prelude.{◌≡◌, ◌≤◌, Some, None, IfSome};
 ghost use Rattle.iv_session.specs.Requests.{request_code, fault_code};
 
-use iv_state::{EditFault, NoView, PrintFault, ResizeFault, SecondFault};
 use iv_text::RecordFault;
+use iv_track::EditFault;
 use iv_view::ViewFault;
+use iv_workspace::{NoView, PrintFault, ResizeFault, SecondFault};
 use thiserror::Error;
 
 /// Why a line is no request.

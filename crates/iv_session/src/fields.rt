@@ -1,4 +1,4 @@
-//! The fields behind a command.
+//! The fields after a command.
 ghost use Rattle.std.specs.Prelude.{◌≡◌, ◌<◌, ◌≤◌, ◌++◌, length, MatchOption};
 ghost use Rattle.iv_text.specs.Fields.{columns as columns_of, fields_left};
 ghost use Rattle.iv_session.specs.Requests.{no_fields, only_field, two_fields as two_of};
@@ -35,7 +35,7 @@ impl<'a> Field<'a> {
     }
 }
 
-/// No field stands behind a command that takes none.
+/// No field is after a command that takes none.
 pub(crate) fn no_field(fields: Option<&[u8]>) -> Result<(), RequestFault>
     ensures { result ≡ no_fields (fields_left 9 fields.entry) }
 {
@@ -45,7 +45,7 @@ pub(crate) fn no_field(fields: Option<&[u8]>) -> Result<(), RequestFault>
     Ok(())
 }
 
-/// The field behind a command that takes one.
+/// The field after a command that takes one.
 pub(crate) fn one_field(fields: Option<&[u8]>) -> Result<Field<'_>, RequestFault>
     ensures { result ≡ only_field (fields_left 9 fields.entry) }
 {
@@ -57,7 +57,7 @@ pub(crate) fn one_field(fields: Option<&[u8]>) -> Result<Field<'_>, RequestFault
     }
 }
 
-/// The fields behind a command that takes two.
+/// The fields after a command that takes two.
 pub(crate) fn two_fields(fields: Option<&[u8]>) -> Result<(Field<'_>, Field<'_>), RequestFault>
     ensures { result ≡ two_of (fields_left 9 fields.entry) }
 {
@@ -70,7 +70,7 @@ pub(crate) fn two_fields(fields: Option<&[u8]>) -> Result<(Field<'_>, Field<'_>)
     }
 }
 
-/// The first columns of a text, as many as the count, and the columns behind them. There is at least one on each side.
+/// The first columns of a text, as many as the count, and the columns after them. There is at least one on each side.
 pub(crate) fn split_columns(text: &[u8], count: u8) -> Option<(&[u8], &[u8])>
     requires { 0 < count }
     ensures { MatchOption result (length (columns_of text.now) ≤ count)

@@ -1,7 +1,7 @@
 //! Laws of the definitions: functions that do nothing, whose contracts are the laws.
 ghost use Rattle.std.specs.Prelude.{◌≡◌, ◌↔◌, ◌⊎◌, ℕ, ◌+◌, ◌≤◌, ◌<◌, ◌++◌, ◌∷◌, [], List, Some, None, Result, Ok, Err, length};
 ghost use Rattle.iv_text.specs.Lines.{lines, HasNoFeed};
-ghost use Rattle.iv_state.specs.States.{State};
+ghost use Rattle.iv_workspace.specs.States.{State};
 ghost use Rattle.iv_session.specs.Endings.{Ran, AreSound, HadMemory, IsTooLongAt};
 ghost use Rattle.iv_session.specs.Limits.{line_sizes, AreWithin, Passes, first_over};
 ghost use Rattle.iv_session.specs.Streams.{Streams};
@@ -17,15 +17,15 @@ pub fn sizes_are_of_lines()
     ensures as_many { (text : List ℕ) → length (line_sizes text) ≡ length (lines text) }
 {}
 
-/// The first line that passes a limit is the one behind lines that pass none; where no line passes one, there is none.
+/// The first line that passes a limit is the one after lines that pass none; where no line passes one, there is none.
 pub fn first_over_is_first()
     ensures none { (most_lines most : ℕ) (sizes : List ℕ) → AreWithin most_lines most sizes → first_over most_lines most 1 sizes ≡ None }
     ensures first { (most_lines most : ℕ) (front back : List ℕ) → AreWithin most_lines most front → Passes most_lines most (length front + 1) back → first_over most_lines most 1 (front ++ back) ≡ Some (length front + 1) }
 {}
 
-/// A run that neither a stream nor want of memory ended is called too long exactly where some line passes a limit, and at the first.
+/// A run that ended neither by a stream nor out of memory is called too long exactly where some line passes a limit, and at the first.
 ///
-/// A run that is done has no such line, and no run goes on behind one, whatever ends it.
+/// A run that is done has no such line, and no run goes on after one, whatever ends it.
 pub fn too_long_is_exact()
     ensures exact { (old new : State) (before after : Streams) (most_lines most n : ℕ) (text : List ℕ) (ended : Result Summary RunFault) → before.input.coming ≡ Some text → Ran old new before after most_lines most ended → AreSound after → HadMemory ended → IsTooLongAt n ended ↔ (first_over most_lines most 1 (line_sizes text) ≡ Some n) }
     ensures done { (old new : State) (before after : Streams) (most_lines most : ℕ) (text : List ℕ) (summary : Summary) → before.input.coming ≡ Some text → Ran old new before after most_lines most (Ok summary) → first_over most_lines most 1 (line_sizes text) ≡ None }

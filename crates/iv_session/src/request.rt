@@ -3,17 +3,17 @@ ghost use Rattle.std.specs.Prelude.{◌≡◌, ◌≢◌, ◌≤◌, Err, IfOk};
 ghost use Rattle.iv_text.specs.Fields.{fields_left};
 ghost use Rattle.iv_text.specs.Genome.{most_length};
 ghost use Rattle.iv_text.specs.Read.{Fits, read_columns};
-ghost use Rattle.iv_state.specs.States.{State};
+ghost use Rattle.iv_workspace.specs.States.{State};
 ghost use Rattle.iv_session.specs.Requests.{asked, asked_by, beside, both, length_said, name_and_length, no_fields, of_fields, of_rows, only_field, read_two, two_fields as two_fields_of, RequestFits};
 ghost use Rattle.iv_session.specs.declared.request.Request.TheVariants as request;
 
 use crate::fault::RequestFault;
 use crate::fields::{Field, no_field, one_field, split_columns, two_fields};
-use iv_state::Session;
 use iv_text::{Genome, RecordFault, RecordRef, read_number, read_record, split_first_column};
+use iv_workspace::Session;
 use std::alloc::Allocator;
 
-/// What a line asks for. Names, words and columns lie in the line.
+/// What a line asks for. Names, words and columns are in the line.
 #[derive(Drop)]
 pub(crate) enum Request<'a> {
     /// Nothing: the line is empty or a comment.
@@ -35,7 +35,7 @@ pub(crate) enum Request<'a> {
     PrintAll,
 }
 
-/// Both records of a line, or a fault: that the second has too few or too many columns is told first, then a
+/// Both records of a line, or a fault: that the second has too few or too many columns is reported first, then a
 /// fault of the first record, then one of the second.
 fn both_rows<'a>(
     first: Result<RecordRef<'a>, RecordFault>,
@@ -52,7 +52,7 @@ fn both_rows<'a>(
     }
 }
 
-/// The two records of the columns behind a command, of this width, or their first fault.
+/// The two records of the columns after a command, of this width, or their first fault.
 fn two_rows<'a, A: Allocator + Copy>(
     genome: &Genome<A>,
     width: u8,
@@ -100,7 +100,7 @@ impl<'a> Request<'a> {
         Request::of_command(session, word, fields)
     }
 
-    /// What a command asks for with what stands behind its TAB, if it has one.
+    /// What a command asks for with what is after its TAB, if it has one.
     fn of_command<A: Allocator + Copy>(
         session: &Session<A>,
         word: &'a [u8],
@@ -136,7 +136,7 @@ impl<'a> Request<'a> {
         }
     }
 
-    /// To add the record of the columns behind the command.
+    /// To add the record of the columns after the command.
     fn add<A: Allocator + Copy>(
         session: &Session<A>,
         fields: Option<&'a [u8]>,
@@ -147,7 +147,7 @@ impl<'a> Request<'a> {
         Ok(Request::Add(session.read(fields.unwrap_or(b""))?))
     }
 
-    /// To remove a copy of the record of the columns behind the command.
+    /// To remove a copy of the record of the columns after the command.
     fn remove<A: Allocator + Copy>(
         session: &Session<A>,
         fields: Option<&'a [u8]>,
@@ -158,7 +158,7 @@ impl<'a> Request<'a> {
         Ok(Request::Remove(session.read(fields.unwrap_or(b""))?))
     }
 
-    /// To replace the first of the two records behind the command by the second.
+    /// To replace the first of the two records after the command by the second.
     fn replace<A: Allocator + Copy>(
         session: &Session<A>,
         fields: Option<&'a [u8]>,
@@ -170,7 +170,7 @@ impl<'a> Request<'a> {
         Ok(Request::Replace(old, new))
     }
 
-    /// To add the record of the columns behind the command to the second file.
+    /// To add the record of the columns after the command to the second file.
     fn add_second<A: Allocator + Copy>(
         session: &Session<A>,
         fields: Option<&'a [u8]>,
@@ -181,7 +181,7 @@ impl<'a> Request<'a> {
         Ok(Request::AddSecond(session.read_second(fields.unwrap_or(b""))?))
     }
 
-    /// To remove a copy of the record of the columns behind the command from the second file.
+    /// To remove a copy of the record of the columns after the command from the second file.
     fn remove_second<A: Allocator + Copy>(
         session: &Session<A>,
         fields: Option<&'a [u8]>,
@@ -192,7 +192,7 @@ impl<'a> Request<'a> {
         Ok(Request::RemoveSecond(session.read_second(fields.unwrap_or(b""))?))
     }
 
-    /// To replace the first of the two records behind the command by the second, in the second file.
+    /// To replace the first of the two records after the command by the second, in the second file.
     fn replace_second<A: Allocator + Copy>(
         session: &Session<A>,
         fields: Option<&'a [u8]>,

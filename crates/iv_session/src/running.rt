@@ -8,9 +8,10 @@ use crate::fault::LineFault;
 use crate::message::put_message;
 use crate::request::Request;
 use crate::script::RunCause;
-use iv_state::Session;
-use iv_text::{Sink, fault_text};
+use iv_bytes::Sink;
+use iv_text::fault_text;
 use iv_view::Words;
+use iv_workspace::Session;
 use std::alloc::Allocator;
 
 /// What became of a line.

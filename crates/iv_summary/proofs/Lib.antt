@@ -1,3 +1,3 @@
-pub mod TakingLemmas
+pub mod NumberFoldLemmas
 mod JoinLemmas
 pub mod DifferentLemmas

@@ -6,7 +6,7 @@ use Rattle.iv_text.specs.RecordText.{strand_text}
 use Rattle.iv_summary.specs.Summaries.{summary_of}
 use Rattle.iv_summary.specs.declared.column.Column.{Column}
 use Rattle.iv_summary.specs.declared.column.Column.TheVariants.{Sequence, Start, Stop, Name, Score, Strand}
-use Rattle.iv_summary.specs.declared.column.Summary.{Summary}
+use Rattle.iv_summary.specs.declared.column.ColumnSummary.{ColumnSummary}
 
 -- the column of this number, from 1
 abbrev pub column_numbered : ℕ → Option Column
@@ -29,9 +29,9 @@ column_value sequence Score r = r.score
 column_value sequence Strand r = strand_text r.strand
 
 -- the result over records on a sequence of this name
-abbrev pub result_over : List ℕ → List Row → Summary → List ℕ
+abbrev pub result_over : List ℕ → List Row → ColumnSummary → List ℕ
 result_over sequence rows s = summary_of s.op (map (column_value sequence s.column) rows)
 
 -- all results over records on a sequence of this name, each with a TAB in front of it
-abbrev pub results_over : List ℕ → List Summary → List Row → List ℕ
+abbrev pub results_over : List ℕ → List ColumnSummary → List Row → List ℕ
 results_over sequence summaries rows = flat_map (λ s. codes "\t" ++ result_over sequence rows s) summaries

@@ -1,4 +1,4 @@
 pub mod Summaries
-pub mod Takings
+pub mod NumberFolds
 pub mod Columns
 pub mod Values

@@ -34,7 +34,7 @@ impl Column {
 
 /// What is asked of the records of a block: an operation over the values of a column.
 #[derive(Clone, Copy, Debug, PartialEq, Eq)]
-pub struct Summary {
+pub struct ColumnSummary {
     pub column: Column,
     pub op: Op,
 }

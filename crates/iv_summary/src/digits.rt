@@ -7,7 +7,7 @@ use std::marker::Model;
 /// The most digits of a number of 64 bits.
 const MOST: usize = 20;
 
-/// A number in decimal. It lies where it stands: it needs no memory beside.
+/// A number in decimal. It is stored inline, and takes no memory.
 #[derive(Debug, Drop)]
 pub(crate) struct Digits {
     // They stand at the end, from `start` on.

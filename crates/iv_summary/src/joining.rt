@@ -22,7 +22,7 @@ pub(crate) fn join<A: Allocator>(alloc: A, values: &[&[u8]]) -> Result<Vec<u8, A
     Ok(text)
 }
 
-/// Room for the values with a comma behind each.
+/// Room for the values with a comma after each.
 fn joined_len(values: &[&[u8]]) -> usize {
     let mut len: usize = 0;
     for value in values {

@@ -2,7 +2,7 @@
 ghost use Rattle.std.specs.Prelude.{◌≡◌, map, IfOk};
 ghost use Rattle.iv_summary.specs.Columns.{column_value, result_over as result_of, results_over};
 
-use crate::column::{Column, Summary};
+use crate::column::{Column, ColumnSummary};
 use crate::op::Op;
 use crate::summarizing::{count_text, summary};
 use crate::value::Value;
@@ -12,7 +12,7 @@ use std::alloc::{AllocError, Allocator};
 /// All results over records on a sequence of this name, each with a TAB in front of it.
 pub fn results<A: Allocator + Copy>(
     alloc: A,
-    summaries: &[Summary],
+    summaries: &[ColumnSummary],
     sequence: &[u8],
     rows: &[&Record<A>],
 ) -> Result<Vec<u8, A>, AllocError>
@@ -30,7 +30,7 @@ pub fn results<A: Allocator + Copy>(
 /// The result over records on a sequence of this name.
 fn result_over<A: Allocator + Copy>(
     alloc: A,
-    asked: Summary,
+    asked: ColumnSummary,
     sequence: &[u8],
     rows: &[&Record<A>],
 ) -> Result<Vec<u8, A>, AllocError>

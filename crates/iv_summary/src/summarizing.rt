@@ -3,8 +3,8 @@ ghost use Rattle.std.specs.Prelude.{◌≡◌, map, decimal, IfOk};
 ghost use Rattle.iv_summary.specs.Summaries.{summary_of, number_text as text_of};
 
 use crate::joining::{distinct, join};
+use crate::number_fold::NumberFold;
 use crate::op::Op;
-use crate::taking::Taking;
 use std::alloc::{AllocError, Allocator};
 
 /// What an operation gives for the values of a column, in the order of a track.
@@ -17,9 +17,9 @@ pub fn summary<A: Allocator + Copy>(
 {
     match op {
         Op::Count => count_text(alloc, values.len()),
-        Op::Sum => number_text(alloc, Taking::Sum.of_values(values)),
-        Op::Min => number_text(alloc, Taking::Least.of_values(values)),
-        Op::Max => number_text(alloc, Taking::Greatest.of_values(values)),
+        Op::Sum => number_text(alloc, NumberFold::Sum.of_values(values)),
+        Op::Min => number_text(alloc, NumberFold::Least.of_values(values)),
+        Op::Max => number_text(alloc, NumberFold::Greatest.of_values(values)),
         Op::Collapse => join(alloc, values),
         Op::Distinct => {
             let different = distinct(alloc, values)?;

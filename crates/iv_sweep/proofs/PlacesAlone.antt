@@ -9,15 +9,15 @@ use Rattle.iv_cover.specs.Blocks.{block_at, block_stop, blocks_below, greatest, 
 use Rattle.iv_cover.specs.Depth.{covers, depth}
 use Rattle.iv_cover.specs.Runs.{empty_runs}
 use Rattle.iv_cover.specs.TrackBlocks.{start_of, stop_of}
-use Rattle.iv_summary.specs.declared.column.Summary.{Summary}
+use Rattle.iv_summary.specs.declared.column.ColumnSummary.{ColumnSummary}
 use Rattle.iv_blocks.specs.ComplementRows.{complement_text, gap_row}
 use Rattle.iv_blocks.specs.Groups.{group, is_in_group, sides}
 use Rattle.iv_blocks.specs.MergeRows.{block_row, merge_text}
 use Rattle.iv_blocks.specs.declared.options.Options.{Options}
 use Rattle.iv_depth.specs.DepthRows.{depth_text, text_by}
 use Rattle.iv_depth.specs.declared.depth_rows.DepthRows.{DepthRows}
-use Rattle.iv_places.specs.Places.{bare}
-use Rattle.iv_places.proofs.BareLemmas.{count-bare}
+use Rattle.iv_index.specs.Places.{bare}
+use Rattle.iv_index.proofs.BareLemmas.{count-bare}
 use Rattle.iv_sweep_blocks.specs.Plain.{IsPlain}
 
 -- ---- tests of bare records
@@ -113,7 +113,7 @@ blocks-bare name d rows n =
         ∙ row-alone name x (block_stop start_of stop_of d rows x) (is_block_start start_of stop_of d rows x) (members start_of stop_of d (map bare rows) x) (members start_of stop_of d rows x)
 
 -- all rows of a merge, by what it asks of a block and by which strands it joins
-abbrev text_with : ℕ → Bool → List Summary → Sequences → List Row → List ℕ
+abbrev text_with : ℕ → Bool → List ColumnSummary → Sequences → List Row → List ℕ
 text_with d stranded summaries g rows = flat_map
     (λ rank. flat_map
     (λ minus. flat_map (block_row (sequence_name g rank) summaries) (blocks_below start_of stop_of d (group stranded rank minus rows) (sequence_length g rank)))

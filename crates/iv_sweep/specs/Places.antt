@@ -2,7 +2,7 @@
 use Rattle.std.specs.Prelude.{◌≡◌, List, map}
 use Rattle.iv_text.specs.Genome.{Sequences}
 use Rattle.iv_text.specs.Row.{Row}
-use Rattle.iv_places.specs.Places.{bare}
+use Rattle.iv_index.specs.Places.{bare}
 use Rattle.iv_view.specs.Views.{kept_text}
 use Rattle.iv_view.specs.declared.view.KeptView.{KeptView}
 

@@ -1,5 +1,5 @@
 //! Faults of a print in one sweep.
-use iv_text::WriteFault;
+use iv_bytes::WriteFault;
 use std::alloc::AllocError;
 use thiserror::Error;
 

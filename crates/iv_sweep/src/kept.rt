@@ -10,11 +10,12 @@ ghost use Rattle.iv_view.specs.Views.{kept_text};
 
 use crate::fault::SweepFault;
 use iv_blocks::Options;
-use iv_places::TextRecords;
+use iv_bytes::{Buffered, Sink};
+use iv_index::TextRecords;
 use iv_sweep_blocks::{put_cluster, put_complement, put_merge};
 use iv_sweep_depth::DepthSweep;
 use iv_sweep_merge::MergeSweep;
-use iv_text::{Buffered, Genome, Sink};
+use iv_text::Genome;
 use iv_view::KeptView;
 use std::alloc::Allocator;
 
@@ -30,7 +31,7 @@ pub fn needs_places_alone(view: &KeptView) -> bool
     }
 }
 
-/// Prints the text of a view, for records in the order of a track that lie on the genome, through one buffer.
+/// Prints the text of a view, for records in the order of a track that are on the genome, through one buffer.
 ///
 /// All memory is had before the first byte is printed: room for a stop of each record for `genomecov`, and for a value of each
 /// where a merge asks for `distinct`. The other views take none.

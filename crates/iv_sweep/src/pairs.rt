@@ -6,10 +6,11 @@ ghost use Rattle.iv_sweep.specs.Prints.{Prints};
 ghost use Rattle.iv_sweep.specs.declared.fault.SweepFault.TheVariants.{NoMemory};
 
 use crate::fault::SweepFault;
+use iv_bytes::{Buffered, Sink};
+use iv_index::TextRecords;
 use iv_pair::{IntersectRows, PairRows};
-use iv_places::TextRecords;
 use iv_sweep_pairs::{CountSweep, PairSweep};
-use iv_text::{Buffered, Genome, Sink};
+use iv_text::Genome;
 use std::alloc::Allocator;
 
 /// Prints these rows of two lists of records, both in the order of a track, through one buffer.

@@ -1,4 +1,4 @@
--- Where the blocks of records lie, and where the next one starts.
+-- Where the blocks of records are, and where the next one starts.
 use Rattle.std.proofs.Common.{◌≡◌, ℕ, Bool, false, not, List, [], ◌∷◌, map, Option, Some, None, refl, sym, ◌∙◌, ap, inl, inr, All}
 use Rattle.std.specs.List.{range_with_len}
 use Rattle.std.specs.Option.{option_map}
@@ -40,7 +40,7 @@ pub none-start : (blocks : List Group) → next_start blocks ≡ None → blocks
 none-start [] is = refl
 none-start (b ∷ blocks) is = cc
 
--- ---- where the blocks lie
+-- ---- where the blocks are
 
 place-of : (s x : ℕ) (at : Option (ℕ × List Row)) → option_map lies_at (option_map (block_on s) (option_map (λ (b : ℕ × List Row). (x, b)) at)) ≡ place_of s x at
 place-of s x None = refl

@@ -7,7 +7,7 @@ use Rattle.iv_text.specs.Genome.{Sequences, seq_count, sequence_name, sequence_l
 use Rattle.iv_text.specs.Row.{Row}
 use Rattle.iv_cover.specs.Blocks.{blocks_below}
 use Rattle.iv_cover.specs.TrackBlocks.{start_of, stop_of, on, block_on, blocks_on, blocks_of}
-use Rattle.iv_summary.specs.declared.column.Summary.{Summary}
+use Rattle.iv_summary.specs.declared.column.ColumnSummary.{ColumnSummary}
 use Rattle.iv_blocks.specs.Groups.{group, sides, listed}
 use Rattle.iv_blocks.specs.MergeRows.{block_row, side_rows, merge_text}
 use Rattle.iv_blocks.specs.declared.options.Options.{Options}
@@ -26,7 +26,7 @@ module _ (d : ℕ) (g : Sequences) (rows : List Row) (o : Options) (plain : IsPl
   sequence-rows s =
       flat_map-map (λ b. interval_row g (lies_at b)) (block_on s) (blocks_below start_of stop_of d (on s rows) (sequence_length g s))
       ∙ flat_map-agree (λ b. interval_row g (lies_at (block_on s b))) (block_row (sequence_name g s) []) (blocks_below start_of stop_of d (on s rows) (sequence_length g s)) (plain-row s)
-      ∙ ap (λ (asked : List Summary). flat_map (block_row (sequence_name g s) asked) (blocks_below start_of stop_of d (on s rows) (sequence_length g s))) (sym plain.nothing)
+      ∙ ap (λ (asked : List ColumnSummary). flat_map (block_row (sequence_name g s) asked) (blocks_below start_of stop_of d (on s rows) (sequence_length g s))) (sym plain.nothing)
       ∙ ap (λ (l : List Row). flat_map (block_row (sequence_name g s) (listed o.summaries)) (blocks_below start_of stop_of d l (sequence_length g s))) (sym (on-is s rows))
       ∙ ap (λ (n : ℕ). flat_map (block_row (sequence_name g s) (listed o.summaries)) (blocks_below start_of stop_of n (group false s false rows) (sequence_length g s))) (sym plain.far)
       ∙ ap (λ (apart : Bool). flat_map (block_row (sequence_name g s) (listed o.summaries)) (blocks_below start_of stop_of o.distance (group apart s false rows) (sequence_length g s))) (sym plain.together)

@@ -8,7 +8,7 @@ use Rattle.iv_text.specs.Row.{Row}
 use Rattle.iv_cover.specs.declared.block.Block.{Block}
 use Rattle.iv_cover.specs.TrackBlocks.{Group}
 
--- where a block with members lies
+-- where a block with members is
 abbrev pub lies_at : Group → Block
 lies_at b = record { sequence = b.sequence; start = b.start; stop = b.stop }
 
@@ -21,7 +21,7 @@ next_start (b ∷ blocks) = Some (b.sequence, b.start)
 abbrev pub interval_row : Sequences → Block → List ℕ
 interval_row g b = sequence_name g b.sequence ++ codes "\t" ++ decimal b.start ++ codes "\t" ++ decimal b.stop ++ codes "\n"
 
--- the row of a record with this number behind its columns
+-- the row of a record with this number after its columns
 abbrev pub numbered_row : Sequences → ℕ → Row → List ℕ
 numbered_row g number r = record_text g r ++ codes "\t" ++ decimal number ++ codes "\n"
 

@@ -8,13 +8,14 @@ ghost use Rattle.iv_blocks.specs.ClusterRows.{cluster_text};
 ghost use Rattle.iv_sweep_blocks.specs.Sweeps.{numbered_row};
 
 use crate::text_blocks::TextBlocks;
-use iv_places::TextRecords;
-use iv_text::{Genome, Sink, WriteFault, put_numbered};
+use iv_bytes::{Sink, WriteFault};
+use iv_index::TextRecords;
+use iv_text::{Genome, put_numbered};
 use std::alloc::Allocator;
 
 /// Puts a row for each record: its columns, and the number of its block, counted from 1 over all sequences.
 ///
-/// The records stand in the order of a track and lie on the genome. One sweep over them, and no memory. On a
+/// The records are in the order of a track and are on the genome. One sweep over them, and no memory. On a
 /// fault the sink has taken a prefix of the text.
 pub fn put_cluster<A: Allocator + Copy, S: Sink>(
     distance: u32,
@@ -37,7 +38,7 @@ pub fn put_cluster<A: Allocator + Copy, S: Sink>(
     Ok(())
 }
 
-/// Puts the rows of a block's members, with the number of the block behind their columns.
+/// Puts the rows of a block's members, with the number of the block after their columns.
 fn put_members<A: Allocator + Copy, S: Sink>(
     members: TextRecords<'_>,
     number: u64,

@@ -4,20 +4,21 @@ ghost use Rattle.std.specs.List.{flat_map, take_while};
 ghost use Rattle.iv_bytes.specs.Sinks.{Puts};
 ghost use Rattle.iv_text.specs.Ordered.{AreInOrder};
 ghost use Rattle.iv_text.specs.Read.{LiesOn};
-ghost use Rattle.iv_blocks.specs.Ahead.{gaps_between, starts_until, drop_while, GivesPassing};
+ghost use Rattle.iv_blocks.specs.BlockCursor.{gaps_between, starts_until, drop_while, GivesPassing};
 ghost use Rattle.iv_blocks.specs.ComplementRows.{gap_row, complement_text};
 ghost use Rattle.iv_sweep_blocks.specs.Sweeps.{lies_at};
 
 use crate::text_blocks::TextBlocks;
 use iv_blocks::put_gap;
+use iv_bytes::{Sink, WriteFault};
 use iv_cover::Block;
-use iv_places::TextRecords;
-use iv_text::{Genome, Sink, WriteFault};
+use iv_index::TextRecords;
+use iv_text::Genome;
 use std::alloc::Allocator;
 
 /// Puts a row for each maximal interval that no record covers, of all sequences, or where `limited`, of those with a record.
 ///
-/// The records stand in the order of a track and lie on the genome. One sweep over them, and no memory. On a
+/// The records are in the order of a track and are on the genome. One sweep over them, and no memory. On a
 /// fault the sink has taken a prefix of the text.
 pub fn put_complement<A: Allocator + Copy, S: Sink>(
     limited: bool,

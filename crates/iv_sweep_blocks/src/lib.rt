@@ -1,6 +1,6 @@
 //! Blocks of records of a text, in one sweep, and the rows of merge, cluster and complement.
 //!
-//! The records stand in order. No call takes memory.
+//! The records are in order. No call takes memory.
 #![tactic(auto)]
 
 mod cluster;

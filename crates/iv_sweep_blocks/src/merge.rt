@@ -11,14 +11,15 @@ ghost use Rattle.iv_sweep_blocks.specs.Sweeps.{interval_row};
 
 use crate::text_blocks::TextBlocks;
 use iv_blocks::put_interval;
+use iv_bytes::{Sink, WriteFault};
 use iv_cover::Block;
-use iv_places::TextRecords;
-use iv_text::{Genome, Sink, WriteFault};
+use iv_index::TextRecords;
+use iv_text::Genome;
 use std::alloc::Allocator;
 
 /// Puts a row for each block of records at most `distance` bases apart: its sequence's name, start and stop.
 ///
-/// The records stand in the order of a track and lie on the genome. One sweep over them, and no memory. On a
+/// The records are in the order of a track and are on the genome. One sweep over them, and no memory. On a
 /// fault the sink has taken a prefix of the text.
 pub fn put_merge<A: Allocator + Copy, S: Sink>(
     distance: u32,

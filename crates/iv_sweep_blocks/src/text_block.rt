@@ -2,7 +2,7 @@
 ghost use Rattle.std.specs.Prelude.{◌≡◌};
 
 use iv_cover::Block;
-use iv_places::{TextRecord, TextRecords};
+use iv_index::{TextRecord, TextRecords};
 use std::marker::Model;
 
 /// A block, and the records that are in it, in their order.

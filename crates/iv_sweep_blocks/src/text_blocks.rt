@@ -10,7 +10,7 @@ ghost use Rattle.iv_sweep_blocks.specs.Sweeps.{next_start};
 
 use crate::text_block::{TextBlock, block_of};
 use iv_cover::Block;
-use iv_places::{TextRecord, TextRecords};
+use iv_index::{TextRecord, TextRecords};
 use std::marker::Model;
 
 /// The blocks that are still to come of a sweep over records of a text: an iterator.
@@ -35,9 +35,9 @@ impl<'t> Model for TextBlocks<'t> {
 }
 
 impl<'t> TextBlocks<'t> {
-    /// The blocks of records that stand in the order of a track.
+    /// The blocks of records that are in the order of a track.
     ///
-    /// They are the blocks of the definition for every genome that the records lie on.
+    /// They are the blocks of the definition for every genome that the records are on.
     pub fn of(records: TextRecords<'t>, distance: u32) -> Self
         requires { AreInOrder records }
         ensures { (g : Sequences) → All (LiesOn g) records.entry → result ≡ blocks_of distance g records.entry }
@@ -64,7 +64,7 @@ impl<'t> Iterator for TextBlocks<'t> {
 
     ghost remaining = { item_count (λ blocks. blocks) };
 
-    /// The next block, `None` after the last. It looks at its members, and at the record behind them.
+    /// The next block, `None` after the last. It looks at its members, and at the record after them.
     fn next(&mut self) -> Option<TextBlock<'t>> {
         // So few records are left that a `usize` counts them.
         let _few = self.rest.len();

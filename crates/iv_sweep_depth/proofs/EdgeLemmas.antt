@@ -2,7 +2,7 @@
 use Rattle.std.proofs.Common.{◌≡◌, ◌≢◌, ℕ, suc, ◌+◌, ◌<◌, ◌≤◌, ◌⊎◌, inl, inr, List, [], ◌∷◌, length, refl, ap, subst, arith, true, false, nat_le, nat_lt, le-leb}
 use Rattle.std.specs.List.{AllByRecursion}
 use Rattle.std.proofs.lemmas.Bool.{cases_lt, lt-ltb, le-ltb, lt-leb}
-use Rattle.iv_places.specs.declared.place.Place.{Place}
+use Rattle.iv_index.specs.declared.place.Place.{Place}
 use Rattle.iv_sweep_depth.specs.Edges.{up_to, Rise, held, AreWithin, IsEdge, IsPassing, PassesEdge, IsAhead, starts_of, stops_of}
 
 pub rise-low : (low from : ℕ) (ns : List ℕ) → low ≤ from → Rise from ns → Rise low ns

@@ -17,8 +17,8 @@ use Rattle.iv_cover.proofs.DepthLemmas.{depth-cons}
 use Rattle.iv_cover.proofs.Merging.{Precedes, precedes-from}
 use Rattle.iv_depth.specs.DepthRows.{depth_text, text_by}
 use Rattle.iv_depth.specs.declared.depth_rows.DepthRows.{DepthRows}
-use Rattle.iv_places.specs.Places.{Spot, spot_of_place, spot_of_row}
-use Rattle.iv_places.specs.declared.place.Place.{Place}
+use Rattle.iv_index.specs.Places.{Spot, spot_of_place, spot_of_row}
+use Rattle.iv_index.specs.declared.place.Place.{Place}
 use Rattle.iv_sweep_depth.specs.Edges.{Rise, AreWithin, up_to, stops_of}
 use Rattle.iv_sweep_depth.specs.Sweeps.{Ascend, AreFrom, AreStopsOf, LiesIn, held_on}
 

@@ -3,7 +3,7 @@ use Rattle.std.proofs.Common.{◌≡◌, ◌≢◌, ℕ, suc, ◌+◌, ◌<◌, 
 use Rattle.std.specs.List.{AllByRecursion, prefix_len}
 use Rattle.std.proofs.lemmas.Bool.{cases_Bool, eqb-true, eq-eqb, ne_eqb}
 use Rattle.iv_text.specs.Genome.{Sequences, sequence_length}
-use Rattle.iv_places.specs.declared.place.Place.{Place}
+use Rattle.iv_index.specs.declared.place.Place.{Place}
 use Rattle.iv_sweep_depth.specs.Edges.{Rise, held, starts_of}
 use Rattle.iv_sweep_depth.specs.Sweeps.{Ascend, AreFrom, IsSplitAt, LiesIn, held_on}
 

@@ -1,7 +1,7 @@
 -- Starts and stops of records, as numbers in order. This is what a sweep knows, and no part of what is promised.
 use Rattle.std.specs.Prelude.{◌≡◌, ℕ, ◌+◌, ◌≤◌, ◌&&◌, nat_le, nat_lt, List, [], ◌∷◌, map, if◌then◌else◌}
 use Rattle.std.specs.List.{AllByRecursion}
-use Rattle.iv_places.specs.declared.place.Place.{Place}
+use Rattle.iv_index.specs.declared.place.Place.{Place}
 
 -- where the places start
 abbrev pub starts_of : List Place → List ℕ

@@ -2,7 +2,7 @@
 use Rattle.std.specs.Prelude.{◌≡◌, ℕ, ◌+◌, ◌<◌, ◌≤◌, ◌==◌, ◌&&◌, nat_le, nat_lt, List, [], ◌∷◌, if◌then◌else◌}
 use Rattle.std.specs.List.{AllByRecursion}
 use Rattle.iv_text.specs.Genome.{Sequences, sequence_length}
-use Rattle.iv_places.specs.declared.place.Place.{Place}
+use Rattle.iv_index.specs.declared.place.Place.{Place}
 use Rattle.iv_sweep_depth.specs.Edges.{Rise, AreWithin, starts_of, stops_of, up_to, held}
 
 -- how many of the places hold position p of the sequence of this rank
@@ -26,7 +26,7 @@ pub record AreOnSequence (length : ℕ) (places : List Place) : Type 0 where
   pub rise : Rise 0 (starts_of places)
   pub lie : AllByRecursion (λ (place : Place). (place.start < place.stop) × (place.stop ≤ length)) places
 
--- the places from this rank on: they lie on the genome, and stand in order
+-- the places from this rank on: they are on the genome, and are in order
 pub record AreFrom (g : Sequences) (rank : ℕ) (places : List Place) : Type 0 where
   pub ascend : Ascend rank 0 places
   pub lie : AllByRecursion (LiesIn g) places

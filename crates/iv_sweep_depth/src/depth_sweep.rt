@@ -6,9 +6,10 @@ ghost use Rattle.iv_text.specs.Ordered.{AreInOrder};
 ghost use Rattle.iv_text.specs.Read.{LiesOn};
 
 use crate::printing::put_genome;
+use iv_bytes::{Sink, WriteFault};
 use iv_depth::DepthRows;
-use iv_places::TextRecords;
-use iv_text::{Genome, Sink, WriteFault};
+use iv_index::TextRecords;
+use iv_text::Genome;
 use std::alloc::{AllocError, Allocator, Global};
 use std::marker::Model;
 

@@ -2,7 +2,7 @@
 ghost use Rattle.std.specs.Prelude.{◌≡◌, ◌+◌, ◌≤◌, [], MatchOption, length};
 ghost use Rattle.iv_sweep_depth.specs.Edges.{IsEdge, PassesEdge, Rise, starts_of};
 
-use iv_places::Place;
+use iv_index::Place;
 
 /// The least position at which a record starts or stops, if a stop is left.
 pub(crate) fn next_edge(starts: &[Place], stops: &[u32]) -> Option<u32>
@@ -15,7 +15,7 @@ pub(crate) fn next_edge(starts: &[Place], stops: &[u32]) -> Option<u32>
     }
 }
 
-/// How many records start at the position, which is the least, and those that start behind it.
+/// How many records start at the position, which is the least, and those that start after it.
 pub(crate) fn pass_starts(starts: &[Place], position: u32) -> (usize, &[Place])
     requires { Rise position (starts_of starts.now) }
     ensures passed { PassesEdge position result.0 (starts_of starts.now) (starts_of result.1.now) }
@@ -33,7 +33,7 @@ pub(crate) fn pass_starts(starts: &[Place], position: u32) -> (usize, &[Place])
     (count, left)
 }
 
-/// How many records stop at the position, which is the least, and the stops behind it.
+/// How many records stop at the position, which is the least, and the stops after it.
 pub(crate) fn pass_stops(stops: &[u32], position: u32) -> (usize, &[u32])
     requires { Rise position stops.now }
     ensures passed { PassesEdge position result.0 stops.now result.1.now }

@@ -7,9 +7,10 @@ ghost use Rattle.iv_sweep_depth.specs.Sweeps.{AreFrom, AreOnSequence, AreStopsOf
 
 use crate::edges::{next_edge, pass_starts, pass_stops};
 use crate::stops::{split_sequence, write_stops};
+use iv_bytes::{Sink, WriteFault};
 use iv_depth::{DepthRows, put_stretch};
-use iv_places::Place;
-use iv_text::{Genome, Sink, WriteFault};
+use iv_index::Place;
+use iv_text::Genome;
 use std::alloc::Allocator;
 
 /// Puts the rows of one sequence, whose places and whose stops are in order.

@@ -3,7 +3,7 @@ ghost use Rattle.std.specs.Prelude.{◌≡◌, ◌+◌, length};
 ghost use Rattle.iv_text.specs.Genome.{Sequences};
 ghost use Rattle.iv_sweep_depth.specs.Sweeps.{AreFrom, AreStopsOf, IsSplitAt};
 
-use iv_places::Place;
+use iv_index::Place;
 
 /// The places of one sequence, which come first, and those of later sequences.
 pub(crate) fn split_sequence(places: &[Place], rank: u32) -> (&[Place], &[Place])

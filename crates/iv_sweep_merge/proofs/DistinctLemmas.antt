@@ -68,7 +68,7 @@ behind-cond : (b : Bool) (x y : List ℕ) (t : List (List ℕ)) → behind_comma
 behind-cond true x y t = refl
 behind-cond false x y t = refl
 
--- what stands behind the first of them
+-- what is after the first of them
 pub behind-next : (x y : List ℕ) (ys : List (List ℕ)) → InOrder cmp (x ∷ y ∷ ys)
     → behind_commas (begun x (y ∷ ys)) ≡ cond (bytes_eq x y) [] (comma ∷ y) ++ behind_commas (begun y ys)
 behind-next x y ys rise =

@@ -1,4 +1,4 @@
--- A first piece of a text, and what is to come behind it.
+-- A first piece of a text, and what is to come after it.
 use Rattle.std.proofs.Common.{◌≡◌, ℕ, List, ◌++◌, sym, subst}
 use Rattle.iv_bytes.specs.Sinks.{SinkState, Takes, FailsIn}
 use Rattle.iv_bytes.proofs.Putting.{Underway, FailsIn-front, Underway-more, Underway-fails}

@@ -20,7 +20,7 @@ on-first p r rs e = cond-true (p r) (r ∷ filter p rs) (filter p rs) e
 pub off-first : {X : Type 0} (p : X → Bool) (r : X) (rs : List X) → p r ≡ false → filter p (r ∷ rs) ≡ filter p rs
 off-first p r rs e = cond-false (p r) (r ∷ filter p rs) (filter p rs) e
 
--- one more record that passes, behind those that are passed
+-- one more record that passes, after those that are passed
 on-last : (p : Row → Bool) (n : ℕ) (xs : List Row) (r : Row) (rs : List Row) → drop n xs ≡ r ∷ rs → p r ≡ true
     → filter p (take (n + 1) xs) ≡ filter p (take n xs) ++ r ∷ []
 on-last p n xs r rs at e =

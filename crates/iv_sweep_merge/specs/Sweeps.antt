@@ -6,18 +6,18 @@ use Rattle.iv_text.specs.Bytes.{comma}
 use Rattle.iv_text.specs.Row.{Row}
 use Rattle.iv_cover.specs.Coming.{coming}
 use Rattle.iv_cover.specs.TrackBlocks.{Group}
-use Rattle.iv_summary.specs.declared.column.Summary.{Summary}
+use Rattle.iv_summary.specs.declared.column.ColumnSummary.{ColumnSummary}
 use Rattle.iv_summary.specs.declared.op.Op.TheVariants.{Distinct}
 use Rattle.iv_blocks.specs.Groups.{is_on_side, listed, sides}
 use Rattle.iv_blocks.specs.MergeRows.{block_row}
 use Rattle.iv_blocks.specs.declared.options.Options.{Options}
 
 -- where the different values of so many records are asked for, there is room for so many
-abbrev pub HasRoom : ℕ → ℕ → List Summary → Type 0
+abbrev pub HasRoom : ℕ → ℕ → List ColumnSummary → Type 0
 HasRoom room count summaries = All (λ s. s.op ≡ Distinct → count ≤ room) summaries
 
 -- the row of a block with members, on a sequence of this name
-abbrev pub group_row : List ℕ → List Summary → Group → List ℕ
+abbrev pub group_row : List ℕ → List ColumnSummary → Group → List ℕ
 group_row name summaries b = block_row name summaries (b.start, (b.stop, b.members))
 
 -- the rows of the blocks of records in order, all of one group

@@ -10,9 +10,9 @@ ghost use Rattle.iv_text.specs.Ordered.{InOrder};
 ghost use Rattle.iv_summary.specs.Columns.{column_value};
 ghost use Rattle.iv_summary.specs.Summaries.{different};
 
-use crate::members::Members;
+use crate::side_records::SideRecords;
+use iv_bytes::{Sink, WriteFault, put_all, put_pieces};
 use iv_summary::{Column, Value};
-use iv_text::{Sink, WriteFault, put_all, put_pieces};
 use std::alloc::Allocator;
 
 /// Puts the different values of the column, in the order of their bytes, with commas between.
@@ -21,7 +21,7 @@ use std::alloc::Allocator;
 pub(crate) fn put_distinct<'t, A: Allocator, S: Sink>(
     column: Column,
     name: &'t [u8],
-    members: &Members<'t>,
+    members: &SideRecords<'t>,
     values: &mut Vec<Value<'t>, A>,
     sink: &mut S,
 ) -> Result<(), WriteFault>
@@ -38,7 +38,7 @@ pub(crate) fn put_distinct<'t, A: Allocator, S: Sink>(
 fn fill<'t, A: Allocator>(
     column: Column,
     name: &'t [u8],
-    members: &Members<'t>,
+    members: &SideRecords<'t>,
     values: &mut Vec<Value<'t>, A>,
 )
     requires room { length members.now ≤ vec_capacity values.old }

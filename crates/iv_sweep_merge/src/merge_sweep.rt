@@ -9,9 +9,10 @@ ghost use Rattle.iv_blocks.specs.MergeRows.{merge_text};
 use crate::rows::put_sequence;
 use crate::sequence::split_sequence;
 use iv_blocks::Options;
-use iv_places::TextRecords;
-use iv_summary::{Op, Summary, Value};
-use iv_text::{Genome, Sink, WriteFault};
+use iv_bytes::{Sink, WriteFault};
+use iv_index::TextRecords;
+use iv_summary::{ColumnSummary, Op, Value};
+use iv_text::Genome;
 use std::alloc::{AllocError, Allocator, Global};
 use std::marker::Model;
 
@@ -82,7 +83,7 @@ impl<'t, A: Allocator + Copy> MergeSweep<'t, A> {
 }
 
 /// Whether the different values of some column are asked for.
-fn asks_distinct(summaries: &[Summary]) -> bool
+fn asks_distinct(summaries: &[ColumnSummary]) -> bool
     ensures { IsFalse result → All (λ s. s.op ≡ Distinct → ⊥) summaries.now }
 {
     summaries.iter().any(|asked| asked.op == Op::Distinct)

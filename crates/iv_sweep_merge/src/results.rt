@@ -9,20 +9,20 @@ ghost use Rattle.iv_summary.specs.declared.op.Op.TheVariants.{Distinct};
 ghost use Rattle.iv_sweep_merge.specs.Sweeps.{HasRoom};
 
 use crate::distinct::put_distinct;
-use crate::members::Members;
+use crate::side_records::SideRecords;
 use crate::totals::total;
-use iv_places::TextRecord;
-use iv_summary::{Column, Op, Summary, Taking, Value};
-use iv_text::{Sink, WriteFault, put_all};
+use iv_bytes::{Sink, WriteFault, put_all};
+use iv_index::TextRecord;
+use iv_summary::{Column, ColumnSummary, NumberFold, Op, Value};
 use std::alloc::Allocator;
 
 /// Puts all results over records on a sequence of this name, each with a TAB in front of it.
 ///
 /// There is room for the values of all records where `distinct` is asked, and so it takes no memory.
 pub(crate) fn put_results<'t, A: Allocator, S: Sink>(
-    summaries: &[Summary],
+    summaries: &[ColumnSummary],
     name: &'t [u8],
-    members: &Members<'t>,
+    members: &SideRecords<'t>,
     values: &mut Vec<Value<'t>, A>,
     sink: &mut S,
 ) -> Result<(), WriteFault>
@@ -39,9 +39,9 @@ pub(crate) fn put_results<'t, A: Allocator, S: Sink>(
 
 /// Puts the result over records on a sequence of this name.
 fn put_result<'t, A: Allocator, S: Sink>(
-    asked: Summary,
+    asked: ColumnSummary,
     name: &'t [u8],
-    members: &Members<'t>,
+    members: &SideRecords<'t>,
     values: &mut Vec<Value<'t>, A>,
     sink: &mut S,
 ) -> Result<(), WriteFault>
@@ -52,16 +52,16 @@ fn put_result<'t, A: Allocator, S: Sink>(
     let column = asked.column;
     match asked.op {
         Op::Count => put_count(members, sink),
-        Op::Sum => put_number(total(Taking::Sum, column, name, members), sink),
-        Op::Min => put_number(total(Taking::Least, column, name, members), sink),
-        Op::Max => put_number(total(Taking::Greatest, column, name, members), sink),
+        Op::Sum => put_number(total(NumberFold::Sum, column, name, members), sink),
+        Op::Min => put_number(total(NumberFold::Least, column, name, members), sink),
+        Op::Max => put_number(total(NumberFold::Greatest, column, name, members), sink),
         Op::Collapse => put_values(column, name, members, sink),
         Op::Distinct => put_distinct(column, name, members, values, sink),
     }
 }
 
 /// Puts how many records there are.
-fn put_count<S: Sink>(members: &Members<'_>, sink: &mut S) -> Result<(), WriteFault>
+fn put_count<S: Sink>(members: &SideRecords<'_>, sink: &mut S) -> Result<(), WriteFault>
     ensures { Puts (S.state sink.old) (S.state sink.new) result (decimal (length members.now)) }
 {
     members.law_of_few();
@@ -86,7 +86,7 @@ fn put_number<S: Sink>(number: Option<i128>, sink: &mut S) -> Result<(), WriteFa
 fn put_values<S: Sink>(
     column: Column,
     name: &[u8],
-    members: &Members<'_>,
+    members: &SideRecords<'_>,
     sink: &mut S,
 ) -> Result<(), WriteFault>
     ensures { Puts (S.state sink.old) (S.state sink.new) result (join_with_byte comma (map (column_value name.now column) members.now)) }

@@ -9,9 +9,9 @@ use crate::results::put_results;
 use crate::side::Side;
 use crate::side_blocks::{SideBlock, SideBlocks};
 use iv_blocks::Options;
-use iv_places::TextRecords;
-use iv_summary::{Summary, Value};
-use iv_text::{Sink, WriteFault, put_all, put_pieces};
+use iv_bytes::{Sink, WriteFault, put_all, put_pieces};
+use iv_index::TextRecords;
+use iv_summary::{ColumnSummary, Value};
 use std::alloc::Allocator;
 
 /// Puts the rows of the blocks of records of one sequence, side by side.
@@ -55,7 +55,7 @@ fn put_side<'t, A: Allocator, S: Sink>(
 
 /// Puts the row of a block: its sequence's name, start and stop, and the results over its records.
 fn put_block<'t, A: Allocator, S: Sink>(
-    summaries: &[Summary],
+    summaries: &[ColumnSummary],
     name: &'t [u8],
     found: &SideBlock<'t>,
     values: &mut Vec<Value<'t>, A>,

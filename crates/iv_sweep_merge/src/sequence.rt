@@ -3,7 +3,7 @@ ghost use Rattle.std.specs.Prelude.{◌≡◌, ◌≤◌, nat_lt, All, filter};
 ghost use Rattle.iv_text.specs.Ordered.{AreInOrder};
 ghost use Rattle.iv_cover.specs.TrackBlocks.{on};
 
-use iv_places::TextRecords;
+use iv_index::TextRecords;
 
 /// The records on the sequence of this rank, and those on later ones.
 pub(crate) fn split_sequence<'t>(

@@ -2,7 +2,7 @@
 ghost use Rattle.std.specs.Prelude.{◌≡◌};
 ghost use Rattle.iv_sweep_merge.specs.Sides.{is_on};
 
-use iv_places::TextRecord;
+use iv_index::TextRecord;
 use iv_text::Strand;
 
 /// Which records of a sequence may be in one block with one another: all, or those of one strand.

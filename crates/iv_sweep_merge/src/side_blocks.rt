@@ -6,10 +6,10 @@ ghost use Rattle.iv_cover.specs.Coming.{coming};
 ghost use Rattle.iv_cover.specs.TrackBlocks.{with_members};
 ghost use Rattle.iv_sweep_merge.specs.Sides.{is_on};
 
-use crate::members::Members;
 use crate::side::Side;
+use crate::side_records::SideRecords;
 use iv_cover::Block;
-use iv_places::{TextRecord, TextRecords};
+use iv_index::{TextRecord, TextRecords};
 use iv_sweep_blocks::block_of;
 use std::marker::Model;
 
@@ -17,7 +17,7 @@ use std::marker::Model;
 #[derive(Drop)]
 pub(crate) struct SideBlock<'t> {
     pub(crate) block: Block,
-    pub(crate) members: Members<'t>,
+    pub(crate) members: SideRecords<'t>,
 }
 
 impl<'t> Model for SideBlock<'t> {
@@ -69,7 +69,7 @@ impl<'t> Iterator for SideBlocks<'t> {
 
     ghost remaining = { item_count (λ blocks. blocks) };
 
-    /// The next block, `None` after the last. It looks at its members, at those between, and at the record behind them.
+    /// The next block, `None` after the last. It looks at its members, at those between, and at the record after them.
     fn next(&mut self) -> Option<SideBlock<'t>> {
         let ahead = ahead_on(self.side, &self.rest);
         // So few records are left that a `usize` counts them.
@@ -80,7 +80,7 @@ impl<'t> Iterator for SideBlocks<'t> {
         self.rest = rest;
         Some(SideBlock {
             block,
-            members: Members::of(members, self.side),
+            members: SideRecords::of(members, self.side),
         })
     }
 }

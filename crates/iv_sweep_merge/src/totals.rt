@@ -3,18 +3,18 @@ ghost use Rattle.std.specs.Prelude.{◌≡◌, map};
 ghost use Rattle.std.specs.Option.{option_and_then};
 ghost use Rattle.iv_summary.specs.Columns.{column_value};
 ghost use Rattle.iv_summary.specs.Summaries.{numbers_of, taken_together};
-ghost use Rattle.iv_summary.specs.Takings.{both_of};
+ghost use Rattle.iv_summary.specs.NumberFolds.{both_of};
 
-use crate::members::Members;
-use iv_summary::{Column, Taking, Value};
+use crate::side_records::SideRecords;
+use iv_summary::{Column, NumberFold, Value};
 
 /// The numbers of the column taken together, where the records' sequence has this name; `None` where there is no number,
 /// and where a value other than a full stop is none.
 pub(crate) fn total(
-    taking: Taking,
+    taking: NumberFold,
     column: Column,
     name: &[u8],
-    members: &Members<'_>,
+    members: &SideRecords<'_>,
 ) -> Option<i128>
     ensures { result ≡ option_and_then (taken_together (both_of taking)) (numbers_of (map (column_value name.now column) members.now)) }
 {

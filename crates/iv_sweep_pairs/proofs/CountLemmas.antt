@@ -14,8 +14,8 @@ use Rattle.std.proofs.lemmas.List.Sorted.{sorted_far, sum_by-IsPermutation}
 use Rattle.std.proofs.lemmas.List.Sums.{sum_by-cons, length-filter}
 use Rattle.iv_text.specs.Ordered.{AreInOrder}
 use Rattle.iv_text.specs.Row.{Row, row_cmp}
-use Rattle.iv_places.specs.Places.{HasBase, Spot, spot_of_place, spot_of_row}
-use Rattle.iv_places.specs.declared.place.Place.{Place}
+use Rattle.iv_index.specs.Places.{HasBase, Spot, spot_of_place, spot_of_row}
+use Rattle.iv_index.specs.declared.place.Place.{Place}
 use Rattle.iv_pair.specs.Hits.{overlaps, hits_of}
 use Rattle.iv_sweep_pairs.specs.Counts.{is_before, is_up_to, begins_before, ends_by, place_before, end_by, end_of, AreEndsOf, AreStartsOf, EndsAscend}
 use Rattle.iv_sweep_pairs.specs.Sweeps.{Precedes}
@@ -93,7 +93,7 @@ none-same b ys e = cc
 some-same : (a : Spot) (xs : List Spot) → a ∷ xs ≡ [] → ⊥
 some-same a xs e = cc
 
--- what holds of each place holds of each record, where it is said of where they lie
+-- what holds of each place holds of each record, where it is said of where they are
 all-rows : (P : Spot → Type 0) (places : List Place) (rows : List Row) → LieAs places rows → All (λ place. P (spot_of_place place)) places → All (λ r. P (spot_of_row r)) rows
 all-rows P [] [] e h = All-nil (λ r. P (spot_of_row r))
 all-rows P [] (r ∷ rows) e h = absurd (none-same _ _ e)
@@ -112,7 +112,7 @@ all-places P (place ∷ places) (r ∷ rows) e h =
     (subst P (sym (head-same _ _ _ _ e)) (All-head (λ q. P (spot_of_row q)) r rows h))
     (all-places P places rows (tail-same _ _ _ _ e) (All-tail (λ q. P (spot_of_row q)) r rows h))
 
--- a test of where they lie counts as many places as records
+-- a test of where they are counts as many places as records
 count-places : (p : Spot → Bool) (places : List Place) (rows : List Row) → LieAs places rows → count_by (λ place. p (spot_of_place place)) places ≡ count_by (λ r. p (spot_of_row r)) rows
 count-places p places rows e = sym (count-map spot_of_place p places) ∙ ap (λ (l : List Spot). count_by p l) e ∙ count-map spot_of_row p rows
 

@@ -1,4 +1,4 @@
--- Where two records lie, as numbers.
+-- Where two records are, as numbers.
 use Rattle.std.proofs.Common.{◌≡◌, ◌<◌, ◌≤◌, ◌&&◌, ◌==◌, true, false, nat_lt, inl, inr, arith, eq-eqb}
 use Rattle.std.specs.Ordering.{is_le}
 use Rattle.std.proofs.lemmas.Bool.{and_parts, and_from, and_cases, or_parts, ltb-true, ltb-false, eqb-true, eqb-false, lt-ltb, false_from_ne_true}

@@ -1,8 +1,8 @@
-//! Where a record of the second list lies beside one of the first.
+//! Where a record of the second list is beside one of the first.
 ghost use Rattle.std.specs.Prelude.{◌≡◌};
 ghost use Rattle.iv_sweep_pairs.specs.Sweeps.{is_past, reaches};
 
-use iv_places::TextRecord;
+use iv_index::TextRecord;
 
 /// Whether `b` is on the sequence of `a` and stops past its start.
 pub(crate) fn reaches(a: &TextRecord<'_>, b: &TextRecord<'_>) -> bool

@@ -10,8 +10,9 @@ ghost use Rattle.iv_pair.specs.declared.pair_rows.PairRows.TheVariants.{Intersec
 
 use crate::ends::{End, ends_of, pass_ends};
 use crate::starts::{count_starts, pass_starts};
-use iv_places::{TextRecord, TextRecords};
-use iv_text::{Genome, Sink, WriteFault, put_numbered};
+use iv_bytes::{Sink, WriteFault};
+use iv_index::{TextRecord, TextRecords};
+use iv_text::{Genome, put_numbered};
 use std::alloc::{AllocError, Allocator, Global};
 use std::marker::Model;
 

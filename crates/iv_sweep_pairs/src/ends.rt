@@ -3,7 +3,7 @@ ghost use Rattle.std.specs.Prelude.{◌≡◌, ◌≤◌, IfOk, count_by, map};
 ghost use Rattle.std.specs.List.Sorted.{IsPermutation};
 ghost use Rattle.iv_sweep_pairs.specs.Counts.{EndsAscend, end_by, end_of, is_up_to};
 
-use iv_places::Place;
+use iv_index::Place;
 use std::alloc::{AllocError, Allocator};
 
 /// Where a record ends. Ends are in order by the rank of the sequence, and then by the stop.

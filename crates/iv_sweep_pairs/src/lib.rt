@@ -3,11 +3,11 @@
 //! Both lists stand in order. All memory is taken before the first row.
 #![tactic(auto)]
 
+mod active_hits;
 mod beside;
 mod count_sweep;
 mod cover_alone;
 mod ends;
-mod hits;
 mod pair_sweep;
 mod printing;
 mod starts;

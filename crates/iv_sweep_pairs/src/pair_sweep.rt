@@ -4,9 +4,9 @@ ghost use Rattle.iv_text.specs.Ordered.{AreInOrder};
 ghost use Rattle.iv_sweep_pairs.specs.Pairs.{Gives};
 ghost use Rattle.iv_sweep_pairs.specs.Sweeps.{Covers, HitAlike, reaches};
 
+use crate::active_hits::ActiveHits;
 use crate::beside::{is_past, reaches};
-use crate::hits::Hits;
-use iv_places::{TextRecord, TextRecords};
+use iv_index::{TextRecord, TextRecords};
 use std::alloc::{AllocError, Allocator, Global};
 use std::marker::Model;
 
@@ -94,10 +94,10 @@ impl<'t, A: Allocator + Copy> PairSweep<'t, A> {
     }
 
     /// The hits of the record that was given last, in the order of the second list.
-    pub(crate) fn hits(&self) -> Hits<'_, 't>
+    pub(crate) fn hits(&self) -> ActiveHits<'_, 't>
         ensures { result ≡ self.now.found }
     {
-        Hits {
+        ActiveHits {
             active: self.active.as_slice(),
             rest: self.rest.again(),
             seq: self.seq,

@@ -3,8 +3,9 @@ ghost use Rattle.iv_bytes.specs.Sinks.{Puts};
 ghost use Rattle.iv_pair.specs.PairRows.{pair_text};
 
 use crate::pair_sweep::PairSweep;
+use iv_bytes::{Sink, WriteFault};
 use iv_pair::{PairRows, put_pair_rows};
-use iv_text::{Genome, Sink, WriteFault};
+use iv_text::Genome;
 use std::alloc::Allocator;
 
 impl<'t, A: Allocator + Copy> PairSweep<'t, A> {

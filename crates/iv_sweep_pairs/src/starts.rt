@@ -2,7 +2,7 @@
 ghost use Rattle.std.specs.Prelude.{◌≡◌, ◌<◌, ◌≤◌, count_by, length};
 ghost use Rattle.iv_sweep_pairs.specs.Counts.{StartsAscend, is_before, place_before};
 
-use iv_places::Place;
+use iv_index::Place;
 
 /// How many places are looked at one after another, before a search goes over those that are left.
 const FEW: usize = 8;

@@ -58,7 +58,7 @@ with_length-same [] rank n at = refl
 with_length-same (s ∷ g) zero n at = let same : s.1 ≡ n = cc at in ap (λ (m : ℕ). (s.0, m) ∷ g) (sym same)
 with_length-same (s ∷ g) (suc rank) n at = ap (λ (rest : Sequences). s ∷ rest) (with_length-same g rank n at)
 
--- a name that has a rank stands within the genome
+-- a name that has a rank is within the genome
 pub rank-within : (g : Sequences) (name : List ℕ) (rank : ℕ) → rank_of g name ≡ Some rank → rank < length g
 rank-within g name rank at =
     let found = position-Some (bytes_eq name) (names_of g) rank [] at in

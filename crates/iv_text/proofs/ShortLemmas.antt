@@ -53,7 +53,7 @@ strip-front [] b bs = refl
 strip-front (x ∷ []) b bs = strip-more x b bs
 strip-front (x ∷ y ∷ xs) b bs = strip-more x y (xs ++ b ∷ bs) ∙ ap (λ t. x ∷ t) (strip-front (y ∷ xs) b bs)
 
--- ---- a name that is no header, and a TAB behind it
+-- ---- a name that is no header, and a TAB after it
 
 at-tab : (name rest : List ℕ) → get_or (name ++ 9 ∷ rest) (length name) 0 ≡ 9
 at-tab [] rest = refl
@@ -167,7 +167,7 @@ ended line rest next plain kept (inr feed) =
     let cut : strip_last 13 raw ≡ line = strip-front line 13 [] ∙ ap (λ t. line ++ t) (strip-is 13 []) ∙ append-nil line in
     (raw ++ 10 ∷ [], grind (arith, common_steps), whole, ap lines whole ∙ lines-line raw next feedless_raw ∙ ap (λ (s : List ℕ). s ∷ lines next) cut)
 
--- ---- the cells of a line behind its place
+-- ---- the cells of a line after its place
 
 cell-without : (z : ℕ) (cell : List ℕ) → ends_cell z ≡ true → IsCell cell → All (λ b. b ≢ z) cell
 cell-without z cell ends plain = λ k d within e. false≢true (sym (plain k d within) ∙ ap ends_cell e ∙ ends)

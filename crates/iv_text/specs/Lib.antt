@@ -14,5 +14,5 @@ pub mod ShortLine
 pub mod Ordered
 pub mod RecordText
 pub mod OnePass
-pub mod Texts
+pub mod NameAndScore
 pub mod NameHash

@@ -17,15 +17,15 @@ pub record IsNamed (g : Sequences) (name : List ℕ) (rank len : ℕ) : Type 0 w
   pub rank_is : rank_of g name ≡ Some rank
   pub length_is : length_at g rank ≡ Some len
 
--- the text begins with digits that stand for n, and the rest is behind them
+-- the text begins with digits that mean n, and the rest is after them
 abbrev pub BeginsWithNumber : List ℕ → ℕ → List ℕ → Type 0
 BeginsWithNumber text n rest = (digits : List ℕ) × (text ≡ digits ++ rest) × (number digits ≡ Some n)
 
--- the columns behind a column that ends where the rest of its line begins
+-- the columns after a column that ends where the rest of its line begins
 abbrev pub AreBehind : List ℕ → List (List ℕ) → Type 0
 AreBehind rest others = (column : List ℕ) → HasNoTab column → columns (column ++ rest) ≡ column ∷ others
 
--- the text begins with the columns of a place on the genome: a name, a start and a stop; the rest is behind them
+-- the text begins with the columns of a place on the genome: a name, a start and a stop; the rest is after them
 pub record BeginsWithPlace (g : Sequences) (text : List ℕ) (rank start stop : ℕ) (rest : List ℕ) : Type 0 where
   pub name : List ℕ
   pub starts : List ℕ
@@ -46,16 +46,16 @@ ends_cell b = is_line_byte b || is_separator tab b
 abbrev pub IsCell : List ℕ → Type 0
 IsCell cell = All (λ b. ends_cell b ≡ false) cell
 
--- the text begins with a TAB and a good cell, and the rest is behind them
+-- the text begins with a TAB and a good cell, and the rest is after them
 abbrev pub BeginsWithCell : (List ℕ → Type 0) → List ℕ → List ℕ → Type 0
 BeginsWithCell Good text rest = (cell : List ℕ) × (text ≡ 9 ∷ (cell ++ rest)) × IsCell cell × Good cell
 
--- cells, each behind its TAB
+-- cells, each after its TAB
 abbrev pub laid : List (List ℕ) → List ℕ
 laid [] = []
 laid (cell ∷ cells) = 9 ∷ (cell ++ laid cells)
 
--- the text begins with the cells of a record of this width behind its place, each behind its TAB, and the rest is behind them
+-- the text begins with the cells of a record of this width after its place, each after its TAB, and the rest is after them
 pub record BeginsWithCells (width : ℕ) (text rest : List ℕ) : Type 0 where
   pub cells : List (List ℕ)
   pub text_is : text ≡ laid cells ++ rest

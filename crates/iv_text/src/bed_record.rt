@@ -1,4 +1,4 @@
-//! A record, wherever its columns lie.
+//! A record, wherever its columns are.
 ghost use Rattle.std.specs.Prelude.{◌≡◌, ◌<◌};
 ghost use Rattle.iv_text.specs.Row.{Row};
 
@@ -6,7 +6,7 @@ use crate::record::Record;
 use crate::record_ref::RecordRef;
 use std::alloc::Allocator;
 
-/// A checked record. Where it lies is at hand; its other columns may have to be cut from its line.
+/// A checked record. Its place is at hand; its other columns may have to be cut from its line.
 pub trait BedRecord: Drop {
     /// The row that it is.
     ghost as_row: { Self → Row };

@@ -1,4 +1,4 @@
-//! The cells that a text begins with: columns behind the third, each behind its TAB.
+//! The cells that a text begins with: columns after the third, each after its TAB.
 ghost use Rattle.std.specs.Prelude.{◌≡◌, ◌≤◌, false, [], ◌∷◌, IfSome, IsSome};
 ghost use Rattle.std.specs.Option.{is_some};
 ghost use Rattle.iv_text.specs.OnePass.{ends_cell, BeginsWithCell, BeginsWithCells};
@@ -14,7 +14,7 @@ fn is_end(byte: u8) -> bool
     byte == b'\t' || byte == b'\n' || byte == b'\r' || byte == 0
 }
 
-/// What stands behind a TAB and a name or a score, where a text begins with them.
+/// What is after a TAB and a name or a score, where a text begins with them.
 fn after_text(text: &[u8]) -> Option<&[u8]>
     ensures { IfSome result (λ rest. BeginsWithCell (λ cell. bad_text cell ≡ false) text.now rest.now) }
 {
@@ -36,7 +36,7 @@ fn is_strand(byte: u8) -> bool
     byte == b'+' || byte == b'-' || byte == b'.'
 }
 
-/// What stands behind a TAB and the byte of a strand, where a text begins with them.
+/// What is after a TAB and the byte of a strand, where a text begins with them.
 fn after_strand(text: &[u8]) -> Option<&[u8]>
     ensures { IfSome result (λ rest. BeginsWithCell (λ cell. IsSome (strand_of cell)) text.now rest.now) }
 {
@@ -47,7 +47,7 @@ fn after_strand(text: &[u8]) -> Option<&[u8]>
     }
 }
 
-/// What stands behind the cells of a record of this width, where a text begins with them.
+/// What is after the cells of a record of this width, where a text begins with them.
 pub(crate) fn after_cells(width: u8, text: &[u8]) -> Option<&[u8]>
     requires { (3 ≤ width) × (width ≤ 6) }
     ensures { IfSome result (λ rest. BeginsWithCells width text.now rest.now) }

@@ -13,7 +13,7 @@ use crate::fields::{after_byte, columns_behind, cut_first_column};
 use crate::genome::Genome;
 use crate::lines::after_line_end;
 use crate::number::split_number;
-use crate::reading::{are_sound, others_of, read_record};
+use crate::reading::{are_sound, optional_columns_of, read_record};
 use crate::record_ref::RecordRef;
 use crate::short_line::ShortLine;
 use crate::strand::read_strand;
@@ -29,7 +29,7 @@ struct Named<'t> {
     length: u32,
 }
 
-/// The columns that a text begins with: where a record lies, and what stands behind.
+/// The columns that a text begins with: where a record is, and what is after.
 #[derive(Clone, Copy, Debug)]
 struct Front<'a> {
     rank: u32,
@@ -59,7 +59,7 @@ impl<'g, 't, A: Allocator> Model for RecordReader<'g, 't, A> {
     ghost invariant = { λ r. IfSome r.before (λ b. IsNamed r.genome.now b.name.now b.rank b.length) };
 }
 
-/// What stands behind a name that a line begins with.
+/// What is after a name that a line begins with.
 fn after_name<'t>(line: &'t [u8], name: &[u8]) -> Option<&'t [u8]>
     ensures { IfSome result (λ rest. line.now ≡ name.now ++ rest.now) }
 {
@@ -117,7 +117,7 @@ impl<'g, 't, A: Allocator + Copy> RecordReader<'g, 't, A> {
         })
     }
 
-    /// The first line of a text, where it names the sequence of the line before and stands for a record of this width
+    /// The first line of a text, where it names the sequence of the line before and means a record of this width
     /// that ends at a LF: read in one pass, which finds the line's end too.
     ///
     /// `None` says nothing: [`read`](Self::read) answers for every line.
@@ -138,7 +138,7 @@ impl<'g, 't, A: Allocator + Copy> RecordReader<'g, 't, A> {
 
     /// The record of a line that names the sequence of the line before, read in one pass from its front.
     ///
-    /// `None` says nothing: the line begins with another name, or stands for no record.
+    /// `None` says nothing: the line begins with another name, or means no record.
     fn read_again(&self, width: u8, line: &'t [u8]) -> Option<RecordRef<'t>>
         requires { (3 ≤ width) × (width ≤ 6) }
         ensures value { IfSome result (λ r. read self.now width line.now ≡ Ok r) }
@@ -146,7 +146,7 @@ impl<'g, 't, A: Allocator + Copy> RecordReader<'g, 't, A> {
     {
         let front = self.split_place(line)?;
         let columns = columns_behind(front.rest)?;
-        let others = others_of(columns, width)?;
+        let others = optional_columns_of(columns, width)?;
         let strand = read_strand(others.strand);
         let sound = are_sound(width, others.name, others.score, strand);
         if !sound {
@@ -163,8 +163,8 @@ impl<'g, 't, A: Allocator + Copy> RecordReader<'g, 't, A> {
         })
     }
 
-    /// The record that the next line stands for at a width, or its first fault, as
-    /// [`read_record`](crate::read_record) answers it. A line behind one of the same sequence is read in one pass.
+    /// The record that the next line means at a width, or its first fault, as
+    /// [`read_record`](crate::read_record) answers it. A line after one of the same sequence is read in one pass.
     pub fn read(&mut self, width: u8, line: &'t [u8]) -> Result<RecordRef<'t>, RecordFault>
         requires { (3 ≤ width) × (width ≤ 6) }
         ensures same { self.new ≡ self.old }

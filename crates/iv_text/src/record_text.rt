@@ -5,7 +5,7 @@ ghost use Rattle.iv_text.specs.RecordText.{place_text, strand_text, rest_text, r
 
 use crate::genome::Genome;
 use crate::record_ref::RecordRef;
-use crate::row_tail::RowTail;
+use crate::row_buffer::RowBuffer;
 use crate::strand::Strand;
 use iv_bytes::{Sink, WriteFault, put_all, put_pieces};
 use std::alloc::Allocator;
@@ -73,27 +73,27 @@ fn put_columns<S: Sink, A: Allocator + Copy>(
 }
 
 /// Lays a record's columns after the third, each with a TAB in front of it.
-fn lay_rest(tail: &mut RowTail, row: &RecordRef<'_>)
+fn prepend_rest(tail: &mut RowBuffer, row: &RecordRef<'_>)
     requires short { (length row.now.name ≤ 64) × (length row.now.score ≤ 24) }
     requires room { length tail.old ≤ 32 }
     ensures laid { tail.new ≡ rest_text row.now ++ tail.old }
     ensures len { length tail.new ≤ length tail.old + 92 }
 {
     if row.width() >= 6 {
-        tail.lay(strand_bytes(row.strand()));
+        tail.prepend(strand_bytes(row.strand()));
         tail.lay_byte(b'\t');
     }
     if row.width() >= 5 {
-        tail.lay(row.score());
+        tail.prepend(row.score());
         tail.lay_byte(b'\t');
     }
     if row.width() >= 4 {
-        tail.lay(row.name());
+        tail.prepend(row.name());
         tail.lay_byte(b'\t');
     }
 }
 
-/// Puts a record's columns, as many as its width, with a TAB between two of them, and what is laid behind them.
+/// Puts a record's columns, as many as its width, with a TAB between two of them, and what is laid after them.
 ///
 /// The first is the name that the genome has at the record's rank, or nothing if it has none.
 /// On a fault the sink has taken a prefix of the text. What is laid afterwards is not said.
@@ -101,7 +101,7 @@ pub fn put_row<S: Sink, A: Allocator + Copy>(
     sink: &mut S,
     genome: &Genome<A>,
     row: &RecordRef<'_>,
-    tail: &mut RowTail,
+    tail: &mut RowBuffer,
 ) -> Result<(), WriteFault>
     ensures { Puts (S.state sink.old) (S.state sink.new) result (record_text genome.now row.now ++ tail.old) }
 {
@@ -109,15 +109,15 @@ pub fn put_row<S: Sink, A: Allocator + Copy>(
         put_columns(sink, genome, row)?;
         return put_all(sink, tail.as_slice());
     }
-    lay_rest(tail, row);
-    tail.lay_number(row.stop());
+    prepend_rest(tail, row);
+    tail.prepend_number(row.stop());
     tail.lay_byte(b'\t');
-    tail.lay_number(row.start());
+    tail.prepend_number(row.start());
     tail.lay_byte(b'\t');
-    tail.put_behind(genome.name(row.seq()).unwrap_or(b""), sink)
+    tail.put_after(genome.name(row.seq()).unwrap_or(b""), sink)
 }
 
-/// Puts a record's columns as [`put_row`] does, with nothing behind them and no line end.
+/// Puts a record's columns as [`put_row`] does, with nothing after them and no line end.
 pub fn put_record<S: Sink, A: Allocator + Copy>(
     sink: &mut S,
     genome: &Genome<A>,
@@ -125,7 +125,7 @@ pub fn put_record<S: Sink, A: Allocator + Copy>(
 ) -> Result<(), WriteFault>
     ensures { Puts (S.state sink.old) (S.state sink.new) result (record_text genome.now row.now) }
 {
-    put_row(sink, genome, row, &mut RowTail::new())
+    put_row(sink, genome, row, &mut RowBuffer::new())
 }
 
 /// Puts the line of a record: its columns and a line feed.
@@ -138,12 +138,12 @@ pub fn put_line<S: Sink, A: Allocator + Copy>(
 ) -> Result<(), WriteFault>
     ensures { Puts (S.state sink.old) (S.state sink.new) result (record_text genome.now row.now ++ codes "\n") }
 {
-    let mut tail = RowTail::new();
+    let mut tail = RowBuffer::new();
     tail.lay_byte(b'\n');
     put_row(sink, genome, row, &mut tail)
 }
 
-/// Puts the line of a record with a number behind its columns.
+/// Puts the line of a record with a number after its columns.
 ///
 /// On a fault the sink has taken a prefix of the line.
 pub fn put_numbered<S: Sink, A: Allocator + Copy>(
@@ -154,9 +154,9 @@ pub fn put_numbered<S: Sink, A: Allocator + Copy>(
 ) -> Result<(), WriteFault>
     ensures { Puts (S.state sink.old) (S.state sink.new) result (record_text genome.now row.now ++ codes "\t" ++ decimal number ++ codes "\n") }
 {
-    let mut tail = RowTail::new();
+    let mut tail = RowBuffer::new();
     tail.lay_byte(b'\n');
-    tail.lay_number(number);
+    tail.prepend_number(number);
     tail.lay_byte(b'\t');
     put_row(sink, genome, row, &mut tail)
 }

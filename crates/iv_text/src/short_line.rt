@@ -1,6 +1,6 @@
 //! A line that is read in one pass.
 
-/// The first line of a text: where its record lies, 0-based and half-open, and how long the line is.
+/// The first line of a text: where its record is, 0-based and half-open, and how long the line is.
 #[derive(Clone, Copy, Debug)]
 pub struct ShortLine {
     /// The rank of its sequence in the genome.

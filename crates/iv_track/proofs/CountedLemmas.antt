@@ -52,7 +52,7 @@ same-row q r e = rows_exact q r ((Equal-is (row_cmp q r)).0 e)
 later-row : (q r : Row) → is_le (row_cmp r q) ≡ true → is_eq (row_cmp q r) ≡ false → row_cmp r q ≡ Less
 later-row q r le apart = le_apart (row_cmp r q) (row_cmp q r) (rows_total.antisymm q r) le apart
 
--- the entries stand for the list
+-- the entries mean the list
 from-expanded : (r : Row) (n : ℕ) (xs : List Row) → expanded (grouped_from row_cmp r n xs) ≡ replicate n r ++ xs
 from-expanded r n [] = refl
 from-expanded r n (q ∷ qs) =

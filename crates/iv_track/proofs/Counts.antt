@@ -1,4 +1,4 @@
--- A map from keys to numbers of copies, and the list that it stands for.
+-- A map from keys to numbers of copies, and the list that it means.
 use Rattle.std.proofs.Common.{◌≡◌, ℕ, ◌+◌, ◌*◌, ◌<◌, Bool, true, false, cond, List, [], ◌∷◌, ◌++◌, Option, Some, None, length, refl, sym, ap, ◌∙◌, subst, arith, add-one, zero, suc}
 use Rattle.std.specs.Prelude.{All, sum, replicate, unwrap_or, find, option_map}
 use Rattle.std.specs.List.{position_or_len, AllByRecursion}

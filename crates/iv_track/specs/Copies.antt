@@ -10,7 +10,7 @@ module _ {K : Type 0} (cmp : K → K → Ordering) where
   removed_by [] x = []
   removed_by (q ∷ xs) x = cond (is_eq (cmp x q)) xs (q ∷ removed_by xs x)
 
--- the list that a map from keys to numbers of copies stands for
+-- the list that a map from keys to numbers of copies means
 abbrev pub expanded : {K : Type 0} → List (K × ℕ) → List K
 expanded [] = []
 expanded (e ∷ es) = replicate e.1 e.0 ++ expanded es

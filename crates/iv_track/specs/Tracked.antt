@@ -1,4 +1,4 @@
--- A track as the ordered list of its records, in which a copy stands again.
+-- A track as the ordered list of its records, with copies repeated.
 use Rattle.std.specs.Prelude.{◌≡◌, ℕ, ◌+◌, ◌<◌, ◌≤◌, Bool, false, List, Option, Some, None, find, All, sum}
 use Rattle.std.specs.Ordering.{is_lt, is_le, nat_cmp, ordering_then}
 use Rattle.std.specs.Map.{keys_of, values_of}

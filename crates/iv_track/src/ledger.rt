@@ -20,7 +20,7 @@ use std::ops::Bound;
 
 /// An ordered map from keys to values that counts its calls, so that a contract can say how many a method makes.
 ///
-/// It is a `BTreeMap`. Each call that takes a `Meter` adds one step to it, whatever it finds. No key stands
+/// It is a `BTreeMap`. Each call that takes a `Meter` adds one step to it, whatever it finds. No key is
 /// twice. Only `put` can want memory, and only for a key that is new. Its model is the list of its entries in
 /// the order of the keys.
 #[derive(Drop)]

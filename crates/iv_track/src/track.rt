@@ -19,7 +19,7 @@ use std::marker::Model;
 
 /// Records in the order of a track, with their copies, all of one width.
 ///
-/// Its model is the one ordered list of its records, in which a copy stands again, with the width and the limit.
+/// Its model is the one ordered list of its records, with copies repeated, with the width and the limit.
 #[derive(Drop)]
 pub struct Track<A: Allocator + Copy = Global> {
     ledger: Ledger<Record<A>, u32, A>,
@@ -191,7 +191,7 @@ impl<A: Allocator + Copy> Track<A> {
         Some((next, *count))
     }
 
-    /// The records on this sequence from this start on, and on later sequences, each as often as it stands.
+    /// The records on this sequence from this start on, and on later sequences, each as often as it is.
     ///
     /// The start is below 2^32 - 1, which a caller tests. To begin is one step, and each call of the walk's `next` at
     /// most another.

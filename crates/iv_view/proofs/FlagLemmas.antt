@@ -50,7 +50,7 @@ module _ {R : Type 0} (is_flag : List ℕ → Bool) (said : Bool → List (List 
   flag-first-of (first ∷ second ∷ []) d e low high is = flag-first first.now second.now is
   flag-first-of (first ∷ second ∷ third ∷ words) d e low high is = absurd (omega (arith, high))
 
-  -- words behind the eighth change nothing
+  -- words after the eighth change nothing
   pub flag-cut : (words : List (List ℕ)) → beside_flag is_flag said (take 8 words) ≡ beside_flag is_flag said words
   flag-cut words = elim (cases_lt 8 (length words)) [
     | inr few ↦ ap (beside_flag is_flag said) (take_all 8 words few)

@@ -3,7 +3,7 @@ mod FlagLemmas
 mod ListLemmas
 mod OptionLemmas
 mod RowLemmas
-mod SaidLemmas
+mod MergeArgsLemmas
 mod SameLemmas
 mod SummaryLemmas
 pub mod WordLemmas

@@ -5,7 +5,7 @@ use Rattle.std.specs.Option.{is_some, option_to_list}
 use Rattle.std.specs.Str.{bytes_eq}
 use Rattle.std.proofs.lemmas.Slice.Eq.{bytes_eq-Decides}
 use Rattle.std.proofs.lemmas.List.Sorted.{IsPermutation-refl, IsPermutation-sym, IsPermutation-trans, IsPermutation-keeps, IsPermutation-middle, IsPermutation-to_front, IsPermutation-append_left, IsPermutation-append_right}
-use Rattle.iv_view.specs.Merge.{Said, said_by, with_flag, with_value_of, option_of, unless_given, nothing_said}
+use Rattle.iv_view.specs.Merge.{MergeArgs, said_by, with_flag, with_value_of, option_of, unless_given, nothing_said}
 use Rattle.iv_view.specs.MergeOptions.{MergeOption, Distance, Columns, Ops, Stranded, words_of, option_words, options_of}
 use Rattle.iv_view.specs.declared.options.ValuedOption.{ValuedOption}
 use Rattle.iv_view.specs.declared.options.ValuedOption.TheVariants as option
@@ -19,66 +19,66 @@ none≢some a is = cc
 -- ---- one option
 
 -- this, unless the test holds
-abbrev unless : Bool → Said → Option Said
+abbrev unless : Bool → MergeArgs → Option MergeArgs
 unless b next = cond b None (Some next)
 
 -- what is said after an option, where it can be given
-abbrev taken : MergeOption → Said → Option Said
+abbrev taken : MergeOption → MergeArgs → Option MergeArgs
 taken (Distance value) said = unless_given said.distance (record said { distance = Some value })
 taken (Columns value) said = unless_given said.columns (record said { columns = Some value })
 taken (Ops value) said = unless_given said.ops (record said { ops = Some value })
 taken Stranded said = with_flag said
 
 -- whether an option of this kind was given before
-abbrev has : MergeOption → Said → Bool
+abbrev has : MergeOption → MergeArgs → Bool
 has (Distance value) said = is_some said.distance
 has (Columns value) said = is_some said.columns
 has (Ops value) said = is_some said.ops
 has Stranded said = said.stranded
 
 -- what is said with the option
-abbrev given : MergeOption → Said → Said
+abbrev given : MergeOption → MergeArgs → MergeArgs
 given (Distance value) said = record said { distance = Some value }
 given (Columns value) said = record said { columns = Some value }
 given (Ops value) said = record said { ops = Some value }
 given Stranded said = record said { stranded = true }
 
-unless-is : (o : Option (List ℕ)) (next : Said) → unless_given o next ≡ unless (is_some o) next
+unless-is : (o : Option (List ℕ)) (next : MergeArgs) → unless_given o next ≡ unless (is_some o) next
 unless-is None next = refl
 unless-is (Some value) next = refl
 
-taken-is : (a : MergeOption) (said : Said) → taken a said ≡ unless (has a said) (given a said)
+taken-is : (a : MergeOption) (said : MergeArgs) → taken a said ≡ unless (has a said) (given a said)
 taken-is (Distance value) said = unless-is said.distance (record said { distance = Some value })
 taken-is (Columns value) said = unless-is said.columns (record said { columns = Some value })
 taken-is (Ops value) said = unless-is said.ops (record said { ops = Some value })
 taken-is Stranded said = refl
 
-nothing-more : (o : Option Said) → o ≡ option_and_then (said_by []) o
+nothing-more : (o : Option MergeArgs) → o ≡ option_and_then (said_by []) o
 nothing-more None = refl
 nothing-more (Some said) = refl
 
 -- the first option is taken, and then the other words are read
-said-first : (a : MergeOption) (words : List (List ℕ)) (said : Said) → said_by (words_of a ++ words) said ≡ option_and_then (said_by words) (taken a said)
+said-first : (a : MergeOption) (words : List (List ℕ)) (said : MergeArgs) → said_by (words_of a ++ words) said ≡ option_and_then (said_by words) (taken a said)
 said-first (Distance value) words said = refl
 said-first (Columns value) words said = refl
 said-first (Ops value) words said = refl
 said-first Stranded [] said = nothing-more (with_flag said)
 said-first Stranded (next ∷ words) said = refl
 
-said-after : (a : MergeOption) (words : List (List ℕ)) (said : Said) → said_by (words_of a ++ words) said ≡ option_and_then (said_by words) (unless (has a said) (given a said))
+said-after : (a : MergeOption) (words : List (List ℕ)) (said : MergeArgs) → said_by (words_of a ++ words) said ≡ option_and_then (said_by words) (unless (has a said) (given a said))
 said-after a words said = said-first a words said ∙ ap (option_and_then (said_by words)) (taken-is a said)
 
 -- ---- two options
 
 -- neither changes whether the other was given, and what is said is the same in either order
-abbrev AreApart : MergeOption → MergeOption → Said → Type 0
+abbrev AreApart : MergeOption → MergeOption → MergeArgs → Type 0
 AreApart a b said = (has b (given a said) ≡ has b said) × (has a (given b said) ≡ has a said) × (given b (given a said) ≡ given a (given b said))
 
 -- with one the other is given too
-abbrev AreAlike : MergeOption → MergeOption → Said → Type 0
+abbrev AreAlike : MergeOption → MergeOption → MergeArgs → Type 0
 AreAlike a b said = (has b (given a said) ≡ true) × (has a (given b said) ≡ true)
 
-cases-of : (a b : MergeOption) (said : Said) → AreApart a b said ⊎ AreAlike a b said
+cases-of : (a b : MergeOption) (said : MergeArgs) → AreApart a b said ⊎ AreAlike a b said
 cases-of (Distance v) (Distance w) said = inr (refl, refl)
 cases-of (Distance v) (Columns w) said = inl (refl, refl, refl)
 cases-of (Distance v) (Ops w) said = inl (refl, refl, refl)
@@ -96,18 +96,18 @@ cases-of Stranded (Columns w) said = inl (refl, refl, refl)
 cases-of Stranded (Ops w) said = inl (refl, refl, refl)
 cases-of Stranded Stranded said = inr (refl, refl)
 
-both-orders : (p q : Bool) (x y z : Said) (f g : Said → Option Said) → f x ≡ unless q z → g y ≡ unless p z → option_and_then f (unless p x) ≡ option_and_then g (unless q y)
+both-orders : (p q : Bool) (x y z : MergeArgs) (f g : MergeArgs → Option MergeArgs) → f x ≡ unless q z → g y ≡ unless p z → option_and_then f (unless p x) ≡ option_and_then g (unless q y)
 both-orders true true x y z f g h k = refl
 both-orders true false x y z f g h k = sym k
 both-orders false true x y z f g h k = h
 both-orders false false x y z f g h k = h ∙ sym k
 
-never-after : (p : Bool) (x : Said) (f : Said → Option Said) → f x ≡ None → option_and_then f (unless p x) ≡ None
+never-after : (p : Bool) (x : MergeArgs) (f : MergeArgs → Option MergeArgs) → f x ≡ None → option_and_then f (unless p x) ≡ None
 never-after true x f h = refl
 never-after false x f h = h
 
 -- what two options say in one order they say in the other
-swapped : (a b : MergeOption) (said : Said) → option_and_then (taken b) (taken a said) ≡ option_and_then (taken a) (taken b said)
+swapped : (a b : MergeOption) (said : MergeArgs) → option_and_then (taken b) (taken a said) ≡ option_and_then (taken a) (taken b said)
 swapped a b said = ap (option_and_then (taken b)) (taken-is a said) ∙ middle (cases-of a b said) ∙ sym (ap (option_and_then (taken a)) (taken-is b said))
   where
     middle : AreApart a b said ⊎ AreAlike a b said → option_and_then (taken b) (unless (has a said) (given a said)) ≡ option_and_then (taken a) (unless (has b said) (given b said))
@@ -121,17 +121,17 @@ swapped a b said = ap (option_and_then (taken b)) (taken-is a said) ∙ middle (
 
 -- ---- options in any order
 
-then-then : (f g h : Said → Option Said) → ((s : Said) → h s ≡ option_and_then f (g s)) → (o : Option Said) → option_and_then h o ≡ option_and_then f (option_and_then g o)
+then-then : (f g h : MergeArgs → Option MergeArgs) → ((s : MergeArgs) → h s ≡ option_and_then f (g s)) → (o : Option MergeArgs) → option_and_then h o ≡ option_and_then f (option_and_then g o)
 then-then f g h is None = refl
 then-then f g h is (Some s) = is s
 
-then-same : (f g : Said → Option Said) → ((s : Said) → f s ≡ g s) → (o : Option Said) → option_and_then f o ≡ option_and_then g o
+then-same : (f g : MergeArgs → Option MergeArgs) → ((s : MergeArgs) → f s ≡ g s) → (o : Option MergeArgs) → option_and_then f o ≡ option_and_then g o
 then-same f g is None = refl
 then-same f g is (Some s) = is s
 
 -- options that say the same, whatever was said before them
 abbrev pub SayTheSame : List MergeOption → List MergeOption → Type 0
-SayTheSame xs ys = (said : Said) → said_by (option_words xs) said ≡ said_by (option_words ys) said
+SayTheSame xs ys = (said : MergeArgs) → said_by (option_words xs) said ≡ said_by (option_words ys) said
 
 same-after : (a : MergeOption) (xs ys : List MergeOption) → SayTheSame xs ys → SayTheSame (a ∷ xs) (a ∷ ys)
 same-after a xs ys same said =
@@ -143,7 +143,7 @@ pub same-front : (front xs ys : List MergeOption) → SayTheSame xs ys → SayTh
 same-front [] xs ys same = same
 same-front (a ∷ front) xs ys same = same-after a (front ++ xs) (front ++ ys) (same-front front xs ys same)
 
-two-first : (a b : MergeOption) (xs : List MergeOption) (said : Said) → said_by (option_words (a ∷ b ∷ xs)) said ≡ option_and_then (said_by (option_words xs)) (option_and_then (taken b) (taken a said))
+two-first : (a b : MergeOption) (xs : List MergeOption) (said : MergeArgs) → said_by (option_words (a ∷ b ∷ xs)) said ≡ option_and_then (said_by (option_words xs)) (option_and_then (taken b) (taken a said))
 two-first a b xs said =
     said-first a (option_words (b ∷ xs)) said
     ∙ then-then (said_by (option_words xs)) (taken b) (said_by (option_words (b ∷ xs))) (said-first b (option_words xs)) (taken a said)
@@ -179,7 +179,7 @@ same-permuted xs ys = IsPermutation-keeps xs (λ l. SayTheSame l xs) (λ said. r
 
 -- ---- what the options that are said say
 
-abbrev said_of : (d c o : Option (List ℕ)) (s : Bool) → Said
+abbrev said_of : (d c o : Option (List ℕ)) (s : Bool) → MergeArgs
 said_of d c o s = record { distance = d; columns = c; ops = o; stranded = s }
 
 own-said : (d c o : Option (List ℕ)) (s : Bool) → said_by (option_words (options_of (said_of d c o s))) nothing_said ≡ Some (said_of d c o s)
@@ -206,7 +206,7 @@ own-said (Some d) (Some c) (Some o) true = refl
 abbrev AreOptions : List (List ℕ) → Type 0
 AreOptions words = (options : List MergeOption) × (words ≡ option_words options)
 
-then-some : (f : Said → Option Said) (o : Option Said) (new : Said) → option_and_then f o ≡ Some new → (mid : Said) × (f mid ≡ Some new)
+then-some : (f : MergeArgs → Option MergeArgs) (o : Option MergeArgs) (new : MergeArgs) → option_and_then f o ≡ Some new → (mid : MergeArgs) × (f mid ≡ Some new)
 then-some f None new is = absurd (none≢some new is)
 then-some f (Some mid) new is = (mid, is)
 
@@ -237,12 +237,12 @@ named word k is = by (bytes_eq word (codes "-d")) refl (bytes_eq word (codes "-c
     by false e false f true g is = (bytes_eq-Decides word (codes "-o")).0 g ∙ ap name_of (some-same option.Ops k is)
     by false e false f false g is = absurd (none≢some k is)
 
-read-one : (word : List ℕ) (old new : Said) (b : Bool) → bytes_eq word (codes "-s") ≡ b → (if b then with_flag old else None) ≡ Some new → AreOptions (word ∷ [])
+read-one : (word : List ℕ) (old new : MergeArgs) (b : Bool) → bytes_eq word (codes "-s") ≡ b → (if b then with_flag old else None) ≡ Some new → AreOptions (word ∷ [])
 read-one word old new true e is = (Stranded ∷ [], ap (λ (w : List ℕ). w ∷ []) ((bytes_eq-Decides word (codes "-s")).0 e))
 read-one word old new false e is = absurd (none≢some new is)
 
-read-more : (word next : List ℕ) (words : List (List ℕ)) (old new : Said)
-    → ((mid : Said) → said_by (next ∷ words) mid ≡ Some new → AreOptions (next ∷ words)) → ((mid : Said) → said_by words mid ≡ Some new → AreOptions words)
+read-more : (word next : List ℕ) (words : List (List ℕ)) (old new : MergeArgs)
+    → ((mid : MergeArgs) → said_by (next ∷ words) mid ≡ Some new → AreOptions (next ∷ words)) → ((mid : MergeArgs) → said_by words mid ≡ Some new → AreOptions words)
     → (b : Bool) → bytes_eq word (codes "-s") ≡ b → (o : Option ValuedOption) → option_of word ≡ o
     → (if b then option_and_then (said_by (next ∷ words)) (with_flag old) else option_and_then (said_by words) (with_value_of o next old)) ≡ Some new
     → AreOptions (word ∷ next ∷ words)
@@ -256,7 +256,7 @@ read-more word next words old new one two false e (Some k) at is =
     let rest = two mid.0 mid.1 in
     (valued k next ∷ rest.0, (λ i. named word k at i ∷ next ∷ rest.1 i) ∙ valued-words k next (option_words rest.0))
 
-read-options : (words : List (List ℕ)) (old new : Said) → said_by words old ≡ Some new → AreOptions words
+read-options : (words : List (List ℕ)) (old new : MergeArgs) → said_by words old ≡ Some new → AreOptions words
 read-options [] old new is = ([], refl)
 read-options (word ∷ []) old new is = read-one word old new (bytes_eq word (codes "-s")) refl is
 read-options (word ∷ next ∷ words) old new is =
@@ -274,20 +274,20 @@ at-end front a =
     subst (λ (l : List MergeOption). IsPermutation (a ∷ l) (front ++ a ∷ [])) (sym (append-nil front))
     (IsPermutation-sym (front ++ a ∷ []) (a ∷ front) (IsPermutation-to_front front a))
 
-abbrev all_distances : Said → List MergeOption
+abbrev all_distances : MergeArgs → List MergeOption
 all_distances said = map Distance (option_to_list said.distance)
 
-abbrev all_columns : Said → List MergeOption
+abbrev all_columns : MergeArgs → List MergeOption
 all_columns said = map Columns (option_to_list said.columns)
 
-abbrev all_ops : Said → List MergeOption
+abbrev all_ops : MergeArgs → List MergeOption
 all_ops said = map Ops (option_to_list said.ops)
 
-abbrev all_flags : Said → List MergeOption
+abbrev all_flags : MergeArgs → List MergeOption
 all_flags said = if said.stranded then Stranded ∷ [] else []
 
 -- an option more is one more of what is said
-given-options : (a : MergeOption) (said : Said) → has a said ≡ false → IsPermutation (a ∷ options_of said) (options_of (given a said))
+given-options : (a : MergeOption) (said : MergeArgs) → has a said ≡ false → IsPermutation (a ∷ options_of said) (options_of (given a said))
 given-options (Distance value) said free = by said.distance free
   where
     by : (o : Option (List ℕ)) → is_some o ≡ false → IsPermutation (Distance value ∷ (map Distance (option_to_list o) ++ all_columns said ++ all_ops said ++ all_flags said)) (Distance value ∷ (all_columns said ++ all_ops said ++ all_flags said))
@@ -312,8 +312,8 @@ given-options Stranded said free = by said.stranded free
     by false free = at-end (all_distances said ++ all_columns said ++ all_ops said) Stranded
 
 -- the options that were said before, and those that are read, are those that are said
-holds-first : (a : MergeOption) (options : List MergeOption) (old new : Said)
-    → ((mid : Said) → said_by (option_words options) mid ≡ Some new → IsPermutation (options ++ options_of mid) (options_of new))
+holds-first : (a : MergeOption) (options : List MergeOption) (old new : MergeArgs)
+    → ((mid : MergeArgs) → said_by (option_words options) mid ≡ Some new → IsPermutation (options ++ options_of mid) (options_of new))
     → said_by (option_words (a ∷ options)) old ≡ Some new → IsPermutation (a ∷ (options ++ options_of old)) (options_of new)
 holds-first a options old new next is = by (has a old) refl (sym (said-after a (option_words options) old) ∙ is)
   where
@@ -330,49 +330,49 @@ holds-first a options old new next is = by (has a old) refl (sym (said-after a (
         (IsPermutation-append_right options (a ∷ options_of old) (options_of (given a old)) (given-options a old free))
         (next (given a old) rest))
 
-holds : (options : List MergeOption) (old new : Said) → said_by (option_words options) old ≡ Some new → IsPermutation (options ++ options_of old) (options_of new)
-holds [] old new is = subst (λ (s : Said). IsPermutation (options_of old) (options_of s)) (some-same old new is) (IsPermutation-refl (options_of old))
+holds : (options : List MergeOption) (old new : MergeArgs) → said_by (option_words options) old ≡ Some new → IsPermutation (options ++ options_of old) (options_of new)
+holds [] old new is = subst (λ (s : MergeArgs). IsPermutation (options_of old) (options_of s)) (some-same old new is) (IsPermutation-refl (options_of old))
 holds (a ∷ options) old new is = holds-first a options old new (λ mid. holds options mid new) is
 
 -- the words are those of the options that are said, in some order
-abbrev pub AreWordsOf : List (List ℕ) → Said → Type 0
+abbrev pub AreWordsOf : List (List ℕ) → MergeArgs → Type 0
 AreWordsOf words said = (options : List MergeOption) × (words ≡ option_words options) × IsPermutation options (options_of said)
 
-said-options : (words : List (List ℕ)) (said : Said) → said_by words nothing_said ≡ Some said → AreWordsOf words said
+said-options : (words : List (List ℕ)) (said : MergeArgs) → said_by words nothing_said ≡ Some said → AreWordsOf words said
 said-options words said is =
     let read = read-options words nothing_said said is in
     let all : IsPermutation (read.0 ++ []) (options_of said) = holds read.0 nothing_said said (ap (λ (l : List (List ℕ)). said_by l nothing_said) (sym read.1) ∙ is) in
     (read.0, read.1, subst (λ (l : List MergeOption). IsPermutation l (options_of said)) (append-nil read.0) all)
 
-options-said : (words : List (List ℕ)) (said : Said) → AreWordsOf words said → said_by words nothing_said ≡ Some said
+options-said : (words : List (List ℕ)) (said : MergeArgs) → AreWordsOf words said → said_by words nothing_said ≡ Some said
 options-said words said are =
     ap (λ (l : List (List ℕ)). said_by l nothing_said) are.1
     ∙ sym (same-permuted are.0 (options_of said) are.2 nothing_said)
     ∙ own-said said.distance said.columns said.ops said.stranded
 
-pub said-means : (words : List (List ℕ)) (said : Said) → (said_by words nothing_said ≡ Some said) ↔ AreWordsOf words said
+pub said-means : (words : List (List ℕ)) (said : MergeArgs) → (said_by words nothing_said ≡ Some said) ↔ AreWordsOf words said
 said-means words said = (said-options words said, options-said words said)
 
 -- ---- an option that comes twice
 
-still-has : (c b : MergeOption) (said : Said) → has b said ≡ true → has b (given c said) ≡ true
+still-has : (c b : MergeOption) (said : MergeArgs) → has b said ≡ true → has b (given c said) ≡ true
 still-has c b said there = elim (cases-of c b said) [
   | inl apart ↦ apart.0 ∙ there
   | inr alike ↦ alike.0
 ]
 
-never-again : (middle after : List MergeOption) (b : MergeOption) (said : Said) → has b said ≡ true → said_by (option_words (middle ++ b ∷ after)) said ≡ None
+never-again : (middle after : List MergeOption) (b : MergeOption) (said : MergeArgs) → has b said ≡ true → said_by (option_words (middle ++ b ∷ after)) said ≡ None
 never-again [] after b said there =
     said-after b (option_words after) said ∙ ap (λ (t : Bool). option_and_then (said_by (option_words after)) (unless t (given b said))) there
 never-again (c ∷ middle) after b said there =
     said-after c (option_words (middle ++ b ∷ after)) said
     ∙ never-after (has c said) (given c said) (said_by (option_words (middle ++ b ∷ after))) (never-again middle after b (given c said) (still-has c b said there))
 
-then-never : (f : Said → Option Said) → ((s : Said) → f s ≡ None) → (o : Option Said) → option_and_then f o ≡ None
+then-never : (f : MergeArgs → Option MergeArgs) → ((s : MergeArgs) → f s ≡ None) → (o : Option MergeArgs) → option_and_then f o ≡ None
 then-never f never None = refl
 then-never f never (Some s) = never s
 
-never-front : (front rest : List MergeOption) → ((s : Said) → said_by (option_words rest) s ≡ None) → (said : Said) → said_by (option_words (front ++ rest)) said ≡ None
+never-front : (front rest : List MergeOption) → ((s : MergeArgs) → said_by (option_words rest) s ≡ None) → (said : MergeArgs) → said_by (option_words (front ++ rest)) said ≡ None
 never-front [] rest never said = never said
 never-front (c ∷ front) rest never said =
     said-first c (option_words (front ++ rest)) said
@@ -381,7 +381,7 @@ never-front (c ∷ front) rest never said =
 two-words : (x y : List ℕ) → bytes_eq x x ≡ true → bytes_eq x y ≡ false → Some x ≡ Some y → ⊥
 two-words x y own other same = true≢false (sym own ∙ ap (bytes_eq x) (some-same x y same) ∙ other)
 
-one-kind : (a b : MergeOption) → slice_get (words_of a) 0 ≡ slice_get (words_of b) 0 → (said : Said) → has b (given a said) ≡ true
+one-kind : (a b : MergeOption) → slice_get (words_of a) 0 ≡ slice_get (words_of b) 0 → (said : MergeArgs) → has b (given a said) ≡ true
 one-kind (Distance v) (Distance w) same said = refl
 one-kind (Distance v) (Columns w) same said = absurd (two-words (codes "-d") (codes "-c") refl refl same)
 one-kind (Distance v) (Ops w) same said = absurd (two-words (codes "-d") (codes "-o") refl refl same)

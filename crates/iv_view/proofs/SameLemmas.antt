@@ -4,17 +4,17 @@ use Rattle.std.proofs.Math.Bool.{beq}
 use Rattle.std.proofs.lemmas.Bool.{and_parts}
 use Rattle.iv_summary.specs.declared.column.Column.{Column}
 use Rattle.iv_summary.specs.declared.op.Op.{Op}
-use Rattle.iv_summary.specs.declared.column.Summary.{Summary}
+use Rattle.iv_summary.specs.declared.column.ColumnSummary.{ColumnSummary}
 use Rattle.iv_blocks.specs.declared.options.Options.{Options}
 use Rattle.iv_blocks.specs.declared.options.Summaries.{Summaries}
-use Rattle.iv_view.specs.declared.kept_state.Keeping.{Keeping}
-use Rattle.iv_view.specs.declared.kept_state.Keeping.TheVariants as keep
+use Rattle.iv_view.specs.declared.kept_state.StateKey.{StateKey}
+use Rattle.iv_view.specs.declared.kept_state.StateKey.TheVariants as keep
 use Rattle.iv_summary.specs.contracts.column.ColumnPartialEq.TheImpl as column
-use Rattle.iv_summary.specs.contracts.column.SummaryPartialEq.TheImpl as summary
+use Rattle.iv_summary.specs.contracts.column.ColumnSummaryPartialEq.TheImpl as summary
 use Rattle.iv_summary.specs.contracts.op.OpPartialEq.TheImpl as op
 use Rattle.iv_blocks.specs.contracts.options.SummariesPartialEq.TheImpl as summaries
 use Rattle.iv_blocks.specs.contracts.options.OptionsPartialEq.TheImpl as options
-use Rattle.iv_view.specs.contracts.kept_state.KeepingPartialEq.TheImpl as keeping
+use Rattle.iv_view.specs.contracts.kept_state.StateKeyPartialEq.TheImpl as state_key
 use lib.Pointwise.{pointwise}
 
 column-same : (a b : Column) → column.eq-value.it a b ≡ true → a ≡ b
@@ -23,7 +23,7 @@ column-same a b e = search rules
 op-same : (a b : Op) → op.eq-value.it a b ≡ true → a ≡ b
 op-same a b e = search rules
 
-summary-same : (a b : Summary) → summary.eq-value.it a b ≡ true → a ≡ b
+summary-same : (a b : ColumnSummary) → summary.eq-value.it a b ≡ true → a ≡ b
 summary-same a b e =
     let parts = and_parts _ _ e in
     let same_column = column-same a.column b.column parts.0 in
@@ -62,8 +62,8 @@ options-same a b e =
     let same_summaries = summaries-same a.summaries b.summaries more.1 in
     λ i. record { distance = same_distance i; stranded = same_stranded i; summaries = same_summaries i }
 
-pub keeping-same : (a b : Keeping) → keeping.eq-value.it a b ≡ true → a ≡ b
-keeping-same (keep.Blocks a) (keep.Blocks b) e = ap keep.Blocks (options-same a b e)
-keeping-same keep.Depth keep.Depth e = refl
-keeping-same (keep.Blocks a) keep.Depth e = search rules
-keeping-same keep.Depth (keep.Blocks b) e = search rules
+pub state_key-same : (a b : StateKey) → state_key.eq-value.it a b ≡ true → a ≡ b
+state_key-same (keep.Blocks a) (keep.Blocks b) e = ap keep.Blocks (options-same a b e)
+state_key-same keep.Depth keep.Depth e = refl
+state_key-same (keep.Blocks a) keep.Depth e = search rules
+state_key-same keep.Depth (keep.Blocks b) e = search rules

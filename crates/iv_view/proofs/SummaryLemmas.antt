@@ -3,7 +3,7 @@ use Rattle.std.proofs.Common.{◌≡◌, ℕ, zero, suc, ◌+◌, ◌-◌, ◌<�
 use Rattle.std.proofs.Math.Seq.{set-append_seam}
 use Rattle.std.specs.List.{zip}
 use Rattle.std.specs.Option.{option_map}
-use Rattle.iv_summary.specs.declared.column.Summary.{Summary}
+use Rattle.iv_summary.specs.declared.column.ColumnSummary.{ColumnSummary}
 use Rattle.iv_summary.specs.declared.op.Op.{Op}
 use Rattle.iv_summary.specs.declared.op.Op.TheVariants.{Count}
 use Rattle.iv_blocks.specs.Groups.{filled, pushed, unused}
@@ -21,22 +21,22 @@ drop-here (suc i) (x ∷ xs) d h = drop-here i xs d (omega arith) ∙ ap (λ (n 
     on : (i : ℕ) → suc (i + 1) ≡ suc i + 1
     on i = omega arith
 
-pushed-filled : (done : List Summary) (s : Summary) → length done < 16 → pushed (filled done) s ≡ filled (done ++ s ∷ [])
+pushed-filled : (done : List ColumnSummary) (s : ColumnSummary) → length done < 16 → pushed (filled done) s ≡ filled (done ++ s ∷ [])
 pushed-filled done s few =
     let n : ℕ = length done in
     let left : 16 - n ≡ suc (16 - (n + 1)) = omega arith in
     let long : length (done ++ s ∷ []) ≡ n + 1 = length-append done (s ∷ []) in
     let rest : replicate (16 - n) unused ≡ unused ∷ replicate (16 - (n + 1)) unused = ap (λ (k : ℕ). replicate k unused) left in
     let places : set (done ++ replicate (16 - n) unused) n s ≡ (done ++ s ∷ []) ++ replicate (16 - length (done ++ s ∷ [])) unused
-    = ap (λ (l : List Summary). set (done ++ l) n s) rest
+    = ap (λ (l : List ColumnSummary). set (done ++ l) n s) rest
     ∙ set-append_seam done unused (replicate (16 - (n + 1)) unused) s
     ∙ sym (append_assoc done (s ∷ []) (replicate (16 - (n + 1)) unused))
     ∙ ap (λ (k : ℕ). (done ++ s ∷ []) ++ replicate (16 - k) unused) (sym long) in
-    ap₂ (λ (l : List Summary) (k : ℕ). record { summaries = l; count = k }) places (sym long)
+    ap₂ (λ (l : List ColumnSummary) (k : ℕ). record { summaries = l; count = k }) places (sym long)
 
 -- what is asked for up to a place is in its places, and with the rest it is all that is asked for
 pub record IsAsked (width : ℕ) (columns : List ℕ) (ops : List Op) (place : ℕ) (now : Summaries) : Type 0 where
-  pub done : List Summary
+  pub done : List ColumnSummary
   pub filled_with : now ≡ filled done
   pub count : length done ≡ place
   pub rest : with_rest done (all_some (map (summary_within width) (zip (drop place columns) (drop place ops)))) ≡ all_some (map (summary_within width) (zip columns ops))
@@ -56,17 +56,17 @@ module _ (width : ℕ) (columns : List ℕ) (ops : List Op) (place : ℕ) (now :
   asked-fault none =
       sym asked.rest
       ∙ ap (λ (l : List (ℕ × Op)). with_rest asked.done (all_some (map (summary_within width) l))) next-is
-      ∙ ap (λ (o : Option Summary). with_rest asked.done (all_some (o ∷ map (summary_within width) (zip (drop (place + 1) columns) (drop (place + 1) ops))))) none
+      ∙ ap (λ (o : Option ColumnSummary). with_rest asked.done (all_some (o ∷ map (summary_within width) (zip (drop (place + 1) columns) (drop (place + 1) ops))))) none
 
   -- one more summary
-  pub asked-more : (s : Summary) (next : Summaries) → summary_within width (column, op) ≡ Some s → place < 16 → next ≡ pushed now s → IsAsked width columns ops (place + 1) next
+  pub asked-more : (s : ColumnSummary) (next : Summaries) → summary_within width (column, op) ≡ Some s → place < 16 → next ≡ pushed now s → IsAsked width columns ops (place + 1) next
   asked-more s next is few step = record {
     done = asked.done ++ s ∷ [];
     filled_with = step ∙ ap (λ (n : Summaries). pushed n s) asked.filled_with ∙ pushed-filled asked.done s (omega (arith, asked.count));
     count = length-append asked.done (s ∷ []) ∙ ap (λ (n : ℕ). n + 1) asked.count;
     rest =
         sym (rest-more asked.done s (all_some (map (summary_within width) (zip (drop (place + 1) columns) (drop (place + 1) ops)))))
-        ∙ ap (λ (o : Option Summary). with_rest asked.done (all_some (o ∷ map (summary_within width) (zip (drop (place + 1) columns) (drop (place + 1) ops))))) (sym is)
+        ∙ ap (λ (o : Option ColumnSummary). with_rest asked.done (all_some (o ∷ map (summary_within width) (zip (drop (place + 1) columns) (drop (place + 1) ops))))) (sym is)
         ∙ ap (λ (l : List (ℕ × Op)). with_rest asked.done (all_some (map (summary_within width) l))) (sym next-is)
         ∙ asked.rest;
   }

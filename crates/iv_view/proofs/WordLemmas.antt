@@ -4,7 +4,7 @@ use Rattle.std.specs.Prelude.{IsTrue, IfOk, Result, Ok, Err, ◌&&◌, nat_lt, i
 use Rattle.std.specs.Str.{bytes_eq}
 use Rattle.std.proofs.lemmas.List.{take_all, length-take-le}
 use Rattle.std.proofs.lemmas.Bool.{cases_lt}
-use Rattle.iv_view.specs.Merge.{Said, said_by, with_flag, with_value, with_value_of, option_of, unless_given, nothing_said}
+use Rattle.iv_view.specs.Merge.{MergeArgs, said_by, with_flag, with_value, with_value_of, option_of, unless_given, nothing_said}
 use Rattle.iv_view.specs.Complement.{is_limited}
 use Rattle.iv_view.specs.Genomecov.{genomecov_rows}
 use Rattle.iv_view.specs.Getfasta as getfasta
@@ -22,10 +22,10 @@ use Rattle.iv_view.specs.declared.view.KeptView.{KeptView}
 use Rattle.iv_view.proofs.FlagLemmas.{flag-cut}
 use Rattle.iv_view.proofs.RowLemmas.{intersect_others, getfasta_others}
 
-some-same : (a b : Said) → Some a ≡ Some b → a ≡ b
+some-same : (a b : MergeArgs) → Some a ≡ Some b → a ≡ b
 some-same a b is = cc
 
-none-some : (a : Said) → ◌≡◌ {A = Option Said} None (Some a) → ⊥
+none-some : (a : MergeArgs) → ◌≡◌ {A = Option MergeArgs} None (Some a) → ⊥
 none-some a is = cc
 
 -- how many words may still come: an option and its value for each that has none, and a flag
@@ -37,11 +37,11 @@ abbrev pub flag_room : Bool → ℕ
 flag_room true = 0
 flag_room false = 1
 
-abbrev pub rooms : Said → ℕ
+abbrev pub rooms : MergeArgs → ℕ
 rooms said = flag_room said.stranded + (room said.distance + (room said.columns + room said.ops))
 
 -- a value takes the room of two words
-value-room : (option : Option ValuedOption) (value : List ℕ) (said next : Said) → with_value_of option value said ≡ Some next → rooms next + 2 ≤ rooms said
+value-room : (option : Option ValuedOption) (value : List ℕ) (said next : MergeArgs) → with_value_of option value said ≡ Some next → rooms next + 2 ≤ rooms said
 value-room None value said next is = absurd (none-some next is)
 value-room (Some option.Distance) value said next is = given said.distance refl is
   where
@@ -60,7 +60,7 @@ value-room (Some option.Ops) value said next is = given said.ops refl is
     given (Some v) at is = absurd (none-some next is)
 
 -- a flag takes the room of one
-flag-takes : (said next : Said) → with_flag said ≡ Some next → rooms next + 1 ≤ rooms said
+flag-takes : (said next : MergeArgs) → with_flag said ≡ Some next → rooms next + 1 ≤ rooms said
 flag-takes said next is = go said.stranded refl is
   where
     go : (b : Bool) → said.stranded ≡ b → (if b then None else Some (record said { stranded = true })) ≡ Some next → rooms next + 1 ≤ rooms said
@@ -68,11 +68,11 @@ flag-takes said next is = go said.stranded refl is
     go false at is = let same = some-same _ _ is in omega (arith, ap flag_room at, ap rooms same)
 
 -- more words than there is room for say nothing
-too-many : (n : ℕ) (words : List (List ℕ)) (said : Said) → length words ≤ n → rooms said < length words → said_by words said ≡ None
+too-many : (n : ℕ) (words : List (List ℕ)) (said : MergeArgs) → length words ≤ n → rooms said < length words → said_by words said ≡ None
 too-many n [] said size more = absurd (omega arith)
 too-many n (word ∷ []) said size more = go (bytes_eq word (codes "-s")) (with_flag said) refl
   where
-    go : (b : Bool) (o : Option Said) → with_flag said ≡ o → (if b then o else None) ≡ None
+    go : (b : Bool) (o : Option MergeArgs) → with_flag said ≡ o → (if b then o else None) ≡ None
     go false o is = refl
     go true None is = refl
     go true (Some next) is = let less = flag-takes said next is in absurd (omega (arith, less, more))
@@ -82,15 +82,15 @@ too-many (suc n) (word ∷ next ∷ words) said size more =
     (λ after less. too-many n words after (omega arith) (omega (arith, less, more)))
     (bytes_eq word (codes "-s")) (with_flag said) refl (with_value word next said) refl
   where
-    go : ((after : Said) → rooms after + 1 ≤ rooms said → said_by (next ∷ words) after ≡ None) → ((after : Said) → rooms after + 2 ≤ rooms said → said_by words after ≡ None)
-        → (b : Bool) (flag : Option Said) → with_flag said ≡ flag → (value : Option Said) → with_value word next said ≡ value
+    go : ((after : MergeArgs) → rooms after + 1 ≤ rooms said → said_by (next ∷ words) after ≡ None) → ((after : MergeArgs) → rooms after + 2 ≤ rooms said → said_by words after ≡ None)
+        → (b : Bool) (flag : Option MergeArgs) → with_flag said ≡ flag → (value : Option MergeArgs) → with_value word next said ≡ value
         → (if b then option_and_then (said_by (next ∷ words)) flag else option_and_then (said_by words) value) ≡ None
     go one two true None is value at = refl
     go one two true (Some after) is value at = one after (flag-takes said after is)
     go one two false flag is None at = refl
     go one two false flag is (Some after) at = two after (value-room (option_of word) next said after at)
 
--- words behind the eighth change nothing
+-- words after the eighth change nothing
 options-cut : (words : List (List ℕ)) → said_by (take 8 words) nothing_said ≡ said_by words nothing_said
 options-cut words = elim (cases_lt 8 (length words)) [
   | inr few ↦ ap (λ (l : List (List ℕ)). said_by l nothing_said) (take_all 8 words few)
@@ -120,7 +120,7 @@ intersect-cut words = flag-cut intersect.is_wa intersect.rows_beside intersect_o
 fasta-cut : (words : List (List ℕ)) → getfasta.fasta_rows_said (take 8 words) ≡ getfasta.fasta_rows_said words
 fasta-cut words = flag-cut getfasta.is_s getfasta.rows_beside getfasta_others words
 
--- words behind the ninth change nothing: no view has as many
+-- words after the ninth change nothing: no view has as many
 pub words-cut : (width : ℕ) (has_second has_bases : Bool) (words : List (List ℕ))
     → read_words width has_second has_bases (take 9 words) ≡ read_words width has_second has_bases words
 words-cut width has_second has_bases [] = refl

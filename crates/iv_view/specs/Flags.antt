@@ -2,7 +2,7 @@
 use Rattle.std.specs.Prelude.{ℕ, Bool, not, nat_le, if◌then◌else◌, List, filter, count_by, Option, None}
 use Rattle.std.specs.List.{list_any}
 
--- what words say: the flag stands among them once at most, and beside it or without it the others say the rest
+-- what words say: the flag is among them once at most, and beside it or without it the others say the rest
 abbrev pub beside_flag : {R : Type 0} → (List ℕ → Bool) → (Bool → List (List ℕ) → Option R) → List (List ℕ) → Option R
 beside_flag is_flag said words =
     if nat_le (count_by is_flag words) 1

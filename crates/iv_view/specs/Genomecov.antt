@@ -12,7 +12,7 @@ rows_of_option word =
     else if bytes_eq word (codes "-d") then Some rows.EachPosition
     else None
 
--- the rows that the words behind `genomecov` ask for: they are one option
+-- the rows that the words after `genomecov` ask for: they are one option
 abbrev pub genomecov_rows : List (List ℕ) → Option DepthRows
 genomecov_rows [] = None
 genomecov_rows (option ∷ []) = rows_of_option option

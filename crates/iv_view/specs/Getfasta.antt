@@ -18,6 +18,6 @@ rows_beside stranded [] = Some (record { stranded = stranded; tab = false })
 rows_beside stranded (word ∷ []) = rows_of_option stranded word
 rows_beside stranded (word ∷ next ∷ words) = None
 
--- the rows that the words behind `getfasta` ask for: `-s` and `-tab`, each of them once at most
+-- the rows that the words after `getfasta` ask for: `-s` and `-tab`, each of them once at most
 abbrev pub fasta_rows_said : List (List ℕ) → Option FastaRows
 fasta_rows_said words = beside_flag is_s rows_beside words

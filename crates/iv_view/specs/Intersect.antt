@@ -24,6 +24,6 @@ rows_beside whole [] = Some (if whole then rows.Whole else rows.Shared)
 rows_beside whole (word ∷ []) = rows_of_option whole word
 rows_beside whole (word ∷ next ∷ words) = None
 
--- the rows that the words behind `intersect` ask for: `-wa` stands among them once at most, and one other option at most
+-- the rows that the words after `intersect` ask for: `-wa` is among them once at most, and one other option at most
 abbrev pub intersect_rows_said : List (List ℕ) → Option IntersectRows
 intersect_rows_said words = beside_flag is_wa rows_beside words

@@ -10,27 +10,27 @@ use Rattle.iv_depth.specs.Changes.{AreChangesOf}
 use Rattle.iv_depth.specs.DepthRows.{all_covered_runs}
 use Rattle.iv_view.specs.declared.kept_state.KeptState.{KeptState}
 use Rattle.iv_view.specs.declared.kept_state.KeptState.TheVariants as state
-use Rattle.iv_view.specs.declared.kept_state.Keeping.{Keeping}
-use Rattle.iv_view.specs.declared.kept_state.Keeping.TheVariants as keep
+use Rattle.iv_view.specs.declared.kept_state.StateKey.{StateKey}
+use Rattle.iv_view.specs.declared.kept_state.StateKey.TheVariants as keep
 use Rattle.iv_view.specs.declared.view.View.{View}
 use Rattle.iv_view.specs.declared.view.View.TheVariants as view
 use Rattle.iv_view.specs.declared.view.KeptView.{KeptView}
 use Rattle.iv_view.specs.declared.view.KeptView.TheVariants as kept
 
 -- what is kept for a view: the blocks at its distance, or the depth
-abbrev pub keeping : KeptView → Keeping
-keeping (kept.Merge options) = keep.Blocks options
-keeping (kept.Cluster distance) = keep.Blocks (joined distance)
-keeping (kept.Complement limited) = keep.Blocks (joined 0)
-keeping (kept.Genomecov shown) = keep.Depth
+abbrev pub state_key : KeptView → StateKey
+state_key (kept.Merge options) = keep.Blocks options
+state_key (kept.Cluster distance) = keep.Blocks (joined distance)
+state_key (kept.Complement limited) = keep.Blocks (joined 0)
+state_key (kept.Genomecov shown) = keep.Depth
 
 -- the same of any view: nothing is kept for one that is written from the records
-abbrev pub keeping_of : View → Option Keeping
-keeping_of (view.Kept v) = Some (keeping v)
-keeping_of (view.Written v) = None
+abbrev pub state_key_of : View → Option StateKey
+state_key_of (view.Kept v) = Some (state_key v)
+state_key_of (view.Written v) = None
 
 -- what a state keeps
-abbrev pub built_for : {A : Type 0} → KeptState A → Keeping
+abbrev pub built_for : {A : Type 0} → KeptState A → StateKey
 built_for (state.Blocks b) = keep.Blocks b.options
 built_for (state.Depth d) = keep.Depth
 
@@ -40,13 +40,13 @@ IsRight (state.Blocks b) names rows = AreBlocksOf b.options names rows b.entries
 IsRight (state.Depth d) names rows = AreChangesOf rows d
 
 -- how many steps a repair of what is kept takes at most, with the record among the records
-abbrev pub repair_steps : Keeping → List Row → Row → ℕ
+abbrev pub repair_steps : StateKey → List Row → Row → ℕ
 repair_steps (keep.Blocks options) rows r = block_steps options rows r
 repair_steps keep.Depth rows r = 8
 
 -- how many steps a repair for a view takes at most: none for one that is written from the records
 abbrev pub repair_steps_of : View → List Row → Row → ℕ
-repair_steps_of (view.Kept v) rows r = repair_steps (keeping v) rows r
+repair_steps_of (view.Kept v) rows r = repair_steps (state_key v) rows r
 repair_steps_of (view.Written v) rows r = 0
 
 -- how many steps lie between two readings at most while a view is printed from what is kept for it: two, and one more for each

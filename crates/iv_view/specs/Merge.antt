@@ -6,7 +6,7 @@ use Rattle.iv_text.specs.Number.{number}
 use Rattle.iv_summary.specs.Columns.{column_numbered}
 use Rattle.iv_summary.specs.Summaries.{op_named}
 use Rattle.iv_summary.specs.declared.column.Column.{Column}
-use Rattle.iv_summary.specs.declared.column.Summary.{Summary}
+use Rattle.iv_summary.specs.declared.column.ColumnSummary.{ColumnSummary}
 use Rattle.iv_summary.specs.declared.op.Op.{Op}
 use Rattle.iv_summary.specs.declared.op.Op.TheVariants.{Sum}
 use Rattle.iv_blocks.specs.Groups.{filled}
@@ -18,23 +18,23 @@ use Rattle.iv_view.specs.declared.options.ValuedOption.TheVariants as option
 use Rattle.iv_view.specs.declared.fault.ViewFault.{ViewFault}
 use Rattle.iv_view.specs.declared.fault.ViewFault.TheVariants as fault
 
--- what options say: the values of `-d`, `-c` and `-o` as they stand, and whether `-s` is there
-pub record Said : Type 0 where
+-- what options say: the values of `-d`, `-c` and `-o` as they are, and whether `-s` is there
+pub record MergeArgs : Type 0 where
   pub distance : Option (List ℕ)
   pub columns : Option (List ℕ)
   pub ops : Option (List ℕ)
   pub stranded : Bool
 
 -- no option yet
-abbrev pub nothing_said : Said
+abbrev pub nothing_said : MergeArgs
 nothing_said = record { distance = None; columns = None; ops = None; stranded = false }
 
 -- with `-s`, unless it was there before
-abbrev pub with_flag : Said → Option Said
+abbrev pub with_flag : MergeArgs → Option MergeArgs
 with_flag said = if said.stranded then None else Some (record said { stranded = true })
 
 -- this, unless a value was given before
-abbrev pub unless_given : Option (List ℕ) → Said → Option Said
+abbrev pub unless_given : Option (List ℕ) → MergeArgs → Option MergeArgs
 unless_given None said = Some said
 unless_given (Some value) said = None
 
@@ -47,18 +47,18 @@ option_of word =
     else None
 
 -- with a value for an option, unless that had one before
-abbrev pub with_value_of : Option ValuedOption → List ℕ → Said → Option Said
+abbrev pub with_value_of : Option ValuedOption → List ℕ → MergeArgs → Option MergeArgs
 with_value_of None value said = None
 with_value_of (Some option.Distance) value said = unless_given said.distance (record said { distance = Some value })
 with_value_of (Some option.Columns) value said = unless_given said.columns (record said { columns = Some value })
 with_value_of (Some option.Ops) value said = unless_given said.ops (record said { ops = Some value })
 
 -- with a value for the option that a word is
-abbrev pub with_value : List ℕ → List ℕ → Said → Option Said
+abbrev pub with_value : List ℕ → List ℕ → MergeArgs → Option MergeArgs
 with_value word value said = with_value_of (option_of word) value said
 
--- what words say beside what was said before them: each is `-s`, or an option with its value behind it, and none stands twice
-abbrev pub said_by : List (List ℕ) → Said → Option Said
+-- what words say beside what was said before them: each is `-s`, or an option with its value after it, and none is twice
+abbrev pub said_by : List (List ℕ) → MergeArgs → Option MergeArgs
 said_by [] said = Some said
 said_by (word ∷ []) said = if bytes_eq word (codes "-s") then with_flag said else None
 said_by (word ∷ next ∷ words) said =
@@ -83,11 +83,11 @@ abbrev pub column_within : ℕ → ℕ → Option Column
 column_within width n = if nat_le n width then column_numbered n else None
 
 -- the summary that a column's number and an operation ask for, if a track of this width has the column
-abbrev pub summary_within : ℕ → ℕ × Op → Option Summary
+abbrev pub summary_within : ℕ → ℕ × Op → Option ColumnSummary
 summary_within width asked = option_map (λ column. record { column = column; op = asked.1 }) (column_within width asked.0)
 
 -- the summaries in their places; a fault where one asks for a column that isn't there
-abbrev pub filled_or_fault : Option (List Summary) → Result Summaries ViewFault
+abbrev pub filled_or_fault : Option (List ColumnSummary) → Result Summaries ViewFault
 filled_or_fault None = Err fault.Column
 filled_or_fault (Some summaries) = Ok (filled summaries)
 
@@ -114,13 +114,13 @@ abbrev pub pairs_of : Option (List ℕ × List Op) → Option (List (ℕ × Op))
 pairs_of None = None
 pairs_of (Some lists) = pairs lists.0 lists.1
 
--- the options of a merge on a track of this width that words behind `merge` say, or their first fault
-abbrev pub merge_options : ℕ → Option Said → Result Options ViewFault
+-- the options of a merge on a track of this width that words after `merge` say, or their first fault
+abbrev pub merge_options : ℕ → Option MergeArgs → Result Options ViewFault
 merge_options width None = Err fault.Words
 merge_options width (Some said) =
     options_with width said.stranded (distance_of said.distance) (asked_summaries width (pairs_of (lists_of said.columns said.ops)))
 
--- the distance of a cluster that words behind `cluster` say: they are `-d` and its value, or none
-abbrev pub cluster_distance : Option Said → Option ℕ
+-- the distance of a cluster that words after `cluster` say: they are `-d` and its value, or none
+abbrev pub cluster_distance : Option MergeArgs → Option ℕ
 cluster_distance None = None
 cluster_distance (Some said) = if said.stranded || is_some said.columns || is_some said.ops then None else distance_of said.distance

@@ -1,7 +1,7 @@
 -- The options of `merge` and `cluster`, and their words.
 use Rattle.std.specs.Prelude.{ℕ, if◌then◌else◌, List, [], ◌∷◌, ◌++◌, map, codes}
 use Rattle.std.specs.Option.{option_to_list}
-use Rattle.iv_view.specs.Merge.{Said}
+use Rattle.iv_view.specs.Merge.{MergeArgs}
 
 -- an option, with its value where it takes one
 pub data MergeOption : Type 0 where
@@ -23,7 +23,7 @@ option_words [] = []
 option_words (first ∷ options) = words_of first ++ option_words options
 
 -- the options that are said, each once
-abbrev pub options_of : Said → List MergeOption
+abbrev pub options_of : MergeArgs → List MergeOption
 options_of said =
     map Distance (option_to_list said.distance) ++ map Columns (option_to_list said.columns) ++ map Ops (option_to_list said.ops)
     ++ (if said.stranded then Stranded ∷ [] else [])

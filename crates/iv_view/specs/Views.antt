@@ -90,7 +90,7 @@ abbrev pub second_rows : Option Tracked → List Row
 second_rows None = []
 second_rows (Some second) = second.rows
 
--- the text that a view stands for, on this genome for these records, beside the records of the second file and the bases of the
+-- the text that a view means, on this genome for these records, beside the records of the second file and the bases of the
 -- FASTA file, of each none where there is no such file
 abbrev pub view_text : View → Sequences → List Row → List Row → Bases → List ℕ
 view_text (view.Kept v) g rows second bases = kept_text v g rows

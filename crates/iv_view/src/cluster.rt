@@ -3,13 +3,13 @@ ghost use Rattle.std.specs.Prelude.{◌≡◌, map};
 ghost use Rattle.iv_view.specs.Merge.{said_by, nothing_said, cluster_distance};
 
 use crate::merge::read_distance;
-use crate::options::Said;
+use crate::options::MergeArgs;
 
-/// The distance that the words behind `cluster` say: `-d` and its value, or none.
+/// The distance that the words after `cluster` say: `-d` and its value, or none.
 pub(crate) fn read_cluster(words: &[&[u8]]) -> Option<u32>
     ensures { result ≡ cluster_distance (said_by (map (λ word. word.now) words.now) nothing_said) }
 {
-    let said = Said::read(words)?;
+    let said = MergeArgs::read(words)?;
     if said.stranded || said.columns.is_some() || said.ops.is_some() {
         return None;
     }

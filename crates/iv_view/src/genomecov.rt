@@ -4,7 +4,7 @@ ghost use Rattle.iv_view.specs.Genomecov.{genomecov_rows, rows_of_option};
 
 use iv_depth::DepthRows;
 
-/// The rows that the words behind `genomecov` ask for: `-bg`, `-bga` or `-d`.
+/// The rows that the words after `genomecov` ask for: `-bg`, `-bga` or `-d`.
 pub(crate) fn read_genomecov(words: &[&[u8]]) -> Option<DepthRows>
     ensures { result ≡ genomecov_rows (map (λ word. word.now) words.now) }
 {

@@ -2,9 +2,9 @@
 ghost use Rattle.std.specs.Prelude.{◌≡◌, map};
 ghost use Rattle.iv_view.specs.Getfasta.{fasta_rows_said, is_s as says_s, rows_of_option};
 
-use iv_pair::FastaRows;
+use iv_fasta::FastaRows;
 
-/// The rows that the words behind `getfasta` ask for: `-s` and `-tab`, in any order, or one of the two, or neither.
+/// The rows that the words after `getfasta` ask for: `-s` and `-tab`, in any order, or one of the two, or neither.
 pub(crate) fn read_getfasta(words: &[&[u8]]) -> Option<FastaRows>
     ensures { result ≡ fasta_rows_said (map (λ word. word.now) words.now) }
 {

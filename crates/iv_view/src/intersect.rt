@@ -4,7 +4,7 @@ ghost use Rattle.iv_view.specs.Intersect.{intersect_rows_said, is_wa as says_wa,
 
 use iv_pair::IntersectRows;
 
-/// The rows that the words behind `intersect` ask for: `-wa`, and one of `-wb`, `-u`, `-v` and `-c`, in any order, or one
+/// The rows that the words after `intersect` ask for: `-wa`, and one of `-wb`, `-u`, `-v` and `-c`, in any order, or one
 /// of the two, or neither.
 pub(crate) fn read_intersect(words: &[&[u8]]) -> Option<IntersectRows>
     ensures { result ≡ intersect_rows_said (map (λ word. word.now) words.now) }

@@ -3,29 +3,30 @@ ghost use Rattle.std.specs.Prelude.{◌≡◌, ◌↔◌, All, IsTrue};
 ghost use Rattle.iv_bytes.specs.Sinks.{Puts};
 ghost use Rattle.iv_text.specs.Named.{names_of};
 ghost use Rattle.iv_text.specs.Read.{Fits};
-ghost use Rattle.iv_view.specs.KeptStates.{built_for as what_is_kept, keeping as kept_for, keeping_of, IsRight, PrintsWithin, repair_steps};
+ghost use Rattle.iv_view.specs.KeptStates.{built_for as what_is_kept, state_key as kept_for, state_key_of, IsRight, PrintsWithin, repair_steps};
 ghost use Rattle.iv_view.specs.Views.{kept_text};
 
 use crate::view::{KeptView, View};
 use iv_blocks::{Blocks, Options};
+use iv_bytes::{Sink, WriteFault};
 use iv_cover::Kept;
 use iv_depth::Depth;
-use iv_text::{Genome, RecordRef, Sink, WriteFault};
+use iv_text::{Genome, RecordRef};
 use iv_track::{Meter, Track};
 use std::alloc::{AllocError, Allocator, Global};
 
-/// What is kept for a view. Views of one `Keeping` can share a state.
+/// What is kept for a view. Views of one `StateKey` can share a state.
 #[derive(Clone, Copy, Debug, PartialEq, Eq)]
-pub enum Keeping {
+pub enum StateKey {
     /// The blocks of these options.
     Blocks(Options),
     /// The depth.
     Depth,
 }
 
-impl Keeping {
+impl StateKey {
     /// Whether both say the same, so that their views can share a state.
-    pub fn is(&self, other: &Keeping) -> bool
+    pub fn is(&self, other: &StateKey) -> bool
         ensures { IsTrue result ↔ self.now ≡ other.now }
     {
         self == other
@@ -34,14 +35,14 @@ impl Keeping {
 
 impl KeptView {
     /// What is kept for the view.
-    pub fn keeping(self) -> Keeping
+    pub fn state_key(self) -> StateKey
         ensures { result ≡ kept_for self }
     {
         match self {
-            KeptView::Merge(options) => Keeping::Blocks(options),
-            KeptView::Cluster(distance) => Keeping::Blocks(Options::joined(distance)),
-            KeptView::Complement(_) => Keeping::Blocks(Options::joined(0)),
-            KeptView::Genomecov(_) => Keeping::Depth,
+            KeptView::Merge(options) => StateKey::Blocks(options),
+            KeptView::Cluster(distance) => StateKey::Blocks(Options::joined(distance)),
+            KeptView::Complement(_) => StateKey::Blocks(Options::joined(0)),
+            KeptView::Genomecov(_) => StateKey::Depth,
         }
     }
 
@@ -83,11 +84,11 @@ impl KeptView {
 
 impl View {
     /// What is kept for the view, `None` where it is written from the records.
-    pub fn keeping(self) -> Option<Keeping>
-        ensures { result ≡ keeping_of self }
+    pub fn state_key(self) -> Option<StateKey>
+        ensures { result ≡ state_key_of self }
     {
         match self {
-            View::Kept(view) => Some(view.keeping()),
+            View::Kept(view) => Some(view.state_key()),
             View::Written(_) => None,
         }
     }
@@ -101,7 +102,7 @@ pub enum KeptState<A: Allocator + Copy = Global> {
 }
 
 impl<A: Allocator + Copy> Kept<A> for KeptState<A> {
-    type Settings = Keeping;
+    type Settings = StateKey;
 
     ghost built_for = { what_is_kept };
 
@@ -111,17 +112,17 @@ impl<A: Allocator + Copy> Kept<A> for KeptState<A> {
 
     fn build(
         alloc: A,
-        keeping: Keeping,
+        state_key: StateKey,
         track: &Track<A>,
         genome: &Genome<A>,
         meter: &mut Meter,
     ) -> Result<KeptState<A>, AllocError> {
-        match keeping {
-            Keeping::Blocks(options) => {
+        match state_key {
+            StateKey::Blocks(options) => {
                 let blocks = Blocks::build(alloc, options, track, genome, meter)?;
                 Ok(KeptState::Blocks(blocks))
             }
-            Keeping::Depth => {
+            StateKey::Depth => {
                 let depth = Depth::build(alloc, (), track, genome, meter)?;
                 Ok(KeptState::Depth(depth))
             }

@@ -1,4 +1,4 @@
-//! The views of a track: the words that ask for one, their faults, and the text that each stands for.
+//! The views of a track: the words that ask for one, their faults, and the text that each means.
 #![tactic(auto)]
 
 mod cluster;
@@ -18,10 +18,7 @@ mod words;
 mod written_view;
 
 pub use fault::ViewFault;
-pub use iv_blocks::{Options, Summaries};
-pub use iv_depth::DepthRows;
-pub use iv_pair::{FastaRows, IntersectRows, PairRows};
-pub use kept_state::{Keeping, KeptState};
+pub use kept_state::{KeptState, StateKey};
 pub use laws::{no_option_twice, options_in_any_order, words_are_options};
 pub use view::{KeptView, View};
 pub use words::Words;

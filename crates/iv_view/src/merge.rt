@@ -9,10 +9,10 @@ ghost use Rattle.iv_view.specs.Merge.{said_by, nothing_said, merge_options, aske
 
 use crate::fault::ViewFault;
 use crate::lists::{MOST_ITEMS, read_items, repeated};
-use crate::options::Said;
+use crate::options::MergeArgs;
 use arrayvec::ArrayVec;
 use iv_blocks::{Options, Summaries};
-use iv_summary::{Column, Op, Summary};
+use iv_summary::{Column, ColumnSummary, Op};
 use iv_text::read_number;
 
 /// The greatest distance.
@@ -25,11 +25,11 @@ struct Lists {
     ops: ArrayVec<Op, MOST_ITEMS>,
 }
 
-/// The options that the words behind `merge` say, on a track of this width.
+/// The options that the words after `merge` say, on a track of this width.
 pub(crate) fn read_merge(width: u8, words: &[&[u8]]) -> Result<Options, ViewFault>
     ensures { result ≡ merge_options width (said_by (map (λ word. word.now) words.now) nothing_said) }
 {
-    let said = Said::read(words).ok_or(ViewFault::Words)?;
+    let said = MergeArgs::read(words).ok_or(ViewFault::Words)?;
     let distance = read_distance(said.distance).ok_or(ViewFault::Words)?;
     let lists = read_lists(said.columns, said.ops).ok_or(ViewFault::Words)?;
     let summaries = read_summaries(width, lists.columns.as_slice(), lists.ops.as_slice())?;
@@ -108,7 +108,7 @@ fn summaries_of(width: u8, columns: &[u64], ops: &[Op]) -> Option<Summaries>
     for place in 0..columns.len() {
         let column = column_within(width, columns[place])?;
         let op = ops[place];
-        summaries.push(Summary { column, op });
+        summaries.push(ColumnSummary { column, op });
     }
     Some(summaries)
 }

@@ -5,30 +5,30 @@ ghost use Rattle.iv_view.specs.Merge.{said_by, nothing_said, with_value, option_
 
 use std::marker::Model;
 
-/// What options say: their values as they stand.
+/// What options say: their values as they are.
 #[derive(Drop)]
-pub(crate) struct Said<'a> {
+pub(crate) struct MergeArgs<'a> {
     pub(crate) distance: Option<&'a [u8]>,
     pub(crate) columns: Option<&'a [u8]>,
     pub(crate) ops: Option<&'a [u8]>,
     pub(crate) stranded: bool,
 }
 
-impl<'a> Model for Said<'a> {
+impl<'a> Model for MergeArgs<'a> {
     ghost use Rattle.std.specs.Option.{option_copied};
-    ghost use Rattle.iv_view.specs.Merge.{Said};
+    ghost use Rattle.iv_view.specs.Merge.{MergeArgs};
 
-    ghost Value = { Said };
+    ghost Value = { MergeArgs };
 
     ghost view = { λ s. record { distance = option_copied s.distance; columns = option_copied s.columns; ops = option_copied s.ops; stranded = s.stranded } };
 }
 
-impl<'a> Said<'a> {
-    /// What words say: each is `-s`, or an option with its value behind it, and none stands twice.
-    pub(crate) fn read(words: &[&'a [u8]]) -> Option<Said<'a>>
+impl<'a> MergeArgs<'a> {
+    /// What words say: each is `-s`, or an option with its value after it, and none is twice.
+    pub(crate) fn read(words: &[&'a [u8]]) -> Option<MergeArgs<'a>>
         ensures { result ≡ said_by (map (λ word. word.now) words.now) nothing_said }
     {
-        let mut said = Said::nothing();
+        let mut said = MergeArgs::nothing();
         let mut rest = words;
         'options: while let [word, after @ ..] = rest {
             if *word == b"-s".as_slice() {
@@ -49,10 +49,10 @@ impl<'a> Said<'a> {
     }
 
     /// No option yet.
-    fn nothing() -> Said<'a>
+    fn nothing() -> MergeArgs<'a>
         ensures { result ≡ nothing_said }
     {
-        Said {
+        MergeArgs {
             distance: None,
             columns: None,
             ops: None,

@@ -2,7 +2,7 @@
 ghost use Rattle.std.specs.Prelude.{◌≡◌, map};
 ghost use Rattle.iv_view.specs.Subtract.{is_whole};
 
-/// Whether the words behind `subtract` say that only whole records are taken: `-A`, or nothing.
+/// Whether the words after `subtract` say that only whole records are taken: `-A`, or nothing.
 pub(crate) fn read_subtract(words: &[&[u8]]) -> Option<bool>
     ensures { result ≡ is_whole (map (λ word. word.now) words.now) }
 {

@@ -13,7 +13,8 @@ use crate::subtract::read_subtract;
 use crate::written_view::WrittenView;
 use iv_blocks::Options;
 use iv_depth::DepthRows;
-use iv_pair::{FastaRows, PairRows};
+use iv_fasta::FastaRows;
+use iv_pair::PairRows;
 use std::alloc::Allocator;
 
 /// A view of a track, with its options.
@@ -28,7 +29,7 @@ pub enum View {
 /// A view of which a state is kept between prints.
 #[derive(Clone, Copy, Debug, PartialEq, Eq)]
 pub enum KeptView {
-    /// `merge`: the blocks of records that lie near one another, and summaries of their columns.
+    /// `merge`: the blocks of records that are near one another, and summaries of their columns.
     Merge(Options),
     /// `cluster`: every record with the number of its block. Records at most this many bases apart are in one block.
     Cluster(u32),

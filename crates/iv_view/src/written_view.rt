@@ -5,8 +5,10 @@ ghost use Rattle.iv_bytes.specs.Sinks.{Puts};
 ghost use Rattle.iv_view.specs.Views.{needs_second, second_rows, written_text};
 ghost use Rattle.iv_view.specs.declared.view.View.TheVariants.{Written};
 
-use iv_pair::{Fasta, FastaRows, PairRows, Second, print_fasta, print_pairs};
-use iv_text::{Genome, Sink, WriteFault};
+use iv_bytes::{Sink, WriteFault};
+use iv_fasta::{Fasta, FastaRows, print_fasta};
+use iv_pair::{PairRows, Second, print_pairs};
+use iv_text::Genome;
 use iv_track::{Meter, Track};
 use std::alloc::Allocator;
 

@@ -1,7 +1,7 @@
 use Rattle.std.proofs.Common.{◌∙◌, sym, ap, arith, length, List}
 use Rattle.iv_cover.specs.declared.block.Block.{Block}
-use Rattle.iv_blocks.specs.Ahead.{starts_until}
-use Rattle.iv_blocks.proofs.AheadLemmas.{given-some, TakesForEach-next, take-first, drop-first}
+use Rattle.iv_blocks.specs.BlockCursor.{starts_until}
+use Rattle.iv_blocks.proofs.BlockCursorLemmas.{given-some, TakesForEach-next, take-first, drop-first}
 use Rattle.iv_blocks.proofs.cluster.count_until.Goals as goal
 
 pub loop-count-preserved : goal.loop-count-preserved

@@ -3,7 +3,7 @@ use Rattle.iv_bytes.proofs.Putting.{Underway-begin, Underway-more, Underway-fail
 use Rattle.iv_text.specs.Genome.{seq_count, sequence_name, sequence_length}
 use Rattle.iv_text.specs.Read.{LiesOn}
 use Rattle.iv_cover.specs.TrackBlocks.{blocks_of}
-use Rattle.iv_blocks.specs.Ahead.{starts_until, drop_while}
+use Rattle.iv_blocks.specs.BlockCursor.{starts_until, drop_while}
 use Rattle.iv_blocks.proofs.ComplementLemmas.{texts-next, texts-none}
 use Rattle.iv_sweep_blocks.specs.Sweeps.{lies_at}
 use Rattle.iv_sweep_blocks.proofs.ComplementTexts.{gap-texts}

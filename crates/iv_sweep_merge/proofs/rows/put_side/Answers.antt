@@ -4,7 +4,7 @@ use Rattle.iv_bytes.proofs.Putting.{Underway-begin, Puts-err}
 use Rattle.iv_text.specs.Row.{Row}
 use Rattle.iv_cover.specs.Coming.{coming}
 use Rattle.iv_cover.specs.TrackBlocks.{Group}
-use Rattle.iv_summary.specs.declared.column.Summary.{Summary}
+use Rattle.iv_summary.specs.declared.column.ColumnSummary.{ColumnSummary}
 use Rattle.iv_blocks.specs.Groups.{listed}
 use Rattle.iv_sweep_blocks.proofs.ClusterTexts.{members_of, coming-members}
 use Rattle.iv_sweep_merge.specs.Sides.{is_on}
@@ -32,7 +32,7 @@ put_block-requires g c =
     let fewer : length c.in-Some.found.members ≤ length c.args.records.now
     = omega (arith, i.few, ap (λ (l : List Group). length (members_of l)) c.in-Some.ensures.steps, length-append c.in-Some.found.members (members_of c.next.new.self)) in
     record {
-      room = subst (λ (asked : List Summary). HasRoom (vec_capacity c.loop-found.values) (length c.in-Some.found.members) asked) (sym c.as_slice-summaries.ensures)
+      room = subst (λ (asked : List ColumnSummary). HasRoom (vec_capacity c.loop-found.values) (length c.in-Some.found.members) asked) (sym c.as_slice-summaries.ensures)
           (room-more (vec_capacity c.args.values.now) (vec_capacity c.loop-found.values) (length c.args.records.now) (length c.in-Some.found.members) (listed c.args.options.now.summaries) i.grown fewer c.requires.room);
     }
 

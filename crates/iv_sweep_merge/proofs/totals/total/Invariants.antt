@@ -1,6 +1,6 @@
 use Rattle.std.proofs.Common.{◌≡◌, ◌≤◌, ◌+◌, ◌*◌, ◌^◌, None, map, length}
 use Rattle.iv_summary.specs.Columns.{column_value}
-use Rattle.iv_summary.specs.Takings.{both_of, size, going}
+use Rattle.iv_summary.specs.NumberFolds.{both_of, size, going}
 use Rattle.iv_sweep_merge.proofs.totals.total.Given as goal
 
 -- what is taken, with the values of the members that are left, is what there was

@@ -1,7 +1,7 @@
 use Rattle.std.proofs.Common.{◌∙◌, ap, map, List, arith, subst}
 use Rattle.std.specs.List.Sorted.{IsPermutation}
 use Rattle.std.proofs.lemmas.List.{take_all}
-use Rattle.iv_places.specs.declared.place.Place.{Place}
+use Rattle.iv_index.specs.declared.place.Place.{Place}
 use Rattle.iv_sweep_pairs.specs.Counts.{end_of}
 use Rattle.iv_sweep_pairs.proofs.CountLemmas.{EndsAscend-sorted}
 use Rattle.iv_sweep_pairs.proofs.ends.ends_of.Goals as goal

@@ -1,7 +1,7 @@
 use Rattle.std.proofs.Common.{◌≡◌, ◌≤◌, length, drop, true, false, rules}
 use Rattle.std.specs.List.Sorted.{IsPartitionPoint}
 use Rattle.std.proofs.lemmas.List.Sorted.{IsPartitionPoint-from_clause}
-use Rattle.iv_places.specs.declared.place.Place.{Place}
+use Rattle.iv_index.specs.declared.place.Place.{Place}
 use Rattle.iv_sweep_pairs.specs.Counts.{place_before}
 use Rattle.iv_sweep_pairs.proofs.FrontLemmas.{parted-drop, searched-past, slice-rest}
 use Rattle.iv_sweep_pairs.proofs.starts.count_starts.Goals as goal

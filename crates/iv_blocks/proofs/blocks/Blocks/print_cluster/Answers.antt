@@ -6,7 +6,7 @@ use Rattle.iv_text.specs.Ordered.{AreInOrder}
 use Rattle.iv_text.specs.Row.{Row}
 use Rattle.iv_cover.specs.declared.block.Block.{Block}
 use Rattle.iv_track.proofs.WalkLemmas.{filter-from_first}
-use Rattle.iv_blocks.specs.Ahead.{lies_at, starts_until, drop_while}
+use Rattle.iv_blocks.specs.BlockCursor.{lies_at, starts_until, drop_while}
 use Rattle.iv_blocks.specs.KeptBlocks.{KeptBlocks, Entries}
 use Rattle.iv_blocks.proofs.ClusterLemmas.{IsPassed-begin, IsPassed-next, IsPassed-few, number-is, rows-next}
 use Rattle.iv_blocks.specs.declared.options.Options.{Options}

@@ -3,7 +3,7 @@ use Rattle.std.proofs.lemmas.List.{length-map}
 use Rattle.iv_bytes.proofs.Putting.{Underway-begin, Underway-more, Underway-fails, Underway-ends, Puts-err}
 use Rattle.iv_text.specs.Genome.{seq_count, sequence_name, sequence_length}
 use Rattle.iv_cover.specs.declared.block.Block.{Block}
-use Rattle.iv_blocks.specs.Ahead.{lies_at, starts_until, drop_while}
+use Rattle.iv_blocks.specs.BlockCursor.{lies_at, starts_until, drop_while}
 use Rattle.iv_blocks.specs.declared.options.Options.{Options}
 use Rattle.iv_blocks.proofs.ComplementLemmas.{texts-next, texts-none, gaps-are}
 use Rattle.iv_blocks.proofs.MergeLemmas.{count-is}

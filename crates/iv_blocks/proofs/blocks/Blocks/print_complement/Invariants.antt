@@ -1,7 +1,7 @@
 use Rattle.std.proofs.Common.{◌+◌, ◌-◌, ◌≤◌, length, map, not}
 use Rattle.iv_bytes.proofs.Putting.{Underway}
 use Rattle.iv_text.specs.Genome.{seq_count}
-use Rattle.iv_blocks.specs.Ahead.{lies_at}
+use Rattle.iv_blocks.specs.BlockCursor.{lies_at}
 use Rattle.iv_blocks.proofs.ComplementLemmas.{texts}
 use Rattle.iv_blocks.proofs.blocks.Blocks.print_complement.Given as goal
 

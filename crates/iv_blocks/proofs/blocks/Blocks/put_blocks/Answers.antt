@@ -1,6 +1,6 @@
 use Rattle.std.proofs.Common.{◌≡◌, ◌+◌, ◌<◌, ℕ, List, [], ◌∷◌, length, ap, sym, subst, ◌∙◌, arith, Result, Ok, Err, OnOk}
 use Rattle.iv_text.specs.Row.{Row}
-use Rattle.iv_blocks.specs.Coming.{Coming}
+use Rattle.iv_blocks.specs.MembersLeft.{MembersLeft}
 use Rattle.iv_blocks.specs.Groups.{between_on, members_between}
 use Rattle.iv_track.specs.Entries.{IsLedger}
 use Rattle.iv_blocks.specs.KeptBlocks.{KeptBlocks, key_cmp}
@@ -17,7 +17,7 @@ returns-in_default-clause-ok g c =
     let a = c.args in
     let known = swept-from a.self.now a.genome.now a.track.now.rows a.group a.from a.to a.track.now.width c.of-members.ensures.ordered c.requires.fit c.requires.stops in
     sweep-none a.self.now a.genome.now a.track.now.rows a.group a.from a.to known c.requires.apart
-    (sym (ap (λ (m : Coming). m.members) c.of-members.ensures.members) ∙ c.in_default.ensures.member.0)
+    (sym (ap (λ (m : MembersLeft). m.members) c.of-members.ensures.members) ∙ c.in_default.ensures.member.0)
     (subst (λ (b : KeptBlocks). IsLedger key_cmp b.entries) c.self.view_is c.len-ordered.ensures.ordered)
 
 pub loop-row-init : goal.loop-row-init
@@ -26,8 +26,8 @@ loop-row-init g c =
     let known = swept-from a.self.now a.genome.now a.track.now.rows a.group a.from a.to a.track.now.width c.of-members.ensures.ordered c.requires.fit c.requires.stops in
     let steps = c.in-Some.ensures.steps in
     let all : members_between a.group a.from a.to a.track.now.rows ≡ c.in-Some.first.now ∷ c.next.new.self.members =
-    sym (ap (λ (m : Coming). m.members) c.of-members.ensures.members) ∙ c.in-Some.ensures.member in
-    let records : c.of-members.result.records ≡ length (between_on a.group.rank a.from a.to a.track.now.rows) = ap (λ (m : Coming). m.records) c.of-members.ensures.members in
+    sym (ap (λ (m : MembersLeft). m.members) c.of-members.ensures.members) ∙ c.in-Some.ensures.member in
+    let records : c.of-members.result.records ≡ length (between_on a.group.rank a.from a.to a.track.now.rows) = ap (λ (m : MembersLeft). m.records) c.of-members.ensures.members in
     record {
       sweep = rw c.place-start.ensures (sweep-first a.self.now a.genome.now a.track.now.rows a.group a.from a.to known c.in-Some.first.now c.next.new.self.members all);
       no_less = omega (arith, c.of-members.ensures.steps.no_less, steps.no_less);

@@ -1,9 +1,9 @@
 use Rattle.std.proofs.Common.{◌≡◌, ◌∙◌, refl, ap}
 use Rattle.iv_text.specs.Genome.{sequence_name}
-use Rattle.iv_blocks.specs.Coming.{Coming}
+use Rattle.iv_blocks.specs.MembersLeft.{MembersLeft}
 use Rattle.iv_blocks.specs.KeptBlocks.{KeptBlocks}
 use Rattle.iv_blocks.specs.Groups.{members_between, listed}
-use Rattle.iv_blocks.proofs.Names.{name-lent}
+use Rattle.iv_blocks.proofs.NameLemmas.{name-lent}
 use Rattle.iv_blocks.proofs.blocks.Blocks.results.Goals as goal
 
 pub returns-clause-value : goal.returns-clause-value
@@ -12,5 +12,5 @@ returns-clause-value g c =
     name-lent c.args.genome.now c.args.group.rank c.name.result _ c.unwrap_or-name.result c.unwrap_or-name.ensures refl c.name.ensures.value in
     let summaries : c.as_slice-summaries.result.now ≡ listed c.args.self.now.options.summaries =
     c.as_slice-summaries.ensures ∙ ap (λ (k : KeptBlocks). listed k.options.summaries) c.self.view_is in
-    let rows : c.of-members.result.members ≡ members_between c.args.group c.args.start c.args.stop c.args.track.now.rows = ap (λ (m : Coming). m.members) c.of-members.ensures.members in
+    let rows : c.of-members.result.members ≡ members_between c.args.group c.args.start c.args.stop c.args.track.now.rows = ap (λ (m : MembersLeft). m.members) c.of-members.ensures.members in
     ap (λ v. v.items) c.in_ok-new.ensures.ok ∙ (rw (name, summaries, c.as_slice.ensures.value, c.in_ok-rows.ensures.rows, rows) at c.in_ok-results.ensures)

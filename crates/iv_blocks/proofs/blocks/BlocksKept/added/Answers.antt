@@ -6,7 +6,7 @@ use Rattle.iv_blocks.specs.Lookups.{kept_in}
 use Rattle.iv_blocks.specs.Putting.{with_block}
 use Rattle.iv_blocks.specs.Repairs.{JoinsBefore, JoinsAfter}
 use Rattle.iv_blocks.specs.declared.options.Options.{Options}
-use Rattle.iv_blocks.proofs.Repaired.{IsEdit, edit-added, beside-added, added-all, added-takes, on-both}
+use Rattle.iv_blocks.proofs.GroupRepairLemmas.{IsEdit, edit-added, beside-added, added-all, added-takes, on-both}
 use Rattle.iv_blocks.proofs.blocks.BlocksKept.added.Given.{Over}
 use Rattle.iv_blocks.proofs.blocks.BlocksKept.added.Goals as goal
 

@@ -8,7 +8,7 @@ use Rattle.iv_blocks.specs.Lookups.{kept_in, IsLastBlock}
 use Rattle.iv_blocks.specs.Putting.{ArePut}
 use Rattle.iv_blocks.specs.Repairs.{without_block}
 use Rattle.iv_blocks.specs.declared.options.Options.{Options}
-use Rattle.iv_blocks.proofs.Repaired.{IsEdit, edit-removed, beside-removed, removed-found, removed-stops, removed-takes, removed-all}
+use Rattle.iv_blocks.proofs.GroupRepairLemmas.{IsEdit, edit-removed, beside-removed, removed-found, removed-stops, removed-takes, removed-all}
 use Rattle.iv_blocks.proofs.blocks.BlocksKept.removed.Given.{Over}
 use Rattle.iv_blocks.proofs.blocks.BlocksKept.removed.Goals as goal
 

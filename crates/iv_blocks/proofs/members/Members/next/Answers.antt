@@ -1,8 +1,8 @@
 use Rattle.std.proofs.Common.{◌≡◌, ◌+◌, ◌<◌, ◌≤◌, ◌⊎◌, inl, inr, List, [], ◌∷◌, length, ap, sym, subst, ◌∙◌, arith}
 use Rattle.iv_text.specs.Row.{Row}
-use Rattle.iv_blocks.specs.Coming.{Coming, IsAhead}
+use Rattle.iv_blocks.specs.MembersLeft.{MembersLeft, IsAhead}
 use Rattle.iv_blocks.specs.Groups.{between_on, members_between}
-use Rattle.iv_blocks.proofs.Walks.{ahead-rest, past-members, past-records, rest-none, here-records, here-member, other-member}
+use Rattle.iv_blocks.proofs.MembersLemmas.{ahead-rest, past-members, past-records, rest-none, here-records, here-member, other-member}
 use Rattle.iv_blocks.proofs.members.Members.next.Given.{Over}
 use Rattle.iv_blocks.proofs.members.Members.next.Goals as goal
 use Rattle.iv_blocks.proofs.members.Members.next.Goals.{then-seq-self-via-then-seq-self, then-seq-self-via-else-seq-self+then-start-from}
@@ -10,9 +10,9 @@ use Rattle.iv_blocks.proofs.members.Members.next.Goals.{then-seq-self-via-then-s
 pub loop-row-init : goal.loop-row-init
 loop-row-init g c = record {
   ahead = c.self.invariant;
-  members = ap (λ (m : Coming). m.members) c.self.view_is;
+  members = ap (λ (m : MembersLeft). m.members) c.self.view_is;
   no_less = omega arith;
-  paid = omega (arith, ap (λ (m : Coming). m.records) c.self.view_is);
+  paid = omega (arith, ap (λ (m : MembersLeft). m.records) c.self.view_is);
 }
 
 -- the record is past the range

@@ -1,7 +1,7 @@
 use Rattle.std.proofs.Common.{List, inl, inr, ap, sym, subst, ◌∙◌, ℕ}
 use Rattle.iv_text.specs.Row.{Row}
-use Rattle.iv_blocks.specs.Coming.{IsAhead}
-use Rattle.iv_blocks.proofs.Walks.{ahead-walked, coming-walked}
+use Rattle.iv_blocks.specs.MembersLeft.{IsAhead}
+use Rattle.iv_blocks.proofs.MembersLemmas.{ahead-walked, coming-walked}
 use Rattle.iv_blocks.proofs.members.Members.of.Goals as goal
 use Rattle.iv_blocks.proofs.members.Members.of.Goals.{then-from-to, else-from-to}
 

@@ -1,6 +1,6 @@
 use Rattle.std.proofs.Common.{◌++◌, [], ◌∷◌, List, Some, ap, ◌∙◌}
 use Rattle.iv_text.specs.Row.{Row}
-use Rattle.iv_pair.specs.Finder.{held}
+use Rattle.iv_pair.specs.HitFinder.{held}
 use Rattle.iv_pair.proofs.CarryLemmas.{held-append}
 use Rattle.iv_pair.proofs.carried.Carried.push.Goals as goal
 

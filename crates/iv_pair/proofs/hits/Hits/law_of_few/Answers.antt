@@ -1,6 +1,6 @@
 use Rattle.std.proofs.Common.{List, length, ap, arith, length-append}
 use Rattle.iv_text.specs.Row.{Row}
-use Rattle.iv_pair.specs.Finder.{held}
+use Rattle.iv_pair.specs.HitFinder.{held}
 use Rattle.iv_pair.specs.Hits.{overlaps, hits}
 use Rattle.iv_pair.proofs.CarryLemmas.{held-few}
 use Rattle.iv_pair.proofs.HitsLemmas.{length-filter_le}

@@ -2,7 +2,7 @@ use Rattle.std.proofs.Common.{◌++◌, List, Option, sym, ap, ◌∙◌, subst}
 use denote.Ref.{Bor}
 use Rattle.iv_text.specs.Ordered.{AreInOrder}
 use Rattle.iv_text.specs.Row.{Row}
-use Rattle.iv_pair.specs.Finder.{held}
+use Rattle.iv_pair.specs.HitFinder.{held}
 use Rattle.iv_pair.specs.Hits.{hits}
 use Rattle.iv_pair.proofs.HitsLemmas.{hit_not, hits_beyond}
 use Rattle.iv_pair.proofs.hits.HitsIterator.next.Goals as goal

@@ -1,0 +1,332 @@
+-- The words of a run, taken from the front.
+use Rattle.std.proofs.Common.{◌≡◌, ℕ, ◌+◌, ◌-◌, ◌≤◌, Bool, true, false, List, [], ◌∷◌, ◌++◌, Option, Some, None, Bor, length, map, take, drop, refl, sym, ap, ◌∙◌, subst, arith, append-nil, append_assoc, length-append, length-drop}
+use lib.ListN.{get_or}
+use Rattle.std.specs.Prelude.{filter}
+use Rattle.std.specs.List.{slice_get}
+use Rattle.std.specs.Option.{option_map, option_and_then, option_to_list}
+use Rattle.std.proofs.lemmas.List.{take_all, map-append}
+use Rattle.std.proofs.lemmas.List.Elements.{filter-append}
+use Rattle.iv_args.specs.declared.run.Run.{Run}
+use Rattle.iv_args.specs.declared.run.RunOption.{RunOption}
+use Rattle.iv_args.specs.declared.run.RunOption.TheVariants as option
+use Rattle.iv_args.specs.Words.{Setting, Parted, parted, last_parted, next_parted, with_setting, with_words, option_of, takes_value, values_of, is_option}
+use Rattle.iv_args.specs.Drafts.{PartialPlan, unless_given, with_value, viewed, last_drafted, next_drafted, drafted}
+
+pub none≢some : {A : Type 0} (a : A) → None ≡ Some a → ⊥
+none≢some a e = cc
+
+pub some-same : {A : Type 0} (a b : A) → Some a ≡ Some b → a ≡ b
+some-same a b e = cc
+
+-- ---- one word at a time
+
+-- the texts of references
+abbrev texts : List (Bor (List ℕ)) → List (List ℕ)
+texts words = map (λ word. word.now) words
+
+-- a list with an item begins with it
+pub one-up : {A : Type 0} (f : A → List ℕ) (xs : List A) (d : A) → 1 ≤ length xs → map f xs ≡ f (get_or xs 0 d) ∷ map f (take (length xs - 1) (drop 1 xs))
+one-up f [] d h = absurd (omega (arith, h))
+one-up f (x ∷ xs) d h =
+    let n : length (x ∷ xs) - 1 ≡ length xs = omega arith in
+    rw n (ap (λ l. f x ∷ map f l) (sym (take_all (length xs) xs (omega arith))))
+
+-- what is left of a list after some items
+pub left-behind : {A : Type 0} (f : A → List ℕ) (xs : List A) (n : ℕ) → map f (drop n xs) ≡ map f (take (length xs - n) (drop n xs))
+left-behind f xs n =
+    let short : length (drop n xs) ≤ length xs - n = omega (arith, length-drop n xs) in
+    ap (λ l. map f l) (sym (take_all (length xs - n) (drop n xs) short))
+
+module _ (run : Run) (word : List ℕ) (old : PartialPlan) where
+  -- given what the word is
+  next-is : (o : Option RunOption) (takes : Bool) (next : List ℕ) (rest : List (List ℕ)) → option_of run word ≡ o → takes_value run word ≡ takes
+      → drafted run (word ∷ next ∷ rest) old ≡ next_drafted o takes word next (drafted run rest) (drafted run (next ∷ rest)) old
+  next-is o takes next rest is value_is =
+      ap (λ (p : Option RunOption). next_drafted p (takes_value run word) word next (drafted run rest) (drafted run (next ∷ rest)) old) is
+      ∙ ap (λ (b : Bool). next_drafted o b word next (drafted run rest) (drafted run (next ∷ rest)) old) value_is
+
+  -- an option and its value
+  pub option-next : (asked : RunOption) (others : List (Bor (List ℕ))) (value : Bor (List ℕ)) → Some value ≡ slice_get others 0 → Some asked ≡ option_of run word
+      → drafted run (word ∷ texts others) old ≡ option_and_then (drafted run (texts (drop 1 others))) (with_value asked value.now old)
+  option-next asked [] value first is = absurd (none≢some value (sym first))
+  option-next asked (next ∷ rest) value first is =
+      next-is (Some asked) (takes_value run word) next.now (texts rest) (sym is) refl
+      ∙ ap (λ (v : Bor (List ℕ)). option_and_then (drafted run (texts rest)) (with_value asked v.now old)) (sym (some-same value next first))
+
+  pub option-taken : (asked : RunOption) (others : List (Bor (List ℕ))) (value : Bor (List ℕ)) (new : PartialPlan) → Some value ≡ slice_get others 0
+      → Some asked ≡ option_of run word → with_value asked value.now old ≡ Some new → drafted run (word ∷ texts others) old ≡ drafted run (texts (drop 1 others)) new
+  option-taken asked others value new first is taken =
+      option-next asked others value first is ∙ ap (option_and_then (drafted run (texts (drop 1 others)))) taken
+
+  pub option-refused : (asked : RunOption) (others : List (Bor (List ℕ))) (value : Bor (List ℕ)) → Some value ≡ slice_get others 0
+      → Some asked ≡ option_of run word → with_value asked value.now old ≡ None → drafted run (word ∷ texts others) old ≡ None
+  option-refused asked others value first is refused =
+      option-next asked others value first is ∙ ap (option_and_then (drafted run (texts (drop 1 others)))) refused
+
+  -- a word of the view and its value
+  pub value-taken : (others : List (Bor (List ℕ))) (value : Bor (List ℕ)) → Some value ≡ slice_get others 0 → None ≡ option_of run word
+      → takes_value run word ≡ true → drafted run (word ∷ texts others) old ≡ drafted run (texts (drop 1 others)) (viewed (word ∷ value.now ∷ []) old)
+  value-taken [] value first is takes = absurd (none≢some value (sym first))
+  value-taken (next ∷ rest) value first is takes =
+      next-is None true next.now (texts rest) (sym is) takes
+      ∙ ap (λ (v : Bor (List ℕ)). drafted run (texts rest) (viewed (word ∷ v.now ∷ []) old)) (sym (some-same value next first))
+
+  -- a word of the view without one
+  pub word-taken : (others : List (Bor (List ℕ))) (value : Bor (List ℕ)) → Some value ≡ slice_get others 0 → None ≡ option_of run word
+      → takes_value run word ≡ false → drafted run (word ∷ texts others) old ≡ drafted run (texts others) (viewed (word ∷ []) old)
+  word-taken [] value first is takes = absurd (none≢some value (sym first))
+  word-taken (next ∷ rest) value first is takes = next-is None false next.now (texts rest) (sym is) takes
+
+-- ---- what all words say
+
+-- the value said for an option
+abbrev pub said_of : PartialPlan → RunOption → Option (List ℕ)
+said_of said option.Sizes = said.sizes
+said_of said option.First = said.first
+said_of said option.Other = said.other
+said_of said option.Bases = said.bases
+said_of said option.Width = said.width
+
+-- the same as a list of one value or none
+abbrev pub listed : PartialPlan → RunOption → List (List ℕ)
+listed said asked = option_to_list (said_of said asked)
+
+-- the value of a setting, where it is of this option
+abbrev one_of : RunOption → RunOption → List ℕ → List (List ℕ)
+one_of asked given value = values_of asked ((given, value) ∷ [])
+
+values-cons : (asked given : RunOption) (value : List ℕ) (settings : List Setting)
+    → values_of asked ((given, value) ∷ settings) ≡ one_of asked given value ++ values_of asked settings
+values-cons asked given value settings =
+    ap (map (λ (setting : Setting). setting.1)) (filter-append (λ (setting : Setting). is_option asked setting.0) ((given, value) ∷ []) settings)
+    ∙ map-append (λ (setting : Setting). setting.1) (filter (λ (setting : Setting). is_option asked setting.0) ((given, value) ∷ []))
+    (filter (λ (setting : Setting). is_option asked setting.0) settings)
+
+-- what is said once an option has this value
+abbrev set_to : RunOption → List ℕ → PartialPlan → PartialPlan
+set_to option.Sizes value said = record said { sizes = Some value }
+set_to option.First value said = record said { first = Some value }
+set_to option.Other value said = record said { other = Some value }
+set_to option.Bases value said = record said { bases = Some value }
+set_to option.Width value said = record said { width = Some value }
+
+unless-some : (o : Option (List ℕ)) (said new : PartialPlan) → unless_given o said ≡ Some new → (o ≡ None) × (new ≡ said)
+unless-some None said new h = (refl, cc)
+unless-some (Some value) said new h = absurd (none≢some new h)
+
+-- where a value can be given there was none before
+set-new : (asked : RunOption) (old new : PartialPlan) (value : List ℕ) → with_value asked value old ≡ Some new → (said_of old asked ≡ None) × (new ≡ set_to asked value old)
+set-new option.Sizes old new value h = unless-some old.sizes (record old { sizes = Some value }) new h
+set-new option.First old new value h = unless-some old.first (record old { first = Some value }) new h
+set-new option.Other old new value h = unless-some old.other (record old { other = Some value }) new h
+set-new option.Bases old new value h = unless-some old.bases (record old { bases = Some value }) new h
+set-new option.Width old new value h = unless-some old.width (record old { width = Some value }) new h
+
+-- the value that was not given is given
+given : (old : Option (List ℕ)) (value : List ℕ) → old ≡ None → value ∷ [] ≡ option_to_list old ++ (value ∷ [])
+given old value none = ap (λ (o : Option (List ℕ)). option_to_list o ++ (value ∷ [])) (sym none)
+
+-- another stays as it is
+kept : (old : Option (List ℕ)) → option_to_list old ≡ option_to_list old ++ []
+kept old = sym (append-nil (option_to_list old))
+
+set-says : (asked other : RunOption) (old : PartialPlan) (value : List ℕ) → said_of old asked ≡ None
+    → listed (set_to asked value old) other ≡ listed old other ++ one_of other asked value
+set-says option.Sizes option.Sizes old value none = given old.sizes value none
+set-says option.Sizes option.First old value none = kept old.first
+set-says option.Sizes option.Other old value none = kept old.other
+set-says option.Sizes option.Bases old value none = kept old.bases
+set-says option.Sizes option.Width old value none = kept old.width
+set-says option.First option.Sizes old value none = kept old.sizes
+set-says option.First option.First old value none = given old.first value none
+set-says option.First option.Other old value none = kept old.other
+set-says option.First option.Bases old value none = kept old.bases
+set-says option.First option.Width old value none = kept old.width
+set-says option.Other option.Sizes old value none = kept old.sizes
+set-says option.Other option.First old value none = kept old.first
+set-says option.Other option.Other old value none = given old.other value none
+set-says option.Other option.Bases old value none = kept old.bases
+set-says option.Other option.Width old value none = kept old.width
+set-says option.Bases option.Sizes old value none = kept old.sizes
+set-says option.Bases option.First old value none = kept old.first
+set-says option.Bases option.Other old value none = kept old.other
+set-says option.Bases option.Bases old value none = given old.bases value none
+set-says option.Bases option.Width old value none = kept old.width
+set-says option.Width option.Sizes old value none = kept old.sizes
+set-says option.Width option.First old value none = kept old.first
+set-says option.Width option.Other old value none = kept old.other
+set-says option.Width option.Bases old value none = kept old.bases
+set-says option.Width option.Width old value none = given old.width value none
+
+set-view : (asked : RunOption) (old : PartialPlan) (value : List ℕ) → (set_to asked value old).view ≡ old.view
+set-view option.Sizes old value = refl
+set-view option.First old value = refl
+set-view option.Other old value = refl
+set-view option.Bases old value = refl
+set-view option.Width old value = refl
+
+-- a setting that is taken says its value and no other
+record IsSet (asked : RunOption) (value : List ℕ) (old new : PartialPlan) : Type 0 where
+  says : (k : RunOption) → listed new k ≡ listed old k ++ one_of k asked value
+  view : new.view ≡ old.view
+
+is-set : (asked : RunOption) (value : List ℕ) (old new : PartialPlan) → with_value asked value old ≡ Some new → IsSet asked value old new
+is-set asked value old new h =
+    let at = set-new asked old new value h in
+    record {
+      says = λ k. ap (λ (s : PartialPlan). listed s k) at.1 ∙ set-says asked k old value at.0;
+      view = ap (λ (s : PartialPlan). s.view) at.1 ∙ set-view asked old value;
+    }
+
+-- after it come the other values
+is-set-before : (asked k : RunOption) (value : List ℕ) (old new : PartialPlan) (settings : List Setting) → IsSet asked value old new
+    → listed new k ++ values_of k settings ≡ listed old k ++ values_of k ((asked, value) ∷ settings)
+is-set-before asked k value old new settings set =
+    ap (λ (l : List (List ℕ)). l ++ values_of k settings) (set.says k)
+    ∙ append_assoc (listed old k) (one_of k asked value) (values_of k settings)
+    ∙ ap (λ (l : List (List ℕ)). listed old k ++ l) (sym (values-cons k asked value settings))
+
+viewed-says : (k : RunOption) (words : List (List ℕ)) (old : PartialPlan) → listed (viewed words old) k ≡ listed old k
+viewed-says option.Sizes words old = refl
+viewed-says option.First words old = refl
+viewed-says option.Other words old = refl
+viewed-says option.Bases words old = refl
+viewed-says option.Width words old = refl
+
+-- ---- words that can be taken
+
+-- the words have parts, and what is said after them is what was said before and these
+pub record Gives (said_parts : Option Parted) (old new : PartialPlan) : Type 0 where
+  pub parts : Parted
+  pub are : said_parts ≡ Some parts
+  pub values : (k : RunOption) → listed new k ≡ listed old k ++ values_of k parts.settings
+  pub view : new.view ≡ old.view ++ parts.view
+
+gives-nothing : (old new : PartialPlan) → Some old ≡ Some new → Gives (Some (record { settings = []; view = [] })) old new
+gives-nothing old new h = record {
+  parts = record { settings = []; view = [] };
+  are = refl;
+  values = λ k. ap (λ (s : PartialPlan). listed s k) (sym (some-same old new h)) ∙ sym (append-nil (listed old k));
+  view = ap (λ (s : PartialPlan). s.view) (sym (some-same old new h)) ∙ sym (append-nil old.view);
+}
+
+gives-option : (asked : RunOption) (value : List ℕ) (old mid new : PartialPlan) (p : Option Parted) → IsSet asked value old mid → Gives p mid new
+    → Gives (option_map (with_setting (asked, value)) p) old new
+gives-option asked value old mid new p set g = record {
+  parts = with_setting (asked, value) g.parts;
+  are = ap (option_map (with_setting (asked, value))) g.are;
+  values = λ k. g.values k ∙ is-set-before asked k value old mid g.parts.settings set;
+  view = g.view ∙ ap (λ (l : List (List ℕ)). l ++ g.parts.view) set.view;
+}
+
+gives-words : (words : List (List ℕ)) (old new : PartialPlan) (p : Option Parted) → Gives p (viewed words old) new → Gives (option_map (with_words words) p) old new
+gives-words words old new p g = record {
+  parts = with_words words g.parts;
+  are = ap (option_map (with_words words)) g.are;
+  values = λ k. g.values k ∙ ap (λ (l : List (List ℕ)). l ++ values_of k g.parts.settings) (viewed-says k words old);
+  view = g.view ∙ append_assoc old.view words g.parts.view;
+}
+
+last-gives : (o : Option RunOption) (word : List ℕ) (old new : PartialPlan) → last_drafted o word old ≡ Some new → Gives (last_parted o word) old new
+last-gives None word old new h = gives-words (word ∷ []) old new (Some (record { settings = []; view = [] })) (gives-nothing (viewed (word ∷ []) old) new h)
+last-gives (Some asked) word old new h = absurd (none≢some new h)
+
+next-gives : (o : Option RunOption) (takes : Bool) (word next : List ℕ) (old new : PartialPlan) (both one : PartialPlan → Option PartialPlan) (p q : Option Parted)
+    → ((s : PartialPlan) → both s ≡ Some new → Gives p s new) → ((s : PartialPlan) → one s ≡ Some new → Gives q s new)
+    → next_drafted o takes word next both one old ≡ Some new → Gives (next_parted o takes word next p q) old new
+next-gives (Some asked) takes word next old new both one p q at_both at_one h = by (with_value asked next old) refl h
+  where
+    by : (o : Option PartialPlan) → with_value asked next old ≡ o → option_and_then both o ≡ Some new → Gives (option_map (with_setting (asked, next)) p) old new
+    by None is h = absurd (none≢some new h)
+    by (Some mid) is h = gives-option asked next old mid new p (is-set asked next old mid is) (at_both mid h)
+next-gives None true word next old new both one p q at_both at_one h =
+    gives-words (word ∷ next ∷ []) old new p (at_both (viewed (word ∷ next ∷ []) old) h)
+next-gives None false word next old new both one p q at_both at_one h =
+    gives-words (word ∷ []) old new q (at_one (viewed (word ∷ []) old) h)
+
+pub drafted-gives : (run : Run) (words : List (List ℕ)) (old new : PartialPlan) → drafted run words old ≡ Some new → Gives (parted run words) old new
+drafted-gives run [] old new h = gives-nothing old new h
+drafted-gives run (word ∷ []) old new h = last-gives (option_of run word) word old new h
+drafted-gives run (word ∷ next ∷ words) old new h =
+    next-gives (option_of run word) (takes_value run word) word next old new (drafted run words) (drafted run (next ∷ words)) (parted run words)
+    (parted run (next ∷ words)) (λ s. drafted-gives run words s new) (λ s. drafted-gives run (next ∷ words) s new) h
+
+-- ---- words that cannot be taken
+
+-- no option has two values
+abbrev pub HasNoTwice : PartialPlan → Parted → Type 0
+HasNoTwice said parts = (k : RunOption) → length (listed said k ++ values_of k parts.settings) ≤ 1
+
+-- words that have parts give an option two values
+abbrev pub Never : Option Parted → PartialPlan → Type 0
+Never said_parts said = (parts : Parted) → said_parts ≡ Some parts → HasNoTwice said parts → ⊥
+
+given_before : (o : Option (List ℕ)) (said : PartialPlan) → unless_given o said ≡ None → 1 ≤ length (option_to_list o)
+given_before None said h = absurd (none≢some said (sym h))
+given_before (Some value) said h = omega arith
+
+-- an option whose value cannot be given has one
+refused : (asked : RunOption) (said : PartialPlan) (value : List ℕ) → with_value asked value said ≡ None → 1 ≤ length (listed said asked)
+refused option.Sizes said value h = given_before said.sizes _ h
+refused option.First said value h = given_before said.first _ h
+refused option.Other said value h = given_before said.other _ h
+refused option.Bases said value h = given_before said.bases _ h
+refused option.Width said value h = given_before said.width _ h
+
+-- a setting is of its own option
+own : (asked : RunOption) (value : List ℕ) (settings : List Setting) → values_of asked ((asked, value) ∷ settings) ≡ value ∷ values_of asked settings
+own option.Sizes value settings = refl
+own option.First value settings = refl
+own option.Other value settings = refl
+own option.Bases value settings = refl
+own option.Width value settings = refl
+
+twice : (asked : RunOption) (value : List ℕ) (old : PartialPlan) (settings : List Setting) → with_value asked value old ≡ None
+    → length (listed old asked ++ values_of asked ((asked, value) ∷ settings)) ≤ 1 → ⊥
+twice asked value old settings h once =
+    let before = refused asked old value h in
+    let parts : length (listed old asked ++ values_of asked ((asked, value) ∷ settings)) ≡ length (listed old asked) + length (value ∷ values_of asked settings) =
+    ap (λ (l : List (List ℕ)). length (listed old asked ++ l)) (own asked value settings) ∙ length-append (listed old asked) (value ∷ values_of asked settings) in
+    omega (arith, before, parts, once)
+
+never-option : (asked : RunOption) (value : List ℕ) (old : PartialPlan) (p : Option Parted)
+    → ((mid : PartialPlan) → with_value asked value old ≡ Some mid → Never p mid) → Never (option_map (with_setting (asked, value)) p) old
+never-option asked value old None at parts are once = none≢some parts are
+never-option asked value old (Some q) at parts are once = by (with_value asked value old) refl
+  where
+    same : with_setting (asked, value) q ≡ parts
+    same = some-same (with_setting (asked, value) q) parts are
+
+    once-of : HasNoTwice old (with_setting (asked, value) q)
+    once-of = subst (λ (x : Parted). HasNoTwice old x) (sym same) once
+
+    by : (o : Option PartialPlan) → with_value asked value old ≡ o → ⊥
+    by None is = twice asked value old q.settings is (once-of asked)
+    by (Some mid) is =
+        at mid is q refl (λ k. subst (λ (l : List (List ℕ)). length l ≤ 1) (sym (is-set-before asked k value old mid q.settings (is-set asked value old mid is))) (once-of k))
+
+never-words : (words : List (List ℕ)) (old : PartialPlan) (p : Option Parted) → Never p (viewed words old) → Never (option_map (with_words words) p) old
+never-words words old None never parts are once = none≢some parts are
+never-words words old (Some q) never parts are once =
+    let same = some-same (with_words words q) parts are in
+    never q refl (λ k. subst (λ (l : List (List ℕ)). length (l ++ values_of k q.settings) ≤ 1) (sym (viewed-says k words old))
+    (subst (λ (x : Parted). length (listed old k ++ values_of k x.settings) ≤ 1) (sym same) (once k)))
+
+last-never : (o : Option RunOption) (word : List ℕ) (old : PartialPlan) → last_drafted o word old ≡ None → Never (last_parted o word) old
+last-never None word old h parts are once = none≢some (viewed (word ∷ []) old) (sym h)
+last-never (Some asked) word old h parts are once = none≢some parts are
+
+next-never : (o : Option RunOption) (takes : Bool) (word next : List ℕ) (old : PartialPlan) (both one : PartialPlan → Option PartialPlan) (p q : Option Parted)
+    → ((s : PartialPlan) → both s ≡ None → Never p s) → ((s : PartialPlan) → one s ≡ None → Never q s)
+    → next_drafted o takes word next both one old ≡ None → Never (next_parted o takes word next p q) old
+next-never (Some asked) takes word next old both one p q at_both at_one h =
+    never-option asked next old p (λ mid is. at_both mid (sym (ap (option_and_then both) is) ∙ h))
+next-never None true word next old both one p q at_both at_one h = never-words (word ∷ next ∷ []) old p (at_both (viewed (word ∷ next ∷ []) old) h)
+next-never None false word next old both one p q at_both at_one h = never-words (word ∷ []) old q (at_one (viewed (word ∷ []) old) h)
+
+pub drafted-never : (run : Run) (words : List (List ℕ)) (old : PartialPlan) → drafted run words old ≡ None → Never (parted run words) old
+drafted-never run [] old h = absurd (none≢some old (sym h))
+drafted-never run (word ∷ []) old h = last-never (option_of run word) word old h
+drafted-never run (word ∷ next ∷ words) old h =
+    next-never (option_of run word) (takes_value run word) word next old (drafted run words) (drafted run (next ∷ words)) (parted run words)
+    (parted run (next ∷ words)) (λ s. drafted-never run words s) (λ s. drafted-never run (next ∷ words) s) h

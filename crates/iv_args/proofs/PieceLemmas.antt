@@ -1,0 +1,259 @@
+-- Pieces of the words of a run that change places, and an option that comes twice.
+use Rattle.std.proofs.Common.{◌≡◌, ◌≢◌, ◌↔◌, ℕ, ◌+◌, ◌≤◌, Bool, true, false, true≢false, List, [], ◌∷◌, ◌++◌, Option, Some, None, length, map, cond, refl, sym, ap, ◌∙◌, subst, arith, append_assoc, unwrap_or}
+use Rattle.std.specs.Prelude.{◌||◌, filter, All}
+use Rattle.std.specs.List.{AllByRecursion}
+use Rattle.std.specs.Option.{option_map, option_to_list, is_some}
+use Rattle.std.proofs.lemmas.Bool.{false≢true}
+use Rattle.std.proofs.lemmas.List.Elements.{recursion_from_All}
+use Rattle.iv_args.specs.declared.run.Run.{Run}
+use Rattle.iv_args.specs.declared.run.RunOption.{RunOption}
+use Rattle.iv_args.specs.declared.run.RunOption.TheVariants as option
+use Rattle.iv_args.specs.Words.{RunPlan, IsPlan, Setting, Parted, parted, last_parted, next_parted, with_setting, with_words, run_of, option_of, takes_value, lead, values_of, is_option, width_said}
+use Rattle.iv_args.specs.Pieces.{Piece, piece_words, IsPiece}
+use Rattle.iv_args.proofs.DraftLemmas.{none≢some, some-same}
+use Rattle.iv_args.proofs.WordLemmas.{width-once, few-listed}
+
+-- ---- what a piece adds to the parts of the words after it
+
+-- the words of a piece
+abbrev words_of : Piece → List (List ℕ)
+words_of piece = piece.word ∷ option_to_list piece.value
+
+-- the parts with a piece before them, given the option that it is
+abbrev put : Option RunOption → Piece → Parted → Parted
+put None piece parts = with_words (words_of piece) parts
+put (Some asked) piece parts = with_setting (asked, unwrap_or piece.value []) parts
+
+-- the parts with pieces before them
+abbrev put_all : Run → List Piece → Parted → Parted
+put_all run [] parts = parts
+put_all run (piece ∷ pieces) parts = put (option_of run piece.word) piece (put_all run pieces parts)
+
+next-by : (run : Run) (word next : List ℕ) (rest : List (List ℕ)) (o : Option RunOption) (takes : Bool) → option_of run word ≡ o → takes_value run word ≡ takes
+    → parted run (word ∷ next ∷ rest) ≡ next_parted o takes word next (parted run rest) (parted run (next ∷ rest))
+next-by run word next rest o takes is value_is =
+    ap (λ (p : Option RunOption). next_parted p (takes_value run word) word next (parted run rest) (parted run (next ∷ rest))) is
+    ∙ ap (λ (b : Bool). next_parted o b word next (parted run rest) (parted run (next ∷ rest))) value_is
+
+parted-by : (run : Run) (word : List ℕ) (value : Option (List ℕ)) (o : Option RunOption) (takes : Bool) → option_of run word ≡ o → takes_value run word ≡ takes
+    → is_some value ≡ (is_some o || takes) → (words : List (List ℕ))
+    → parted run ((word ∷ option_to_list value) ++ words) ≡ option_map (put o (record { word = word; value = value })) (parted run words)
+parted-by run word None None false is takes whole [] = ap (λ (p : Option RunOption). last_parted p word) is
+parted-by run word None None false is takes whole (next ∷ words) = next-by run word next words None false is takes
+parted-by run word None None true is takes whole words = absurd (false≢true whole)
+parted-by run word None (Some asked) t is takes whole words = absurd (false≢true whole)
+parted-by run word (Some value) None false is takes whole words = absurd (true≢false whole)
+parted-by run word (Some value) None true is takes whole words = next-by run word value words None true is takes
+parted-by run word (Some value) (Some asked) t is takes whole words = next-by run word value words (Some asked) t is takes
+
+map-none : (o : Option Parted) → o ≡ option_map (λ p. p) o
+map-none None = refl
+map-none (Some p) = refl
+
+map-both : (f g : Parted → Parted) (o : Option Parted) → option_map f (option_map g o) ≡ option_map (λ p. f (g p)) o
+map-both f g None = refl
+map-both f g (Some p) = refl
+
+-- whole pieces are read one after another
+parted-pieces : (run : Run) (pieces : List Piece) (words : List (List ℕ)) → AllByRecursion (IsPiece run) pieces
+    → parted run (piece_words pieces ++ words) ≡ option_map (put_all run pieces) (parted run words)
+parted-pieces run [] words whole = map-none (parted run words)
+parted-pieces run (piece ∷ pieces) words whole =
+    ap (parted run) (append_assoc (words_of piece) (piece_words pieces) words)
+    ∙ parted-by run piece.word piece.value (option_of run piece.word) (takes_value run piece.word) refl refl whole.0 (piece_words pieces ++ words)
+    ∙ ap (option_map (put (option_of run piece.word) piece)) (parted-pieces run pieces words whole.1)
+    ∙ map-both (put (option_of run piece.word) piece) (put_all run pieces) (parted run words)
+
+-- ---- pieces that change places
+
+-- parts with the same words of the view, in which each option has the same values
+record SameParts (p q : Parted) : Type 0 where
+  values : (k : RunOption) → values_of k p.settings ≡ values_of k q.settings
+  view : p.view ≡ q.view
+
+option-same : (k asked : RunOption) → is_option k asked ≡ true → k ≡ asked
+option-same option.Sizes option.Sizes h = refl
+option-same option.First option.First h = refl
+option-same option.Other option.Other h = refl
+option-same option.Bases option.Bases h = refl
+option-same option.Width option.Width h = refl
+option-same _ _ h = absurd (false≢true h)
+
+-- the settings of an option
+abbrev settings_of : RunOption → List Setting → List Setting
+settings_of k settings = filter (λ (setting : Setting). is_option k setting.0) settings
+
+abbrev texts : List Setting → List (List ℕ)
+texts settings = map (λ (setting : Setting). setting.1) settings
+
+values-after : (k asked : RunOption) (value : List ℕ) (xs ys : List Setting) → values_of k xs ≡ values_of k ys
+    → values_of k ((asked, value) ∷ xs) ≡ values_of k ((asked, value) ∷ ys)
+values-after k asked value xs ys same = by (is_option k asked)
+  where
+    by : (b : Bool) → texts (cond b ((asked, value) ∷ settings_of k xs) (settings_of k xs)) ≡ texts (cond b ((asked, value) ∷ settings_of k ys) (settings_of k ys))
+    by true = ap (λ (l : List (List ℕ)). value ∷ l) same
+    by false = same
+
+values-swapped : (k j l : RunOption) (x y : List ℕ) (xs : List Setting) → (j ≡ l → ⊥) → values_of k ((j, x) ∷ (l, y) ∷ xs) ≡ values_of k ((l, y) ∷ (j, x) ∷ xs)
+values-swapped k j l x y xs other = by (is_option k j) (is_option k l) (λ e f. other (sym (option-same k j e) ∙ option-same k l f))
+  where
+    by : (b c : Bool) → (b ≡ true → c ≡ true → ⊥)
+        → texts (cond b ((j, x) ∷ cond c ((l, y) ∷ settings_of k xs) (settings_of k xs)) (cond c ((l, y) ∷ settings_of k xs) (settings_of k xs)))
+        ≡ texts (cond c ((l, y) ∷ cond b ((j, x) ∷ settings_of k xs) (settings_of k xs)) (cond b ((j, x) ∷ settings_of k xs) (settings_of k xs)))
+    by true true apart = absurd (apart refl refl)
+    by true false apart = refl
+    by false true apart = refl
+    by false false apart = refl
+
+put-same : (o : Option RunOption) (piece : Piece) (p q : Parted) → SameParts p q → SameParts (put o piece p) (put o piece q)
+put-same None piece p q same = record { values = same.values; view = ap (λ (l : List (List ℕ)). words_of piece ++ l) same.view }
+put-same (Some asked) piece p q same = record {
+  values = λ k. values-after k asked (unwrap_or piece.value []) p.settings q.settings (same.values k);
+  view = same.view;
+}
+
+put-swapped : (o r : Option RunOption) (a b : Piece) (p : Parted) → o ≢ r → SameParts (put o a (put r b p)) (put r b (put o a p))
+put-swapped None None a b p other = absurd (other refl)
+put-swapped None (Some l) a b p other = record { values = λ k. refl; view = refl }
+put-swapped (Some j) None a b p other = record { values = λ k. refl; view = refl }
+put-swapped (Some j) (Some l) a b p other = record {
+  values = λ k. values-swapped k j l (unwrap_or a.value []) (unwrap_or b.value []) p.settings (λ same. other (ap Some same));
+  view = refl;
+}
+
+put_all-swapped : (run : Run) (front : List Piece) (a b : Piece) (p : Parted) → option_of run a.word ≢ option_of run b.word
+    → SameParts (put_all run (front ++ a ∷ b ∷ []) p) (put_all run (front ++ b ∷ a ∷ []) p)
+put_all-swapped run [] a b p other = put-swapped (option_of run a.word) (option_of run b.word) a b p other
+put_all-swapped run (c ∷ front) a b p other =
+    put-same (option_of run c.word) c (put_all run (front ++ a ∷ b ∷ []) p) (put_all run (front ++ b ∷ a ∷ []) p) (put_all-swapped run front a b p other)
+
+all-swapped : (P : Piece → Type 0) (front : List Piece) (a b : Piece) → AllByRecursion P (front ++ a ∷ b ∷ []) → AllByRecursion P (front ++ b ∷ a ∷ [])
+all-swapped P [] a b h = (h.1.0, (h.0, tt))
+all-swapped P (c ∷ front) a b h = (h.0, all-swapped P front a b h.1)
+
+-- the words have parts that are the same as these
+abbrev HasParts : Option Parted → Parted → Type 0
+HasParts o p = (q : Parted) × (o ≡ Some q) × SameParts p q
+
+same-parts : (f g : Parted → Parted) → ((r : Parted) → SameParts (f r) (g r)) → (o : Option Parted) (p : Parted) → option_map f o ≡ Some p → HasParts (option_map g o) p
+same-parts f g same None p is = absurd (none≢some p is)
+same-parts f g same (Some r) p is = (g r, refl, subst (λ (x : Parted). SameParts x (g r)) (some-same (f r) p is) (same r))
+
+parts-swapped : (run : Run) (front : List Piece) (a b : Piece) (back : List (List ℕ)) (p : Parted) → AllByRecursion (IsPiece run) (front ++ a ∷ b ∷ [])
+    → option_of run a.word ≢ option_of run b.word → parted run (piece_words (front ++ a ∷ b ∷ []) ++ back) ≡ Some p
+    → HasParts (parted run (piece_words (front ++ b ∷ a ∷ []) ++ back)) p
+parts-swapped run front a b back p whole other is =
+    subst (λ (o : Option Parted). HasParts o p) (sym (parted-pieces run (front ++ b ∷ a ∷ []) back (all-swapped (IsPiece run) front a b whole)))
+    (same-parts (put_all run (front ++ a ∷ b ∷ [])) (put_all run (front ++ b ∷ a ∷ [])) (λ r. put_all-swapped run front a b r other) (parted run back) p
+    (sym (parted-pieces run (front ++ a ∷ b ∷ []) back whole) ∙ is))
+
+head-is : {a b : List ℕ} {xs ys : List (List ℕ)} → a ∷ xs ≡ b ∷ ys → b ≡ a
+head-is e = cc
+
+tail-is : {a b : List ℕ} {xs ys : List (List ℕ)} → a ∷ xs ≡ b ∷ ys → ys ≡ xs
+tail-is e = cc
+
+-- the parts of the words of a plan
+plan-parts : (word : List ℕ) (rest : List (List ℕ)) (plan : RunPlan) (is : IsPlan (word ∷ rest) plan) → parted plan.run rest ≡ Some is.parts
+plan-parts word rest plan is = ap (parted plan.run) (sym (tail-is is.are)) ∙ is.parting
+
+-- words with the same parts are the same plan
+plan-alike : (word : List ℕ) (rest other : List (List ℕ)) (plan : RunPlan) (is : IsPlan (word ∷ rest) plan) → HasParts (parted plan.run other) is.parts → IsPlan (word ∷ other) plan
+plan-alike word rest other plan is like = record {
+  word = word;
+  rest = other;
+  parts = like.0;
+  are = refl;
+  run = ap run_of (sym (head-is is.are)) ∙ is.run;
+  parting = like.1;
+  sizes = sym (like.2.values option.Sizes) ∙ is.sizes;
+  first = sym (like.2.values option.First) ∙ is.first;
+  other = sym (like.2.values option.Other) ∙ is.other;
+  bases = sym (like.2.values option.Bases) ∙ is.bases;
+  width = ap width_said (sym (like.2.values option.Width)) ∙ is.width;
+  view = is.view ∙ ap (λ (w : List ℕ). lead plan.run w ++ is.parts.view) (head-is is.are) ∙ ap (λ (l : List (List ℕ)). lead plan.run word ++ l) like.2.view;
+  has_other = is.has_other;
+  has_bases = is.has_bases;
+  understood = is.understood;
+}
+
+plan-moved : (plan : RunPlan) (word : List ℕ) (front : List Piece) (a b : Piece) (back : List (List ℕ)) → AllByRecursion (IsPiece plan.run) (front ++ a ∷ b ∷ [])
+    → option_of plan.run a.word ≢ option_of plan.run b.word → IsPlan (word ∷ (piece_words (front ++ a ∷ b ∷ []) ++ back)) plan
+    → IsPlan (word ∷ (piece_words (front ++ b ∷ a ∷ []) ++ back)) plan
+plan-moved plan word front a b back whole other is =
+    plan-alike word (piece_words (front ++ a ∷ b ∷ []) ++ back) (piece_words (front ++ b ∷ a ∷ []) ++ back) plan is
+    (parts-swapped plan.run front a b back is.parts whole other (plan-parts word (piece_words (front ++ a ∷ b ∷ []) ++ back) plan is))
+
+-- two pieces that change places leave the plan as it is
+pub plan-swapped : (plan : RunPlan) (word : List ℕ) (front : List Piece) (a b : Piece) (back : List (List ℕ)) → All (IsPiece plan.run) (front ++ a ∷ b ∷ [])
+    → option_of plan.run a.word ≢ option_of plan.run b.word
+    → (IsPlan (word ∷ (piece_words (front ++ a ∷ b ∷ []) ++ back)) plan ↔ IsPlan (word ∷ (piece_words (front ++ b ∷ a ∷ []) ++ back)) plan)
+plan-swapped plan word front a b back all other =
+    let whole : AllByRecursion (IsPiece plan.run) (front ++ a ∷ b ∷ []) = recursion_from_All (IsPiece plan.run) (front ++ a ∷ b ∷ []) all in (
+      plan-moved plan word front a b back whole other,
+      plan-moved plan word front b a back (all-swapped (IsPiece plan.run) front a b whole) (λ same. other (sym same)),
+    )
+
+-- ---- an option that comes twice
+
+more-values : (b : Bool) (setting : Setting) (settings : List Setting) → length (texts settings) ≤ length (texts (cond b (setting ∷ settings) settings))
+more-values true setting settings = omega arith
+more-values false setting settings = omega arith
+
+-- how many values an option has in the parts
+abbrev count_of : RunOption → Parted → ℕ
+count_of k p = length (values_of k p.settings)
+
+put-more : (k : RunOption) (o : Option RunOption) (piece : Piece) (p : Parted) → count_of k p ≤ count_of k (put o piece p)
+put-more k None piece p = omega arith
+put-more k (Some asked) piece p = more-values (is_option k asked) (asked, unwrap_or piece.value []) (settings_of k p.settings)
+
+put-own : (k : RunOption) (piece : Piece) (p : Parted) → count_of k (put (Some k) piece p) ≡ count_of k p + 1
+put-own option.Sizes piece p = omega arith
+put-own option.First piece p = omega arith
+put-own option.Other piece p = omega arith
+put-own option.Bases piece p = omega arith
+put-own option.Width piece p = omega arith
+
+put-given : (k : RunOption) (o : Option RunOption) (piece : Piece) (p : Parted) → o ≡ Some k → count_of k (put o piece p) ≡ count_of k p + 1
+put-given k o piece p is = subst (λ (r : Option RunOption). count_of k (put r piece p) ≡ count_of k p + 1) (sym is) (put-own k piece p)
+
+one-value : (run : Run) (k : RunOption) (middle : List Piece) (b : Piece) (p : Parted) → option_of run b.word ≡ Some k → 1 ≤ count_of k (put_all run (middle ++ b ∷ []) p)
+one-value run k [] b p is = let more = put-given k (option_of run b.word) b p is in omega (arith, more)
+one-value run k (c ∷ middle) b p is =
+    let some = one-value run k middle b p is in
+    let more = put-more k (option_of run c.word) c (put_all run (middle ++ b ∷ []) p) in
+    omega (arith, some, more)
+
+two-values : (run : Run) (k : RunOption) (front middle : List Piece) (a b : Piece) (p : Parted) → option_of run a.word ≡ Some k → option_of run b.word ≡ Some k
+    → 2 ≤ count_of k (put_all run (front ++ a ∷ (middle ++ b ∷ [])) p)
+two-values run k [] middle a b p first second =
+    let some = one-value run k middle b p second in
+    let more = put-given k (option_of run a.word) a (put_all run (middle ++ b ∷ []) p) first in
+    omega (arith, some, more)
+two-values run k (c ∷ front) middle a b p first second =
+    let some = two-values run k front middle a b p first second in
+    let more = put-more k (option_of run c.word) c (put_all run (front ++ a ∷ (middle ++ b ∷ [])) p) in
+    omega (arith, some, more)
+
+-- each option has one value at most in a plan
+at-most-one : (words : List (List ℕ)) (plan : RunPlan) (is : IsPlan words plan) (k : RunOption) → count_of k is.parts ≤ 1
+at-most-one words plan is option.Sizes = omega (arith, ap (λ (l : List (List ℕ)). length l) is.sizes)
+at-most-one words plan is option.First = omega (arith, ap (λ (l : List (List ℕ)). length l) is.first)
+at-most-one words plan is option.Other = omega (arith, ap (λ (l : List (List ℕ)). length l) is.other, few-listed plan.other)
+at-most-one words plan is option.Bases = omega (arith, ap (λ (l : List (List ℕ)). length l) is.bases, few-listed plan.bases)
+at-most-one words plan is option.Width = width-once (values_of option.Width is.parts.settings) plan.width is.width
+
+map-some : (f : Parted → Parted) (o : Option Parted) (p : Parted) → option_map f o ≡ Some p → (r : Parted) × (f r ≡ p)
+map-some f None p is = absurd (none≢some p is)
+map-some f (Some r) p is = (r, some-same (f r) p is)
+
+pub plan-never : (plan : RunPlan) (word : List ℕ) (front middle : List Piece) (a b : Piece) (back : List (List ℕ)) (asked : RunOption)
+    → All (IsPiece plan.run) (front ++ a ∷ (middle ++ b ∷ [])) → option_of plan.run a.word ≡ Some asked → option_of plan.run b.word ≡ Some asked
+    → ¬ IsPlan (word ∷ (piece_words (front ++ a ∷ (middle ++ b ∷ [])) ++ back)) plan
+plan-never plan word front middle a b back asked all first second is =
+    let pieces = front ++ a ∷ (middle ++ b ∷ []) in
+    let read = parted-pieces plan.run pieces back (recursion_from_All (IsPiece plan.run) pieces all) in
+    let from = map-some (put_all plan.run pieces) (parted plan.run back) is.parts (sym read ∙ plan-parts word (piece_words pieces ++ back) plan is) in
+    let two : 2 ≤ count_of asked is.parts = subst (λ (p : Parted). 2 ≤ count_of asked p) from.1 (two-values plan.run asked front middle a b from.0 first second) in
+    absurd (omega (arith, two, at-most-one (word ∷ (piece_words pieces ++ back)) plan is asked))

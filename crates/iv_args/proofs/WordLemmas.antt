@@ -1,0 +1,217 @@
+-- The words of a run: those that are a plan, and those that are none.
+use Rattle.std.proofs.Common.{◌≡◌, ℕ, ◌≤◌, Bool, true, false, List, [], ◌∷◌, ◌++◌, Option, Some, None, length, refl, sym, ap, ◌∙◌, subst, arith, ◌⊎◌, inl, inr, Result, Ok, Err}
+use Rattle.std.specs.Prelude.{◌&&◌, ◌||◌, not, IsTrue, IsSome, IfOk, IfErr}
+use Rattle.std.specs.Option.{option_to_list, is_some}
+use Rattle.iv_args.specs.declared.fault.PlanFault.{PlanFault}
+use Rattle.iv_args.specs.declared.fault.PlanFault.TheVariants as fault
+use Rattle.iv_args.specs.declared.run.Run.{Run}
+use Rattle.iv_args.specs.declared.run.RunOption.{RunOption}
+use Rattle.iv_args.specs.declared.run.RunOption.TheVariants as option
+use Rattle.iv_args.specs.Words.{RunPlan, IsPlan, Parted, parted, run_of, lead, values_of, width_said, needs_other, needs_bases, are_view_words}
+use Rattle.iv_args.specs.Drafts.{PartialPlan, begun_by, drafted, Makes}
+use Rattle.iv_args.proofs.DraftLemmas.{none≢some, some-same, listed, Gives, drafted-gives, drafted-never}
+
+-- nothing is given by the first word
+begun-says : (run : Run) (word : List ℕ) (k : RunOption) → listed (begun_by run word) k ≡ []
+begun-says run word option.Sizes = refl
+begun-says run word option.First = refl
+begun-says run word option.Other = refl
+begun-says run word option.Bases = refl
+begun-says run word option.Width = refl
+
+-- where a file is needed it is named
+needed-of : (other bases other_needed bases_needed : Bool) → ((other || not other_needed) && (bases || not bases_needed)) ≡ true
+    → (other_needed ≡ true → other ≡ true) × (bases_needed ≡ true → bases ≡ true)
+needed-of true true o b h = (λ _. refl, λ _. refl)
+needed-of true false o false h = (λ _. refl, λ e. e)
+needed-of true false o true h = (λ _. refl, λ _. h)
+needed-of false true false b h = (λ e. e, λ _. refl)
+needed-of false false false false h = (λ e. e, λ e. e)
+needed-of false false false true h = (λ e. e, λ _. h)
+needed-of false bases true b h = (λ _. h, λ _. absurd (no h))
+  where
+    no : false ≡ true → ⊥
+    no e = cc
+
+needed-by : (other bases other_needed bases_needed : Bool) → (other_needed ≡ true → other ≡ true) → (bases_needed ≡ true → bases ≡ true)
+    → ((other || not other_needed) && (bases || not bases_needed)) ≡ true
+needed-by true true o b f g = refl
+needed-by true false o false f g = refl
+needed-by true false o true f g = g refl
+needed-by false true false b f g = refl
+needed-by false false false false f g = refl
+needed-by false false false true f g = g refl
+needed-by false bases true b f g = absurd (no (f refl))
+  where
+    no : false ≡ true → ⊥
+    no e = cc
+
+-- a width is said by one value at most
+pub width-once : (values : List (List ℕ)) (width : ℕ) → width_said values ≡ Some width → length values ≤ 1
+width-once [] width h = omega arith
+width-once (value ∷ []) width h = omega arith
+width-once (value ∷ next ∷ values) width h = absurd (none≢some width h)
+
+-- a value that may be left out is one at most
+pub few-listed : (o : Option (List ℕ)) → length (option_to_list o) ≤ 1
+few-listed None = omega arith
+few-listed (Some value) = omega arith
+
+module _ (word : List ℕ) (rest : List (List ℕ)) (run : Run) (is_run : Some run ≡ run_of word) where
+  -- ---- words that are a plan
+
+  -- the values of the settings are what was said
+  values-said : (said : PartialPlan) (g : Gives (parted run rest) (begun_by run word) said) (k : RunOption) → values_of k g.parts.settings ≡ listed said k
+  values-said said g k = sym (g.values k ∙ ap (λ (l : List (List ℕ)). l ++ values_of k g.parts.settings) (begun-says run word k))
+
+  pub accept : (said : PartialPlan) (plan : RunPlan) → drafted run rest (begun_by run word) ≡ Some said → Makes run said plan → IsPlan (word ∷ rest) plan
+  accept said plan h made =
+      let g = drafted-gives run rest (begun_by run word) said h in
+      let needed = needed-of (is_some said.other) (is_some said.bases) (needs_other run) (needs_bases run) made.needed in
+      record {
+        word = word;
+        rest = rest;
+        parts = g.parts;
+        are = refl;
+        run = sym is_run ∙ ap Some (sym made.run_is);
+        parting = ap (λ (r : Run). parted r rest) made.run_is ∙ g.are;
+        sizes = values-said said g option.Sizes ∙ ap option_to_list made.sizes;
+        first = values-said said g option.First ∙ ap option_to_list made.first;
+        other = values-said said g option.Other ∙ ap option_to_list made.other;
+        bases = values-said said g option.Bases ∙ ap option_to_list made.bases;
+        width = ap width_said (values-said said g option.Width) ∙ made.width;
+        view = sym made.view ∙ g.view ∙ ap (λ (r : Run). lead r word ++ g.parts.view) (sym made.run_is);
+        has_other = λ needs. subst (λ (o : Option (List ℕ)). IsSome o) made.other (needed.0 (subst (λ (r : Run). IsTrue (needs_other r)) made.run_is needs));
+        has_bases = λ needs. subst (λ (o : Option (List ℕ)). IsSome o) made.bases (needed.1 (subst (λ (r : Run). IsTrue (needs_bases r)) made.run_is needs));
+        understood = ap (λ (r : Run). are_view_words r plan.view) made.run_is ∙ ap (are_view_words run) (sym made.view) ∙ made.understood;
+      }
+
+  pub accept-from : (first said : PartialPlan) (plan : RunPlan) → first ≡ begun_by run word → drafted run rest first ≡ Some said → Makes run said plan
+      → IsPlan (word ∷ rest) plan
+  accept-from first said plan begun h made = accept said plan (ap (drafted run rest) (sym begun) ∙ h) made
+
+  -- ---- words that are none
+
+  -- what a plan of the words says of their kind and their parts
+  record IsOf (plan : RunPlan) (is : IsPlan (word ∷ rest) plan) : Type 0 where
+    run_is : plan.run ≡ run
+    word_is : is.word ≡ word
+    parting : parted run rest ≡ Some is.parts
+
+  is-of : (plan : RunPlan) (is : IsPlan (word ∷ rest) plan) → IsOf plan is
+  is-of plan is =
+      let same_word : is.word ≡ word = head is.are in
+      let same_rest : is.rest ≡ rest = tail is.are in
+      let same_run : plan.run ≡ run = some-same plan.run run (sym is.run ∙ ap run_of same_word ∙ sym is_run) in
+      record {
+        run_is = same_run;
+        word_is = same_word;
+        parting = ap (λ (r : Run). parted r rest) (sym same_run) ∙ ap (parted plan.run) (sym same_rest) ∙ is.parting;
+      }
+    where
+      head : {a b : List ℕ} {xs ys : List (List ℕ)} → a ∷ xs ≡ b ∷ ys → b ≡ a
+      head e = cc
+
+      tail : {a b : List ℕ} {xs ys : List (List ℕ)} → a ∷ xs ≡ b ∷ ys → ys ≡ xs
+      tail e = cc
+
+  -- each option is given once at most in a plan
+  once : (plan : RunPlan) (is : IsPlan (word ∷ rest) plan) (k : RunOption) → length (values_of k is.parts.settings) ≤ 1
+  once plan is option.Sizes = omega (arith, ap (λ (l : List (List ℕ)). length l) is.sizes)
+  once plan is option.First = omega (arith, ap (λ (l : List (List ℕ)). length l) is.first)
+  once plan is option.Other = omega (arith, ap (λ (l : List (List ℕ)). length l) is.other, few-listed plan.other)
+  once plan is option.Bases = omega (arith, ap (λ (l : List (List ℕ)). length l) is.bases, few-listed plan.bases)
+  once plan is option.Width = width-once (values_of option.Width is.parts.settings) plan.width is.width
+
+  pub refuse-taken : drafted run rest (begun_by run word) ≡ None → (plan : RunPlan) → ¬ IsPlan (word ∷ rest) plan
+  refuse-taken h plan is =
+      drafted-never run rest (begun_by run word) h is.parts (is-of plan is).parting
+      (λ k. subst (λ (l : List (List ℕ)). length (l ++ values_of k is.parts.settings) ≤ 1) (sym (begun-says run word k)) (once plan is k))
+
+  said-value : (o : Option (List ℕ)) (value : List ℕ) → option_to_list o ≡ value ∷ [] → o ≡ Some value
+  said-value None value e = absurd (no e)
+    where
+      no : [] ≡ value ∷ [] → ⊥
+      no e = cc
+  said-value (Some x) value e = ap Some (first e)
+    where
+      first : x ∷ [] ≡ value ∷ [] → x ≡ value
+      first e = cc
+
+  said-same : (o p : Option (List ℕ)) → option_to_list o ≡ option_to_list p → o ≡ p
+  said-same o None e = nothing o e
+    where
+      nothing : (o : Option (List ℕ)) → option_to_list o ≡ [] → o ≡ None
+      nothing None e = refl
+      nothing (Some x) e = cc
+  said-same o (Some value) e = said-value o value e
+
+  -- a plan of the words is made of what they have said
+  makes : (said : PartialPlan) (plan : RunPlan) → drafted run rest (begun_by run word) ≡ Some said → IsPlan (word ∷ rest) plan → Makes run said plan
+  makes said plan h is =
+      let g = drafted-gives run rest (begun_by run word) said h in
+      let of = is-of plan is in
+      let parts : g.parts ≡ is.parts = some-same g.parts is.parts (sym g.are ∙ of.parting) in
+      let at : (k : RunOption) → listed said k ≡ values_of k is.parts.settings =
+      λ k. sym (values-said said g k) ∙ ap (λ (p : Parted). values_of k p.settings) parts in
+      let other : said.other ≡ plan.other = said-same said.other plan.other (at option.Other ∙ is.other) in
+      let bases : said.bases ≡ plan.bases = said-same said.bases plan.bases (at option.Bases ∙ is.bases) in
+      let view : said.view ≡ plan.view =
+      g.view ∙ ap (λ (p : Parted). lead run word ++ p.view) parts ∙ ap (λ (r : Run). lead r word ++ is.parts.view) (sym of.run_is)
+      ∙ ap (λ (w : List ℕ). lead plan.run w ++ is.parts.view) (sym of.word_is) ∙ sym is.view in
+      record {
+        run_is = of.run_is;
+        sizes = said-value said.sizes plan.sizes (at option.Sizes ∙ is.sizes);
+        first = said-value said.first plan.first (at option.First ∙ is.first);
+        other = other;
+        bases = bases;
+        width = ap width_said (at option.Width) ∙ is.width;
+        view = view;
+        needed = needed-by (is_some said.other) (is_some said.bases) (needs_other run) (needs_bases run)
+            (λ needs. subst (λ (o : Option (List ℕ)). IsSome o) (sym other) (is.has_other (subst (λ (r : Run). IsTrue (needs_other r)) (sym of.run_is) needs)))
+            (λ needs. subst (λ (o : Option (List ℕ)). IsSome o) (sym bases) (is.has_bases (subst (λ (r : Run). IsTrue (needs_bases r)) (sym of.run_is) needs)));
+        understood = ap (are_view_words run) view ∙ ap (λ (r : Run). are_view_words r plan.view) (sym of.run_is) ∙ is.understood;
+      }
+
+  pub refuse-plan : (said : PartialPlan) → drafted run rest (begun_by run word) ≡ Some said → ((plan : RunPlan) → ¬ Makes run said plan)
+      → (plan : RunPlan) → ¬ IsPlan (word ∷ rest) plan
+  refuse-plan said h none plan is = none plan (makes said plan h is)
+
+  -- why there is no plan
+  abbrev pub IsNone : PlanFault → Type 0
+  IsNone why = (why ≡ fault.Memory) ⊎ ((why ≡ fault.Words) × ((plan : RunPlan) → ¬ IsPlan (word ∷ rest) plan))
+
+  pub none-taken : (first : PartialPlan) (why : PlanFault) → first ≡ begun_by run word
+      → (why ≡ fault.Memory) ⊎ ((why ≡ fault.Words) × (drafted run rest first ≡ None)) → IsNone why
+  none-taken first why begun refused = elim refused [
+    | inl memory ↦ inl memory
+    | inr words ↦ inr (words.0, refuse-taken (ap (drafted run rest) (sym begun) ∙ words.1))
+  ]
+
+  pub none-made : (first said : PartialPlan) (why : PlanFault) → first ≡ begun_by run word → drafted run rest first ≡ Some said
+      → (why ≡ fault.Words) × ((plan : RunPlan) → ¬ Makes run said plan) → IsNone why
+  none-made first said why begun h refused = inr (refused.0, refuse-plan said (ap (drafted run rest) (sym begun) ∙ h) refused.1)
+
+-- ---- words without a kind
+
+pub refuse-nothing : (plan : RunPlan) → ¬ IsPlan [] plan
+refuse-nothing plan is = no is.are
+  where
+    no : {a : List ℕ} {xs : List (List ℕ)} → [] ≡ a ∷ xs → ⊥
+    no e = cc
+
+pub refuse-word : (word : List ℕ) (rest : List (List ℕ)) → None ≡ run_of word → (plan : RunPlan) → ¬ IsPlan (word ∷ rest) plan
+refuse-word word rest none plan is = none≢some plan.run (none ∙ ap run_of (head is.are) ∙ is.run)
+  where
+    head : {a b : List ℕ} {xs ys : List (List ℕ)} → a ∷ xs ≡ b ∷ ys → a ≡ b
+    head e = cc
+
+-- ---- what an outcome says
+
+pub ok-map : {T E : Type 0} {P Q : T → Type 0} (r : Result T E) → ((t : T) → P t → Q t) → IfOk r P → IfOk r Q
+ok-map (Ok t) f h = f t h
+ok-map (Err e) f h = h
+
+pub err-map : {T E : Type 0} {P Q : E → Type 0} (r : Result T E) → ((e : E) → P e → Q e) → IfErr r P → IfErr r Q
+err-map (Ok t) f h = h
+err-map (Err e) f h = f e h

@@ -1,0 +1,71 @@
+-- What the words of a run have said so far. It is what the reader of the words keeps, and no part of what is promised.
+use Rattle.std.specs.Prelude.{◌≡◌, ℕ, Bool, true, false, ◌++◌, List, [], ◌∷◌, Option, None, Some, ◌&&◌, ◌||◌, not}
+use Rattle.std.specs.Option.{option_and_then, option_to_list, is_some}
+use Rattle.iv_args.specs.declared.run.Run.{Run}
+use Rattle.iv_args.specs.declared.run.RunOption.{RunOption}
+use Rattle.iv_args.specs.declared.run.RunOption.TheVariants as option
+use Rattle.iv_args.specs.Words.{RunPlan, option_of, takes_value, lead, width_said, needs_other, needs_bases, are_view_words}
+
+-- what words have said so far
+pub record PartialPlan : Type 0 where
+  pub sizes : Option (List ℕ)
+  pub first : Option (List ℕ)
+  pub other : Option (List ℕ)
+  pub bases : Option (List ℕ)
+  pub width : Option (List ℕ)
+  pub view : List (List ℕ)
+
+-- what the first word says
+abbrev pub begun_by : Run → List ℕ → PartialPlan
+begun_by run word = record { sizes = None; first = None; other = None; bases = None; width = None; view = lead run word }
+
+-- a value, unless one was given before
+abbrev pub unless_given : Option (List ℕ) → PartialPlan → Option PartialPlan
+unless_given None said = Some said
+unless_given (Some value) said = None
+
+-- what is said after a value for an option, where it can be given
+abbrev pub with_value : RunOption → List ℕ → PartialPlan → Option PartialPlan
+with_value option.Sizes value said = unless_given said.sizes (record said { sizes = Some value })
+with_value option.First value said = unless_given said.first (record said { first = Some value })
+with_value option.Other value said = unless_given said.other (record said { other = Some value })
+with_value option.Bases value said = unless_given said.bases (record said { bases = Some value })
+with_value option.Width value said = unless_given said.width (record said { width = Some value })
+
+-- what is said after more words of the view
+abbrev pub viewed : List (List ℕ) → PartialPlan → PartialPlan
+viewed words said = record said { view = said.view ++ words }
+
+-- what is said after the last word, where it can be taken
+abbrev pub last_drafted : Option RunOption → List ℕ → PartialPlan → Option PartialPlan
+last_drafted None word said = Some (viewed (word ∷ []) said)
+last_drafted (Some asked) word said = None
+
+-- what is said after a word, the next one where it is a value, and those after
+abbrev pub next_drafted : Option RunOption → Bool → List ℕ → List ℕ → (PartialPlan → Option PartialPlan) → (PartialPlan → Option PartialPlan) → PartialPlan → Option PartialPlan
+next_drafted (Some asked) takes word next behind_both behind said = option_and_then behind_both (with_value asked next said)
+next_drafted None true word next behind_both behind said = behind_both (viewed (word ∷ next ∷ []) said)
+next_drafted None false word next behind_both behind said = behind (viewed (word ∷ []) said)
+
+-- what is said after words, where they can be taken
+abbrev pub drafted : Run → List (List ℕ) → PartialPlan → Option PartialPlan
+drafted run [] said = Some said
+drafted run (word ∷ []) said = last_drafted (option_of run word) word said
+drafted run (word ∷ next ∷ words) said =
+    next_drafted (option_of run word) (takes_value run word) word next (drafted run words) (drafted run (next ∷ words)) said
+
+-- whether each file is named that this kind of run needs beside the genome and the records
+abbrev pub has_needed_files : Run → PartialPlan → Bool
+has_needed_files run said = (is_some said.other || not (needs_other run)) && (is_some said.bases || not (needs_bases run))
+
+-- what words have said makes a plan of this kind
+pub record Makes (run : Run) (said : PartialPlan) (plan : RunPlan) : Type 0 where
+  pub run_is : plan.run ≡ run
+  pub sizes : said.sizes ≡ Some plan.sizes
+  pub first : said.first ≡ Some plan.first
+  pub other : said.other ≡ plan.other
+  pub bases : said.bases ≡ plan.bases
+  pub width : width_said (option_to_list said.width) ≡ Some plan.width
+  pub view : said.view ≡ plan.view
+  pub needed : has_needed_files run said ≡ true
+  pub understood : are_view_words run said.view ≡ true

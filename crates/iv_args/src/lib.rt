@@ -1,0 +1,16 @@
+//! The words of a run: what it is to do, with which files, and what the program says of itself.
+#![tactic(auto)]
+
+mod fault;
+mod help;
+mod laws;
+mod notice;
+mod plan;
+mod plan_draft;
+mod run;
+
+pub use fault::PlanFault;
+pub use laws::{no_option_twice, options_among_view_words};
+pub use notice::Notice;
+pub use plan::{Plan, Slot};
+pub use run::Run;

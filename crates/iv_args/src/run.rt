@@ -1,0 +1,129 @@
+//! The kinds of run, and what a word is in each.
+ghost use Rattle.std.specs.Prelude.{◌≡◌};
+ghost use Rattle.iv_args.specs.Words.{run_of, option_of, takes_value as value_follows, first_option as option_of_first, takes_other as other_taken, needs_other as other_needed, takes_bases as bases_taken, needs_bases as bases_needed};
+
+/// A kind of run: a session, or a subcommand that prints its view of the files and ends.
+#[derive(Clone, Copy, Debug, PartialEq, Eq)]
+pub enum Run {
+    Session,
+    Merge,
+    Cluster,
+    Complement,
+    Genomecov,
+    Intersect,
+    Subtract,
+    Getfasta,
+}
+
+/// An option that names a file, or the one of the width.
+#[derive(Clone, Copy, Debug, PartialEq, Eq)]
+pub(crate) enum RunOption {
+    /// The genome file.
+    Sizes,
+    /// The first BED file.
+    First,
+    /// The second BED file.
+    Other,
+    /// The FASTA file.
+    Bases,
+    /// The width of a BED file without a record.
+    Width,
+}
+
+impl Run {
+    /// The kind of run that a word says: the first of the words after the program's name.
+    pub fn of(word: &[u8]) -> Option<Run>
+        ensures { result ≡ run_of word.now }
+    {
+        if word == b"session".as_slice() {
+            Some(Run::Session)
+        } else if word == b"merge".as_slice() {
+            Some(Run::Merge)
+        } else if word == b"cluster".as_slice() {
+            Some(Run::Cluster)
+        } else if word == b"complement".as_slice() {
+            Some(Run::Complement)
+        } else if word == b"genomecov".as_slice() {
+            Some(Run::Genomecov)
+        } else if word == b"intersect".as_slice() {
+            Some(Run::Intersect)
+        } else if word == b"subtract".as_slice() {
+            Some(Run::Subtract)
+        } else if word == b"getfasta".as_slice() {
+            Some(Run::Getfasta)
+        } else {
+            None
+        }
+    }
+
+    /// The option that names the file of the records.
+    fn first_option(self) -> &'static [u8]
+        ensures { result.now ≡ option_of_first self }
+    {
+        match self {
+            Run::Intersect | Run::Subtract => b"-a",
+            Run::Getfasta => b"-bed",
+            Run::Session | Run::Merge | Run::Cluster | Run::Complement | Run::Genomecov => b"-i",
+        }
+    }
+
+    /// Whether a second file of records can be named.
+    fn takes_other(self) -> bool
+        ensures { result ≡ other_taken self }
+    {
+        matches!(self, Run::Session | Run::Intersect | Run::Subtract)
+    }
+
+    /// Whether a second file of records has to be named.
+    pub(crate) fn needs_other(self) -> bool
+        ensures { result ≡ other_needed self }
+    {
+        matches!(self, Run::Intersect | Run::Subtract)
+    }
+
+    /// Whether a FASTA file can be named.
+    fn takes_bases(self) -> bool
+        ensures { result ≡ bases_taken self }
+    {
+        matches!(self, Run::Session | Run::Getfasta)
+    }
+
+    /// Whether a FASTA file has to be named.
+    pub(crate) fn needs_bases(self) -> bool
+        ensures { result ≡ bases_needed self }
+    {
+        matches!(self, Run::Getfasta)
+    }
+
+    /// The option that a word is.
+    pub(crate) fn option(self, word: &[u8]) -> Option<RunOption>
+        ensures { result ≡ option_of self word.now }
+    {
+        if word == b"-g".as_slice() {
+            Some(RunOption::Sizes)
+        } else if word == self.first_option() {
+            Some(RunOption::First)
+        } else if self.takes_other() && word == b"-b".as_slice() {
+            Some(RunOption::Other)
+        } else if self.takes_bases() && word == b"-fi".as_slice() {
+            Some(RunOption::Bases)
+        } else if word == b"-width".as_slice() {
+            Some(RunOption::Width)
+        } else {
+            None
+        }
+    }
+
+    /// Whether a word of the view has the next word as its value.
+    pub(crate) fn takes_value(self, word: &[u8]) -> bool
+        ensures { result ≡ value_follows self word.now }
+    {
+        match self {
+            Run::Merge => {
+                word == b"-d".as_slice() || word == b"-c".as_slice() || word == b"-o".as_slice()
+            }
+            Run::Cluster => word == b"-d".as_slice(),
+            _ => false,
+        }
+    }
+}

@@ -1,0 +1,316 @@
+-- The blocks of all groups after a repair of one.
+use Rattle.std.proofs.Common.{◌≡◌, ◌⊎◌, inl, inr, ℕ, ◌+◌, ◌-◌, ◌*◌, ◌<◌, ◌≤◌, Bool, true, false, if◌then◌else◌, ◌==◌, ◌&&◌, List, [], ◌∷◌, ◌++◌, length, filter, All, Option, Some, None, Result, Ok, Err, OnOk, refl, sym, ap, subst, ◌∙◌, arith, eqb-true}
+use Rattle.std.specs.Option.{option_map, option_or}
+use Rattle.std.specs.Ordering.{is_le}
+use Rattle.std.proofs.lemmas.Bool.{cond-true, cond-false, cases_Bool, and_parts, and_from, both_ways, false_from_ne_true, false≢true}
+use Rattle.iv_text.specs.Genome.{Sequences, sequence_name}
+use Rattle.iv_text.specs.Named.{names_of}
+use Rattle.iv_text.specs.Ordered.{added}
+use Rattle.iv_text.specs.Read.{Fits}
+use Rattle.iv_text.specs.Row.{Row, row_cmp}
+use Rattle.iv_text.specs.declared.strand.Strand.{Strand}
+use Rattle.iv_text.specs.declared.strand.Strand.TheVariants.{Plus, Minus, Dot}
+use Rattle.iv_track.specs.Entries.{IsLedger, value_at}
+use Rattle.iv_track.specs.Steps.{TakesUpTo}
+use Rattle.iv_cover.specs.TrackBlocks.{start_of, stop_of}
+use Rattle.iv_cover.specs.Blocks.{block_at}
+use Rattle.iv_cover.proofs.Tests.{Mem, mem-filter, mem-filter_from, all-mem, mem-all, filter-agree, filter-filter, filter-weaker}
+use Rattle.iv_cover.proofs.Groups.{HasOneMore, one_more}
+use Rattle.iv_cover.proofs.BlockLemmas.{one_more-filter}
+use Rattle.iv_cover.proofs.Cover.{Lasting, IsBlock, same_tests, starts_in, starts_in-true, stops_within}
+use Rattle.iv_blocks.specs.Groups.{is_strand, is_on_side, is_in_group, group, between, between_on, members_between, starts_between, listed}
+use Rattle.iv_blocks.specs.KeptBlocks.{Key, key_cmp, Kept, Entries, KeptBlocks, AreBlocksOf, kept_at, kept_block, name_of, around, within_block, block_steps}
+use Rattle.iv_blocks.specs.Lookups.{kept_in, IsLastBlock}
+use Rattle.iv_blocks.specs.Putting.{key_of, IsOfOther, ArePut, with_block}
+use Rattle.iv_blocks.specs.Repairs.{without_block, KeepsOthers, JoinsBefore, JoinsAfter, count_from}
+use Rattle.iv_blocks.specs.declared.group.Group.{Group}
+use Rattle.iv_blocks.specs.declared.options.Options.{Options}
+use Rattle.iv_blocks.proofs.Keys.{key-cases, look-put, look-put_other}
+use Rattle.iv_blocks.proofs.NameLemmas.{name-same}
+use Rattle.iv_blocks.proofs.TakeLemmas.{without-here, without-others}
+use Rattle.iv_blocks.proofs.RepairLemmas.{shown, IsBegun, found-some, found-block, found-ends, removed-right, begun, added-block, added-below, added-above, added-right, added-count, home-count}
+
+-- ---- groups
+
+one_strand : (strand : Option Strand) (a b : Bool) → is_strand a strand ≡ true → is_strand b strand ≡ true → a ≡ b
+one_strand None a b e f = absurd (false≢true e)
+one_strand (Some Plus) true b e f = absurd (false≢true e)
+one_strand (Some Plus) false true e f = absurd (false≢true f)
+one_strand (Some Plus) false false e f = refl
+one_strand (Some Minus) a b e f = e ∙ sym f
+one_strand (Some Dot) a b e f = absurd (false≢true e)
+
+-- a record is on one side at most
+one_side : (stranded : Bool) (r : Row) (a b : Bool) → is_on_side stranded a r ≡ true → is_on_side stranded b r ≡ true → a ≡ b
+one_side true r a b e f = one_strand r.strand a b e f
+one_side false r true b e f = absurd (false≢true e)
+one_side false r false true e f = absurd (false≢true f)
+one_side false r false false e f = refl
+
+filter-swap : (p t : Row → Bool) (rows : List Row) → filter p (filter t rows) ≡ filter t (filter p rows)
+filter-swap p t rows =
+    filter-filter p t rows
+    ∙ filter-agree (λ q. t q && p q) (λ q. p q && t q) rows (λ q m. same_tests _ _
+    (λ e. let both = and_parts (t q) (p q) e in and_from _ _ both.1 both.0)
+    (λ e. let both = and_parts (p q) (t q) e in and_from _ _ both.1 both.0))
+    ∙ sym (filter-filter t p rows)
+
+-- ---- one record more
+
+-- where a record is added, as two parts around it
+added-parts : (rows : List Row) (r : Row) → (xs : List Row) × (ys : List Row) × (rows ≡ xs ++ ys) × (added rows r ≡ xs ++ r ∷ ys)
+added-parts [] r = ([], [], refl, refl)
+added-parts (q ∷ rows) r = go (is_le (row_cmp r q)) refl (added-parts rows r)
+  where
+    go : (b : Bool) → is_le (row_cmp r q) ≡ b → (xs : List Row) × (ys : List Row) × (rows ≡ xs ++ ys) × (added rows r ≡ xs ++ r ∷ ys)
+        → (xs : List Row) × (ys : List Row) × (q ∷ rows ≡ xs ++ ys) × (added (q ∷ rows) r ≡ xs ++ r ∷ ys)
+    go true e rest = ([], q ∷ rows, refl, cond-true _ _ _ e)
+    go false e rest = (q ∷ rest.0, rest.1, ap (λ (l : List Row). q ∷ l) rest.2, cond-false _ _ _ e ∙ ap (λ (l : List Row). q ∷ l) rest.3)
+
+added-more : (rows : List Row) (r : Row) → HasOneMore rows r (added rows r)
+added-more rows r =
+    let parts = added-parts rows r in
+    subst (λ l. HasOneMore l r (added rows r)) (sym parts.2) (subst (λ l. HasOneMore (parts.0 ++ parts.1) r l) (sym parts.3) (one_more parts.0 parts.1 r))
+
+-- the records that pass are no fewer with it
+added-fewer : (p : Row → Bool) (rows : List Row) (r : Row) → length (filter p rows) ≤ length (filter p (added rows r))
+added-fewer p [] r = omega arith
+added-fewer p (q ∷ rows) r = go (is_le (row_cmp r q)) refl (cases_Bool (p q)) (cases_Bool (p r)) (added-fewer p rows r)
+  where
+    go : (b : Bool) → is_le (row_cmp r q) ≡ b → (p q ≡ true) ⊎ (p q ≡ false) → (p r ≡ true) ⊎ (p r ≡ false) → length (filter p rows) ≤ length (filter p (added rows r))
+        → length (filter p (q ∷ rows)) ≤ length (filter p (added (q ∷ rows) r))
+    go true e of_q (inl t) rest = rw (e, t) (omega arith)
+    go true e of_q (inr f) rest = rw (e, f) (omega arith)
+    go false e (inl t) of_r rest = rw (e, t) (omega arith)
+    go false e (inr f) of_r rest = rw (e, f) rest
+
+fits-last : (genome : Sequences) (width : ℕ) (rows : List Row) → All (Fits genome width) rows → (q : Row) → Mem q rows → q.start < q.stop
+fits-last genome width rows fit q m = let fits = all-mem (Fits genome width) rows fit q m in fits.lies.some
+
+fits-last_more : (genome : Sequences) (width : ℕ) (less rows : List Row) (r : Row) → HasOneMore less r rows → All (Fits genome width) less → Fits genome width r → (q : Row) → Mem q rows → q.start < q.stop
+fits-last_more genome width less rows r more fit fits q m = elim (more.cases q m) [
+  | inl at ↦ subst (λ (x : Row). x.start < x.stop) at fits.lies.some
+  | inr old ↦ fits-last genome width less fit q old
+]
+
+-- nothing changes where the record is not
+kept-beside : (o : Options) (names : List (List ℕ)) (less rows : List Row) (r : Row) (k : Key) → HasOneMore less r rows → is_in_group o.stranded k.0 k.1 r ≡ false → kept_at o names rows k ≡ kept_at o names less k
+kept-beside o names less rows r k more beside =
+    ap (λ (l : List Row). option_map (kept_block (name_of names k.0) (listed o.summaries)) (block_at start_of stop_of o.distance l k.2)) (more.others (is_in_group o.stranded k.0 k.1) beside)
+
+-- so nothing changes where the record is in no group
+right-beside : (o : Options) (names : List (List ℕ)) (less rows : List Row) (r : Row) → HasOneMore less r rows → ((minus : Bool) → is_on_side o.stranded minus r ≡ false) → (k : Key) → kept_at o names rows k ≡ kept_at o names less k
+right-beside o names less rows r more beside k =
+    kept-beside o names less rows r k more (false_from_ne_true _ (λ e. both_ways _ (beside k.1) (and_parts (r.seq == k.0) (is_on_side o.stranded k.1 r) e).1))
+
+-- what two clauses say of a success
+pub on-both : {T E : Type 0} (result : Result T E) (P Q R : Type 0) → (P → Q → R) → OnOk result P → OnOk result Q → OnOk result R
+on-both (Ok x) P Q R f p q = f p q
+on-both (Err e) P Q R f p q = p
+
+-- r is of the group g, rows have it, and less are the others
+pub record IsEdit (o : Options) (g : Group) (r : Row) (less rows : List Row) : Type 0 where
+  pub more : HasOneMore less r rows
+  pub apart : g.stranded ≡ o.stranded
+  pub in_group : is_in_group o.stranded g.rank g.minus r ≡ true
+  pub lasts : (q : Row) → Mem q rows → q.start < q.stop
+
+-- what an edit knows of the record's group, which was asked for the options p
+edit-of : (o p : Options) (g : Group) (r : Row) (less rows : List Row) → p ≡ o → (g.stranded ≡ p.stranded) × (is_in_group p.stranded g.rank g.minus r ≡ true)
+    → HasOneMore less r rows → ((q : Row) → Mem q rows → q.start < q.stop) → IsEdit o g r less rows
+edit-of o p g r less rows same known more lasts =
+    let stranded : p.stranded ≡ o.stranded = ap (λ (x : Options). x.stranded) same in
+    record {
+      more = more;
+      apart = known.0 ∙ stranded;
+      in_group = ap (λ (s : Bool). is_in_group s g.rank g.minus r) (sym stranded) ∙ known.1;
+      lasts = lasts;
+    }
+
+pub edit-added : (o p : Options) (g : Group) (r : Row) (less rows : List Row) (genome : Sequences) (width : ℕ) → p ≡ o → (g.stranded ≡ p.stranded) × (is_in_group p.stranded g.rank g.minus r ≡ true)
+    → rows ≡ added less r → All (Fits genome width) rows → IsEdit o g r less rows
+edit-added o p g r less rows genome width same known rows_are fit =
+    edit-of o p g r less rows same known (subst (λ (l : List Row). HasOneMore less r l) (sym rows_are) (added-more less r)) (fits-last genome width rows fit)
+
+pub edit-removed : (o p : Options) (g : Group) (r : Row) (rows : List Row) (genome : Sequences) (width : ℕ) → p ≡ o → (g.stranded ≡ p.stranded) × (is_in_group p.stranded g.rank g.minus r ≡ true)
+    → All (Fits genome width) rows → Fits genome width r → IsEdit o g r rows (added rows r)
+edit-removed o p g r rows genome width same known fit fits =
+    let more = added-more rows r in
+    edit-of o p g r rows (added rows r) same known more (fits-last_more genome width rows (added rows r) r more fit fits)
+
+-- blocks stay right where the record is in no group
+pub beside-added : (o p : Options) (names : List (List ℕ)) (less rows : List Row) (r : Row) (entries : Entries) → p ≡ o → ((minus : Bool) → is_on_side p.stranded minus r ≡ false)
+    → rows ≡ added less r → AreBlocksOf o names less entries → AreBlocksOf o names rows entries
+beside-added o p names less rows r entries same beside rows_are right =
+    let more : HasOneMore less r rows = subst (λ (l : List Row). HasOneMore less r l) (sym rows_are) (added-more less r) in
+    record {
+      ordered = right.ordered;
+      blocks = λ k. right.blocks k ∙ sym (right-beside o names less rows r more (subst (λ (x : Options). (minus : Bool) → is_on_side x.stranded minus r ≡ false) same beside) k);
+    }
+
+pub beside-removed : (o p : Options) (names : List (List ℕ)) (rows : List Row) (r : Row) (entries : Entries) → p ≡ o → ((minus : Bool) → is_on_side p.stranded minus r ≡ false)
+    → AreBlocksOf o names (added rows r) entries → AreBlocksOf o names rows entries
+beside-removed o p names rows r entries same beside right = record {
+  ordered = right.ordered;
+  blocks = λ k. right.blocks k ∙ right-beside o names rows (added rows r) r (added-more rows r) (subst (λ (x : Options). (minus : Bool) → is_on_side x.stranded minus r ≡ false) same beside) k;
+}
+
+module _ (o : Options) (names : List (List ℕ)) (g : Group) (r : Row) (less rows : List Row) (edit : IsEdit o g r less rows) where
+  parts : (r.seq == g.rank ≡ true) × (is_on_side o.stranded g.minus r ≡ true)
+  parts = and_parts (r.seq == g.rank) (is_on_side o.stranded g.minus r) edit.in_group
+
+  rank-is : r.seq ≡ g.rank
+  rank-is = eqb-true r.seq g.rank parts.0
+
+  abbrev G : List Row
+  G = group o.stranded g.rank g.minus less
+
+  abbrev H : List Row
+  H = group o.stranded g.rank g.minus rows
+
+  more_g : HasOneMore G r H
+  more_g = one_more-filter (is_in_group o.stranded g.rank g.minus) less rows r edit.more edit.in_group
+
+  lasting : Lasting start_of stop_of o.distance H
+  lasting q m = edit.lasts q (mem-filter (is_in_group o.stranded g.rank g.minus) rows q m).0
+
+  -- other groups stay as they are
+  kept-other : (k : Key) → IsOfOther g k → kept_at o names rows k ≡ kept_at o names less k
+  kept-other k other = kept-beside o names less rows r k edit.more (false_from_ne_true _ (λ e.
+      let both = and_parts (r.seq == k.0) (is_on_side o.stranded k.1 r) e in
+      elim other [
+        | inl ne ↦ ne (sym (eqb-true r.seq k.0 both.0) ∙ rank-is)
+        | inr ne ↦ ne (one_side o.stranded r k.1 g.minus both.1 parts.1)
+      ]))
+
+  -- how many records there are around r
+  around-is : (low to : ℕ) → IsBlock start_of stop_of o.distance H low to → low ≤ r.start → r.start < to → around o rows r ≡ length (between_on g.rank low to rows)
+  around-is low to block above below =
+      pick g.minus refl
+      ∙ ap (λ (n : ℕ). within_block o.distance (group o.stranded n g.minus rows) rows r) rank-is
+      ∙ home-count o.distance (name_of names g.rank) (listed o.summaries) G H r more_g lasting low to rows block above below
+      ∙ ap (λ (n : ℕ). length (between_on n low to rows)) rank-is
+    where
+      W : Bool → ℕ
+      W minus = within_block o.distance (group o.stranded r.seq minus rows) rows r
+
+      pick : (minus : Bool) → g.minus ≡ minus → around o rows r ≡ W g.minus
+      pick false e =
+          let on : is_on_side o.stranded false r ≡ true = ap (λ (m : Bool). is_on_side o.stranded m r) (sym e) ∙ parts.1 in
+          cond-true _ _ _ on ∙ ap W (sym e)
+      pick true e =
+          let on : is_on_side o.stranded true r ≡ true = ap (λ (m : Bool). is_on_side o.stranded m r) (sym e) ∙ parts.1 in
+          let off : is_on_side o.stranded false r ≡ false = false_from_ne_true _ (λ t. false≢true (one_side o.stranded r false true t on)) in
+          cond-false _ _ _ off ∙ cond-true _ _ _ on ∙ ap W (sym e)
+
+  own-fewer : (low to : ℕ) → length (filter (starts_in start_of stop_of o.distance low to) H) ≤ length (between_on g.rank low to rows)
+  own-fewer low to =
+      let fewer = filter-weaker (λ q. is_in_group o.stranded g.rank g.minus q && starts_between low to q) (λ q. (q.seq == g.rank) && starts_between low to q) rows (λ q m e.
+      let both = and_parts (is_in_group o.stranded g.rank g.minus q) (starts_between low to q) e in
+      and_from _ _ (and_parts (q.seq == g.rank) (is_on_side o.stranded g.minus q) both.0).0 both.1) in
+      omega (arith, fewer, ap length (filter-filter (starts_in start_of stop_of o.distance low to) (is_in_group o.stranded g.rank g.minus) rows))
+
+  -- ---- r is added
+  module _ (old mid next : KeptBlocks) (joined : ℕ × ℕ) (to : ℕ) (right : AreBlocksOf o names less old.entries)
+      (before : JoinsBefore o.distance (kept_in old.entries g) (kept_in mid.entries g) r.start r.stop joined)
+      (after : JoinsAfter o.distance (kept_in mid.entries g) (kept_in next.entries g) r.start joined.1 to) where
+    state : IsBegun o.distance (name_of names g.rank) (listed o.summaries) G H r more_g lasting joined.0 joined.1 (kept_in mid.entries g)
+    state = begun o.distance (name_of names g.rank) (listed o.summaries) G H r more_g lasting (kept_in old.entries g) (λ x. right.blocks (key_of g x)) (kept_in mid.entries g) joined before
+
+    block : IsBlock start_of stop_of o.distance H joined.0 to
+    block = added-block o.distance (name_of names g.rank) (listed o.summaries) G H r more_g lasting joined.0 joined.1 to (kept_in mid.entries g) (kept_in next.entries g) state after
+
+    above : joined.0 ≤ r.start
+    above = added-above o.distance (name_of names g.rank) (listed o.summaries) G H r more_g lasting joined.0 joined.1 to (kept_in mid.entries g) (kept_in next.entries g) state after
+
+    below : r.start < to
+    below = added-below o.distance (name_of names g.rank) (listed o.summaries) G H r more_g lasting joined.0 joined.1 to (kept_in mid.entries g) (kept_in next.entries g) state after
+
+    added-steps : (count_from (kept_in mid.entries g) r.start (to + o.distance + 1 - r.start) ≤ around o rows r) × (length (between_on g.rank joined.0 to rows) ≤ around o rows r)
+    added-steps =
+        let all = around-is joined.0 to block above below in
+        let few = added-count o.distance (name_of names g.rank) (listed o.summaries) G H r more_g lasting joined.0 joined.1 to (kept_in mid.entries g) (kept_in next.entries g) state after in
+        (omega (arith, all, few, own-fewer joined.0 to), omega (arith, all))
+
+    pub added-takes : (start d m0 m1 m2 m3 : ℕ) → start ≡ r.start → d ≡ o.distance → TakesUpTo m0 m1 2
+        → TakesUpTo m1 m2 (1 + 2 * count_from (kept_in mid.entries g) start (to + d + 1 - start))
+        → TakesUpTo m2 m3 (3 + length (between_on g.rank joined.0 to rows)) → TakesUpTo m0 m3 (block_steps o rows r)
+    added-takes start d m0 m1 m2 m3 at distance first second third =
+        let few = added-steps in
+        let same : count_from (kept_in mid.entries g) start (to + d + 1 - start) ≡ count_from (kept_in mid.entries g) r.start (to + o.distance + 1 - r.start) =
+        ap (λ (n : ℕ). count_from (kept_in mid.entries g) n (to + d + 1 - n)) at ∙ ap (λ (n : ℕ). count_from (kept_in mid.entries g) r.start (to + n + 1 - r.start)) distance in
+        record { no_less = omega (arith, first, second, third); at_most = omega (arith, first, second, third, few.0, few.1, same) }
+
+    pub added-all : (new : KeptBlocks) (genome : Sequences) → names ≡ names_of genome → KeepsOthers g old mid → KeepsOthers g mid next → mid.options ≡ o
+        → new ≡ with_block next genome rows g joined.0 to → IsLedger key_cmp new.entries → AreBlocksOf o names rows new.entries
+    added-all new genome of_genome first second options put sorted = record {
+      ordered = sorted;
+      blocks = λ k. elim (key-cases g k) [
+        | inl at ↦ ap (value_at key_cmp new.entries) at ∙ here k.2 ∙ ap (kept_at o names rows) (sym at)
+        | inr other ↦
+            ap (λ (b : KeptBlocks). value_at key_cmp b.entries k) put
+            ∙ look-put_other next.entries g joined.0 _ k other
+            ∙ second.others k other ∙ first.others k other ∙ right.blocks k ∙ sym (kept-other k other)
+      ];
+    }
+      where
+        value : Kept
+        value = kept_block (sequence_name genome g.rank) (listed next.options.summaries) (to, members_between g joined.0 to rows)
+
+        value-is : value ≡ kept_block (name_of names g.rank) (listed o.summaries) (to, filter (starts_in start_of stop_of o.distance joined.0 to) H)
+        value-is =
+            ap (λ (n : List ℕ). kept_block n (listed next.options.summaries) (to, members_between g joined.0 to rows)) (sym (name-same genome g.rank) ∙ ap (λ (l : List (List ℕ)). name_of l g.rank) (sym of_genome))
+            ∙ ap (λ (p : Options). kept_block (name_of names g.rank) (listed p.summaries) (to, members_between g joined.0 to rows)) (second.options ∙ options)
+            ∙ ap (λ (s : Bool). kept_block (name_of names g.rank) (listed o.summaries) (to, filter (λ q. is_in_group s g.rank g.minus q && starts_between joined.0 to q) rows)) edit.apart
+            ∙ ap (λ (l : List Row). kept_block (name_of names g.rank) (listed o.summaries) (to, l)) (sym (filter-filter (starts_between joined.0 to) (is_in_group o.stranded g.rank g.minus) rows))
+
+        here : (x : ℕ) → kept_in new.entries g x ≡ kept_at o names rows (key_of g x)
+        here x = added-right o.distance (name_of names g.rank) (listed o.summaries) G H r more_g lasting joined.0 joined.1 to (kept_in mid.entries g) (kept_in next.entries g) state after (kept_in new.entries g)
+            (λ y. ap (λ (b : KeptBlocks). kept_in b.entries g y) put ∙ look-put next.entries g joined.0 value y
+            ∙ ap (λ (v : Kept). if y == joined.0 then Some v else kept_in next.entries g y) value-is) x
+
+  -- ---- r is taken away
+  module _ (old : KeptBlocks) (right : AreBlocksOf o names rows old.entries) where
+    pub removed-found : ((x : ℕ) → x ≤ r.start → kept_in old.entries g x ≡ None) → ⊥
+    removed-found none = found-some o.distance (name_of names g.rank) (listed o.summaries) G H r more_g lasting (kept_in old.entries g) (λ x. right.blocks (key_of g x)) none
+
+    module _ (b : ℕ × ℕ) (last : IsLastBlock (kept_in old.entries g) r.start b) where
+      block_is : IsBlock start_of stop_of o.distance H b.0 b.1
+      block_is = found-block o.distance (name_of names g.rank) (listed o.summaries) G H r more_g lasting (kept_in old.entries g) (λ x. right.blocks (key_of g x)) b last
+
+      ends : r.stop ≤ b.1
+      ends = found-ends o.distance (name_of names g.rank) (listed o.summaries) G H r more_g lasting (kept_in old.entries g) (λ x. right.blocks (key_of g x)) b last
+
+      -- the other records of the block stop in it
+      pub removed-stops : All (λ q. q.stop ≤ b.1) (members_between g b.0 b.1 less)
+      removed-stops = mem-all (λ q. q.stop ≤ b.1) _ (λ q m.
+          let is = mem-filter (λ q. is_in_group g.stranded g.rank g.minus q && starts_between b.0 b.1 q) less q m in
+          let both = and_parts (is_in_group g.stranded g.rank g.minus q) (starts_between b.0 b.1 q) is.1 in
+          let here = mem-filter_from (is_in_group o.stranded g.rank g.minus) rows q (edit.more.old q is.0) (ap (λ (s : Bool). is_in_group s g.rank g.minus q) (sym edit.apart) ∙ both.0) in
+          let range = starts_in-true start_of stop_of o.distance b.0 b.1 q both.1 in
+          stops_within start_of stop_of o.distance H b.0 b.1 block_is q here (omega (arith, range.1)))
+
+      pub removed-takes : (m0 m1 m2 : ℕ) → rows ≡ added less r → TakesUpTo m0 m1 1 → TakesUpTo m1 m2 (3 + 5 * length (between_on g.rank b.0 b.1 less)) → TakesUpTo m0 m2 (block_steps o rows r)
+      removed-takes m0 m1 m2 rows_are first second =
+          let all = around-is b.0 b.1 block_is last.within (omega (arith, ends, lasting r more_g.added)) in
+          let fewer = added-fewer (λ q. (q.seq == g.rank) && starts_between b.0 b.1 q) less r in
+          let same = ap (λ (l : List Row). length (between_on g.rank b.0 b.1 l)) rows_are in
+          record { no_less = omega (arith, first, second); at_most = omega (arith, first, second, all, fewer, same) }
+
+      pub removed-all : (new : KeptBlocks) → old.options ≡ o → ArePut g names (between b.0 b.1 less) (without_block old g b.0) new → AreBlocksOf o names less new.entries
+      removed-all new options put = record {
+        ordered = put.ordered;
+        blocks = λ k. elim (key-cases g k) [
+          | inl at ↦ ap (value_at key_cmp new.entries) at ∙ here k.2 ∙ ap (kept_at o names less) (sym at)
+          | inr other ↦ put.others k other ∙ without-others old.entries g b.0 right.ordered k other ∙ right.blocks k ∙ kept-other k other
+        ];
+      }
+        where
+          here : (x : ℕ) → kept_in new.entries g x ≡ kept_at o names less (key_of g x)
+          here x = removed-right o.distance (name_of names g.rank) (listed o.summaries) G H r more_g lasting (kept_in old.entries g) (λ x. right.blocks (key_of g x)) b
+              (kept_in (without_block old g b.0).entries g) (kept_in new.entries g) last
+              (λ y. without-here old.entries g b.0 right.ordered y)
+              (λ y. put.here y
+              ∙ ap (λ (p : Options). option_or (kept_at p names (between b.0 b.1 less) (key_of g y)) (kept_in (without_block old g b.0).entries g y)) options
+              ∙ ap (λ (l : List Row). option_or (shown o.distance (name_of names g.rank) (listed o.summaries) l y) (kept_in (without_block old g b.0).entries g y))
+              (filter-swap (is_in_group o.stranded g.rank g.minus) (starts_between b.0 b.1) less)) x

@@ -1,0 +1,47 @@
+-- A walk over kept blocks, one read ahead. This is the state of a print, as seen by its proof, and no part of what is promised.
+use Rattle.std.specs.Prelude.{◌≡◌, ℕ, ◌+◌, ◌≤◌, ◌==◌, ◌&&◌, ◌||◌, nat_le, nat_lt, Bool, true, false, if◌then◌else◌, List, [], ◌∷◌, ◌++◌, Option, Some, None, map, length, drop}
+use Rattle.std.specs.List.{prefix_len}
+use Rattle.iv_cover.specs.Runs.{Run}
+use Rattle.iv_cover.specs.declared.block.Block.{Block}
+use Rattle.iv_blocks.specs.KeptBlocks.{Key, Kept, Entries}
+
+-- where a kept block is
+abbrev pub lies_at : Key × Kept → Block
+lies_at e = record { sequence = e.0.0; start = e.0.2; stop = e.1.stop }
+
+-- the block that was read ahead, if there is one, and those that are left
+abbrev pub ahead_of : Option Block → Entries → List Block
+ahead_of None entries = map lies_at entries
+ahead_of (Some b) entries = b ∷ map lies_at entries
+
+-- the block starts at this position of the sequence of this rank, or before it
+abbrev pub starts_until : ℕ → ℕ → Block → Bool
+starts_until rank position b = nat_lt b.sequence rank || ((b.sequence == rank) && nat_le b.start position)
+
+-- the first block, if there is one, doesn't pass the test
+abbrev pub BeginsElse : (Block → Bool) → List Block → Type 0
+BeginsElse test [] = Unit {0}
+BeginsElse test (b ∷ blocks) = test b ≡ false
+
+-- a call gave the first of the blocks, which passes the test; or it gave none, as the first doesn't
+abbrev pub GivesPassing : (Block → Bool) → List Block → Option Block → List Block → Type 0
+GivesPassing test old (Some b) new = (old ≡ b ∷ new) × (test b ≡ true)
+GivesPassing test old None new = (new ≡ old) × BeginsElse test old
+
+-- the blocks from the first on that doesn't pass the test
+abbrev pub drop_while : (Block → Bool) → List Block → List Block
+drop_while test blocks = drop (prefix_len test blocks) blocks
+
+-- between the two readings of a meter is at most one step for each block that is not left
+pub record TakesForEach (before after : ℕ) (all left : List Block) : Type 0 where
+  pub no_less : before ≤ after
+  pub at_most : after + length left ≤ before + length all
+
+-- the positions from one to another, which is not included, if there are any
+abbrev pub gap_between : ℕ → ℕ → List Run
+gap_between from to = if nat_lt from to then record { start = from; stop = to; value = 0 } ∷ [] else []
+
+-- the gaps in front of blocks, between them and after them, from one position to another; none where there is no block, unless `shown`
+abbrev pub gaps_between : Bool → ℕ → ℕ → List Block → List Run
+gaps_between shown from to [] = if shown then gap_between from to else []
+gaps_between shown from to (b ∷ blocks) = gap_between from b.start ++ gaps_between true b.stop to blocks

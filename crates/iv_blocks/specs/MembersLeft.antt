@@ -1,0 +1,26 @@
+-- The members of a group that a walk has still to give.
+use Rattle.std.specs.Prelude.{ℕ, ◌+◌, ◌≤◌, List, Option, None, Some}
+use Rattle.std.specs.List.{AllByRecursion}
+use Rattle.iv_text.specs.Ordered.{AreInOrder}
+use Rattle.iv_text.specs.Row.{Row}
+
+-- the members, in order, and how many records of the sequence, of any strand, the walk goes past for them
+pub record MembersLeft : Type 0 where
+  pub members : List Row
+  pub records : ℕ
+
+-- the records that a walk has left are in order, and none is on a sequence before this one
+-- (an invariant of a private type; no part of what is promised)
+pub record IsAhead (rank : ℕ) (rows : List Row) : Type 0 where
+  pub ordered : AreInOrder rows
+  pub ranks : AllByRecursion (λ r. rank ≤ r.seq) rows
+
+-- a call that gives none takes one step more, to find the end
+abbrev pub end_step : {A : Type 0} → Option A → ℕ
+end_step None = 1
+end_step (Some r) = 0
+
+-- between two readings of a meter is at most one step for each record that the walk went past, and `more`
+pub record TakesForEach (before after : ℕ) (old new : MembersLeft) (more : ℕ) : Type 0 where
+  pub no_less : before ≤ after
+  pub at_most : after + new.records ≤ before + old.records + more

@@ -1,0 +1,90 @@
+//! A walk over blocks that reads one ahead.
+ghost use Rattle.std.specs.Prelude.{◌≡◌, [], None, map};
+ghost use Rattle.std.specs.Map.Iter.{TakesFirst};
+ghost use Rattle.iv_track.specs.Steps.{TakesUpTo};
+ghost use Rattle.iv_blocks.specs.BlockCursor.{lies_at, starts_until, GivesPassing, TakesForEach};
+
+use crate::blocks::{Blocks, KeptBlock};
+use iv_cover::Block;
+use iv_track::{Meter, Walk};
+use std::alloc::Allocator;
+use std::marker::Model;
+
+/// The blocks that are still to come, in order.
+///
+/// Its model is the list of them.
+#[derive(Drop)]
+pub(crate) struct BlockCursor<'a, A: Allocator + Copy> {
+    walk: Walk<'a, (u32, bool, u32), KeptBlock<A>>,
+    // The block that was read ahead, `None` after the last.
+    next: Option<Block>,
+}
+
+impl<'a, A: Allocator + Copy> Model for BlockCursor<'a, A> {
+    ghost use Rattle.std.specs.Prelude.{◌≡◌, List, [], None};
+    ghost use Rattle.iv_cover.specs.declared.block.Block.{Block};
+    ghost use Rattle.iv_blocks.specs.BlockCursor.{ahead_of};
+
+    ghost Value = { List Block };
+
+    ghost view = { λ a. ahead_of a.next a.walk };
+
+    ghost invariant = { λ a. a.next ≡ None → a.walk ≡ [] };
+}
+
+impl<'a, A: Allocator + Copy> BlockCursor<'a, A> {
+    /// All blocks, from the first on. At most 2 steps.
+    pub(crate) fn of(blocks: &'a Blocks<A>, meter: &mut Meter) -> BlockCursor<'a, A>
+        ensures all { result ≡ map lies_at blocks.now.entries }
+        ensures steps { TakesUpTo meter.old meter.new 2 }
+    {
+        let mut walk = blocks.ledger.walk(&(0, false, 0), meter);
+        let next = read(&mut walk, meter);
+        BlockCursor { walk, next }
+    }
+
+    /// The next block, where it starts at this position of the sequence of this rank, or before it.
+    ///
+    /// At most one step for a block, and none where there is no such block.
+    pub(crate) fn next_until(
+        &mut self,
+        rank: u32,
+        position: u64,
+        meter: &mut Meter,
+    ) -> Option<Block>
+        ensures next { GivesPassing (starts_until rank position) self.old result self.new }
+        ensures steps { TakesForEach meter.old meter.new self.old self.new }
+    {
+        let block = self.next?;
+        if !is_until(block, rank, position) {
+            return None;
+        }
+        self.next = read(&mut self.walk, meter);
+        Some(block)
+    }
+}
+
+/// Whether the block starts at this position of the sequence of this rank, or before it.
+fn is_until(block: Block, rank: u32, position: u64) -> bool
+    ensures { result ≡ starts_until rank position block }
+{
+    block.sequence < rank || (block.sequence == rank && u64::from(block.start) <= position)
+}
+
+/// Where the next block is, `None` after the last. One step.
+fn read<A: Allocator + Copy>(
+    walk: &mut Walk<'_, (u32, bool, u32), KeptBlock<A>>,
+    meter: &mut Meter,
+) -> Option<Block>
+    ensures next { TakesFirst (λ b. b) (map lies_at walk.old) result (map lies_at walk.new) }
+    ensures last { result ≡ None → walk.new ≡ [] }
+    ensures step { TakesUpTo meter.old meter.new 1 }
+{
+    let (key, block) = walk.next(meter)?;
+    let (sequence, _, start) = *key;
+    Some(Block {
+        sequence,
+        start,
+        stop: block.stop,
+    })
+}

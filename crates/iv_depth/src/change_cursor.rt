@@ -1,0 +1,71 @@
+//! A walk over changes of depth, sequence by sequence.
+ghost use Rattle.std.specs.Prelude.{◌≡◌};
+ghost use Rattle.std.specs.Map.Iter.{TakesFirst};
+ghost use Rattle.iv_track.specs.Steps.{TakesUpTo};
+ghost use Rattle.iv_depth.specs.Walks.{GivesOn, TakesForEach};
+
+use crate::changing::Changes;
+use iv_track::{Meter, Walk};
+use std::alloc::Allocator;
+use std::marker::Model;
+
+/// The changes that are still to come, by the sequence's rank, and then by position.
+///
+/// Its model is the list of their entries.
+#[derive(Drop)]
+pub(crate) struct ChangeCursor<'a> {
+    walk: Walk<'a, (u32, u32), i64>,
+    // The entry that was read ahead, `None` after the last.
+    ahead: Option<((u32, u32), i64)>,
+}
+
+impl<'a> Model for ChangeCursor<'a> {
+    ghost use Rattle.std.specs.Prelude.{◌≡◌, [], None};
+    ghost use Rattle.iv_depth.specs.Changes.{Entries};
+    ghost use Rattle.iv_depth.specs.Walks.{ahead_of};
+
+    ghost Value = { Entries };
+
+    ghost view = { λ c. ahead_of c.ahead c.walk };
+
+    ghost invariant = { λ c. c.ahead ≡ None → c.walk ≡ [] };
+}
+
+impl<'a> ChangeCursor<'a> {
+    /// All changes, from the first on. At most 2 steps.
+    pub(crate) fn of<A: Allocator + Copy>(
+        changes: &'a Changes<A>,
+        meter: &mut Meter,
+    ) -> ChangeCursor<'a>
+        ensures all { result ≡ changes.now }
+        ensures steps { TakesUpTo meter.old meter.new 2 }
+    {
+        let mut walk = changes.walk(&(0, 0), meter);
+        let ahead = read(&mut walk, meter);
+        ChangeCursor { walk, ahead }
+    }
+
+    /// The next change, where it is on the sequence of this rank: its position, and the change there.
+    ///
+    /// At most one step for a change, and none where there is no change.
+    pub(crate) fn next_on(&mut self, rank: u32, meter: &mut Meter) -> Option<(u32, i64)>
+        ensures next { GivesOn rank self.old result self.new }
+        ensures steps { TakesForEach meter.old meter.new self.old self.new }
+    {
+        let ((sequence, position), change) = self.ahead?;
+        if sequence != rank {
+            return None;
+        }
+        self.ahead = read(&mut self.walk, meter);
+        Some((position, change))
+    }
+}
+
+/// The next entry, `None` after the last. One step.
+fn read(walk: &mut Walk<'_, (u32, u32), i64>, meter: &mut Meter) -> Option<((u32, u32), i64)>
+    ensures next { TakesFirst (λ e. e) walk.old result walk.new }
+    ensures step { TakesUpTo meter.old meter.new 1 }
+{
+    let (place, change) = walk.next(meter)?;
+    Some((*place, *change))
+}

@@ -1,8 +1,0 @@
-//! Places among the bases of a FASTA file.
-
-/// Where the bases of a sequence lie among all that are kept.
-#[derive(Clone, Copy, Debug, PartialEq, Eq)]
-pub(crate) struct Place {
-    pub(crate) start: usize,
-    pub(crate) stop: usize,
-}

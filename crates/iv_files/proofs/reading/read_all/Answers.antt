@@ -1,8 +1,0 @@
-use Rattle.std.proofs.lemmas.Result.{err_from_is_err_and}
-use Rattle.iv_files.proofs.ReadingLemmas.{StopsReading-piece}
-use Rattle.iv_files.proofs.reading.read_all.Goals as goal
-
-pub returns-in_err-take_piece-clause-err : goal.returns-in_err-take_piece-clause-err
-returns-in_err-take_piece-clause-err g c =
-    let p = err_from_is_err_and c.from_residual-in_err-take_piece.result c.from_residual-in_err-take_piece.ensures.1 in
-    rw (p.1, p.2) (StopsReading-piece _ _ _ _ _ _ _ c.pieces.invariant.0 c.in_ok-n.ensures.ok c.in_err-take_piece.ensures.err)

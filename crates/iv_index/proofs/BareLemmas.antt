@@ -1,0 +1,88 @@
+-- Records without their columns after the third.
+use Rattle.std.proofs.Common.{◌≡◌, ℕ, ◌+◌, Bool, true, false, cond, List, [], ◌∷◌, map, refl, sym, ap, ◌∙◌, arith}
+use Rattle.std.specs.Prelude.{All, count_by, fold}
+use Rattle.std.specs.List.{AllByRecursion}
+use Rattle.std.specs.Ordering.{is_eq, is_le, nat_cmp, ordering_then}
+use Rattle.std.specs.declared.cmp.Ordering.{Ordering}
+use Rattle.std.specs.declared.cmp.Ordering.TheVariants.{Less, Equal, Greater}
+use Rattle.std.proofs.lemmas.List.Elements.{All-from_recursion, recursion_from_All}
+use Rattle.std.proofs.lemmas.List.Sums.{sum_by-cons}
+use Rattle.iv_text.specs.Genome.{Sequences}
+use Rattle.iv_text.specs.Ordered.{added, ordered, AreInOrder}
+use Rattle.iv_text.specs.Read.{LiesOn}
+use Rattle.iv_text.specs.Row.{Row, beside_cmp, row_cmp}
+use Rattle.iv_text.proofs.OrderedLemmas.{ordered-in_order, rows-alone}
+use Rattle.iv_index.specs.Places.{bare, row_at, rows_at}
+use Rattle.iv_index.specs.declared.place.Place.{Place}
+
+-- ---- records of places
+
+-- at width 3 the records of places are bare
+pub rows-bare : (w : ℕ) (text : List ℕ) (places : List Place) → rows_at 3 text places ≡ map bare (rows_at w text places)
+rows-bare w text [] = refl
+rows-bare w text (p ∷ places) = ap (λ (l : List Row). row_at 3 text p ∷ l) (rows-bare w text places)
+
+-- ---- on the genome
+
+-- they are on it where they were
+pub lying-bare : (g : Sequences) (rows : List Row) → All (LiesOn g) rows → All (LiesOn g) (map bare rows)
+lying-bare g rows lie = All-from_recursion (LiesOn g) (map bare rows) (by rows (recursion_from_All (LiesOn g) rows lie))
+  where
+    by : (rows : List Row) → AllByRecursion (LiesOn g) rows → AllByRecursion (LiesOn g) (map bare rows)
+    by [] all = tt
+    by (r ∷ rows) all = (record { some = all.0.some; within = all.0.within }, by rows all.1)
+
+-- ---- their order
+
+-- what is no more by place and columns is no more by place
+le_first : (a b c d : Ordering) → is_le (ordering_then a (ordering_then b (ordering_then c d))) ≡ true → is_le (ordering_then a (ordering_then b (ordering_then c Equal))) ≡ true
+le_first Less b c d h = refl
+le_first Greater b c d h = cc
+le_first Equal Less c d h = refl
+le_first Equal Greater c d h = cc
+le_first Equal Equal Less d h = refl
+le_first Equal Equal Greater d h = cc
+le_first Equal Equal Equal d h = refl
+
+bare-le : (x y : Row) → is_le (row_cmp x y) ≡ true → is_le (row_cmp (bare x) (bare y)) ≡ true
+bare-le x y h = le_first (nat_cmp x.seq y.seq) (nat_cmp x.start y.start) (nat_cmp x.stop y.stop) (beside_cmp x y) h
+
+in_order-bare : (rows : List Row) → AreInOrder rows → AreInOrder (map bare rows)
+in_order-bare [] up = tt
+in_order-bare (r ∷ rows) up = (by rows up.0, in_order-bare rows up.1)
+  where
+    by : (xs : List Row) → AllByRecursion (λ y. is_le (row_cmp r y) ≡ true) xs → AllByRecursion (λ y. is_le (row_cmp (bare r) y) ≡ true) (map bare xs)
+    by [] all = tt
+    by (x ∷ xs) all = (bare-le r x all.0, by xs all.1)
+
+-- records in order pass a test as often as they did
+module _ (p : Row → Bool) where
+  count-cons : (x : Row) (xs : List Row) → count_by p (x ∷ xs) ≡ cond (p x) 1 0 + count_by p xs
+  count-cons x xs = sum_by-cons (λ r. cond (p r) 1 0) x xs
+
+  count-either : (b : Bool) (x q : Row) (xs ys : List Row) → count_by p ys ≡ cond (p x) 1 0 + count_by p xs → count_by p (cond b (x ∷ q ∷ xs) (q ∷ ys)) ≡ cond (p x) 1 0 + count_by p (q ∷ xs)
+  count-either true x q xs ys e = count-cons x (q ∷ xs)
+  count-either false x q xs ys e = omega (arith, count-cons q ys, count-cons q xs, e)
+
+  count-added : (xs : List Row) (x : Row) → count_by p (added xs x) ≡ cond (p x) 1 0 + count_by p xs
+  count-added [] x = count-cons x []
+  count-added (q ∷ xs) x = count-either (is_le (row_cmp x q)) x q xs (added xs x) (count-added xs x)
+
+  count-all_added : (xs start : List Row) → count_by p (fold added start xs) ≡ count_by p start + count_by p xs
+  count-all_added [] start = omega arith
+  count-all_added (x ∷ xs) start = omega (arith, count-all_added xs (added start x), count-added start x, count-cons x xs)
+
+  count-ordered : (rows : List Row) → count_by p (ordered rows) ≡ count_by p rows
+  count-ordered rows = count-all_added rows [] ∙ omega arith
+
+pub count-bare : (p : Row → Bool) (rows : List Row) → count_by p (map bare rows) ≡ count_by (λ r. p (bare r)) rows
+count-bare p [] = refl
+count-bare p (r ∷ rows) = omega (arith, count-cons p (bare r) (map bare rows), count-cons (λ x. p (bare x)) r rows, count-bare p rows)
+
+-- it is all one whether columns are let go before records are put in order or after
+pub ordered-bare : (rows : List Row) → ordered (map bare rows) ≡ map bare (ordered rows)
+ordered-bare rows = rows-alone (ordered (map bare rows)) (map bare (ordered rows)) (ordered-in_order (map bare rows)) (in_order-bare (ordered rows) (ordered-in_order rows))
+    (λ r. count-ordered (λ q. is_eq (row_cmp r q)) (map bare rows)
+    ∙ count-bare (λ q. is_eq (row_cmp r q)) rows
+    ∙ sym (count-ordered (λ q. is_eq (row_cmp r (bare q))) rows)
+    ∙ sym (count-bare (λ q. is_eq (row_cmp r q)) (ordered rows)))

@@ -1,0 +1,93 @@
+-- Places in the order of their records.
+use Rattle.std.proofs.Common.{◌≡◌, ℕ, ◌+◌, ◌<◌, Bool, true, false, not, List, Option, length, map, refl, sym, ap, subst, ◌∙◌, arith}
+use Rattle.std.proofs.lemmas.List.{length-map, get_or-map}
+use Rattle.std.proofs.lemmas.List.Sorted.{IsPermutation-map}
+use Rattle.std.proofs.lemmas.List.MinMax.{ranks_by}
+use Rattle.std.proofs.lemmas.Fn.{always_returns_same}
+use Rattle.std.proofs.lemmas.Bool.{false≢true}
+use Rattle.std.specs.Fn.{Called, ComparesAs, ComputesOnPairs, Mut}
+use Rattle.std.specs.List.{IsAllAdjacentAnswer}
+use Rattle.std.specs.Prelude.{IsTrue, ◌↔◌}
+use Rattle.std.specs.Borrow.{Bor}
+use Rattle.std.specs.Cmp.{IsStrictWeakOrder, nat_cmp_total, tied_itself}
+use Rattle.std.specs.List.Sorted.{IsPermutation, IsSorted, IsSortedBy}
+use Rattle.std.specs.Ordering.{nat_cmp, is_lt, ordering_then}
+use Rattle.std.specs.declared.cmp.Ordering.{Ordering}
+use Rattle.std.specs.declared.cmp.Ordering.TheVariants.{Less, Equal, Greater}
+use Rattle.std.specs.Cmp.Lexicographic.{slice_cmp}
+use Rattle.std.specs.Option.{option_cmp}
+use Rattle.iv_text.proofs.OrderedLemmas.{ordered-sorted}
+use Rattle.iv_text.specs.Ordered.{ordered}
+use Rattle.iv_text.specs.Row.{Row, beside_cmp, row_cmp, rows_total, strand_cmp}
+use Rattle.iv_text.specs.declared.strand.Strand.{Strand}
+use Rattle.iv_index.specs.Places.{row_at, rows_at}
+use Rattle.iv_index.specs.declared.place.Place.{Place}
+
+then_equal : (o : Ordering) → ordering_then o Equal ≡ o
+then_equal Less = refl
+then_equal Equal = refl
+then_equal Greater = refl
+
+nat_tied : (x y : ℕ) → x ≡ y → nat_cmp x y ≡ Equal
+nat_tied x y e = subst (λ (z : ℕ). nat_cmp x z ≡ Equal) e (tied_itself nat_cmp_total x)
+
+-- of two records of one place the other columns decide
+pub row-cmp-beside : (a b : Row) → a.seq ≡ b.seq → a.start ≡ b.start → a.stop ≡ b.stop → row_cmp a b ≡ beside_cmp a b
+row-cmp-beside a b seq start stop =
+    let from_stop : Ordering = ordering_then (nat_cmp a.stop b.stop) (beside_cmp a b) in
+    let from_start : Ordering = ordering_then (nat_cmp a.start b.start) from_stop in
+    ap (λ (o : Ordering). ordering_then o from_start) (nat_tied a.seq b.seq seq)
+    ∙ ap (λ (o : Ordering). ordering_then o from_stop) (nat_tied a.start b.start start)
+    ∙ ap (λ (o : Ordering). ordering_then o (beside_cmp a b)) (nat_tied a.stop b.stop stop)
+
+-- name, score and strand decide among records of one width
+pub columns-cmp : (a b : Row) (name_a score_a : List ℕ) (strand_a : Option Strand) (name_b score_b : List ℕ) (strand_b : Option Strand) → a.width ≡ b.width
+    → name_a ≡ a.name → score_a ≡ a.score → strand_a ≡ a.strand → name_b ≡ b.name → score_b ≡ b.score → strand_b ≡ b.strand
+    → ordering_then (slice_cmp nat_cmp name_a name_b) (ordering_then (slice_cmp nat_cmp score_a score_b) (option_cmp strand_cmp strand_a strand_b)) ≡ beside_cmp a b
+columns-cmp a b name_a score_a strand_a name_b score_b strand_b width na sa ta nb sb tb =
+    let names : Ordering = slice_cmp nat_cmp a.name b.name in
+    let scores : Ordering = slice_cmp nat_cmp a.score b.score in
+    let strands : Ordering = option_cmp strand_cmp a.strand b.strand in
+    (λ i. ordering_then (slice_cmp nat_cmp (na i) (nb i)) (ordering_then (slice_cmp nat_cmp (sa i) (sb i)) (option_cmp strand_cmp (ta i) (tb i))))
+    ∙ ap (λ (o : Ordering). ordering_then names (ordering_then scores o)) (sym (ap (ordering_then strands) (nat_tied a.width b.width width) ∙ then_equal strands))
+
+sorted-map : {K X : Type 0} (cmp : K → K → Ordering) (key : X → K) (e : X) (xs : List X) → IsSortedBy (λ x y. is_lt (cmp (key x) (key y))) xs → IsSorted cmp (map key xs)
+sorted-map cmp key e xs up = λ k d from to.
+    let within : k + 1 < length xs = omega (arith, length-map xs key) in
+    rw (get_or-map key xs (k + 1) e d within, get_or-map key xs k e d (omega arith)) (up k e from within)
+
+-- places that a sort by their records has moved
+pub sorted-rows : (w : ℕ) (text : List ℕ) (old new : List Place) → IsPermutation old new
+    → IsSortedBy (λ x y. is_lt (row_cmp (row_at w text x) (row_at w text y))) new → rows_at w text new ≡ ordered (rows_at w text old)
+sorted-rows w text old new moved up =
+    ordered-sorted (rows_at w text old) (rows_at w text new) (IsPermutation-map (row_at w text) old new moved)
+    (sorted-map row_cmp (row_at w text) (record { seq = 0; start = 0; stop = 0; line = 0 }) new up)
+
+-- what a sort by records says of its closure, where each call compares the records of two places
+pub sorted-by-rows : {F : Type 0} {g : Mut F (Bor Place × (Bor Place × Unit {0})) Ordering} {f : F} (w : ℕ) (text : List ℕ) (ps : List Place)
+    → ((lt : Place → Place → Bool) → IsStrictWeakOrder lt → ComparesAs g lt f → IsSortedBy lt ps)
+    → ((a : Bor Place × (Bor Place × Unit {0})) (r : Ordering) (f' : F) → Called g f a r f' → (r ≡ row_cmp (row_at w text a.0.now) (row_at w text a.1.0.now)) × (f' ≡ f))
+    → IsSortedBy (λ x y. is_lt (row_cmp (row_at w text x) (row_at w text y))) ps
+sorted-by-rows {g = g} {f = f} w text ps up h =
+    up (λ x y. is_lt (row_cmp (row_at w text x) (row_at w text y))) (ranks_by rows_total (row_at w text))
+    (always_returns_same g (λ a r. is_lt r ≡ is_lt (row_cmp (row_at w text a.0.now) (row_at w text a.1.0.now))) f (λ a r f' k. (ap is_lt (h a r f' k).0, (h a r f' k).1)))
+
+-- what `is_sorted_by` says of its closure, where each call tells that the second place doesn't belong in front of the first
+pub in-order : {F : Type 0} {g : Mut F (Bor Place × (Bor Place × Unit {0})) Bool} {f : F} (lt : Place → Place → Bool) (ps : List Place) (r : Bool)
+    → ((e : Place → Place → Bool) → ComputesOnPairs g e f → IsAllAdjacentAnswer (λ x y b. b ≡ e x y) ps r)
+    → ((a : Bor Place × (Bor Place × Unit {0})) (s : Bool) (f' : F) → Called g f a s f' → (s ≡ not (lt a.1.0.now a.0.now)) × (f' ≡ f))
+    → IsTrue r ↔ IsSortedBy lt ps
+in-order {g = g} {f = f} lt ps r cases h = by r (cases (λ x y. not (lt y x)) (always_returns_same g (λ a s. s ≡ not (lt a.1.0.now a.0.now)) f h))
+  where
+    turned : (t s : Bool) → s ≡ not t → t ≡ not s
+    turned true s e = ap not (sym e)
+    turned false s e = ap not (sym e)
+
+    by : (t : Bool) → IsAllAdjacentAnswer (λ x y b. b ≡ not (lt y x)) ps t → IsTrue t ↔ IsSortedBy lt ps
+    by true all = (λ _ k d from to. turned (lt _ _) true (all k d to), λ _. refl)
+    by false some = (
+      λ is. absurd (false≢true is),
+      λ up.
+          let d : Place = record { seq = 0; start = 0; stop = 0; line = 0 } in
+          absurd (false≢true (some.2 d ∙ ap not (up some.0 d (omega arith) some.1))),
+    )

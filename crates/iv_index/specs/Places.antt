@@ -1,0 +1,54 @@
+-- Records as places in the text of their file.
+use Rattle.std.specs.Prelude.{◌<◌, ℕ, nat_le, cond, List, [], None, drop, map}
+use Rattle.std.specs.List.{slice_index_or}
+use Rattle.iv_text.specs.Fields.{columns}
+use Rattle.iv_text.specs.Lines.{lines}
+use Rattle.iv_text.specs.Row.{Row, strand_of}
+use Rattle.iv_text.specs.Read.{column}
+use Rattle.iv_index.specs.declared.place.Place.{Place}
+
+-- the line that begins at this byte of a text, empty past the end
+unfoldable pub line_at : List ℕ → ℕ → List ℕ
+line_at text from = slice_index_or (lines (drop from text)) 0 []
+
+-- the record of a place and its line: name, score and strand are columns of the line, as far as the width goes
+abbrev pub row_of : ℕ → List ℕ → Place → Row
+row_of width line p = record {
+  seq = p.seq;
+  start = p.start;
+  stop = p.stop;
+  name = cond (nat_le 4 width) (column (columns line) 3) [];
+  score = cond (nat_le 5 width) (column (columns line) 4) [];
+  strand = cond (nat_le 6 width) (strand_of (column (columns line) 5)) None;
+  width = width;
+}
+
+-- the record of a place in a text
+abbrev pub row_at : ℕ → List ℕ → Place → Row
+row_at width text p = row_of width (line_at text p.line) p
+
+-- the records of places in a text
+abbrev pub rows_at : ℕ → List ℕ → List Place → List Row
+rows_at width text places = map (row_at width text) places
+
+-- the record in three columns: its place, and nothing beside
+abbrev pub bare : Row → Row
+bare r = record { seq = r.seq; start = r.start; stop = r.stop; name = []; score = []; strand = None; width = 3 }
+
+-- the place has a base
+abbrev pub HasBase : Place → Type 0
+HasBase p = p.start < p.stop
+
+-- where something is: the rank of the sequence, from where to where
+pub record Spot : Type 0 where
+  pub seq : ℕ
+  pub start : ℕ
+  pub stop : ℕ
+
+-- where a place is
+abbrev pub spot_of_place : Place → Spot
+spot_of_place p = record { seq = p.seq; start = p.start; stop = p.stop }
+
+-- where a record is
+abbrev pub spot_of_row : Row → Spot
+spot_of_row r = record { seq = r.seq; start = r.start; stop = r.stop }

@@ -1,0 +1,152 @@
+//! The records of a BED file as places in its text.
+ghost use Rattle.std.specs.Prelude.{◌≡◌, ◌<◌, ◌≤◌, ◌^◌, ◌⊎◌, ℕ, All, length, map, Ok, Err, IfOk, IfErr, OnOk};
+ghost use Rattle.iv_text.specs.BedFile.{bed_of};
+ghost use Rattle.iv_text.specs.Ordered.{AreInOrder, ordered};
+ghost use Rattle.iv_text.specs.Read.{Fits};
+ghost use Rattle.iv_text.specs.declared.fault.LoadCause.TheVariants as cause;
+ghost use Rattle.iv_index.specs.Cover.{AreApart, is_covered};
+ghost use Rattle.iv_index.specs.Places.{bare};
+
+use crate::join::join_places;
+use crate::order::{are_in_order, compare, order_nearly};
+use crate::place::Place;
+use crate::text_draft::TextDraft;
+use crate::text_records::TextRecords;
+use iv_text::{Genome, LoadFault};
+use std::alloc::{AllocError, Allocator, Global};
+use std::marker::Model;
+
+/// The records of a BED file, in the order of the file or of a track, all of one width.
+///
+/// A record takes 16 bytes. Its columns after the third stay in the text, and are cut from it where they
+/// are asked for.
+#[derive(Drop)]
+pub struct BedText<'t, A: Allocator = Global> {
+    text: &'t [u8],
+    places: Vec<Place, A>,
+    width: u8,
+}
+
+impl<'t, A: Allocator> Model for BedText<'t, A> {
+    ghost use Rattle.iv_text.specs.BedFile.{Bed};
+    ghost use Rattle.iv_index.specs.Drafts.{ArePlaces};
+    ghost use Rattle.iv_index.specs.Places.{rows_at};
+
+    ghost Value = { Bed };
+
+    ghost view = { λ b. record { width = b.width; rows = rows_at b.width b.text.now b.places.items } };
+
+    ghost invariant = { λ b. ArePlaces b.width b.places.items };
+}
+
+impl<'t, A: Allocator + Copy> BedText<'t, A> {
+    /// The records that a BED file says, or the file's first fault, as [`BedFile::parse`](iv_text::BedFile::parse)
+    /// answers them.
+    ///
+    /// The first record's number of columns is the width, and all others have it too. Empty lines and
+    /// headers (`#`, `track`, `browser`) are skipped. A file without a record has the width that is
+    /// handed in. A record over the limit is the fault `TooMany`. The text is below 4 GiB.
+    pub fn parse(
+        alloc: A,
+        genome: &Genome<A>,
+        empty_width: u8,
+        limit: u32,
+        text: &'t [u8],
+    ) -> Result<BedText<'t, A>, LoadFault>
+        requires width { (3 ≤ empty_width) × (empty_width ≤ 6) }
+        requires small { length text.now < 2 ^ 32 }
+        ensures ok { IfOk result (λ b. bed_of genome.now empty_width limit text.now ≡ Ok b) }
+        ensures fit { IfOk result (λ b. All (Fits genome.now b.width) b.rows) }
+        ensures few { IfOk result (λ b. length b.rows ≤ limit) }
+        ensures err { IfErr result (λ f. (f ≡ record { line = 0; cause = cause.Memory }) ⊎ (bed_of genome.now empty_width limit text.now ≡ Err f)) }
+    {
+        let mut draft = TextDraft {
+            text,
+            at: 0,
+            width: None,
+            places: Vec::new(alloc),
+        };
+        draft.take_lines(genome, limit)?;
+        let TextDraft {
+            text,
+            at: _,
+            width,
+            places,
+        } = draft;
+        Ok(BedText {
+            text,
+            places,
+            width: width.unwrap_or(empty_width),
+        })
+    }
+
+    /// The number of columns of each record, 3 to 6.
+    pub fn width(&self) -> u8
+        ensures value { result ≡ self.now.width }
+        ensures known { (3 ≤ result) × (result ≤ 6) }
+    {
+        self.width
+    }
+
+    /// The records, in their order.
+    pub fn records(&self) -> TextRecords<'_>
+        ensures { result ≡ self.now.rows }
+    {
+        TextRecords::of_places(self.text, self.places.as_slice(), self.width)
+    }
+
+    /// Lets go of the columns after the third: of each record only its place is kept.
+    ///
+    /// The text isn't looked at, here or by a sort after this call.
+    pub fn drop_columns(&mut self)
+        ensures { self.new ≡ record self.old { width = 3; rows = map bare self.old.rows } }
+    {
+        self.width = 3;
+    }
+
+    /// Sorts the records in the order of a track, in one pass where they are sorted, or at most three where they are but for a
+    /// few records of one start. Lines are looked at only for records of one place, and none at width 3.
+    ///
+    /// Memory is taken only where many records of one place are out of order: 24 bytes for each record, while it sorts.
+    ///
+    /// # Errors
+    ///
+    /// Memory was refused.
+    pub fn sort(&mut self, alloc: A) -> Result<(), AllocError>
+        ensures { OnOk result (self.new ≡ record self.old { rows = ordered self.old.rows }) }
+    {
+        let text = self.text;
+        let width = self.width;
+        if are_in_order(text, width, &self.places) {
+            return Ok(());
+        }
+        order_nearly(alloc, text, width, &mut self.places)?;
+        self.places
+            .sort_unstable_by(|first, second| compare(text, width, first, second));
+        Ok(())
+    }
+
+    /// Joins records that overlap or are book-ended into one, and drops the columns after the third. What is left covers
+    /// the same positions, each once. It is one pass, and takes no memory.
+    ///
+    /// The records are sorted, and what is left is sorted too.
+    pub fn join(&mut self)
+        requires { AreInOrder self.old.rows }
+        ensures width { self.new.width ≡ 3 }
+        ensures bare { All (λ r. r ≡ bare r) self.new.rows }
+        ensures order { AreInOrder self.new.rows }
+        ensures covered { (seq p : ℕ) → is_covered self.new.rows seq p ≡ is_covered self.old.rows seq p }
+        ensures apart { AreApart self.new.rows }
+    {
+        join_places(&mut self.places);
+        self.drop_columns();
+    }
+
+    /// A law for callers' proofs: each record has a base. The call does nothing.
+    pub fn law_of_bases(&self)
+        ensures { All (λ r. r.start < r.stop) self.now.rows }
+    {
+        // What is read has its invariant.
+        let _width = self.width;
+    }
+}

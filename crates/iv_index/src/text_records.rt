@@ -1,0 +1,147 @@
+//! Records of a text in a row.
+ghost use Rattle.std.specs.Prelude.{◌≡◌, ◌≤◌, ◌==◌, [], ◌∷◌, All, MatchOption, length, map, slice_get, take, drop};
+ghost use Rattle.std.specs.Iterator.{YieldsFirst, item_count};
+ghost use Rattle.iv_index.specs.Places.{HasBase, rows_at, spot_of_place, spot_of_row};
+
+use crate::place::Place;
+use crate::text_record::TextRecord;
+use std::marker::Model;
+
+/// Records of a text in a row, all of one width: lent, as a slice is. No call takes memory.
+#[derive(Debug, Drop)]
+pub struct TextRecords<'t> {
+    text: &'t [u8],
+    places: &'t [Place],
+    width: u8,
+}
+
+impl<'t> Model for TextRecords<'t> {
+    ghost use Rattle.std.specs.Prelude.{All, List};
+    ghost use Rattle.iv_text.specs.Row.{Row};
+    ghost use Rattle.iv_index.specs.Places.{HasBase, rows_at};
+
+    ghost Value = { List Row };
+
+    ghost view = { λ r. rows_at r.width r.text.now r.places.now };
+
+    ghost invariant = { λ r. All HasBase r.places.now };
+}
+
+impl<'t> TextRecords<'t> {
+    /// The records of places of a text.
+    pub(crate) fn of_places(text: &'t [u8], places: &'t [Place], width: u8) -> TextRecords<'t>
+        requires { All HasBase places.now }
+        ensures { result ≡ rows_at width text.now places.now }
+    {
+        TextRecords {
+            text,
+            places,
+            width,
+        }
+    }
+
+    /// The same records once more.
+    pub fn again(&self) -> TextRecords<'t>
+        ensures { result ≡ self.now }
+    {
+        TextRecords {
+            text: self.text,
+            places: self.places,
+            width: self.width,
+        }
+    }
+
+    /// How many records there are.
+    pub fn len(&self) -> usize
+        ensures { result ≡ length self.now }
+    {
+        self.places.len()
+    }
+
+    /// Whether there is none.
+    pub fn is_empty(&self) -> bool
+        ensures { result ≡ (length self.now == 0) }
+    {
+        self.places.is_empty()
+    }
+
+    /// The record at an index from 0, `None` past the last.
+    pub fn get(&self, index: usize) -> Option<TextRecord<'t>>
+        ensures { result ≡ slice_get self.now index }
+    {
+        let place = *self.places.get(index)?;
+        Some(TextRecord::of_place(self.text, place, self.width))
+    }
+
+    /// The first record, if there is one.
+    pub fn first(&self) -> Option<TextRecord<'t>>
+        ensures { result ≡ slice_get self.now 0 }
+    {
+        self.get(0)
+    }
+
+    /// The first record and those after it, `None` where there is no record.
+    pub fn split_first(&self) -> Option<(TextRecord<'t>, TextRecords<'t>)>
+        ensures { MatchOption result (self.now ≡ []) (λ p. self.now ≡ p.0 ∷ p.1) }
+    {
+        let (place, rest) = self.places.split_first()?;
+        Some((
+            TextRecord::of_place(self.text, *place, self.width),
+            TextRecords::of_places(self.text, rest, self.width),
+        ))
+    }
+
+    /// So many records from the front, and those after them.
+    pub fn split_at(&self, count: usize) -> (TextRecords<'t>, TextRecords<'t>)
+        requires { count ≤ length self.now }
+        ensures front { result.0 ≡ take count self.now }
+        ensures back { result.1 ≡ drop count self.now }
+    {
+        let mut back = self.again();
+        let front = back.take_front(count);
+        (front, back)
+    }
+
+    /// Lets go of the first record, if there is one.
+    pub fn drop_first(&mut self)
+        ensures { self.new ≡ drop 1 self.old }
+    {
+        if let Some((_, rest)) = self.places.split_first() {
+            self.places = rest;
+        }
+    }
+
+    /// Takes so many records from the front.
+    pub fn take_front(&mut self, count: usize) -> TextRecords<'t>
+        requires { count ≤ length self.old }
+        ensures front { result ≡ take count self.old }
+        ensures back { self.new ≡ drop count self.old }
+    {
+        let (front, back) = self.places.split_at(count);
+        self.places = back;
+        TextRecords::of_places(self.text, front, self.width)
+    }
+
+    /// The places of the records, in their order.
+    pub fn places(&self) -> &'t [Place]
+        ensures spots { map spot_of_place result.now ≡ map spot_of_row self.now }
+        ensures some { All HasBase result.now }
+    {
+        self.places
+    }
+}
+
+impl<'t> Iterator for TextRecords<'t> {
+    type Item = TextRecord<'t>;
+
+    ghost next_gives = { YieldsFirst (λ rows. rows) };
+
+    ghost remaining = { item_count (λ rows. rows) };
+
+    /// The first record that is left.
+    fn next(&mut self) -> Option<TextRecord<'t>> {
+        let (place, behind) = self.places.split_first()?;
+        self.places = behind;
+        Some(TextRecord::of_place(self.text, *place, self.width))
+    }
+}

@@ -1,0 +1,13 @@
+use Rattle.std.proofs.Common.{◌≤◌, ◌++◌, length}
+use Rattle.iv_text.specs.Ordered.{AreInOrder}
+use Rattle.iv_pair.specs.HitFinder.{AllCover, HitAlike}
+use Rattle.iv_pair.proofs.hit_finder.take_begun.Given as goal
+
+-- what is carried and what is ahead have the hits from this place on as before
+abbrev pub invariant-loop : goal.invariant-loop
+invariant-loop g l = record {
+  ordered : AreInOrder l.rows;
+  few : length l.rows ≤ length l.fn.rows;
+  cover : AllCover l.seq l.start l.carried;
+  alike : HitAlike l.seq l.start (l.carried ++ l.rows) (l.fn.carried ++ l.fn.rows);
+}

@@ -1,9 +1,0 @@
-use Rattle.std.proofs.Common.{◌≡◌, length, map, take}
-use Rattle.iv_places.specs.Drafts.{place_of}
-use Rattle.iv_places.proofs.heads.put_places.Given as goal
-
-abbrev pub invariant-loop-index : goal.invariant-loop-index
-invariant-loop-index g l = record {
-  len : length l.places.items ≡ length l.fn.headed;
-  put : take l.index l.places.items ≡ take l.index (map place_of l.fn.headed);
-}

@@ -1,6 +1,0 @@
-use Rattle.std.proofs.Common.{◌≡◌, map, take}
-use Rattle.iv_places.specs.Drafts.{place_of}
-use Rattle.iv_places.proofs.heads.with_heads.Given as goal
-
-abbrev pub invariant-loop-place : goal.invariant-loop-place
-invariant-loop-place g l = map place_of l.headed.items ≡ take l.place-index l.places

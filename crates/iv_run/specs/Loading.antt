@@ -1,0 +1,107 @@
+-- The session that the files of a run begin.
+use Rattle.std.specs.Prelude.{ℕ, ◌≤◌, List, Option, IfSome, All, length, Result, Ok, Err}
+use Rattle.std.specs.Option.{option_map, option_transpose}
+use Rattle.iv_text.specs.Read.{Fits}
+use Rattle.iv_text.specs.Genome.{Sequences}
+use Rattle.iv_text.specs.GenomeFile.{genome_of}
+use Rattle.iv_text.specs.BedFile.{Bed, bed_of}
+use Rattle.iv_text.specs.declared.fault.LoadFault.{LoadFault}
+use Rattle.iv_text.specs.declared.fault.LoadCause.{LoadCause}
+use Rattle.iv_text.specs.declared.fault.LoadCause.TheVariants as cause
+use Rattle.iv_track.specs.Tracked.{most_records}
+use Rattle.iv_fasta.specs.Fasta as fasta
+use Rattle.iv_view.specs.Views.{view_code}
+use Rattle.iv_view.specs.declared.fault.ViewFault.{ViewFault}
+use Rattle.iv_view.specs.declared.fault.ViewFault.TheVariants as viewing
+use Rattle.iv_workspace.specs.States.{State, begun}
+use Rattle.iv_workspace.specs.declared.fault.PrintFault.{PrintFault}
+use Rattle.iv_workspace.specs.declared.fault.PrintFault.TheVariants as printing
+use Rattle.iv_sweep.specs.declared.fault.SweepFault.{SweepFault}
+use Rattle.iv_sweep.specs.declared.fault.SweepFault.TheVariants as sweeping
+use Rattle.iv_run.specs.declared.fault.CliFault.{CliFault}
+use Rattle.iv_run.specs.declared.fault.CliFault.TheVariants.{Words, Damaged, Output, Memory}
+use Rattle.iv_args.specs.declared.plan.Slot.{Slot}
+use Rattle.iv_args.specs.declared.plan.Slot.TheVariants.{Sizes, First, Other, Bases}
+
+-- how a fault of a file is reported: out of memory is no damage
+abbrev pub fault_of : LoadCause → CliFault → CliFault
+fault_of cause.Memory damaged = Memory
+fault_of other damaged = damaged
+
+abbrev pub damage_of : Slot → LoadFault → CliFault
+damage_of slot f = fault_of f.cause (Damaged slot f)
+
+-- how a fault of a view's words is reported: by its number, but out of memory as that
+abbrev pub fault_of_view : ViewFault → CliFault
+fault_of_view viewing.NoMemory = Memory
+fault_of_view why = Words (view_code why)
+
+-- how a fault of a print is reported
+abbrev pub fault_of_print : PrintFault → CliFault
+fault_of_print printing.NoMemory = Memory
+fault_of_print printing.Write = Output
+fault_of_print printing.NoView = Words 21
+
+-- how a fault of a print in one sweep is reported
+abbrev pub fault_of_sweep : SweepFault → CliFault
+fault_of_sweep sweeping.NoMemory = Memory
+fault_of_sweep sweeping.Write = Output
+
+-- what the files of a run say, and how many records each track of them may hold
+pub record Parsed : Type 0 where
+  pub genome : Sequences
+  pub first : Bed
+  pub second : Option Bed
+  pub bases : Option fasta.Bases
+  pub limit : ℕ
+
+-- the records of each BED file fit the genome at the file's width and are not more than the limit, and that is one of a track
+pub record FitTogether (genome : Sequences) (first : Bed) (second : Option Bed) (limit : ℕ) : Type 0 where
+  pub fit : All (Fits genome first.width) first.rows
+  pub few : length first.rows ≤ limit
+  pub second_fit : IfSome second (λ file. All (Fits genome file.width) file.rows)
+  pub second_few : IfSome second (λ file. length file.rows ≤ limit)
+  pub bounded : limit ≤ most_records
+
+-- what a BED file says that may be left out
+abbrev pub second_of : Sequences → ℕ → ℕ → Option (List ℕ) → Result (Option Bed) LoadFault
+second_of g width limit text = option_transpose (option_map (bed_of g width limit) text)
+
+-- what a FASTA file says that may be left out
+abbrev pub bases_said : Sequences → Option (List ℕ) → Result (Option fasta.Bases) LoadFault
+bases_said g text = option_transpose (option_map (fasta.fasta_of g) text)
+
+-- the files once the FASTA file is read, or the fault of that
+abbrev pub with_bases : Sequences → Bed → Option Bed → ℕ → Result (Option fasta.Bases) LoadFault → Result Parsed CliFault
+with_bases g first second limit (Err f) = Err (Damaged Bases f)
+with_bases g first second limit (Ok bases) = Ok (record { genome = g; first = first; second = second; bases = bases; limit = limit })
+
+-- the files once the second BED file is read, or the fault of the first damaged one from there on
+abbrev pub with_second : Sequences → Bed → Option (List ℕ) → ℕ → Result (Option Bed) LoadFault → Result Parsed CliFault
+with_second g first bases limit (Err f) = Err (Damaged Other f)
+with_second g first bases limit (Ok second) = with_bases g first second limit (bases_said g bases)
+
+-- the files once the first BED file is read, or the fault of the first damaged one from there on
+abbrev pub with_first : Sequences → ℕ → Option (List ℕ) → Option (List ℕ) → ℕ → Result Bed LoadFault → Result Parsed CliFault
+with_first g width other bases limit (Err f) = Err (Damaged First f)
+with_first g width other bases limit (Ok first) = with_second g first bases limit (second_of g width limit other)
+
+-- the files once the genome file is read, or the fault of the first damaged one
+abbrev pub with_genome : ℕ → List ℕ → Option (List ℕ) → Option (List ℕ) → ℕ → Result Sequences LoadFault → Result Parsed CliFault
+with_genome width first other bases limit (Err f) = Err (Damaged Sizes f)
+with_genome width first other bases limit (Ok g) = with_first g width other bases limit (bed_of g width limit first)
+
+-- what the bytes of the genome file, of the first BED file, and of the second and the FASTA file, where there are any, say: a
+-- BED file without a record has this width, and a track holds at most as many records as the limit; or the fault of the first
+-- damaged file
+abbrev pub parsed : ℕ → List ℕ → List ℕ → Option (List ℕ) → Option (List ℕ) → ℕ → Result Parsed CliFault
+parsed width sizes first other bases limit = with_genome width first other bases limit (genome_of sizes)
+
+-- the session that files begin, unless they are damaged
+abbrev pub session_of : Result Parsed CliFault → Result State CliFault
+session_of (Err f) = Err f
+session_of (Ok files) = Ok (begun files.genome files.first files.second files.bases files.limit)
+
+-- the session that the bytes of the files begin, or the fault of the first damaged file
+abbrev pub loaded : ℕ → List ℕ → List ℕ → Option (List ℕ) → Option (List ℕ) → ℕ → Result State CliFault
+loaded width sizes first other bases limit = session_of (parsed width sizes first other bases limit)

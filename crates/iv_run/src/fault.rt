@@ -1,0 +1,142 @@
+//! Faults of a run.
+use iv_args::Slot;
+use iv_bytes::{ReadFault, WriteFault};
+use iv_sweep::SweepFault;
+use iv_text::{LoadCause, LoadFault};
+use iv_view::ViewFault;
+use iv_workspace::PrintFault;
+use std::alloc::AllocError;
+use thiserror::Error;
+
+/// Why a file is not read.
+#[derive(Clone, Copy, Debug, PartialEq, Eq, Error)]
+pub enum FileFault {
+    /// The source failed before its end.
+    #[error("cannot be read")]
+    Input,
+    /// It has more bytes than the limit.
+    #[error("too long")]
+    TooLong,
+    /// Memory was refused.
+    #[error("no memory")]
+    Memory,
+}
+
+impl From<AllocError> for FileFault {
+    ghost use Rattle.std.specs.Prelude.{◌≡◌};
+    ghost use Rattle.iv_run.specs.declared.fault.FileFault.TheVariants.{Memory};
+
+    ghost from_gives = { λ _ fault. fault ≡ Memory };
+
+    fn from(_: AllocError) -> FileFault {
+        FileFault::Memory
+    }
+}
+
+impl From<ReadFault> for FileFault {
+    ghost use Rattle.std.specs.Prelude.{◌≡◌};
+    ghost use Rattle.iv_run.specs.declared.fault.FileFault.TheVariants.{Input};
+
+    ghost from_gives = { λ _ fault. fault ≡ Input };
+
+    fn from(_: ReadFault) -> FileFault {
+        FileFault::Input
+    }
+}
+
+/// Why a run does not come to its end.
+#[derive(Clone, Copy, Debug, PartialEq, Eq, Error)]
+pub enum CliFault {
+    /// The words on the command line are wrong; the number of the fault in the table of faults.
+    #[error("E{0}")]
+    Words(u8),
+    /// A file is damaged: which one, and its first fault.
+    #[error("{1}")]
+    Damaged(Slot, LoadFault),
+    /// The output failed.
+    #[error("output cannot be written")]
+    Output,
+    /// Memory was refused.
+    #[error("no memory")]
+    Memory,
+}
+
+impl From<AllocError> for CliFault {
+    ghost use Rattle.std.specs.Prelude.{◌≡◌};
+    ghost use Rattle.iv_run.specs.declared.fault.CliFault.TheVariants.{Memory};
+
+    ghost from_gives = { λ _ fault. fault ≡ Memory };
+
+    fn from(_: AllocError) -> CliFault {
+        CliFault::Memory
+    }
+}
+
+impl From<(Slot, LoadFault)> for CliFault {
+    ghost use Rattle.std.specs.Prelude.{◌≡◌};
+    ghost use Rattle.iv_run.specs.Loading.{damage_of};
+
+    ghost from_gives = { λ told fault. fault ≡ damage_of told.0 told.1 };
+
+    fn from((slot, fault): (Slot, LoadFault)) -> CliFault {
+        match fault.cause {
+            LoadCause::Memory => CliFault::Memory,
+            _ => CliFault::Damaged(slot, fault),
+        }
+    }
+}
+
+/// Out of memory, or a fault of the view's words, by its number.
+impl From<ViewFault> for CliFault {
+    ghost use Rattle.std.specs.Prelude.{◌≡◌};
+    ghost use Rattle.iv_run.specs.Loading.{fault_of_view};
+
+    ghost from_gives = { λ told fault. fault ≡ fault_of_view told };
+
+    fn from(told: ViewFault) -> CliFault {
+        match told {
+            ViewFault::NoMemory => CliFault::Memory,
+            _ => CliFault::Words(told.code()),
+        }
+    }
+}
+
+impl From<PrintFault> for CliFault {
+    ghost use Rattle.std.specs.Prelude.{◌≡◌};
+    ghost use Rattle.iv_run.specs.Loading.{fault_of_print};
+
+    ghost from_gives = { λ told fault. fault ≡ fault_of_print told };
+
+    fn from(told: PrintFault) -> CliFault {
+        match told {
+            PrintFault::NoMemory => CliFault::Memory,
+            PrintFault::Write => CliFault::Output,
+            PrintFault::NoView => CliFault::Words(21),
+        }
+    }
+}
+
+impl From<SweepFault> for CliFault {
+    ghost use Rattle.std.specs.Prelude.{◌≡◌};
+    ghost use Rattle.iv_run.specs.Loading.{fault_of_sweep};
+
+    ghost from_gives = { λ told fault. fault ≡ fault_of_sweep told };
+
+    fn from(told: SweepFault) -> CliFault {
+        match told {
+            SweepFault::NoMemory => CliFault::Memory,
+            SweepFault::Write => CliFault::Output,
+        }
+    }
+}
+
+impl From<WriteFault> for CliFault {
+    ghost use Rattle.std.specs.Prelude.{◌≡◌};
+    ghost use Rattle.iv_run.specs.declared.fault.CliFault.TheVariants.{Output};
+
+    ghost from_gives = { λ _ fault. fault ≡ Output };
+
+    fn from(_: WriteFault) -> CliFault {
+        CliFault::Output
+    }
+}

@@ -1,0 +1,223 @@
+//! The genome file of a run and one BED file or two, with the records where they are in the texts.
+ghost use Rattle.std.specs.Prelude.{◌≡◌, ◌<◌, ◌≤◌, ◌^◌, ◌⊎◌, All, List, None, Ok, IsSome, IfSome, IfOk, IfErr, OnOk, length};
+ghost use Rattle.std.specs.Option.{is_some, option_copied};
+ghost use Rattle.iv_text.specs.Genome.{Sequences};
+ghost use Rattle.iv_text.specs.Ordered.{AreInOrder, ordered};
+ghost use Rattle.iv_text.specs.Read.{LiesOn};
+ghost use Rattle.iv_text.specs.Row.{Row};
+ghost use Rattle.iv_text.specs.declared.fault.LoadCause.TheVariants as cause;
+ghost use Rattle.iv_pair.specs.PairRows.{pair_text};
+ghost use Rattle.iv_sweep.specs.Prints.{Prints};
+ghost use Rattle.iv_sweep_pairs.specs.CoverAlone.{DependsOnCoverAlone, HaveBases};
+ghost use Rattle.iv_view.specs.Views.{kept_text};
+ghost use Rattle.iv_run.specs.Loading.{parsed, second_of};
+ghost use Rattle.iv_run.specs.Shots.{ordered_other, without_bases};
+
+use crate::fault::CliFault;
+use crate::inputs::Inputs;
+use iv_args::{Plan, Slot};
+use iv_bytes::Sink;
+use iv_index::BedText;
+use iv_pair::PairRows;
+use iv_sweep::{SweepFault, needs_places_alone, print_kept, print_pairs};
+use iv_sweep_pairs::needs_cover_alone;
+use iv_text::{Genome, LoadFault};
+use iv_view::KeptView;
+use std::alloc::{AllocError, Allocator, Global};
+use std::marker::Model;
+
+/// A genome, and the records of one file or two, as the files say them. Those of the first lie on the genome.
+#[derive(Drop)]
+pub(crate) struct TextFiles<'t, A: Allocator + Copy = Global> {
+    genome: Genome<A>,
+    first: BedText<'t, A>,
+    second: Option<BedText<'t, A>>,
+}
+
+impl<'t, A: Allocator + Copy> Model for TextFiles<'t, A> {
+    ghost use Rattle.std.specs.Prelude.{All};
+    ghost use Rattle.iv_text.specs.Read.{LiesOn};
+    ghost use Rattle.iv_run.specs.Shots.{FileTexts};
+
+    ghost Value = { FileTexts };
+
+    ghost view = { λ files. record { genome = files.genome; first = files.first; second = files.second } };
+
+    ghost invariant = { λ files. All (LiesOn files.genome) files.first.rows };
+}
+
+/// What the second BED file says, where there is one, or its first fault.
+fn parse_second_text<'t, A: Allocator + Copy>(
+    alloc: A,
+    genome: &Genome<A>,
+    width: u8,
+    limit: u32,
+    text: Option<&'t [u8]>,
+) -> Result<Option<BedText<'t, A>>, LoadFault>
+    requires width { (3 ≤ width) × (width ≤ 6) }
+    requires small { IfSome (option_copied text) (λ bytes. length bytes < 2 ^ 32) }
+    ensures ok { IfOk result (λ second. second_of genome.now width limit (option_copied text.entry) ≡ Ok second) }
+    ensures err { IfErr result (λ fault. (fault ≡ record { line = 0; cause = cause.Memory }) ⊎
+        (second_of genome.now width limit (option_copied text.entry) ≡ Err fault)) }
+{
+    match text {
+        None => Ok(None),
+        Some(text) => Ok(Some(BedText::parse(alloc, genome, width, limit, text)?)),
+    }
+}
+
+/// Sorts the records of a file in the order of a track, for one print of a view. Columns on which no row of the view depends
+/// are let go first, so that places alone are compared.
+fn sort_for<'t, A: Allocator + Copy>(
+    alloc: A,
+    view: &KeptView,
+    file: &mut BedText<'t, A>,
+) -> Result<(), AllocError>
+    ensures text { OnOk result ((genome : Sequences) → kept_text view.now genome file.new.rows ≡ kept_text view.now genome (ordered file.old.rows)) }
+    ensures order { OnOk result (AreInOrder file.new.rows) }
+    ensures lying { OnOk result ((genome : Sequences) → All (LiesOn genome) file.old.rows → All (LiesOn genome) file.new.rows) }
+{
+    if needs_places_alone(view) {
+        file.drop_columns();
+    }
+    file.sort(alloc)?;
+    Ok(())
+}
+
+/// Sorts the records of a second file in the order of a track, for one print of these rows. Where the rows depend only on the
+/// positions that it covers, its records are joined, so that few are gone over however many there are at one place.
+fn sort_beside<'t, A: Allocator + Copy>(
+    alloc: A,
+    rows: PairRows,
+    file: &mut BedText<'t, A>,
+) -> Result<(), AllocError>
+    ensures text { OnOk result ((genome : Sequences) (first : List Row) → HaveBases first → pair_text rows genome first file.new.rows ≡ pair_text rows genome first (ordered file.old.rows)) }
+    ensures order { OnOk result (AreInOrder file.new.rows) }
+{
+    file.sort(alloc)?;
+    if !needs_cover_alone(rows) {
+        return Ok(());
+    }
+    join_sorted(rows, file);
+    Ok(())
+}
+
+/// Joins the records of a sorted second file, for rows that depend only on the positions that it covers.
+fn join_sorted<'t, A: Allocator + Copy>(rows: PairRows, file: &mut BedText<'t, A>)
+    requires order { AreInOrder file.old.rows }
+    requires alone { DependsOnCoverAlone rows }
+    ensures text { (genome : Sequences) (first : List Row) → HaveBases first → pair_text rows genome first file.new.rows ≡ pair_text rows genome first file.old.rows }
+    ensures order { AreInOrder file.new.rows }
+{
+    file.law_of_bases();
+    file.join();
+    file.law_of_bases();
+}
+
+impl<'t, A: Allocator + Copy> TextFiles<'t, A> {
+    /// What the genome file and the BED files say, or the fault of the first damaged one.
+    pub(crate) fn read(
+        alloc: A,
+        plan: &Plan<'_, A>,
+        inputs: &Inputs<'t>,
+        limit: u32,
+    ) -> Result<TextFiles<'t, A>, CliFault>
+        requires first { length inputs.now.first.now < 2 ^ 32 }
+        requires other { IfSome (option_copied inputs.now.other) (λ text. length text < 2 ^ 32) }
+        ensures ok { IfOk result (λ files.
+            parsed plan.now.width inputs.now.sizes.now inputs.now.first.now (option_copied inputs.now.other) None limit ≡ Ok (without_bases limit files)) }
+        ensures err { IfErr result (λ fault. (fault ≡ CliFault.Memory) ⊎
+            (parsed plan.now.width inputs.now.sizes.now inputs.now.first.now (option_copied inputs.now.other) None limit ≡ Err fault)) }
+    {
+        let genome = match Genome::parse(alloc, inputs.sizes) {
+            Ok(genome) => genome,
+            Err(fault) => return Err(CliFault::from((Slot::Sizes, fault))),
+        };
+        let first = match BedText::parse(alloc, &genome, plan.width(), limit, inputs.first) {
+            Ok(first) => first,
+            Err(fault) => return Err(CliFault::from((Slot::First, fault))),
+        };
+        let second = match parse_second_text(alloc, &genome, plan.width(), limit, inputs.other) {
+            Ok(second) => second,
+            Err(fault) => return Err(CliFault::from((Slot::Other, fault))),
+        };
+        Ok(TextFiles {
+            genome,
+            first,
+            second,
+        })
+    }
+
+    /// The number of columns of each record of the first file, 3 to 6.
+    pub(crate) fn width(&self) -> u8
+        ensures { result ≡ self.now.first.width }
+    {
+        self.first.width()
+    }
+
+    /// Whether there is a second BED file.
+    pub(crate) fn has_second(&self) -> bool
+        ensures { result ≡ is_some self.now.second }
+    {
+        self.second.is_some()
+    }
+
+    /// Prints the text of a view of the first file, for its records in the order of a track.
+    ///
+    /// # Errors
+    ///
+    /// `NoMemory`, and then nothing was printed. `Write`, and then a prefix of the text was.
+    pub(crate) fn print_kept<S: Sink>(
+        self,
+        alloc: A,
+        view: KeptView,
+        sink: &mut S,
+    ) -> Result<(), SweepFault>
+        ensures { Prints (S.state sink.old) (S.state sink.new) result (kept_text view self.entry.genome (ordered self.entry.first.rows)) }
+    {
+        let TextFiles {
+            genome,
+            mut first,
+            second: _,
+        } = self;
+        sort_for(alloc, &view, &mut first)?;
+        print_kept(alloc, view, first.records(), &genome, sink)
+    }
+
+    /// Prints these rows of both files, for their records in the order of a track. There is a second file.
+    ///
+    /// # Errors
+    ///
+    /// `NoMemory`, and then nothing was printed. `Write`, and then a prefix of the text was.
+    pub(crate) fn print_pairs<S: Sink>(
+        self,
+        alloc: A,
+        rows: PairRows,
+        sink: &mut S,
+    ) -> Result<(), SweepFault>
+        requires { IsSome self.second }
+        ensures { Prints (S.state sink.old) (S.state sink.new) result (pair_text rows self.entry.genome (ordered self.entry.first.rows) (ordered_other self.entry.second)) }
+    {
+        let TextFiles {
+            genome,
+            mut first,
+            second,
+        } = self;
+        match second {
+            Some(mut second) => {
+                first.sort(alloc)?;
+                first.law_of_bases();
+                sort_beside(alloc, rows, &mut second)?;
+                print_pairs(
+                    alloc,
+                    rows,
+                    &first.records(),
+                    &second.records(),
+                    &genome,
+                    sink,
+                )
+            }
+            None => unreachable!(),
+        }
+    }
+}

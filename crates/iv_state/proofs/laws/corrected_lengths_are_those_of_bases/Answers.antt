@@ -1,5 +1,0 @@
-use Rattle.iv_state.proofs.ResizeLemmas.{lengths-resized}
-use Rattle.iv_state.proofs.laws.corrected_lengths_are_those_of_bases.Goals as goal
-
-pub returns : goal.returns
-returns c = lengths-resized

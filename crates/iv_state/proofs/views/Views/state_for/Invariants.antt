@@ -1,6 +1,0 @@
-use Rattle.std.proofs.Common.{drop}
-use Rattle.iv_state.specs.Keeping.{IsOwned, all_owned}
-use Rattle.iv_state.proofs.views.Views.state_for.Given as goal
-
-abbrev pub invariant-loop-place : goal.invariant-loop-place
-invariant-loop-place g l = IsOwned l.what (all_owned l.self) → IsOwned l.what (all_owned (drop l.place l.self))

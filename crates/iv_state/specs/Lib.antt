@@ -1,7 +1,0 @@
-pub mod OpenViews
-pub mod States
-pub mod Edits
-pub mod Views
-pub mod Resizes
-pub mod Prints
-pub mod Keeping

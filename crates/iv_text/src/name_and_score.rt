@@ -1,0 +1,89 @@
+//! The bytes of a record's name and score, in one allocation.
+ghost use Rattle.std.specs.Prelude.{◌≡◌, [], IfOk, IsOk};
+
+use crate::bounded_texts::BoundedTexts;
+use crate::long_texts::LongTexts;
+use std::alloc::{AllocError, Allocator, Global};
+use std::marker::Model;
+
+/// A name and a score. It has 16 bytes, so that a record has 32. No bytes take no memory.
+#[derive(Drop)]
+pub(crate) struct NameAndScore<A: Allocator = Global> {
+    place: Storage<A>,
+}
+
+/// Where the bytes lie, by how many there are.
+///
+/// The usual texts take one allocation, of 24 or 40 bytes with their two lengths. Those are the two smallest blocks
+/// that the C library's `malloc` gives: it keeps 8 bytes before each, and both together are a multiple of 16.
+#[derive(Drop)]
+enum Storage<A: Allocator> {
+    Empty,
+    Short(Box<BoundedTexts<SHORT>, A>),
+    Medium(Box<BoundedTexts<MEDIUM>, A>),
+    Long(Box<LongTexts<A>, A>),
+}
+
+/// The most bytes of texts in a block of 24 bytes.
+const SHORT: usize = 22;
+
+/// The most bytes of texts in a block of 40 bytes.
+const MEDIUM: usize = 38;
+
+impl<A: Allocator> Model for NameAndScore<A> {
+    ghost use Rattle.std.specs.Prelude.{List, ℕ};
+    ghost use Rattle.iv_text.specs.NameAndScore.{texts_at};
+
+    ghost Value = { List ℕ × List ℕ };
+
+    ghost view = { λ t. texts_at t.place };
+}
+
+impl<A: Allocator> NameAndScore<A> {
+    pub(crate) fn empty(_alloc: A) -> Self
+        ensures { result ≡ ([], []) }
+    {
+        NameAndScore {
+            place: Storage::Empty,
+        }
+    }
+
+    pub(crate) fn name(&self) -> &[u8]
+        ensures { result.now ≡ self.now.0 }
+    {
+        match &self.place {
+            Storage::Empty => &[],
+            Storage::Short(texts) => texts.name(),
+            Storage::Medium(texts) => texts.name(),
+            Storage::Long(texts) => texts.name(),
+        }
+    }
+
+    pub(crate) fn score(&self) -> &[u8]
+        ensures { result.now ≡ self.now.1 }
+    {
+        match &self.place {
+            Storage::Empty => &[],
+            Storage::Short(texts) => texts.score(),
+            Storage::Medium(texts) => texts.score(),
+            Storage::Long(texts) => texts.score(),
+        }
+    }
+}
+
+// Long texts take two allocations, so the allocator is used twice.
+impl<A: Allocator + Copy> NameAndScore<A> {
+    /// The two copied, in one allocation where they have at most 38 bytes together.
+    pub(crate) fn copy_of(alloc: A, name: &[u8], score: &[u8]) -> Result<Self, AllocError>
+        ensures ok { IfOk result (λ t. t ≡ (name.now, score.now)) }
+        ensures free { name.now ≡ [] → score.now ≡ [] → IsOk result }
+    {
+        let place = match name.len() + score.len() {
+            0 => Storage::Empty,
+            ..=SHORT => Storage::Short(Box::new(alloc, BoundedTexts::copy_of(name, score))?),
+            ..=MEDIUM => Storage::Medium(Box::new(alloc, BoundedTexts::copy_of(name, score))?),
+            _ => Storage::Long(Box::new(alloc, LongTexts::copy_of(alloc, name, score)?)?),
+        };
+        Ok(NameAndScore { place })
+    }
+}

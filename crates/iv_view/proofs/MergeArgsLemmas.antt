@@ -1,0 +1,62 @@
+-- Options that are read one after another.
+use Rattle.std.proofs.Common.{◌≡◌, ℕ, ◌-◌, ◌≤◌, true, false, List, [], ◌∷◌, Option, None, Some, map, length, take, drop, get_or, sym, ap, ◌∙◌, arith}
+use Rattle.std.specs.Prelude.{codes, option_and_then}
+use Rattle.std.specs.Str.{bytes_eq}
+use Rattle.std.specs.Borrow.{Bor}
+use Rattle.std.proofs.lemmas.Bool.{cond-true, cond-false}
+use Rattle.std.proofs.lemmas.List.{take_all}
+use Rattle.iv_view.specs.Merge.{MergeArgs, said_by, with_flag, with_value}
+
+-- a list of at least one begins with it
+pub one-up : {A : Type 0} (f : A → List ℕ) (xs : List A) (d : A) → 1 ≤ length xs → map f xs ≡ f (get_or xs 0 d) ∷ map f (take (length xs - 1) (drop 1 xs))
+one-up f [] d h = absurd (omega (arith, h))
+one-up f (x ∷ xs) d h =
+    let n : length (x ∷ xs) - 1 ≡ length xs = omega arith in
+    rw n (ap (λ l. f x ∷ map f l) (sym (take_all (length xs) xs (omega arith))))
+
+-- a flag
+pub said-flag : (word : List ℕ) (words : List (List ℕ)) (said : MergeArgs) → bytes_eq word (codes "-s") ≡ true → said.stranded ≡ false
+    → said_by (word ∷ words) said ≡ said_by words (record said { stranded = true })
+said-flag word [] said is free =
+    cond-true (bytes_eq word (codes "-s")) (with_flag said) None is ∙ cond-false said.stranded None (Some (record said { stranded = true })) free
+said-flag word (next ∷ words) said is free =
+    cond-true (bytes_eq word (codes "-s")) (option_and_then (said_by (next ∷ words)) (with_flag said)) (option_and_then (said_by words) (with_value word next said)) is
+    ∙ ap (option_and_then (said_by (next ∷ words))) (cond-false said.stranded None (Some (record said { stranded = true })) free)
+
+-- a flag that was there before
+pub said-twice : (word : List ℕ) (words : List (List ℕ)) (said : MergeArgs) → bytes_eq word (codes "-s") ≡ true → said.stranded ≡ true → said_by (word ∷ words) said ≡ None
+said-twice word [] said is there =
+    cond-true (bytes_eq word (codes "-s")) (with_flag said) None is ∙ cond-true said.stranded None (Some (record said { stranded = true })) there
+said-twice word (next ∷ words) said is there =
+    cond-true (bytes_eq word (codes "-s")) (option_and_then (said_by (next ∷ words)) (with_flag said)) (option_and_then (said_by words) (with_value word next said)) is
+    ∙ ap (option_and_then (said_by (next ∷ words))) (cond-true said.stranded None (Some (record said { stranded = true })) there)
+
+-- an option and its value
+pub said-value : (word value : List ℕ) (words : List (List ℕ)) (said : MergeArgs) → bytes_eq word (codes "-s") ≡ false
+    → said_by (word ∷ value ∷ words) said ≡ option_and_then (said_by words) (with_value word value said)
+said-value word value words said other =
+    cond-false (bytes_eq word (codes "-s")) (option_and_then (said_by (value ∷ words)) (with_flag said)) (option_and_then (said_by words) (with_value word value said)) other
+
+-- the words of a slice that are left after its first
+abbrev pub behind : List (Bor (List ℕ)) → List (Bor (List ℕ))
+behind ws = take (length ws - 1) (drop 1 ws)
+
+abbrev pub texts : List (Bor (List ℕ)) → List (List ℕ)
+texts ws = map (λ word. word.now) ws
+
+pub going-flag : (ws : List (Bor (List ℕ))) (d : Bor (List ℕ)) (said : MergeArgs) (all : Option MergeArgs) → 1 ≤ length ws → bytes_eq (get_or ws 0 d).now (codes "-s") ≡ true → said.stranded ≡ false
+    → said_by (texts ws) said ≡ all → said_by (texts (behind ws)) (record said { stranded = true }) ≡ all
+going-flag ws d said all some is free known =
+    sym (said-flag (get_or ws 0 d).now (texts (behind ws)) said is free)
+    ∙ ap (λ (l : List (List ℕ)). said_by l said) (sym (one-up (λ word. word.now) ws d some))
+    ∙ known
+
+pub going-value : (ws : List (Bor (List ℕ))) (d e : Bor (List ℕ)) (said next : MergeArgs) (all : Option MergeArgs) → 1 ≤ length ws → 1 ≤ length (behind ws)
+    → bytes_eq (get_or ws 0 d).now (codes "-s") ≡ false → with_value (get_or ws 0 d).now (get_or (behind ws) 0 e).now said ≡ Some next
+    → said_by (texts ws) said ≡ all → said_by (texts (behind (behind ws))) next ≡ all
+going-value ws d e said next all some more other taken known =
+    ap (option_and_then (said_by (texts (behind (behind ws))))) (sym taken)
+    ∙ sym (said-value (get_or ws 0 d).now (get_or (behind ws) 0 e).now (texts (behind (behind ws))) said other)
+    ∙ ap (λ (l : List (List ℕ)). said_by ((get_or ws 0 d).now ∷ l) said) (sym (one-up (λ word. word.now) (behind ws) e more))
+    ∙ ap (λ (l : List (List ℕ)). said_by l said) (sym (one-up (λ word. word.now) ws d some))
+    ∙ known

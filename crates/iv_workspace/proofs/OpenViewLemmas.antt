@@ -1,0 +1,309 @@
+-- The open views, one after another.
+use denote.Ref.{Bor}
+use Rattle.std.proofs.Common.{◌≡◌, ℕ, suc, ◌+◌, ◌≤◌, ◌++◌, Bool, true, false, cond, List, [], ◌∷◌, Option, None, Some, length, map, slice_get, drop, add-one, zero, refl, sym, ap, ap₂, subst, ◌∙◌, append_assoc, append-nil, arith, if◌then◌else◌}
+use Rattle.std.specs.List.{AllByRecursion}
+use Rattle.std.specs.Map.{values_of, lookup, remove_entry}
+use Rattle.std.specs.Option.{is_some, option_map, option_copied}
+use Rattle.std.specs.Str.{bytes_eq}
+use Rattle.std.proofs.lemmas.Option.{slice_get-map}
+use Rattle.std.proofs.lemmas.List.{length-append, length-map, map-append}
+use Rattle.indexmap.specs.Layout.{set_value_at}
+use Rattle.iv_text.specs.Row.{Row}
+use Rattle.iv_text.proofs.NamedLemmas.{lookup-is}
+use Rattle.iv_view.specs.KeptStates.{state_key_of, repair_steps_of}
+use Rattle.iv_view.specs.declared.view.View.{View}
+use Rattle.iv_workspace.specs.ViewStates.{all_seen, seen}
+use Rattle.iv_workspace.specs.OpenViews.{Shown, Stales, Freshens, current, all_current, with_current, stale_count, all_steps, view_steps}
+use Rattle.iv_workspace.specs.declared.open_view.OpenView.{OpenView}
+
+-- ---- a walk over the places of a map, each of which is written
+
+-- the entries as contracts see them
+abbrev pub named : {K V : Type 0} → (K → List ℕ) → List (K × V) → List (List ℕ × V)
+named {K} {V} items es = map {B = List ℕ × V} (λ e. (items e.0, e.1)) es
+
+pub named-length : {K V : Type 0} (items : K → List ℕ) (es : List (K × V)) → length (named items es) ≡ length es
+named-length {K} {V} items es = length-map {B = List ℕ × V} es (λ e. (items e.0, e.1))
+
+-- the entries before a place are done
+pub record Midway {V : Type 0} (Done : List (List ℕ × V) → List (List ℕ × V) → Type 0) (old now : List (List ℕ × V)) (place : ℕ) : Type 0 where
+  pub front : List (List ℕ × V)
+  pub done : List (List ℕ × V)
+  pub rest : List (List ℕ × V)
+  pub old_is : old ≡ front ++ rest
+  pub now_is : now ≡ done ++ rest
+  pub front_is : place ≡ length front
+  pub done_is : place ≡ length done
+  pub does : Done front done
+
+pub midway-begin : {V : Type 0} (Done : List (List ℕ × V) → List (List ℕ × V) → Type 0) (old now : List (List ℕ × V)) → now ≡ old → Done [] [] → Midway Done old now 0
+midway-begin Done old now same does = record { front = []; done = []; rest = old; old_is = refl; now_is = same; front_is = refl; done_is = refl; does = does }
+
+-- the entry at a place, once it is written
+written : {K V : Type 0} (items : K → List ℕ) (es : List (K × V)) (done rest : List (List ℕ × V)) (place : ℕ) (v w : V)
+    → named items es ≡ done ++ rest → place ≡ length done → slice_get (values_of es) place ≡ Some v
+    → (n : List ℕ) × (more : List (List ℕ × V)) × (rest ≡ (n, v) ∷ more) × (named items (set_value_at es place w) ≡ done ++ (n, w) ∷ more)
+written {K} {V} items es done rest place v w are at found =
+    subst (λ (i : ℕ). (n : List ℕ) × (more : List (List ℕ × V)) × (rest ≡ (n, v) ∷ more) × (named items (set_value_at es i w) ≡ done ++ (n, w) ∷ more)) (sym at)
+    (by es done are (subst (λ (i : ℕ). slice_get (values_of es) i ≡ Some v) at found))
+  where
+    by : (es : List (K × V)) (done : List (List ℕ × V)) → named items es ≡ done ++ rest → slice_get (values_of es) (length done) ≡ Some v
+        → (n : List ℕ) × (more : List (List ℕ × V)) × (rest ≡ (n, v) ∷ more) × (named items (set_value_at es (length done) w) ≡ done ++ (n, w) ∷ more)
+    by [] done are found = absurd (cc (found))
+    by (e ∷ es) [] are found =
+        let is : e.1 ≡ v = cc (found) in
+        (items e.0, named items es, sym are ∙ ap (λ (u : V). (items e.0, u) ∷ named items es) is, refl)
+    by (e ∷ es) (d ∷ done) are found =
+        let first : (items e.0, e.1) ≡ d = cc (are) in
+        let tail : named items es ≡ done ++ rest = cc (are) in
+        let more = by es done tail found in
+        (more.0, more.1, more.2, ap₂ (λ (x : List ℕ × V) (l : List (List ℕ × V)). x ∷ l) first more.3)
+
+-- one more entry is done
+pub midway-next : {K V : Type 0} (items : K → List ℕ) (Done Then : List (List ℕ × V) → List (List ℕ × V) → Type 0) (old : List (List ℕ × V)) (es : List (K × V)) (place : ℕ) (v w : V)
+    → Midway Done old (named items es) place → slice_get (values_of es) place ≡ Some v
+    → ((front done more : List (List ℕ × V)) (n : List ℕ) → old ≡ front ++ (n, v) ∷ more → Done front done → Then (front ++ (n, v) ∷ []) (done ++ (n, w) ∷ []))
+    → Midway Then old (named items (set_value_at es place w)) (place + 1)
+midway-next {K} {V} items Done Then old es place v w mid found step =
+    let p = written items es mid.done mid.rest place v w mid.now_is mid.done_is found in
+    let old_is : old ≡ mid.front ++ (p.0, v) ∷ p.1 = mid.old_is ∙ ap (λ (l : List (List ℕ × V)). mid.front ++ l) p.2 in
+    record {
+      front = mid.front ++ (p.0, v) ∷ [];
+      done = mid.done ++ (p.0, w) ∷ [];
+      rest = p.1;
+      old_is = old_is ∙ sym (append_assoc mid.front ((p.0, v) ∷ []) p.1);
+      now_is = p.3 ∙ sym (append_assoc mid.done ((p.0, w) ∷ []) p.1);
+      front_is = omega (arith, mid.front_is, length-append mid.front ((p.0, v) ∷ []));
+      done_is = omega (arith, mid.done_is, length-append mid.done ((p.0, w) ∷ []));
+      does = step mid.front mid.done p.1 p.0 old_is mid.does;
+    }
+
+-- the entry at a place before it is written, and once it is
+pub record Written {V : Type 0} (old new : List (List ℕ × V)) (place : ℕ) (v w : V) : Type 0 where
+  pub front : List (List ℕ × V)
+  pub more : List (List ℕ × V)
+  pub name : List ℕ
+  pub front_is : length front ≡ place
+  pub old_is : old ≡ front ++ (name, v) ∷ more
+  pub new_is : new ≡ front ++ (name, w) ∷ more
+
+pub written-at : {K V : Type 0} (items : K → List ℕ) (es : List (K × V)) (place : ℕ) (v w : V) → slice_get (values_of es) place ≡ Some v
+    → Written (named items es) (named items (set_value_at es place w)) place v w
+written-at items [] place v w found = absurd (cc (found))
+written-at {K} {V} items (e ∷ es) zero v w found =
+    let is : e.1 ≡ v = cc (found) in
+    record { front = []; more = named items es; name = items e.0; front_is = refl; old_is = ap (λ (u : V). (items e.0, u) ∷ named items es) is; new_is = refl }
+written-at {K} {V} items (e ∷ es) (suc place) v w found =
+    let u = written-at items es place v w found in
+    let first : List (List ℕ × V) → List (List ℕ × V) = λ l. (items e.0, e.1) ∷ l in
+    record { front = first u.front; more = u.more; name = u.name; front_is = ap suc u.front_is; old_is = ap first u.old_is; new_is = ap first u.new_is }
+
+-- all entries are done
+pub midway-end : {V : Type 0} (Done : List (List ℕ × V) → List (List ℕ × V) → Type 0) (old now : List (List ℕ × V)) (place : ℕ) → Midway Done old now place → length now ≤ place → Done old now
+midway-end {V} Done old now place mid past =
+    let none : mid.rest ≡ [] = nil_of mid.rest (omega (arith, mid.done_is, past, ap length mid.now_is, length-append mid.done mid.rest)) in
+    let old_is : old ≡ mid.front = mid.old_is ∙ ap (λ (l : List (List ℕ × V)). mid.front ++ l) none ∙ append-nil mid.front in
+    let now_is : now ≡ mid.done = mid.now_is ∙ ap (λ (l : List (List ℕ × V)). mid.done ++ l) none ∙ append-nil mid.done in
+    subst (λ (l : List (List ℕ × V)). Done l now) (sym old_is) (subst (λ (l : List (List ℕ × V)). Done mid.front l) (sym now_is) mid.does)
+  where
+    nil_of : (xs : List (List ℕ × V)) → length xs ≡ 0 → xs ≡ []
+    nil_of [] e = refl
+    nil_of (x ∷ xs) e = absurd (omega arith)
+
+-- ---- views that become stale
+
+-- views of which more are stale take no more steps
+pub stales-steps : (old new : List (List ℕ × Shown)) (rows : List Row) (r : Row) → Stales old new → all_steps new rows r ≤ all_steps old rows r
+stales-steps [] [] rows r less = omega arith
+stales-steps [] (w ∷ new) rows r less = absurd less
+stales-steps (v ∷ old) [] rows r less = absurd less
+stales-steps (v ∷ old) (w ∷ new) rows r less =
+    omega (arith, one v.1 w.1 less.1 less.2, stales-steps old new rows r less.4)
+  where
+    one : (v w : Shown) → w.view ≡ v.view → (v.stale ≡ true → w.stale ≡ true) → view_steps w rows r ≤ view_steps v rows r
+    one v w view stays = by v.stale w.stale _ _ (ap (λ (s : View). repair_steps_of s rows r) view) stays
+      where
+        by : (b c : Bool) (m n : ℕ) → n ≡ m → (b ≡ true → c ≡ true) → (if c then 0 else n) ≤ (if b then 0 else m)
+        by true true m n same stays = omega arith
+        by true false m n same stays = absurd (cc (stays refl))
+        by false true m n same stays = omega arith
+        by false false m n same stays = omega (arith, same)
+
+pub stales-trans : (old mid new : List (List ℕ × Shown)) → Stales old mid → Stales mid new → Stales old new
+stales-trans [] [] new first second = second
+stales-trans [] (m ∷ mid) new first second = absurd first
+stales-trans (v ∷ old) [] new first second = absurd first
+stales-trans (v ∷ old) (m ∷ mid) [] first second = absurd second
+stales-trans (v ∷ old) (m ∷ mid) (w ∷ new) first second = (
+  second.0 ∙ first.0,
+  second.1 ∙ first.1,
+  λ stale. second.2 (first.2 stale),
+  λ none. second.3 (ap state_key_of first.1 ∙ none) ∙ first.3 none,
+  stales-trans old mid new first.4 second.4,
+)
+
+-- ---- the view at a place
+
+-- what the stale views from a place on are
+pub stale-next : {K A : Type 0} (items : K → List ℕ) (es : List (K × OpenView A)) (i : ℕ) (v : OpenView A) → slice_get (values_of es) i ≡ Some v
+    → stale_count (all_seen (drop i (named items es))) ≡ (if (seen v).stale then 1 else 0) + stale_count (all_seen (drop (i + 1) (named items es)))
+stale-next {K} {A} items es i v found = subst (λ (k : ℕ). stale_count (all_seen (drop i (named items es))) ≡ (if (seen v).stale then 1 else 0) + stale_count (all_seen (drop k (named items es)))) (sym (add-one i)) (by es i found)
+  where
+    by : (es : List (K × OpenView A)) (i : ℕ) → slice_get (values_of es) i ≡ Some v
+        → stale_count (all_seen (drop i (named items es))) ≡ (if (seen v).stale then 1 else 0) + stale_count (all_seen (drop (suc i) (named items es)))
+    by [] i found = absurd (cc (found))
+    by (e ∷ es) zero found = let is : e.1 ≡ v = cc (found) in ap (λ (u : OpenView A). (if (seen u).stale then 1 else 0) + stale_count (all_seen (named items es))) is
+    by (e ∷ es) (suc i) found = by es i found
+
+pub all-append : {X : Type 0} (P : X → Type 0) (xs ys : List X) → AllByRecursion P xs → AllByRecursion P ys → AllByRecursion P (xs ++ ys)
+all-append P [] ys a b = b
+all-append P (x ∷ xs) ys a b = (a.0, all-append P xs ys a.1 b)
+
+pub all-front : {X : Type 0} (P : X → Type 0) (xs ys : List X) → AllByRecursion P (xs ++ ys) → AllByRecursion P xs
+all-front P [] ys a = tt
+all-front P (x ∷ xs) ys a = (a.0, all-front P xs ys a.1)
+
+pub all-back : {X : Type 0} (P : X → Type 0) (xs ys : List X) → AllByRecursion P (xs ++ ys) → AllByRecursion P ys
+all-back P [] ys a = a
+all-back P (x ∷ xs) ys a = all-back P xs ys a.1
+
+-- the view at a place, where all were right before
+pub midway-at : {K V : Type 0} (items : K → List ℕ) (Done : List (List ℕ × V) → List (List ℕ × V) → Type 0) (P : V → Type 0) (old : List (List ℕ × V)) (es : List (K × V)) (place : ℕ) (v : V)
+    → Midway Done old (named items es) place → slice_get (values_of es) place ≡ Some v → AllByRecursion (λ e. P e.1) old → P v
+midway-at {K} {V} items Done P old es place v mid found all =
+    let p = written items es mid.done mid.rest place v v mid.now_is mid.done_is found in
+    let old_is : old ≡ mid.front ++ (p.0, v) ∷ p.1 = mid.old_is ∙ ap (λ (l : List (List ℕ × V)). mid.front ++ l) p.2 in
+    (all-back (λ e. P e.1) mid.front ((p.0, v) ∷ p.1) (subst (λ (l : List (List ℕ × V)). AllByRecursion (λ e. P e.1) l) old_is all)).0
+
+-- ---- views that are built anew
+
+pub stales-same : (views : List (List ℕ × Shown)) → Stales views views
+stales-same [] = tt
+stales-same (v ∷ views) = (refl, refl, λ stale. stale, λ none. refl, stales-same views)
+
+pub stales-append : (old new old2 new2 : List (List ℕ × Shown)) → Stales old new → Stales old2 new2 → Stales (old ++ old2) (new ++ new2)
+stales-append [] [] old2 new2 a b = b
+stales-append [] (w ∷ new) old2 new2 a b = absurd a
+stales-append (v ∷ old) [] old2 new2 a b = absurd a
+stales-append (v ∷ old) (w ∷ new) old2 new2 a b = (a.0, a.1, a.2, a.3, stales-append old new old2 new2 a.4 b)
+
+pub freshens-same : (views : List (List ℕ × Shown)) → Freshens views views
+freshens-same [] = tt
+freshens-same (v ∷ views) = (refl, refl, λ stale. stale, freshens-same views)
+
+pub freshens-all : (views : List (List ℕ × Shown)) → Freshens views (all_current views)
+freshens-all [] = tt
+freshens-all (v ∷ views) = (refl, refl, λ e. absurd (cc (e)), freshens-all views)
+
+pub freshens-one : (views : List (List ℕ × Shown)) (name : List ℕ) → Freshens views (with_current views name)
+freshens-one [] name = tt
+freshens-one (v ∷ views) name = elim (bytes_eq name v.0) as (λ b. Freshens (v ∷ views) (cond b ((v.0, current v.1) ∷ views) (v ∷ with_current views name))) [
+  | true ↦ (refl, refl, λ e. absurd (cc (e)), freshens-same views)
+  | false ↦ (refl, refl, λ stale. stale, freshens-one views name)
+]
+
+pub seen-append : {A : Type 0} (xs ys : List (List ℕ × OpenView A)) → all_seen (xs ++ ys) ≡ all_seen xs ++ all_seen ys
+seen-append xs ys = map-append _ xs ys
+
+count-append : (xs ys : List (List ℕ × Shown)) → stale_count (xs ++ ys) ≡ stale_count xs + stale_count ys
+count-append [] ys = omega arith
+count-append (x ∷ xs) ys = omega (arith, count-append xs ys)
+
+current-append : (xs ys : List (List ℕ × Shown)) → all_current (xs ++ ys) ≡ all_current xs ++ all_current ys
+current-append xs ys = map-append _ xs ys
+
+-- what is under a name, as contracts see it
+pub seen-lookup : {A : Type 0} (name : List ℕ) (views : List (List ℕ × OpenView A)) → lookup (bytes_eq name) (all_seen views) ≡ option_map seen (lookup (bytes_eq name) views)
+seen-lookup name [] = refl
+seen-lookup {A} name (v ∷ views) = elim (bytes_eq name v.0) as (λ b. cond b (Some (seen v.1)) (lookup (bytes_eq name) (all_seen views)) ≡ option_map seen (cond b (Some v.1) (lookup (bytes_eq name) views))) [
+  | true ↦ refl
+  | false ↦ seen-lookup name views
+]
+
+-- the entry at a place of what a map is seen as
+pub named-at : {K V : Type 0} (items : K → List ℕ) (es : List (K × V)) (seen_as : List (List ℕ × V)) (i : ℕ) (o : Option (K × V))
+    → named items es ≡ seen_as → o ≡ slice_get es i → option_map (λ e. (items e.0, e.1)) o ≡ slice_get seen_as i
+named-at {K} {V} items es seen_as i o same is =
+    ap (option_map (λ e. (items e.0, e.1))) is ∙ sym (slice_get-map (λ e. (items e.0, e.1)) es i) ∙ ap (λ (l : List (List ℕ × V)). slice_get l i) same
+
+-- the same, at the place where the loop is
+pub stale-yes : {K A : Type 0} (items : K → List ℕ) (es : List (K × OpenView A)) (i : ℕ) (v : OpenView A) → slice_get (values_of es) i ≡ Some v → (seen v).stale ≡ true
+    → stale_count (all_seen (drop i (named items es))) ≡ 1 + stale_count (all_seen (drop (i + 1) (named items es)))
+stale-yes items es i v found is = stale-next items es i v found ∙ ap (λ (b : Bool). (if b then 1 else 0) + stale_count (all_seen (drop (i + 1) (named items es)))) is
+
+pub stale-no : {K A : Type 0} (items : K → List ℕ) (es : List (K × OpenView A)) (i : ℕ) (v : OpenView A) → slice_get (values_of es) i ≡ Some v → (seen v).stale ≡ false
+    → stale_count (all_seen (drop i (named items es))) ≡ 0 + stale_count (all_seen (drop (i + 1) (named items es)))
+stale-no items es i v found is = stale-next items es i v found ∙ ap (λ (b : Bool). (if b then 1 else 0) + stale_count (all_seen (drop (i + 1) (named items es)))) is
+
+-- what a look-up under a name gives, as contracts see it
+pub named-seen : {K A : Type 0} (items : K → List ℕ) (name : List ℕ) (es : List (K × OpenView A)) (old : List (List ℕ × OpenView A)) (o : Option (Bor (OpenView A)))
+    → named items es ≡ old → option_copied o ≡ lookup (λ k. bytes_eq name (items k)) es → option_map (λ v. seen v.now) o ≡ lookup (bytes_eq name) (all_seen old)
+named-seen {K} {A} items name es old o same found =
+    copied o ∙ ap (option_map seen) (found ∙ lookup-is items name es ∙ ap (lookup (bytes_eq name)) same) ∙ sym (seen-lookup name old)
+  where
+    copied : (o : Option (Bor (OpenView A))) → option_map (λ v. seen v.now) o ≡ option_map seen (option_copied o)
+    copied None = refl
+    copied (Some v) = refl
+
+-- without the view of a name
+pub remove-seen : {A : Type 0} (name : List ℕ) (views : List (List ℕ × OpenView A)) → all_seen (remove_entry (bytes_eq name) views) ≡ remove_entry (bytes_eq name) (all_seen views)
+remove-seen name [] = refl
+remove-seen {A} name (v ∷ views) =
+    elim (bytes_eq name v.0) as (λ b. all_seen (cond b views (v ∷ remove_entry (bytes_eq name) views)) ≡ cond b (all_seen views) ((v.0, seen v.1) ∷ remove_entry (bytes_eq name) (all_seen views))) [
+      | true ↦ refl
+      | false ↦ ap (λ (l : List (List ℕ × Shown)). (v.0, seen v.1) ∷ l) (remove-seen name views)
+    ]
+
+-- what holds of each view holds without the view of a name
+pub all-removed : {V : Type 0} (P : V → Type 0) (name : List ℕ) (views : List (List ℕ × V)) → AllByRecursion (λ v. P v.1) views → AllByRecursion (λ v. P v.1) (remove_entry (bytes_eq name) views)
+all-removed P name [] all = tt
+all-removed P name (v ∷ views) all =
+    elim (bytes_eq name v.0) as (λ b. AllByRecursion (λ w. P w.1) (cond b views (v ∷ remove_entry (bytes_eq name) views))) [
+      | true ↦ all.1
+      | false ↦ (all.0, all-removed P name views all.1)
+    ]
+
+-- with one more
+pub all-pushed : {V : Type 0} (P : V → Type 0) (name : List ℕ) (views : List (List ℕ × V)) (v : V)
+    → AllByRecursion (λ w. P w.1) views → P v → AllByRecursion (λ w. P w.1) (views ++ (name, v) ∷ [])
+all-pushed P name views v all one = all-append (λ e. P e.1) views ((name, v) ∷ []) all (one, tt)
+
+-- of the view at a place of a list, and of the view of a name
+pub all-at : {V : Type 0} (P : V → Type 0) (views : List (List ℕ × V)) (i : ℕ) (e : List ℕ × V) → slice_get views i ≡ Some e → AllByRecursion (λ v. P v.1) views → P e.1
+all-at P [] i e found all = absurd (cc (found))
+all-at {V} P (v ∷ views) zero e found all = let is : v ≡ e = cc (found) in subst (λ (u : List ℕ × V). P u.1) is all.0
+all-at P (v ∷ views) (suc i) e found all = all-at P views i e found all.1
+
+pub all-named : {V : Type 0} (P : V → Type 0) (name : List ℕ) (views : List (List ℕ × V)) (v : V) → lookup (bytes_eq name) views ≡ Some v → AllByRecursion (λ w. P w.1) views → P v
+all-named P name [] v found all = absurd (cc (found))
+all-named P name (e ∷ views) v found all = by (bytes_eq name e.0) found (λ there. all-named P name views v there all.1)
+  where
+    by : (b : Bool) → cond b (Some e.1) (lookup (bytes_eq name) views) ≡ Some v → (lookup (bytes_eq name) views ≡ Some v → P v) → P v
+    by true found more = let is : e.1 ≡ v = cc (found) in subst P is all.0
+    by false found more = more found
+
+-- and of the views of which that of a name is current
+pub all-current : (P : View → Type 0) (name : List ℕ) (views : List (List ℕ × Shown)) → AllByRecursion (λ v. P v.1.view) views → AllByRecursion (λ v. P v.1.view) (with_current views name)
+all-current P name [] all = tt
+all-current P name (v ∷ views) all =
+    elim (bytes_eq name v.0) as (λ b. AllByRecursion (λ w. P w.1.view) (cond b ((v.0, current v.1) ∷ views) (v ∷ with_current views name))) [
+      | true ↦ all
+      | false ↦ (all.0, all-current P name views all.1)
+    ]
+
+-- the view of a name that is made current
+pub current-named : (name : List ℕ) (views : List (List ℕ × Shown)) → lookup (bytes_eq name) (with_current views name) ≡ option_map current (lookup (bytes_eq name) views)
+current-named name [] = refl
+current-named name (v ∷ views) = by (bytes_eq name v.0) refl (current-named name views)
+  where
+    by : (b : Bool) → bytes_eq name v.0 ≡ b → lookup (bytes_eq name) (with_current views name) ≡ option_map current (lookup (bytes_eq name) views)
+        → lookup (bytes_eq name) (cond b ((v.0, current v.1) ∷ views) (v ∷ with_current views name)) ≡ option_map current (cond b (Some v.1) (lookup (bytes_eq name) views))
+    by true is more = ap (λ (b : Bool). cond b (Some (current v.1)) (lookup (bytes_eq name) views)) is
+    by false is more = ap (λ (b : Bool). cond b (Some v.1) (lookup (bytes_eq name) (with_current views name))) is ∙ more
+
+pub some-seen : {A : Type 0} (b : Bool) (o : Option (Bor (OpenView A))) (found : Option Shown) → b ≡ is_some o → option_map (λ v. seen v.now) o ≡ found → b ≡ is_some found
+some-seen {A} b o found is same = is ∙ by o ∙ ap is_some same
+  where
+    by : (o : Option (Bor (OpenView A))) → is_some o ≡ is_some (option_map (λ v. seen v.now) o)
+    by None = refl
+    by (Some v) = refl

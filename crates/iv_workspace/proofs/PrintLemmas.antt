@@ -1,0 +1,95 @@
+-- A view that is printed.
+use Rattle.std.proofs.lemmas.Option.{slice_get-map, slice_get_within, slice_get_cases, get_or_from_slice_get}
+use Rattle.std.proofs.lemmas.List.Elements.{All-from_recursion}
+use Rattle.std.proofs.Common.{◌+◌, drop, get_or, append_assoc, add-one, drop-cons, inl, inr, length, slice_get, ◌≤◌, ◌≡◌, ℕ, List, [], ◌∷◌, ◌++◌, Option, None, Some, false, refl, sym, ap, ap₂, subst, ◌∙◌}
+use Rattle.std.specs.Prelude.{All, MatchOption, IfSome}
+use Rattle.std.specs.List.{flat_map, AllByRecursion}
+use Rattle.std.specs.Map.{lookup}
+use Rattle.std.specs.Option.{option_map}
+use Rattle.std.specs.Str.{bytes_eq}
+use Rattle.iv_bytes.specs.Sinks.{SinkState, Takes, FailsIn}
+use Rattle.iv_workspace.specs.declared.open_view.OpenView.{OpenView}
+use Rattle.iv_workspace.specs.ViewStates.{seen}
+use Rattle.iv_workspace.specs.ViewStates.{all_seen}
+use Rattle.iv_workspace.specs.OpenViews.{current, all_current, with_current}
+use Rattle.iv_workspace.specs.Prints.{with_all_printed}
+use Rattle.iv_workspace.specs.States.{State}
+use Rattle.iv_workspace.specs.Views.{heading, headed_text, all_text, text_in}
+use Rattle.iv_workspace.specs.OpenViews.{Shown}
+use Rattle.iv_workspace.proofs.OpenViewLemmas.{current-named}
+
+pub match-none : (o : Option Shown) (Q : Type 0) (P : Shown → Type 0) → None ≡ o → Q → MatchOption o Q P
+match-none o Q P is q = subst (λ (o : Option Shown). MatchOption o Q P) is q
+
+pub match-some : (o : Option Shown) (Q : Type 0) (P : Shown → Type 0) (v : Shown) → Some v ≡ o → P v → MatchOption o Q P
+match-some o Q P v is p = subst (λ (o : Option Shown). MatchOption o Q P) is p
+
+pub if-some : (o : Option Shown) (P : Shown → Type 0) (v : Shown) → Some v ≡ o → IfSome o P → P v
+if-some o P v is h = subst (λ (o : Option Shown). IfSome o P) (sym is) h
+
+-- the view of a name, once it is current
+pub found-again : (name : List ℕ) (views more : List (List ℕ × Shown)) (v w : Shown) → Some v ≡ lookup (bytes_eq name) views → more ≡ with_current views name
+    → Some w ≡ lookup (bytes_eq name) more → w ≡ current v
+found-again name views more v w found are again =
+    let both : Some w ≡ Some (current v) =
+    again ∙ ap (lookup (bytes_eq name)) are ∙ current-named name views ∙ ap (option_map current) (sym found) in
+    cc (both)
+
+pub found-not : (name : List ℕ) (views more : List (List ℕ × Shown)) (v : Shown) → Some v ≡ lookup (bytes_eq name) views → more ≡ with_current views name
+    → None ≡ lookup (bytes_eq name) more → ⊥
+found-not name views more v found are again =
+    let both : None ≡ Some (current v) =
+    again ∙ ap (lookup (bytes_eq name)) are ∙ current-named name views ∙ ap (option_map current) (sym found) in
+    cc (both)
+
+-- what it prints
+pub same-text : (inside s : State) (v w : Shown) → inside ≡ s → w ≡ current v → text_in inside w.view ≡ text_in s v.view
+same-text inside s v w same is = ap (λ (u : Shown). text_in inside u.view) is ∙ ap (λ (u : State). text_in u v.view) same
+
+-- all views print the same, current or not
+pub same-all_text : (s : State) → all_text (with_all_printed s) ≡ all_text s
+same-all_text s = by s.views
+  where
+    by : (views : List (List ℕ × Shown)) → flat_map (headed_text s) (all_current views) ≡ flat_map (headed_text s) views
+    by [] = refl
+    by (v ∷ views) = ap (λ (l : List ℕ). headed_text s v ++ l) (by views)
+
+pub Takes-text : (old new : SinkState) (a b : List ℕ) → a ≡ b → Takes old new a → Takes old new b
+Takes-text old new a b same took = subst (λ (l : List ℕ). Takes old new l) same took
+
+pub FailsIn-text : (old new : SinkState) (a b : List ℕ) → a ≡ b → FailsIn old new a → FailsIn old new b
+FailsIn-text old new a b same fails = subst (λ (l : List ℕ). FailsIn old new l) same fails
+
+-- the view at a place, as contracts see it
+pub seen-at : {A : Type 0} (views : List (List ℕ × OpenView A)) (i : ℕ) (name : List ℕ) (v : OpenView A) → Some (name, v) ≡ slice_get views i
+    → Some (name, seen v) ≡ slice_get (all_seen views) i
+seen-at {A} views i name v found =
+    let view : List ℕ × OpenView A → List ℕ × Shown = λ e. (e.0, seen e.1) in
+    ap (option_map view) found ∙ sym (slice_get-map view views i)
+
+pub all-get : {X : Type 0} (P : X → Type 0) (xs : List X) (i : ℕ) (x : X) → Some x ≡ slice_get xs i → All P xs → P x
+all-get P xs i x found all = subst P (get_or_from_slice_get xs i x x (sym found)) (all i x (slice_get_within xs i x (sym found)))
+
+pub past-views : {X : Type 0} (xs : List X) (i : ℕ) → None ≡ slice_get xs i → length xs ≤ i
+past-views xs i none = elim (slice_get_cases xs i).1 [
+  | inl found ↦ absurd (cc (none ∙ found.2))
+  | inr past ↦ past.0
+]
+
+-- views that were made current are
+pub all-fresh : (views more : List (List ℕ × Shown)) → more ≡ all_current views → All (λ v. v.1.stale ≡ false) more
+all-fresh views more is = subst (λ (l : List (List ℕ × Shown)). All (λ v. v.1.stale ≡ false) l) (sym is) (All-from_recursion (λ v. v.1.stale ≡ false) (all_current views) (by views))
+  where
+    by : (views : List (List ℕ × Shown)) → AllByRecursion (λ v. v.1.stale ≡ false) (all_current views)
+    by [] = tt
+    by (v ∷ views) = (refl, by views)
+
+-- the view at a place is the next to be printed
+pub views-next : (inside s : State) → inside ≡ s → (i : ℕ) (v : List ℕ × Shown) → Some v ≡ slice_get inside.views i
+    → flat_map (headed_text s) (drop i s.views) ≡ heading v.0 ++ (text_in s v.1.view ++ flat_map (headed_text s) (drop (i + 1) s.views))
+views-next inside s same i v found =
+    let at : Some v ≡ slice_get s.views i = found ∙ ap (λ (t : State). slice_get t.views i) same in
+    let low = slice_get_within s.views i v (sym at) in
+    let is : get_or s.views i v ≡ v = get_or_from_slice_get s.views i v v (sym at) in
+    ap (flat_map (headed_text s)) (drop-cons s.views i v low ∙ ap₂ (λ (q : List ℕ × Shown) (k : ℕ). q ∷ drop k s.views) is (sym (add-one i)))
+    ∙ append_assoc (heading v.0) (text_in s v.1.view) (flat_map (headed_text s) (drop (i + 1) s.views))

@@ -1,0 +1,296 @@
+-- A session with another length of one sequence.
+use denote.Ref.{Bor}
+use Rattle.std.proofs.Common.{◌≡◌, ℕ, ◌+◌, ◌<◌, ◌≤◌, ◌==◌, ◌&&◌, ◌||◌, nat_lt, inl, inr, Bool, true, false, List, [], ◌∷◌, Option, None, Some, Result, Ok, Err, length, arith, refl, sym, ap, ap₂, subst, ◌∙◌}
+use Rattle.std.specs.Iterator.{YieldsFirstRef}
+use Rattle.std.specs.List.{list_any}
+use Rattle.std.specs.Option.{is_some, option_map, unwrap_or}
+use Rattle.std.specs.Prelude.{All, IfSome, filter, not}
+use Rattle.std.proofs.lemmas.Bool.{and_parts, and_cases, or_parts, or_from, or_left, not-false, cases_Bool, cases_eq, cond-true, cond-false, ne_eqb, ltb-true, ltb-false, lt-ltb, eqb-true, eqb-false, true≢false, false_from_ne_true}
+use Rattle.std.proofs.lemmas.Map.Views.{exact_unsigned_eq}
+use Rattle.iv_text.specs.Genome.{Sequences, length_at, rank_of, with_length}
+use Rattle.iv_text.specs.Ordered.{AreInOrder}
+use Rattle.iv_text.specs.Read.{IsWithin, Fits}
+use Rattle.iv_text.specs.Row.{Row}
+use Rattle.iv_text.proofs.LengthLemmas.{length-with_length, length_at-with_length, length_at-other, rank-within}
+use Rattle.iv_track.specs.Tracked.{Tracked, is_from}
+use Rattle.iv_cover.proofs.Tests.{Mem, all-mem, mem-all, any-found, any-at, any-none, any-from_none, mem-filter, mem-filter_from}
+use Rattle.iv_fasta.specs.Fasta.{Bases, bases_of, HasLengthsOf}
+use Rattle.iv_pair.specs.Hits.{overlaps}
+use Rattle.iv_pair.proofs.PlaceLemmas.{le_pair, pair_le, from_all}
+use Rattle.iv_view.specs.Views.{second_rows}
+use Rattle.iv_workspace.specs.OpenViews.{Shown}
+use Rattle.iv_workspace.specs.Resizes.{reaches_past, has_record_past, has_other_bases, is_other, with_sequence_length, resized_if, resized}
+use Rattle.iv_workspace.specs.States.{State, IsTrackOn, IsSession}
+use Rattle.iv_workspace.specs.declared.fault.ResizeFault.{ResizeFault}
+use Rattle.iv_workspace.specs.declared.fault.ResizeFault.TheVariants as fault
+
+-- ---- records past a length
+
+past_parts : (seq n : ℕ) (q : Row) → reaches_past seq n q ≡ true → (q.seq ≡ seq) × (n < q.stop)
+past_parts seq n q h =
+    let parts = and_parts (q.seq == seq) (nat_lt n q.stop) h in
+    (exact_unsigned_eq q.seq seq parts.0, ltb-true n q.stop parts.1)
+
+-- a record on the sequence that isn't past the length ends within it
+not-past : (seq n : ℕ) (q : Row) → reaches_past seq n q ≡ false → q.seq ≡ seq → q.stop ≤ n
+not-past seq n q h same = elim (and_cases (q.seq == seq) (nat_lt n q.stop) h) [
+  | inl differ ↦ absurd (eqb-false q.seq seq differ same)
+  | inr low ↦ ltb-false n q.stop low
+]
+
+-- ---- the walk over the records of a sequence
+
+any-implied : {X : Type 0} (p t : X → Bool) (xs : List X) → ((q : X) → p q ≡ true → t q ≡ true) → list_any p (filter t xs) ≡ list_any p xs
+any-implied p t [] h = refl
+any-implied p t (x ∷ xs) h = elim (cases_Bool (t x)) [
+  | inl e ↦ ap (list_any p) (cond-true (t x) (x ∷ filter t xs) (filter t xs) e) ∙ ap (λ b. p x || b) (any-implied p t xs h)
+  | inr e ↦
+      let none : p x ≡ false = false_from_ne_true (p x) (λ yes. true≢false (sym (h x yes) ∙ e)) in
+      ap (list_any p) (cond-false (t x) (x ∷ filter t xs) (filter t xs) e) ∙ any-implied p t xs h ∙ sym (ap (λ b. b || list_any p xs) none)
+]
+
+-- those past a length are among the records from the first of their sequence on
+pub past-from_first : (seq n : ℕ) (rows : List Row) → list_any (reaches_past seq n) (filter (is_from seq 0) rows) ≡ list_any (reaches_past seq n) rows
+past-from_first seq n rows = any-implied (reaches_past seq n) (is_from seq 0) rows (λ q is.
+    let same : q.seq ≡ seq = (past_parts seq n q is).0 in
+    pair_le seq q.seq 0 q.start (omega (arith, same)) (λ _. omega arith))
+
+-- one is found
+pub past-found : (seq n : ℕ) (left rest all : List Row) (r : Row) → left ≡ r ∷ rest → reaches_past seq n r ≡ true
+    → list_any (reaches_past seq n) left ≡ list_any (reaches_past seq n) all → true ≡ list_any (reaches_past seq n) all
+past-found seq n left rest all r first is same =
+    sym (ap (list_any (reaches_past seq n)) first ∙ or_left (reaches_past seq n r) (list_any (reaches_past seq n) rest) is) ∙ same
+
+-- a record on a later sequence: none is left
+pub past-none : (seq n : ℕ) (left rest all : List Row) (r : Row) → left ≡ r ∷ rest → AreInOrder left → seq < r.seq
+    → list_any (reaches_past seq n) left ≡ list_any (reaches_past seq n) all → false ≡ list_any (reaches_past seq n) all
+past-none seq n left rest all r first order later same =
+    sym (ap (list_any (reaches_past seq n)) first
+    ∙ any-from_none (reaches_past seq n) (r ∷ rest) (λ q m. false_from_ne_true (reaches_past seq n q) (λ is.
+    let on : q.seq ≡ seq = (past_parts seq n q is).0 in
+    let from : is_from (seq + 1) 0 q ≡ true =
+    from_all (seq + 1) 0 r rest (subst AreInOrder first order) (pair_le (seq + 1) r.seq 0 r.start (omega (arith, later)) (λ _. omega arith)) q m in
+    let low : seq + 1 ≤ q.seq = (le_pair (seq + 1) q.seq 0 q.start from).0 in
+    absurd (omega (arith, on, low)))))
+    ∙ same
+
+-- the next record
+pub past-next : (seq n : ℕ) (left rest all : List Row) (r : Row) → left ≡ r ∷ rest → reaches_past seq n r ≡ false
+    → list_any (reaches_past seq n) left ≡ list_any (reaches_past seq n) all → list_any (reaches_past seq n) rest ≡ list_any (reaches_past seq n) all
+past-next seq n left rest all r first not same =
+    sym (ap (list_any (reaches_past seq n)) first ∙ ap (λ b. b || list_any (reaches_past seq n) rest) not) ∙ same
+
+-- ---- the hits of what is cut off
+
+any-agree : {X : Type 0} (p t : X → Bool) (xs : List X) → ((q : X) → Mem q xs → p q ≡ t q) → list_any p xs ≡ list_any t xs
+any-agree p t [] same = refl
+any-agree p t (x ∷ xs) same = ap₂ (λ a b. a || b) (same x (inl refl)) (any-agree p t xs (λ q m. same q (inr m)))
+
+-- a record that stops at most at the end of its sequence is a hit of what is cut off exactly where it is past the new end
+cut-overlaps : (seq n end : ℕ) (q : Row) → q.start < q.stop → (q.seq ≡ seq → q.stop ≤ end) → overlaps seq n end q ≡ reaches_past seq n q
+cut-overlaps seq n end q some within = elim (cases_eq q.seq seq) [
+  | inl same ↦
+      let top : q.stop ≤ end = within same in
+      ap (λ b. (q.seq == seq) && (b && nat_lt n q.stop)) (lt-ltb q.start end (omega (arith, some, top)))
+  | inr differ ↦
+      let off : (q.seq == seq) ≡ false = ne_eqb q.seq seq differ in
+      ap (λ b. b && (nat_lt q.start end && nat_lt n q.stop)) off ∙ sym (ap (λ b. b && nat_lt n q.stop) off)
+]
+
+any-none_left : {X : Type 0} (p : X → Bool) (xs : List X) → filter p xs ≡ [] → list_any p xs ≡ false
+any-none_left p xs none = false_from_ne_true (list_any p xs) (λ yes.
+    let found = any-found p xs yes in
+    subst (λ l. Mem found.0 l) none (mem-filter_from p xs found.0 found.1 found.2))
+
+any-some_left : {X : Type 0} (p : X → Bool) (xs ys : List X) (y : X) → filter p xs ≡ y ∷ ys → list_any p xs ≡ true
+any-some_left p xs ys y is =
+    let there = mem-filter p xs y (subst (λ l. Mem y l) (sym is) (inl refl)) in
+    any-at p xs y there.0 there.1
+
+-- an iterator over what passes a test gives one exactly where some element passes
+first-any : (p : Row → Bool) (rows left rest : List Row) (r : Option (Bor Row)) → left ≡ filter p rows → YieldsFirstRef (λ (h : List Row). h) left r rest → is_some r ≡ list_any p rows
+first-any p rows left rest None is gives = sym (any-none_left p rows (sym is ∙ gives.0))
+first-any p rows left rest (Some q) is gives = sym (any-some_left p rows rest q.now (sym is ∙ gives))
+
+pub hit-past : (seq n end : ℕ) (rows left rest : List Row) (r : Option (Bor Row)) → All (λ q. q.start < q.stop) rows → All (λ q. q.seq ≡ seq → q.stop ≤ end) rows
+    → left ≡ filter (overlaps seq n end) rows → YieldsFirstRef (λ (h : List Row). h) left r rest → is_some r ≡ list_any (reaches_past seq n) rows
+hit-past seq n end rows left rest r some within is gives =
+    first-any (overlaps seq n end) rows left rest r is gives
+    ∙ any-agree (overlaps seq n end) (reaches_past seq n) rows (λ q m.
+    cut-overlaps seq n end q (all-mem (λ (x : Row). x.start < x.stop) rows some q m) (all-mem (λ (x : Row). x.seq ≡ seq → x.stop ≤ end) rows within q m))
+
+-- ---- the records of a session's track, and their ends
+
+-- the end of a sequence, as it is read
+pub end-is : (g : Sequences) (seq end : ℕ) (o : Option ℕ) → o ≡ length_at g seq → end ≡ unwrap_or o 0 → end ≡ unwrap_or (length_at g seq) 0
+end-is g seq end o at is = is ∙ ap (λ (p : Option ℕ). unwrap_or p 0) at
+
+module _ (g : Sequences) (t : Tracked) (is : IsTrackOn g t) where
+  lies : (q : Row) → Mem q t.rows → (q.start < q.stop) × IsWithin g q.seq q.stop
+  lies q m = let fits = all-mem (Fits g t.width) t.rows is.fit q m in (fits.lies.some, fits.lies.within)
+
+  pub rows-some : All (λ q. q.start < q.stop) t.rows
+  rows-some = mem-all (λ (q : Row). q.start < q.stop) t.rows (λ q m. (lies q m).0)
+
+  pub rows-within : (seq end : ℕ) → end ≡ unwrap_or (length_at g seq) 0 → All (λ q. q.seq ≡ seq → q.stop ≤ end) t.rows
+  rows-within seq end at = mem-all (λ (q : Row). q.seq ≡ seq → q.stop ≤ end) t.rows (λ q m same.
+      let top : q.stop ≤ unwrap_or (length_at g q.seq) 0 = (lies q m).1.1 in
+      let here : unwrap_or (length_at g q.seq) 0 ≡ end = ap (λ (k : ℕ). unwrap_or (length_at g k) 0) same ∙ sym at in
+      omega (arith, top, here))
+
+  -- none is past a length that isn't below that of the sequence
+  pub none-past : (seq n end : ℕ) → end ≡ unwrap_or (length_at g seq) 0 → end ≤ n → list_any (reaches_past seq n) t.rows ≡ false
+  none-past seq n end at low = any-from_none (reaches_past seq n) t.rows (λ q m. false_from_ne_true (reaches_past seq n q) (λ yes.
+      let parts = past_parts seq n q yes in
+      let past : n < q.stop = parts.1 in
+      let top : q.stop ≤ end = all-mem (λ (x : Row). x.seq ≡ seq → x.stop ≤ end) t.rows (rows-within seq end at) q m parts.0 in
+      absurd (omega (arith, past, top, low))))
+
+pub second-none_past : (g : Sequences) (second : Option Tracked) → IfSome second (IsTrackOn g) → (seq n end : ℕ) → end ≡ unwrap_or (length_at g seq) 0 → end ≤ n
+    → list_any (reaches_past seq n) (second_rows second) ≡ false
+second-none_past g None is seq n end at low = refl
+second-none_past g (Some t) is seq n end at low = none-past g t is seq n end at low
+
+-- a sequence that doesn't become shorter keeps all its records
+pub no_record-past : (inside s : State) (views : List (List ℕ × Shown)) (seq n end : ℕ) → inside ≡ s → IsSession inside.genome inside.track inside.second views
+    → end ≡ unwrap_or (length_at inside.genome seq) 0 → end ≤ n → false ≡ has_record_past s seq n
+no_record-past inside s views seq n end same is at low =
+    sym (or_from _ _ (none-past inside.genome inside.track is.track_is seq n end at low) (second-none_past inside.genome inside.second is.second_is seq n end at low))
+    ∙ ap (λ (t : State). has_record_past t seq n) same
+
+-- a record of the track is past it
+pub track-past : (inside s : State) (seq n : ℕ) → inside ≡ s → list_any (reaches_past seq n) inside.track.rows ≡ true → true ≡ has_record_past s seq n
+track-past inside s seq n same past =
+    sym (or_left (list_any (reaches_past seq n) inside.track.rows) (list_any (reaches_past seq n) (second_rows inside.second)) past)
+    ∙ ap (λ (t : State). has_record_past t seq n) same
+
+-- none is, and so it is asked of the second file
+pub second-past : (inside s : State) (second : Option Tracked) (seq n : ℕ) (answer : Bool) → inside ≡ s → list_any (reaches_past seq n) inside.track.rows ≡ false → inside.second ≡ second
+    → answer ≡ list_any (reaches_past seq n) (second_rows second) → answer ≡ has_record_past s seq n
+second-past inside s second seq n answer same none is answered =
+    answered ∙ ap (λ (o : Option Tracked). list_any (reaches_past seq n) (second_rows o)) (sym is)
+    ∙ sym (ap (λ b. b || list_any (reaches_past seq n) (second_rows inside.second)) none)
+    ∙ ap (λ (t : State). has_record_past t seq n) same
+
+-- the second file of a session
+pub second-there : (g : Sequences) (second : Option Tracked) (t : Tracked) → IfSome second (IsTrackOn g) → second ≡ Some t → IsTrackOn g t
+second-there g second t is there = subst (λ (o : Option Tracked). IfSome o (IsTrackOn g)) there is
+
+-- ---- the session with another length
+
+within-stays : (g : Sequences) (seq n : ℕ) (q : Row) → IsWithin g q.seq q.stop → reaches_past seq n q ≡ false → IsWithin (with_length g seq n) q.seq q.stop
+within-stays g seq n q is not =
+    let there : q.seq < length g = is.0 in (
+      omega (arith, there, length-with_length g seq n),
+      elim (cases_eq q.seq seq) [
+        | inl same ↦
+            let one : length_at (with_length g seq n) q.seq ≡ Some n =
+            ap (length_at (with_length g seq n)) same ∙ length_at-with_length g seq n (omega (arith, there, same)) in
+            subst (λ (o : Option ℕ). q.stop ≤ unwrap_or o 0) (sym one) (not-past seq n q not same)
+        | inr differ ↦ subst (λ (o : Option ℕ). q.stop ≤ unwrap_or o 0) (sym (length_at-other g seq n q.seq differ)) is.1
+      ],
+    )
+
+fits-stays : (g : Sequences) (width seq n : ℕ) (q : Row) → Fits g width q → reaches_past seq n q ≡ false → Fits (with_length g seq n) width q
+fits-stays g width seq n q is not = record {
+  width_is = is.width_is;
+  lies = record { some = is.lies.some; within = within-stays g seq n q is.lies.within not };
+  beside = is.beside;
+}
+
+track-resized : (g : Sequences) (t : Tracked) (seq n : ℕ) → IsTrackOn g t → list_any (reaches_past seq n) t.rows ≡ false → IsTrackOn (with_length g seq n) t
+track-resized g t seq n is none = record {
+  low = is.low;
+  high = is.high;
+  fit = mem-all (Fits (with_length g seq n) t.width) t.rows (λ q m.
+      fits-stays g t.width seq n q (all-mem (Fits g t.width) t.rows is.fit q m) (any-none (reaches_past seq n) t.rows none q m));
+  few = is.few;
+}
+
+second-resized : (g : Sequences) (second : Option Tracked) (seq n : ℕ) → IfSome second (IsTrackOn g) → list_any (reaches_past seq n) (second_rows second) ≡ false
+    → IfSome second (IsTrackOn (with_length g seq n))
+second-resized g None seq n is none = tt
+second-resized g (Some t) seq n is none = track-resized g t seq n is none
+
+-- where no record is past the new end, all records fit
+pub session-resized : (inside s : State) (g : Sequences) (views : List (List ℕ × Shown)) (seq n : ℕ) → inside ≡ s → IsSession inside.genome inside.track inside.second views
+    → g ≡ with_length inside.genome seq n → has_record_past s seq n ≡ false → IsSession g inside.track inside.second views
+session-resized inside s g views seq n same is new none =
+    let clear = or_parts (list_any (reaches_past seq n) inside.track.rows) (list_any (reaches_past seq n) (second_rows inside.second))
+    (ap (λ (t : State). has_record_past t seq n) same ∙ none) in
+    subst (λ (h : Sequences). IsSession h inside.track inside.second views) (sym new) (record {
+      track_is = track-resized inside.genome inside.track seq n is.track_is clear.0;
+      second_is = second-resized inside.genome inside.second seq n is.second_is clear.1;
+      served = is.served;
+      fresh = is.fresh;
+    })
+
+-- ---- what a resize answers
+
+module _ (s : State) (name : List ℕ) (n : ℕ) where
+  pub resized-unknown : rank_of s.genome name ≡ None → resized s name n ≡ Err fault.UnknownSeq
+  resized-unknown none = ap (λ (o : Option ℕ). resized_if s o n) none
+
+  pub resized-shorter : (seq : ℕ) → rank_of s.genome name ≡ Some seq → has_record_past s seq n ≡ true → resized s name n ≡ Err fault.Shorter
+  resized-shorter seq at past = ap (λ (o : Option ℕ). resized_if s o n) at ∙ cond-true _ _ _ past
+
+  pub resized-fixed : (seq : ℕ) → rank_of s.genome name ≡ Some seq → has_record_past s seq n ≡ false → has_other_bases s.bases seq n ≡ true
+      → resized s name n ≡ Err fault.Fixed
+  resized-fixed seq at past other = ap (λ (o : Option ℕ). resized_if s o n) at ∙ cond-false _ _ _ past ∙ cond-true _ _ _ other
+
+  pub resized-done : (seq : ℕ) → rank_of s.genome name ≡ Some seq → has_record_past s seq n ≡ false → has_other_bases s.bases seq n ≡ false
+      → resized s name n ≡ Ok (with_sequence_length s seq n)
+  resized-done seq at past other = ap (λ (o : Option ℕ). resized_if s o n) at ∙ cond-false _ _ _ past ∙ cond-false _ _ _ other
+
+-- the session as its fields are written
+pub resized-in : (inside s : State) (g : Sequences) (name : List ℕ) (seq n : ℕ) → inside ≡ s → Some seq ≡ rank_of inside.genome name → has_record_past s seq n ≡ false
+    → has_other_bases s.bases seq n ≡ false → g ≡ with_length inside.genome seq n → resized s name n ≡ Ok (record inside { genome = g })
+resized-in inside s g name seq n same at past other is =
+    resized-done s name n seq (ap (λ (t : State). rank_of t.genome name) (sym same) ∙ sym at) past other
+    ∙ ap (λ (t : State). Ok (with_sequence_length t seq n)) (sym same)
+    ∙ ap (λ (h : Sequences). Ok (record inside { genome = h })) (sym is)
+
+-- ---- the bases of a FASTA file
+
+same-count : (o : Option (List ℕ)) (bases : List ℕ) (n : ℕ) → o ≡ Some bases → is_other (option_map length o) n ≡ false → length bases ≡ n
+same-count o bases n at not_other =
+    let differs : not (length bases == n) ≡ false = ap (λ (p : Option (List ℕ)). is_other (option_map length p) n) (sym at) ∙ not_other in
+    eqb-true (length bases) n (not-false (length bases == n) differs)
+
+lengths-corrected : (g : Sequences) (fasta : Bases) (seq n : ℕ) → HasLengthsOf g fasta → seq < length g → has_other_bases (Some fasta) seq n ≡ false
+    → HasLengthsOf (with_length g seq n) fasta
+lengths-corrected g fasta seq n are within not_other k bases at = elim (cases_eq k seq) [
+  | inl same ↦
+      let count : length bases ≡ n = same-count (bases_of fasta seq) bases n (ap (bases_of fasta) (sym same) ∙ at) not_other in
+      ap (length_at (with_length g seq n)) same ∙ length_at-with_length g seq n within ∙ ap (λ (m : ℕ). Some m) (sym count)
+  | inr differ ↦ length_at-other g seq n k differ ∙ are k bases at
+]
+
+-- what an accepted resize says
+accepted : (old new : State) (name : List ℕ) (n : ℕ) → resized old name n ≡ Ok new
+    → (seq : ℕ) × (rank_of old.genome name ≡ Some seq) × (has_other_bases old.bases seq n ≡ false) × (with_sequence_length old seq n ≡ new)
+accepted old new name n is = by (rank_of old.genome name) refl is
+  where
+    by : (o : Option ℕ) → rank_of old.genome name ≡ o → resized_if old o n ≡ Ok new
+        → (seq : ℕ) × (rank_of old.genome name ≡ Some seq) × (has_other_bases old.bases seq n ≡ false) × (with_sequence_length old seq n ≡ new)
+    by None at is = absurd (cc is)
+    by (Some seq) at is = elim (cases_Bool (has_record_past old seq n)) [
+      | inl past ↦
+          let never : ◌≡◌ {A = Result State ResizeFault} (Err fault.Shorter) (Ok new) = sym (cond-true _ _ _ past) ∙ is in
+          absurd (cc never)
+      | inr clear ↦ elim (cases_Bool (has_other_bases old.bases seq n)) [
+        | inl other ↦
+            let never : ◌≡◌ {A = Result State ResizeFault} (Err fault.Fixed) (Ok new) = sym (cond-false _ _ _ clear ∙ cond-true _ _ _ other) ∙ is in
+            absurd (cc never)
+        | inr same ↦
+            let done : ◌≡◌ {A = Result State ResizeFault} (Ok (with_sequence_length old seq n)) (Ok new) = sym (cond-false _ _ _ clear ∙ cond-false _ _ _ same) ∙ is in
+            (seq, at, same, cc done)
+      ]
+    ]
+
+pub lengths-resized : (old new : State) (fasta : Bases) (name : List ℕ) (n : ℕ) → old.bases ≡ Some fasta → HasLengthsOf old.genome fasta → resized old name n ≡ Ok new
+    → HasLengthsOf new.genome fasta
+lengths-resized old new fasta name n there are is =
+    let took = accepted old new name n is in
+    subst (λ (s : State). HasLengthsOf s.genome fasta) took.3
+    (lengths-corrected old.genome fasta took.0 n are (rank-within old.genome name took.0 took.1) (ap (λ (o : Option Bases). has_other_bases o took.0 n) (sym there) ∙ took.2))

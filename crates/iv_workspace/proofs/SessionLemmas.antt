@@ -1,0 +1,218 @@
+-- The records of a session.
+use Rattle.std.specs.Prelude.{All, IfSome, IsSome, option_map}
+use Rattle.std.proofs.Common.{◌≡◌, ◌∙◌, ℕ, ◌<◌, ◌≤◌, Bool, true, false, List, [], ◌∷◌, Option, None, Some, Ok, length, arith, refl, sym, ap, subst}
+use Rattle.std.specs.Option.{is_some}
+use Rattle.std.proofs.lemmas.Bool.{lt-leb}
+use Rattle.iv_text.specs.Genome.{Sequences}
+use Rattle.iv_text.specs.BedFile.{Bed}
+use Rattle.iv_text.specs.Ordered.{copies, added, ordered, AreInOrder}
+use Rattle.iv_text.specs.Read.{Fits}
+use Rattle.iv_text.specs.Row.{Row, row_cmp, rows_total}
+use Rattle.iv_text.proofs.RowLemmas.{rows_exact}
+use Rattle.iv_text.proofs.OrderedLemmas.{all-all_added, length-all_added, length-added, in_order-added, copies-added}
+use Rattle.std.proofs.lemmas.List.Elements.{All-from_recursion, recursion_from_All}
+use Rattle.iv_track.specs.Tracked.{Tracked, removed}
+use Rattle.iv_track.proofs.Counts.{length-removed, removed-added}
+use Rattle.iv_track.proofs.Edits.{All-added, All-removed, added-removed}
+use Rattle.iv_view.specs.declared.kept_state.StateKey.{StateKey}
+use Rattle.iv_view.specs.declared.view.View.{View}
+use Rattle.iv_view.specs.KeptStates.{state_key_of}
+use Rattle.iv_workspace.specs.OpenViews.{Shown, Stales, Freshens, all_current, with_current}
+use Rattle.iv_workspace.specs.Views.{is_view_name, view_named, words_said, opened}
+use Rattle.iv_workspace.proofs.OpenViewLemmas.{all-current, freshens-all, freshens-one}
+use Rattle.iv_workspace.specs.States.{State, IsTrackOn, IsServed, AreServed, IsWrittenFresh, AreWrittenFresh, IsButStale, IsSession, tracked}
+
+-- the records fit with one more that fits
+pub fit-added : (g : Sequences) (t : Tracked) (r : Row) → IsTrackOn g t → Fits g t.width r → All (Fits g t.width) (added t.rows r)
+fit-added g t r is fits = All-added (Fits g t.width) t.rows r is.fit fits
+
+-- with one more record that fits it is still a session's track, where there was room
+pub track-added : (g : Sequences) (t : Tracked) (r : Row)
+    → IsTrackOn g t → Fits g t.width r → length t.rows < t.limit → IsTrackOn g (record t { rows = added t.rows r })
+track-added g t r is fits room = record {
+  low = is.low;
+  high = is.high;
+  fit = fit-added g t r is fits;
+  few = omega (arith, length-added row_cmp t.rows r);
+}
+
+-- with one copy less too
+pub track-removed : (g : Sequences) (t : Tracked) (r : Row)
+    → IsTrackOn g t → 0 < copies t.rows r → IsTrackOn g (record t { rows = removed t.rows r })
+track-removed g t r is there = record {
+  low = is.low;
+  high = is.high;
+  fit = All-removed (Fits g t.width) t.rows r is.fit;
+  few = omega (arith, length-removed row_cmp t.rows r there, is.few);
+}
+
+-- a record that takes the place of one needs no room
+pub track-replaced : (g : Sequences) (t : Tracked) (r q : Row)
+    → IsTrackOn g t → 0 < copies t.rows r → Fits g t.width q → IsTrackOn g (record t { rows = added (removed t.rows r) q })
+track-replaced g t r q is there fits =
+    track-added g (record t { rows = removed t.rows r }) q (track-removed g t r is there) fits
+    (omega (arith, length-removed row_cmp t.rows r there, is.few))
+
+-- the views of a session are changed
+pub views-changed : (change : List (List ℕ × Shown) → List (List ℕ × Shown)) (inside s : State) (more : List (List ℕ × Shown)) → inside ≡ s → more ≡ change inside.views
+    → record inside { views = more } ≡ record s { views = change s.views }
+views-changed change inside s more same is =
+    ap (λ (l : List (List ℕ × Shown)). record inside { views = l }) is ∙ ap (λ (u : State). record u { views = change u.views }) same
+
+-- an edit of the track, after which some views may be stale
+pub edited : (change : Tracked → Tracked) (inside s : State) (t : Tracked) (more : List (List ℕ × Shown)) → inside ≡ s → t ≡ change inside.track
+    → Stales inside.views more → IsButStale (record s { track = change s.track }) (record inside { track = t; views = more })
+edited change inside s t more same is less =
+    subst (λ (s : State). IsButStale (record s { track = change s.track }) (record inside { track = t; views = more })) same
+    (subst (λ (t : Tracked). IsButStale (record inside { track = change inside.track }) (record inside { track = t; views = more })) (sym is) (refl, less))
+
+-- a track before and after a record q was added, and after one copy of r was then taken out
+pub record Replaced (g : Sequences) (old mid new : Tracked) (r q : Row) : Type 0 where
+  pub fit : All (Fits g mid.width) mid.rows
+  pub again : mid.rows ≡ added new.rows r
+  pub track_is : IsTrackOn g new
+  pub width : new.width ≡ old.width
+  pub is : new ≡ record old { rows = added (removed old.rows r) q }
+
+pub staged-there : (old mid : Tracked) (r q : Row) → 0 < copies old.rows r → mid ≡ record old { rows = added old.rows q } → 0 < copies mid.rows r
+staged-there old mid r q there is = subst (λ (t : Tracked). 0 < copies t.rows r) (sym is) (omega (arith, there, copies-added row_cmp old.rows q r))
+
+pub replaced : (g : Sequences) (old mid new : Tracked) (r q : Row) → IsTrackOn g old → AreInOrder old.rows → 0 < copies old.rows r → Fits g old.width q
+    → mid ≡ record old { rows = added old.rows q } → new ≡ record mid { rows = removed mid.rows r } → Replaced g old mid new r q
+replaced g old mid new r q session order there fits first second =
+    let one : Tracked = record old { rows = added old.rows q } in
+    let two : Tracked = record one { rows = removed one.rows r } in
+    let last : new ≡ two = second ∙ ap (λ (t : Tracked). record t { rows = removed t.rows r }) first in
+    let swap : two.rows ≡ added (removed old.rows r) q = removed-added row_cmp rows_total rows_exact old.rows q r order there in
+    let whole : Replaced g old one two r q = record {
+      fit = fit-added g old q session fits;
+      again = added-removed one.rows r (in_order-added row_cmp rows_total old.rows q order) (staged-there old one r q there refl);
+      track_is = subst (λ (l : List Row). IsTrackOn g (record old { rows = l })) (sym swap) (track-replaced g old r q session there fits);
+      width = refl;
+      is = ap (λ (l : List Row). record old { rows = l }) swap;
+    } in
+    subst (λ (t : Tracked). Replaced g old t new r q) (sym first) (subst (λ (t : Tracked). Replaced g old one t r q) (sym last) whole)
+
+-- the same, by the records of the session and their copies
+pub replaced-in : (inside s : State) (mid new : Tracked) (before r after q : Row) → inside ≡ s → before ≡ r → after ≡ q → IsTrackOn inside.genome inside.track → AreInOrder inside.track.rows
+    → 0 < copies inside.track.rows before → Fits s.genome s.track.width q → mid ≡ record inside.track { rows = added inside.track.rows after } → new ≡ record mid { rows = removed mid.rows before }
+    → Replaced inside.genome inside.track mid new r q
+replaced-in inside s mid new before r after q same first next session order there fits staged taken =
+    let old : Tracked = inside.track in
+    replaced inside.genome old mid new r q session order (subst (λ (x : Row). 0 < copies old.rows x) first there) (subst (λ (t : State). Fits t.genome t.track.width q) (sym same) fits)
+    (staged ∙ ap (λ (x : Row). record old { rows = added old.rows x }) next)
+    (taken ∙ ap (λ (x : Row). record mid { rows = removed mid.rows x }) first)
+
+-- a name without a fault leaves it to the words
+pub no-name_fault : (inside s : State) (name : List ℕ) (words : List (List ℕ)) (v : View) → inside ≡ s → is_view_name name ≡ true → is_some (view_named inside.views name) ≡ false
+    → length inside.views < 64 → words_said inside words ≡ Ok v → opened s name words ≡ Ok v
+no-name_fault inside s name words v same good free few said =
+    subst (λ (t : State). opened t name words ≡ Ok v) same (rw (good, free, lt-leb 64 (length inside.views) few) said)
+
+-- ---- views beside a second file
+
+-- views that are the same, but for which of them are stale, stand beside it too
+served-stales : (second : Option Tracked) (old new : List (List ℕ × Shown)) → Stales old new → AreServed second old → AreServed second new
+served-stales second [] [] less served = tt
+served-stales second [] (w ∷ new) less served = absurd less
+served-stales second (v ∷ old) [] less served = absurd less
+served-stales second (v ∷ old) (w ∷ new) less served =
+    (subst (IsServed second) (sym less.1) served.0, served-stales second old new less.4 served.1)
+
+served-fresher : (second : Option Tracked) (old new : List (List ℕ × Shown)) → Freshens old new → AreServed second old → AreServed second new
+served-fresher second [] [] less served = tt
+served-fresher second [] (w ∷ new) less served = absurd less
+served-fresher second (v ∷ old) [] less served = absurd less
+served-fresher second (v ∷ old) (w ∷ new) less served =
+    (subst (IsServed second) (sym less.1) served.0, served-fresher second old new less.3 served.1)
+
+-- those of which one is current, and those of which all are
+pub served-current : (second : Option Tracked) (name : List ℕ) (old new : List (List ℕ × Shown)) → new ≡ with_current old name → AreServed second old → AreServed second new
+served-current second name old new are served = subst (AreServed second) (sym are) (all-current (IsServed second) name old served)
+
+-- ---- views of which nothing is kept
+
+fresh-stales : (old new : List (List ℕ × Shown)) → Stales old new → AreWrittenFresh old → AreWrittenFresh new
+fresh-stales [] [] less fresh = tt
+fresh-stales [] (w ∷ new) less fresh = absurd less
+fresh-stales (v ∷ old) [] less fresh = absurd less
+fresh-stales (v ∷ old) (w ∷ new) less fresh = (
+  λ none.
+      let was : state_key_of v.1.view ≡ None = ap state_key_of (sym less.1) ∙ none in
+      less.3 was ∙ fresh.0 was,
+  fresh-stales old new less.4 fresh.1,
+)
+
+fresh-fresher : (old new : List (List ℕ × Shown)) → Freshens old new → AreWrittenFresh old → AreWrittenFresh new
+fresh-fresher [] [] less fresh = tt
+fresh-fresher [] (w ∷ new) less fresh = absurd less
+fresh-fresher (v ∷ old) [] less fresh = absurd less
+fresh-fresher (v ∷ old) (w ∷ new) less fresh =
+    (λ none. still w.1.stale v.1.stale less.2 (fresh.0 (ap state_key_of (sym less.1) ∙ none)), fresh-fresher old new less.3 fresh.1)
+  where
+    still : (b c : Bool) → (b ≡ true → c ≡ true) → c ≡ false → b ≡ false
+    still false c up is = refl
+    still true c up is = let both : true ≡ false = sym (up refl) ∙ is in absurd (cc (both))
+
+-- a view that is stale is one of which something is kept
+pub stale-kept : (v : Shown) → IsWrittenFresh v → v.stale ≡ true → IsSome (state_key_of v.view)
+stale-kept v fresh stale = by (state_key_of v.view) refl
+  where
+    by : (o : Option StateKey) → state_key_of v.view ≡ o → IsSome o
+    by None none = let both : true ≡ false = sym stale ∙ fresh none in absurd (cc (both))
+    by (Some what) is = refl
+
+-- ---- what a session keeps true while its views become stale or current
+
+pub session-stales : (g : Sequences) (track t : Tracked) (second : Option Tracked) (old new : List (List ℕ × Shown))
+    → IsSession g track second old → IsTrackOn g t → Stales old new → IsSession g t second new
+session-stales g track t second old new whole on less = record {
+  track_is = on;
+  second_is = whole.second_is;
+  served = served-stales second old new less whole.served;
+  fresh = fresh-stales old new less whole.fresh;
+}
+
+pub session-fresher : (g : Sequences) (track : Tracked) (second : Option Tracked) (old new : List (List ℕ × Shown))
+    → IsSession g track second old → Freshens old new → IsSession g track second new
+session-fresher g track second old new whole less = record {
+  track_is = whole.track_is;
+  second_is = whole.second_is;
+  served = served-fresher second old new less whole.served;
+  fresh = fresh-fresher old new less whole.fresh;
+}
+
+-- the views, that of one name current, or all of them
+pub session-printed : (g : Sequences) (track : Tracked) (second : Option Tracked) (name : List ℕ) (old new : List (List ℕ × Shown))
+    → IsSession g track second old → new ≡ with_current old name → IsSession g track second new
+session-printed g track second name old new whole are =
+    session-fresher g track second old new whole (subst (Freshens old) (sym are) (freshens-one old name))
+
+pub session-all_printed : (g : Sequences) (track : Tracked) (second : Option Tracked) (old new : List (List ℕ × Shown))
+    → IsSession g track second old → new ≡ all_current old → IsSession g track second new
+session-all_printed g track second old new whole are =
+    session-fresher g track second old new whole (subst (Freshens old) (sym are) (freshens-all old))
+
+-- ---- the tracks of files
+
+pub track-of_file : (g : Sequences) (file : Bed) (limit : ℕ) → (3 ≤ file.width) × (file.width ≤ 6) → All (Fits g file.width) file.rows → length file.rows ≤ limit
+    → IsTrackOn g (tracked file limit)
+track-of_file g file limit known fit few =
+    let F : Row → Type 0 = Fits g file.width in
+    record {
+      low = known.0;
+      high = known.1;
+      fit = All-from_recursion F (ordered file.rows) (all-all_added row_cmp F file.rows [] (recursion_from_All F file.rows fit) tt);
+      few = omega (arith, length-all_added row_cmp file.rows [], few);
+    }
+
+pub second-of_file : (g : Sequences) (file : Option Bed) (limit : ℕ) → IfSome file (λ f. (3 ≤ f.width) × (f.width ≤ 6))
+    → IfSome file (λ f. All (Fits g f.width) f.rows) → IfSome file (λ f. length f.rows ≤ limit)
+    → IfSome (option_map (λ f. tracked f limit) file) (IsTrackOn g)
+second-of_file g None limit known fit few = tt
+second-of_file g (Some file) limit known fit few = track-of_file g file limit known fit few
+
+-- the records of a file have its width
+pub widths-of_file : (g : Sequences) (file : Option Bed) → IfSome file (λ f. All (Fits g f.width) f.rows) → IfSome file (λ f. All (λ r. r.width ≡ f.width) f.rows)
+widths-of_file g None fit = tt
+widths-of_file g (Some file) fit = λ i r within. (fit i r within).width_is

@@ -1,0 +1,681 @@
+-- The states that open views share.
+use denote.Ref.{Bor}
+use Rattle.std.specs.Option.{option_copied}
+use Rattle.std.proofs.Common.{◌≡◌, ℕ, suc, zero, ◌+◌, ◌<◌, ◌≤◌, ◌++◌, ◌⊎◌, inl, inr, Bool, true, false, if◌then◌else◌, List, [], ◌∷◌, Option, None, Some, length, drop, slice_get, get_or, add-one, refl, sym, ap, ap₂, subst, ◌∙◌, arith}
+use Rattle.std.specs.Prelude.{IfSome, ◌&&◌, ◌||◌, not}
+use Rattle.std.specs.List.{AllByRecursion}
+use Rattle.std.specs.List.{position}
+use Rattle.std.specs.Map.{keys_of, values_of, lookup, remove_entry}
+use Rattle.std.specs.Str.{bytes_eq}
+use Rattle.std.proofs.lemmas.List.{map-append}
+use Rattle.std.proofs.lemmas.List.Quantifiers.{position-Some}
+use Rattle.indexmap.specs.Layout.{set_value_at}
+use Rattle.indexmap.proofs.MapLemmas.{Missing-position}
+use Rattle.iv_text.specs.Row.{Row}
+use Rattle.iv_view.specs.KeptStates.{built_for, state_key_of, IsRight}
+use Rattle.iv_view.specs.declared.kept_state.KeptState.{KeptState}
+use Rattle.iv_view.specs.declared.kept_state.StateKey.{StateKey}
+use Rattle.iv_view.specs.declared.view.View.{View}
+use Rattle.iv_workspace.specs.ViewStates.{seen, all_seen, kept_with, owned, all_owned, IsOwned, IsKept, HaveStates, IsOwnRight, AreOwnRight, AreRight, IsRepaired, AreRepaired, AreMarked, IsMissing, NoneNeeds, current_at}
+use Rattle.iv_workspace.specs.OpenViews.{Shown, Stales, Freshens, current, all_current, with_current, stale_count, all_steps, view_steps}
+use Rattle.iv_workspace.specs.declared.open_view.OpenView.{OpenView}
+use Rattle.iv_workspace.proofs.OpenViewLemmas.{Midway, midway-begin, midway-next, midway-end, midway-at, Written, written-at, named, all-append, all-front, all-back, all-removed, all-named, all-at, stales-append, freshens-same, seen-append, remove-seen}
+
+-- ---- what is kept is among the states
+
+owned-append : {A : Type 0} (xs ys : List (List ℕ × OpenView A)) → all_owned (xs ++ ys) ≡ all_owned xs ++ all_owned ys
+owned-append xs ys = map-append _ xs ys
+
+among-front : (what : StateKey) (xs ys : List (Option StateKey)) → IsOwned what xs → IsOwned what (xs ++ ys)
+among-front what [] ys a = absurd a
+among-front what (x ∷ xs) ys (inl here) = inl here
+among-front what (x ∷ xs) ys (inr a) = inr (among-front what xs ys a)
+
+among-back : (what : StateKey) (xs ys : List (Option StateKey)) → IsOwned what ys → IsOwned what (xs ++ ys)
+among-back what [] ys a = a
+among-back what (x ∷ xs) ys a = inr (among-back what xs ys a)
+
+-- another state in the place of one, where what was kept there is kept still
+among-written : (what : StateKey) (xs ys : List (Option StateKey)) (o p : Option StateKey) → (o ≡ Some what → IsOwned what (xs ++ p ∷ ys))
+    → IsOwned what (xs ++ o ∷ ys) → IsOwned what (xs ++ p ∷ ys)
+among-written what [] ys o p there (inl here) = there here
+among-written what [] ys o p there (inr a) = inr a
+among-written what (x ∷ xs) ys o p there (inl here) = inl here
+among-written what (x ∷ xs) ys o p there (inr a) =
+    by xs (λ l. inr l) a
+  where
+    by : (zs : List (Option StateKey)) → (IsOwned what (zs ++ p ∷ ys) → IsOwned what (x ∷ (xs ++ p ∷ ys))) → IsOwned what (zs ++ o ∷ ys) → IsOwned what (x ∷ (xs ++ p ∷ ys))
+    by [] wrap (inl here) = there here
+    by [] wrap (inr a) = wrap (inr a)
+    by (z ∷ zs) wrap (inl here) = wrap (inl here)
+    by (z ∷ zs) wrap (inr a) = by zs (λ l. wrap (inr l)) a
+
+-- views that have their states have them among more
+kept-more : (states more : List (Option StateKey)) (view : View) → ((what : StateKey) → IsOwned what states → IsOwned what more) → IsKept states view → IsKept more view
+kept-more states more view grows kept = by (state_key_of view) kept
+  where
+    by : (o : Option StateKey) → IfSome o (λ what. IsOwned what states) → IfSome o (λ what. IsOwned what more)
+    by None kept = tt
+    by (Some what) kept = grows what kept
+
+-- a view of which nothing is kept needs no state
+kept-none : (states : List (Option StateKey)) (view : View) → state_key_of view ≡ None → IsKept states view
+kept-none states view none = subst (λ (o : Option StateKey). IfSome o (λ what. IsOwned what states)) (sym none) tt
+
+have-more : (states more : List (Option StateKey)) (views : List (List ℕ × Shown)) → ((what : StateKey) → IsOwned what states → IsOwned what more) → HaveStates states views → HaveStates more views
+have-more states more [] grows have = tt
+have-more states more (v ∷ views) grows have = (λ fresh. kept-more states more v.1.view grows (have.0 fresh), have-more states more views grows have.1)
+
+-- ---- an open view's own state
+
+pub own-some : {A : Type 0} (o : Option (Bor (KeptState A))) (state : Option (KeptState A)) (K : Type 0) → option_copied o ≡ state → K → IfSome o (λ k. (state ≡ Some k.now) × K)
+own-some None state K is k = tt
+own-some (Some j) state K is k = (sym is, k)
+
+pub own-none : {A : Type 0} (o : Option (Bor (KeptState A))) (v : OpenView A) (what : StateKey) → option_copied o ≡ v.state → o ≡ None → owned v ≡ Some what → ⊥
+own-none None v what is none owns = let both : None ≡ Some what = ap (kept_with v.view) is ∙ owns in cc (both)
+own-none (Some j) v what is none owns = cc (none)
+
+pub own-other : {A : Type 0} (v : OpenView A) (what : StateKey) → (state_key_of v.view ≡ Some what → ⊥) → owned v ≡ Some what → ⊥
+own-other {A} v what other owns = by v.state owns
+  where
+    by : (o : Option (KeptState A)) → kept_with v.view o ≡ Some what → ⊥
+    by None owns = cc (owns)
+    by (Some k) owns = other owns
+
+-- ---- repairs
+
+steps-append : (xs ys : List (List ℕ × Shown)) (rows : List Row) (r : Row) → all_steps (xs ++ ys) rows r ≡ all_steps xs rows r + all_steps ys rows r
+steps-append [] ys rows r = omega arith
+steps-append (x ∷ xs) ys rows r = omega (arith, steps-append xs ys rows r)
+
+both-true : (a b : Bool) → a && b ≡ true → (a ≡ true) × (b ≡ true)
+both-true true true e = (refl, refl)
+both-true true false e = absurd (cc (e))
+both-true false b e = absurd (cc (e))
+
+module _ {A : Type 0} (names : List (List ℕ)) (rows with_r : List Row) (r : Row) where
+  pub repaired-none : (before : ℕ) → AreRepaired {A = A} names rows with_r r true [] [] before before
+  repaired-none before = record { unless = λ e. (refl, refl); stales = tt; right = tt; steps = record { no_less = omega arith; at_most = omega arith } }
+
+  -- one more view is repaired
+  pub repaired-push : (kept also : Bool) (old new : List (List ℕ × OpenView A)) (n : List ℕ) (v w : OpenView A) (before mid after : ℕ)
+      → AreRepaired names rows with_r r kept old new before mid → IsRepaired names rows with_r r also v w mid after
+      → AreRepaired names rows with_r r (kept && also) (old ++ (n, v) ∷ []) (new ++ (n, w) ∷ []) before after
+  repaired-push kept also old new n v w before mid after all one =
+      let seen_old : all_seen (old ++ (n, v) ∷ []) ≡ all_seen old ++ (n, seen v) ∷ [] = seen-append old ((n, v) ∷ []) in
+      let seen_new : all_seen (new ++ (n, w) ∷ []) ≡ all_seen new ++ (n, seen w) ∷ [] = seen-append new ((n, w) ∷ []) in
+      let steps_are : all_steps (all_seen (old ++ (n, v) ∷ [])) with_r r ≡ all_steps (all_seen old) with_r r + (view_steps (seen v) with_r r + 0) =
+      ap (λ (l : List (List ℕ × Shown)). all_steps l with_r r) seen_old ∙ steps-append (all_seen old) ((n, seen v) ∷ []) with_r r in
+      record {
+        unless = λ e.
+            let both = both-true kept also e in
+            let before = all.unless both.0 in
+            let here = one.unless both.1 in
+            let shown : seen w ≡ seen v = ap₂ (λ (x : View) (b : Bool). record { view = x; stale = b }) one.same here.0 in (
+              seen_new ∙ ap₂ (λ (l : List (List ℕ × Shown)) (s : Shown). l ++ (n, s) ∷ []) before.0 shown ∙ sym seen_old,
+              owned-append new ((n, w) ∷ []) ∙ ap₂ (λ (l : List (Option StateKey)) (o : Option StateKey). l ++ o ∷ []) before.1 here.1 ∙ sym (owned-append old ((n, v) ∷ [])),
+            );
+        stales = rw (seen_old, seen_new) (stales-append (all_seen old) (all_seen new) ((n, seen v) ∷ []) ((n, seen w) ∷ []) all.stales (refl, one.same, one.stays, one.written, tt));
+        right = all-append (λ e. IsOwnRight e.1 names rows) new ((n, w) ∷ []) all.right (one.right, tt);
+        steps = record { no_less = omega (arith, all.steps.no_less, one.steps.no_less); at_most = omega (arith, all.steps.at_most, one.steps.at_most, steps_are) };
+      }
+
+  -- where none was lost, the views are right
+  pub repaired-kept : (old new : List (List ℕ × OpenView A)) (before after : ℕ) → AreRepaired names rows with_r r true old new before after
+      → HaveStates (all_owned old) (all_seen old) → AreRight new names rows
+  repaired-kept old new before after all have =
+      let same = all.unless refl in
+      (all.right, subst (λ (l : List (Option StateKey)). HaveStates l (all_seen new)) (sym same.1) (subst (HaveStates (all_owned old)) (sym same.0) have))
+
+-- in the midst of repairs
+pub record Repairing {A : Type 0} (names : List (List ℕ)) (rows with_r : List Row) (r : Row) (kept : Bool) (old now : List (List ℕ × OpenView A)) (place before after : ℕ) : Type 0 where
+  pub mid : Midway (λ front done. AreRepaired names rows with_r r kept front done before after) old now place
+
+module _ {A : Type 0} (names : List (List ℕ)) (rows with_r : List Row) (r : Row) (old : List (List ℕ × OpenView A)) where
+  pub repairs-begin : (now : List (List ℕ × OpenView A)) (before : ℕ) → now ≡ old → Repairing names rows with_r r true old now 0 before before
+  repairs-begin now before same = record { mid = midway-begin _ old now same (repaired-none names rows with_r r before) }
+
+  pub repairs-end : (kept : Bool) (now : List (List ℕ × OpenView A)) (place before after : ℕ) → Repairing names rows with_r r kept old now place before after → length now ≤ place
+      → AreRepaired names rows with_r r kept old now before after
+  repairs-end kept now place before after u past = midway-end (λ front done. AreRepaired names rows with_r r kept front done before after) old now place u.mid past
+
+module _ {K A : Type 0} (items : K → List ℕ) (names : List (List ℕ)) (rows with_r : List Row) (r : Row) (old : List (List ℕ × OpenView A)) where
+  pub repairs-at : (P : OpenView A → Type 0) (kept : Bool) (es : List (K × OpenView A)) (place before mid : ℕ) (v : OpenView A)
+      → Repairing names rows with_r r kept old (named items es) place before mid → slice_get (values_of es) place ≡ Some v → AllByRecursion (λ e. P e.1) old → P v
+  repairs-at P kept es place before mid v u found all = midway-at items _ P old es place v u.mid found all
+
+  pub repairs-next : (kept also : Bool) (es : List (K × OpenView A)) (place before mid after : ℕ) (v w : OpenView A)
+      → Repairing names rows with_r r kept old (named items es) place before mid → slice_get (values_of es) place ≡ Some v → IsRepaired names rows with_r r also v w mid after
+      → Repairing names rows with_r r (kept && also) old (named items (set_value_at es place w)) (place + 1) before after
+  repairs-next kept also es place before mid after v w u found one = record {
+    mid = midway-next items
+        (λ front done. AreRepaired names rows with_r r kept front done before mid) (λ front done. AreRepaired names rows with_r r (kept && also) front done before after)
+        old es place v w u.mid found (λ front done more n old_is all. repaired-push names rows with_r r kept also front done n v w before mid after all one);
+  }
+
+-- ---- views whose state is lost
+
+-- in the midst of marking views, beside these states
+pub record Marking {A : Type 0} (states : List (Option StateKey)) (old new : List (List ℕ × OpenView A)) : Type 0 where
+  pub owned_same : all_owned new ≡ all_owned old
+  pub right : (names : List (List ℕ)) (rows : List Row) → AreOwnRight old names rows → AreOwnRight new names rows
+  pub stales : Stales (all_seen old) (all_seen new)
+  pub have : HaveStates states (all_seen new)
+
+pub marking-none : {A : Type 0} (states : List (Option StateKey)) → Marking {A = A} states [] []
+marking-none states = record { owned_same = refl; right = λ names rows all. tt; stales = tt; have = tt }
+
+-- the view itself, stale unless its state is kept
+abbrev pub marked : {A : Type 0} → OpenView A → Bool → OpenView A
+marked v stale = record v { stale = stale }
+
+module _ {A : Type 0} (states : List (Option StateKey)) (v : OpenView A) (b : Bool) where
+  -- a view with a state of its own isn't marked
+  marked-right : (IsKept states v.view → b ≡ v.stale) → ((what : StateKey) → owned v ≡ Some what → IsOwned what states) → (names : List (List ℕ)) (rows : List Row)
+      → IsOwnRight v names rows → IsOwnRight (marked v b) names rows
+  marked-right keeps among names rows = by v.state refl
+    where
+      by : (o : Option (KeptState A)) → v.state ≡ o → IfSome o (λ k. (v.stale ≡ false) × (state_key_of v.view ≡ Some (built_for k)) × IsRight k names rows)
+          → IfSome o (λ k. (b ≡ false) × (state_key_of v.view ≡ Some (built_for k)) × IsRight k names rows)
+      by None is right = tt
+      by (Some k) is right =
+          let own : owned v ≡ Some (built_for k) = ap (kept_with v.view) is ∙ right.1 in
+          let kept : IsKept states v.view = subst (λ (o : Option StateKey). IfSome o (λ what. IsOwned what states)) (sym right.1) (among (built_for k) own) in
+          (keeps kept ∙ right.0, right.1, right.2)
+
+  -- one more view
+  pub marking-push : (old new : List (List ℕ × OpenView A)) (n : List ℕ) → Marking states old new → (IsKept states v.view → b ≡ v.stale) → (v.stale ≡ true → b ≡ true) → (b ≡ false → IsKept states v.view)
+      → ((what : StateKey) → owned v ≡ Some what → IsOwned what states)
+      → Marking states (old ++ (n, v) ∷ []) (new ++ (n, marked v b) ∷ [])
+  marking-push old new n all keeps stays lost among =
+      let w : OpenView A = marked v b in
+      let seen_old : all_seen (old ++ (n, v) ∷ []) ≡ all_seen old ++ (n, seen v) ∷ [] = seen-append old ((n, v) ∷ []) in
+      let seen_new : all_seen (new ++ (n, w) ∷ []) ≡ all_seen new ++ (n, seen w) ∷ [] = seen-append new ((n, w) ∷ []) in
+      record {
+        owned_same = owned-append new ((n, w) ∷ []) ∙ ap (λ (l : List (Option StateKey)). l ++ owned v ∷ []) all.owned_same ∙ sym (owned-append old ((n, v) ∷ []));
+        right = λ names rows right.
+            let front = all.right names rows (all-front (λ e. IsOwnRight e.1 names rows) old ((n, v) ∷ []) right) in
+            let here = (all-back (λ e. IsOwnRight e.1 names rows) old ((n, v) ∷ []) right).0 in
+            all-append (λ e. IsOwnRight e.1 names rows) new ((n, w) ∷ []) front (marked-right keeps among names rows here, tt);
+        stales = rw (seen_old, seen_new) (stales-append (all_seen old) (all_seen new) ((n, seen v) ∷ []) ((n, seen w) ∷ []) all.stales (refl, refl, stays, λ none. keeps (kept-none states v.view none), tt));
+        have = rw seen_new (all-append (λ e. e.1.stale ≡ false → IsKept states e.1.view) (all_seen new) ((n, seen w) ∷ []) all.have (lost, tt));
+      }
+
+-- the state of a view in a list is among those of the list
+pub owned-here : {A : Type 0} (front more : List (List ℕ × OpenView A)) (n : List ℕ) (v : OpenView A) (what : StateKey) → owned v ≡ Some what → IsOwned what (all_owned (front ++ (n, v) ∷ more))
+owned-here front more n v what is = rw (owned-append front ((n, v) ∷ more)) (among-back what (all_owned front) (owned v ∷ all_owned more) (inl is))
+
+-- in the midst of marking, what the states are kept for is as before
+marking-owned : {A : Type 0} (states : List (Option StateKey)) (old now : List (List ℕ × OpenView A)) (place : ℕ) → Midway (Marking states) old now place → all_owned now ≡ all_owned old
+marking-owned states old now place mid =
+    ap all_owned mid.now_is ∙ owned-append mid.done mid.rest ∙ ap (λ (l : List (Option StateKey)). l ++ all_owned mid.rest) mid.does.owned_same
+    ∙ sym (owned-append mid.front mid.rest) ∙ sym (ap all_owned mid.old_is)
+
+-- in the midst of a walk that marks views
+pub record MarkingUpTo {A : Type 0} (old now : List (List ℕ × OpenView A)) (place : ℕ) : Type 0 where
+  pub mid : Midway (Marking (all_owned old)) old now place
+
+module _ {A : Type 0} (old : List (List ℕ × OpenView A)) where
+  pub marks-begin : (now : List (List ℕ × OpenView A)) → now ≡ old → MarkingUpTo old now 0
+  marks-begin now same = record { mid = midway-begin _ old now same (marking-none (all_owned old)) }
+
+  pub marks-owned : (now : List (List ℕ × OpenView A)) (place : ℕ) → MarkingUpTo old now place → all_owned now ≡ all_owned old
+  marks-owned now place u = marking-owned (all_owned old) old now place u.mid
+
+  pub marks-end : (now : List (List ℕ × OpenView A)) (place : ℕ) → MarkingUpTo old now place → length now ≤ place → AreMarked old now
+  marks-end now place u past =
+      let all = midway-end (Marking (all_owned old)) old now place u.mid past in
+      record { right = all.right; stales = all.stales; states = subst (λ (l : List (Option StateKey)). HaveStates l (all_seen now)) (sym all.owned_same) all.have }
+
+module _ {K A : Type 0} (items : K → List ℕ) (old : List (List ℕ × OpenView A)) where
+  -- `kept` says whether the view has a state among those that there are
+  pub marks-next : (es : List (K × OpenView A)) (place : ℕ) (v w : OpenView A) (kept : Bool) → MarkingUpTo old (named items es) place → slice_get (values_of es) place ≡ Some v
+      → (kept ≡ true → IsKept (all_owned (named items es)) v.view) × (IsKept (all_owned (named items es)) v.view → kept ≡ true) → w ≡ marked v (v.stale || not kept)
+      → MarkingUpTo old (named items (set_value_at es place w)) (place + 1)
+  marks-next es place v w kept u found says is =
+      let states = all_owned old in
+      let same : all_owned (named items es) ≡ states = marks-owned old (named items es) place u in
+      let known : (kept ≡ true → IsKept states v.view) × (IsKept states v.view → kept ≡ true) =
+      subst (λ (l : List (Option StateKey)). (kept ≡ true → IsKept l v.view) × (IsKept l v.view → kept ≡ true)) same says in
+      record {
+        mid = midway-next items (Marking states) (Marking states) old es place v w u.mid found (λ front done more n old_is all.
+            subst (λ (x : OpenView A). Marking states (front ++ (n, v) ∷ []) (done ++ (n, x) ∷ [])) (sym is)
+            (marking-push states v (v.stale || not kept) front done n all
+            (λ there. unless v.stale kept (known.1 there)) (λ stale. stays v.stale kept stale) (λ fresh. known.0 (fresh-kept v.stale kept fresh))
+            (λ what owns. subst (λ (l : List (List ℕ × OpenView A)). IsOwned what (all_owned l)) (sym old_is) (owned-here front more n v what owns))));
+      }
+    where
+      unless : (b k : Bool) → k ≡ true → b || not k ≡ b
+      unless true k is = refl
+      unless false true is = refl
+      unless false false is = absurd (cc (is))
+
+      stays : (b k : Bool) → b ≡ true → b || not k ≡ true
+      stays true k is = refl
+      stays false k is = absurd (cc (is))
+
+      fresh-kept : (b k : Bool) → b || not k ≡ false → k ≡ true
+      fresh-kept true k is = absurd (cc (is))
+      fresh-kept false true is = refl
+      fresh-kept false false is = absurd (cc (is))
+
+-- ---- the view at a place
+
+-- the view at a place of a map, among the views
+pub at-place : {K A : Type 0} (items : K → List ℕ) (es : List (K × OpenView A)) (place : ℕ) (v : OpenView A) → slice_get (values_of es) place ≡ Some v
+    → (n : List ℕ) × (slice_get (named items es) place ≡ Some (n, v)) × (drop place (named items es) ≡ (n, v) ∷ drop (place + 1) (named items es))
+at-place {K} {A} items es place v found =
+    subst (λ (k : ℕ). (n : List ℕ) × (slice_get (named items es) place ≡ Some (n, v)) × (drop place (named items es) ≡ (n, v) ∷ drop k (named items es))) (sym (add-one place)) (by es place found)
+  where
+    by : (es : List (K × OpenView A)) (place : ℕ) → slice_get (values_of es) place ≡ Some v
+        → (n : List ℕ) × (slice_get (named items es) place ≡ Some (n, v)) × (drop place (named items es) ≡ (n, v) ∷ drop (suc place) (named items es))
+    by [] place found = absurd (cc (found))
+    by (e ∷ es) zero found = let is : e.1 ≡ v = cc (found) in (items e.0, ap (λ (u : OpenView A). Some (items e.0, u)) is, ap (λ (u : OpenView A). (items e.0, u) ∷ named items es) is)
+    by (e ∷ es) (suc place) found = by es place found
+
+-- its state is among those of the views
+owned-at : {A : Type 0} (views : List (List ℕ × OpenView A)) (place : ℕ) (e : List ℕ × OpenView A) (what : StateKey) → slice_get views place ≡ Some e → owned e.1 ≡ Some what → IsOwned what (all_owned views)
+owned-at {A} [] place e what found is = absurd (cc (found))
+owned-at {A} (x ∷ views) zero e what found is = let same : x ≡ e = cc (found) in inl (ap (λ (u : List ℕ × OpenView A). owned u.1) same ∙ is)
+owned-at {A} (x ∷ views) (suc place) e what found is = inr (owned-at views place e what found is)
+
+module _ {K A : Type 0} (items : K → List ℕ) (views : List (List ℕ × OpenView A)) (es : List (K × OpenView A)) (same : named items es ≡ views) (place : ℕ) (v : OpenView A) (found : slice_get (values_of es) place ≡ Some v) where
+  -- its name, its place and what follows it
+  pub view-at : (n : List ℕ) × (slice_get views place ≡ Some (n, v)) × (drop place views ≡ (n, v) ∷ drop (place + 1) views)
+  view-at = subst (λ (l : List (List ℕ × OpenView A)). (n : List ℕ) × (slice_get l place ≡ Some (n, v)) × (drop place l ≡ (n, v) ∷ drop (place + 1) l)) same (at-place items es place v found)
+
+  -- its state is that of what is kept of it, and is right
+  pub state-at : (what : StateKey) (k : KeptState A) → v.state ≡ Some k → state_key_of v.view ≡ Some what → (names : List (List ℕ)) (rows : List Row) → AreOwnRight views names rows
+      → (built_for k ≡ what) × IsRight k names rows
+  state-at what k is kept names rows right =
+      let own : IsOwnRight v names rows = all-at (λ u. IsOwnRight u names rows) views place (view-at.0, v) view-at.1 right in
+      let here = subst (λ (o : Option (KeptState A)). IfSome o (λ k. (v.stale ≡ false) × (state_key_of v.view ≡ Some (built_for k)) × IsRight k names rows)) is own in
+      let both : Some (built_for k) ≡ Some what = sym here.1 ∙ kept in
+      let eq : built_for k ≡ what = cc (both) in
+      (eq, here.2)
+
+  -- and is among those of the views
+  pub kept-at : (what : StateKey) (k : KeptState A) → v.state ≡ Some k → state_key_of v.view ≡ Some what → IsOwned what (all_owned views)
+  kept-at what k is kept = owned-at views place (view-at.0, v) what view-at.1 (ap (kept_with v.view) is ∙ kept)
+
+  -- what isn't kept in its state is kept in those after it, if it is from it on
+  pub kept-behind : (what : StateKey) → (owned v ≡ Some what → ⊥) → IsOwned what (all_owned (drop place views)) → IsOwned what (all_owned (drop (place + 1) views))
+  kept-behind what other a = elim (subst (λ (l : List (List ℕ × OpenView A)). IsOwned what (all_owned l)) view-at.2 a) [
+    | inl here ↦ absurd (other here)
+    | inr behind ↦ behind
+  ]
+
+  -- a view that needs what is kept
+  pub needs-at : (what : StateKey) → (v.stale ≡ false) × (state_key_of v.view ≡ Some what) → IfSome (slice_get views place) (λ u. (u.1.stale ≡ false) × (state_key_of u.1.view ≡ Some what))
+  needs-at what needs = subst (λ (o : Option (List ℕ × OpenView A)). IfSome o (λ u. (u.1.stale ≡ false) × (state_key_of u.1.view ≡ Some what))) (sym view-at.1) needs
+
+  -- it doesn't need it, and so none does if none after it does
+  pub needless-at : (what : StateKey) → ((v.stale ≡ false) × (state_key_of v.view ≡ Some what) → ⊥) → NoneNeeds what (all_seen (drop (place + 1) views)) → NoneNeeds what (all_seen (drop place views))
+  needless-at what needless behind = subst (λ (l : List (List ℕ × OpenView A)). NoneNeeds what (all_seen l)) (sym view-at.2) ((λ fresh kept. needless (fresh, kept)), behind)
+
+-- the same, by the views before the place is written
+pub marks-in : {K A : Type 0} (items : K → List ℕ) (old now : List (List ℕ × OpenView A)) (es : List (K × OpenView A)) → named items es ≡ now → (place : ℕ) (v : OpenView A) → slice_get (values_of es) place ≡ Some v → (w : OpenView A) (kept : Bool)
+    → MarkingUpTo old now place → (kept ≡ true → IsKept (all_owned now) v.view) × (IsKept (all_owned now) v.view → kept ≡ true) → w ≡ marked v (v.stale || not kept)
+    → MarkingUpTo old (named items (set_value_at es place w)) (place + 1)
+marks-in {K} {A} items old now es same place v found w kept u says is =
+    marks-next items old es place v w kept (subst (λ (l : List (List ℕ × OpenView A)). MarkingUpTo old l place) (sym same) u) found
+    (subst (λ (l : List (List ℕ × OpenView A)). (kept ≡ true → IsKept (all_owned l) v.view) × (IsKept (all_owned l) v.view → kept ≡ true)) (sym same) says) is
+
+-- ---- a view that is written
+
+module _ {A : Type 0} (old new : List (List ℕ × OpenView A)) (place : ℕ) (v w : OpenView A) (u : Written old new place v w) where
+  -- what was kept is kept still, if that is so of the state in its place
+  written-grows : ((what : StateKey) → owned v ≡ Some what → IsOwned what (all_owned new)) → (what : StateKey) → IsOwned what (all_owned old) → IsOwned what (all_owned new)
+  written-grows there what a =
+      let states_are : all_owned new ≡ all_owned u.front ++ owned w ∷ all_owned u.more = ap all_owned u.new_is ∙ owned-append u.front ((u.name, w) ∷ u.more) in
+      let states_were : all_owned old ≡ all_owned u.front ++ owned v ∷ all_owned u.more = ap all_owned u.old_is ∙ owned-append u.front ((u.name, v) ∷ u.more) in
+      subst (IsOwned what) (sym states_are)
+      (among-written what (all_owned u.front) (all_owned u.more) (owned v) (owned w) (λ is. subst (IsOwned what) states_are (there what is)) (subst (IsOwned what) states_were a))
+
+  -- the state that was written is among those after it
+  written-owned : (what : StateKey) → owned w ≡ Some what → IsOwned what (all_owned new)
+  written-owned what is = subst (λ (l : List (List ℕ × OpenView A)). IsOwned what (all_owned l)) (sym u.new_is) (owned-here u.front u.more u.name w what is)
+
+  -- the view before it was written
+  pub written-all : (P : OpenView A → Type 0) → AllByRecursion (λ e. P e.1) old → P v
+  written-all P all = (all-back (λ e. P e.1) u.front ((u.name, v) ∷ u.more) (subst (λ (l : List (List ℕ × OpenView A)). AllByRecursion (λ e. P e.1) l) u.old_is all)).0
+
+  -- the views are right, if that view is
+  written-right : (names : List (List ℕ)) (rows : List Row) (states : List (Option StateKey)) → AreOwnRight old names rows → HaveStates states (all_seen old)
+      → ((what : StateKey) → IsOwned what states → IsOwned what (all_owned new)) → IsOwnRight w names rows → (w.stale ≡ false → IsKept (all_owned new) w.view) → AreRight new names rows
+  written-right names rows states right have grows own kept =
+      let P : List ℕ × OpenView A → Type 0 = λ e. IsOwnRight e.1 names rows in
+      let before = subst (λ (l : List (List ℕ × OpenView A)). AreOwnRight l names rows) u.old_is right in
+      let Q : List ℕ × Shown → Type 0 = λ e. e.1.stale ≡ false → IsKept (all_owned new) e.1.view in
+      let more : HaveStates (all_owned new) (all_seen u.front ++ (u.name, seen v) ∷ all_seen u.more) =
+      subst (HaveStates (all_owned new)) (ap all_seen u.old_is ∙ seen-append u.front ((u.name, v) ∷ u.more)) (have-more states (all_owned new) (all_seen old) grows have) in
+      let seen_are : all_seen new ≡ all_seen u.front ++ (u.name, seen w) ∷ all_seen u.more = ap all_seen u.new_is ∙ seen-append u.front ((u.name, w) ∷ u.more) in (
+        subst (λ (l : List (List ℕ × OpenView A)). AreOwnRight l names rows) (sym u.new_is)
+            (all-append P u.front ((u.name, w) ∷ u.more) (all-front P u.front ((u.name, v) ∷ u.more) before) (own, (all-back P u.front ((u.name, v) ∷ u.more) before).1)),
+        subst (HaveStates (all_owned new)) (sym seen_are)
+            (all-append Q (all_seen u.front) ((u.name, seen w) ∷ all_seen u.more) (all-front Q (all_seen u.front) ((u.name, seen v) ∷ all_seen u.more) more)
+            (kept, (all-back Q (all_seen u.front) ((u.name, seen v) ∷ all_seen u.more) more).1)),
+      )
+
+-- a view that is built anew, with the state that was missing
+abbrev pub renewed : {A : Type 0} → View → Option (KeptState A) → OpenView A
+renewed view state = record { view = view; stale = false; state = state }
+
+-- the state that was missing is right, and is what is kept of the view
+missing-own : {A : Type 0} (states : List (Option StateKey)) (view : View) (names : List (List ℕ)) (rows : List Row) (state : Option (KeptState A))
+    → IsMissing states view names rows state → IsOwnRight (renewed view state) names rows
+missing-own states view names rows None missing = tt
+missing-own states view names rows (Some k) missing = (refl, missing.0, missing.1)
+
+missing-kept : {A : Type 0} (states more : List (Option StateKey)) (view : View) (names : List (List ℕ)) (rows : List Row) (state : Option (KeptState A))
+    → IsMissing states view names rows state → ((what : StateKey) → IsOwned what states → IsOwned what more) → ((what : StateKey) → kept_with view state ≡ Some what → IsOwned what more) → IsKept more view
+missing-kept states more view names rows None missing grows own = kept-more states more view grows missing
+missing-kept states more view names rows (Some k) missing grows own = by (state_key_of view) refl
+  where
+    by : (o : Option StateKey) → state_key_of view ≡ o → IfSome o (λ what. IsOwned what more)
+    by None is = tt
+    by (Some what) is = own what is
+
+-- a view that was stale is built anew
+pub renewed-right : {A : Type 0} (names : List (List ℕ)) (rows : List Row) (old new : List (List ℕ × OpenView A)) (place : ℕ) (v : OpenView A) (state : Option (KeptState A))
+    → Written old new place v (renewed v.view state) → v.stale ≡ true → IsMissing (all_owned old) v.view names rows state → AreRight old names rows → AreRight new names rows
+renewed-right {A} names rows old new place v state u stale missing right =
+    let w : OpenView A = renewed v.view state in
+    let own : IsOwnRight v names rows = written-all old new place v w u (λ e. IsOwnRight e names rows) right.0 in
+    let grows = written-grows old new place v w u (λ what is. absurd (no-state v.state own what is)) in
+    written-right old new place v w u names rows (all_owned old) right.0 right.1 grows (missing-own (all_owned old) v.view names rows state missing)
+    (λ fresh. missing-kept (all_owned old) (all_owned new) v.view names rows state missing grows (written-owned old new place v w u))
+  where
+    no-state : (o : Option (KeptState A)) → IfSome o (λ k. (v.stale ≡ false) × (state_key_of v.view ≡ Some (built_for k)) × IsRight k names rows) → (what : StateKey) → kept_with v.view o ≡ Some what → ⊥
+    no-state None own what is = cc (is)
+    no-state (Some k) own what is = let both : true ≡ false = sym stale ∙ own.0 in cc (both)
+
+-- one more view, with the state that was missing
+pub opened-right : {A : Type 0} (names : List (List ℕ)) (rows : List Row) (views : List (List ℕ × OpenView A)) (name : List ℕ) (view : View) (state : Option (KeptState A))
+    → IsMissing (all_owned views) view names rows state → AreRight views names rows → AreRight (views ++ (name, renewed view state) ∷ []) names rows
+opened-right {A} names rows views name view state missing right =
+    let w : OpenView A = renewed view state in
+    let all : List (List ℕ × OpenView A) = views ++ (name, w) ∷ [] in
+    let states_are : all_owned all ≡ all_owned views ++ owned w ∷ [] = owned-append views ((name, w) ∷ []) in
+    let grows : (what : StateKey) → IsOwned what (all_owned views) → IsOwned what (all_owned all) = λ what a. subst (IsOwned what) (sym states_are) (among-front what (all_owned views) (owned w ∷ []) a) in
+    let own : (what : StateKey) → kept_with view state ≡ Some what → IsOwned what (all_owned all) = owned-here views [] name w in (
+      all-append (λ e. IsOwnRight e.1 names rows) views ((name, w) ∷ []) right.0 (missing-own (all_owned views) view names rows state missing, tt),
+      subst (HaveStates (all_owned all)) (sym (seen-append views ((name, w) ∷ [])))
+          (all-append (λ e. e.1.stale ≡ false → IsKept (all_owned all) e.1.view) (all_seen views) ((name, seen w) ∷ []) (have-more (all_owned views) (all_owned all) (all_seen views) grows right.1)
+          (λ fresh. missing-kept (all_owned views) (all_owned all) view names rows state missing grows own, tt)),
+    )
+
+-- ---- a view that is closed
+
+-- a view that takes a state over
+abbrev pub with_state : {A : Type 0} → OpenView A → KeptState A → OpenView A
+with_state v k = record v { state = Some k }
+
+-- the first view that needs a state takes it over
+pub handed-right : {A : Type 0} (names : List (List ℕ)) (rows : List Row) (old new : List (List ℕ × OpenView A)) (place : ℕ) (v : OpenView A) (k : KeptState A) (what : StateKey) (closed : View)
+    → Written old new place v (with_state v k) → v.stale ≡ false → state_key_of v.view ≡ Some what → state_key_of closed ≡ Some what
+    → AreOwnRight old names rows → HaveStates (state_key_of closed ∷ all_owned old) (all_seen old) → (state_key_of closed ≡ Some (built_for k)) × IsRight k names rows → AreRight new names rows
+handed-right {A} names rows old new place v k what closed u fresh needs is right have state =
+    let w : OpenView A = with_state v k in
+    let here : IsOwned what (all_owned new) = written-owned old new place v w u what needs in
+    let grows = written-grows old new place v w u (λ that owns. same-state v.state that owns here) in
+    let all : (that : StateKey) → IsOwned that (state_key_of closed ∷ all_owned old) → IsOwned that (all_owned new) = λ that a. elim a [
+      | inl is_that ↦ let same : Some what ≡ Some that = sym is ∙ is_that in let eq : what ≡ that = cc (same) in subst (λ (x : StateKey). IsOwned x (all_owned new)) eq here
+      | inr before ↦ grows that before
+    ] in
+    written-right old new place v w u names rows (state_key_of closed ∷ all_owned old) right have all
+    (fresh, needs ∙ sym is ∙ state.0, state.1)
+    (λ _. subst (λ (o : Option StateKey). IfSome o (λ x. IsOwned x (all_owned new))) (sym needs) here)
+  where
+    same-state : (o : Option (KeptState A)) (that : StateKey) → kept_with v.view o ≡ Some that → IsOwned what (all_owned new) → IsOwned that (all_owned new)
+    same-state None that is here = absurd (cc (is))
+    same-state (Some j) that is here = let same : Some what ≡ Some that = sym needs ∙ is in let eq : what ≡ that = cc (same) in subst (λ (x : StateKey). IsOwned x (all_owned new)) eq here
+
+-- a state that nobody needs is no loss
+pub unneeded : (states : List (Option StateKey)) (o : Option StateKey) (views : List (List ℕ × Shown)) (what : StateKey) → o ≡ Some what
+    → NoneNeeds what views → HaveStates (o ∷ states) views → HaveStates states views
+unneeded states o [] what is none have = tt
+unneeded states o (v ∷ views) what is none have = (λ fresh. by (state_key_of v.1.view) refl (have.0 fresh) (none.0 fresh), unneeded states o views what is none.1 have.1)
+  where
+    by : (k : Option StateKey) → state_key_of v.1.view ≡ k → IfSome k (λ x. IsOwned x (o ∷ states)) → (state_key_of v.1.view ≡ Some what → ⊥) → IfSome k (λ x. IsOwned x states)
+    by None same kept not = tt
+    by (Some x) same (inl here) not = absurd (not (same ∙ sym here ∙ is))
+    by (Some x) same (inr there) not = there
+
+-- and where there was none, nothing is lost
+pub have-tail : (states : List (Option StateKey)) (views : List (List ℕ × Shown)) → HaveStates (None ∷ states) views → HaveStates states views
+have-tail states views have = have-more (None ∷ states) states views (λ what a. by what a) have
+  where
+    by : (what : StateKey) → IsOwned what (None ∷ states) → IsOwned what states
+    by what (inl is) = absurd (cc (is))
+    by what (inr a) = a
+
+-- what was kept is kept without the view of a name, or by that view
+kept-of : {A : Type 0} (name : List ℕ) (v : OpenView A) (what : StateKey) (views : List (List ℕ × OpenView A)) → lookup (bytes_eq name) views ≡ Some v → IsOwned what (all_owned views)
+    → IsOwned what (owned v ∷ all_owned (remove_entry (bytes_eq name) views))
+kept-of name v what [] found a = absurd a
+kept-of {A} name v what (e ∷ views) found a = by (bytes_eq name e.0) found a (λ there more. kept-of name v what views there more)
+  where
+    by : (b : Bool) → (if b then Some e.1 else lookup (bytes_eq name) views) ≡ Some v → (owned e.1 ≡ Some what) ⊎ IsOwned what (all_owned views)
+        → (lookup (bytes_eq name) views ≡ Some v → IsOwned what (all_owned views) → IsOwned what (owned v ∷ all_owned (remove_entry (bytes_eq name) views)))
+        → IsOwned what (owned v ∷ all_owned (if b then views else e ∷ remove_entry (bytes_eq name) views))
+    by true found (inl is) rest = let same : e.1 ≡ v = cc (found) in inl (ap owned (sym same) ∙ is)
+    by true found (inr a) rest = inr a
+    by false found (inl is) rest = inr (inl is)
+    by false found (inr a) rest = elim (rest found a) [
+      | inl is ↦ inl is
+      | inr more ↦ inr (inr more)
+    ]
+
+-- the views without that of a name, whose state is beside theirs
+pub closed-right : {A : Type 0} (name : List ℕ) (views : List (List ℕ × OpenView A)) (v : OpenView A) (names : List (List ℕ)) (rows : List Row) → lookup (bytes_eq name) views ≡ Some v → AreRight views names rows
+    → AreOwnRight (remove_entry (bytes_eq name) views) names rows × HaveStates (owned v ∷ all_owned (remove_entry (bytes_eq name) views)) (all_seen (remove_entry (bytes_eq name) views))
+    × IsOwnRight v names rows
+closed-right {A} name views v names rows found right =
+    let more = remove_entry (bytes_eq name) views in
+    let have : HaveStates (owned v ∷ all_owned more) (all_seen views) = have-more (all_owned views) (owned v ∷ all_owned more) (all_seen views) (λ what a. kept-of name v what views found a) right.1 in (
+      all-removed (λ u. IsOwnRight u names rows) name views right.0,
+      subst (HaveStates (owned v ∷ all_owned more)) (sym (remove-seen name views)) (all-removed (λ u. u.stale ≡ false → IsKept (owned v ∷ all_owned more) u.view) name (all_seen views) have),
+      all-named (λ u. IsOwnRight u names rows) name views v found right.0,
+    )
+
+-- what is of its own state
+pub own-kept : {A : Type 0} (v : OpenView A) (names : List (List ℕ)) (rows : List Row) → IsOwnRight v names rows → IfSome v.state (λ k. (state_key_of v.view ≡ Some (built_for k)) × IsRight k names rows)
+own-kept {A} v names rows own = by v.state own
+  where
+    by : (o : Option (KeptState A)) → IfSome o (λ k. (v.stale ≡ false) × (state_key_of v.view ≡ Some (built_for k)) × IsRight k names rows) → IfSome o (λ k. (state_key_of v.view ≡ Some (built_for k)) × IsRight k names rows)
+    by None own = tt
+    by (Some k) own = (own.1, own.2)
+
+-- ---- views that are made current
+
+-- the views, the first so many current
+abbrev pub current_to : ℕ → List (List ℕ × Shown) → List (List ℕ × Shown)
+current_to place [] = []
+current_to zero (v ∷ views) = v ∷ views
+current_to (suc place) (v ∷ views) = (v.0, current v.1) ∷ current_to place views
+
+pub current-next : (place : ℕ) (views : List (List ℕ × Shown)) → current_at place (current_to place views) ≡ current_to (suc place) views
+current-next place [] = refl
+current-next zero (v ∷ []) = refl
+current-next zero (v ∷ w ∷ views) = refl
+current-next (suc place) (v ∷ views) = ap (λ (l : List (List ℕ × Shown)). (v.0, current v.1) ∷ l) (current-next place views)
+
+pub current-none : (views : List (List ℕ × Shown)) → views ≡ current_to 0 views
+current-none [] = refl
+current-none (v ∷ views) = refl
+
+pub seen-length : {A : Type 0} (views : List (List ℕ × OpenView A)) → length (all_seen views) ≡ length views
+seen-length [] = refl
+seen-length (v ∷ views) = ap suc (seen-length views)
+
+-- there are as many views as before
+pub current-length : {A : Type 0} (old now : List (List ℕ × OpenView A)) (place : ℕ) → all_seen now ≡ current_to place (all_seen old) → length now ≡ length old
+current-length old now place are = sym (seen-length now) ∙ ap length are ∙ by place (all_seen old) ∙ seen-length old
+  where
+    by : (place : ℕ) (views : List (List ℕ × Shown)) → length (current_to place views) ≡ length views
+    by place [] = refl
+    by zero (v ∷ views) = refl
+    by (suc place) (v ∷ views) = ap suc (by place views)
+
+pub current-all : (place : ℕ) (views : List (List ℕ × Shown)) → length views ≤ place → current_to place views ≡ all_current views
+current-all place [] past = refl
+current-all zero (v ∷ views) past = absurd (omega (arith, past))
+current-all (suc place) (v ∷ views) past = ap (λ (l : List (List ℕ × Shown)). (v.0, current v.1) ∷ l) (current-all place views (omega (arith, past)))
+
+pub current-freshens : (place : ℕ) (views : List (List ℕ × Shown)) → Freshens views (current_to place views)
+current-freshens place [] = tt
+current-freshens zero (v ∷ views) = freshens-same (v ∷ views)
+current-freshens (suc place) (v ∷ views) = (refl, refl, λ e. absurd (cc (e)), current-freshens place views)
+
+-- a view that is stale among them is one of the stale ones
+pub stale-among : (place at : ℕ) (views : List (List ℕ × Shown)) → IfSome (slice_get (current_to place views) at) (λ v. v.1.stale ≡ true) → at < length views → 0 < stale_count views
+stale-among place at [] stale within = absurd (omega (arith, within))
+stale-among zero at views stale within = counted at views stale within
+  where
+    counted : (at : ℕ) (views : List (List ℕ × Shown)) → IfSome (slice_get views at) (λ v. v.1.stale ≡ true) → at < length views → 0 < stale_count views
+    counted at [] stale within = absurd (omega (arith, within))
+    counted zero (v ∷ views) stale within = let one : (if v.1.stale then 1 else 0) ≡ 1 = ap {B = ℕ} (λ (b : Bool). if b then 1 else 0) stale in omega (arith, one)
+    counted (suc at) (v ∷ views) stale within = omega (arith, counted at views stale (omega (arith, within)))
+stale-among (suc place) zero (v ∷ views) stale within = absurd (cc (stale))
+stale-among (suc place) (suc at) (v ∷ views) stale within = omega (arith, stale-among place at views stale (omega (arith, within)))
+
+-- the view at a place is made current
+pub written-current : {A : Type 0} (old new : List (List ℕ × OpenView A)) (place : ℕ) (v w : OpenView A) → Written old new place v w → w.view ≡ v.view → w.stale ≡ false
+    → all_seen new ≡ current_at place (all_seen old)
+written-current {A} old new place v w u view fresh =
+    let is : seen w ≡ record { view = v.view; stale = false } = ap₂ (λ (x : View) (b : Bool). record { view = x; stale = b }) view fresh in
+    ap all_seen u.new_is ∙ by u.front place u.front_is is ∙ ap (λ (l : List (List ℕ × OpenView A)). current_at place (all_seen l)) (sym u.old_is)
+  where
+    by : (front : List (List ℕ × OpenView A)) (place : ℕ) → length front ≡ place → seen w ≡ record { view = v.view; stale = false }
+        → all_seen (front ++ (u.name, w) ∷ u.more) ≡ current_at place (all_seen (front ++ (u.name, v) ∷ u.more))
+    by [] zero at is = ap (λ (s : Shown). (u.name, s) ∷ all_seen u.more) is
+    by [] (suc place) at is = absurd (omega (arith, at))
+    by (e ∷ front) zero at is = absurd (omega (arith, at))
+    by (e ∷ front) (suc place) at is = ap (λ (l : List (List ℕ × Shown)). (e.0, seen e.1) ∷ l) (by front place (omega (arith, at)) is)
+
+-- what is at one place is the same
+pub same-there : {X : Type 0} {o : Option X} (x y : X) → o ≡ Some x → o ≡ Some y → x ≡ y
+same-there x y first second = let both : Some x ≡ Some y = sym first ∙ second in cc (both)
+
+-- a view that is current stays as it is
+pub current-same : (place : ℕ) (views : List (List ℕ × Shown)) (v : List ℕ × Shown) → slice_get views place ≡ Some v → v.1.stale ≡ false → views ≡ current_at place views
+current-same place [] v found is = refl
+current-same zero (e ∷ views) v found is =
+    let same : e ≡ v = cc (found) in
+    let fresh : e.1 ≡ record e.1 { stale = false } = ap (λ (b : Bool). record e.1 { stale = b }) (ap (λ (u : List ℕ × Shown). u.1.stale) same ∙ is) in
+    ap (λ (s : Shown). (e.0, s) ∷ views) fresh
+current-same (suc place) (e ∷ views) v found is = ap (λ (l : List (List ℕ × Shown)). e ∷ l) (current-same place views v found is)
+
+-- ---- the view of a name, by its place
+
+-- a key is that of the name
+abbrev is_named : {K : Type 0} → (K → List ℕ) → List ℕ → K → Bool
+is_named items name k = bytes_eq name (items k)
+
+module _ {K A : Type 0} (items : K → List ℕ) (name : List ℕ) where
+  -- the key at a place is the first of the name
+  abbrev IsFirst : List (K × OpenView A) → ℕ → Type 0
+  IsFirst [] place = ⊥
+  IsFirst (e ∷ es) zero = is_named items name e.0 ≡ true
+  IsFirst (e ∷ es) (suc place) = (is_named items name e.0 ≡ false) × IsFirst es place
+
+  first-of : (es : List (K × OpenView A)) (place : ℕ) → position (is_named items name) (keys_of es) ≡ Some place → IsFirst es place
+  first-of [] place is = absurd (cc (is))
+  first-of (e ∷ es) place is =
+      let p = position-Some (is_named items name) (keys_of (e ∷ es)) place e.0 is in
+      by (e ∷ es) place p.0 p.1 p.2
+    where
+      by : (xs : List (K × OpenView A)) (i : ℕ) → i < length (keys_of xs) → is_named items name (get_or (keys_of xs) i e.0) ≡ true → ((k : ℕ) → k < i → is_named items name (get_or (keys_of xs) k e.0) ≡ false) → IsFirst xs i
+      by [] i within here before = absurd (omega (arith, within))
+      by (x ∷ xs) zero within here before = here
+      by (x ∷ xs) (suc i) within here before = (before 0 (omega arith), by xs i (omega (arith, within)) here (λ k low. before (suc k) (omega (arith, low))))
+
+  pub placed-current : (es : List (K × OpenView A)) (place : ℕ) → position (is_named items name) (keys_of es) ≡ Some place
+      → current_at place (all_seen (named items es)) ≡ with_current (all_seen (named items es)) name
+  placed-current es place is = by es place (first-of es place is)
+    where
+      by : (es : List (K × OpenView A)) (place : ℕ) → IsFirst es place → current_at place (all_seen (named items es)) ≡ with_current (all_seen (named items es)) name
+      by [] place first = absurd first
+      by (e ∷ es) zero first =
+          sym (ap (λ (b : Bool). if b then (items e.0, current (seen e.1)) ∷ all_seen (named items es) else (items e.0, seen e.1) ∷ with_current (all_seen (named items es)) name) first)
+      by (e ∷ es) (suc place) first =
+          ap (λ (l : List (List ℕ × Shown)). (items e.0, seen e.1) ∷ l) (by es place first.1)
+          ∙ sym (ap (λ (b : Bool). if b then (items e.0, current (seen e.1)) ∷ all_seen (named items es) else (items e.0, seen e.1) ∷ with_current (all_seen (named items es)) name) first.0)
+
+  -- the view of the name is the one at the place
+  pub placed-stale : (es : List (K × OpenView A)) (place : ℕ) → position (is_named items name) (keys_of es) ≡ Some place
+      → IfSome (slice_get (all_seen (named items es)) place) (λ v. v.1.stale ≡ true) → IfSome (lookup (bytes_eq name) (all_seen (named items es))) (λ v. v.stale ≡ true)
+  placed-stale es place is = by es place (first-of es place is)
+    where
+      by : (es : List (K × OpenView A)) (place : ℕ) → IsFirst es place
+          → IfSome (slice_get (all_seen (named items es)) place) (λ v. v.1.stale ≡ true) → IfSome (lookup (bytes_eq name) (all_seen (named items es))) (λ v. v.stale ≡ true)
+      by [] place first stale = absurd first
+      by (e ∷ es) zero first stale =
+          subst (λ (b : Bool). IfSome (if b then Some (seen e.1) else lookup (bytes_eq name) (all_seen (named items es))) (λ v. v.stale ≡ true)) (sym first) stale
+      by (e ∷ es) (suc place) first stale =
+          subst (λ (b : Bool). IfSome (if b then Some (seen e.1) else lookup (bytes_eq name) (all_seen (named items es))) (λ v. v.stale ≡ true)) (sym first.0) (by es place first.1 stale)
+
+  -- where no view has the name, none is made current
+  pub unplaced : (es : List (K × OpenView A)) → position (is_named items name) (keys_of es) ≡ None → all_seen (named items es) ≡ with_current (all_seen (named items es)) name
+  unplaced es is = by es (Missing-position (is_named items name) es is).value
+    where
+      by : (es : List (K × OpenView A)) → lookup (is_named items name) es ≡ None → all_seen (named items es) ≡ with_current (all_seen (named items es)) name
+      by [] none = refl
+      by (e ∷ es) none = head (bytes_eq name (items e.0)) none (λ there. by es there)
+        where
+          head : (b : Bool) → (if b then Some e.1 else lookup (is_named items name) es) ≡ None
+              → (lookup (is_named items name) es ≡ None → all_seen (named items es) ≡ with_current (all_seen (named items es)) name)
+              → (items e.0, seen e.1) ∷ all_seen (named items es) ≡ (if b then (items e.0, current (seen e.1)) ∷ all_seen (named items es) else (items e.0, seen e.1) ∷ with_current (all_seen (named items es)) name)
+          head true none more = absurd (cc (none))
+          head false none more = ap (λ (l : List (List ℕ × Shown)). (items e.0, seen e.1) ∷ l) (more none)
+
+-- ---- the view at a place of a map is written
+
+module _ {K A : Type 0} (items : K → List ℕ) (old : List (List ℕ × OpenView A)) (es : List (K × OpenView A)) (same : named items es ≡ old) (place : ℕ) (v : OpenView A) (found : slice_get (values_of es) place ≡ Some v) where
+  written-in : (w : OpenView A) → Written old (named items (set_value_at es place w)) place v w
+  written-in w = subst (λ (l : List (List ℕ × OpenView A)). Written l (named items (set_value_at es place w)) place v w) same (written-at items es place v w found)
+
+  -- the view at the place, as contracts see it
+  pub seen-at-place : (n : List ℕ) × (slice_get (all_seen old) place ≡ Some (n, seen v))
+  seen-at-place = let at = view-at items old es same place v found in (at.0, by old place at.1)
+    where
+      by : {n : List ℕ} (views : List (List ℕ × OpenView A)) (i : ℕ) → slice_get views i ≡ Some (n, v) → slice_get (all_seen views) i ≡ Some (n, seen v)
+      by [] i is = absurd (cc (is))
+      by {n} (x ∷ views) zero is = let eq : x ≡ (n, v) = cc (is) in ap (λ (u : List ℕ × OpenView A). Some (u.0, seen u.1)) eq
+      by (x ∷ views) (suc i) is = by views i is
+
+  -- it is current already
+  pub current-there : v.stale ≡ false → all_seen old ≡ current_at place (all_seen old)
+  current-there fresh = current-same place (all_seen old) (seen-at-place.0, seen v) seen-at-place.1 fresh
+
+  pub stale-there : v.stale ≡ true → IfSome (slice_get (all_seen old) place) (λ u. u.1.stale ≡ true)
+  stale-there stale = subst (λ (o : Option (List ℕ × Shown)). IfSome o (λ u. u.1.stale ≡ true)) (sym seen-at-place.1) stale
+
+  -- it is built anew
+  module _ (w : OpenView A) (state : Option (KeptState A)) (is : w ≡ renewed v.view state) where
+    pub renewed-in : (names : List (List ℕ)) (rows : List Row) → v.stale ≡ true → IsMissing (all_owned old) v.view names rows state → AreRight old names rows → AreRight (named items (set_value_at es place w)) names rows
+    renewed-in names rows stale missing right =
+        subst (λ (x : OpenView A). AreRight (named items (set_value_at es place x)) names rows) (sym is)
+        (renewed-right names rows old (named items (set_value_at es place (renewed v.view state))) place v state (written-in (renewed v.view state)) stale missing right)
+
+    pub renewed-seen : all_seen (named items (set_value_at es place w)) ≡ current_at place (all_seen old)
+    renewed-seen = written-current old (named items (set_value_at es place w)) place v w (written-in w) (ap (λ (x : OpenView A). x.view) is) (ap (λ (x : OpenView A). x.stale) is)
+
+  -- it takes a state over
+  module _ (w : OpenView A) (k : KeptState A) (is : w ≡ with_state v k) where
+    pub handed-in : (what : StateKey) (closed : View) (names : List (List ℕ)) (rows : List Row) → state_key_of closed ≡ Some what
+        → IfSome (slice_get old place) (λ u. (u.1.stale ≡ false) × (state_key_of u.1.view ≡ Some what)) → AreOwnRight old names rows → HaveStates (state_key_of closed ∷ all_owned old) (all_seen old)
+        → (state_key_of closed ≡ Some (built_for k)) × IsRight k names rows → AreRight (named items (set_value_at es place w)) names rows
+    handed-in what closed names rows kept needs right have state =
+        let here = subst (λ (o : Option (List ℕ × OpenView A)). IfSome o (λ u. (u.1.stale ≡ false) × (state_key_of u.1.view ≡ Some what))) (view-at items old es same place v found).1 needs in
+        subst (λ (x : OpenView A). AreRight (named items (set_value_at es place x)) names rows) (sym is)
+        (handed-right names rows old (named items (set_value_at es place (with_state v k))) place v k what closed (written-in (with_state v k)) here.0 here.1 kept right have state)
+
+    pub handed-seen : all_seen (named items (set_value_at es place w)) ≡ all_seen old
+    handed-seen =
+        let u = written-in w in
+        let shown : seen w ≡ seen v = ap (λ (x : OpenView A). seen x) is in
+        ap all_seen u.new_is ∙ seen-append u.front ((u.name, w) ∷ u.more) ∙ ap (λ (s : Shown). all_seen u.front ++ (u.name, s) ∷ all_seen u.more) shown
+        ∙ sym (seen-append u.front ((u.name, v) ∷ u.more)) ∙ sym (ap all_seen u.old_is)

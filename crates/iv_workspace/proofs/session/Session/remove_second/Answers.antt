@@ -1,0 +1,33 @@
+use Rattle.std.proofs.Common.{◌<◌, ◌⊎◌, inr, sym, subst}
+use Rattle.std.proofs.lemmas.Result.{err_from_is_err_and}
+use Rattle.iv_text.specs.Ordered.{copies}
+use Rattle.iv_text.specs.Row.{Row}
+use Rattle.iv_track.specs.Edits.{RefusesRemove}
+use Rattle.iv_workspace.specs.Edits.{RefusesCopy}
+use Rattle.iv_workspace.specs.ViewStates.{all_seen}
+use Rattle.iv_workspace.specs.States.{IsTrackOn}
+use Rattle.iv_workspace.proofs.SessionLemmas.{track-removed}
+use Rattle.iv_workspace.proofs.SecondLemmas.{of-second, second-track, session-second}
+use Rattle.iv_workspace.proofs.session.Session.remove_second.Goals as goal
+
+pub returns-in_err-remove-clause-why : goal.returns-in_err-remove-clause-why
+returns-in_err-remove-clause-why g c =
+    let p = err_from_is_err_and c.from_residual-in_err-remove.result c.from_residual-in_err-remove.ensures.1 in
+    let told = c.in_err-remove.field-0.0 in
+    rw (p.1, p.2)
+    (of-second (λ t. RefusesCopy t told ⊎ RefusesRemove t c.args.row.now told) _ c.args.self.now c.in-Some.second c.self.view_is c.in-Some.is
+    (inr (subst (λ (r : Row). RefusesRemove c.in-Some.second r told) c.in_ok-record.ensures.ok c.in_err-remove.ensures.why)))
+
+pub returns-clause-there : goal.returns-clause-there
+returns-clause-there g c =
+    of-second (λ t. 0 < copies t.rows c.args.row.now) _ c.args.self.now c.in-Some.second c.self.view_is c.in-Some.is
+    (subst (λ (r : Row). 0 < copies c.in-Some.second.rows r) c.in_ok-record.ensures.ok c.in_ok-remove.ensures.there)
+
+pub invariant_of-self-2 : goal.invariant_of-self-2
+invariant_of-self-2 g c =
+    let inside = c.self.inside in
+    let t = c.in-Some.second in
+    let e = c.in_ok-remove.ensures in
+    let on : IsTrackOn inside.genome c.remove.new.self = subst (IsTrackOn inside.genome) (sym e.ok)
+    (track-removed inside.genome t c.in_ok-record.record (second-track inside.genome inside.second t c.in-Some.is c.self.invariant.0.second_is) e.there) in
+    (session-second inside.genome inside.track inside.second c.remove.new.self (all_seen inside.views) c.self.invariant.0 on, c.self.invariant.1)

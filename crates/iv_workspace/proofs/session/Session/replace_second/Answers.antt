@@ -1,0 +1,40 @@
+use Rattle.std.proofs.Common.{◌<◌, ◌⊎◌, inr, sym, subst}
+use Rattle.std.proofs.lemmas.Result.{err_from_is_err_and}
+use Rattle.iv_text.specs.Ordered.{copies}
+use Rattle.iv_text.specs.Read.{Fits}
+use Rattle.iv_text.specs.Row.{Row}
+use Rattle.iv_track.specs.Edits.{RefusesReplace}
+use Rattle.iv_workspace.specs.Edits.{RefusesCopy}
+use Rattle.iv_workspace.specs.ViewStates.{all_seen}
+use Rattle.iv_workspace.specs.States.{IsTrackOn}
+use Rattle.iv_workspace.proofs.SessionLemmas.{track-replaced}
+use Rattle.iv_workspace.proofs.SecondLemmas.{of-second, fits-second, second-track, session-second}
+use Rattle.iv_workspace.proofs.session.Session.replace_second.Goals as goal
+
+pub returns-in_err-replace-clause-why : goal.returns-in_err-replace-clause-why
+returns-in_err-replace-clause-why g c =
+    let p = err_from_is_err_and c.from_residual-in_err-replace.result c.from_residual-in_err-replace.ensures.1 in
+    let t = c.in-Some.second in
+    let told = c.in_err-replace.field-0.0 in
+    rw (p.1, p.2)
+    (of-second (λ u. RefusesCopy u told ⊎ RefusesReplace u c.args.old.now c.args.new.now told) _ c.args.self.now t c.self.view_is c.in-Some.is
+    (inr
+    (subst (λ (r : Row). RefusesReplace t r c.args.new.now told) c.in_ok-before.ensures.ok
+    (subst (λ (q : Row). RefusesReplace t c.in_ok-before.before q told) c.in_ok-after.ensures.ok c.in_err-replace.ensures.why))))
+
+pub returns-clause-there : goal.returns-clause-there
+returns-clause-there g c =
+    let t = c.in-Some.second in
+    of-second (λ u. 0 < copies u.rows c.args.old.now) _ c.args.self.now t c.self.view_is c.in-Some.is
+    (subst (λ (r : Row). 0 < copies t.rows r) c.in_ok-before.ensures.ok c.in_ok-replace.ensures.there)
+
+pub invariant_of-self-2 : goal.invariant_of-self-2
+invariant_of-self-2 g c =
+    let inside = c.self.inside in
+    let t = c.in-Some.second in
+    let e = c.in_ok-replace.ensures in
+    let fits : Fits inside.genome t.width c.in_ok-after.after =
+    subst (λ (r : Row). Fits inside.genome t.width r) (sym c.in_ok-after.ensures.ok) (fits-second _ c.args.self.now t c.args.new.now c.self.view_is c.in-Some.is c.requires.new) in
+    let on : IsTrackOn inside.genome c.replace.new.self = subst (IsTrackOn inside.genome) (sym e.ok)
+    (track-replaced inside.genome t c.in_ok-before.before c.in_ok-after.after (second-track inside.genome inside.second t c.in-Some.is c.self.invariant.0.second_is) e.there fits) in
+    (session-second inside.genome inside.track inside.second c.replace.new.self (all_seen inside.views) c.self.invariant.0 on, c.self.invariant.1)

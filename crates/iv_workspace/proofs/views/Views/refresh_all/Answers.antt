@@ -1,0 +1,41 @@
+use Rattle.std.proofs.Common.{◌≡◌, ◌∙◌, true, add-one, ap, slice_get, subst, sym, length, arith}
+use Rattle.std.specs.Prelude.{IfSome}
+use Rattle.iv_bytes.proofs.Putting.{OnErr-all}
+use Rattle.iv_workspace.specs.ViewStates.{all_seen, current_at}
+use Rattle.iv_workspace.specs.OpenViews.{Freshens}
+use Rattle.iv_workspace.proofs.OpenViewLemmas.{named-length}
+use Rattle.iv_workspace.proofs.StateLemmas.{current_to, current-none, current-next, current-length, current-all, current-freshens, seen-length, stale-among}
+use Rattle.iv_workspace.proofs.views.Views.refresh_all.Goals as goal
+
+pub loop-place-init : goal.loop-place-init
+loop-place-init g c = (
+  c.requires.right,
+  current-none (all_seen c.args.self.now),
+  omega (arith, c.len-place-end.ensures.len, ap length c.self.view_is, named-length (λ k. k.items) c.self.inside.views.entries),
+)
+
+pub refresh_at-requires-clause-within : goal.refresh_at-requires-clause-within
+refresh_at-requires-clause-within g c = omega (arith, c.loop-place-test.true, c.loop-place.invariant.2, current-length c.args.self.now c.loop-place.self c.loop-place.place c.loop-place.invariant.1)
+
+pub returns-in_err-refresh_at-clause-err : goal.returns-in_err-refresh_at-clause-err
+returns-in_err-refresh_at-clause-err g c =
+    OnErr-all c.from_residual.result
+    (subst (λ l. Freshens (all_seen c.args.self.now) l) (sym (ap all_seen c.in_err-refresh_at.ensures.err ∙ c.loop-place.invariant.1)) (current-freshens c.loop-place.place (all_seen c.args.self.now)))
+
+pub returns-in_err-refresh_at-clause-stale : goal.returns-in_err-refresh_at-clause-stale
+returns-in_err-refresh_at-clause-stale g c =
+    OnErr-all c.from_residual.result
+    (stale-among c.loop-place.place c.loop-place.place (all_seen c.args.self.now)
+    (subst (λ l. IfSome (slice_get l c.loop-place.place) (λ v. v.1.stale ≡ true)) c.loop-place.invariant.1 c.in_err-refresh_at.ensures.stale)
+    (omega (arith, c.loop-place-test.true, c.loop-place.invariant.2, seen-length c.args.self.now)))
+
+pub loop-place-preserved : goal.loop-place-preserved
+loop-place-preserved g c = (
+  c.refresh_at.ensures.right,
+  c.in_ok-refresh_at.ensures.ok ∙ ap (current_at c.loop-place.place) c.loop-place.invariant.1 ∙ current-next c.loop-place.place (all_seen c.args.self.now)
+      ∙ ap (λ k. current_to k (all_seen c.args.self.now)) (sym (add-one c.loop-place.place)),
+  c.loop-place.invariant.2,
+)
+
+pub returns-clause-ok : goal.returns-clause-ok
+returns-clause-ok g c = c.loop-place.invariant.1 ∙ current-all c.loop-place.place (all_seen c.args.self.now) (omega (arith, c.loop-place-test.false, c.loop-place.invariant.2, seen-length c.args.self.now))

@@ -1,0 +1,11 @@
+use Rattle.std.proofs.Common.{◌≡◌, length}
+use Rattle.iv_text.specs.Named.{names_of}
+use Rattle.iv_workspace.specs.ViewStates.{AreRight, all_seen}
+use Rattle.iv_workspace.proofs.StateLemmas.{current_to}
+use Rattle.iv_workspace.proofs.views.Views.refresh_all.Given as goal
+
+abbrev pub invariant-loop-place : goal.invariant-loop-place
+invariant-loop-place g l =
+    AreRight l.self (names_of l.genome) l.track.rows
+    × (all_seen l.self ≡ current_to l.place (all_seen l.fn.self))
+    × (length l.fn.self ≡ l.place-end)

@@ -1,0 +1,7 @@
+pub mod OpenViews
+pub mod States
+pub mod Edits
+pub mod Views
+pub mod Resizes
+pub mod Prints
+pub mod ViewStates

@@ -1,0 +1,56 @@
+-- The open views as contracts see them, and what edits and prints leave of them.
+use Rattle.std.specs.Prelude.{◌≡◌, ℕ, ◌+◌, Bool, true, false, if◌then◌else◌, List, [], ◌∷◌, None, map}
+use Rattle.std.specs.Str.{bytes_eq}
+use Rattle.iv_text.specs.Row.{Row}
+use Rattle.iv_view.specs.KeptStates.{state_key_of, repair_steps_of}
+use Rattle.iv_view.specs.declared.view.View.{View}
+
+-- an open view: which one it is, and whether it has to be built anew before it is printed
+pub record Shown : Type 0 where
+  pub view : View
+  pub stale : Bool
+
+-- a view, current
+abbrev pub current : Shown → Shown
+current v = record v { stale = false }
+
+-- all views, current
+abbrev pub all_current : List (List ℕ × Shown) → List (List ℕ × Shown)
+all_current views = map {B = List ℕ × Shown} (λ v. (v.0, current v.1)) views
+
+-- the views, that of this name current
+abbrev pub with_current : List (List ℕ × Shown) → List ℕ → List (List ℕ × Shown)
+with_current [] name = []
+with_current (v ∷ views) name = if bytes_eq name v.0 then (v.0, current v.1) ∷ views else v ∷ with_current views name
+
+-- the views are the same, but that some may have become stale, of which something is kept
+abbrev pub Stales : List (List ℕ × Shown) → List (List ℕ × Shown) → Type 0
+Stales [] [] = Unit {0}
+Stales [] (w ∷ new) = ⊥
+Stales (v ∷ old) [] = ⊥
+Stales (v ∷ old) (w ∷ new) =
+    (w.0 ≡ v.0) × (w.1.view ≡ v.1.view) × (v.1.stale ≡ true → w.1.stale ≡ true)
+    × (state_key_of v.1.view ≡ None → w.1.stale ≡ v.1.stale) × Stales old new
+
+-- the views are the same, but that some that were stale may have become current
+abbrev pub Freshens : List (List ℕ × Shown) → List (List ℕ × Shown) → Type 0
+Freshens [] [] = Unit {0}
+Freshens [] (w ∷ new) = ⊥
+Freshens (v ∷ old) [] = ⊥
+Freshens (v ∷ old) (w ∷ new) =
+    (w.0 ≡ v.0) × (w.1.view ≡ v.1.view) × (w.1.stale ≡ true → v.1.stale ≡ true) × Freshens old new
+
+-- how many views are stale
+abbrev pub stale_count : List (List ℕ × Shown) → ℕ
+stale_count [] = 0
+stale_count (v ∷ views) = (if v.1.stale then 1 else 0) + stale_count views
+
+-- how many steps the repair of an open view takes at most, with the record among the records: none of a stale one, and none of
+-- one of which nothing is kept
+abbrev pub view_steps : Shown → List Row → Row → ℕ
+view_steps v rows r = if v.stale then 0 else repair_steps_of v.view rows r
+
+-- how many steps the repairs of all views take at most, with the record among the records
+abbrev pub all_steps : List (List ℕ × Shown) → List Row → Row → ℕ
+all_steps [] rows r = 0
+all_steps (v ∷ views) rows r = view_steps v.1 rows r + all_steps views rows r

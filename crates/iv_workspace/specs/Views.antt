@@ -1,0 +1,89 @@
+-- The names of views, the views that are open, and their texts.
+use Rattle.std.specs.Prelude.{◌≡◌, ◌⊎◌, ℕ, ◌++◌, ◌&&◌, not, nat_le, Bool, false, List, [], ◌∷◌, Option, None, Some, Result, Ok, Err, IsOk, length, find, codes}
+use Rattle.std.specs.List.{list_all, flat_map}
+use Rattle.std.specs.Option.{is_some, unwrap_or}
+use Rattle.std.specs.Map.{lookup}
+use Rattle.std.specs.Str.{bytes_eq}
+use Rattle.iv_view.specs.Views.{read_words, second_rows, view_text}
+use Rattle.iv_view.specs.declared.view.View.{View}
+use Rattle.iv_view.specs.declared.fault.ViewFault.{ViewFault}
+use Rattle.iv_view.specs.declared.fault.ViewFault.TheVariants as fault
+use Rattle.iv_workspace.specs.OpenViews.{Shown}
+use Rattle.iv_workspace.specs.States.{State, with_view}
+use Rattle.iv_workspace.specs.declared.fault.PrintFault.{PrintFault}
+use Rattle.iv_workspace.specs.declared.fault.PrintFault.TheVariants as printing
+
+-- a byte of a view's name: a printable one, and no space
+abbrev pub is_visible : ℕ → Bool
+is_visible b = nat_le 33 b && nat_le b 126
+
+-- a view's name is 1 to 32 of them
+abbrev pub is_view_name : List ℕ → Bool
+is_view_name name = nat_le 1 (length name) && nat_le (length name) 32 && list_all is_visible name
+
+-- the view that is open under a name
+abbrev pub view_named : List (List ℕ × Shown) → List ℕ → Option Shown
+view_named views name = lookup (bytes_eq name) views
+
+-- as many views may be open
+abbrev pub most_views : ℕ
+most_views = 64
+
+-- what words ask for in a session
+abbrev pub words_said : State → List (List ℕ) → Result View ViewFault
+words_said s words = read_words s.track.width (is_some s.second) (is_some s.bases) words
+
+-- whether the name of a view to be opened has a fault
+abbrev pub has_name_fault : State → List ℕ → ViewFault → Bool
+has_name_fault s name fault.BadName = not (is_view_name name)
+has_name_fault s name fault.Taken = is_some (view_named s.views name)
+has_name_fault s name fault.TooMany = nat_le most_views (length s.views)
+has_name_fault s name fault.Words = false
+has_name_fault s name fault.Column = false
+has_name_fault s name fault.NoStrand = false
+has_name_fault s name fault.NoSecond = false
+has_name_fault s name fault.NoFasta = false
+has_name_fault s name fault.NoMemory = false
+
+-- the faults of a name, in the order in which they are reported
+abbrev pub name_faults : List ViewFault
+name_faults = fault.BadName ∷ fault.Taken ∷ fault.TooMany ∷ []
+
+-- a fault, or else what the words say
+abbrev pub unless_fault : Option ViewFault → Result View ViewFault → Result View ViewFault
+unless_fault None said = said
+unless_fault (Some f) said = Err f
+
+-- the view that is opened under a name by these words: the first fault of the name, or else what the words say
+abbrev pub opened : State → List ℕ → List (List ℕ) → Result View ViewFault
+opened s name words = unless_fault (find (has_name_fault s name) name_faults) (words_said s words)
+
+-- the view of these words is opened under the name: it is the last, and current
+abbrev pub Opens : State → List ℕ → List (List ℕ) → State → Type 0
+Opens old name words new = (view : View) × (opened old name words ≡ Ok view) × (new ≡ with_view old name view)
+
+-- why no view is opened: for the first fault; or memory was refused, where there is none
+abbrev pub RefusesOpen : State → List ℕ → List (List ℕ) → ViewFault → Type 0
+RefusesOpen s name words f = (opened s name words ≡ Err f) ⊎ ((f ≡ fault.NoMemory) × IsOk (opened s name words))
+
+-- what a view prints: its text for the records as they are, beside the second file's records and the bases, if there are any
+abbrev pub text_in : State → View → List ℕ
+text_in s v = view_text v s.genome s.track.rows (second_rows s.second) (unwrap_or s.bases [])
+
+-- the line above a view's text, where all views are printed
+abbrev pub heading : List ℕ → List ℕ
+heading name = codes "#" ++ name ++ codes "\n"
+
+-- what a view prints under its heading
+abbrev pub headed_text : State → List ℕ × Shown → List ℕ
+headed_text s v = heading v.0 ++ text_in s v.1.view
+
+-- what all views print, in order of opening
+abbrev pub all_text : State → List ℕ
+all_text s = flat_map (headed_text s) s.views
+
+-- the number of a print's fault
+abbrev pub print_code : PrintFault → Option ℕ
+print_code printing.NoView = Some 21
+print_code printing.NoMemory = Some 22
+print_code printing.Write = None

@@ -1,0 +1,14 @@
+//! A session: a track of records that a curator corrects, with views of it kept open.
+#![tactic(auto)]
+
+mod fault;
+mod laws;
+mod names;
+mod open_view;
+mod past_end;
+mod session;
+mod views;
+
+pub use fault::{NoView, PrintFault, ResizeFault, SecondFault};
+pub use laws::corrected_lengths_are_those_of_bases;
+pub use session::{Accepted, Session};

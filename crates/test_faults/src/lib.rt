@@ -1,0 +1,119 @@
+//! For tests: an allocator that refuses one growth, a reader and writer that goes wrong at one call, and words of a line.
+#![tactic(auto)]
+
+ghost use Rattle.std.specs.Prelude.{IfSome, ◌≡◌, ◌<◌};
+
+mod device;
+mod words;
+
+pub use device::{Bad, Device, FAILURES};
+use std::alloc::{AllocError, Allocator};
+use std::cell::Cell;
+use std::test::Fail;
+pub use words::words_of;
+
+/// Passes every call on to the allocator inside it, but refuses one growth, that of the given number.
+///
+/// A test that runs with 1, 2, 3 and so on, until no growth is refused any more, has met each place
+/// where the code under test can run out of memory. It lends the allocator out as a `&`, which is an
+/// allocator too, and asks at the end whether the refusal came.
+#[derive(Drop)]
+pub struct RefusesNth<B> {
+    inner: B,
+    /// How many growths are to come up to the one that is refused, which counts; none after it.
+    left: Cell<u64>,
+    /// How many growths were refused.
+    refused: Cell<u64>,
+}
+
+impl<B> RefusesNth<B> {
+    /// Growths count from 1.
+    pub fn new(inner: B, number: u64) -> RefusesNth<B>
+        requires { 0 < number }
+    {
+        RefusesNth {
+            inner,
+            left: Cell::new(number),
+            refused: Cell::new(0),
+        }
+    }
+
+    /// Refuses one more growth, that of the given number from here on, which counts from 1.
+    pub fn again(&self, number: u64)
+        requires { 0 < number }
+    {
+        self.left.set(number);
+    }
+
+    /// How many growths were refused.
+    pub fn refusals(&self) -> u64 {
+        self.refused.get()
+    }
+
+    /// Whether a growth was refused.
+    pub fn has_refused(&self) -> bool {
+        self.refusals() > 0
+    }
+
+    /// The allocator inside, unless this growth is the one to be refused.
+    fn open(&self) -> Option<&B>
+        ensures { IfSome result (λ inner. inner.now ≡ self.now.inner) }
+    {
+        match self.left.get() {
+            0 => Some(&self.inner),
+            1 => {
+                self.left.set(0);
+                self.refused.set(self.refusals().saturating_add(1));
+                None
+            }
+            left => {
+                self.left.set(left - 1);
+                Some(&self.inner)
+            }
+        }
+    }
+}
+
+// Each block comes from the allocator inside, and goes back to it.
+unsafe impl<B: Allocator> Allocator for RefusesNth<B> {
+    ghost dealloc_token = { λ test_faults ty ptr. B.dealloc_token test_faults.inner ty ptr };
+
+    fn allocate(&self, size: usize, align: usize) -> Result<*mut u8, AllocError> {
+        match self.open() {
+            Some(inner) => inner.allocate(size, align),
+            None => Err(AllocError),
+        }
+    }
+
+    unsafe fn deallocate(&self, ptr: *mut u8, size: usize, align: usize) {
+        self.inner.deallocate(ptr, size, align);
+    }
+}
+
+/// Makes a run with its first growth refused, one with its second, and so on, until one meets no refusal. The sum of what
+/// the runs give: how many of their calls were answered with out of memory. That is never more than growths were refused in
+/// the run, so it is 0 in the last one.
+///
+/// # Errors
+///
+/// That of the first run that has one; and one where a run gives more than that, or where there is no end of growths.
+pub fn refuse_each<B, F>(inner: B, run: F) -> Result<u32, Fail>
+where
+    B: Allocator + Copy,
+    F: Fn(&RefusesNth<B>) -> Result<u32, Fail>,
+    requires { F.IsAlwaysCallable run }
+{
+    let mut sum = 0u32;
+    for number in 1..10_000u64 {
+        let alloc = RefusesNth::new(inner, number);
+        let met = run(&alloc)?;
+        if u64::from(met) > alloc.refusals() {
+            return Err(Fail::new("more calls out of memory than growths were refused"));
+        }
+        sum = sum.saturating_add(met);
+        if !alloc.has_refused() {
+            return Ok(sum);
+        }
+    }
+    Err(Fail::new("no end of growths"))
+}

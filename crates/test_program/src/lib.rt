@@ -1,0 +1,31 @@
+//! Tests of a run: its words, its files, and what each subcommand prints.
+#![tactic(auto)]
+
+#[cfg(test)]
+mod endings;
+#[cfg(test)]
+mod limits;
+#[cfg(test)]
+mod pairs;
+#[cfg(test)]
+mod patterns;
+#[cfg(test)]
+mod read_refusals;
+#[cfg(test)]
+mod run_reading;
+#[cfg(test)]
+mod run_refusals;
+#[cfg(test)]
+mod runs;
+#[cfg(test)]
+mod shot_fixtures;
+#[cfg(test)]
+mod shot_outputs;
+#[cfg(test)]
+mod shot_refusals;
+#[cfg(test)]
+mod shots;
+#[cfg(test)]
+mod words_sessions;
+#[cfg(test)]
+mod words_subcommands;

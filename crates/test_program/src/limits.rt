@@ -1,0 +1,82 @@
+//! Files at their limits.
+use iv_bytes::MemSource;
+use iv_run::{FileFault, read_all};
+use iv_text::{BedFile, Genome, LoadCause, LoadFault, RecordFault};
+use std::test::Fail;
+
+/// How many bytes are read of a text that comes in pieces of so many, with a limit.
+fn read(rt: &HostRuntime, text: &[u8], piece: usize, limit: u64) -> Result<usize, FileFault> {
+    let mut source = MemSource::new(text, usize::MAX, piece.max(1));
+    Ok(read_all(rt.alloc(), &mut source, limit)?.len())
+}
+
+#[test]
+fn files_of_as_many_bytes_as_the_limit(rt: HostRuntime) {
+    for piece in [1, 2, 3, 100] {
+        for (text, limit, want) in [
+            (b"abc".as_slice(), 3, Ok(3)),
+            (b"abcd", 3, Err(FileFault::TooLong)),
+            (b"abcd", 4, Ok(4)),
+            (b"a", 0, Err(FileFault::TooLong)),
+            (b"", 0, Ok(0)),
+        ] {
+            assert!(rt; read(&rt, text, piece, limit) == want);
+        }
+    }
+}
+
+/// What reading a text gives that fails after so many bytes, in pieces of so many.
+fn failing(rt: &HostRuntime, text: &[u8], good: usize, piece: usize) -> Option<FileFault> {
+    let mut source = MemSource::new(text, good, piece.max(1));
+    read_all(rt.alloc(), &mut source, 100).err()
+}
+
+/// A file that fails after its last byte is not known to be whole.
+#[test]
+fn files_that_fail_after_each_byte(rt: HostRuntime) {
+    let text = b"chr1\t100\n".as_slice();
+    for piece in [1, 3, 100] {
+        for good in 0..=9usize {
+            assert!(rt; failing(&rt, text, good, piece) == Some(FileFault::Input));
+        }
+        assert!(rt; failing(&rt, text, 10, piece).is_none());
+    }
+}
+
+/// How many records are read of a BED file, with a limit.
+fn records(rt: &HostRuntime, genome: &Genome, text: &[u8], limit: u32) -> Result<usize, LoadFault> {
+    let file = BedFile::parse(rt.alloc(), genome, 3, limit, text)?;
+    Ok(file.records().len())
+}
+
+/// The fault of a line.
+fn damage(line: u64, cause: LoadCause) -> Result<usize, LoadFault> {
+    Err(LoadFault { line, cause })
+}
+
+/// The first record above the limit is the fault, unless it has one of its own.
+#[test]
+fn files_of_as_many_records_as_the_limit(rt: HostRuntime) -> Result<(), Fail> {
+    let genome = Genome::parse(rt.alloc(), b"chr1\t100\n")?;
+    let no_end = LoadCause::Record(RecordFault::StopNumber);
+    for (text, limit, want) in [
+        (b"chr1\t1\t2\n".as_slice(), 1, Ok(1)),
+        (
+            b"chr1\t1\t2\nchr1\t1\t2\n",
+            1,
+            damage(2, LoadCause::TooMany),
+        ),
+        (
+            b"#\nchr1\t1\t2\n\nchr1\t3\t4",
+            1,
+            damage(4, LoadCause::TooMany),
+        ),
+        (b"chr1\t1\t2\n#\n\ntrack\n", 1, Ok(1)),
+        (b"chr1\t1\t2\nchr1\t1\tx\n", 1, damage(2, no_end)),
+        (b"chr1\t1\t2\n", 0, damage(1, LoadCause::TooMany)),
+        (b"#\n", 0, Ok(0)),
+    ] {
+        assert!(rt; records(&rt, &genome, text, limit) == want);
+    }
+    Ok(())
+}

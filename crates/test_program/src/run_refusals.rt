@@ -1,0 +1,100 @@
+//! Each growth of loading, refused in turn.
+use iv_args::Plan;
+use iv_run::{CliFault, Inputs, load};
+use std::alloc::Global;
+use std::test::Fail;
+use test_faults::{RefusesNth, refuse_each};
+
+/// So many records that the tree of a track splits.
+const COUNT: u32 = 30;
+
+/// A BED file of four columns.
+fn bed_text(rt: &HostRuntime) -> Result<String, Fail> {
+    let mut text = String::new(rt.alloc());
+    for start in 0..COUNT {
+        let stop = start.saturating_add(10);
+        text.push_str(format!(in rt.alloc(); "chr1\t{start}\t{stop}\tname\n")?.as_str())?;
+    }
+    Ok(text)
+}
+
+/// How many records the track of a plan's files holds, `None` where memory is refused.
+fn loaded_by<'a>(
+    alloc: &'a RefusesNth<Global>,
+    plan: &Plan<'_, &'a RefusesNth<Global>>,
+    inputs: &Inputs<'_>,
+    bases: Option<Vec<u8, &'a RefusesNth<Global>>>,
+) -> Result<Option<u32>, Fail> {
+    match load(alloc, plan, inputs, bases, COUNT) {
+        Ok(session) => Ok(Some(session.len())),
+        Err(CliFault::Memory) => Ok(None),
+        Err(_) => Err(Fail::new("another fault")),
+    }
+}
+
+/// The bytes of a FASTA file, where there is one, in memory that is not refused.
+fn copied<'a>(
+    granting: &'a RefusesNth<Global>,
+    bases: Option<&[u8]>,
+) -> Result<Option<Vec<u8, &'a RefusesNth<Global>>>, Fail> {
+    match bases {
+        Some(text) => Ok(Some(text.to_vec(granting)?)),
+        None => Ok(None),
+    }
+}
+
+/// How many records the track of the files holds, `None` where memory is refused. That of the words isn't.
+fn loaded(
+    rt: &HostRuntime,
+    alloc: &RefusesNth<Global>,
+    inputs: &Inputs<'_>,
+    bases: Option<&[u8]>,
+) -> Result<Option<u32>, Fail> {
+    let words: [&[u8]; 9] = [
+        b"session", b"-g", b"g", b"-i", b"a", b"-b", b"b", b"-fi", b"f",
+    ];
+    let granting = RefusesNth::new(rt.alloc(), u64::MAX);
+    let bases = copied(&granting, bases)?;
+    let plan = Plan::read(&granting, &words)?;
+    loaded_by(alloc, &plan, inputs, bases)
+}
+
+/// Loads the files, and says how often that was out of memory, once or never. Else they are loaded whole, though a growth was
+/// refused: it may have been tried again at another size.
+fn refused_load(
+    rt: &HostRuntime,
+    alloc: &RefusesNth<Global>,
+    inputs: &Inputs<'_>,
+    bases: Option<&[u8]>,
+) -> Result<u32, Fail> {
+    match loaded(rt, alloc, inputs, bases)? {
+        Some(COUNT) => Ok(0),
+        Some(_) => Err(Fail::new("other records")),
+        None => Ok(1),
+    }
+}
+
+/// How many loads ended so, each of their growths refused in turn.
+fn refused_loads(rt: &HostRuntime, inputs: &Inputs<'_>, bases: Option<&[u8]>) -> Result<u32, Fail> {
+    refuse_each(rt.alloc(), |alloc| refused_load(rt, alloc, inputs, bases))
+}
+
+#[test]
+fn each_growth_of_loading_refused(rt: HostRuntime) -> Result<(), Fail> {
+    let text = bed_text(&rt)?;
+    let alone = Inputs {
+        sizes: b"chr1\t100\n",
+        first: text.as_bytes(),
+        other: None,
+    };
+    let both = Inputs {
+        other: Some(text.as_bytes()),
+        ..alone
+    };
+    let bases = Some(b">x\nAC\n>chr0 none of it\n".as_slice());
+    let few = refused_loads(&rt, &alone, None)?;
+    let more = refused_loads(&rt, &both, None)?;
+    assert!(rt; 0 < few && few < more);
+    assert!(rt; more < refused_loads(&rt, &both, bases)?);
+    Ok(())
+}

@@ -1,0 +1,293 @@
+//! Runs of one subcommand on the bytes of their files.
+use crate::shot_fixtures::{alone, beside, ends, is_reported, prints};
+use iv_args::Slot;
+use iv_run::{CliFault, Inputs};
+use iv_text::{LoadCause, LoadFault, RecordFault};
+use std::test::Fail;
+
+#[test]
+fn merge_and_cluster(rt: HostRuntime) -> Result<(), Fail> {
+    let three = b"chr1\t10\t20\nchr1\t20\t30\nchr1\t31\t40\n".as_slice();
+    let four = b"chr1\t10\t20\nchr1\t20\t30\nchr1\t31\t40\nchr2\t0\t5\n".as_slice();
+    for (words, first, rows) in [
+        (
+            b"merge -g g -i a".as_slice(),
+            three,
+            b"chr1\t10\t30\nchr1\t31\t40\n".as_slice(),
+        ),
+        (b"merge -d 1 -g g -i a", three, b"chr1\t10\t40\n"),
+        (
+            b"cluster -g g -i a",
+            four,
+            b"chr1\t10\t20\t1\nchr1\t20\t30\t1\nchr1\t31\t40\t2\nchr2\t0\t5\t3\n",
+        ),
+        (
+            b"cluster -g g -d 1 -i a",
+            four,
+            b"chr1\t10\t20\t1\nchr1\t20\t30\t1\nchr1\t31\t40\t1\nchr2\t0\t5\t2\n",
+        ),
+        // Unsorted.
+        (
+            b"merge -g g -i a",
+            b"chr2\t5\t9\nchr1\t30\t40\nchr1\t10\t35\n",
+            b"chr1\t10\t40\nchr2\t5\t9\n",
+        ),
+    ] {
+        assert!(rt; prints(&rt, words, &alone(first), rows)?);
+    }
+    Ok(())
+}
+
+/// Each operation, over the values of a column in the order of the records.
+#[test]
+fn merge_with_summaries(rt: HostRuntime) -> Result<(), Fail> {
+    let inputs = alone(
+        b"chr1\t13\t20\tc\t007\nchr1\t10\t20\ta\t5\nchr1\t11\t20\tb\t.\nchr1\t12\t20\ta\t-7\n",
+    );
+    for (words, rows) in [
+        (
+            b"merge -c 5,5,5,4,4 -o sum,min,max,distinct,collapse -g g -i a".as_slice(),
+            b"chr1\t10\t20\t5\t-7\t7\ta,b,c\ta,b,a,c\n".as_slice(),
+        ),
+        (
+            b"merge -c 5 -o distinct -g g -i a",
+            b"chr1\t10\t20\t-7,.,007,5\n",
+        ),
+        (b"merge -c 5 -g g -i a", b"chr1\t10\t20\t5\n"),
+        (b"merge -c 4 -o count -g g -i a", b"chr1\t10\t20\t4\n"),
+    ] {
+        assert!(rt; prints(&rt, words, &inputs, rows)?);
+    }
+    let inputs = alone(b"chr1\t10\t20\ta\t5\nchr1\t14\t20\td\t2.5\n");
+    let rows = b"chr1\t10\t20\t.\t.\t.\n";
+    assert!(rt; prints(&rt, b"merge -c 5 -o sum,min,max -g g -i a", &inputs, rows)?);
+    assert!(rt; is_reported(&rt, b"merge -g g -i a -c 6", &inputs, CliFault::Words(17))?);
+    Ok(())
+}
+
+/// Names of sequences and positions are values too; a block has the values of its own records.
+#[test]
+fn merge_with_places(rt: HostRuntime) -> Result<(), Fail> {
+    let inputs = alone(b"chr2\t5\t9\nchr1\t10\t20\nchr1\t9\t12\nchr1\t9\t10\nchr1\t90\t91\n");
+    let rows = b"chr1\t9\t20\tchr1\t10,9\t20\nchr1\t90\t91\tchr1\t90\t91\nchr2\t5\t9\tchr2\t5\t9\n";
+    assert!(rt;
+        prints(
+            &rt,
+            b"merge -c 1,2,3 -o distinct,distinct,max -g g -i a",
+            &inputs,
+            rows
+        )?
+    );
+    let rows = b"chr1\t9\t91\t9,9,10,90\nchr2\t5\t9\t5\n";
+    assert!(rt;
+        prints(
+            &rt,
+            b"merge -d 70 -c 2 -o collapse -g g -i a",
+            &inputs,
+            rows
+        )?
+    );
+    Ok(())
+}
+
+/// `+` before `-` on each sequence, and a record with `.` is in no block.
+#[test]
+fn merge_with_strands_apart(rt: HostRuntime) -> Result<(), Fail> {
+    let inputs = alone(
+        b"chr2\t0\t5\tg\t0\t-\nchr1\t25\t35\te\t0\t-\nchr1\t10\t20\ta\t0\t+\nchr1\t12\t40\td\t0\t.\nchr1\t15\t25\tb\t0\t-\nchr1\t20\t30\tc\t0\t+\n",
+    );
+    for (words, rows) in [
+        (
+            b"merge -s -g g -i a".as_slice(),
+            b"chr1\t10\t30\nchr1\t15\t35\nchr2\t0\t5\n".as_slice(),
+        ),
+        (
+            b"merge -s -c 6,4 -o distinct,collapse -g g -i a",
+            b"chr1\t10\t30\t+\ta,c\nchr1\t15\t35\t-\tb,e\nchr2\t0\t5\t-\tg\n",
+        ),
+        (
+            b"merge -c 4 -o collapse -g g -i a",
+            b"chr1\t10\t40\ta,d,b,c,e\nchr2\t0\t5\tg\n",
+        ),
+    ] {
+        assert!(rt; prints(&rt, words, &inputs, rows)?);
+    }
+    Ok(())
+}
+
+#[test]
+fn genomecov(rt: HostRuntime) -> Result<(), Fail> {
+    let both = b"chr1\t10\t20\nchr1\t20\t30\n".as_slice();
+    let one = b"chr1\t20\t30\n".as_slice();
+    let ends = b"chr1\t0\t100\nchr1\t50\t100\n".as_slice();
+    let copies = b"chr1\t10\t20\nchr1\t10\t20\n".as_slice();
+    // Records of two sequences, out of order: two share some bases, and one begins where two others end.
+    let unsorted = b"chr2\t5\t9\nchr1\t40\t50\nchr1\t30\t40\nchr1\t10\t40\n".as_slice();
+    for (first, covered, all) in [
+        (
+            both,
+            b"chr1\t10\t30\t1\n".as_slice(),
+            b"chr1\t0\t10\t0\nchr1\t10\t30\t1\nchr1\t30\t100\t0\nchr2\t0\t50\t0\n".as_slice(),
+        ),
+        (
+            one,
+            b"chr1\t20\t30\t1\n",
+            b"chr1\t0\t20\t0\nchr1\t20\t30\t1\nchr1\t30\t100\t0\nchr2\t0\t50\t0\n",
+        ),
+        (
+            ends,
+            b"chr1\t0\t50\t1\nchr1\t50\t100\t2\n",
+            b"chr1\t0\t50\t1\nchr1\t50\t100\t2\nchr2\t0\t50\t0\n",
+        ),
+        (
+            copies,
+            b"chr1\t10\t20\t2\n",
+            b"chr1\t0\t10\t0\nchr1\t10\t20\t2\nchr1\t20\t100\t0\nchr2\t0\t50\t0\n",
+        ),
+        (
+            unsorted,
+            b"chr1\t10\t30\t1\nchr1\t30\t40\t2\nchr1\t40\t50\t1\nchr2\t5\t9\t1\n",
+            b"chr1\t0\t10\t0\nchr1\t10\t30\t1\nchr1\t30\t40\t2\nchr1\t40\t50\t1\nchr1\t50\t100\t0\nchr2\t0\t5\t0\nchr2\t5\t9\t1\nchr2\t9\t50\t0\n",
+        ),
+        (b"", b"", b"chr1\t0\t100\t0\nchr2\t0\t50\t0\n"),
+    ] {
+        assert!(rt; prints(&rt, b"genomecov -g g -i a -bg", &alone(first), covered)?);
+        assert!(rt; prints(&rt, b"genomecov -g g -bga -i a", &alone(first), all)?);
+    }
+    Ok(())
+}
+
+#[test]
+fn genomecov_of_each_position(rt: HostRuntime) -> Result<(), Fail> {
+    let inputs = Inputs {
+        sizes: b"t\t4\n",
+        ..alone(b"t\t2\t3\tx\nt\t1\t3\ty\n")
+    };
+    let rows = b"t\t1\t0\nt\t2\t1\nt\t3\t2\nt\t4\t0\n";
+    assert!(rt; prints(&rt, b"genomecov -d -g g -i a", &inputs, rows)?);
+    Ok(())
+}
+
+#[test]
+fn complement(rt: HostRuntime) -> Result<(), Fail> {
+    let inputs = alone(b"chr1\t0\t10\nchr1\t90\t100\n");
+    assert!(rt;
+        prints(
+            &rt,
+            b"complement -g g -i a",
+            &inputs,
+            b"chr1\t10\t90\nchr2\t0\t50\n"
+        )?
+    );
+    assert!(rt; prints(&rt, b"complement -L -g g -i a", &inputs, b"chr1\t10\t90\n")?);
+    Ok(())
+}
+
+/// A file without a record has the width that the words say.
+#[test]
+fn files_without_a_record(rt: HostRuntime) -> Result<(), Fail> {
+    let inputs = alone(b"");
+    assert!(rt;
+        prints(
+            &rt,
+            b"complement -g g -i a",
+            &inputs,
+            b"chr1\t0\t100\nchr2\t0\t50\n"
+        )?
+    );
+    assert!(rt; prints(&rt, b"complement -g g -i a -L", &inputs, b"")?);
+    assert!(rt; is_reported(&rt, b"merge -g g -i a -s", &inputs, CliFault::Words(18))?);
+    assert!(rt; prints(&rt, b"merge -g g -i a -s -width 6", &inputs, b"")?);
+    assert!(rt;
+        is_reported(
+            &rt,
+            b"merge -g g -i a -c 5 -width 4",
+            &inputs,
+            CliFault::Words(17)
+        )?
+    );
+    Ok(())
+}
+
+#[test]
+fn getfasta(rt: HostRuntime) -> Result<(), Fail> {
+    let inputs = Inputs {
+        sizes: b"s\t10\nu\t5\n",
+        first: b"s\t2\t6\tn\t0\t-\ns\t9\t10\tn\t0\t-\nu\t0\t5\tn\t0\t+\n",
+        other: None,
+    };
+    let bases = Some(b">s test\nACGT\nNacg\ntR".as_slice());
+    for (words, rows) in [
+        (
+            b"getfasta -g g -bed a -fi f".as_slice(),
+            b">s:2-6\nGTNa\n>s:9-10\nR\n".as_slice(),
+        ),
+        (
+            b"getfasta -g g -bed a -fi f -s",
+            b">s:2-6(-)\ntNAC\n>s:9-10(-)\nY\n",
+        ),
+        (
+            b"getfasta -s -g g -tab -bed a -fi f",
+            b"s:2-6(-)\ttNAC\ns:9-10(-)\tY\n",
+        ),
+    ] {
+        assert!(rt; ends(&rt, words, &inputs, bases, None, rows)?);
+    }
+    let narrow = Inputs {
+        first: b"s\t2\t6\n",
+        ..inputs
+    };
+    assert!(rt;
+        ends(
+            &rt,
+            b"getfasta -g g -bed a -fi f -s",
+            &narrow,
+            bases,
+            Some(CliFault::Words(18)),
+            b""
+        )?
+    );
+    Ok(())
+}
+
+/// Damage of this file at this line.
+fn damage(slot: Slot, line: u64, cause: LoadCause) -> CliFault {
+    CliFault::Damaged(slot, LoadFault { line, cause })
+}
+
+/// Damage is reported before a column that the records lack.
+#[test]
+fn files_that_are_damaged(rt: HostRuntime) -> Result<(), Fail> {
+    let past_end = LoadCause::Record(RecordFault::PastEnd);
+    let first = b"chr1\t1\t2\nchr1\t1\t200\n".as_slice();
+    let fault = damage(Slot::First, 2, past_end);
+    assert!(rt; is_reported(&rt, b"merge -g g -i a", &alone(first), fault)?);
+    assert!(rt; is_reported(&rt, b"merge -g g -i a -c 5", &alone(first), fault)?);
+    // The first file is damaged too, or alone the second.
+    let inputs = beside(b"chr1\t1\t2\n", first);
+    assert!(rt;
+        is_reported(
+            &rt,
+            b"intersect -g g -a a -b b",
+            &beside(first, first),
+            fault
+        )?
+    );
+    let fault = damage(Slot::Other, 2, past_end);
+    assert!(rt; is_reported(&rt, b"intersect -g g -a a -b b", &inputs, fault)?);
+    assert!(rt; is_reported(&rt, b"subtract -g g -a a -b b", &inputs, fault)?);
+    let inputs = alone(b"chr1\t1\t2\n");
+    let bases = Some(b">chr9\nAC GT\n".as_slice());
+    let fault = Some(damage(Slot::Bases, 2, LoadCause::Base));
+    assert!(rt;
+        ends(
+            &rt,
+            b"getfasta -g g -bed a -fi f -s",
+            &inputs,
+            bases,
+            fault,
+            b""
+        )?
+    );
+    Ok(())
+}

@@ -1,0 +1,43 @@
+//! Tests below the views: bytes, files, records, tracks, places, sinks and sources, and summaries of columns.
+#![tactic(auto)]
+
+#[cfg(test)]
+mod bytes;
+#[cfg(test)]
+mod copy_refusals;
+#[cfg(test)]
+mod cut_files;
+#[cfg(test)]
+mod devices;
+#[cfg(test)]
+mod files;
+#[cfg(test)]
+mod fixtures;
+#[cfg(test)]
+mod ledgers;
+#[cfg(test)]
+mod parse_refusals;
+#[cfg(test)]
+mod places;
+#[cfg(test)]
+mod printed;
+#[cfg(test)]
+mod records;
+#[cfg(test)]
+mod refusals;
+#[cfg(test)]
+mod sinks;
+#[cfg(test)]
+mod sizes;
+#[cfg(test)]
+mod sorted_places;
+#[cfg(test)]
+mod sources;
+#[cfg(test)]
+mod std_files;
+#[cfg(test)]
+mod summaries;
+#[cfg(test)]
+mod texts;
+#[cfg(test)]
+mod tracks;

@@ -1,0 +1,273 @@
+//! Records of lines.
+use crate::fixtures::genome;
+use iv_text::{Genome, Record, RecordFault, RecordReader, Strand, read_record};
+use std::cmp::Ordering;
+use std::mem::size_of;
+use std::test::Fail;
+
+/// The fault of a line at width 6.
+fn fault_of(genome: &Genome, line: &[u8]) -> Option<RecordFault> {
+    read_record(genome, 6, line).err()
+}
+
+/// Whether these lines have the faults that they are to have.
+fn have_faults(genome: &Genome) -> bool {
+    for (line, want) in [
+        (b"chr1\t0010\t20\tn\t0\t+".as_slice(), None),
+        (b"chr9\tx\ty\tn\t0\t+", Some(RecordFault::UnknownSeq)),
+        (b"chr1\t-1\t20\tn\t0\t+", Some(RecordFault::StartNumber)),
+        (b"chr1\t\t20\tn\t0\t+", Some(RecordFault::StartNumber)),
+        (
+            b"chr1\t00000000010\t20\tn\t0\t+",
+            Some(RecordFault::StartNumber),
+        ),
+        (b"chr1\t10\tx\tn\t0\t+", Some(RecordFault::StopNumber)),
+        (b"chr1\t10\t10\tn\t0\t+", Some(RecordFault::Order)),
+        (b"chr1\t10\t101\tn\t0\t+", Some(RecordFault::PastEnd)),
+        (b"chr1\t10\t20\t\t0\t+", Some(RecordFault::Name)),
+        (b"chr1\t10\t20\ta\nb\t0\t+", Some(RecordFault::Name)),
+        (b"chr1\t10\t20\tn\t\t+", Some(RecordFault::Score)),
+        (b"chr1\t10\t20\tn\t0\t*", Some(RecordFault::Strand)),
+        (b"chr1\t10\t20\tn\t0", Some(RecordFault::Columns)),
+    ] {
+        if fault_of(genome, line) != want {
+            return false;
+        }
+    }
+    true
+}
+
+#[test]
+fn faults_of_lines(rt: HostRuntime) -> Result<(), Fail> {
+    let genome = genome(&rt)?;
+    assert!(rt; have_faults(&genome));
+    Ok(())
+}
+
+/// Width, rank, start and stop, name and score, strand.
+type Cells<'a> = (u8, (u32, u64, u64), (&'a [u8], &'a [u8]), Option<Strand>);
+
+/// Whether the record of a line has these columns, borrowed and owned.
+fn has_cells(
+    rt: &HostRuntime,
+    genome: &Genome,
+    line: &[u8],
+    cells: Cells<'_>,
+) -> Result<bool, Fail> {
+    let (width, place, texts, strand) = cells;
+    if width < 3 || width > 6 {
+        return Err(Fail::new("no width"));
+    }
+    let row = read_record(genome, width, line)?;
+    let record = row.to_record(rt.alloc())?;
+    let borrowed = row.width() == width
+        && (row.seq(), row.start(), row.stop()) == place
+        && (row.name(), row.score()) == texts
+        && row.strand() == strand;
+    let owned = record.width() == width
+        && (record.seq(), record.start(), record.stop()) == place
+        && (record.name(), record.score()) == texts
+        && record.strand() == strand;
+    Ok(borrowed && owned)
+}
+
+/// Whether the records of these lines have the columns that they are to have.
+fn have_columns(rt: &HostRuntime, genome: &Genome) -> Result<bool, Fail> {
+    for (line, cells) in [
+        (
+            b"chr2\t0010\t20\tn\t0.5\t-".as_slice(),
+            (
+                6,
+                (1, 10, 20),
+                (b"n".as_slice(), b"0.5".as_slice()),
+                Some(Strand::Minus),
+            ),
+        ),
+        (b"chr1\t10\t20\tn\t0", (5, (0, 10, 20), (b"n", b"0"), None)),
+        (b"chr1\t10\t20\tn", (4, (0, 10, 20), (b"n", b""), None)),
+        (b"chr1\t10\t20", (3, (0, 10, 20), (b"", b""), None)),
+    ] {
+        if !has_cells(rt, genome, line, cells)? {
+            return Ok(false);
+        }
+    }
+    Ok(true)
+}
+
+#[test]
+fn columns_of_records(rt: HostRuntime) -> Result<(), Fail> {
+    let genome = genome(&rt)?;
+    assert!(rt; have_columns(&rt, &genome)?);
+    Ok(())
+}
+
+/// Whether the record of a line of four columns fits a genome, borrowed and owned.
+fn fits(rt: &HostRuntime, from: &Genome, on: &Genome, width: u8) -> Result<(bool, bool), Fail> {
+    let row = read_record(from, 4, b"chr1\t10\t20\tn")?;
+    let record = row.to_record(rt.alloc())?;
+    Ok((row.fits(on, width), record.fits(on, width)))
+}
+
+/// Looks for a record of four columns on its genome and on a smaller one.
+fn check_fits(rt: &HostRuntime, genome: &Genome, small: &Genome) -> Result<(), Fail> {
+    for (on, width, want) in [(genome, 4, true), (genome, 3, false), (small, 4, false)] {
+        if fits(rt, genome, on, width)? != (want, want) {
+            return Err(Fail::new("another answer"));
+        }
+    }
+    Ok(())
+}
+
+#[test]
+fn records_that_fit(rt: HostRuntime) -> Result<(), Fail> {
+    let genome = genome(&rt)?;
+    let small = Genome::parse(rt.alloc(), b"chr1\t19\n")?;
+    check_fits(&rt, &genome, &small)
+}
+
+/// What a text begins with, where it is known as a line of this width after one of `chr2`: rank, start, stop and how many bytes.
+fn short_line(genome: &Genome, width: u8, text: &[u8]) -> Option<(u32, u32, u32, usize)> {
+    if width < 3 || width > 6 {
+        return None;
+    }
+    let mut reader = RecordReader::new(genome);
+    reader.read(3, b"chr2\t1\t2").ok()?;
+    let line = reader.read_short(width, text)?;
+    Some((line.seq, line.start, line.stop, line.size))
+}
+
+/// Whether these texts begin with a line that is known at once, or do not.
+fn are_short(genome: &Genome) -> bool {
+    for (text, want) in [
+        (
+            b"chr2\t3\t50\nchr1\t1\t2\n".as_slice(),
+            Some((1, 3, 50, 10)),
+        ),
+        (b"chr2\t3\t50\r\n\n", Some((1, 3, 50, 11))),
+        (b"chr1\t3\t50\n", None),
+        (b"chr2\t3\t51\n", None),
+        (b"chr2\t3\t50", None),
+        (b"chr2\t3\t50\tn\n", None),
+    ] {
+        if short_line(genome, 3, text) != want {
+            return false;
+        }
+    }
+    true
+}
+
+#[test]
+fn short_lines(rt: HostRuntime) -> Result<(), Fail> {
+    let genome = genome(&rt)?;
+    assert!(rt; are_short(&genome));
+    Ok(())
+}
+
+/// The same of lines with more columns.
+fn are_short_with_cells(genome: &Genome) -> bool {
+    for (width, text, size) in [
+        (4, b"chr2\t3\t50\tn 1\nchr1\t1\t2\tn\n".as_slice(), Some(14)),
+        (4, b"chr2\t3\t50\tn\r\n", Some(13)),
+        (4, b"chr2\t3\t50\tn", None),
+        (4, b"chr2\t3\t50\t\n", None),
+        (4, b"chr2\t3\t50\ta\rb\n", None),
+        (4, b"chr2\t3\t50\ta\0b\n", None),
+        (4, b"chr2\t3\t50\tn\t7\n", None),
+        (4, b"chr2\t3\t50\n", None),
+        (5, b"chr2\t3\t50\tn\t7\n", Some(14)),
+        (5, b"chr2\t3\t50\tn\t7.5\r\n", Some(17)),
+        (5, b"chr2\t3\t50\tn\t\n", None),
+        (5, b"chr2\t3\t50\tn\t7\r8\n", None),
+        (5, b"chr2\t3\t50\tn\t7", None),
+        (6, b"chr2\t3\t50\tn\t7\t+\n", Some(16)),
+        (6, b"chr2\t3\t50\tn\t7\t-\r\n", Some(17)),
+        (6, b"chr2\t3\t50\tn\t7\t.\n\n", Some(16)),
+        (6, b"chr2\t3\t50\tn\t7\t*\n", None),
+        (6, b"chr2\t3\t50\tn\t7\t++\n", None),
+        (6, b"chr2\t3\t50\tn\t7\t+\t\n", None),
+        (6, b"chr2\t3\t50\tn\t7\t+", None),
+    ] {
+        let want = size.map(|size| (1, 3, 50, size));
+        if short_line(genome, width, text) != want {
+            return false;
+        }
+    }
+    true
+}
+
+#[test]
+fn short_lines_with_cells(rt: HostRuntime) -> Result<(), Fail> {
+    let genome = genome(&rt)?;
+    assert!(rt; are_short_with_cells(&genome));
+    Ok(())
+}
+
+/// A record of six columns.
+fn record(rt: &HostRuntime, genome: &Genome, line: &[u8]) -> Result<Record, Fail> {
+    Ok(read_record(genome, 6, line)?.to_record(rt.alloc())?)
+}
+
+/// How the records of two lines are ordered, and whether they are copies of one record.
+fn compared(
+    rt: &HostRuntime,
+    genome: &Genome,
+    line: &[u8],
+    other: &[u8],
+) -> Result<(Ordering, bool), Fail> {
+    let line = record(rt, genome, line)?;
+    let other = record(rt, genome, other)?;
+    Ok((line.cmp(&other), line.is_copy_of(&other)))
+}
+
+/// Whether each of these lines gives a record after that of the line before it, and the last one a copy.
+fn are_in_order(rt: &HostRuntime, genome: &Genome) -> Result<bool, Fail> {
+    let mut before = b"chr1\t1\t2\ta\t0\t+".as_slice();
+    for line in [
+        b"chr1\t1\t2\ta\t0\t-".as_slice(),
+        b"chr1\t1\t2\ta\t0\t.",
+        b"chr1\t1\t2\ta\t00\t+",
+        b"chr1\t1\t2\tab\t0\t+",
+        b"chr1\t1\t10\ta\t0\t+",
+        b"chr1\t10\t20\ta\t0\t+",
+        b"chr2\t0\t1\ta\t0\t+",
+    ] {
+        if compared(rt, genome, before, line)? != (Ordering::Less, false) {
+            return Ok(false);
+        }
+        before = line;
+    }
+    let again = b"chr2\t00\t01\ta\t0\t+";
+    Ok(compared(rt, genome, before, again)? == (Ordering::Equal, true))
+}
+
+#[test]
+fn order_of_records(rt: HostRuntime) -> Result<(), Fail> {
+    let genome = genome(&rt)?;
+    assert!(rt; are_in_order(&rt, &genome)?);
+    Ok(())
+}
+
+/// Whether a record keeps a name of this number of letters, and a score of one.
+fn keeps_name(rt: &HostRuntime, genome: &Genome, letters: usize) -> Result<bool, Fail> {
+    let name = "n".repeat(rt.alloc(), letters)?;
+    let line = format!(in rt.alloc(); "chr1\t10\t20\t{name}\t0\t+")?;
+    let texts = (name.as_bytes(), b"0".as_slice());
+    let cells = (6, (0, 10, 20), texts, Some(Strand::Plus));
+    has_cells(rt, genome, line.as_bytes(), cells)
+}
+
+/// Both sides of each size of a block, and far beyond.
+#[test]
+fn texts_of_each_size(rt: HostRuntime) -> Result<(), Fail> {
+    let genome = genome(&rt)?;
+    for letters in [1, 21, 22, 37, 38, 300] {
+        assert!(rt; keeps_name(&rt, &genome, letters)?);
+    }
+    Ok(())
+}
+
+#[test]
+fn records_are_small(rt: HostRuntime) {
+    let size = size_of::<Record>();
+    assert!(rt; size <= 32);
+}

@@ -1,0 +1,190 @@
+//! What operations give for values, and results over records.
+use iv_summary::{Column, ColumnSummary, Op, results, summary};
+use iv_text::{Genome, Record, read_record};
+use std::alloc::Global;
+use std::test::Fail;
+use test_faults::{RefusesNth, refuse_each};
+
+/// Whether an operation gives this for values.
+fn gives(rt: &HostRuntime, op: Op, values: &[&[u8]], want: &[u8]) -> Result<bool, Fail> {
+    Ok(summary(rt.alloc(), op, values)?.as_slice() == want)
+}
+
+#[test]
+fn operations_over_values(rt: HostRuntime) -> Result<(), Fail> {
+    let values: [&[u8]; 4] = [b"5", b".", b"-7", b"007"];
+    for (op, want) in [
+        (Op::Count, b"4".as_slice()),
+        (Op::Sum, b"5"),
+        (Op::Min, b"-7"),
+        (Op::Max, b"7"),
+        (Op::Collapse, b"5,.,-7,007"),
+        (Op::Distinct, b"-7,.,007,5"),
+    ] {
+        assert!(rt; gives(&rt, op, &values, want)?);
+    }
+    Ok(())
+}
+
+#[test]
+fn operations_over_no_value(rt: HostRuntime) -> Result<(), Fail> {
+    for (op, want) in [
+        (Op::Count, b"0".as_slice()),
+        (Op::Sum, b"."),
+        (Op::Min, b"."),
+        (Op::Max, b"."),
+        (Op::Collapse, b""),
+        (Op::Distinct, b""),
+    ] {
+        assert!(rt; gives(&rt, op, &[], want)?);
+    }
+    Ok(())
+}
+
+/// Whether sum, least and greatest are these.
+fn numbers_are(
+    rt: &HostRuntime,
+    values: &[&[u8]],
+    sum: &[u8],
+    least: &[u8],
+    greatest: &[u8],
+) -> Result<bool, Fail> {
+    Ok(
+        gives(rt, Op::Sum, values, sum)?
+            && gives(rt, Op::Min, values, least)?
+            && gives(rt, Op::Max, values, greatest)?,
+    )
+}
+
+#[test]
+fn numbers_among_values(rt: HostRuntime) -> Result<(), Fail> {
+    let none = b".".as_slice();
+    for (values, sum, least, greatest) in [
+        ([b"5".as_slice(), b"2.5"], none, none, none),
+        ([b".", b"."], none, none, none),
+        ([b"-", b"1"], none, none, none),
+        ([b"", b"1"], none, none, none),
+        ([b"+1", b"1"], none, none, none),
+        ([b"--1", b"1"], none, none, none),
+        ([b"1", b"1000000000000000"], none, none, none),
+        ([b"-0", b"000"], b"0", b"0", b"0"),
+        (
+            [b"999999999999999", b"."],
+            b"999999999999999",
+            b"999999999999999",
+            b"999999999999999",
+        ),
+        (
+            [b"-999999999999999", b"-000000000000001"],
+            b"-1000000000000000",
+            b"-999999999999999",
+            b"-1",
+        ),
+    ] {
+        assert!(rt; numbers_are(&rt, &values, sum, least, greatest)?);
+    }
+    Ok(())
+}
+
+#[test]
+fn sums_of_a_thousand_numbers(rt: HostRuntime) -> Result<(), Fail> {
+    let number = b"999999999999999".as_slice();
+    let sum = b"999999999999999000".as_slice();
+    assert!(rt; numbers_are(&rt, &[number; 1000], sum, number, number)?);
+    Ok(())
+}
+
+#[test]
+fn each_value_once(rt: HostRuntime) -> Result<(), Fail> {
+    let values: [&[u8]; 7] = [b"b", b"", b"ab", b"a", b"b", b"", b"B"];
+    assert!(rt; gives(&rt, Op::Distinct, &values, b",B,a,ab,b")?);
+    Ok(())
+}
+
+#[test]
+fn names_of_operations(rt: HostRuntime) -> Result<(), Fail> {
+    for (name, want) in [
+        (b"count".as_slice(), Some(Op::Count)),
+        (b"sum", Some(Op::Sum)),
+        (b"min", Some(Op::Min)),
+        (b"max", Some(Op::Max)),
+        (b"collapse", Some(Op::Collapse)),
+        (b"distinct", Some(Op::Distinct)),
+        (b"mean", None),
+        (b"", None),
+        (b"Sum", None),
+        (b"sum ", None),
+    ] {
+        assert!(rt; Op::parse(name) == want);
+    }
+    Ok(())
+}
+
+/// The record of a line of six columns, `None` where memory is refused.
+fn record<'a>(
+    alloc: &'a RefusesNth<Global>,
+    genome: &Genome<&'a RefusesNth<Global>>,
+    line: &[u8],
+) -> Option<Record<&'a RefusesNth<Global>>> {
+    read_record(genome, 6, line).ok()?.to_record(alloc).ok()
+}
+
+/// Every column once.
+const EACH_COLUMN: [Column; 6] = [
+    Column::Sequence,
+    Column::Start,
+    Column::Stop,
+    Column::Name,
+    Column::Score,
+    Column::Strand,
+];
+
+/// The results of an operation over every column of two records, `None` where memory is refused.
+fn results_beside<'a>(
+    alloc: &'a RefusesNth<Global>,
+    genome: &Genome<&'a RefusesNth<Global>>,
+    op: Op,
+) -> Option<Vec<u8, &'a RefusesNth<Global>>> {
+    let first = record(alloc, genome, b"chr1\t100\t250\tb\t0.5\t-")?;
+    let second = record(alloc, genome, b"chr1\t9\t1000\ta\t7\t.")?;
+    let asked = EACH_COLUMN.map(|column| ColumnSummary { column, op });
+    results(alloc, &asked, b"chr1", &[&first, &second]).ok()
+}
+
+/// Whether the results of an operation over every column of the two records are these, `None` where memory is refused.
+fn are_results(alloc: &RefusesNth<Global>, op: Op, want: &[u8]) -> Option<bool> {
+    let genome = Genome::parse(alloc, b"chr1\t1000\n").ok()?;
+    let text = results_beside(alloc, &genome, op)?;
+    Some(text.as_slice() == want)
+}
+
+/// What each operation gives over every column of the two records.
+const WANTED: [(Op, &[u8]); 6] = [
+    (Op::Count, b"\t2\t2\t2\t2\t2\t2"),
+    (Op::Sum, b"\t.\t109\t1250\t.\t.\t."),
+    (Op::Min, b"\t.\t9\t250\t.\t.\t."),
+    (Op::Max, b"\t.\t100\t1000\t.\t.\t."),
+    (
+        Op::Collapse,
+        b"\tchr1,chr1\t100,9\t250,1000\tb,a\t0.5,7\t-,.",
+    ),
+    (Op::Distinct, b"\tchr1\t100,9\t1000,250\ta,b\t0.5,7\t-,."),
+];
+
+/// How often there were no results, once where a growth was refused and else never; then they are to be these.
+fn refused_results(alloc: &RefusesNth<Global>, op: Op, want: &[u8]) -> Result<u32, Fail> {
+    match are_results(alloc, op, want) {
+        Some(true) if !alloc.has_refused() => Ok(0),
+        None if alloc.has_refused() => Ok(1),
+        _ => Err(Fail::new("other results")),
+    }
+}
+
+#[test]
+fn results_over_records(rt: HostRuntime) -> Result<(), Fail> {
+    for (op, want) in WANTED {
+        let refused = refuse_each(rt.alloc(), |alloc| refused_results(alloc, op, want))?;
+        assert!(rt; refused > 0);
+    }
+    Ok(())
+}

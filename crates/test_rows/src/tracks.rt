@@ -1,0 +1,212 @@
+//! Tracks of records of four columns.
+ghost use Rattle.std.specs.Prelude.{◌≡◌, IfOk};
+
+use crate::fixtures::{add, genome, replace, stage};
+use iv_text::{Genome, Record, read_record};
+use iv_track::{Meter, Track};
+use std::test::Fail;
+
+/// An edit by the records of lines.
+#[derive(Clone, Copy)]
+enum Edit<'a> {
+    Add(&'a [u8]),
+    Stage(&'a [u8]),
+    Remove(&'a [u8]),
+    Replace(&'a [u8], &'a [u8]),
+}
+
+/// The record of a line of four columns.
+fn record(rt: &HostRuntime, genome: &Genome, line: &[u8]) -> Result<Record, Fail>
+    ensures { IfOk result (λ r. r.width ≡ 4) }
+{
+    Ok(read_record(genome, 4, line)?.to_record(rt.alloc())?)
+}
+
+/// Removes a record from a track. The number of the fault, 0 where there is none.
+fn remove(track: &mut Track, row: &Record) -> u8 {
+    match track.remove(row, &mut Meter::new()) {
+        Ok(()) => 0,
+        Err(fault) => fault.code(),
+    }
+}
+
+/// The number of an edit's fault, 0 where there is none.
+fn fault_of(
+    rt: &HostRuntime,
+    genome: &Genome,
+    track: &mut Track,
+    edit: Edit<'_>,
+) -> Result<u8, Fail> {
+    if track.width() != 4 {
+        return Err(Fail::new("another width"));
+    }
+    let has_room = track.len() <= track.limit();
+    match edit {
+        Edit::Add(line) => Ok(add(track, record(rt, genome, line)?)),
+        Edit::Remove(line) => Ok(remove(track, &record(rt, genome, line)?)),
+        Edit::Stage(line) if has_room => Ok(stage(track, record(rt, genome, line)?)),
+        Edit::Replace(old, new) if has_room => {
+            let old = record(rt, genome, old)?;
+            Ok(replace(track, &old, record(rt, genome, new)?))
+        }
+        Edit::Stage(_) | Edit::Replace(_, _) => Err(Fail::new("more records than the limit")),
+    }
+}
+
+/// Edits a track of at most two records.
+fn check_limit(rt: &HostRuntime, genome: &Genome, track: &mut Track) -> Result<(), Fail> {
+    let (a, b, c) = (
+        b"chr1\t10\t20\ta".as_slice(),
+        b"chr1\t10\t20\tb".as_slice(),
+        b"chr1\t10\t20\tc".as_slice(),
+    );
+    for (edit, fault, len) in [
+        (Edit::Remove(a), 11, 0),
+        (Edit::Replace(a, a), 11, 0),
+        (Edit::Add(a), 0, 1),
+        (Edit::Remove(b), 11, 1),
+        (Edit::Replace(b, a), 11, 1),
+        (Edit::Add(b), 0, 2),
+        (Edit::Add(c), 12, 2),
+        (Edit::Replace(a, c), 0, 2),
+        (Edit::Stage(a), 0, 3),
+        (Edit::Remove(c), 0, 2),
+        (Edit::Add(c), 12, 2),
+        (Edit::Remove(a), 0, 1),
+        (Edit::Add(c), 0, 2),
+    ] {
+        if fault_of(rt, genome, track, edit)? != fault || track.len() != len {
+            return Err(Fail::new("another outcome"));
+        }
+    }
+    Ok(())
+}
+
+#[test]
+fn limit_of_a_track(rt: HostRuntime) -> Result<(), Fail> {
+    let genome = genome(&rt)?;
+    let mut track = Track::new(rt.alloc(), 4, 2);
+    check_limit(&rt, &genome, &mut track)?;
+    assert!(rt; track.limit() == 2 && track.width() == 4);
+    Ok(())
+}
+
+/// Edits a track that takes no record.
+fn check_no_room(rt: &HostRuntime, genome: &Genome, track: &mut Track) -> Result<(), Fail> {
+    let line = b"chr1\t10\t20\ta".as_slice();
+    for (edit, fault) in [(Edit::Add(line), 12), (Edit::Remove(line), 11)] {
+        if fault_of(rt, genome, track, edit)? != fault || track.len() != 0 {
+            return Err(Fail::new("another outcome"));
+        }
+    }
+    Ok(())
+}
+
+#[test]
+fn track_without_room(rt: HostRuntime) -> Result<(), Fail> {
+    let genome = genome(&rt)?;
+    let mut track = Track::new(rt.alloc(), 4, 0);
+    check_no_room(&rt, &genome, &mut track)
+}
+
+/// The first letter of a record's name and its copies, of the record after this one, or at or after its place.
+fn next_on(track: &Track, record: &Record, after: bool) -> Option<(u8, u32)> {
+    let mut meter = Meter::new();
+    let (row, copies) = if after {
+        track.after(record, &mut meter)?
+    } else {
+        track.at_or_after(record.seq(), record.start(), &mut meter)?
+    };
+    let letter = row.name().first()?;
+    (track.copies(row, &mut meter) == copies).then_some((*letter, copies))
+}
+
+/// The same of the record of a line.
+fn next_to(
+    rt: &HostRuntime,
+    genome: &Genome,
+    track: &Track,
+    line: &[u8],
+    after: bool,
+) -> Result<Option<(u8, u32)>, Fail> {
+    Ok(next_on(track, &record(rt, genome, line)?, after))
+}
+
+/// Adds the records of lines.
+fn add_all(
+    rt: &HostRuntime,
+    genome: &Genome,
+    track: &mut Track,
+    lines: &[&[u8]],
+) -> Result<(), Fail> {
+    for line in lines {
+        if fault_of(rt, genome, track, Edit::Add(line))? != 0 {
+            return Err(Fail::new("a record is refused"));
+        }
+    }
+    Ok(())
+}
+
+/// Looks at a track to which two copies of a record and one of another come.
+fn check_copies(rt: &HostRuntime, genome: &Genome, track: &mut Track) -> Result<(), Fail> {
+    let (a, b) = (b"chr1\t10\t20\ta".as_slice(), b"chr1\t10\t20\tb".as_slice());
+    add_all(rt, genome, track, &[b, a, a])?;
+    for (line, after, want) in [
+        (b, false, Some((b'a', 2))),
+        (a, true, Some((b'b', 1))),
+        (b, true, None),
+    ] {
+        if next_to(rt, genome, track, line, after)? != want {
+            return Err(Fail::new("another record"));
+        }
+    }
+    Ok(())
+}
+
+#[test]
+fn copies_in_order(rt: HostRuntime) -> Result<(), Fail> {
+    let genome = genome(&rt)?;
+    let mut track = Track::new(rt.alloc(), 4, 9);
+    check_copies(&rt, &genome, &mut track)?;
+    assert!(rt; track.len() == 3);
+    Ok(())
+}
+
+/// The rank of the first record at or after a start on a sequence.
+fn rank_from(track: &Track, seq: u32, start: u64) -> Option<u32> {
+    let (row, _) = track.at_or_after(seq, start, &mut Meter::new())?;
+    Some(row.seq())
+}
+
+/// Looks past the last record of a track.
+fn check_starts(track: &Track) -> Result<(), Fail> {
+    for (seq, start, want) in [
+        (0, 99, Some(0)),
+        (0, 100, Some(1)),
+        (0, 4_294_967_294, Some(1)),
+        (0, 4_294_967_295, Some(1)),
+        (0, 4_294_967_296, Some(1)),
+        (0, u64::MAX, Some(1)),
+        (1, 4_294_967_296, None),
+        (u32::MAX, 0, None),
+        (u32::MAX, u64::MAX, None),
+    ] {
+        if rank_from(track, seq, start) != want {
+            return Err(Fail::new("another record"));
+        }
+    }
+    Ok(())
+}
+
+#[test]
+fn starts_past_each_record(rt: HostRuntime) -> Result<(), Fail> {
+    let genome = genome(&rt)?;
+    let mut track = Track::new(rt.alloc(), 4, 9);
+    add_all(
+        &rt,
+        &genome,
+        &mut track,
+        &[b"chr1\t99\t100\ta", b"chr2\t0\t1\ta"],
+    )?;
+    check_starts(&track)
+}

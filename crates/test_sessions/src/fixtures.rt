@@ -1,0 +1,167 @@
+//! What several tests begin with.
+ghost use Rattle.std.specs.Prelude.{◌≤◌, All, IfSome, length};
+ghost use Rattle.iv_text.specs.Read.{Fits};
+
+use iv_bytes::MemSink;
+use iv_text::{BedFile, Genome, RecordFault};
+use iv_track::EditFault;
+use iv_workspace::{Accepted, PrintFault, SecondFault, Session};
+use std::alloc::Allocator;
+use std::test::Fail;
+
+/// A genome of three sequences, of 100 bases, of 50 and of none.
+pub(crate) const SIZES: &[u8] = b"chr1\t100\nchr2\t50\nchr3\t0\n";
+
+/// The files of a session, the width of a BED file without a record, and how many records each may have.
+#[derive(Clone, Copy)]
+pub(crate) struct Files<'a> {
+    pub(crate) sizes: &'a [u8],
+    pub(crate) first: &'a [u8],
+    /// The second BED file.
+    pub(crate) second: Option<&'a [u8]>,
+    pub(crate) width: u8,
+    pub(crate) limit: u32,
+}
+
+/// A BED file over that genome, with no file beside it.
+pub(crate) fn alone(first: &[u8], limit: u32) -> Files<'_> {
+    Files {
+        sizes: SIZES,
+        first,
+        second: None,
+        width: 3,
+        limit,
+    }
+}
+
+/// What the second BED file says, where there is one; `None` where it has a fault or memory is refused.
+fn second_of<A: Allocator + Copy>(
+    alloc: A,
+    genome: &Genome<A>,
+    width: u8,
+    limit: u32,
+    text: Option<&[u8]>,
+) -> Option<Option<BedFile<A>>>
+    requires { (3 ≤ width) × (width ≤ 6) }
+    ensures fit { IfSome result (λ second. IfSome second (λ file. All (Fits genome.now file.width) file.rows)) }
+    ensures few { IfSome result (λ second. IfSome second (λ file. length file.rows ≤ limit)) }
+{
+    let Some(text) = text else {
+        return Some(None);
+    };
+    match BedFile::parse(alloc, genome, width, limit, text) {
+        Ok(file) => Some(Some(file)),
+        Err(_) => None,
+    }
+}
+
+/// The session of files; `None` where one has a fault or memory is refused.
+pub(crate) fn session_of<A: Allocator + Copy>(alloc: A, files: Files<'_>) -> Option<Session<A>> {
+    let (width, limit) = (files.width, files.limit);
+    if limit > 4_000_000 || width < 3 || width > 6 {
+        return None;
+    }
+    let genome = Genome::parse(alloc, files.sizes).ok()?;
+    let Ok(first) = BedFile::parse(alloc, &genome, width, limit, files.first) else {
+        return None;
+    };
+    let second = second_of(alloc, &genome, width, limit, files.second)?;
+    Session::new(alloc, genome, first, second, None, limit).ok()
+}
+
+/// The session of files that are sound.
+pub(crate) fn begun(rt: &HostRuntime, files: Files<'_>) -> Result<Session, Fail> {
+    Ok(session_of(rt.alloc(), files).ok_or("no session")?)
+}
+
+/// The session of a BED file over that genome.
+pub(crate) fn session(rt: &HostRuntime, first: &[u8], limit: u32) -> Result<Session, Fail> {
+    begun(rt, alone(first, limit))
+}
+
+/// A failed test, unless this is so.
+pub(crate) fn holds(is_so: bool) -> Result<(), Fail> {
+    if is_so {
+        Ok(())
+    } else {
+        Err(Fail::new("it is not so"))
+    }
+}
+
+/// What a print of this view, or of all, writes into an output with room for this number of bytes, and its fault.
+pub(crate) fn printed(
+    rt: &HostRuntime,
+    session: &mut Session,
+    name: Option<&[u8]>,
+    room: usize,
+) -> Result<(MemSink, Option<PrintFault>), Fail> {
+    let mut sink = MemSink::new(rt.alloc(), room, 3)?;
+    let done = match name {
+        Some(name) => session.print_view(name, &mut sink),
+        None => session.print_all(&mut sink),
+    };
+    Ok((sink, done.err()))
+}
+
+/// Whether a print of this view, or of all, writes this.
+pub(crate) fn prints(
+    rt: &HostRuntime,
+    session: &mut Session,
+    name: Option<&[u8]>,
+    want: &[u8],
+) -> Result<bool, Fail> {
+    let (sink, fault) = printed(rt, session, name, 2000)?;
+    Ok(fault.is_none() && sink.bytes() == want)
+}
+
+/// An edit by the records of lines.
+#[derive(Clone, Copy)]
+pub(crate) enum Edit<'a> {
+    Add(&'a [u8]),
+    Remove(&'a [u8]),
+    Replace(&'a [u8], &'a [u8]),
+}
+
+/// What an edit answers.
+pub(crate) fn answer<A: Allocator + Copy>(
+    session: &mut Session<A>,
+    edit: Edit<'_>,
+) -> Result<Result<Accepted, EditFault>, RecordFault> {
+    Ok(match edit {
+        Edit::Add(line) => {
+            let row = session.read(line)?;
+            session.add(&row)
+        }
+        Edit::Remove(line) => {
+            let row = session.read(line)?;
+            session.remove(&row)
+        }
+        Edit::Replace(old, new) => {
+            let old = session.read(old)?;
+            let new = session.read(new)?;
+            session.replace(&old, &new)
+        }
+    })
+}
+
+/// What an edit of the second file answers.
+pub(crate) fn answer_beside<A: Allocator + Copy>(
+    session: &mut Session<A>,
+    edit: Edit<'_>,
+) -> Result<Result<Accepted, EditFault>, SecondFault> {
+    Ok(match edit {
+        Edit::Add(line) => {
+            let row = session.read_second(line)?;
+            session.add_second(&row)
+        }
+        Edit::Remove(line) => {
+            let row = session.read_second(line)?;
+            session.remove_second(&row)
+        }
+        Edit::Replace(old, new) => {
+            let old = session.read_second(old)?;
+            let new = session.read_second(new)?;
+            session.replace_second(&old, &new)
+        }
+    })
+}

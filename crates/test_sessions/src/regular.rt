@@ -1,0 +1,271 @@
+//! Edits of a track of no record, of 15, 300 and a thousand beside open views, with each growth of the edit refused in turn.
+use crate::apart::{SECOND, SIZES, View, apart, text};
+use crate::fixtures::{Edit, Files, alone, answer, session_of};
+use iv_bytes::MemSink;
+use iv_track::EditFault;
+use iv_workspace::{PrintFault, Session};
+use std::alloc::Global;
+use std::test::Fail;
+use test_faults::RefusesNth;
+
+/// A view that is open: its name, its words, what it prints, and which growth of a print is refused.
+type Open<'a> = (&'a [u8], &'a [&'a [u8]], View, u64);
+
+/// The views that are open. The first growth of a print that makes blocks anew is made up for at another size.
+const VIEWS: [Open<'static>; 5] = [
+    (b"m", &[b"merge"], View::Merge, 2),
+    (b"k", &[b"cluster"], View::Cluster, 1),
+    (b"c", &[b"complement"], View::Complement, 1),
+    (b"g", &[b"genomecov", b"-bg"], View::Depth, 1),
+    (b"u", &[b"intersect", b"-u"], View::Shared, 1),
+];
+
+/// An edit, and the starts of the records before it and after it.
+#[derive(Clone, Copy)]
+struct Case<'a> {
+    before: &'a [u32],
+    edit: Edit<'a>,
+    after: &'a [u32],
+}
+
+/// How often an edit was refused, how often it left the views of blocks or that of depth stale, and how often a print of a
+/// stale view was refused.
+#[derive(Clone, Copy, PartialEq, Eq)]
+struct Seen {
+    refused: u32,
+    blocks: u32,
+    depth: u32,
+    prints: u32,
+}
+
+/// Nothing yet.
+const NOTHING: Seen = Seen {
+    refused: 0,
+    blocks: 0,
+    depth: 0,
+    prints: 0,
+};
+
+impl Seen {
+    /// With this added.
+    fn and(self, more: Seen) -> Seen {
+        Seen {
+            refused: self.refused.saturating_add(more.refused),
+            blocks: self.blocks.saturating_add(more.blocks),
+            depth: self.depth.saturating_add(more.depth),
+            prints: self.prints.saturating_add(more.prints),
+        }
+    }
+}
+
+/// How many of these views are open on blocks, and how many of those are stale; whether the view of depth is stale.
+fn stale_views(session: &Session<&RefusesNth<Global>>, views: &[Open<'_>]) -> (u32, u32, bool) {
+    let (mut open, mut blocks, mut depth) = (0u32, 0u32, false);
+    for (name, _, view, _) in views {
+        let is_stale = !session.is_current(name);
+        match view {
+            View::Merge | View::Cluster | View::Complement => {
+                open = open.saturating_add(1);
+                blocks = blocks.saturating_add(u32::from(is_stale));
+            }
+            View::Depth | View::Shared => depth |= is_stale,
+        }
+    }
+    (open, blocks, depth)
+}
+
+/// Does the edit of a case with the growth of a number refused. Whether it was done, and what was seen. Views of the same blocks
+/// are stale together.
+fn edited(
+    alloc: &RefusesNth<Global>,
+    session: &mut Session<&RefusesNth<Global>>,
+    views: &[Open<'_>],
+    case: Case<'_>,
+    number: u64,
+) -> Result<(bool, Seen), Fail> {
+    let len = session.len();
+    alloc.again(number.max(1));
+    let done = answer(session, case.edit)?;
+    let (open, blocks, depth) = stale_views(session, views);
+    let stale = blocks.saturating_add(u32::from(depth));
+    let seen = Seen {
+        refused: u32::from(done.is_err()),
+        blocks: u32::from(blocks > 0),
+        depth: u32::from(depth),
+        prints: 0,
+    };
+    let is_met = alloc.has_refused();
+    match done {
+        Ok(done) if done.stale == 0 && stale == 0 => Ok((true, seen)),
+        Ok(done) if is_met && done.stale == stale && (blocks == 0 || blocks == open) => Ok((
+            true, seen,
+        )),
+        Err(EditFault::NoMemory) if is_met && session.len() == len && stale == 0 => Ok((
+            false, seen,
+        )),
+        _ => Err(Fail::new("another answer to an edit")),
+    }
+}
+
+/// Prints a view into an output that has room for just this text. Whether memory was refused; then nothing is written.
+fn is_print_refused(
+    rt: &HostRuntime,
+    session: &mut Session<&RefusesNth<Global>>,
+    name: &[u8],
+    want: &[u8],
+) -> Result<bool, Fail> {
+    let mut sink = MemSink::new(rt.alloc(), want.len(), 999)?;
+    match session.print_view(name, &mut sink) {
+        Ok(()) if sink.bytes() == want => Ok(false),
+        Err(PrintFault::NoMemory) if sink.bytes().is_empty() => Ok(true),
+        _ => Err(Fail::new("another print")),
+    }
+}
+
+/// Prints a view with the growth of a number refused, and again if it was refused, which only a stale view is. Whether it was.
+fn is_print_refused_once(
+    rt: &HostRuntime,
+    alloc: &RefusesNth<Global>,
+    session: &mut Session<&RefusesNth<Global>>,
+    name: &[u8],
+    growth: u64,
+    want: &[u8],
+) -> Result<bool, Fail> {
+    let (was_current, before) = (session.is_current(name), alloc.refusals());
+    alloc.again(growth.max(1));
+    let refused = is_print_refused(rt, session, name, want)?;
+    let is_met = alloc.refusals() != before;
+    if refused && !is_met || is_met && was_current || refused == session.is_current(name) {
+        return Err(Fail::new("another print of a stale view"));
+    }
+    if refused && is_print_refused(rt, session, name, want)? {
+        return Err(Fail::new("refused twice"));
+    }
+    Ok(refused)
+}
+
+/// Prints each view, which must have the rows of the records at these starts. How many prints were refused.
+fn refused_prints(
+    rt: &HostRuntime,
+    alloc: &RefusesNth<Global>,
+    session: &mut Session<&RefusesNth<Global>>,
+    views: &[Open<'_>],
+    starts: &[u32],
+) -> Result<u32, Fail> {
+    let mut refused = 0u32;
+    for (name, _, view, growth) in views {
+        let want = text(rt, *view, starts)?;
+        let met = is_print_refused_once(rt, alloc, session, name, *growth, want.as_bytes())?;
+        refused = refused.saturating_add(u32::from(met));
+    }
+    Ok(refused)
+}
+
+/// Opens the views of a session, does the edit of a case with the growth of a number refused, and prints.
+fn edited_and_printed(
+    rt: &HostRuntime,
+    alloc: &RefusesNth<Global>,
+    session: &mut Session<&RefusesNth<Global>>,
+    views: &[Open<'_>],
+    case: Case<'_>,
+    number: u64,
+) -> Result<Seen, Fail> {
+    for (name, words, _, _) in views {
+        session.open_view(name, words)?;
+    }
+    let (is_done, seen) = edited(alloc, session, views, case, number)?;
+    let starts = if is_done { case.after } else { case.before };
+    let prints = refused_prints(rt, alloc, session, views, starts)?;
+    Ok(Seen { prints, ..seen })
+}
+
+/// The same in a session of its own, of the records of a case.
+fn run(
+    rt: &HostRuntime,
+    alloc: &RefusesNth<Global>,
+    views: &[Open<'_>],
+    case: Case<'_>,
+    first: &[u8],
+    number: u64,
+) -> Result<Seen, Fail> {
+    let files = Files {
+        sizes: SIZES,
+        second: Some(SECOND),
+        ..alone(first, 2000)
+    };
+    let mut session = session_of(alloc, files).ok_or("no session")?;
+    edited_and_printed(rt, alloc, &mut session, views, case, number)
+}
+
+/// Does the edit of a case with each of its growths refused in turn, until it meets none.
+fn refused_in_turn(rt: &HostRuntime, views: &[Open<'_>], case: Case<'_>) -> Result<Seen, Fail> {
+    let first = text(rt, View::Merge, case.before)?;
+    let mut seen = NOTHING;
+    for number in 1..1000u64 {
+        let alloc = RefusesNth::new(rt.alloc(), u64::MAX);
+        let more = run(rt, &alloc, views, case, first.as_bytes(), number)?;
+        if more == NOTHING {
+            return Ok(seen);
+        }
+        seen = seen.and(more);
+    }
+    Err(Fail::new("no end of growths"))
+}
+
+/// Merge, cluster and complement keep the same blocks, so one print of the three is refused where they are stale.
+#[test]
+fn first_record(rt: HostRuntime) -> Result<(), Fail> {
+    let case = Case {
+        before: &[],
+        edit: Edit::Add(b"big\t500\t510"),
+        after: &[500],
+    };
+    let seen = refused_in_turn(&rt, &VIEWS, case)?;
+    let stale = seen.blocks.saturating_add(seen.depth);
+    assert!(rt; seen.refused > 0 && seen.blocks > 0 && seen.depth > 0 && seen.prints == stale);
+    Ok(())
+}
+
+/// What is seen at an edit of so many records, one in each thousand bases: one more, one less, and one in the place of another.
+fn edits_of(rt: &HostRuntime, views: &[Open<'_>], count: u32) -> Result<[Seen; 3], Fail> {
+    let before = apart(rt, count, None, None)?;
+    let added = apart(rt, count, None, Some(500))?;
+    let removed = apart(rt, count, Some(0), None)?;
+    let replaced = apart(rt, count, Some(1000), Some(1500))?;
+    let of = |edit, after| Case {
+        before: before.as_slice(),
+        edit,
+        after,
+    };
+    let add = of(Edit::Add(b"big\t500\t510"), added.as_slice());
+    let remove = of(Edit::Remove(b"big\t0\t10"), removed.as_slice());
+    let replace = Edit::Replace(b"big\t1000\t1010", b"big\t1500\t1510");
+    let replace = of(replace, replaced.as_slice());
+    Ok([
+        refused_in_turn(rt, views, add)?,
+        refused_in_turn(rt, views, remove)?,
+        refused_in_turn(rt, views, replace)?,
+    ])
+}
+
+/// A removal takes no memory.
+#[test]
+fn thousand_records(rt: HostRuntime) -> Result<(), Fail> {
+    let [add, remove, replace] = edits_of(&rt, &VIEWS, 1000)?;
+    assert!(rt; add.refused > 0 && remove.refused == 0 && replace.refused > 0);
+    Ok(())
+}
+
+/// The same beside each view by itself.
+#[test]
+fn each_view_alone(rt: HostRuntime) -> Result<(), Fail> {
+    for view in VIEWS {
+        for count in [15, 300] {
+            let [_, remove, _] = edits_of(&rt, &[view], count)?;
+            if remove.refused > 0 {
+                return Err(Fail::new("a removal that takes memory"));
+            }
+        }
+    }
+    Ok(())
+}

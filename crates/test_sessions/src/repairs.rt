@@ -1,0 +1,205 @@
+//! Steps of edits beside open views, with ample memory, so that no view becomes stale.
+use crate::fixtures::{Edit, Files, alone, answer, begun, holds, prints};
+use iv_workspace::Session;
+use std::test::Fail;
+
+/// The views that are open: the name and the words of each.
+const VIEWS: [(&[u8], &[&[u8]]); 5] = [
+    (b"m", &[b"merge"]),
+    (b"d", &[b"merge", b"-d", b"100"]),
+    (b"k", &[b"cluster"]),
+    (b"c", &[b"complement"]),
+    (b"g", &[b"genomecov", b"-bg"]),
+];
+
+/// The most steps of an edit beside these views: 8 of the track, 8 of the depth, and for the blocks of each of the two
+/// distances, which are kept once, 16 and 8 more for each record around the edit.
+fn most_steps(around: u32) -> u64 {
+    8 + 8 + 2 * (16 + 8 * u64::from(around))
+}
+
+/// A session of a BED file over one sequence of a million bases.
+fn session(rt: &HostRuntime, text: &[u8]) -> Result<Session, Fail> {
+    let files = Files {
+        sizes: b"big\t1000000\n",
+        ..alone(text, 2000)
+    };
+    begun(rt, files)
+}
+
+/// Opens the views.
+fn open_views(session: &mut Session) -> Result<(), Fail> {
+    for (name, words) in VIEWS {
+        session.open_view(name, words)?;
+    }
+    Ok(())
+}
+
+/// Such a session with the views open.
+fn with_views(rt: &HostRuntime, text: &[u8]) -> Result<Session, Fail> {
+    let mut session = session(rt, text)?;
+    open_views(&mut session)?;
+    Ok(session)
+}
+
+/// Whether an edit takes at most this number of steps and leaves all views current.
+fn repairs_within(session: &mut Session, edit: Edit<'_>, most: u64) -> Result<bool, Fail> {
+    let done = answer(session, edit)??;
+    for (name, _) in VIEWS {
+        if !session.is_current(name) {
+            return Ok(false);
+        }
+    }
+    Ok(done.stale == 0 && done.steps <= most)
+}
+
+/// Whether each of these views prints its text.
+fn print_as(
+    rt: &HostRuntime,
+    session: &mut Session,
+    wanted: &[(&[u8], &[u8])],
+) -> Result<bool, Fail> {
+    for (name, want) in wanted {
+        if !prints(rt, session, Some(name), want)? {
+            return Ok(false);
+        }
+    }
+    Ok(true)
+}
+
+/// Does edits, each of which takes at most this number of steps and leaves all views current.
+fn repair_within(session: &mut Session, edits: &[Edit<'_>], most: u64) -> Result<(), Fail> {
+    for edit in edits {
+        holds(repairs_within(session, *edit, most)?)?;
+    }
+    Ok(())
+}
+
+/// Does edits, which take at most this number of steps each, and views print these texts afterwards.
+fn repair_to(
+    rt: &HostRuntime,
+    session: &mut Session,
+    edits: &[Edit<'_>],
+    most: u64,
+    texts: &[(&[u8], &[u8])],
+) -> Result<(), Fail> {
+    repair_within(session, edits, most)?;
+    holds(print_as(rt, session, texts)?)
+}
+
+/// A record that holds two others is taken out: three records were around it.
+#[test]
+fn removal_that_splits_a_block(rt: HostRuntime) -> Result<(), Fail> {
+    let mut session = with_views(&rt, b"big\t0\t100\nbig\t10\t20\nbig\t60\t70\n")?;
+    let edits = [Edit::Remove(b"big\t0\t100")];
+    let texts: [(&[u8], &[u8]); 4] = [
+        (b"m", b"big\t10\t20\nbig\t60\t70\n"),
+        (b"d", b"big\t10\t70\n"),
+        (b"c", b"big\t0\t10\nbig\t20\t60\nbig\t70\t1000000\n"),
+        (b"g", b"big\t10\t20\t1\nbig\t60\t70\t1\n"),
+    ];
+    repair_to(&rt, &mut session, &edits, most_steps(3), &texts)
+}
+
+/// A thousand records, each of ten bases and so far after the one before.
+fn thousand(rt: &HostRuntime, apart: u32) -> Result<String, Fail> {
+    let mut text = String::new(rt.alloc());
+    let mut start = 0u32;
+    for _ in 0..1000u32 {
+        let stop = start.saturating_add(10);
+        text.push_str(format!(in rt.alloc(); "big\t{start}\t{stop}\n")?.as_str())?;
+        start = start.saturating_add(apart);
+    }
+    Ok(text)
+}
+
+/// A session of these records, with the views open.
+fn of_a_thousand(rt: &HostRuntime, apart: u32) -> Result<Session, Fail> {
+    let text = thousand(rt, apart)?;
+    with_views(rt, text.as_bytes())
+}
+
+/// Edits of a thousand records, each with one record around it, or in one case none but its neighbours within the distance:
+/// the steps of an edit don't grow with the track.
+#[test]
+fn edits_of_a_thousand_records(rt: HostRuntime) -> Result<(), Fail> {
+    let mut session = of_a_thousand(&rt, 1000)?;
+    let edits = [Edit::Add(b"big\t500\t510"), Edit::Remove(b"big\t0\t10")];
+    repair_within(&mut session, &edits, most_steps(1))
+}
+
+/// A thousand copies of one record; one more, and two less: the blocks stay, the depth changes.
+#[test]
+fn edits_of_a_thousand_copies(rt: HostRuntime) -> Result<(), Fail> {
+    let mut session = of_a_thousand(&rt, 0)?;
+    let copy = b"big\t0\t10";
+    let edits = [Edit::Add(copy), Edit::Remove(copy), Edit::Remove(copy)];
+    let texts: [(&[u8], &[u8]); 3] = [
+        (b"m", b"big\t0\t10\n"),
+        (b"c", b"big\t10\t1000000\n"),
+        (b"g", b"big\t0\t10\t999\n"),
+    ];
+    repair_to(&rt, &mut session, &edits, most_steps(1001), &texts)
+}
+
+/// Closes all views but those of these names, and gives the steps of an edit beside them.
+fn steps_of(session: &mut Session, names: &[&[u8]]) -> Result<u64, Fail> {
+    for (name, _) in VIEWS {
+        if !names.contains(&name) {
+            session.close_view(name)?;
+        }
+    }
+    let done = answer(session, Edit::Add(b"big\t90\t120"))??;
+    Ok(done.steps)
+}
+
+/// The steps of an edit beside views of these names.
+fn steps_beside(rt: &HostRuntime, names: &[&[u8]]) -> Result<u64, Fail> {
+    let mut session = with_views(rt, b"big\t0\t100\nbig\t50\t70\n")?;
+    steps_of(&mut session, names)
+}
+
+/// The blocks of merge, cluster and complement are repaired once, and those of a merge of another distance beside them.
+#[test]
+fn views_that_keep_the_same(rt: HostRuntime) -> Result<(), Fail> {
+    let alone = steps_beside(&rt, &[b"m"])?;
+    let shared = steps_beside(&rt, &[b"m", b"k", b"c"])?;
+    let far = steps_beside(&rt, &[b"m", b"d"])?;
+    let deep = steps_beside(&rt, &[b"m", b"g"])?;
+    assert!(rt; shared == alone && far > alone && deep > alone);
+    Ok(())
+}
+
+/// Closes a view, does an edit that leaves none stale, and tells whether others print these texts.
+fn edit_without(
+    rt: &HostRuntime,
+    session: &mut Session,
+    closed: &[u8],
+    edit: Edit<'_>,
+    texts: &[(&[u8], &[u8])],
+) -> Result<bool, Fail> {
+    session.close_view(closed)?;
+    let stale = answer(session, edit)??.stale;
+    Ok(stale == 0 && print_as(rt, session, texts)?)
+}
+
+/// Closes views one after another, with an edit after each. Those that are left print their texts.
+fn close_in_turn(rt: &HostRuntime, session: &mut Session) -> Result<(), Fail> {
+    let texts: [(&[u8], &[u8]); 2] = [
+        (b"k", b"big\t0\t100\t1\nbig\t200\t300\t2\n"),
+        (b"c", b"big\t100\t200\nbig\t300\t1000000\n"),
+    ];
+    let edit = Edit::Add(b"big\t200\t300");
+    let first = edit_without(rt, session, b"m", edit, &texts)?;
+    let texts: [(&[u8], &[u8]); 1] = [(b"c", b"big\t0\t200\nbig\t300\t1000000\n")];
+    let edit = Edit::Remove(b"big\t0\t100");
+    let second = edit_without(rt, session, b"k", edit, &texts)?;
+    holds(first && second)
+}
+
+/// Those that are left keep what they need.
+#[test]
+fn views_that_are_closed(rt: HostRuntime) -> Result<(), Fail> {
+    let mut session = with_views(&rt, b"big\t0\t100\n")?;
+    close_in_turn(&rt, &mut session)
+}

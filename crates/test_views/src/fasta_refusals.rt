@@ -1,0 +1,98 @@
+//! Each growth of a FASTA file's memory, refused in turn.
+use crate::fasta_fixtures::{SIZES, fasta_of, says};
+use iv_text::{Genome, LoadCause, LoadFault};
+use std::alloc::Global;
+use std::test::Fail;
+use test_faults::{RefusesNth, refuse_each};
+
+/// So many sequences that the tables of names grow.
+const COUNT: u32 = 40;
+
+/// Sequences that the genome lacks, and two that it has, in lines of unequal length.
+fn lines(rt: &HostRuntime) -> Result<String, Fail> {
+    let mut text = String::new(rt.alloc());
+    text.push_str(">s\nACGTN\nacgtR\n")?;
+    for i in 0..COUNT {
+        text.push_str(format!(in rt.alloc(); ">name_{i} of {COUNT}\nACGT\n\nAC\n")?.as_str())?;
+    }
+    text.push_str(">u\nTTTTA")?;
+    Ok(text)
+}
+
+/// Reads a FASTA file, and says how often it met the refusal, once or never.
+fn refused_beside<'a>(
+    alloc: &'a RefusesNth<Global>,
+    genome: &Genome<&'a RefusesNth<Global>>,
+    text: &[u8],
+) -> Result<u32, Fail> {
+    match fasta_of(alloc, genome, text) {
+        Ok(fasta) if says(&fasta, [Some(b"ACGTNacgtR"), Some(b"TTTTA"), None]) => Ok(0),
+        Ok(_) => Err(Fail::new("other bases")),
+        Err(fault) => memory_of(fault),
+    }
+}
+
+/// The same over a genome whose growths are all granted.
+fn refused(rt: &HostRuntime, alloc: &RefusesNth<Global>, text: &[u8]) -> Result<u32, Fail> {
+    let granting = RefusesNth::new(rt.alloc(), u64::MAX);
+    let genome = Genome::parse(&granting, SIZES)?;
+    refused_beside(alloc, &genome, text)
+}
+
+/// How often memory was refused, by the fault of a sound file: once, since it can have no other, and that at no line.
+fn memory_of(fault: LoadFault) -> Result<u32, Fail> {
+    let memory = LoadFault {
+        line: 0,
+        cause: LoadCause::Memory,
+    };
+    if fault == memory {
+        Ok(1)
+    } else {
+        Err(Fail::new("another fault"))
+    }
+}
+
+#[test]
+fn each_growth_refused_in_turn(rt: HostRuntime) -> Result<(), Fail> {
+    let text = lines(&rt)?;
+    let text = text.as_bytes();
+    assert!(rt; COUNT < refuse_each(rt.alloc(), |alloc| refused(&rt, alloc, text))?);
+    Ok(())
+}
+
+/// The fault of a file whose last line is damaged, which it has in any case.
+fn fault_beside<'a>(
+    alloc: &'a RefusesNth<Global>,
+    genome: &Genome<&'a RefusesNth<Global>>,
+) -> Option<LoadFault> {
+    fasta_of(alloc, genome, b">s\nACGTNacgtR\n>x\nA C\n").err()
+}
+
+/// The same by the fault of the file whose last line is damaged: never, where the damage is reported.
+fn refusal_of(fault: LoadFault) -> Result<u32, Fail> {
+    let damage = LoadFault {
+        line: 4,
+        cause: LoadCause::Base,
+    };
+    if fault == damage {
+        Ok(0)
+    } else {
+        memory_of(fault)
+    }
+}
+
+/// Reads that file, and says how often it met the refusal, once or never.
+fn refused_beside_damage(rt: &HostRuntime, alloc: &RefusesNth<Global>) -> Result<u32, Fail> {
+    let granting = RefusesNth::new(rt.alloc(), u64::MAX);
+    let genome = Genome::parse(&granting, SIZES)?;
+    match fault_beside(alloc, &genome) {
+        Some(fault) => refusal_of(fault),
+        None => Err(Fail::new("no fault")),
+    }
+}
+
+#[test]
+fn damaged_files_without_memory(rt: HostRuntime) -> Result<(), Fail> {
+    assert!(rt; 0 < refuse_each(rt.alloc(), |alloc| refused_beside_damage(&rt, alloc))?);
+    Ok(())
+}

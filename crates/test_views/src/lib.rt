@@ -1,0 +1,31 @@
+//! Tests of the second file and its overlaps, and of the FASTA file.
+#![tactic(auto)]
+
+#[cfg(test)]
+mod bases;
+#[cfg(test)]
+mod cut_files;
+#[cfg(test)]
+mod fasta_faults;
+#[cfg(test)]
+mod fasta_files;
+#[cfg(test)]
+mod fasta_fixtures;
+#[cfg(test)]
+mod fasta_refusals;
+#[cfg(test)]
+mod fasta_rows;
+#[cfg(test)]
+mod fasta_sizes;
+#[cfg(test)]
+mod hits;
+#[cfg(test)]
+mod long_records;
+#[cfg(test)]
+mod opposites;
+#[cfg(test)]
+mod second_edits;
+#[cfg(test)]
+mod second_fixtures;
+#[cfg(test)]
+mod second_refusals;

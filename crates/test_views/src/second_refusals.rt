@@ -1,0 +1,55 @@
+//! Each growth of a second file's memory, refused in turn.
+use crate::hits::hits_are;
+use crate::second_fixtures::{SIZES, second_of};
+use iv_pair::Second;
+use iv_text::{Genome, LoadCause};
+use std::alloc::Global;
+use std::test::Fail;
+use test_faults::{RefusesNth, refuse_each};
+
+/// So many records, of so many lengths, that the trees split.
+const COUNT: u64 = 30;
+
+/// The lines of records, each in the next and one longer, the longest last.
+fn lines(rt: &HostRuntime) -> Result<String, Fail> {
+    let mut text = String::new(rt.alloc());
+    for i in 0..COUNT {
+        let start = COUNT - i;
+        text.push_str(format!(in rt.alloc(); "chr1\t{start}\t40\tname\n")?.as_str())?;
+    }
+    Ok(text)
+}
+
+/// Whether the second file is that of the lines.
+fn is_right(second: &Second<&RefusesNth<Global>>) -> bool {
+    second.len() == 30 && hits_are(second, 0, 2, 3, &[(1, 40), (2, 40)])
+}
+
+/// Makes the second file, and says how often it met the refusal, once or never; not where its lines did.
+fn refused_beside<'a>(
+    alloc: &'a RefusesNth<Global>,
+    genome: &Genome<&'a RefusesNth<Global>>,
+    text: &[u8],
+) -> Result<u32, Fail> {
+    match second_of(alloc, genome, text) {
+        Ok(Ok(second)) if is_right(&second) => Ok(0),
+        Ok(Err(_)) => Ok(1),
+        Err(fault) if fault.cause == LoadCause::Memory => Ok(0),
+        _ => Err(Fail::new("another second file")),
+    }
+}
+
+/// The same of a genome and the second file. Where the genome met the refusal the second file did not.
+fn refused(alloc: &RefusesNth<Global>, text: &[u8]) -> Result<u32, Fail> {
+    match Genome::parse(alloc, SIZES) {
+        Ok(genome) => refused_beside(alloc, &genome, text),
+        Err(_) => Ok(0),
+    }
+}
+
+#[test]
+fn each_growth_refused_in_turn(rt: HostRuntime) -> Result<(), Fail> {
+    let text = lines(&rt)?;
+    assert!(rt; 2 < refuse_each(rt.alloc(), |alloc| refused(alloc, text.as_bytes()))?);
+    Ok(())
+}
