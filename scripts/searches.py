@@ -36,12 +36,14 @@ METER = re.compile(r"\bMeter\s*>?\s*::\s*new\b")
 MAKES_A_METER = {
     "iv_pair/src/hits.rt": {"of"},
     "iv_pair/src/second.rt": {"new", "hits"},
-    "iv_workspace/src/session.rt": {
-        "add", "remove", "replace", "add_second", "remove_second", "replace_second", "has_record_past", "open_view",
-        "print_view", "print_all",
-    },
+    "iv_workspace/src/session/lengths.rt": {"has_record_past"},
+    "iv_workspace/src/session/open_views.rt": {"open_view"},
+    "iv_workspace/src/session/printing.rt": {"print_view", "print_all"},
+    "iv_workspace/src/session/second_edits.rt": {"add_second", "remove_second", "replace_second"},
+    "iv_workspace/src/session/track_edits.rt": {"add", "remove", "replace"},
 }
-METER_CALLED_OTHERWISE = re.compile(r"\btype\s+\w+\s*=\s*[\w:]*\bMeter\b")
+# Under its own name it is found wherever it is made: `C::Meter::new()` too.
+METER_CALLED_OTHERWISE = re.compile(r"\btype\s+(?!Meter\b)\w+\s*=\s*[\w:]*\bMeter\b")
 
 
 def blanked(text):
@@ -245,6 +247,8 @@ PLANTED = [
     ("iv_cover", "fn f() -> u64 { let mut meter = Meter::new(); meter.steps() }", METERS),
     ("iv_cover", "fn f() -> u64 { <Meter>::new().steps() }", METERS),
     ("iv_cover", "type Count = iv_track::Meter;", OTHER_NAME),
+    ("iv_depth", "impl Changes for Cursor { type Meter = Meter; }", None),
+    ("iv_depth", "fn f<C: Changes>() { g(C::Meter::new()); }", METERS),
     ("iv_track", "fn from_records<A>(a: A) -> Meter { Meter::new() }", METERS),
     ("iv_workspace", "fn may() { g(Meter::new()); g(Meter::new()); }", METERS),
     ("iv_workspace", "fn may() { for _ in 0..9 { g(Meter::new()); } }", METERS),

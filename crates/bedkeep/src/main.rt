@@ -4,6 +4,9 @@
 //! It opens files, hands over and exits. What the words mean, how a run ends and what is said of it is in `iv_cli`.
 #![tactic(auto)]
 
+ghost use Rattle.std.specs.Prelude.{◌<◌, ◌^◌, IfOk, IfSome, length};
+ghost use Rattle.std.specs.Option.{option_copied};
+
 use iv_args::{Notice, Plan, Slot};
 use iv_bytes::{StdSink, StdSource, put_all};
 use iv_cli::Ending;
@@ -12,6 +15,7 @@ use iv_session::{ScriptLimits, run_script};
 use iv_workspace::Session;
 use std::fs::File;
 use std::io::Write;
+use std::marker::Model;
 use std::process::ExitCode;
 use std::rt::{Env, Files};
 use std::str::from_utf8;
@@ -45,7 +49,9 @@ fn names_of<'a>(rt: &impl AllocGlobal, words: &'a [String]) -> Result<Vec<&'a [u
 }
 
 /// The bytes of the file of this name.
-fn read_file(rt: &(impl Files + AllocGlobal), name: &[u8]) -> Result<Vec<u8>, FileFault> {
+fn read_file(rt: &(impl Files + AllocGlobal), name: &[u8]) -> Result<Vec<u8>, FileFault>
+    ensures { IfOk result (λ bytes. length bytes.items < 2 ^ 32) }
+{
     let Ok(path) = from_utf8(name) else {
         return Err(FileFault::Input);
     };
@@ -60,7 +66,9 @@ fn read_slot(
     rt: &(impl Files + AllocGlobal),
     plan: &Plan<'_>,
     slot: Slot,
-) -> Result<Option<Vec<u8>>, Ending> {
+) -> Result<Option<Vec<u8>>, Ending>
+    ensures { IfOk result (λ read. IfSome read (λ bytes. length bytes.items < 2 ^ 32)) }
+{
     let Some(name) = plan.file(slot) else {
         return Ok(None);
     };
@@ -70,12 +78,22 @@ fn read_slot(
     }
 }
 
-/// The bytes of the files of a plan, apart from the FASTA file.
+/// The bytes of the files of a plan, apart from the FASTA file: fewer than 2^32 of each.
 #[derive(Drop)]
 struct FileTexts {
     sizes: Option<Vec<u8>>,
     first: Option<Vec<u8>>,
     other: Option<Vec<u8>>,
+}
+
+impl Model for FileTexts {
+    ghost use Rattle.std.specs.Prelude.{◌<◌, ◌^◌, IfSome, length};
+
+    ghost Value = { Unit {0} };
+
+    ghost view = { λ _. tt };
+
+    ghost invariant = { λ texts. IfSome texts.first (λ bytes. length bytes.items < 2 ^ 32) × IfSome texts.other (λ bytes. length bytes.items < 2 ^ 32) };
 }
 
 impl FileTexts {
@@ -92,7 +110,10 @@ impl FileTexts {
     }
 
     /// The bytes, lent. A plan names the first two files always.
-    fn inputs(&self) -> Inputs<'_> {
+    fn inputs(&self) -> Inputs<'_>
+        ensures first { length result.first.now < 2 ^ 32 }
+        ensures other { IfSome (option_copied result.other) (λ text. length text < 2 ^ 32) }
+    {
         Inputs {
             sizes: self.sizes.as_deref().unwrap_or(b""),
             first: self.first.as_deref().unwrap_or(b""),

@@ -9,7 +9,7 @@ use Rattle.std.proofs.lemmas.List.Elements.{filter-append}
 use Rattle.iv_args.specs.declared.run.Run.{Run}
 use Rattle.iv_args.specs.declared.run.RunOption.{RunOption}
 use Rattle.iv_args.specs.declared.run.RunOption.TheVariants as option
-use Rattle.iv_args.specs.Words.{Setting, Parted, parted, last_parted, next_parted, with_setting, with_words, option_of, takes_value, values_of, is_option}
+use Rattle.iv_args.specs.Words.{Setting, SplitWords, split_words, split_last, split_next, with_setting, with_words, option_of, takes_value, values_of, is_option}
 use Rattle.iv_args.specs.Drafts.{PartialPlan, unless_given, with_value, viewed, last_drafted, next_drafted, drafted}
 
 pub none≢some : {A : Type 0} (a : A) → None ≡ Some a → ⊥
@@ -32,8 +32,8 @@ one-up f (x ∷ xs) d h =
     rw n (ap (λ l. f x ∷ map f l) (sym (take_all (length xs) xs (omega arith))))
 
 -- what is left of a list after some items
-pub left-behind : {A : Type 0} (f : A → List ℕ) (xs : List A) (n : ℕ) → map f (drop n xs) ≡ map f (take (length xs - n) (drop n xs))
-left-behind f xs n =
+pub left-later : {A : Type 0} (f : A → List ℕ) (xs : List A) (n : ℕ) → map f (drop n xs) ≡ map f (take (length xs - n) (drop n xs))
+left-later f xs n =
     let short : length (drop n xs) ≤ length xs - n = omega (arith, length-drop n xs) in
     ap (λ l. map f l) (sym (take_all (length xs - n) (drop n xs) short))
 
@@ -196,8 +196,8 @@ viewed-says option.Width words old = refl
 -- ---- words that can be taken
 
 -- the words have parts, and what is said after them is what was said before and these
-pub record Gives (said_parts : Option Parted) (old new : PartialPlan) : Type 0 where
-  pub parts : Parted
+pub record Gives (said_parts : Option SplitWords) (old new : PartialPlan) : Type 0 where
+  pub parts : SplitWords
   pub are : said_parts ≡ Some parts
   pub values : (k : RunOption) → listed new k ≡ listed old k ++ values_of k parts.settings
   pub view : new.view ≡ old.view ++ parts.view
@@ -210,7 +210,7 @@ gives-nothing old new h = record {
   view = ap (λ (s : PartialPlan). s.view) (sym (some-same old new h)) ∙ sym (append-nil old.view);
 }
 
-gives-option : (asked : RunOption) (value : List ℕ) (old mid new : PartialPlan) (p : Option Parted) → IsSet asked value old mid → Gives p mid new
+gives-option : (asked : RunOption) (value : List ℕ) (old mid new : PartialPlan) (p : Option SplitWords) → IsSet asked value old mid → Gives p mid new
     → Gives (option_map (with_setting (asked, value)) p) old new
 gives-option asked value old mid new p set g = record {
   parts = with_setting (asked, value) g.parts;
@@ -219,7 +219,7 @@ gives-option asked value old mid new p set g = record {
   view = g.view ∙ ap (λ (l : List (List ℕ)). l ++ g.parts.view) set.view;
 }
 
-gives-words : (words : List (List ℕ)) (old new : PartialPlan) (p : Option Parted) → Gives p (viewed words old) new → Gives (option_map (with_words words) p) old new
+gives-words : (words : List (List ℕ)) (old new : PartialPlan) (p : Option SplitWords) → Gives p (viewed words old) new → Gives (option_map (with_words words) p) old new
 gives-words words old new p g = record {
   parts = with_words words g.parts;
   are = ap (option_map (with_words words)) g.are;
@@ -227,13 +227,13 @@ gives-words words old new p g = record {
   view = g.view ∙ append_assoc old.view words g.parts.view;
 }
 
-last-gives : (o : Option RunOption) (word : List ℕ) (old new : PartialPlan) → last_drafted o word old ≡ Some new → Gives (last_parted o word) old new
+last-gives : (o : Option RunOption) (word : List ℕ) (old new : PartialPlan) → last_drafted o word old ≡ Some new → Gives (split_last o word) old new
 last-gives None word old new h = gives-words (word ∷ []) old new (Some (record { settings = []; view = [] })) (gives-nothing (viewed (word ∷ []) old) new h)
 last-gives (Some asked) word old new h = absurd (none≢some new h)
 
-next-gives : (o : Option RunOption) (takes : Bool) (word next : List ℕ) (old new : PartialPlan) (both one : PartialPlan → Option PartialPlan) (p q : Option Parted)
+next-gives : (o : Option RunOption) (takes : Bool) (word next : List ℕ) (old new : PartialPlan) (both one : PartialPlan → Option PartialPlan) (p q : Option SplitWords)
     → ((s : PartialPlan) → both s ≡ Some new → Gives p s new) → ((s : PartialPlan) → one s ≡ Some new → Gives q s new)
-    → next_drafted o takes word next both one old ≡ Some new → Gives (next_parted o takes word next p q) old new
+    → next_drafted o takes word next both one old ≡ Some new → Gives (split_next o takes word next p q) old new
 next-gives (Some asked) takes word next old new both one p q at_both at_one h = by (with_value asked next old) refl h
   where
     by : (o : Option PartialPlan) → with_value asked next old ≡ o → option_and_then both o ≡ Some new → Gives (option_map (with_setting (asked, next)) p) old new
@@ -244,22 +244,22 @@ next-gives None true word next old new both one p q at_both at_one h =
 next-gives None false word next old new both one p q at_both at_one h =
     gives-words (word ∷ []) old new q (at_one (viewed (word ∷ []) old) h)
 
-pub drafted-gives : (run : Run) (words : List (List ℕ)) (old new : PartialPlan) → drafted run words old ≡ Some new → Gives (parted run words) old new
+pub drafted-gives : (run : Run) (words : List (List ℕ)) (old new : PartialPlan) → drafted run words old ≡ Some new → Gives (split_words run words) old new
 drafted-gives run [] old new h = gives-nothing old new h
 drafted-gives run (word ∷ []) old new h = last-gives (option_of run word) word old new h
 drafted-gives run (word ∷ next ∷ words) old new h =
-    next-gives (option_of run word) (takes_value run word) word next old new (drafted run words) (drafted run (next ∷ words)) (parted run words)
-    (parted run (next ∷ words)) (λ s. drafted-gives run words s new) (λ s. drafted-gives run (next ∷ words) s new) h
+    next-gives (option_of run word) (takes_value run word) word next old new (drafted run words) (drafted run (next ∷ words)) (split_words run words)
+    (split_words run (next ∷ words)) (λ s. drafted-gives run words s new) (λ s. drafted-gives run (next ∷ words) s new) h
 
 -- ---- words that cannot be taken
 
 -- no option has two values
-abbrev pub HasNoTwice : PartialPlan → Parted → Type 0
+abbrev pub HasNoTwice : PartialPlan → SplitWords → Type 0
 HasNoTwice said parts = (k : RunOption) → length (listed said k ++ values_of k parts.settings) ≤ 1
 
 -- words that have parts give an option two values
-abbrev pub Never : Option Parted → PartialPlan → Type 0
-Never said_parts said = (parts : Parted) → said_parts ≡ Some parts → HasNoTwice said parts → ⊥
+abbrev pub Never : Option SplitWords → PartialPlan → Type 0
+Never said_parts said = (parts : SplitWords) → said_parts ≡ Some parts → HasNoTwice said parts → ⊥
 
 given_before : (o : Option (List ℕ)) (said : PartialPlan) → unless_given o said ≡ None → 1 ≤ length (option_to_list o)
 given_before None said h = absurd (none≢some said (sym h))
@@ -289,7 +289,7 @@ twice asked value old settings h once =
     ap (λ (l : List (List ℕ)). length (listed old asked ++ l)) (own asked value settings) ∙ length-append (listed old asked) (value ∷ values_of asked settings) in
     omega (arith, before, parts, once)
 
-never-option : (asked : RunOption) (value : List ℕ) (old : PartialPlan) (p : Option Parted)
+never-option : (asked : RunOption) (value : List ℕ) (old : PartialPlan) (p : Option SplitWords)
     → ((mid : PartialPlan) → with_value asked value old ≡ Some mid → Never p mid) → Never (option_map (with_setting (asked, value)) p) old
 never-option asked value old None at parts are once = none≢some parts are
 never-option asked value old (Some q) at parts are once = by (with_value asked value old) refl
@@ -298,35 +298,35 @@ never-option asked value old (Some q) at parts are once = by (with_value asked v
     same = some-same (with_setting (asked, value) q) parts are
 
     once-of : HasNoTwice old (with_setting (asked, value) q)
-    once-of = subst (λ (x : Parted). HasNoTwice old x) (sym same) once
+    once-of = subst (λ (x : SplitWords). HasNoTwice old x) (sym same) once
 
     by : (o : Option PartialPlan) → with_value asked value old ≡ o → ⊥
     by None is = twice asked value old q.settings is (once-of asked)
     by (Some mid) is =
         at mid is q refl (λ k. subst (λ (l : List (List ℕ)). length l ≤ 1) (sym (is-set-before asked k value old mid q.settings (is-set asked value old mid is))) (once-of k))
 
-never-words : (words : List (List ℕ)) (old : PartialPlan) (p : Option Parted) → Never p (viewed words old) → Never (option_map (with_words words) p) old
+never-words : (words : List (List ℕ)) (old : PartialPlan) (p : Option SplitWords) → Never p (viewed words old) → Never (option_map (with_words words) p) old
 never-words words old None never parts are once = none≢some parts are
 never-words words old (Some q) never parts are once =
     let same = some-same (with_words words q) parts are in
     never q refl (λ k. subst (λ (l : List (List ℕ)). length (l ++ values_of k q.settings) ≤ 1) (sym (viewed-says k words old))
-    (subst (λ (x : Parted). length (listed old k ++ values_of k x.settings) ≤ 1) (sym same) (once k)))
+    (subst (λ (x : SplitWords). length (listed old k ++ values_of k x.settings) ≤ 1) (sym same) (once k)))
 
-last-never : (o : Option RunOption) (word : List ℕ) (old : PartialPlan) → last_drafted o word old ≡ None → Never (last_parted o word) old
+last-never : (o : Option RunOption) (word : List ℕ) (old : PartialPlan) → last_drafted o word old ≡ None → Never (split_last o word) old
 last-never None word old h parts are once = none≢some (viewed (word ∷ []) old) (sym h)
 last-never (Some asked) word old h parts are once = none≢some parts are
 
-next-never : (o : Option RunOption) (takes : Bool) (word next : List ℕ) (old : PartialPlan) (both one : PartialPlan → Option PartialPlan) (p q : Option Parted)
+next-never : (o : Option RunOption) (takes : Bool) (word next : List ℕ) (old : PartialPlan) (both one : PartialPlan → Option PartialPlan) (p q : Option SplitWords)
     → ((s : PartialPlan) → both s ≡ None → Never p s) → ((s : PartialPlan) → one s ≡ None → Never q s)
-    → next_drafted o takes word next both one old ≡ None → Never (next_parted o takes word next p q) old
+    → next_drafted o takes word next both one old ≡ None → Never (split_next o takes word next p q) old
 next-never (Some asked) takes word next old both one p q at_both at_one h =
     never-option asked next old p (λ mid is. at_both mid (sym (ap (option_and_then both) is) ∙ h))
 next-never None true word next old both one p q at_both at_one h = never-words (word ∷ next ∷ []) old p (at_both (viewed (word ∷ next ∷ []) old) h)
 next-never None false word next old both one p q at_both at_one h = never-words (word ∷ []) old q (at_one (viewed (word ∷ []) old) h)
 
-pub drafted-never : (run : Run) (words : List (List ℕ)) (old : PartialPlan) → drafted run words old ≡ None → Never (parted run words) old
+pub drafted-never : (run : Run) (words : List (List ℕ)) (old : PartialPlan) → drafted run words old ≡ None → Never (split_words run words) old
 drafted-never run [] old h = absurd (none≢some old (sym h))
 drafted-never run (word ∷ []) old h = last-never (option_of run word) word old h
 drafted-never run (word ∷ next ∷ words) old h =
-    next-never (option_of run word) (takes_value run word) word next old (drafted run words) (drafted run (next ∷ words)) (parted run words)
-    (parted run (next ∷ words)) (λ s. drafted-never run words s) (λ s. drafted-never run (next ∷ words) s) h
+    next-never (option_of run word) (takes_value run word) word next old (drafted run words) (drafted run (next ∷ words)) (split_words run words)
+    (split_words run (next ∷ words)) (λ s. drafted-never run words s) (λ s. drafted-never run (next ∷ words) s) h

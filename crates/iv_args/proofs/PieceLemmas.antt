@@ -8,7 +8,7 @@ use Rattle.std.proofs.lemmas.List.Elements.{recursion_from_All}
 use Rattle.iv_args.specs.declared.run.Run.{Run}
 use Rattle.iv_args.specs.declared.run.RunOption.{RunOption}
 use Rattle.iv_args.specs.declared.run.RunOption.TheVariants as option
-use Rattle.iv_args.specs.Words.{RunPlan, IsPlan, Setting, Parted, parted, last_parted, next_parted, with_setting, with_words, run_of, option_of, takes_value, lead, values_of, is_option, width_said}
+use Rattle.iv_args.specs.Words.{RunPlan, IsPlan, Setting, SplitWords, split_words, split_last, split_next, with_setting, with_words, run_of, option_of, takes_value, lead, values_of, is_option, width_said}
 use Rattle.iv_args.specs.Pieces.{Piece, piece_words, IsPiece}
 use Rattle.iv_args.proofs.DraftLemmas.{none≢some, some-same}
 use Rattle.iv_args.proofs.WordLemmas.{width-once, few-listed}
@@ -20,54 +20,54 @@ abbrev words_of : Piece → List (List ℕ)
 words_of piece = piece.word ∷ option_to_list piece.value
 
 -- the parts with a piece before them, given the option that it is
-abbrev put : Option RunOption → Piece → Parted → Parted
+abbrev put : Option RunOption → Piece → SplitWords → SplitWords
 put None piece parts = with_words (words_of piece) parts
 put (Some asked) piece parts = with_setting (asked, unwrap_or piece.value []) parts
 
 -- the parts with pieces before them
-abbrev put_all : Run → List Piece → Parted → Parted
+abbrev put_all : Run → List Piece → SplitWords → SplitWords
 put_all run [] parts = parts
 put_all run (piece ∷ pieces) parts = put (option_of run piece.word) piece (put_all run pieces parts)
 
 next-by : (run : Run) (word next : List ℕ) (rest : List (List ℕ)) (o : Option RunOption) (takes : Bool) → option_of run word ≡ o → takes_value run word ≡ takes
-    → parted run (word ∷ next ∷ rest) ≡ next_parted o takes word next (parted run rest) (parted run (next ∷ rest))
+    → split_words run (word ∷ next ∷ rest) ≡ split_next o takes word next (split_words run rest) (split_words run (next ∷ rest))
 next-by run word next rest o takes is value_is =
-    ap (λ (p : Option RunOption). next_parted p (takes_value run word) word next (parted run rest) (parted run (next ∷ rest))) is
-    ∙ ap (λ (b : Bool). next_parted o b word next (parted run rest) (parted run (next ∷ rest))) value_is
+    ap (λ (p : Option RunOption). split_next p (takes_value run word) word next (split_words run rest) (split_words run (next ∷ rest))) is
+    ∙ ap (λ (b : Bool). split_next o b word next (split_words run rest) (split_words run (next ∷ rest))) value_is
 
-parted-by : (run : Run) (word : List ℕ) (value : Option (List ℕ)) (o : Option RunOption) (takes : Bool) → option_of run word ≡ o → takes_value run word ≡ takes
+split_words-by : (run : Run) (word : List ℕ) (value : Option (List ℕ)) (o : Option RunOption) (takes : Bool) → option_of run word ≡ o → takes_value run word ≡ takes
     → is_some value ≡ (is_some o || takes) → (words : List (List ℕ))
-    → parted run ((word ∷ option_to_list value) ++ words) ≡ option_map (put o (record { word = word; value = value })) (parted run words)
-parted-by run word None None false is takes whole [] = ap (λ (p : Option RunOption). last_parted p word) is
-parted-by run word None None false is takes whole (next ∷ words) = next-by run word next words None false is takes
-parted-by run word None None true is takes whole words = absurd (false≢true whole)
-parted-by run word None (Some asked) t is takes whole words = absurd (false≢true whole)
-parted-by run word (Some value) None false is takes whole words = absurd (true≢false whole)
-parted-by run word (Some value) None true is takes whole words = next-by run word value words None true is takes
-parted-by run word (Some value) (Some asked) t is takes whole words = next-by run word value words (Some asked) t is takes
+    → split_words run ((word ∷ option_to_list value) ++ words) ≡ option_map (put o (record { word = word; value = value })) (split_words run words)
+split_words-by run word None None false is takes whole [] = ap (λ (p : Option RunOption). split_last p word) is
+split_words-by run word None None false is takes whole (next ∷ words) = next-by run word next words None false is takes
+split_words-by run word None None true is takes whole words = absurd (false≢true whole)
+split_words-by run word None (Some asked) t is takes whole words = absurd (false≢true whole)
+split_words-by run word (Some value) None false is takes whole words = absurd (true≢false whole)
+split_words-by run word (Some value) None true is takes whole words = next-by run word value words None true is takes
+split_words-by run word (Some value) (Some asked) t is takes whole words = next-by run word value words (Some asked) t is takes
 
-map-none : (o : Option Parted) → o ≡ option_map (λ p. p) o
+map-none : (o : Option SplitWords) → o ≡ option_map (λ p. p) o
 map-none None = refl
 map-none (Some p) = refl
 
-map-both : (f g : Parted → Parted) (o : Option Parted) → option_map f (option_map g o) ≡ option_map (λ p. f (g p)) o
+map-both : (f g : SplitWords → SplitWords) (o : Option SplitWords) → option_map f (option_map g o) ≡ option_map (λ p. f (g p)) o
 map-both f g None = refl
 map-both f g (Some p) = refl
 
 -- whole pieces are read one after another
-parted-pieces : (run : Run) (pieces : List Piece) (words : List (List ℕ)) → AllByRecursion (IsPiece run) pieces
-    → parted run (piece_words pieces ++ words) ≡ option_map (put_all run pieces) (parted run words)
-parted-pieces run [] words whole = map-none (parted run words)
-parted-pieces run (piece ∷ pieces) words whole =
-    ap (parted run) (append_assoc (words_of piece) (piece_words pieces) words)
-    ∙ parted-by run piece.word piece.value (option_of run piece.word) (takes_value run piece.word) refl refl whole.0 (piece_words pieces ++ words)
-    ∙ ap (option_map (put (option_of run piece.word) piece)) (parted-pieces run pieces words whole.1)
-    ∙ map-both (put (option_of run piece.word) piece) (put_all run pieces) (parted run words)
+split_words-pieces : (run : Run) (pieces : List Piece) (words : List (List ℕ)) → AllByRecursion (IsPiece run) pieces
+    → split_words run (piece_words pieces ++ words) ≡ option_map (put_all run pieces) (split_words run words)
+split_words-pieces run [] words whole = map-none (split_words run words)
+split_words-pieces run (piece ∷ pieces) words whole =
+    ap (split_words run) (append_assoc (words_of piece) (piece_words pieces) words)
+    ∙ split_words-by run piece.word piece.value (option_of run piece.word) (takes_value run piece.word) refl refl whole.0 (piece_words pieces ++ words)
+    ∙ ap (option_map (put (option_of run piece.word) piece)) (split_words-pieces run pieces words whole.1)
+    ∙ map-both (put (option_of run piece.word) piece) (put_all run pieces) (split_words run words)
 
 -- ---- pieces that change places
 
 -- parts with the same words of the view, in which each option has the same values
-record SameParts (p q : Parted) : Type 0 where
+record SameParts (p q : SplitWords) : Type 0 where
   values : (k : RunOption) → values_of k p.settings ≡ values_of k q.settings
   view : p.view ≡ q.view
 
@@ -105,14 +105,14 @@ values-swapped k j l x y xs other = by (is_option k j) (is_option k l) (λ e f. 
     by false true apart = refl
     by false false apart = refl
 
-put-same : (o : Option RunOption) (piece : Piece) (p q : Parted) → SameParts p q → SameParts (put o piece p) (put o piece q)
+put-same : (o : Option RunOption) (piece : Piece) (p q : SplitWords) → SameParts p q → SameParts (put o piece p) (put o piece q)
 put-same None piece p q same = record { values = same.values; view = ap (λ (l : List (List ℕ)). words_of piece ++ l) same.view }
 put-same (Some asked) piece p q same = record {
   values = λ k. values-after k asked (unwrap_or piece.value []) p.settings q.settings (same.values k);
   view = same.view;
 }
 
-put-swapped : (o r : Option RunOption) (a b : Piece) (p : Parted) → o ≢ r → SameParts (put o a (put r b p)) (put r b (put o a p))
+put-swapped : (o r : Option RunOption) (a b : Piece) (p : SplitWords) → o ≢ r → SameParts (put o a (put r b p)) (put r b (put o a p))
 put-swapped None None a b p other = absurd (other refl)
 put-swapped None (Some l) a b p other = record { values = λ k. refl; view = refl }
 put-swapped (Some j) None a b p other = record { values = λ k. refl; view = refl }
@@ -121,7 +121,7 @@ put-swapped (Some j) (Some l) a b p other = record {
   view = refl;
 }
 
-put_all-swapped : (run : Run) (front : List Piece) (a b : Piece) (p : Parted) → option_of run a.word ≢ option_of run b.word
+put_all-swapped : (run : Run) (front : List Piece) (a b : Piece) (p : SplitWords) → option_of run a.word ≢ option_of run b.word
     → SameParts (put_all run (front ++ a ∷ b ∷ []) p) (put_all run (front ++ b ∷ a ∷ []) p)
 put_all-swapped run [] a b p other = put-swapped (option_of run a.word) (option_of run b.word) a b p other
 put_all-swapped run (c ∷ front) a b p other =
@@ -132,20 +132,20 @@ all-swapped P [] a b h = (h.1.0, (h.0, tt))
 all-swapped P (c ∷ front) a b h = (h.0, all-swapped P front a b h.1)
 
 -- the words have parts that are the same as these
-abbrev HasParts : Option Parted → Parted → Type 0
-HasParts o p = (q : Parted) × (o ≡ Some q) × SameParts p q
+abbrev HasParts : Option SplitWords → SplitWords → Type 0
+HasParts o p = (q : SplitWords) × (o ≡ Some q) × SameParts p q
 
-same-parts : (f g : Parted → Parted) → ((r : Parted) → SameParts (f r) (g r)) → (o : Option Parted) (p : Parted) → option_map f o ≡ Some p → HasParts (option_map g o) p
+same-parts : (f g : SplitWords → SplitWords) → ((r : SplitWords) → SameParts (f r) (g r)) → (o : Option SplitWords) (p : SplitWords) → option_map f o ≡ Some p → HasParts (option_map g o) p
 same-parts f g same None p is = absurd (none≢some p is)
-same-parts f g same (Some r) p is = (g r, refl, subst (λ (x : Parted). SameParts x (g r)) (some-same (f r) p is) (same r))
+same-parts f g same (Some r) p is = (g r, refl, subst (λ (x : SplitWords). SameParts x (g r)) (some-same (f r) p is) (same r))
 
-parts-swapped : (run : Run) (front : List Piece) (a b : Piece) (back : List (List ℕ)) (p : Parted) → AllByRecursion (IsPiece run) (front ++ a ∷ b ∷ [])
-    → option_of run a.word ≢ option_of run b.word → parted run (piece_words (front ++ a ∷ b ∷ []) ++ back) ≡ Some p
-    → HasParts (parted run (piece_words (front ++ b ∷ a ∷ []) ++ back)) p
+parts-swapped : (run : Run) (front : List Piece) (a b : Piece) (back : List (List ℕ)) (p : SplitWords) → AllByRecursion (IsPiece run) (front ++ a ∷ b ∷ [])
+    → option_of run a.word ≢ option_of run b.word → split_words run (piece_words (front ++ a ∷ b ∷ []) ++ back) ≡ Some p
+    → HasParts (split_words run (piece_words (front ++ b ∷ a ∷ []) ++ back)) p
 parts-swapped run front a b back p whole other is =
-    subst (λ (o : Option Parted). HasParts o p) (sym (parted-pieces run (front ++ b ∷ a ∷ []) back (all-swapped (IsPiece run) front a b whole)))
-    (same-parts (put_all run (front ++ a ∷ b ∷ [])) (put_all run (front ++ b ∷ a ∷ [])) (λ r. put_all-swapped run front a b r other) (parted run back) p
-    (sym (parted-pieces run (front ++ a ∷ b ∷ []) back whole) ∙ is))
+    subst (λ (o : Option SplitWords). HasParts o p) (sym (split_words-pieces run (front ++ b ∷ a ∷ []) back (all-swapped (IsPiece run) front a b whole)))
+    (same-parts (put_all run (front ++ a ∷ b ∷ [])) (put_all run (front ++ b ∷ a ∷ [])) (λ r. put_all-swapped run front a b r other) (split_words run back) p
+    (sym (split_words-pieces run (front ++ a ∷ b ∷ []) back whole) ∙ is))
 
 head-is : {a b : List ℕ} {xs ys : List (List ℕ)} → a ∷ xs ≡ b ∷ ys → b ≡ a
 head-is e = cc
@@ -154,18 +154,18 @@ tail-is : {a b : List ℕ} {xs ys : List (List ℕ)} → a ∷ xs ≡ b ∷ ys �
 tail-is e = cc
 
 -- the parts of the words of a plan
-plan-parts : (word : List ℕ) (rest : List (List ℕ)) (plan : RunPlan) (is : IsPlan (word ∷ rest) plan) → parted plan.run rest ≡ Some is.parts
-plan-parts word rest plan is = ap (parted plan.run) (sym (tail-is is.are)) ∙ is.parting
+plan-parts : (word : List ℕ) (rest : List (List ℕ)) (plan : RunPlan) (is : IsPlan (word ∷ rest) plan) → split_words plan.run rest ≡ Some is.parts
+plan-parts word rest plan is = ap (split_words plan.run) (sym (tail-is is.are)) ∙ is.splitting
 
 -- words with the same parts are the same plan
-plan-alike : (word : List ℕ) (rest other : List (List ℕ)) (plan : RunPlan) (is : IsPlan (word ∷ rest) plan) → HasParts (parted plan.run other) is.parts → IsPlan (word ∷ other) plan
+plan-alike : (word : List ℕ) (rest other : List (List ℕ)) (plan : RunPlan) (is : IsPlan (word ∷ rest) plan) → HasParts (split_words plan.run other) is.parts → IsPlan (word ∷ other) plan
 plan-alike word rest other plan is like = record {
   word = word;
   rest = other;
   parts = like.0;
   are = refl;
   run = ap run_of (sym (head-is is.are)) ∙ is.run;
-  parting = like.1;
+  splitting = like.1;
   sizes = sym (like.2.values option.Sizes) ∙ is.sizes;
   first = sym (like.2.values option.First) ∙ is.first;
   other = sym (like.2.values option.Other) ∙ is.other;
@@ -201,31 +201,31 @@ more-values true setting settings = omega arith
 more-values false setting settings = omega arith
 
 -- how many values an option has in the parts
-abbrev count_of : RunOption → Parted → ℕ
+abbrev count_of : RunOption → SplitWords → ℕ
 count_of k p = length (values_of k p.settings)
 
-put-more : (k : RunOption) (o : Option RunOption) (piece : Piece) (p : Parted) → count_of k p ≤ count_of k (put o piece p)
+put-more : (k : RunOption) (o : Option RunOption) (piece : Piece) (p : SplitWords) → count_of k p ≤ count_of k (put o piece p)
 put-more k None piece p = omega arith
 put-more k (Some asked) piece p = more-values (is_option k asked) (asked, unwrap_or piece.value []) (settings_of k p.settings)
 
-put-own : (k : RunOption) (piece : Piece) (p : Parted) → count_of k (put (Some k) piece p) ≡ count_of k p + 1
+put-own : (k : RunOption) (piece : Piece) (p : SplitWords) → count_of k (put (Some k) piece p) ≡ count_of k p + 1
 put-own option.Sizes piece p = omega arith
 put-own option.First piece p = omega arith
 put-own option.Other piece p = omega arith
 put-own option.Bases piece p = omega arith
 put-own option.Width piece p = omega arith
 
-put-given : (k : RunOption) (o : Option RunOption) (piece : Piece) (p : Parted) → o ≡ Some k → count_of k (put o piece p) ≡ count_of k p + 1
+put-given : (k : RunOption) (o : Option RunOption) (piece : Piece) (p : SplitWords) → o ≡ Some k → count_of k (put o piece p) ≡ count_of k p + 1
 put-given k o piece p is = subst (λ (r : Option RunOption). count_of k (put r piece p) ≡ count_of k p + 1) (sym is) (put-own k piece p)
 
-one-value : (run : Run) (k : RunOption) (middle : List Piece) (b : Piece) (p : Parted) → option_of run b.word ≡ Some k → 1 ≤ count_of k (put_all run (middle ++ b ∷ []) p)
+one-value : (run : Run) (k : RunOption) (middle : List Piece) (b : Piece) (p : SplitWords) → option_of run b.word ≡ Some k → 1 ≤ count_of k (put_all run (middle ++ b ∷ []) p)
 one-value run k [] b p is = let more = put-given k (option_of run b.word) b p is in omega (arith, more)
 one-value run k (c ∷ middle) b p is =
     let some = one-value run k middle b p is in
     let more = put-more k (option_of run c.word) c (put_all run (middle ++ b ∷ []) p) in
     omega (arith, some, more)
 
-two-values : (run : Run) (k : RunOption) (front middle : List Piece) (a b : Piece) (p : Parted) → option_of run a.word ≡ Some k → option_of run b.word ≡ Some k
+two-values : (run : Run) (k : RunOption) (front middle : List Piece) (a b : Piece) (p : SplitWords) → option_of run a.word ≡ Some k → option_of run b.word ≡ Some k
     → 2 ≤ count_of k (put_all run (front ++ a ∷ (middle ++ b ∷ [])) p)
 two-values run k [] middle a b p first second =
     let some = one-value run k middle b p second in
@@ -244,7 +244,7 @@ at-most-one words plan is option.Other = omega (arith, ap (λ (l : List (List �
 at-most-one words plan is option.Bases = omega (arith, ap (λ (l : List (List ℕ)). length l) is.bases, few-listed plan.bases)
 at-most-one words plan is option.Width = width-once (values_of option.Width is.parts.settings) plan.width is.width
 
-map-some : (f : Parted → Parted) (o : Option Parted) (p : Parted) → option_map f o ≡ Some p → (r : Parted) × (f r ≡ p)
+map-some : (f : SplitWords → SplitWords) (o : Option SplitWords) (p : SplitWords) → option_map f o ≡ Some p → (r : SplitWords) × (f r ≡ p)
 map-some f None p is = absurd (none≢some p is)
 map-some f (Some r) p is = (r, some-same (f r) p is)
 
@@ -253,7 +253,7 @@ pub plan-never : (plan : RunPlan) (word : List ℕ) (front middle : List Piece) 
     → ¬ IsPlan (word ∷ (piece_words (front ++ a ∷ (middle ++ b ∷ [])) ++ back)) plan
 plan-never plan word front middle a b back asked all first second is =
     let pieces = front ++ a ∷ (middle ++ b ∷ []) in
-    let read = parted-pieces plan.run pieces back (recursion_from_All (IsPiece plan.run) pieces all) in
-    let from = map-some (put_all plan.run pieces) (parted plan.run back) is.parts (sym read ∙ plan-parts word (piece_words pieces ++ back) plan is) in
-    let two : 2 ≤ count_of asked is.parts = subst (λ (p : Parted). 2 ≤ count_of asked p) from.1 (two-values plan.run asked front middle a b from.0 first second) in
+    let read = split_words-pieces plan.run pieces back (recursion_from_All (IsPiece plan.run) pieces all) in
+    let from = map-some (put_all plan.run pieces) (split_words plan.run back) is.parts (sym read ∙ plan-parts word (piece_words pieces ++ back) plan is) in
+    let two : 2 ≤ count_of asked is.parts = subst (λ (p : SplitWords). 2 ≤ count_of asked p) from.1 (two-values plan.run asked front middle a b from.0 first second) in
     absurd (omega (arith, two, at-most-one (word ∷ (piece_words pieces ++ back)) plan is asked))

@@ -7,7 +7,7 @@ use Rattle.iv_args.specs.declared.fault.PlanFault.TheVariants as fault
 use Rattle.iv_args.specs.declared.run.Run.{Run}
 use Rattle.iv_args.specs.declared.run.RunOption.{RunOption}
 use Rattle.iv_args.specs.declared.run.RunOption.TheVariants as option
-use Rattle.iv_args.specs.Words.{RunPlan, IsPlan, Parted, parted, run_of, lead, values_of, width_said, needs_other, needs_bases, are_view_words}
+use Rattle.iv_args.specs.Words.{RunPlan, IsPlan, SplitWords, split_words, run_of, lead, values_of, width_said, needs_other, needs_bases, are_view_words}
 use Rattle.iv_args.specs.Drafts.{PartialPlan, begun_by, drafted, Makes}
 use Rattle.iv_args.proofs.DraftLemmas.{none≢some, some-same, listed, Gives, drafted-gives, drafted-never}
 
@@ -61,7 +61,7 @@ module _ (word : List ℕ) (rest : List (List ℕ)) (run : Run) (is_run : Some r
   -- ---- words that are a plan
 
   -- the values of the settings are what was said
-  values-said : (said : PartialPlan) (g : Gives (parted run rest) (begun_by run word) said) (k : RunOption) → values_of k g.parts.settings ≡ listed said k
+  values-said : (said : PartialPlan) (g : Gives (split_words run rest) (begun_by run word) said) (k : RunOption) → values_of k g.parts.settings ≡ listed said k
   values-said said g k = sym (g.values k ∙ ap (λ (l : List (List ℕ)). l ++ values_of k g.parts.settings) (begun-says run word k))
 
   pub accept : (said : PartialPlan) (plan : RunPlan) → drafted run rest (begun_by run word) ≡ Some said → Makes run said plan → IsPlan (word ∷ rest) plan
@@ -74,7 +74,7 @@ module _ (word : List ℕ) (rest : List (List ℕ)) (run : Run) (is_run : Some r
         parts = g.parts;
         are = refl;
         run = sym is_run ∙ ap Some (sym made.run_is);
-        parting = ap (λ (r : Run). parted r rest) made.run_is ∙ g.are;
+        splitting = ap (λ (r : Run). split_words r rest) made.run_is ∙ g.are;
         sizes = values-said said g option.Sizes ∙ ap option_to_list made.sizes;
         first = values-said said g option.First ∙ ap option_to_list made.first;
         other = values-said said g option.Other ∙ ap option_to_list made.other;
@@ -96,7 +96,7 @@ module _ (word : List ℕ) (rest : List (List ℕ)) (run : Run) (is_run : Some r
   record IsOf (plan : RunPlan) (is : IsPlan (word ∷ rest) plan) : Type 0 where
     run_is : plan.run ≡ run
     word_is : is.word ≡ word
-    parting : parted run rest ≡ Some is.parts
+    splitting : split_words run rest ≡ Some is.parts
 
   is-of : (plan : RunPlan) (is : IsPlan (word ∷ rest) plan) → IsOf plan is
   is-of plan is =
@@ -106,7 +106,7 @@ module _ (word : List ℕ) (rest : List (List ℕ)) (run : Run) (is_run : Some r
       record {
         run_is = same_run;
         word_is = same_word;
-        parting = ap (λ (r : Run). parted r rest) (sym same_run) ∙ ap (parted plan.run) (sym same_rest) ∙ is.parting;
+        splitting = ap (λ (r : Run). split_words r rest) (sym same_run) ∙ ap (split_words plan.run) (sym same_rest) ∙ is.splitting;
       }
     where
       head : {a b : List ℕ} {xs ys : List (List ℕ)} → a ∷ xs ≡ b ∷ ys → b ≡ a
@@ -125,7 +125,7 @@ module _ (word : List ℕ) (rest : List (List ℕ)) (run : Run) (is_run : Some r
 
   pub refuse-taken : drafted run rest (begun_by run word) ≡ None → (plan : RunPlan) → ¬ IsPlan (word ∷ rest) plan
   refuse-taken h plan is =
-      drafted-never run rest (begun_by run word) h is.parts (is-of plan is).parting
+      drafted-never run rest (begun_by run word) h is.parts (is-of plan is).splitting
       (λ k. subst (λ (l : List (List ℕ)). length (l ++ values_of k is.parts.settings) ≤ 1) (sym (begun-says run word k)) (once plan is k))
 
   said-value : (o : Option (List ℕ)) (value : List ℕ) → option_to_list o ≡ value ∷ [] → o ≡ Some value
@@ -151,13 +151,13 @@ module _ (word : List ℕ) (rest : List (List ℕ)) (run : Run) (is_run : Some r
   makes said plan h is =
       let g = drafted-gives run rest (begun_by run word) said h in
       let of = is-of plan is in
-      let parts : g.parts ≡ is.parts = some-same g.parts is.parts (sym g.are ∙ of.parting) in
+      let parts : g.parts ≡ is.parts = some-same g.parts is.parts (sym g.are ∙ of.splitting) in
       let at : (k : RunOption) → listed said k ≡ values_of k is.parts.settings =
-      λ k. sym (values-said said g k) ∙ ap (λ (p : Parted). values_of k p.settings) parts in
+      λ k. sym (values-said said g k) ∙ ap (λ (p : SplitWords). values_of k p.settings) parts in
       let other : said.other ≡ plan.other = said-same said.other plan.other (at option.Other ∙ is.other) in
       let bases : said.bases ≡ plan.bases = said-same said.bases plan.bases (at option.Bases ∙ is.bases) in
       let view : said.view ≡ plan.view =
-      g.view ∙ ap (λ (p : Parted). lead run word ++ p.view) parts ∙ ap (λ (r : Run). lead r word ++ is.parts.view) (sym of.run_is)
+      g.view ∙ ap (λ (p : SplitWords). lead run word ++ p.view) parts ∙ ap (λ (r : Run). lead r word ++ is.parts.view) (sym of.run_is)
       ∙ ap (λ (w : List ℕ). lead plan.run w ++ is.parts.view) (sym of.word_is) ∙ sym is.view in
       record {
         run_is = of.run_is;

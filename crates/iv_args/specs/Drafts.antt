@@ -43,9 +43,9 @@ last_drafted (Some asked) word said = None
 
 -- what is said after a word, the next one where it is a value, and those after
 abbrev pub next_drafted : Option RunOption → Bool → List ℕ → List ℕ → (PartialPlan → Option PartialPlan) → (PartialPlan → Option PartialPlan) → PartialPlan → Option PartialPlan
-next_drafted (Some asked) takes word next behind_both behind said = option_and_then behind_both (with_value asked next said)
-next_drafted None true word next behind_both behind said = behind_both (viewed (word ∷ next ∷ []) said)
-next_drafted None false word next behind_both behind said = behind (viewed (word ∷ []) said)
+next_drafted (Some asked) takes word next after_both later said = option_and_then after_both (with_value asked next said)
+next_drafted None true word next after_both later said = after_both (viewed (word ∷ next ∷ []) said)
+next_drafted None false word next after_both later said = later (viewed (word ∷ []) said)
 
 -- what is said after words, where they can be taken
 abbrev pub drafted : Run → List (List ℕ) → PartialPlan → Option PartialPlan

@@ -101,36 +101,36 @@ abbrev pub Setting : Type 0
 Setting = RunOption × List ℕ
 
 -- words separated into settings and words of the view, both in their order
-pub record Parted : Type 0 where
+pub record SplitWords : Type 0 where
   pub settings : List Setting
   pub view : List (List ℕ)
 
 -- the parts, and a setting before them
-abbrev pub with_setting : Setting → Parted → Parted
+abbrev pub with_setting : Setting → SplitWords → SplitWords
 with_setting setting parts = record parts { settings = setting ∷ parts.settings }
 
 -- the parts, and words of the view before them
-abbrev pub with_words : List (List ℕ) → Parted → Parted
+abbrev pub with_words : List (List ℕ) → SplitWords → SplitWords
 with_words words parts = record parts { view = words ++ parts.view }
 
 -- the last word: an option would lack its value
-abbrev pub last_parted : Option RunOption → List ℕ → Option Parted
-last_parted None word = Some (record { settings = []; view = word ∷ [] })
-last_parted (Some asked) word = None
+abbrev pub split_last : Option RunOption → List ℕ → Option SplitWords
+split_last None word = Some (record { settings = []; view = word ∷ [] })
+split_last (Some asked) word = None
 
 -- a word and the next one, given the parts after the two, and those after the first: the next word is the value of an option or
 -- of a word of the view that takes one, whatever it is
-abbrev pub next_parted : Option RunOption → Bool → List ℕ → List ℕ → Option Parted → Option Parted → Option Parted
-next_parted (Some asked) takes word next behind_both behind = option_map (with_setting (asked, next)) behind_both
-next_parted None true word next behind_both behind = option_map (with_words (word ∷ next ∷ [])) behind_both
-next_parted None false word next behind_both behind = option_map (with_words (word ∷ [])) behind
+abbrev pub split_next : Option RunOption → Bool → List ℕ → List ℕ → Option SplitWords → Option SplitWords → Option SplitWords
+split_next (Some asked) takes word next after_both later = option_map (with_setting (asked, next)) after_both
+split_next None true word next after_both later = option_map (with_words (word ∷ next ∷ [])) after_both
+split_next None false word next after_both later = option_map (with_words (word ∷ [])) later
 
 -- the words after the first of a run, separated from the front
-abbrev pub parted : Run → List (List ℕ) → Option Parted
-parted run [] = Some (record { settings = []; view = [] })
-parted run (word ∷ []) = last_parted (option_of run word) word
-parted run (word ∷ next ∷ words) =
-    next_parted (option_of run word) (takes_value run word) word next (parted run words) (parted run (next ∷ words))
+abbrev pub split_words : Run → List (List ℕ) → Option SplitWords
+split_words run [] = Some (record { settings = []; view = [] })
+split_words run (word ∷ []) = split_last (option_of run word) word
+split_words run (word ∷ next ∷ words) =
+    split_next (option_of run word) (takes_value run word) word next (split_words run words) (split_words run (next ∷ words))
 
 -- whether two options are the same
 abbrev pub is_option : RunOption → RunOption → Bool
@@ -180,10 +180,10 @@ are_view_words run words = are_understood (read_words 6 true true words)
 pub record IsPlan (words : List (List ℕ)) (plan : RunPlan) : Type 0 where
   pub word : List ℕ
   pub rest : List (List ℕ)
-  pub parts : Parted
+  pub parts : SplitWords
   pub are : words ≡ word ∷ rest
   pub run : run_of word ≡ Some plan.run
-  pub parting : parted plan.run rest ≡ Some parts
+  pub splitting : split_words plan.run rest ≡ Some parts
   pub sizes : values_of option.Sizes parts.settings ≡ plan.sizes ∷ []
   pub first : values_of option.First parts.settings ≡ plan.first ∷ []
   pub other : values_of option.Other parts.settings ≡ option_to_list plan.other

@@ -5,11 +5,11 @@ use Rattle.std.specs.List.{take_while, prefix_len}
 use Rattle.std.specs.Option.{is_some}
 use Rattle.iv_cover.specs.declared.block.Block.{Block}
 use Rattle.iv_cover.proofs.Tests.{Mem}
-use Rattle.iv_blocks.specs.BlockCursor.{lies_at, ahead_of, BeginsElse, GivesPassing, drop_while, TakesForEach}
+use Rattle.iv_blocks.specs.BlockCursor.{interval_of, ahead_of, BeginsElse, GivesPassing, drop_while, TakesForEach}
 use Rattle.iv_blocks.specs.KeptBlocks.{Entries}
 
 -- what is read ahead, and what is left, are all
-pub ahead-read : (old new : Entries) (given : Option Block) → TakesFirst (λ (b : Block). b) (map lies_at old) given (map lies_at new) → ahead_of given new ≡ map lies_at old
+pub ahead-read : (old new : Entries) (given : Option Block) → TakesFirst (λ (b : Block). b) (map interval_of old) given (map interval_of new) → ahead_of given new ≡ map interval_of old
 ahead-read old new None took = took.1 ∙ sym took.0
 ahead-read old new (Some b) took = sym took
 

@@ -48,7 +48,7 @@ module _ (genome : Sequences) (width : ℕ) (rows : List Row) (fit : All (Fits g
   pub all-stops : (g : Group) (end : ℕ) → end ≡ sequence_length genome g.rank → All (λ r. r.stop ≤ end) (members_between g 0 end rows)
   all-stops g end is = mem-all (λ r. r.stop ≤ end) _ (λ q m.
       let member = member-in g 0 end rows q m in
-      let within : q.stop ≤ sequence_length genome q.seq = (fits q member.0).lies.within.1 in
+      let within : q.stop ≤ sequence_length genome q.seq = (fits q member.0).is_placed.within.1 in
       omega (arith, is, ap (sequence_length genome) member.1))
 
   in_group-rank : (s : Bool) (rank : ℕ) (minus : Bool) (q : Row) → is_in_group s rank minus q ≡ true → q.seq ≡ rank
@@ -61,9 +61,9 @@ module _ (genome : Sequences) (width : ℕ) (rows : List Row) (fit : All (Fits g
       ∙ filter-agree _ _ rows (λ q m. same_tests _ _
       (λ e. (and_parts (starts_between 0 (sequence_length genome rank) q) (is_in_group s rank minus q) e).1)
       (λ e.
-      let lies = (fits q m).lies in
+      let is_placed = (fits q m).is_placed in
       let at : sequence_length genome q.seq ≡ sequence_length genome rank = ap (sequence_length genome) (in_group-rank s rank minus q e) in
-      and_from _ _ (between-from 0 (sequence_length genome rank) q (omega arith) (omega (arith, lies.some, lies.within.1, at))) e))
+      and_from _ _ (between-from 0 (sequence_length genome rank) q (omega arith) (omega (arith, is_placed.some, is_placed.within.1, at))) e))
 
   pub kept-whole : (o : Options) (rank : ℕ) (minus : Bool) (x : ℕ)
       → kept_at o (names_of genome) (between 0 (sequence_length genome rank) rows) (rank, minus, x) ≡ kept_at o (names_of genome) rows (rank, minus, x)
@@ -82,7 +82,7 @@ module _ (genome : Sequences) (width : ℕ) (rows : List Row) (fit : All (Fits g
   kept-past o k past =
       ap (λ (l : List Row). option_map (kept_block (name_of (names_of genome) k.0) (listed o.summaries)) (block_at start_of stop_of o.distance l k.2))
       (filter-none (is_in_group o.stranded k.0 k.1) rows (λ q m. false_from_ne_true _ (λ e.
-      let low = (fits q m).lies.within.0 in
+      let low = (fits q m).is_placed.within.0 in
       let at = in_group-rank o.stranded k.0 k.1 q e in
       omega (arith, low, at))))
 

@@ -23,7 +23,7 @@ use Rattle.iv_cover.specs.declared.block.Block.{Block}
 use Rattle.iv_cover.proofs.Groups.{mem-append}
 use Rattle.iv_cover.proofs.Merging.{Precedes, precedes-from}
 use Rattle.iv_cover.proofs.Tests.{Mem, filter-agree, mem-filter}
-use Rattle.iv_blocks.specs.BlockCursor.{lies_at, starts_until, drop_while, BeginsElse}
+use Rattle.iv_blocks.specs.BlockCursor.{interval_of, starts_until, drop_while, BeginsElse}
 use Rattle.iv_blocks.specs.ClusterRows.{blocks_before, cluster_row}
 use Rattle.iv_blocks.specs.Groups.{is_in_group, group, listed}
 use Rattle.iv_blocks.specs.KeptBlocks.{Key, Kept, Entries, AreBlocksOf, key_cmp, kept_at, kept_block, name_of}
@@ -146,8 +146,8 @@ mem-ranks own (suc n) rank x m = elim (mem-append (own rank) (flat_map own (rang
 mem-side : (look : Key → Option Kept) (s : ℕ) (t : Bool) (n : ℕ) (e : Key × Kept) → Mem e (side_entries look s t n) → (e.0.0 ≡ s) × (e.0.2 < n)
 mem-side look s t n e m =
     let found = mem-values (λ p. option_map (λ v. ((s, t, p), v)) (look (s, t, p))) n e m in
-    let lies = of_side found.0 (look (s, t, found.0)) found.2 in
-    (lies.0, omega (arith, lies.1, found.1))
+    let is_placed = of_side found.0 (look (s, t, found.0)) found.2 in
+    (is_placed.0, omega (arith, is_placed.1, found.1))
   where
     of_side : (p : ℕ) (o : Option Kept) → option_map (λ v. ((s, t, p), v)) o ≡ Some e → (e.0.0 ≡ s) × (e.0.2 ≡ p)
     of_side p None is = cc
@@ -162,7 +162,7 @@ mem-map f (x ∷ xs) y (inl at) = (x, inl refl, at)
 mem-map f (x ∷ xs) y (inr m) = let found = mem-map f xs y m in (found.0, inr found.1, found.2)
 
 -- an entry past the position isn't up to it
-past-key : (s p : ℕ) (x : Key) (v : Kept) → is_le (key_cmp (s, false, p + 1) x) ≡ true → x.1 ≡ false → starts_until s p (lies_at (x, v)) ≡ false
+past-key : (s p : ℕ) (x : Key) (v : Kept) → is_le (key_cmp (s, false, p + 1) x) ≡ true → x.1 ≡ false → starts_until s p (interval_of (x, v)) ≡ false
 past-key s p x v after side = false_from_ne_true _ (λ e. elim (or_cases (nat_lt x.0 s) ((x.0 == s) && nat_le x.2 p) e) [
   | inl lower ↦
       let low : x.0 < s = ltb-true _ _ lower in
@@ -214,7 +214,7 @@ module _ (o : Options) (g : Sequences) (width : ℕ) (rows : List Row) (entries 
       ∙ sym (sum-map (λ s. blocks_before o.distance rows s (sequence_length g s)) (range_with_len 0 n))
 
   -- the blocks up to a position of a sequence
-  pub count-until : (s p : ℕ) → length (take_while (starts_until s p) (map lies_at entries))
+  pub count-until : (s p : ℕ) → length (take_while (starts_until s p) (map interval_of entries))
       ≡ sum (map (λ rank. blocks_before o.distance rows rank (sequence_length g rank)) (range_with_len 0 s)) + blocks_before o.distance rows s (p + 1)
   count-until s p =
       let lower : Entries = all_entries look (sequence_length g) s in
@@ -225,16 +225,16 @@ module _ (o : Options) (g : Sequences) (width : ℕ) (rows : List Row) (entries 
       = ranks-all look (sequence_length g) entries right.ordered right.blocks past s
       ∙ ap (λ (l : Entries). lower ++ l) (walked-on look (sequence_length g) entries right.ordered right.blocks past s false (p + 1))
       ∙ sym (append_assoc lower here later) in
-      let same : take_while (starts_until s p) (map lies_at entries) ≡ map lies_at (lower ++ here)
-      = ap (λ (l : Entries). take_while (starts_until s p) (map lies_at l)) parts
-      ∙ ap (take_while (starts_until s p)) (map-append lies_at (lower ++ here) later)
-      ∙ take-all (starts_until s p) (map lies_at (lower ++ here)) (map lies_at later) (before s p) (begins-else (starts_until s p) (map lies_at later) (after s p)) in
-      let long : length (map lies_at (lower ++ here)) ≡ length lower + length here = length-map (lower ++ here) lies_at ∙ length-append lower here in
+      let same : take_while (starts_until s p) (map interval_of entries) ≡ map interval_of (lower ++ here)
+      = ap (λ (l : Entries). take_while (starts_until s p) (map interval_of l)) parts
+      ∙ ap (take_while (starts_until s p)) (map-append interval_of (lower ++ here) later)
+      ∙ take-all (starts_until s p) (map interval_of (lower ++ here)) (map interval_of later) (before s p) (begins-else (starts_until s p) (map interval_of later) (after s p)) in
+      let long : length (map interval_of (lower ++ here)) ≡ length lower + length here = length-map (lower ++ here) interval_of ∙ length-append lower here in
       omega (arith, ap (λ (l : List Block). length l) same, long, ranks-count s, side-count s (p + 1))
     where
-      before : (s p : ℕ) (b : Block) → Mem b (map lies_at (all_entries look (sequence_length g) s ++ side_entries look s false (p + 1))) → starts_until s p b ≡ true
+      before : (s p : ℕ) (b : Block) → Mem b (map interval_of (all_entries look (sequence_length g) s ++ side_entries look s false (p + 1))) → starts_until s p b ≡ true
       before s p b m =
-          let found = mem-map lies_at (all_entries look (sequence_length g) s ++ side_entries look s false (p + 1)) b m in
+          let found = mem-map interval_of (all_entries look (sequence_length g) s ++ side_entries look s false (p + 1)) b m in
           rw (← found.2) (elim (mem-append (all_entries look (sequence_length g) s) (side_entries look s false (p + 1)) found.0 found.1) [
             | inl lower ↦
                 let at = mem-ranks (rank_entries look (sequence_length g)) s 0 found.0 lower in
@@ -248,9 +248,9 @@ module _ (o : Options) (g : Sequences) (width : ℕ) (rows : List Row) (entries 
                 or_right (nat_lt found.0.0.0 s) _ (and_from _ _ (eq-eqb found.0.0.0 s at.0) (le-leb found.0.0.2 p (omega (arith, at.1))))
           ])
 
-      after : (s p : ℕ) (b : Block) → Mem b (map lies_at (from (s, false, p + 1) entries)) → starts_until s p b ≡ false
+      after : (s p : ℕ) (b : Block) → Mem b (map interval_of (from (s, false, p + 1) entries)) → starts_until s p b ≡ false
       after s p b m =
-          let found = mem-map lies_at (from (s, false, p + 1) entries) b m in
+          let found = mem-map interval_of (from (s, false, p + 1) entries) b m in
           let e = found.0 in
           let both = mem-filter (λ (x : Key × Kept). is_le (key_cmp (s, false, p + 1) x.0)) entries e found.1 in
           let side : e.0.1 ≡ false = false_from_ne_true e.0.1 (λ other.
@@ -259,11 +259,11 @@ module _ (o : Options) (g : Sequences) (width : ℕ) (rows : List Row) (entries 
           rw (← found.2) (past-key s p e.0 e.1 both.1 side)
 
   -- the row of a record
-  pub row-is : (r : Row) (number : ℕ) → number ≡ length (take_while (starts_until r.seq r.start) (map lies_at entries))
+  pub row-is : (r : Row) (number : ℕ) → number ≡ length (take_while (starts_until r.seq r.start) (map interval_of entries))
       → cluster_row o.distance g rows r ≡ record_text g r ++ codes "\t" ++ decimal number ++ codes "\n"
   row-is r number is = rw (is ∙ count-until r.seq r.start) refl
 
   -- the row of the next record, and those of the others
-  pub rows-next : (left rest : List Row) (r : Row) (number : ℕ) → left ≡ r ∷ rest → number ≡ length (take_while (starts_until r.seq r.start) (map lies_at entries))
+  pub rows-next : (left rest : List Row) (r : Row) (number : ℕ) → left ≡ r ∷ rest → number ≡ length (take_while (starts_until r.seq r.start) (map interval_of entries))
       → flat_map (cluster_row o.distance g rows) left ≡ (record_text g r ++ codes "\t" ++ decimal number ++ codes "\n") ++ flat_map (cluster_row o.distance g rows) rest
   rows-next left rest r number first is = rw first (ap (λ (l : List ℕ). l ++ flat_map (cluster_row o.distance g rows) rest) (row-is r number is))

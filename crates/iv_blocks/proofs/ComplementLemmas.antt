@@ -7,7 +7,7 @@ use Rattle.std.proofs.lemmas.List.Concat.{flat_map-append}
 use Rattle.std.proofs.lemmas.List.Sums.{length-filter}
 use Rattle.iv_text.specs.Genome.{Sequences, seq_count, sequence_name, sequence_length}
 use Rattle.iv_text.specs.Named.{names_of}
-use Rattle.iv_text.specs.Read.{Fits, LiesOn}
+use Rattle.iv_text.specs.Read.{Fits, IsOnGenome}
 use Rattle.iv_text.specs.Row.{Row}
 use Rattle.iv_cover.specs.Blocks.{block_stop, block_at, blocks_below}
 use Rattle.iv_cover.specs.Depth.{covers, depth}
@@ -18,7 +18,7 @@ use Rattle.iv_cover.proofs.Cover.{Free, Covered, some_start, block_at_start, blo
 use Rattle.iv_cover.proofs.Groups.{mem-left, mem-right, mem-append}
 use Rattle.iv_cover.proofs.Positions.{values, values-none, values-some, values-agree, values-none_from}
 use Rattle.iv_cover.proofs.Tests.{Mem, mem-filter_from, all-mem, filter-none, any-found, any-none, mem-place}
-use Rattle.iv_blocks.specs.BlockCursor.{lies_at, gap_between, gaps_between, starts_until, drop_while, BeginsElse}
+use Rattle.iv_blocks.specs.BlockCursor.{interval_of, gap_between, gaps_between, starts_until, drop_while, BeginsElse, sequence_text, texts}
 use Rattle.iv_blocks.specs.ComplementRows.{gap_row, gap_rows, is_shown, complement_text}
 use Rattle.iv_blocks.specs.Groups.{is_in_group, group, sides}
 use Rattle.iv_blocks.specs.KeptBlocks.{Entries, AreBlocksOf}
@@ -42,17 +42,6 @@ pub gaps-last : (name : List ℕ) (shown : Bool) (start length : ℕ) (blocks : 
 gaps-last name shown start length blocks is none = rw (is, none) refl
 
 -- ---- one sequence after another
-
--- the rows of one sequence, with these blocks on it
-abbrev pub sequence_text : Bool → Sequences → ℕ → List Block → List ℕ
-sequence_text wanted g rank blocks = flat_map (gap_row (sequence_name g rank)) (gaps_between wanted 0 (sequence_length g rank) blocks)
-
--- the rows of so many sequences from this rank on, with the blocks that are still to come
-pub texts : Bool → Sequences → ℕ → ℕ → List Block → List ℕ
-texts wanted g rank zero blocks = []
-texts wanted g rank (suc n) blocks =
-    sequence_text wanted g rank (take_while (starts_until rank (sequence_length g rank)) blocks)
-    ++ texts wanted g (rank + 1) n (drop_while (starts_until rank (sequence_length g rank)) blocks)
 
 -- each block is on its sequence
 abbrev AreOwn : Sequences → (ℕ → List Block) → Type 0
@@ -156,13 +145,13 @@ abbrev pub place_of : ℕ → ℕ → Option (ℕ × List Row) → Option Block
 place_of s x at = option_map (λ (b : ℕ × List Row). record { sequence = s; start = x; stop = b.0 }) at
 
 place-of : (o : Options) (g : Sequences) (s x : ℕ) (at : Option (ℕ × List Row))
-    → option_map lies_at (option_map (entry_of o g s false) (option_map (λ b. (x, b)) at)) ≡ place_of s x at
+    → option_map interval_of (option_map (entry_of o g s false) (option_map (λ b. (x, b)) at)) ≡ place_of s x at
 place-of o g s x None = refl
 place-of o g s x (Some b) = refl
 
-place-lies : (s x : ℕ) (at : Option (ℕ × List Row)) (b : Block) → place_of s x at ≡ Some b → (b.sequence ≡ s) × (b.start ≡ x)
-place-lies s x None b is = cc
-place-lies s x (Some p) b is = (cc, cc)
+place-is_placed : (s x : ℕ) (at : Option (ℕ × List Row)) (b : Block) → place_of s x at ≡ Some b → (b.sequence ≡ s) × (b.start ≡ x)
+place-is_placed s x None b is = cc
+place-is_placed s x (Some p) b is = (cc, cc)
 
 -- where a block is, the gaps are shown
 shown-some : (from to : ℕ) (blocks : List Block) → blocks ≢ [] → gaps_between false from to blocks ≡ gaps_between true from to blocks
@@ -170,33 +159,33 @@ shown-some from to [] some = absurd (some refl)
 shown-some from to (b ∷ blocks) some = refl
 
 -- where the block on a sequence is that starts at a position, if there is one
-abbrev pub lying_at : List Row → ℕ → ℕ → Option Block
-lying_at rows s x = place_of s x (block_at start_of stop_of 0 (group false s false rows) x)
+abbrev pub interval_at : List Row → ℕ → ℕ → Option Block
+interval_at rows s x = place_of s x (block_at start_of stop_of 0 (group false s false rows) x)
 
 -- where the blocks on a sequence lie
-abbrev pub lying_on : Sequences → List Row → ℕ → List Block
-lying_on g rows s = values (lying_at rows s) (sequence_length g s)
+abbrev pub intervals_on : Sequences → List Row → ℕ → List Block
+intervals_on g rows s = values (interval_at rows s) (sequence_length g s)
 
-module _ (g : Sequences) (rows : List Row) (lie : All (LiesOn g) rows) where
-  are-own : AreOwn g (lying_on g rows)
+module _ (g : Sequences) (rows : List Row) (lie : All (IsOnGenome g) rows) where
+  are-own : AreOwn g (intervals_on g rows)
   are-own s b m =
-      let found = mem-values (lying_at rows s) (sequence_length g s) b m in
-      let lies = place-lies s found.0 (block_at start_of stop_of 0 (group false s false rows) found.0) b found.2 in
-      (lies.0, omega (arith, lies.1, found.1))
+      let found = mem-values (interval_at rows s) (sequence_length g s) b m in
+      let is_placed = place-is_placed s found.0 (block_at start_of stop_of 0 (group false s false rows) found.0) b found.2 in
+      (is_placed.0, omega (arith, is_placed.1, found.1))
 
   -- the records of a sequence end on it
   within : (s : ℕ) (q : Row) → Mem q (group false s false rows) → (q.start < q.stop) × (q.stop ≤ sequence_length g s)
   within s q m =
       let both = group-in false s false rows q m in
-      let lies = all-mem (LiesOn g) rows lie q both.0 in
-      (lies.some, rw both.1 at lies.within.1)
+      let is_placed = all-mem (IsOnGenome g) rows lie q both.0 in
+      (is_placed.some, rw both.1 at is_placed.within.1)
 
-  runs-are : (s : ℕ) → gaps_between true 0 (sequence_length g s) (lying_on g rows s) ≡ empty_runs (depth rows s) 0 (sequence_length g s)
+  runs-are : (s : ℕ) → gaps_between true 0 (sequence_length g s) (intervals_on g rows s) ≡ empty_runs (depth rows s) 0 (sequence_length g s)
   runs-are s = all_gaps-are (group false s false rows) (depth rows s) s (sequence_length g s)
       (λ q m. (within s q m).0) (λ q m. (within s q m).1) (depth-some rows s) (depth-none rows s)
 
   -- a sequence with a record has a block
-  own-some : (s : ℕ) → list_any (λ r. r.seq == s) rows ≡ true → lying_on g rows s ≢ []
+  own-some : (s : ℕ) → list_any (λ r. r.seq == s) rows ≡ true → intervals_on g rows s ≢ []
   own-some s e none =
       let found = any-found (λ (r : Row). r.seq == s) rows e in
       let m = in-group s rows found.0 found.1 (eqb-true _ _ found.2) in
@@ -206,30 +195,30 @@ module _ (g : Sequences) (rows : List Row) (lie : All (LiesOn g) rows) where
       let block = block_at-some start_of stop_of 0 (group false s false rows) first.0 stop (λ q m. (within s q m).0)
       (block_at_start start_of stop_of 0 (group false s false rows) first.0 (λ q m. (within s q m).0) first.2) in
       let b : Block = record { sequence = s; start = first.0; stop = stop } in
-      let there = value-mem (lying_at rows s) (sequence_length g s) first.0 b (omega (arith, first.1, fits)) (ap (place_of s first.0) block) in
+      let there = value-mem (interval_at rows s) (sequence_length g s) first.0 b (omega (arith, first.1, fits)) (ap (place_of s first.0) block) in
       subst (λ (l : List Block). Mem b l) none there
 
   -- and one without has none
-  own-none : (s : ℕ) → list_any (λ r. r.seq == s) rows ≡ false → lying_on g rows s ≡ []
+  own-none : (s : ℕ) → list_any (λ r. r.seq == s) rows ≡ false → intervals_on g rows s ≡ []
   own-none s e =
       let empty : group false s false rows ≡ [] = filter-none (is_in_group false s false) rows (λ q m. and_left _ _ (any-none (λ (r : Row). r.seq == s) rows e q m)) in
-      values-none_from (lying_at rows s) (sequence_length g s) 0 (omega arith)
+      values-none_from (interval_at rows s) (sequence_length g s) 0 (omega arith)
       (λ x from below. ap (λ (l : List Row). place_of s x (block_at start_of stop_of 0 l x)) empty)
 
-  sequence-is : (limited : Bool) (s : ℕ) → sequence_text (not limited) g s (lying_on g rows s) ≡ gap_rows limited g rows s
+  sequence-is : (limited : Bool) (s : ℕ) → sequence_text (not limited) g s (intervals_on g rows s) ≡ gap_rows limited g rows s
   sequence-is false s = ap (flat_map (gap_row (sequence_name g s))) (runs-are s)
   sequence-is true s = go (list_any (λ r. r.seq == s) rows) refl
     where
-      go : (b : Bool) → list_any (λ r. r.seq == s) rows ≡ b → sequence_text false g s (lying_on g rows s) ≡ gap_rows true g rows s
-      go true e = ap (flat_map (gap_row (sequence_name g s))) (shown-some 0 (sequence_length g s) (lying_on g rows s) (own-some s e) ∙ runs-are s)
+      go : (b : Bool) → list_any (λ r. r.seq == s) rows ≡ b → sequence_text false g s (intervals_on g rows s) ≡ gap_rows true g rows s
+      go true e = ap (flat_map (gap_row (sequence_name g s))) (shown-some 0 (sequence_length g s) (intervals_on g rows s) (own-some s e) ∙ runs-are s)
           ∙ sym (cond-true (is_shown true rows s) _ _ e)
       go false e = ap (sequence_text false g s) (own-none s e) ∙ sym (cond-false (is_shown true rows s) _ _ e)
 
   -- the rows of the gaps of all blocks
-  pub gaps-of_blocks : (limited : Bool) → texts (not limited) g 0 (seq_count g) (flat_map (lying_on g rows) (range_with_len 0 (seq_count g))) ≡ complement_text limited g rows
+  pub gaps-of_blocks : (limited : Bool) → texts (not limited) g 0 (seq_count g) (flat_map (intervals_on g rows) (range_with_len 0 (seq_count g))) ≡ complement_text limited g rows
   gaps-of_blocks limited =
-      texts-are (not limited) g (lying_on g rows) are-own (seq_count g) 0
-      ∙ flat_map-agree (λ s. sequence_text (not limited) g s (lying_on g rows s)) (gap_rows limited g rows) (range_with_len 0 (seq_count g)) (sequence-is limited)
+      texts-are (not limited) g (intervals_on g rows) are-own (seq_count g) 0
+      ∙ flat_map-agree (λ s. sequence_text (not limited) g s (intervals_on g rows s)) (gap_rows limited g rows) (range_with_len 0 (seq_count g)) (sequence-is limited)
 
 module _ (o : Options) (g : Sequences) (width : ℕ) (rows : List Row) (entries : Entries) (right : AreBlocksOf o (names_of g) rows entries) (fit : All (Fits g width) rows)
     (distance : o.distance ≡ 0) (together : o.stranded ≡ false) where
@@ -237,22 +226,22 @@ module _ (o : Options) (g : Sequences) (width : ℕ) (rows : List Row) (entries 
   abbrev own_entries : ℕ → Entries
   own_entries s = flat_map (λ t. map (entry_of o g s t) (side_blocks o g rows s t)) (sides o.stranded)
 
-  own-are : (s : ℕ) → map lies_at (own_entries s) ≡ lying_on g rows s
+  own-are : (s : ℕ) → map interval_of (own_entries s) ≡ intervals_on g rows s
   own-are s =
       let n : ℕ = sequence_length g s in
-      ap₂ (λ (d : ℕ) (apart : Bool). map lies_at (flat_map (λ t. map (entry_of o g s t) (blocks_below start_of stop_of d (group apart s t rows) n)) (sides apart))) distance together
-      ∙ ap (map lies_at) (append-nil (map (entry_of o g s false) (blocks_below start_of stop_of 0 (group false s false rows) n)))
-      ∙ ap (map lies_at) (map-filter_map (entry_of o g s false) (λ x. option_map (λ b. (x, b)) (block_at start_of stop_of 0 (group false s false rows) x)) (range_with_len 0 n))
-      ∙ map-filter_map lies_at (λ x. option_map (entry_of o g s false) (option_map (λ b. (x, b)) (block_at start_of stop_of 0 (group false s false rows) x))) (range_with_len 0 n)
-      ∙ values-agree (λ x. option_map lies_at (option_map (entry_of o g s false) (option_map (λ b. (x, b)) (block_at start_of stop_of 0 (group false s false rows) x)))) (lying_at rows s) n
+      ap₂ (λ (d : ℕ) (apart : Bool). map interval_of (flat_map (λ t. map (entry_of o g s t) (blocks_below start_of stop_of d (group apart s t rows) n)) (sides apart))) distance together
+      ∙ ap (map interval_of) (append-nil (map (entry_of o g s false) (blocks_below start_of stop_of 0 (group false s false rows) n)))
+      ∙ ap (map interval_of) (map-filter_map (entry_of o g s false) (λ x. option_map (λ b. (x, b)) (block_at start_of stop_of 0 (group false s false rows) x)) (range_with_len 0 n))
+      ∙ map-filter_map interval_of (λ x. option_map (entry_of o g s false) (option_map (λ b. (x, b)) (block_at start_of stop_of 0 (group false s false rows) x))) (range_with_len 0 n)
+      ∙ values-agree (λ x. option_map interval_of (option_map (entry_of o g s false) (option_map (λ b. (x, b)) (block_at start_of stop_of 0 (group false s false rows) x)))) (interval_at rows s) n
       (λ x below. place-of o g s x (block_at start_of stop_of 0 (group false s false rows) x))
 
-  lies-all : map lies_at entries ≡ flat_map (lying_on g rows) (range_with_len 0 (seq_count g))
-  lies-all =
-      ap (map lies_at) (entries-are o g width rows fit entries right)
-      ∙ map-flat_map lies_at own_entries (range_with_len 0 (seq_count g))
-      ∙ flat_map-agree (λ s. map lies_at (own_entries s)) (lying_on g rows) (range_with_len 0 (seq_count g)) own-are
+  is_placed-all : map interval_of entries ≡ flat_map (intervals_on g rows) (range_with_len 0 (seq_count g))
+  is_placed-all =
+      ap (map interval_of) (entries-are o g width rows fit entries right)
+      ∙ map-flat_map interval_of own_entries (range_with_len 0 (seq_count g))
+      ∙ flat_map-agree (λ s. map interval_of (own_entries s)) (intervals_on g rows) (range_with_len 0 (seq_count g)) own-are
 
   -- the rows of all gaps
-  pub gaps-are : (limited : Bool) → texts (not limited) g 0 (seq_count g) (map lies_at entries) ≡ complement_text limited g rows
-  gaps-are limited = ap (texts (not limited) g 0 (seq_count g)) lies-all ∙ gaps-of_blocks g rows (all-lie g width rows fit) limited
+  pub gaps-are : (limited : Bool) → texts (not limited) g 0 (seq_count g) (map interval_of entries) ≡ complement_text limited g rows
+  gaps-are limited = ap (texts (not limited) g 0 (seq_count g)) is_placed-all ∙ gaps-of_blocks g rows (all-lie g width rows fit) limited

@@ -29,14 +29,14 @@ runs-gap f from mid to low high zeros ends = go (cases_lt from mid)
 module _ (G : List Row) (f : ℕ → ℕ) (s to : ℕ) (lasting : Lasting start_of stop_of 0 G) (within : (q : Row) → Mem q G → q.stop ≤ to)
     (some : (p : ℕ) → Covered start_of stop_of 0 G (suc p) → f p ≢ 0) (none : (p : ℕ) → Free start_of stop_of 0 G (suc p) → f p ≡ 0) where
   -- where the block of a position is, if one starts there
-  abbrev pub lies : ℕ → Option Block
-  lies x = option_map (λ (b : ℕ × List Row). record { sequence = s; start = x; stop = b.0 }) (block_at start_of stop_of 0 G x)
+  abbrev pub is_placed : ℕ → Option Block
+  is_placed x = option_map (λ (b : ℕ × List Row). record { sequence = s; start = x; stop = b.0 }) (block_at start_of stop_of 0 G x)
 
   -- the blocks from position p on, where all others stop at `from` or before
   pub gaps-are : (k p from : ℕ) → p + k ≡ to → from ≤ to → ((q : ℕ) → from ≤ q → q < p → f q ≡ 0)
       → ((q : ℕ) → p ≤ q → q < from → is_block_start start_of stop_of 0 G q ≡ false)
       → ((x t : ℕ) → x < p → IsBlock start_of stop_of 0 G x t → t ≤ from)
-      → gaps_between true from to (filter_map lies (range_with_len p k)) ≡ empty_runs f from to
+      → gaps_between true from to (filter_map is_placed (range_with_len p k)) ≡ empty_runs f from to
   gaps-are zero p from end high zeros inside before =
       sym (runs-gap f from to to high (omega arith) (λ q low below. zeros q low (omega (arith, end))) (λ never. absurd (omega arith))
       ∙ ap (λ (l : List Run). gap_between from to ++ l) (empty_runs-none f to to (omega arith))
@@ -47,13 +47,13 @@ module _ (G : List Row) (f : ℕ → ℕ) (s to : ℕ) (lasting : Lasting start_
       go : ((from' : ℕ) → from' ≤ to → ((q : ℕ) → from' ≤ q → q < p + 1 → f q ≡ 0)
           → ((q : ℕ) → p + 1 ≤ q → q < from' → is_block_start start_of stop_of 0 G q ≡ false)
           → ((x t : ℕ) → x < p + 1 → IsBlock start_of stop_of 0 G x t → t ≤ from')
-          → gaps_between true from' to (filter_map lies (range_with_len (p + 1) k)) ≡ empty_runs f from' to)
+          → gaps_between true from' to (filter_map is_placed (range_with_len (p + 1) k)) ≡ empty_runs f from' to)
           → (is_block_start start_of stop_of 0 G p ≡ true) ⊎ (is_block_start start_of stop_of 0 G p ≡ false)
-          → gaps_between true from to (filter_map lies (range_with_len p (suc k))) ≡ empty_runs f from to
+          → gaps_between true from to (filter_map is_placed (range_with_len p (suc k))) ≡ empty_runs f from to
       go rest (inl e) =
           let t : ℕ = block_stop start_of stop_of 0 G p in
           let b = block_at_start start_of stop_of 0 G p lasting e in
-          let at : lies p ≡ Some (record { sequence = s; start = p; stop = t })
+          let at : is_placed p ≡ Some (record { sequence = s; start = p; stop = t })
           = ap (option_map (λ (b : ℕ × List Row). record { sequence = s; start = p; stop = b.0 })) (block_at-some start_of stop_of 0 G p t lasting b) in
           let low : from ≤ p = elim (cases_lt p from) [
             | inl inner ↦ absurd (both_ways _ (inside p (omega arith) inner) e)
@@ -66,7 +66,7 @@ module _ (G : List Row) (f : ℕ → ℕ) (s to : ℕ) (lasting : Lasting start_
           let skip : empty_runs f from to ≡ gap_between from p ++ empty_runs f t to
           = runs-gap f from p to low (omega arith) (λ q a c. zeros q a c) (λ c is. full p (omega arith) (omega arith) (sym is))
           ∙ ap (λ (l : List Run). gap_between from p ++ l) (empty_runs-skip f p t to (omega arith) fits full) in
-          ap (λ o. gaps_between true from to (cons_option o (filter_map lies (range_with_len (p + 1) k)))) at
+          ap (λ o. gaps_between true from to (cons_option o (filter_map is_placed (range_with_len (p + 1) k)))) at
           ∙ ap (λ (l : List Run). gap_between from p ++ l)
           (rest t fits (λ q a c. absurd (omega arith)) (λ q a c. none_within start_of stop_of 0 G p t b q (omega arith) (omega arith))
           (λ x t' below other. elim (cases_eq x p) [
@@ -75,7 +75,7 @@ module _ (G : List Row) (f : ℕ → ℕ) (s to : ℕ) (lasting : Lasting start_
           ]))
           ∙ sym skip
       go rest (inr e) =
-          let at : lies p ≡ None
+          let at : is_placed p ≡ None
           = ap (option_map (λ (b : ℕ × List Row). record { sequence = s; start = p; stop = b.0 })) (block_at-none start_of stop_of 0 G p e) in
           let here : from ≤ p → f p ≡ 0 = λ low. elim (cases_covered start_of stop_of 0 G (suc p)) [
             | inl covered ↦
@@ -86,7 +86,7 @@ module _ (G : List Row) (f : ℕ → ℕ) (s to : ℕ) (lasting : Lasting start_
                 ]
             | inr free ↦ none p free
           ] in
-          ap (λ o. gaps_between true from to (cons_option o (filter_map lies (range_with_len (p + 1) k)))) at
+          ap (λ o. gaps_between true from to (cons_option o (filter_map is_placed (range_with_len (p + 1) k)))) at
           ∙ rest from high
           (λ q a c. elim (cases_eq q p) [ inl is ↦ ap f is ∙ here (omega arith) | inr ne ↦ zeros q a (omega arith) ])
           (λ q a c. inside q (omega arith) c)
@@ -96,5 +96,5 @@ module _ (G : List Row) (f : ℕ → ℕ) (s to : ℕ) (lasting : Lasting start_
           ])
 
   -- all gaps from 0 on
-  pub all_gaps-are : gaps_between true 0 to (filter_map lies (range_with_len 0 to)) ≡ empty_runs f 0 to
+  pub all_gaps-are : gaps_between true 0 to (filter_map is_placed (range_with_len 0 to)) ≡ empty_runs f 0 to
   all_gaps-are = gaps-are to 0 0 (omega arith) (omega arith) (λ q a c. absurd (omega arith)) (λ q a c. absurd (omega arith)) (λ x t below other. absurd (omega arith))

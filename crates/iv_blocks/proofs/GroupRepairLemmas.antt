@@ -85,11 +85,11 @@ added-fewer p (q ∷ rows) r = go (is_le (row_cmp r q)) refl (cases_Bool (p q)) 
     go false e (inr f) of_r rest = rw (e, f) rest
 
 fits-last : (genome : Sequences) (width : ℕ) (rows : List Row) → All (Fits genome width) rows → (q : Row) → Mem q rows → q.start < q.stop
-fits-last genome width rows fit q m = let fits = all-mem (Fits genome width) rows fit q m in fits.lies.some
+fits-last genome width rows fit q m = let fits = all-mem (Fits genome width) rows fit q m in fits.is_placed.some
 
 fits-last_more : (genome : Sequences) (width : ℕ) (less rows : List Row) (r : Row) → HasOneMore less r rows → All (Fits genome width) less → Fits genome width r → (q : Row) → Mem q rows → q.start < q.stop
 fits-last_more genome width less rows r more fit fits q m = elim (more.cases q m) [
-  | inl at ↦ subst (λ (x : Row). x.start < x.stop) at fits.lies.some
+  | inl at ↦ subst (λ (x : Row). x.start < x.stop) at fits.is_placed.some
   | inr old ↦ fits-last genome width less fit q old
 ]
 

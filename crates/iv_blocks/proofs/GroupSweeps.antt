@@ -315,6 +315,6 @@ pub swept-from : (o : KeptBlocks) (genome : Sequences) (rows : List Row) (g : Gr
     → All (λ r. r.stop ≤ to) (members_between g from to rows) → IsSwept o genome rows g from to
 swept-from o genome rows g from to width order fit stops = record {
   ordered = order;
-  lasting = λ q m. (all-mem (Fits genome width) rows fit q m).lies.some;
+  lasting = λ q m. (all-mem (Fits genome width) rows fit q m).is_placed.some;
   stops = all-mem (λ r. r.stop ≤ to) (members_between g from to rows) stops;
 }

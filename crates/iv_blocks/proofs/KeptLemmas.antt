@@ -112,14 +112,14 @@ module _ (o : Options) (g : Sequences) (width : ℕ) (rows : List Row) (fit : Al
   -- no block starts past the end of its sequence
   pub none-past : (s : ℕ) (t : Bool) (p : ℕ) → sequence_length g s ≤ p → kept_at o (names_of g) rows (s, t, p) ≡ None
   none-past s t p high = no_block s t p (λ q m rank at.
-      let lies = (all-mem (Fits g width) rows fit q m).lies in
-      let stop : q.stop ≤ sequence_length g s = rw rank at lies.within.1 in
-      omega (arith, lies.some, stop, at, high))
+      let is_placed = (all-mem (Fits g width) rows fit q m).is_placed in
+      let stop : q.stop ≤ sequence_length g s = rw rank at is_placed.within.1 in
+      omega (arith, is_placed.some, stop, at, high))
 
   -- nor past the last sequence
   pub none-later : (s : ℕ) (t : Bool) (p : ℕ) → seq_count g ≤ s → kept_at o (names_of g) rows (s, t, p) ≡ None
   none-later s t p high = no_block s t p (λ q m rank at.
-      let low : q.seq < length g = (all-mem (Fits g width) rows fit q m).lies.within.0 in
+      let low : q.seq < length g = (all-mem (Fits g width) rows fit q m).is_placed.within.0 in
       omega (arith, low, rank, high))
 
   -- the entries are the definition's blocks, in order

@@ -20,3 +20,11 @@ pub mod GapLemmas
 pub mod ComplementLemmas
 pub mod ClusterLemmas
 pub mod NumberLemmas
+pub mod ComingLemmas
+pub mod MergeTexts
+pub mod ComplementTexts
+pub mod ClusterTexts
+pub mod SideLemmas
+pub mod SequenceLemmas
+pub mod RoomLemmas
+pub mod TextLemmas

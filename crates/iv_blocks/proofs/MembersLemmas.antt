@@ -148,11 +148,11 @@ past-none p rank to r rows on h past = filter-none _ (r ∷ rows) (λ q m. false
     ] in
     elim past [
       | inl other ↦ elim before [
-        | inl stands ↦ elim stands [ inl less ↦ omega arith | inr equal ↦ other (omega (arith, equal.0)) ]
+        | inl is_there ↦ elim is_there [ inl less ↦ omega arith | inr equal ↦ other (omega (arith, equal.0)) ]
         | inr same ↦ other (ap (λ (k : Row). k.seq) same ∙ at)
       ]
       | inr end ↦ elim before [
-        | inl stands ↦ elim stands [ inl less ↦ omega arith | inr equal ↦ omega (arith, equal.1) ]
+        | inl is_there ↦ elim is_there [ inl less ↦ omega arith | inr equal ↦ omega (arith, equal.1) ]
         | inr same ↦ omega (arith, ap (λ (k : Row). k.start) same)
       ]
     ]))

@@ -6,7 +6,7 @@ use Rattle.std.specs.Prelude.{sum}
 use Rattle.std.proofs.lemmas.Bool.{cases_lt, cases_eq, both_ways, cond-true, false_from_ne_true}
 use Rattle.std.proofs.lemmas.List.Sums.{sum-map, sum_by-append, sum_by-cons}
 use Rattle.iv_text.specs.Genome.{Sequences, sequence_length}
-use Rattle.iv_text.specs.Read.{LiesOn}
+use Rattle.iv_text.specs.Read.{IsOnGenome}
 use Rattle.iv_text.specs.Row.{Row}
 use Rattle.iv_cover.specs.BlockLaws.{BelongsTo}
 use Rattle.iv_cover.specs.Blocks.{is_block_start, block_at, block_stop, members}
@@ -68,7 +68,7 @@ total-rise h m (suc n) low = elim (cases_eq m (suc n)) [
   | inr ne ↦ omega (arith, total-rise h m n (omega arith), total-more h n)
 ]
 
-module _ (d : ℕ) (g : Sequences) (rows : List Row) (lie : All (LiesOn g) rows) where
+module _ (d : ℕ) (g : Sequences) (rows : List Row) (lie : All (IsOnGenome g) rows) where
   -- the block that starts at a position of a sequence
   abbrev pub at : ℕ → ℕ → Option (ℕ × (ℕ × List Row))
   at s x = option_map (λ b. (x, b)) (block_at start_of stop_of d (on s rows) x)
@@ -102,8 +102,8 @@ module _ (d : ℕ) (g : Sequences) (rows : List Row) (lie : All (LiesOn g) rows)
   later-sequence : (q r : Row) → Contains rows q → Contains rows r → q.seq < r.seq → block_number d g rows q < block_number d g rows r
   later-sequence q r here there low =
       let h : ℕ → ℕ = λ rank. blocks_before d rows rank (sequence_length g rank) in
-      let lies = all-mem (LiesOn g) rows lie q (contains-mem rows q here) in
-      let fits : q.start + 1 ≤ sequence_length g q.seq = omega (arith, lies.some, lies.within.1) in
+      let is_placed = all-mem (IsOnGenome g) rows lie q (contains-mem rows q here) in
+      let fits : q.start + 1 ≤ sequence_length g q.seq = omega (arith, is_placed.some, is_placed.within.1) in
       let within = values-rise (at q.seq) (q.start + 1) (sequence_length g q.seq) fits in
       let first = values-grow (at r.seq) 0 (own r) (suc (own r)) _ (omega arith) (omega arith) (own-block r there) in
       omega (arith, within, first, own-number r, total-more h q.seq, total-rise h (suc q.seq) r.seq (omega arith))

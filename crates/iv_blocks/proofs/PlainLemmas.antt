@@ -7,13 +7,13 @@ use Rattle.std.proofs.lemmas.Iterator.Consumers.{YieldsList-from_shown}
 use Rattle.std.proofs.lemmas.List.Elements.{All-weaker}
 use Rattle.iv_text.specs.Genome.{Sequences, seq_count, sequence_name, sequence_length}
 use Rattle.iv_text.specs.Named.{names_of}
-use Rattle.iv_text.specs.Read.{Fits, LiesOn}
+use Rattle.iv_text.specs.Read.{Fits, IsOnGenome}
 use Rattle.iv_text.specs.Row.{Row}
 use Rattle.iv_cover.specs.Blocks.{blocks_below}
 use Rattle.iv_cover.specs.TrackBlocks.{Group, on, start_of, stop_of, block_on, blocks_on, blocks_of}
 use Rattle.iv_cover.proofs.Tests.{filter-agree}
 use Rattle.iv_track.specs.Entries.{IsLedger, value_at}
-use Rattle.iv_summary.specs.Columns.{results_over}
+use Rattle.iv_cover.specs.Columns.{results_over}
 use Rattle.iv_blocks.specs.Groups.{is_in_group, group, sides, listed}
 use Rattle.iv_blocks.specs.KeptBlocks.{Key, Entries, key_cmp, kept_at}
 use Rattle.iv_blocks.specs.Plain.{plain_entry, GivesKept}
@@ -23,8 +23,8 @@ use Rattle.iv_blocks.proofs.InOrderLemmas.{all-ordered, all-look}
 use Rattle.iv_blocks.proofs.KeptLemmas.{flat_map-agree, side_blocks, entry_of, sides-are, none-past, none-later}
 
 -- records that fit a genome lie on it
-pub all-lie : (g : Sequences) (width : ℕ) (rows : List Row) → All (Fits g width) rows → All (LiesOn g) rows
-all-lie g width rows fit = All-weaker (Fits g width) (LiesOn g) (λ r fits. fits.lies) rows fit
+pub all-lie : (g : Sequences) (width : ℕ) (rows : List Row) → All (Fits g width) rows → All (IsOnGenome g) rows
+all-lie g width rows fit = All-weaker (Fits g width) (IsOnGenome g) (λ r fits. fits.is_placed) rows fit
 
 pub map-flat_map : {X Y Z : Type 0} (h : Y → Z) (f : X → List Y) (xs : List X) → map h (flat_map f xs) ≡ flat_map (λ x. map h (f x)) xs
 map-flat_map h f [] = refl

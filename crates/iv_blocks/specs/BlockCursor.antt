@@ -1,18 +1,20 @@
 -- A walk over kept blocks, one read ahead. This is the state of a print, as seen by its proof, and no part of what is promised.
-use Rattle.std.specs.Prelude.{◌≡◌, ℕ, ◌+◌, ◌≤◌, ◌==◌, ◌&&◌, ◌||◌, nat_le, nat_lt, Bool, true, false, if◌then◌else◌, List, [], ◌∷◌, ◌++◌, Option, Some, None, map, length, drop}
-use Rattle.std.specs.List.{prefix_len}
+use Rattle.std.specs.Prelude.{◌≡◌, ℕ, zero, suc, ◌+◌, ◌≤◌, ◌==◌, ◌&&◌, ◌||◌, nat_le, nat_lt, Bool, true, false, if◌then◌else◌, List, [], ◌∷◌, ◌++◌, Option, Some, None, map, length, drop}
+use Rattle.std.specs.List.{flat_map, prefix_len, take_while}
+use Rattle.iv_text.specs.Genome.{Sequences, sequence_length, sequence_name}
 use Rattle.iv_cover.specs.Runs.{Run}
 use Rattle.iv_cover.specs.declared.block.Block.{Block}
+use Rattle.iv_blocks.specs.ComplementRows.{gap_row}
 use Rattle.iv_blocks.specs.KeptBlocks.{Key, Kept, Entries}
 
 -- where a kept block is
-abbrev pub lies_at : Key × Kept → Block
-lies_at e = record { sequence = e.0.0; start = e.0.2; stop = e.1.stop }
+abbrev pub interval_of : Key × Kept → Block
+interval_of e = record { sequence = e.0.0; start = e.0.2; stop = e.1.stop }
 
 -- the block that was read ahead, if there is one, and those that are left
 abbrev pub ahead_of : Option Block → Entries → List Block
-ahead_of None entries = map lies_at entries
-ahead_of (Some b) entries = b ∷ map lies_at entries
+ahead_of None entries = map interval_of entries
+ahead_of (Some b) entries = b ∷ map interval_of entries
 
 -- the block starts at this position of the sequence of this rank, or before it
 abbrev pub starts_until : ℕ → ℕ → Block → Bool
@@ -45,3 +47,14 @@ gap_between from to = if nat_lt from to then record { start = from; stop = to; v
 abbrev pub gaps_between : Bool → ℕ → ℕ → List Block → List Run
 gaps_between shown from to [] = if shown then gap_between from to else []
 gaps_between shown from to (b ∷ blocks) = gap_between from b.start ++ gaps_between true b.stop to blocks
+
+-- the rows of the gaps of one sequence, with these blocks on it
+abbrev pub sequence_text : Bool → Sequences → ℕ → List Block → List ℕ
+sequence_text wanted g rank blocks = flat_map (gap_row (sequence_name g rank)) (gaps_between wanted 0 (sequence_length g rank) blocks)
+
+-- the rows of the gaps of so many sequences from this rank on, with the blocks that are still to come
+unfoldable pub texts : Bool → Sequences → ℕ → ℕ → List Block → List ℕ
+texts wanted g rank zero blocks = []
+texts wanted g rank (suc n) blocks =
+    sequence_text wanted g rank (take_while (starts_until rank (sequence_length g rank)) blocks)
+    ++ texts wanted g (rank + 1) n (drop_while (starts_until rank (sequence_length g rank)) blocks)

@@ -2,10 +2,10 @@
 use Rattle.std.specs.Prelude.{ℕ, ◌+◌, ◌-◌, ◌++◌, length, replicate, slice_set, ◌==◌, ◌&&◌, nat_le, nat_lt, Bool, true, false, not, List, [], ◌∷◌, filter, take, Option, None, Some, if◌then◌else◌}
 use Rattle.iv_text.specs.Row.{Row}
 use Rattle.iv_text.specs.declared.strand.Strand.{Strand}
-use Rattle.iv_summary.specs.declared.column.Column.TheVariants.{Sequence}
-use Rattle.iv_summary.specs.declared.column.ColumnSummary.{ColumnSummary}
+use Rattle.iv_cover.specs.declared.column.Column.TheVariants.{Sequence}
+use Rattle.iv_cover.specs.declared.column.ColumnSummary.{ColumnSummary}
 use Rattle.iv_blocks.specs.declared.group.Group.{Group}
-use Rattle.iv_summary.specs.declared.op.Op.TheVariants.{Count}
+use Rattle.iv_cover.specs.declared.op.Op.TheVariants.{Count}
 use Rattle.iv_blocks.specs.declared.options.Options.{Options}
 use Rattle.iv_blocks.specs.declared.options.Summaries.{Summaries}
 use Rattle.iv_text.specs.declared.strand.Strand.TheVariants.{Plus, Minus, Dot}

@@ -7,8 +7,8 @@ use Rattle.iv_text.specs.Row.{Row}
 use Rattle.iv_track.specs.Entries.{IsLedger, value_at}
 use Rattle.iv_cover.specs.Blocks.{last_passing, is_block_start, block_stop, block_at}
 use Rattle.iv_cover.specs.TrackBlocks.{start_of, stop_of}
-use Rattle.iv_summary.specs.Columns.{results_over}
-use Rattle.iv_summary.specs.declared.column.ColumnSummary.{ColumnSummary}
+use Rattle.iv_cover.specs.Columns.{results_over}
+use Rattle.iv_cover.specs.declared.column.ColumnSummary.{ColumnSummary}
 use Rattle.iv_blocks.specs.Groups.{is_on_side, group, listed}
 use Rattle.iv_blocks.specs.declared.options.Options.{Options}
 

@@ -9,3 +9,7 @@ pub mod BlockCursor
 pub mod MergeRows
 pub mod ClusterRows
 pub mod ComplementRows
+pub mod PlainOptions
+pub mod BlockSweeps
+pub mod Sides
+pub mod MergeSweeps

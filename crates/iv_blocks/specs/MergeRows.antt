@@ -5,8 +5,8 @@ use Rattle.iv_text.specs.Genome.{Sequences, seq_count, sequence_name, sequence_l
 use Rattle.iv_text.specs.Row.{Row}
 use Rattle.iv_cover.specs.Blocks.{blocks_below}
 use Rattle.iv_cover.specs.TrackBlocks.{start_of, stop_of}
-use Rattle.iv_summary.specs.Columns.{results_over}
-use Rattle.iv_summary.specs.declared.column.ColumnSummary.{ColumnSummary}
+use Rattle.iv_cover.specs.Columns.{results_over}
+use Rattle.iv_cover.specs.declared.column.ColumnSummary.{ColumnSummary}
 use Rattle.iv_blocks.specs.Groups.{group, sides, listed}
 use Rattle.iv_blocks.specs.declared.options.Options.{Options}
 

@@ -2,9 +2,10 @@
 ghost use Rattle.std.specs.Prelude.{◌≡◌, [], None, map};
 ghost use Rattle.std.specs.Map.Iter.{TakesFirst};
 ghost use Rattle.iv_track.specs.Steps.{TakesUpTo};
-ghost use Rattle.iv_blocks.specs.BlockCursor.{lies_at, starts_until, GivesPassing, TakesForEach};
+ghost use Rattle.iv_blocks.specs.BlockCursor.{interval_of, starts_until};
 
 use crate::blocks::{Blocks, KeptBlock};
+use crate::gaps::BlocksAhead;
 use iv_cover::Block;
 use iv_track::{Meter, Walk};
 use std::alloc::Allocator;
@@ -35,26 +36,23 @@ impl<'a, A: Allocator + Copy> Model for BlockCursor<'a, A> {
 impl<'a, A: Allocator + Copy> BlockCursor<'a, A> {
     /// All blocks, from the first on. At most 2 steps.
     pub(crate) fn of(blocks: &'a Blocks<A>, meter: &mut Meter) -> BlockCursor<'a, A>
-        ensures all { result ≡ map lies_at blocks.now.entries }
+        ensures all { result ≡ map interval_of blocks.now.entries }
         ensures steps { TakesUpTo meter.old meter.new 2 }
     {
         let mut walk = blocks.ledger.walk(&(0, false, 0), meter);
         let next = read(&mut walk, meter);
         BlockCursor { walk, next }
     }
+}
 
-    /// The next block, where it starts at this position of the sequence of this rank, or before it.
-    ///
-    /// At most one step for a block, and none where there is no such block.
-    pub(crate) fn next_until(
-        &mut self,
-        rank: u32,
-        position: u64,
-        meter: &mut Meter,
-    ) -> Option<Block>
-        ensures next { GivesPassing (starts_until rank position) self.old result self.new }
-        ensures steps { TakesForEach meter.old meter.new self.old self.new }
-    {
+impl<'a, A: Allocator + Copy> BlocksAhead for BlockCursor<'a, A> {
+    type Meter = Meter;
+
+    ghost left = { λ blocks. blocks };
+
+    ghost steps = { λ meter. meter };
+
+    fn next_until(&mut self, rank: u32, position: u64, meter: &mut Meter) -> Option<Block> {
         let block = self.next?;
         if !is_until(block, rank, position) {
             return None;
@@ -76,7 +74,7 @@ fn read<A: Allocator + Copy>(
     walk: &mut Walk<'_, (u32, bool, u32), KeptBlock<A>>,
     meter: &mut Meter,
 ) -> Option<Block>
-    ensures next { TakesFirst (λ b. b) (map lies_at walk.old) result (map lies_at walk.new) }
+    ensures next { TakesFirst (λ b. b) (map interval_of walk.old) result (map interval_of walk.new) }
     ensures last { result ≡ None → walk.new ≡ [] }
     ensures step { TakesUpTo meter.old meter.new 1 }
 {

@@ -109,7 +109,7 @@ impl<A: Allocator + Copy> Kept<A> for Blocks<A> {
 }
 
 /// Where a record starts and stops.
-fn place(row: &RecordRef<'_>) -> (u32, u32)
+pub(crate) fn place(row: &RecordRef<'_>) -> (u32, u32)
     ensures { result ≡ (row.now.start, row.now.stop) }
 {
     row.law_of_place();

@@ -13,6 +13,7 @@ ghost use Rattle.iv_blocks.specs.MergeRows.{all_blocks};
 
 use crate::block_cursor::BlockCursor;
 use crate::blocks::Blocks;
+use crate::gaps::BlocksAhead;
 use iv_bytes::{Sink, WriteFault};
 use iv_text::{Genome, put_numbered};
 use iv_track::{Meter, Track};

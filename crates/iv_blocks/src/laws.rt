@@ -1,7 +1,7 @@
 //! Laws of the definitions: functions that do nothing, whose contracts are the laws.
 ghost use Rattle.std.specs.Prelude.{◌≡◌, ◌↔◌, ◌<◌, ◌≤◌, ℕ, List, All, Contains};
 ghost use Rattle.iv_text.specs.Genome.{Sequences};
-ghost use Rattle.iv_text.specs.Read.{LiesOn};
+ghost use Rattle.iv_text.specs.Read.{IsOnGenome};
 ghost use Rattle.iv_text.specs.Row.{Row};
 ghost use Rattle.iv_cover.specs.BlockLaws.{BelongsTo};
 ghost use Rattle.iv_cover.specs.Depth.{depth};
@@ -21,5 +21,5 @@ pub fn gaps_are_maximal()
 
 /// Two records of a cluster have one number exactly where they are in one block.
 pub fn numbers_are_of_blocks()
-    ensures { (d : ℕ) (g : Sequences) (rows : List Row) (q r : Row) → All (LiesOn g) rows → Contains rows q → Contains rows r → (block_number d g rows q ≡ block_number d g rows r) ↔ ((q.seq ≡ r.seq) × ((x : ℕ) × BelongsTo d (on r.seq rows) x q × BelongsTo d (on r.seq rows) x r)) }
+    ensures { (d : ℕ) (g : Sequences) (rows : List Row) (q r : Row) → All (IsOnGenome g) rows → Contains rows q → Contains rows r → (block_number d g rows q ≡ block_number d g rows r) ↔ ((q.seq ≡ r.seq) × ((x : ℕ) × BelongsTo d (on r.seq rows) x q × BelongsTo d (on r.seq rows) x r)) }
 {}

@@ -1,4 +1,5 @@
-//! Blocks of records, kept under edits, and their prints: merge, cluster and complement.
+//! Blocks of records, and the rows of merge, cluster and complement: from blocks that are kept under edits, or in one sweep over
+//! sorted records.
 #![tactic(auto)]
 
 mod block_cursor;
@@ -6,18 +7,30 @@ mod blocks;
 mod building;
 mod cluster;
 mod complement;
+mod gaps;
 mod group;
 mod laws;
 mod lookups;
 mod members;
 mod merge;
+mod merge_sweep;
 mod options;
 mod plain;
 mod putting;
 mod repair;
-mod rows;
+mod sequence;
+mod side;
+mod side_blocks;
+mod side_records;
+mod side_rows;
+mod sweep_cluster;
+mod sweep_complement;
+mod sweep_merge;
 
 pub use blocks::Blocks;
 pub use laws::{gaps_are_maximal, numbers_are_of_blocks};
+pub use merge_sweep::MergeSweep;
 pub use options::{Options, Summaries};
-pub use rows::{put_gap, put_interval};
+pub use sweep_cluster::put_cluster;
+pub use sweep_complement::put_complement;
+pub use sweep_merge::put_merge;

@@ -8,9 +8,8 @@ ghost use Rattle.iv_blocks.specs.KeptBlocks.{AreBlocksOf};
 ghost use Rattle.iv_blocks.specs.MergeRows.{all_blocks, merge_text};
 
 use crate::blocks::{Blocks, KeptBlock};
-use crate::rows::put_interval;
 use iv_bytes::{Sink, WriteFault, put_pieces};
-use iv_text::Genome;
+use iv_text::{Genome, put_interval};
 use iv_track::{Meter, Track};
 use std::alloc::Allocator;
 

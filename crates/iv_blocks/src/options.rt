@@ -2,7 +2,7 @@
 ghost use Rattle.std.specs.Prelude.{◌≡◌, [], nat_lt, IsTrue, IsFalse};
 ghost use Rattle.iv_blocks.specs.Groups.{listed, filled, pushed, joined as only_joined};
 
-use iv_summary::{Column, ColumnSummary, Op};
+use iv_cover::{Column, ColumnSummary, Op};
 
 /// The summaries that are asked of each block, at most 16, in the order of their columns of output.
 #[derive(Clone, Copy, Debug, PartialEq, Eq, Drop)]

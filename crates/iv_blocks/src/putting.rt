@@ -5,15 +5,15 @@ ghost use Rattle.iv_text.specs.Named.{names_of};
 ghost use Rattle.iv_text.specs.Read.{Fits};
 ghost use Rattle.iv_track.specs.Entries.{IsLedger};
 ghost use Rattle.iv_track.specs.Steps.{TakesUpTo};
-ghost use Rattle.iv_summary.specs.Columns.{results_over};
+ghost use Rattle.iv_cover.specs.Columns.{results_over};
 ghost use Rattle.iv_blocks.specs.Groups.{between, between_on, members_between, listed};
 ghost use Rattle.iv_blocks.specs.KeptBlocks.{key_cmp, results_of};
 ghost use Rattle.iv_blocks.specs.Putting.{ArePut, with_block};
 
-use crate::blocks::{Blocks, KeptBlock};
+use crate::blocks::{Blocks, KeptBlock, place};
 use crate::group::Group;
 use crate::members::Members;
-use iv_summary::results;
+use iv_cover::results;
 use iv_text::{Genome, Record};
 use iv_track::{Meter, Track};
 use std::alloc::{AllocError, Allocator};
@@ -49,9 +49,9 @@ impl<A: Allocator + Copy> Blocks<A> {
         let Some(first) = members.next(meter) else {
             return Ok(());
         };
-        let (mut start, mut stop) = place(first);
+        let (mut start, mut stop) = place(&first.as_ref());
         while let Some(row) = members.next(meter) {
-            let (next_start, next_stop) = place(row);
+            let (next_start, next_stop) = place(&row.as_ref());
             if u64::from(next_start) <= u64::from(stop) + distance {
                 stop = stop.max(next_stop);
             } else {
@@ -134,12 +134,4 @@ fn gather<'a, A: Allocator + Copy>(
         rows.push(row)?;
     }
     Ok(rows)
-}
-
-/// Where a record starts and stops.
-fn place<A: Allocator>(row: &Record<A>) -> (u32, u32)
-    ensures { result ≡ (row.now.start, row.now.stop) }
-{
-    row.law_of_place();
-    (row.start() as u32, row.stop() as u32)
 }

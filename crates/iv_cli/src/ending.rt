@@ -17,7 +17,7 @@ use std::io::{self, ErrorKind};
 pub enum Ending {
     /// All was done.
     Done,
-    /// Lines of the script were refused, and all else was done. The messages have told of each.
+    /// Lines of the script were refused, and all else was done. The messages name each.
     Refused,
     /// The words on the command line are wrong; the number of their fault in the table of faults.
     Words(u8),
@@ -98,7 +98,7 @@ impl From<(Slot, FileFault)> for Ending {
     ghost use Rattle.std.specs.Prelude.{◌≡◌};
     ghost use Rattle.iv_cli.specs.Endings.{ending_of_file};
 
-    ghost from_gives = { λ told ending. ending ≡ ending_of_file told.0 told.1 };
+    ghost from_gives = { λ why ending. ending ≡ ending_of_file why.0 why.1 };
 
     fn from((slot, fault): (Slot, FileFault)) -> Ending {
         match fault {
@@ -164,7 +164,7 @@ impl Ending {
     }
 
     /// Puts the line that tells of the ending, `bedkeep: TEXT` or `bedkeep: FILE: TEXT`, and nothing where all was
-    /// done or the messages have told of each refused line. The name is that of the file that is meant.
+    /// done or the messages name each refused line. The name is that of the file that is meant.
     pub fn put_line<S: Sink>(self, name: &[u8], sink: &mut S) -> Result<(), WriteFault>
         ensures { Puts (S.state sink.old) (S.state sink.new) result (line_of name.now self) }
     {

@@ -19,8 +19,8 @@ coming-joined d b r rs e =
     (cond-true (is_joined d b r) [] (b ∷ []) e) (cond-true (is_joined d b r) (joined b r) (block_of r) e)
 
 -- a record that closes it
-pub coming-parted : (d : ℕ) (b : Group) (r : Row) (rs : List Row) → is_joined d b r ≡ false
+pub coming-split_up : (d : ℕ) (b : Group) (r : Row) (rs : List Row) → is_joined d b r ≡ false
     → coming d (Some b) (r ∷ rs) ≡ b ∷ coming d None (r ∷ rs)
-coming-parted d b r rs e =
+coming-split_up d b r rs e =
     ap₂ (λ (l : List Group) (o : Group). l ++ coming d (Some o) rs)
     (cond-false (is_joined d b r) [] (b ∷ []) e) (cond-false (is_joined d b r) (joined b r) (block_of r) e)

@@ -15,3 +15,6 @@ pub mod RunsLemmas
 pub mod TilesLemmas
 pub mod EmptyLemmas
 pub mod EmptyMeanings
+pub mod DifferentLemmas
+pub mod FirstLemmas
+pub mod DistinctLemmas

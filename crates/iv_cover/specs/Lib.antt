@@ -5,3 +5,8 @@ pub mod BlockLaws
 pub mod Runs
 pub mod Depth
 pub mod Kept
+pub mod Summaries
+pub mod NumberFolds
+pub mod Columns
+pub mod Values
+pub mod Results

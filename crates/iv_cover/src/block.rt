@@ -1,8 +1,8 @@
 //! A block of records.
 ghost use Rattle.std.specs.Prelude.{◌≡◌, ◌+◌, ◌==◌, ◌&&◌, nat_le, max};
+ghost use Rattle.iv_text.specs.Row.{IsPlaced};
 
-use iv_text::Record;
-use std::alloc::Allocator;
+use iv_text::BedRecord;
 
 /// An interval that records cover: on the sequence of this rank, 0-based and half-open.
 #[derive(Clone, Copy, Debug, PartialEq, Eq)]
@@ -13,15 +13,15 @@ pub struct Block {
 }
 
 impl Block {
-    /// A block of one record.
-    pub(crate) fn of<A: Allocator>(next: &Record<A>) -> Block
-        ensures { result ≡ record { sequence = next.now.seq; start = next.now.start; stop = next.now.stop } }
+    /// A block of one record. That its place is of 32 bits is what `law_of_place` of each kind of record says.
+    pub fn of<R: BedRecord>(row: &R) -> Block
+        requires { IsPlaced (R.as_row row.now) }
+        ensures { result ≡ record { sequence = (R.as_row row.now).seq; start = (R.as_row row.now).start; stop = (R.as_row row.now).stop } }
     {
-        next.law_of_place();
         Block {
-            sequence: next.seq(),
-            start: next.start() as u32,
-            stop: next.stop() as u32,
+            sequence: row.seq(),
+            start: row.start() as u32,
+            stop: row.stop() as u32,
         }
     }
 

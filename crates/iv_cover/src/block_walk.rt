@@ -2,7 +2,7 @@
 ghost use Rattle.std.specs.Prelude.{◌≡◌, All};
 ghost use Rattle.iv_text.specs.Genome.{Sequences};
 ghost use Rattle.iv_text.specs.Ordered.{AreInOrder};
-ghost use Rattle.iv_text.specs.Read.{LiesOn};
+ghost use Rattle.iv_text.specs.Read.{IsOnGenome};
 ghost use Rattle.iv_cover.specs.TrackBlocks.{blocks_of, GivesFirst};
 
 use crate::block::Block;
@@ -40,7 +40,7 @@ impl<'a, A: Allocator + Copy> BlockWalk<'a, A> {
     /// They are the blocks of the definition for every genome that the records are on.
     pub fn of(rows: Rows<'a, A>, distance: u32) -> Self
         requires { AreInOrder rows }
-        ensures { (g : Sequences) → All (LiesOn g) rows.entry → result ≡ blocks_of distance g rows.entry }
+        ensures { (g : Sequences) → All (IsOnGenome g) rows.entry → result ≡ blocks_of distance g rows.entry }
     {
         BlockWalk {
             rows,
@@ -57,8 +57,10 @@ impl<'a, A: Allocator + Copy> BlockWalk<'a, A> {
             Some(record) => record,
             None => self.rows.next(meter)?,
         };
+        first.law_of_place();
         let mut block = Block::of(first);
         while let Some(record) = self.rows.next(meter) {
+            record.law_of_place();
             let next = Block::of(record);
             if !block.is_joined_by(next, self.distance) {
                 self.ahead = Some(record);

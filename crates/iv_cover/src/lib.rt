@@ -1,15 +1,33 @@
-//! What records cover: blocks, depth, runs of positions; and the law of states that are kept of views.
+//! What records cover: blocks, depth and runs of positions; summaries of their columns; and the contract of states that are kept
+//! for views.
 #![tactic(auto)]
 
 mod block;
 mod block_walk;
+mod column;
+mod digits;
+mod distinct;
+mod growing_text;
 mod kept;
 mod laws;
+mod number;
+mod number_fold;
+mod op;
+mod putting;
+mod result_texts;
+mod value;
+mod values;
 
 pub use block::Block;
 pub use block_walk::BlockWalk;
+pub use column::{Column, ColumnSummary, asks_distinct};
 pub use kept::Kept;
 pub use laws::{
-    blocks_start_after_gaps, blocks_stop_with_their_last_record, gaps_part_blocks,
-    records_belong_to_one_block, runs_are_the_tiling,
+    blocks_start_after_gaps, blocks_stop_with_their_last_record, different_values_ascend,
+    gaps_separate_blocks, records_belong_to_one_block, runs_are_the_tiling,
 };
+pub use op::Op;
+pub use putting::put_results;
+pub use result_texts::{results, summary};
+pub use value::Value;
+pub use values::Values;

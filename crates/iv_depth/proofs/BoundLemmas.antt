@@ -12,43 +12,44 @@ use Rattle.std.proofs.lemmas.Bool.Decides.{eqb_tells}
 use Rattle.std.proofs.lemmas.List.Sums.{count_by-le-length}
 use Rattle.iv_text.specs.Row.{Row}
 use Rattle.iv_cover.specs.Depth.{covers, depth}
-use Rattle.iv_depth.specs.Changes.{Place, Entries, place_cmp, total, reaches, AreChangesOf, Bumps}
-use Rattle.iv_depth.proofs.ChangesLemmas.{place-same}
+use Rattle.iv_depth.specs.Changes.{Place, Entries, total, reaches, AreChangesOf, Bumps}
+use Rattle.iv_track.specs.Entries.{pair_cmp}
+use Rattle.iv_track.proofs.NumberOrder.{pair_same}
 
-place-tied : (k : Place) → is_at (place_cmp k) k ≡ true
+place-tied : (k : Place) → is_at (pair_cmp k) k ≡ true
 place-tied k =
     let a : nat_cmp k.0 k.0 ≡ Equal = tied_itself nat_cmp_total k.0 in
     let b : nat_cmp k.1 k.1 ≡ Equal = tied_itself nat_cmp_total k.1 in
     rw (a, b) refl
 
-total-none : (k : Place) (entries : Entries) → AllByRecursion (λ y. place_cmp k y ≡ Less) (keys_of entries)
-    → total (is_at (place_cmp k)) entries ≡ pos 0
+total-none : (k : Place) (entries : Entries) → AllByRecursion (λ y. pair_cmp k y ≡ Less) (keys_of entries)
+    → total (is_at (pair_cmp k)) entries ≡ pos 0
 total-none k [] h = refl
 total-none k (e ∷ entries) h =
-    let less : place_cmp k e.0 ≡ Less = h.0 in
-    let rest : total (is_at (place_cmp k)) entries ≡ pos 0 = total-none k entries h.1 in
+    let less : pair_cmp k e.0 ≡ Less = h.0 in
+    let rest : total (is_at (pair_cmp k)) entries ≡ pos 0 = total-none k entries h.1 in
     rw (less, rest) refl
 
 -- the change at a place is all that there is at it
-total-found : (k : Place) (entries : Entries) (z : ℤ) → IsStrictlySortedBy place_cmp (keys_of entries)
-    → lookup (is_at (place_cmp k)) entries ≡ Some z → total (is_at (place_cmp k)) entries ≡ z
+total-found : (k : Place) (entries : Entries) (z : ℤ) → IsStrictlySortedBy pair_cmp (keys_of entries)
+    → lookup (is_at (pair_cmp k)) entries ≡ Some z → total (is_at (pair_cmp k)) entries ≡ z
 unfolding IsStrictlySortedBy
 total-found k [] z sorted found = cc
-total-found k (e ∷ entries) z sorted found = go (λ there. total-found k entries z sorted.1 there) (is_at (place_cmp k) e.0) refl
+total-found k (e ∷ entries) z sorted found = go (λ there. total-found k entries z sorted.1 there) (is_at (pair_cmp k) e.0) refl
   where
-    go : (lookup (is_at (place_cmp k)) entries ≡ Some z → total (is_at (place_cmp k)) entries ≡ z)
-        → (b : Bool) → is_at (place_cmp k) e.0 ≡ b → total (is_at (place_cmp k)) (e ∷ entries) ≡ z
+    go : (lookup (is_at (pair_cmp k)) entries ≡ Some z → total (is_at (pair_cmp k)) entries ≡ z)
+        → (b : Bool) → is_at (pair_cmp k) e.0 ≡ b → total (is_at (pair_cmp k)) (e ∷ entries) ≡ z
     go further true is =
         let here : Some e.1 ≡ Some z = rw is at found in
         let value : e.1 ≡ z = cc in
-        let same : e.0 ≡ k = place-same k e.0 is in
-        let rest : total (is_at (place_cmp k)) entries ≡ pos 0
-        = total-none k entries (subst (λ (j : Place). AllByRecursion (λ y. place_cmp j y ≡ Less) (keys_of entries)) same sorted.0) in
+        let same : e.0 ≡ k = pair_same k e.0 is in
+        let rest : total (is_at (pair_cmp k)) entries ≡ pos 0
+        = total-none k entries (subst (λ (j : Place). AllByRecursion (λ y. pair_cmp j y ≡ Less) (keys_of entries)) same sorted.0) in
         rw is (omega (arith, ints, value, rest))
     go further false is = let rest = further (rw is at found) in rw is (omega (arith, ints, rest))
 
 -- a place elsewhere is reached by the next position where it is by this one
-reaches-elsewhere : (s p : ℕ) (place : Place) → is_at (place_cmp (s, p + 1)) place ≡ false → reaches s (p + 1) place ≡ reaches s p place
+reaches-elsewhere : (s p : ℕ) (place : Place) → is_at (pair_cmp (s, p + 1)) place ≡ false → reaches s (p + 1) place ≡ reaches s p place
 reaches-elsewhere s p place is = go (eqb_tells place.0 s)
   where
     go : ((eqb place.0 s ≡ true) × (place.0 ≡ s)) ⊎ ((eqb place.0 s ≡ false) × (place.0 ≢ s)) → reaches s (p + 1) place ≡ reaches s p place
@@ -62,15 +63,15 @@ reaches-elsewhere s p place is = go (eqb_tells place.0 s)
 
 -- up to the next position come the changes at it
 total-step : (s p : ℕ) (entries : Entries)
-    → total (reaches s (p + 1)) entries ≡ total (reaches s p) entries +ℤ total (is_at (place_cmp (s, p + 1))) entries
+    → total (reaches s (p + 1)) entries ≡ total (reaches s p) entries +ℤ total (is_at (pair_cmp (s, p + 1))) entries
 total-step s p [] = refl
-total-step s p (e ∷ entries) = go (total-step s p entries) (is_at (place_cmp (s, p + 1)) e.0) refl
+total-step s p (e ∷ entries) = go (total-step s p entries) (is_at (pair_cmp (s, p + 1)) e.0) refl
   where
-    go : total (reaches s (p + 1)) entries ≡ total (reaches s p) entries +ℤ total (is_at (place_cmp (s, p + 1))) entries
-        → (b : Bool) → is_at (place_cmp (s, p + 1)) e.0 ≡ b
-        → total (reaches s (p + 1)) (e ∷ entries) ≡ total (reaches s p) (e ∷ entries) +ℤ total (is_at (place_cmp (s, p + 1))) (e ∷ entries)
+    go : total (reaches s (p + 1)) entries ≡ total (reaches s p) entries +ℤ total (is_at (pair_cmp (s, p + 1))) entries
+        → (b : Bool) → is_at (pair_cmp (s, p + 1)) e.0 ≡ b
+        → total (reaches s (p + 1)) (e ∷ entries) ≡ total (reaches s p) (e ∷ entries) +ℤ total (is_at (pair_cmp (s, p + 1))) (e ∷ entries)
     go rest true is =
-        let same : e.0 ≡ (s, p + 1) = place-same (s, p + 1) e.0 is in
+        let same : e.0 ≡ (s, p + 1) = pair_same (s, p + 1) e.0 is in
         let on : reaches s (p + 1) e.0 ≡ true = rw (same, eq-eqb s s refl, le-leb (p + 1) (p + 1) (omega arith)) refl in
         let off : reaches s p e.0 ≡ false = rw (same, eq-eqb s s refl, lt-leb (p + 1) p (omega arith)) refl in
         rw (is, on, off) (omega (arith, ints, rest))
@@ -78,15 +79,15 @@ total-step s p (e ∷ entries) = go (total-step s p entries) (is_at (place_cmp (
         let alike : reaches s (p + 1) e.0 ≡ reaches s p e.0 = reaches-elsewhere s p e.0 is in
         rw (is, alike) (omega (arith, ints, rest))
 
-total-start : (s : ℕ) (entries : Entries) → total (reaches s 0) entries ≡ total (is_at (place_cmp (s, 0))) entries
+total-start : (s : ℕ) (entries : Entries) → total (reaches s 0) entries ≡ total (is_at (pair_cmp (s, 0))) entries
 total-start s [] = refl
-total-start s (e ∷ entries) = go (total-start s entries) (is_at (place_cmp (s, 0)) e.0) refl
+total-start s (e ∷ entries) = go (total-start s entries) (is_at (pair_cmp (s, 0)) e.0) refl
   where
-    go : total (reaches s 0) entries ≡ total (is_at (place_cmp (s, 0))) entries
-        → (b : Bool) → is_at (place_cmp (s, 0)) e.0 ≡ b
-        → total (reaches s 0) (e ∷ entries) ≡ total (is_at (place_cmp (s, 0))) (e ∷ entries)
+    go : total (reaches s 0) entries ≡ total (is_at (pair_cmp (s, 0))) entries
+        → (b : Bool) → is_at (pair_cmp (s, 0)) e.0 ≡ b
+        → total (reaches s 0) (e ∷ entries) ≡ total (is_at (pair_cmp (s, 0))) (e ∷ entries)
     go rest true is =
-        let same : e.0 ≡ (s, 0) = place-same (s, 0) e.0 is in
+        let same : e.0 ≡ (s, 0) = pair_same (s, 0) e.0 is in
         let on : reaches s 0 e.0 ≡ true = rw (same, eq-eqb s s refl) refl in
         rw (is, on) (omega (arith, ints, rest))
     go rest false is =
@@ -100,18 +101,18 @@ total-start s (e ∷ entries) = go (total-start s entries) (is_at (place_cmp (s,
             rw (on.0, lt-leb e.0.1 0 (omega (arith, other))) refl
 
 -- a change is the difference of two sums
-pub change-bounded : (entries : Entries) (n : ℕ) (place : Place) (z : ℤ) → IsStrictlySortedBy place_cmp (keys_of entries)
+pub change-bounded : (entries : Entries) (n : ℕ) (place : Place) (z : ℤ) → IsStrictlySortedBy pair_cmp (keys_of entries)
     → ((s p : ℕ) → (negsuc n ≤ℤ total (reaches s p) entries) × (total (reaches s p) entries ≤ℤ pos n))
-    → lookup (is_at (place_cmp place)) entries ≡ Some z → (negsuc (2 * n + 1) ≤ℤ z) × (z ≤ℤ pos (2 * n + 1))
+    → lookup (is_at (pair_cmp place)) entries ≡ Some z → (negsuc (2 * n + 1) ≤ℤ z) × (z ≤ℤ pos (2 * n + 1))
 change-bounded entries n place z sorted within found = go place.0 place.1 found
   where
-    go : (s p : ℕ) → lookup (is_at (place_cmp (s, p))) entries ≡ Some z → (negsuc (2 * n + 1) ≤ℤ z) × (z ≤ℤ pos (2 * n + 1))
+    go : (s p : ℕ) → lookup (is_at (pair_cmp (s, p))) entries ≡ Some z → (negsuc (2 * n + 1) ≤ℤ z) × (z ≤ℤ pos (2 * n + 1))
     go s zero found =
-        let at : total (is_at (place_cmp (s, 0))) entries ≡ z = total-found (s, 0) entries z sorted found in
+        let at : total (is_at (pair_cmp (s, 0))) entries ≡ z = total-found (s, 0) entries z sorted found in
         (omega (arith, ints, at, total-start s entries, within s 0), omega (arith, ints, at, total-start s entries, within s 0))
     go s (suc p) found =
-        let there : lookup (is_at (place_cmp (s, p + 1))) entries ≡ Some z = rw add-one found in
-        let at : total (is_at (place_cmp (s, p + 1))) entries ≡ z = total-found (s, p + 1) entries z sorted there in
+        let there : lookup (is_at (pair_cmp (s, p + 1))) entries ≡ Some z = rw add-one found in
+        let at : total (is_at (pair_cmp (s, p + 1))) entries ≡ z = total-found (s, p + 1) entries z sorted there in
         (omega (arith, ints, at, total-step s p entries, within s p, within s (p + 1)), omega (arith, ints, at, total-step s p entries, within s p, within s (p + 1)))
 
 pub AreChangesOf-within : (records : List Row) (entries : Entries) → AreChangesOf records entries
@@ -131,9 +132,9 @@ Bumps-within n old new place by h low high within s p = go (reaches s p place) (
     go true e = (omega (arith, ints, e, within s p), omega (arith, ints, e, within s p))
     go false e = (omega (arith, ints, e, within s p), omega (arith, ints, e, within s p))
 
-pub change-small : (entries : Entries) (n : ℕ) (place : Place) → IsStrictlySortedBy place_cmp (keys_of entries) → n < 2 ^ 38
+pub change-small : (entries : Entries) (n : ℕ) (place : Place) → IsStrictlySortedBy pair_cmp (keys_of entries) → n < 2 ^ 38
     → ((s p : ℕ) → (negsuc n ≤ℤ total (reaches s p) entries) × (total (reaches s p) entries ≤ℤ pos n))
-    → (z : ℤ) → lookup (is_at (place_cmp place)) entries ≡ Some z → (negsuc (2 ^ 40) ≤ℤ z) × (z ≤ℤ pos (2 ^ 40))
+    → (z : ℤ) → lookup (is_at (pair_cmp place)) entries ≡ Some z → (negsuc (2 ^ 40) ≤ℤ z) × (z ≤ℤ pos (2 ^ 40))
 change-small entries n place sorted few within z found =
     let b = change-bounded entries n place z sorted within found in
     (omega (arith, ints, b), omega (arith, ints, b))

@@ -1,6 +1,6 @@
 -- The changes of one sequence, and the depth that they lead to.
 use Rattle.std.proofs.Common.{◌≡◌, ◌≢◌, ℕ, ◌+◌, ◌-◌, ◌<◌, ◌≤◌, List, [], ◌∷◌, ◌⊎◌, refl, sym, ◌∙◌, ap, inl, inr, arith, leb, eqb, true, false, Bool, Less, Equal, nat_cmp}
-use Rattle.std.specs.Prelude.{ℤ, pos, ◌+ℤ◌, ◌-ℤ◌, All, nat_le, if◌then◌else◌}
+use Rattle.std.specs.Prelude.{ℤ, pos, ◌+ℤ◌, ◌-ℤ◌, All, if◌then◌else◌}
 use lib.IntN.{nat_abs}
 use Rattle.std.specs.List.{AllByRecursion}
 use Rattle.std.specs.List.Sorted.{IsStrictlySortedBy}
@@ -11,27 +11,9 @@ use Rattle.std.proofs.lemmas.Bool.Decides.{eqb_tells}
 use Rattle.std.proofs.lemmas.Cmp.{ranked, tied_itself}
 use Rattle.std.specs.Cmp.{nat_cmp_total}
 use Rattle.std.proofs.lemmas.List.Elements.{All-head, All-tail}
-use Rattle.iv_track.specs.Entries.{IsLedger}
-use Rattle.iv_depth.specs.Changes.{Place, Entries, place_cmp, total, reaches}
-
--- the sum of the changes at p and before
-abbrev pub level : List (ℕ × ℤ) → ℕ → ℤ
-level [] p = pos 0
-level (b ∷ breaks) p = (if nat_le b.0 p then b.1 else pos 0) +ℤ level breaks p
-
--- positions from `from` up to `to`, that one included, rising, each with a change that is not 0
-abbrev pub AreBreaks : ℕ → ℕ → List (ℕ × ℤ) → Type 0
-AreBreaks from to [] = from ≤ to + 1
-AreBreaks from to (b ∷ breaks) = (from ≤ b.0) × (b.0 ≤ to) × (b.1 ≢ pos 0) × AreBreaks (b.0 + 1) to breaks
-
--- from `from` on, f is this value and the changes that follow
-abbrev pub Follows : (ℕ → ℕ) → ℕ → ℤ → List (ℕ × ℤ) → Type 0
-Follows f from value breaks = (p : ℕ) → from ≤ p → value +ℤ level breaks p ≡ pos (f p)
-
--- the entries of one sequence, as positions and changes
-abbrev pub on : ℕ → Entries → List (ℕ × ℤ)
-on rank [] = []
-on rank (e ∷ entries) = if eqb e.0.0 rank then (e.0.1, e.1) ∷ on rank entries else on rank entries
+use Rattle.iv_track.specs.Entries.{IsLedger, pair_cmp}
+use Rattle.iv_depth.specs.Changes.{Place, Entries, total, reaches}
+use Rattle.iv_depth.specs.Walks.{on, level, AreBreaks, Follows}
 
 -- no break is before the first
 level-before : (from to : ℕ) (breaks : List (ℕ × ℤ)) (p : ℕ) → AreBreaks from to breaks → p < from → level breaks p ≡ pos 0
@@ -144,14 +126,14 @@ AreBreaks-rising from to value (b ∷ breaks) h low same = go (cases_lt to b.0)
         let before : level (b ∷ breaks) q ≡ pos 0 = level-unrisen b.0 (b ∷ breaks) q (omega arith, h.1, h.2) (omega arith) in
         absurd (h.1 (omega (arith, ints, at, none, before, same q (omega arith))))
 
-above : (rank : ℕ) (place next : Place) → place.0 ≡ rank → next.0 ≡ rank → place_cmp place next ≡ Less → place.1 < next.1
+above : (rank : ℕ) (place next : Place) → place.0 ≡ rank → next.0 ≡ rank → pair_cmp place next ≡ Less → place.1 < next.1
 above rank place next p n h =
     let tied : nat_cmp rank rank ≡ Equal = tied_itself nat_cmp_total rank in
     let by_position : nat_cmp place.1 next.1 ≡ Less = rw (p, n, tied) at h in
     ranked place.1 next.1 Less (sym by_position)
 
 Rising-past : (rank : ℕ) (place : Place) (entries : Entries) → place.0 ≡ rank
-    → AllByRecursion (λ next. place_cmp place next ≡ Less) (keys_of entries) → IsLedger place_cmp entries
+    → AllByRecursion (λ next. pair_cmp place next ≡ Less) (keys_of entries) → IsLedger pair_cmp entries
     → All (λ z. z ≢ pos 0) (values_of entries) → Rising (place.1 + 1) (on rank entries)
 unfolding IsStrictlySortedBy
 Rising-past rank place [] at later sorted changes = tt
@@ -168,7 +150,7 @@ Rising-past rank place (e ∷ entries) at later sorted changes =
       | inr off ↦ rw off.0 skip
     ]
 
-Rising-on : (rank : ℕ) (entries : Entries) → IsLedger place_cmp entries
+Rising-on : (rank : ℕ) (entries : Entries) → IsLedger pair_cmp entries
     → All (λ z. z ≢ pos 0) (values_of entries) → Rising 0 (on rank entries)
 unfolding IsStrictlySortedBy
 Rising-on rank [] sorted changes = tt
@@ -186,7 +168,7 @@ Rising-on rank (e ∷ entries) sorted changes =
     ]
 
 -- they are breaks up to where the sum is 0 for good
-pub AreBreaks-on : (rank to : ℕ) (entries : Entries) → IsLedger place_cmp entries → All (λ z. z ≢ pos 0) (values_of entries)
+pub AreBreaks-on : (rank to : ℕ) (entries : Entries) → IsLedger pair_cmp entries → All (λ z. z ≢ pos 0) (values_of entries)
     → ((p : ℕ) → to ≤ p → total (reaches rank p) entries ≡ pos 0) → AreBreaks 0 to (on rank entries)
 AreBreaks-on rank to entries sorted changes ends =
     AreBreaks-rising 0 to (pos 0) (on rank entries) (Rising-on rank entries sorted changes) (omega arith)

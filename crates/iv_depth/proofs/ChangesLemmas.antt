@@ -1,22 +1,22 @@
 -- Net changes under an edit.
-use Rattle.std.proofs.Common.{◌≡◌, ◌≢◌, All, sym, ap, ◌∙◌, ℕ, ◌+◌, ◌<◌, ◌≤◌, List, [], ◌∷◌, ◌⊎◌, refl, arith, leb, ltb, eqb, true, false, Bool, ◌&&◌, cond, Ordering, Less, Equal, Greater, nat_cmp, Some, None, inl, inr, Result, Ok, Err, Option, OnOk, IfErr}
+use Rattle.std.proofs.Common.{◌≡◌, ◌≢◌, All, sym, ap, ◌∙◌, ℕ, ◌+◌, ◌<◌, ◌≤◌, List, [], ◌∷◌, ◌⊎◌, refl, arith, leb, ltb, eqb, true, false, Bool, ◌&&◌, cond, Ordering, Less, Equal, Greater, Some, None, inl, inr}
 use Rattle.std.specs.Prelude.{ℤ, pos, negsuc, ◌+ℤ◌, if◌then◌else◌}
 use Rattle.std.proofs.lemmas.Int.{ints}
-use Rattle.std.proofs.lemmas.Bool.{cases_lt, lt-leb, le-leb, lt-ltb, le-ltb, false≢true}
+use Rattle.std.proofs.lemmas.Bool.{cases_lt, lt-leb, le-leb, lt-ltb, le-ltb}
 use Rattle.iv_text.specs.Row.{Row}
 use Rattle.iv_cover.specs.Depth.{covers}
 use Rattle.iv_cover.proofs.DepthLemmas.{depth-cons}
 use Rattle.std.specs.Map.{lookup, remove_entry, set_value, values_of}
 use Rattle.std.specs.Cmp.{IsTotalOrder}
 use Rattle.std.specs.List.Sorted.{IsStrictlySortedBy}
-use Rattle.std.proofs.lemmas.Cmp.{ranked, nat_cmp_total, then_total, on_total}
 use Rattle.std.proofs.lemmas.Map.{lookup-none}
 use Rattle.std.proofs.lemmas.Map.Entries.{none_below_head}
 use Rattle.std.proofs.lemmas.List.Elements.{All-head, All-tail, All-cons}
 use Rattle.std.proofs.lemmas.Map.Views.{All-values-insert_entry, All-values-set_value}
 use Rattle.std.specs.BTreeMap.{is_at, insert_entry}
-use Rattle.iv_track.specs.Entries.{IsLedger, value_at}
-use Rattle.iv_depth.specs.Changes.{Place, Entries, place_cmp, total, reaches, AreChangesOf, Bumps, Shifts}
+use Rattle.iv_track.proofs.NumberOrder.{pair_total, pair_same}
+use Rattle.iv_track.specs.Entries.{IsLedger, value_at, pair_cmp}
+use Rattle.iv_depth.specs.Changes.{Place, Entries, total, reaches, AreChangesOf, Bumps, Shifts}
 
 module _ {K : Type 0} (passes : K → Bool) where
   -- a new entry
@@ -126,20 +126,6 @@ AreChangesOf-removed r records entries after shift old = record {
     less true a b n m e f h = omega (arith, ints)
     less false a b n m e f h = omega (arith, ints)
 
--- only equal places tie
-pub place-same : (k x : Place) → is_at (place_cmp k) x ≡ true → x ≡ k
-place-same k x tie = go (nat_cmp k.0 x.0) refl (nat_cmp k.1 x.1) refl
-  where
-    go : (o : Ordering) → nat_cmp k.0 x.0 ≡ o → (o' : Ordering) → nat_cmp k.1 x.1 ≡ o' → x ≡ k
-    go Equal is Equal is' =
-        let rank : k.0 ≡ x.0 = ranked k.0 x.0 Equal (sym is) in
-        let position : k.1 ≡ x.1 = ranked k.1 x.1 Equal (sym is') in
-        rw (rank, position) refl
-    go Equal is Less is' = absurd (false≢true (rw (is, is') at tie))
-    go Equal is Greater is' = absurd (false≢true (rw (is, is') at tie))
-    go Less is o' is' = absurd (false≢true (rw is at tie))
-    go Greater is o' is' = absurd (false≢true (rw is at tie))
-
 All-values-remove_entry : {K : Type 0} (test : K → Bool) (P : ℤ → Type 0) (entries : List (K × ℤ)) → All P (values_of entries) → All P (values_of (remove_entry test entries))
 All-values-remove_entry test P [] all = all
 All-values-remove_entry test P (e ∷ entries) all = go (All-values-remove_entry test P entries (All-tail P e.1 (values_of entries) all)) (test e.0) refl
@@ -149,22 +135,22 @@ All-values-remove_entry test P (e ∷ entries) all = go (All-values-remove_entry
     go rest false is = rw is (All-cons P e.1 (values_of (remove_entry test entries)) (All-head P e.1 (values_of entries) all) rest)
 
 -- a place without a change gets one
-pub Bumps-insert_entry : (entries : Entries) (place : Place) (by : ℤ) → lookup (is_at (place_cmp place)) entries ≡ None
-    → by ≢ pos 0 → IsLedger place_cmp (insert_entry place_cmp entries place by) → Bumps entries (insert_entry place_cmp entries place by) place by
+pub Bumps-insert_entry : (entries : Entries) (place : Place) (by : ℤ) → lookup (is_at (pair_cmp place)) entries ≡ None
+    → by ≢ pos 0 → IsLedger pair_cmp (insert_entry pair_cmp entries place by) → Bumps entries (insert_entry pair_cmp entries place by) place by
 Bumps-insert_entry entries place by absent other ordered = record {
   ordered = ordered;
-  sums = λ passes. total-insert_entry passes place_cmp entries place by absent;
-  changes = λ all. All-values-insert_entry place_cmp place by (λ (z : ℤ). z ≢ pos 0) entries all other;
+  sums = λ passes. total-insert_entry passes pair_cmp entries place by absent;
+  changes = λ all. All-values-insert_entry pair_cmp place by (λ (z : ℤ). z ≢ pos 0) entries all other;
 }
 
 -- a change that becomes 0 is taken out
-pub Bumps-remove_entry : (entries : Entries) (place : Place) (old by : ℤ) → lookup (is_at (place_cmp place)) entries ≡ Some old
-    → old +ℤ by ≡ pos 0 → IsLedger place_cmp (remove_entry (is_at (place_cmp place)) entries)
-    → Bumps entries (remove_entry (is_at (place_cmp place)) entries) place by
+pub Bumps-remove_entry : (entries : Entries) (place : Place) (old by : ℤ) → lookup (is_at (pair_cmp place)) entries ≡ Some old
+    → old +ℤ by ≡ pos 0 → IsLedger pair_cmp (remove_entry (is_at (pair_cmp place)) entries)
+    → Bumps entries (remove_entry (is_at (pair_cmp place)) entries) place by
 Bumps-remove_entry entries place old by found none ordered = record {
   ordered = ordered;
-  sums = λ passes. sums _ (total passes entries) (passes place) (total-remove_entry passes (is_at (place_cmp place)) entries place old (place-same place) found);
-  changes = All-values-remove_entry (is_at (place_cmp place)) (λ (z : ℤ). z ≢ pos 0) entries;
+  sums = λ passes. sums _ (total passes entries) (passes place) (total-remove_entry passes (is_at (pair_cmp place)) entries place old (pair_same place) found);
+  changes = All-values-remove_entry (is_at (pair_cmp place)) (λ (z : ℤ). z ≢ pos 0) entries;
 }
   where
     sums : (a b : ℤ) (here : Bool) → a +ℤ (if here then old else pos 0) ≡ b → a ≡ b +ℤ (if here then by else pos 0)
@@ -172,21 +158,18 @@ Bumps-remove_entry entries place old by found none ordered = record {
     sums a b false e = omega (arith, ints)
 
 -- another change is set
-pub Bumps-set_value : (entries : Entries) (place : Place) (old by : ℤ) → lookup (is_at (place_cmp place)) entries ≡ Some old
-    → old +ℤ by ≢ pos 0 → IsLedger place_cmp (set_value (is_at (place_cmp place)) entries (old +ℤ by))
-    → Bumps entries (set_value (is_at (place_cmp place)) entries (old +ℤ by)) place by
+pub Bumps-set_value : (entries : Entries) (place : Place) (old by : ℤ) → lookup (is_at (pair_cmp place)) entries ≡ Some old
+    → old +ℤ by ≢ pos 0 → IsLedger pair_cmp (set_value (is_at (pair_cmp place)) entries (old +ℤ by))
+    → Bumps entries (set_value (is_at (pair_cmp place)) entries (old +ℤ by)) place by
 Bumps-set_value entries place old by found other ordered = record {
   ordered = ordered;
-  sums = λ passes. sums _ (total passes entries) (passes place) (total-set_value passes (is_at (place_cmp place)) entries place old (old +ℤ by) (place-same place) found);
-  changes = λ all. All-values-set_value (is_at (place_cmp place)) (λ (z : ℤ). z ≢ pos 0) entries (old +ℤ by) all other;
+  sums = λ passes. sums _ (total passes entries) (passes place) (total-set_value passes (is_at (pair_cmp place)) entries place old (old +ℤ by) (pair_same place) found);
+  changes = λ all. All-values-set_value (is_at (pair_cmp place)) (λ (z : ℤ). z ≢ pos 0) entries (old +ℤ by) all other;
 }
   where
     sums : (a b : ℤ) (here : Bool) → a +ℤ (if here then old else pos 0) ≡ b +ℤ (if here then old +ℤ by else pos 0) → a ≡ b +ℤ (if here then by else pos 0)
     sums a b true e = omega (arith, ints)
     sums a b false e = omega (arith, ints)
-
-pub place_total : IsTotalOrder place_cmp
-place_total = then_total (on_total (λ (p : Place). p.0) nat_cmp_total) (on_total (λ (p : Place). p.1) nat_cmp_total)
 
 -- ---- a change that is put where one is, and then taken out or set
 
@@ -234,33 +217,25 @@ lookup-set test (e ∷ entries) old new found = go (λ there. lookup-set test en
     go further true is = rw (is, is) refl
     go further false is = rw (is, is) (further (rw is at found))
 
-module _ (entries between after : Entries) (place : Place) (before by : ℤ) (ordered : IsLedger place_cmp entries)
-    (found : value_at place_cmp entries place ≡ Some before) (put : between ≡ insert_entry place_cmp entries place by) where
-  between-is : between ≡ set_value (is_at (place_cmp place)) entries by
-  between-is = put ∙ insert_entry-found place_cmp place_total entries place before by ordered found
+module _ (entries between after : Entries) (place : Place) (before by : ℤ) (ordered : IsLedger pair_cmp entries)
+    (found : value_at pair_cmp entries place ≡ Some before) (put : between ≡ insert_entry pair_cmp entries place by) where
+  between-is : between ≡ set_value (is_at (pair_cmp place)) entries by
+  between-is = put ∙ insert_entry-found pair_cmp pair_total entries place before by ordered found
 
   -- what was put is found
-  pub found-put : value_at place_cmp between place ≡ Some by
-  found-put = rw between-is (lookup-set (is_at (place_cmp place)) entries before by found)
+  pub found-put : value_at pair_cmp between place ≡ Some by
+  found-put = rw between-is (lookup-set (is_at (pair_cmp place)) entries before by found)
 
   -- the two changes at the place cancel
-  pub Bumps-taken : before +ℤ by ≡ pos 0 → after ≡ remove_entry (is_at (place_cmp place)) between → IsLedger place_cmp after → Bumps entries after place by
+  pub Bumps-taken : before +ℤ by ≡ pos 0 → after ≡ remove_entry (is_at (pair_cmp place)) between → IsLedger pair_cmp after → Bumps entries after place by
   Bumps-taken none taken sorted =
-      let is : after ≡ remove_entry (is_at (place_cmp place)) entries
-      = taken ∙ ap (remove_entry (is_at (place_cmp place))) between-is ∙ remove_entry-set_value (is_at (place_cmp place)) entries by in
+      let is : after ≡ remove_entry (is_at (pair_cmp place)) entries
+      = taken ∙ ap (remove_entry (is_at (pair_cmp place))) between-is ∙ remove_entry-set_value (is_at (pair_cmp place)) entries by in
       rw is (Bumps-remove_entry entries place before by found none (rw is at sorted))
 
   -- or their sum is set
-  pub Bumps-set : before +ℤ by ≢ pos 0 → after ≡ set_value (is_at (place_cmp place)) between (before +ℤ by) → IsLedger place_cmp after → Bumps entries after place by
+  pub Bumps-set : before +ℤ by ≢ pos 0 → after ≡ set_value (is_at (pair_cmp place)) between (before +ℤ by) → IsLedger pair_cmp after → Bumps entries after place by
   Bumps-set other set sorted =
-      let is : after ≡ set_value (is_at (place_cmp place)) entries (before +ℤ by)
-      = set ∙ ap (λ (l : Entries). set_value (is_at (place_cmp place)) l (before +ℤ by)) between-is ∙ set_value-twice (is_at (place_cmp place)) entries by (before +ℤ by) in
+      let is : after ≡ set_value (is_at (pair_cmp place)) entries (before +ℤ by)
+      = set ∙ ap (λ (l : Entries). set_value (is_at (pair_cmp place)) l (before +ℤ by)) between-is ∙ set_value-twice (is_at (pair_cmp place)) entries by (before +ℤ by) in
       rw is (Bumps-set_value entries place before by found other (rw is at sorted))
-
--- a write of a change that is there is done
-pub set_gives : (res : Result ℤ ℤ) (at : Option ℤ) (n m : ℤ) (P : Type 0) → at ≡ Some n → OnOk res P → IfErr res (λ back. back ≡ m × (at ≡ None)) → P
-set_gives (Ok x) at n m P here done absent = done
-set_gives (Err x) at n m P here done absent = let none : at ≡ None = absent.1 in absurd (some_not_none n (sym here ∙ none))
-  where
-    some_not_none : (n : ℤ) → Some n ≡ None → ⊥
-    some_not_none n e = cc

@@ -4,7 +4,8 @@ use Rattle.std.specs.Prelude.{ℤ}
 use Rattle.std.specs.Map.Iter.{TakesFirst}
 use Rattle.std.specs.Ordering.{is_le, nat_cmp}
 use Rattle.iv_track.proofs.PlaceLemmas.{le_then, zero_le}
-use Rattle.iv_depth.specs.Changes.{Place, Entries, place_cmp}
+use Rattle.iv_depth.specs.Changes.{Place, Entries}
+use Rattle.iv_track.specs.Entries.{pair_cmp}
 use Rattle.iv_depth.specs.Walks.{ahead_of}
 
 -- what is read ahead, and what is left, are all
@@ -13,8 +14,8 @@ ahead-read old new None took = took.1 ∙ sym took.0
 ahead-read old new (Some e) took = sym took
 
 -- no place is before the first
-pub filter-from_first : (entries : Entries) → filter (λ e. is_le (place_cmp (0, 0) e.0)) entries ≡ entries
+pub filter-from_first : (entries : Entries) → filter (λ e. is_le (pair_cmp (0, 0) e.0)) entries ≡ entries
 filter-from_first [] = refl
 filter-from_first (e ∷ entries) =
-    let at : is_le (place_cmp (0, 0) e.0) ≡ true = le_then (nat_cmp 0 e.0.0) (nat_cmp 0 e.0.1) (zero_le e.0.0) (zero_le e.0.1) in
+    let at : is_le (pair_cmp (0, 0) e.0) ≡ true = le_then (nat_cmp 0 e.0.0) (nat_cmp 0 e.0.1) (zero_le e.0.0) (zero_le e.0.1) in
     rw at (ap (λ (l : Entries). e ∷ l) (filter-from_first entries))

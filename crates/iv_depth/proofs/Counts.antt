@@ -11,7 +11,8 @@ use Rattle.iv_cover.specs.Runs.{Run, runs}
 use Rattle.iv_depth.specs.DepthRows.{covered_runs}
 use Rattle.iv_depth.specs.Changes.{Place, Entries}
 use Rattle.iv_depth.proofs.Stretches.{runs-one, runs-split}
-use Rattle.iv_depth.proofs.Breaks.{on, AreBreaks, Follows, Follows-end, Step-at}
+use Rattle.iv_depth.specs.Walks.{on, AreBreaks, Follows}
+use Rattle.iv_depth.proofs.Breaks.{Follows-end, Step-at}
 
 -- 1 where a run above 0 is open
 abbrev open_runs : ℤ → ℕ

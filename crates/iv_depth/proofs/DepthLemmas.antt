@@ -10,17 +10,19 @@ use Rattle.std.specs.List.Sorted.{IsStrictlySortedBy}
 use Rattle.std.specs.Ordering.{is_le}
 use Rattle.iv_text.specs.Genome.{Sequences, seq_count, sequence_length}
 use Rattle.iv_text.specs.Ordered.{added}
-use Rattle.iv_text.specs.Read.{Fits}
+use Rattle.std.specs.List.{AllByRecursion}
+use Rattle.iv_text.specs.Read.{Fits, IsOnGenome}
 use Rattle.iv_text.specs.Row.{Row, row_cmp}
 use Rattle.iv_text.proofs.OrderedLemmas.{length-added}
 use Rattle.iv_cover.specs.Depth.{covers, depth}
 use Rattle.iv_depth.specs.Changes.{Entries, AreChanges, AreChangesOf}
 use Rattle.iv_depth.specs.DepthRows.{covered_runs, all_covered_runs, text_by, depth_text}
 use Rattle.iv_depth.specs.declared.depth_rows.DepthRows.{DepthRows}
-use Rattle.iv_depth.specs.Walks.{AreOnGenome, depth_by}
+use Rattle.iv_depth.specs.Walks.{on, AreAhead, depth_by}
 use Rattle.iv_cover.proofs.RunsLemmas.{runs-none}
 use Rattle.iv_cover.proofs.DepthLemmas.{depth-cons}
-use Rattle.iv_depth.proofs.Breaks.{on, AreBreaks-on, Follows-on}
+use Rattle.iv_depth.proofs.Sequences.{AreAhead-begin}
+use Rattle.iv_depth.proofs.Breaks.{AreBreaks-on, Follows-on}
 use Rattle.iv_depth.proofs.Counts.{breaks-few, entries-few}
 
 -- ---- the depth is the same whatever the order of the records
@@ -58,8 +60,8 @@ pub AreChangesOf-in_front : (rows : List Row) (r : Row) (entries : Entries) → 
 AreChangesOf-in_front rows r entries h = AreChangesOf-same (added rows r) (r ∷ rows) entries (λ rank p. sym (depth-with rows r rank p)) h
 
 -- or after
-pub AreChangesOf-behind : (rows : List Row) (r : Row) (entries : Entries) → AreChangesOf (r ∷ rows) entries → AreChangesOf (rows ++ r ∷ []) entries
-AreChangesOf-behind rows r entries h = AreChangesOf-same (r ∷ rows) (rows ++ r ∷ []) entries (λ rank p.
+pub AreChangesOf-others : (rows : List Row) (r : Row) (entries : Entries) → AreChangesOf (r ∷ rows) entries → AreChangesOf (rows ++ r ∷ []) entries
+AreChangesOf-others rows r entries h = AreChangesOf-same (r ∷ rows) (rows ++ r ∷ []) entries (λ rank p.
     let back : depth (rows ++ r ∷ []) rank p ≡ depth rows rank p + depth (r ∷ []) rank p = sum_by-append (λ x. cond (covers rank p x) 1 0) rows (r ∷ []) in
     omega (arith, back, depth-cons r rows rank p, depth-cons r [] rank p)) h
 
@@ -88,22 +90,27 @@ depth-past (r ∷ rows) rank to p fit past =
     cond-and_false true = refl
     cond-and_false false = refl
 
+pub depth-ends : (g : Sequences) (rows : List Row) → All (IsOnGenome g) rows → (rank p : ℕ) → sequence_length g rank ≤ p → depth rows rank p ≡ 0
+depth-ends g rows on_genome rank p past = depth-past rows rank (sequence_length g rank) p
+    (λ k d within is. subst (λ (s : ℕ). (get_or rows k d).stop ≤ sequence_length g s) is (on_genome k d within).within.1) past
+
+any-rank : (entries : Entries) → AllByRecursion (λ e. 0 ≤ e.0.0) entries
+any-rank [] = tt
+any-rank (e ∷ entries) = (omega arith, any-rank entries)
+
 module _ (g : Sequences) (width : ℕ) (rows : List Row) (entries : Entries) (fit : All (Fits g width) rows) (h : AreChangesOf rows entries) where
   depth-by : (rank p : ℕ) → depth_by entries rank p ≡ depth rows rank p
   depth-by rank p = ap nat_abs (h.depths rank p)
 
   ends : (rank p : ℕ) → sequence_length g rank ≤ p → depth rows rank p ≡ 0
-  ends rank p past = depth-past rows rank (sequence_length g rank) p
-      (λ k d within is. subst (λ (s : ℕ). (get_or rows k d).stop ≤ sequence_length g s) is (fit k d within).lies.within.1) past
+  ends = depth-ends g rows (λ k d within. (fit k d within).is_placed)
 
-  pub AreOnGenome-of : length rows < 2 ^ 32 → AreOnGenome g entries
-  AreOnGenome-of few = record {
-    ordered = h.ordered;
-    changes = h.changes;
-    depths = λ rank p. h.depths rank p ∙ ap pos (sym (depth-by rank p));
-    small = λ rank p. let low : depth rows rank p ≤ length rows = count_by-le-length (covers rank p) rows in omega (arith, depth-by rank p, low);
-    ends = λ rank p past. depth-by rank p ∙ ends rank p past;
-  }
+  -- all of them are ahead of a print
+  pub AreAhead-of : length rows < 2 ^ 32 → AreAhead g (depth_by entries) 0 0 0 entries
+  AreAhead-of few = AreAhead-begin g (depth_by entries) 0 entries h.ordered h.changes (any-rank entries)
+      (λ rank p low. h.depths rank p ∙ ap pos (sym (depth-by rank p)))
+      (λ rank p. let low : depth rows rank p ≤ length rows = count_by-le-length (covers rank p) rows in omega (arith, depth-by rank p, low))
+      (λ rank p past. depth-by rank p ∙ ends rank p past)
 
   -- the text by changes is that of the definition
   pub text-of : (shown : DepthRows) → text_by shown g (depth_by entries) ≡ depth_text shown g rows
@@ -117,7 +124,7 @@ module _ (g : Sequences) (width : ℕ) (rows : List Row) (entries : Entries) (fi
       (Follows-on rank (depth rows rank) entries (h.depths rank)) (ends rank))
       (λ rank high.
       let none : (p : ℕ) → 0 ≤ p → depth rows rank p ≡ 0 = λ p past. depth-past rows rank 0 p
-      (λ k d within is. let low : (get_or rows k d).seq < length g = (fit k d within).lies.within.0 in absurd (omega (arith, low, is))) past in
+      (λ k d within is. let low : (get_or rows k d).seq < length g = (fit k d within).is_placed.within.0 in absurd (omega (arith, low, is))) past in
       let few : length (on rank entries) ≤ 2 * length (covered_runs (depth rows rank) 0 0) = breaks-few (depth rows rank) 0 (on rank entries)
       (AreBreaks-on rank 0 entries h.ordered h.changes (λ p past. h.depths rank p ∙ ap pos (none p past)))
       (Follows-on rank (depth rows rank) entries (h.depths rank)) none in
@@ -147,7 +154,7 @@ pub IsBuilt-next : (rows left after : List Row) (r : Row) (entries new : Entries
 IsBuilt-next rows left after r entries new b is step = record {
   done = b.done ++ r ∷ [];
   all = b.all ∙ ap (λ (l : List Row). b.done ++ l) is ∙ sym (append_assoc b.done (r ∷ []) after);
-  right = AreChangesOf-behind b.done r new (step b.done b.right);
+  right = AreChangesOf-others b.done r new (step b.done b.right);
 }
 
 pub IsBuilt-end : (rows left : List Row) (entries : Entries) → left ≡ [] → IsBuilt rows left entries → AreChangesOf rows entries

@@ -8,3 +8,5 @@ pub mod Genomes
 pub mod Counts
 pub mod DepthLemmas
 pub mod Covered
+pub mod OrderLemmas
+pub mod EdgeLemmas

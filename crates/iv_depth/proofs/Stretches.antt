@@ -6,6 +6,8 @@ use Rattle.std.proofs.lemmas.Bool.{cases_lt, lt-ltb}
 use Rattle.std.proofs.lemmas.List.Elements.{filter-append}
 use Rattle.iv_cover.specs.Runs.{Run, runs}
 use Rattle.iv_cover.proofs.RunsLemmas.{runs-run, runs-none}
+use Rattle.std.specs.Prelude.{ℤ}
+use Rattle.iv_depth.specs.DepthChanges.{IsChange}
 use Rattle.iv_depth.specs.DepthRows.{run_row, position_row, covered_runs, rows_between}
 use Rattle.iv_depth.specs.declared.depth_rows.DepthRows.{DepthRows}
 use Rattle.iv_depth.specs.declared.depth_rows.DepthRows.TheVariants.{Covered, All, EachPosition}
@@ -83,6 +85,12 @@ rows-split All name f value from mid to low high same ends =
     ap (flat_map (run_row name)) (runs-split f value from mid to low high same ends)
     ∙ flat_map-append (run_row name) (runs (λ _. value) from mid) (runs f mid to)
 rows-split EachPosition name f value from mid to low high same ends = each-split (position_row name) f value from mid to low high same
+
+-- so it is at a change
+pub rows-next : (shown : DepthRows) (name : List ℕ) (f : ℕ → ℕ) (start to long d depth stop : ℕ) (c : ℕ × ℤ) → IsChange f start long d c → to ≡ long → depth ≡ d → stop ≡ c.0
+    → rows_between shown name f start to ≡ rows_between shown name (λ _. depth) start stop ++ rows_between shown name f stop to
+rows-next shown name f start to long d depth stop c s same_end same at =
+    rw (same_end, same, at) (rows-split shown name f d start c.0 long s.low s.high s.same (λ low _. s.other low))
 
 -- the last step: f is value on all that is left
 pub rows-end : (shown : DepthRows) (name : List ℕ) (f : ℕ → ℕ) (value from to : ℕ)

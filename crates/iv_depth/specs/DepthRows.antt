@@ -27,9 +27,13 @@ rows_between Covered name f from to = flat_map (run_row name) (covered_runs f fr
 rows_between All name f from to = flat_map (run_row name) (runs f from to)
 rows_between EachPosition name f from to = flat_map (λ p. position_row name p (f p)) (range_with_len from (to - from))
 
--- all rows of a depth by rank and position: those of each sequence, by rank
+-- the rows of a sequence, of a depth by rank and position
+abbrev pub sequence_text : DepthRows → Sequences → (ℕ → ℕ → ℕ) → ℕ → List ℕ
+sequence_text shown g f rank = rows_between shown (sequence_name g rank) (f rank) 0 (sequence_length g rank)
+
+-- all rows: those of each sequence, by rank
 abbrev pub text_by : DepthRows → Sequences → (ℕ → ℕ → ℕ) → List ℕ
-text_by shown g f = flat_map (λ rank. rows_between shown (sequence_name g rank) (f rank) 0 (sequence_length g rank)) (range_with_len 0 (seq_count g))
+text_by shown g f = flat_map (sequence_text shown g f) (range_with_len 0 (seq_count g))
 
 -- the rows of the records' depth
 abbrev pub depth_text : DepthRows → Sequences → List Row → List ℕ

@@ -1,3 +1,5 @@
 pub mod DepthRows
 pub mod Changes
+pub mod DepthChanges
 pub mod Walks
+pub mod Edges

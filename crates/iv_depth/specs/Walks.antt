@@ -1,56 +1,48 @@
 -- A walk over changes of depth, sequence by sequence. This is the state of a print, as seen by its proof, and no part of what is promised.
-use Rattle.std.specs.Prelude.{◌≡◌, ◌≢◌, ℕ, ◌+◌, ◌<◌, ◌≤◌, ◌^◌, ◌++◌, [], ◌∷◌, length, Option, Some, None, ℤ, pos, All}
+use Rattle.std.specs.Prelude.{◌≡◌, ◌≢◌, ℕ, ◌+◌, ◌==◌, ◌<◌, ◌≤◌, ◌^◌, if◌then◌else◌, nat_le, List, [], ◌∷◌, Option, Some, None, ℤ, pos, ◌+ℤ◌, All}
 use Rattle.std.specs.Int.RustNames.{unsigned_abs}
 use Rattle.std.specs.List.{AllByRecursion}
 use Rattle.std.specs.Map.{values_of}
 use Rattle.iv_text.specs.Genome.{Sequences, sequence_length}
-use Rattle.iv_track.specs.Entries.{IsLedger}
-use Rattle.iv_depth.specs.Changes.{Place, Entries, place_cmp, total, reaches}
+use Rattle.iv_track.specs.Entries.{IsLedger, pair_cmp}
+use Rattle.iv_depth.specs.Changes.{Place, Entries, total, reaches}
 
 -- the entry that was read ahead, if there is one, and those that are left
 abbrev pub ahead_of : Option (Place × ℤ) → Entries → Entries
 ahead_of None entries = entries
 ahead_of (Some e) entries = e ∷ entries
 
--- the first entry, if there is one, is not on the sequence of this rank
-abbrev pub BeginsElsewhere : ℕ → Entries → Type 0
-BeginsElsewhere rank [] = Unit {0}
-BeginsElsewhere rank (e ∷ entries) = e.0.0 ≢ rank
-
--- a call gave the first of the entries, which is on the sequence of this rank; or it gave none, as the first is not
-abbrev pub GivesOn : ℕ → Entries → Option (ℕ × ℤ) → Entries → Type 0
-GivesOn rank old (Some c) new = old ≡ ((rank, c.0), c.1) ∷ new
-GivesOn rank old None new = (new ≡ old) × BeginsElsewhere rank old
-
--- between the two readings of a meter is at most one step for each entry that is not left
-pub record TakesForEach (before after : ℕ) (all left : Entries) : Type 0 where
-  pub no_less : before ≤ after
-  pub at_most : after + length left ≤ before + length all
-
 -- the depth to which changes sum up to p
 abbrev pub depth_by : Entries → ℕ → ℕ → ℕ
 depth_by entries rank p = unsigned_abs (total (reaches rank p) entries)
 
--- the entries from the sequence of this rank on: they sum to a depth on it, which is 0 from its end on
-pub record AreFrom (rank to : ℕ) (entries : Entries) : Type 0 where
-  pub ordered : IsLedger place_cmp entries
+-- the entries of one sequence, as positions and changes
+abbrev pub on : ℕ → Entries → List (ℕ × ℤ)
+on rank [] = []
+on rank (e ∷ entries) = if e.0.0 == rank then (e.0.1, e.1) ∷ on rank entries else on rank entries
+
+-- the sum of the changes at p and before
+abbrev pub level : List (ℕ × ℤ) → ℕ → ℤ
+level [] p = pos 0
+level (b ∷ breaks) p = (if nat_le b.0 p then b.1 else pos 0) +ℤ level breaks p
+
+-- positions from `from` up to `to`, that one included, rising, each with a change that is not 0
+abbrev pub AreBreaks : ℕ → ℕ → List (ℕ × ℤ) → Type 0
+AreBreaks from to [] = from ≤ to + 1
+AreBreaks from to (b ∷ breaks) = (from ≤ b.0) × (b.0 ≤ to) × (b.1 ≢ pos 0) × AreBreaks (b.0 + 1) to breaks
+
+-- from `from` on, f is this value and the changes that follow
+abbrev pub Follows : (ℕ → ℕ) → ℕ → ℤ → List (ℕ × ℤ) → Type 0
+Follows f from value breaks = (p : ℕ) → from ≤ p → value +ℤ level breaks p ≡ pos (f p)
+
+-- the entries are the changes of the depth f by rank and position, which is 0 from the end of each sequence on: from this position of
+-- the sequence of this rank on, up to which the depth is d
+pub record AreAhead (g : Sequences) (f : ℕ → ℕ → ℕ) (rank from d : ℕ) (entries : Entries) : Type 0 where
+  pub ordered : IsLedger pair_cmp entries
   pub changes : All (λ z. z ≢ pos 0) (values_of entries)
   pub ranks : AllByRecursion (λ e. rank ≤ e.0.0) entries
-  pub depths : (p : ℕ) → total (reaches rank p) entries ≡ pos (depth_by entries rank p)
-  pub small : (p : ℕ) → depth_by entries rank p < 2 ^ 32
-  pub ends : (p : ℕ) → to ≤ p → depth_by entries rank p ≡ 0
-
--- the new entries are the old ones without those of this rank, which come first
-pub record IsPast (rank : ℕ) (old new : Entries) : Type 0 where
-  pub passed : Entries
-  pub all : old ≡ passed ++ new
-  pub here : AllByRecursion (λ e. e.0.0 ≡ rank) passed
-  pub later : AllByRecursion (λ e. rank + 1 ≤ e.0.0) new
-
--- the entries sum to a depth on each sequence, which is 0 from its end on
-pub record AreOnGenome (g : Sequences) (entries : Entries) : Type 0 where
-  pub ordered : IsLedger place_cmp entries
-  pub changes : All (λ z. z ≢ pos 0) (values_of entries)
-  pub depths : (rank p : ℕ) → total (reaches rank p) entries ≡ pos (depth_by entries rank p)
-  pub small : (rank p : ℕ) → depth_by entries rank p < 2 ^ 32
-  pub ends : (rank p : ℕ) → sequence_length g rank ≤ p → depth_by entries rank p ≡ 0
+  pub breaks : AreBreaks from (sequence_length g rank) (on rank entries)
+  pub follows : Follows (f rank) from (pos d) (on rank entries)
+  pub later : (other p : ℕ) → rank < other → total (reaches other p) entries ≡ pos (f other p)
+  pub small : (other p : ℕ) → f other p < 2 ^ 32
+  pub ends : (other p : ℕ) → sequence_length g other ≤ p → f other p ≡ 0

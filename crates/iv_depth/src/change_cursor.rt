@@ -2,9 +2,9 @@
 ghost use Rattle.std.specs.Prelude.{◌≡◌};
 ghost use Rattle.std.specs.Map.Iter.{TakesFirst};
 ghost use Rattle.iv_track.specs.Steps.{TakesUpTo};
-ghost use Rattle.iv_depth.specs.Walks.{GivesOn, TakesForEach};
 
 use crate::changing::Changes;
+use crate::depth_changes::DepthChanges;
 use iv_track::{Meter, Walk};
 use std::alloc::Allocator;
 use std::marker::Model;
@@ -44,14 +44,23 @@ impl<'a> ChangeCursor<'a> {
         let ahead = read(&mut walk, meter);
         ChangeCursor { walk, ahead }
     }
+}
 
-    /// The next change, where it is on the sequence of this rank: its position, and the change there.
-    ///
-    /// At most one step for a change, and none where there is no change.
-    pub(crate) fn next_on(&mut self, rank: u32, meter: &mut Meter) -> Option<(u32, i64)>
-        ensures next { GivesOn rank self.old result self.new }
-        ensures steps { TakesForEach meter.old meter.new self.old self.new }
-    {
+impl<'a> DepthChanges for ChangeCursor<'a> {
+    ghost use Rattle.std.specs.Prelude.{length};
+    ghost use Rattle.iv_depth.specs.Walks.{AreAhead};
+
+    type Meter = Meter;
+
+    ghost reading = { λ meter. meter };
+
+    ghost left = { λ entries. length entries };
+
+    ghost are_of = { λ entries g f rank from d. AreAhead g f rank from d entries };
+
+    ghost are_past = { λ entries g f rank. AreAhead g f rank 0 0 entries };
+
+    fn next_on(&mut self, rank: u32, meter: &mut Meter) -> Option<(u32, i64)> {
         let ((sequence, position), change) = self.ahead?;
         if sequence != rank {
             return None;

@@ -1,9 +1,9 @@
 //! Changes of depth under edits.
 ghost use Rattle.std.specs.Prelude.{◌≡◌, ◌≢◌, ℤ, pos, negsuc, ◌≤ℤ◌, ◌^◌, List, ◌∷◌, Some, OnOk};
 ghost use Rattle.iv_text.specs.Row.{Row};
-ghost use Rattle.iv_track.specs.Entries.{value_at};
+ghost use Rattle.iv_track.specs.Entries.{pair_cmp, value_at};
 ghost use Rattle.iv_track.specs.Steps.{TakesUpTo};
-ghost use Rattle.iv_depth.specs.Changes.{place_cmp, AreChanges, AreChangesOf, Bumps, Shifts};
+ghost use Rattle.iv_depth.specs.Changes.{AreChanges, AreChangesOf, Bumps, Shifts};
 
 use iv_text::RecordRef;
 use iv_track::{Ledger, Meter};
@@ -71,7 +71,7 @@ fn bump<A: Allocator + Copy>(
     meter: &mut Meter,
 ) -> Result<(), AllocError>
     requires by { (negsuc 0 ≤ℤ by) × (by ≤ℤ pos 1) × (by ≢ pos 0) }
-    requires small { (z : ℤ) → value_at place_cmp changes.old place ≡ Some z → (negsuc (2 ^ 40) ≤ℤ z) × (z ≤ℤ pos (2 ^ 40)) }
+    requires small { (z : ℤ) → value_at pair_cmp changes.old place ≡ Some z → (negsuc (2 ^ 40) ≤ℤ z) × (z ≤ℤ pos (2 ^ 40)) }
     ensures ok { OnOk result (Bumps changes.old changes.new place by) }
     ensures steps { TakesUpTo meter.old meter.new 2 }
 {

@@ -1,14 +1,18 @@
-//! How many records cover each position: rows of depth, and the changes of depth that are kept for them.
+//! How many records cover each position: rows of depth, from changes of depth that are kept, or in one sweep over sorted records.
 #![tactic(auto)]
 
 mod change_cursor;
 mod changing;
 mod depth;
+mod depth_changes;
 mod depth_rows;
+mod depth_sweep;
+mod edges;
 mod laws;
 mod printing;
+mod sweep_rows;
 
 pub use depth::Depth;
 pub use depth_rows::DepthRows;
+pub use depth_sweep::DepthSweep;
 pub use laws::{covered_rows_hold_covered_positions, depth_rows_tile_a_sequence};
-pub use printing::put_stretch;

@@ -3,12 +3,13 @@ ghost use Rattle.std.specs.Prelude.{ℕ, ◌++◌, ◌+◌, ◌-◌, ◌<◌, le
 ghost use Rattle.std.specs.List.{flat_map, range_with_len};
 ghost use Rattle.iv_bytes.specs.Sinks.{Puts};
 ghost use Rattle.iv_cover.specs.Runs.{Run, runs};
-ghost use Rattle.iv_depth.specs.DepthRows.{run_row, position_row, rows_between, text_by};
-ghost use Rattle.iv_depth.specs.Walks.{AreFrom, AreOnGenome, IsPast, TakesForEach, depth_by};
-ghost use Rattle.iv_track.specs.Steps.{TakesUpTo};
+ghost use Rattle.iv_depth.specs.DepthRows.{run_row, position_row, rows_between, sequence_text, text_by};
+ghost use Rattle.iv_depth.specs.Walks.{AreAhead, depth_by};
+ghost use Rattle.iv_track.specs.Steps.{TakesForEach, TakesUpTo};
 
 use crate::change_cursor::ChangeCursor;
 use crate::changing::Changes;
+use crate::depth_changes::DepthChanges;
 use crate::depth_rows::DepthRows;
 use iv_bytes::{Sink, WriteFault};
 use iv_text::{Genome, RowBuffer};
@@ -22,7 +23,7 @@ use std::alloc::Allocator;
 /// # Errors
 ///
 /// The sink failed. It has taken a prefix of the rows.
-pub fn put_stretch<S: Sink>(
+fn put_stretch<S: Sink>(
     shown: DepthRows,
     name: &[u8],
     start: u64,
@@ -59,14 +60,10 @@ fn put_run<S: Sink>(
     ensures { Puts (S.state sink.old) (S.state sink.new) result (run_row name.now (record { start = start; stop = stop; value = depth })) }
 {
     let mut tail = RowBuffer::new();
-    tail.lay_byte(b'\n');
+    tail.prepend_byte(b'\n');
     tail.prepend_number(depth);
-    tail.lay_byte(b'\t');
-    tail.prepend_number(stop);
-    tail.lay_byte(b'\t');
-    tail.prepend_number(start);
-    tail.lay_byte(b'\t');
-    tail.put_after(name, sink)
+    tail.prepend_byte(b'\t');
+    tail.put_after_numbers(name, start, stop, sink)
 }
 
 /// Puts a row for each of the positions, which are all of this depth.
@@ -95,32 +92,29 @@ fn put_position<S: Sink>(
     ensures { Puts (S.state sink.old) (S.state sink.new) result (name.now ++ codes "\t" ++ decimal number ++ codes "\t" ++ decimal depth ++ codes "\n") }
 {
     let mut tail = RowBuffer::new();
-    tail.lay_byte(b'\n');
-    tail.prepend_number(depth);
-    tail.lay_byte(b'\t');
-    tail.prepend_number(number);
-    tail.lay_byte(b'\t');
-    tail.put_after(name, sink)
+    tail.prepend_byte(b'\n');
+    tail.put_after_numbers(name, number, depth, sink)
 }
 
-/// Puts the rows of one sequence, and goes past its changes. At most one step for each of them.
-fn put_sequence<S: Sink>(
+/// Puts the rows of the sequence of this rank. At most one step for each change on it, and no memory.
+pub(crate) fn put_sequence<A: Allocator + Copy, C: DepthChanges, S: Sink>(
     shown: DepthRows,
-    name: &[u8],
+    genome: &Genome<A>,
     rank: u32,
-    length: u64,
-    coming: &mut ChangeCursor<'_>,
-    meter: &mut Meter,
+    changes: &mut C,
+    meter: &mut C::Meter,
     sink: &mut S,
 ) -> Result<(), WriteFault>
-    requires { AreFrom rank length coming.old }
-    ensures text { Puts (S.state sink.old) (S.state sink.new) result (rows_between shown name.now (depth_by coming.old rank) 0 length) }
-    ensures past { OnOk result (IsPast rank coming.old coming.new) }
-    ensures steps { TakesForEach meter.old meter.new coming.old coming.new }
+    requires { (f : ℕ → ℕ → ℕ) × C.are_of changes.old genome.now f rank 0 0 }
+    ensures text { (f : ℕ → ℕ → ℕ) → C.are_of changes.old genome.now f rank 0 0 → Puts (S.state sink.old) (S.state sink.new) result (sequence_text shown genome.now f rank) }
+    ensures past { (f : ℕ → ℕ → ℕ) → C.are_of changes.old genome.now f rank 0 0 → OnOk result (C.are_past changes.new genome.now f (rank + 1)) }
+    ensures steps { TakesForEach (C.reading meter.old) (C.reading meter.new) (C.left changes.old) (C.left changes.new) }
 {
+    let name = genome.name(rank).unwrap_or(b"");
+    let length = genome.length(rank).unwrap_or(0);
     let mut start: u64 = 0;
     let mut depth: i64 = 0;
-    while let Some((position, change)) = coming.next_on(rank, meter) {
+    while let Some((position, change)) = changes.next_on(rank, meter) {
         let stop = u64::from(position);
         put_stretch(shown, name, start, stop, depth.unsigned_abs(), sink)?;
         start = stop;
@@ -137,15 +131,13 @@ pub(crate) fn put_genome<A: Allocator + Copy, S: Sink>(
     meter: &mut Meter,
     sink: &mut S,
 ) -> Result<(), WriteFault>
-    requires { AreOnGenome genome.now changes.now }
+    requires { AreAhead genome.now (depth_by changes.now) 0 0 0 changes.now }
     ensures text { Puts (S.state sink.old) (S.state sink.new) result (text_by shown genome.now (depth_by changes.now)) }
     ensures steps { TakesUpTo meter.old meter.new (2 + length changes.now) }
 {
     let mut coming = ChangeCursor::of(changes, meter);
     for rank in 0..genome.count() {
-        let name = genome.name(rank).unwrap_or(b"");
-        let length = genome.length(rank).unwrap_or(0);
-        put_sequence(shown, name, rank, length, &mut coming, meter, sink)?;
+        put_sequence(shown, genome, rank, &mut coming, meter, sink)?;
     }
     Ok(())
 }

@@ -1,18 +1,17 @@
 -- The sequences that headers and the bases after them say.
-use Rattle.std.proofs.Common.{◌≡◌, ℕ, zero, suc, ◌+◌, ◌-◌, ◌<◌, ◌≤◌, List, [], ◌∷◌, ◌++◌, Option, None, Some, length, take, drop, slice_get, refl, sym, ◌∙◌, ap, arith, length-drop, add-one, false, true, position, get_or, Bool, is_some, true≢false}
+use Rattle.std.proofs.Common.{◌≡◌, ℕ, zero, suc, ◌+◌, ◌-◌, ◌<◌, ◌≤◌, List, [], ◌∷◌, ◌++◌, Option, None, Some, length, take, drop, slice_get, refl, sym, ◌∙◌, ap, arith, length-drop, add-one, false, true, position, get_or, Bool}
 use Rattle.std.proofs.lemmas.List.{take-append-le, drop-append-le, take_rest}
 use Rattle.std.proofs.lemmas.List.Edits.{between_none}
 use Rattle.std.specs.List.{slice_range}
 use Rattle.std.specs.Map.{lookup}
 use Rattle.std.specs.Option.{option_map}
-use Rattle.indexmap.proofs.MapLemmas.{some_index}
 use Rattle.std.proofs.lemmas.Bool.{cond-true, cond-false}
 use Rattle.std.proofs.lemmas.List.Quantifiers.{position-Some}
 use Rattle.std.proofs.lemmas.Option.{slice_get-get_or, slice_get-map, get_or_from_slice_get}
 use Rattle.std.specs.Str.{bytes_eq}
 use Rattle.iv_text.specs.Named.{names_of, place_of}
 use Rattle.iv_fasta.specs.Fasta.{Stretch, Found, with_bases}
-use Rattle.iv_fasta.specs.Places.{LiesWithin}
+use Rattle.iv_fasta.specs.Places.{EndsWithin}
 use Rattle.iv_fasta.specs.Drafts.{sequence_at, Headed, end_at, end_before, cut, StartInOrder}
 use Rattle.iv_fasta.specs.declared.headers.Header.{Header}
 
@@ -106,9 +105,9 @@ sequence-is hs bases name h i stop total all at is =
     let stops : stop ≡ end_at (slice_get hs (suc i)) (length bases) = is ∙ ap (λ n. end_at (slice_get hs n) total) (add-one i) ∙ ap (end_at (slice_get hs (suc i))) all in
     ap {B = Option (List ℕ × Stretch)} (λ (n : ℕ). Some (name, record { line = h.line; bases = slice_range bases h.start n })) stops ∙ sym (cut-at hs bases i (name, h) (sym at))
 
-pub sequence-lies : (hs : Headed) (bases name : List ℕ) (h : Header) (i stop total : ℕ) → total ≡ length bases → StartInOrder 0 hs (length bases) → Some (name, h) ≡ slice_get hs i → stop ≡ end_at (slice_get hs (i + 1)) total
-    → LiesWithin (length bases) (record { start = h.start; stop = stop })
-sequence-lies hs bases name h i stop total all order at is =
+pub sequence-is_placed : (hs : Headed) (bases name : List ℕ) (h : Header) (i stop total : ℕ) → total ≡ length bases → StartInOrder 0 hs (length bases) → Some (name, h) ≡ slice_get hs i → stop ≡ end_at (slice_get hs (i + 1)) total
+    → EndsWithin (length bases) (record { start = h.start; stop = stop })
+sequence-is_placed hs bases name h i stop total all order at is =
     let stops : stop ≡ end_at (slice_get hs (suc i)) (length bases) = is ∙ ap (λ n. end_at (slice_get hs n) total) (add-one i) ∙ ap (end_at (slice_get hs (suc i))) all in
     let within : (h.start ≤ end_at (slice_get hs (suc i)) (length bases)) × (end_at (slice_get hs (suc i)) (length bases) ≤ length bases) = order-at 0 hs (length bases) i (name, h) order (sym at) in
     record { in_order = omega (arith, stops, within.0); in_bounds = omega (arith, stops, within.1) }
@@ -129,14 +128,6 @@ lookup-at {V} es name i e there at =
     let found = position-Some (bytes_eq name) (names_of es) i [] there in
     let named : get_or (names_of es) i [] ≡ e.0 = get_or_from_slice_get (names_of es) i e.0 [] (slice_get-map (λ (n : List ℕ × V). n.0) es i ∙ ap (option_map (λ (n : List ℕ × V). n.0)) at) in
     first-there (bytes_eq name) es i e at (ap (bytes_eq name) (sym named) ∙ found.1) found.2
-
-none_is : {X : Type 0} (o : Option X) → is_some o ≡ false → o ≡ None
-none_is None h = refl
-none_is (Some x) h = absurd (true≢false h)
-
--- and nothing where it has none
-pub lookup-none : {V : Type 0} (es : List (List ℕ × V)) (name : List ℕ) → place_of es name ≡ None → lookup (bytes_eq name) es ≡ None
-lookup-none es name none = none_is (lookup (bytes_eq name) es) (sym (some_index (bytes_eq name) es) ∙ ap is_some none)
 
 -- a place of a name is a place
 pub place-there : {V : Type 0} (es : List (List ℕ × V)) (name : List ℕ) (i : ℕ) → place_of es name ≡ Some i → slice_get es i ≡ None → ⊥

@@ -40,7 +40,7 @@ pub wrong-length : fasta_of g (codes ">q\nA\n>s\nACGT\n") ≡ Err (record { line
 unfolding after_fasta_line
 wrong-length = refl
 
--- a name that the genome lacks is repeated, and told before a wrong length
+-- a name that the genome lacks is repeated, and reported before a wrong length
 pub repeated : fasta_of g (codes ">s\n>q\nA\n>q") ≡ Err (record { line = 4; cause = cause.Repeated })
 unfolding after_fasta_line
 repeated = refl

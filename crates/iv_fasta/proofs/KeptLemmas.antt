@@ -6,7 +6,7 @@ use Rattle.std.specs.Option.{is_some, option_map}
 use Rattle.std.specs.Map.{lookup}
 use Rattle.std.proofs.lemmas.Bool.{cond-true}
 use Rattle.std.proofs.lemmas.Slice.Eq.{bytes_eq-Decides}
-use Rattle.indexmap.proofs.MapLemmas.{some_index}
+use Rattle.iv_text.proofs.NamedLemmas.{there-is}
 use Rattle.iv_text.specs.Lines.{lines}
 use Rattle.iv_text.specs.Read.{length_of}
 use Rattle.std.specs.Str.{bytes_eq}
@@ -136,20 +136,20 @@ module _ (g : Sequences) where
   wrong-kept : (s : List ℕ × Stretch) → has_wrong_length g (kept_one s) ≡ has_wrong_length g s
   wrong-kept s = wrong-either (named s.0) s.1.bases (length_of g s.0)
 
-  abbrev told : Bases → Option (List ℕ × Stretch) → Result Bases LoadFault
-  told bases None = Ok bases
-  told bases (Some s) = Err (record { line = s.1.line; cause = cause.WrongLength })
+  abbrev reported : Bases → Option (List ℕ × Stretch) → Result Bases LoadFault
+  reported bases None = Ok bases
+  reported bases (Some s) = Err (record { line = s.1.line; cause = cause.WrongLength })
 
-  told-either : (bases : Bases) (b : Bool) (s : List ℕ × Stretch) (x y : Option (List ℕ × Stretch)) → told bases x ≡ told bases y
-      → told bases (cond b (Some (kept_one s)) x) ≡ told bases (cond b (Some s) y)
-  told-either bases true s x y same = refl
-  told-either bases false s x y same = same
+  reported-either : (bases : Bases) (b : Bool) (s : List ℕ × Stretch) (x y : Option (List ℕ × Stretch)) → reported bases x ≡ reported bases y
+      → reported bases (cond b (Some (kept_one s)) x) ≡ reported bases (cond b (Some s) y)
+  reported-either bases true s x y same = refl
+  reported-either bases false s x y same = same
 
-  told-kept : (bases : Bases) (found : Found) → told bases (find (has_wrong_length g) (kept_all found)) ≡ told bases (find (has_wrong_length g) found)
-  told-kept bases [] = refl
-  told-kept bases (s ∷ found) =
-      ap (λ (b : Bool). told bases (cond b (Some (kept_one s)) (find (has_wrong_length g) (kept_all found)))) (wrong-kept s)
-      ∙ told-either bases (has_wrong_length g s) s _ _ (told-kept bases found)
+  reported-kept : (bases : Bases) (found : Found) → reported bases (find (has_wrong_length g) (kept_all found)) ≡ reported bases (find (has_wrong_length g) found)
+  reported-kept bases [] = refl
+  reported-kept bases (s ∷ found) =
+      ap (λ (b : Bool). reported bases (cond b (Some (kept_one s)) (find (has_wrong_length g) (kept_all found)))) (wrong-kept s)
+      ∙ reported-either bases (has_wrong_length g s) s _ _ (reported-kept bases found)
 
   abbrev bases_under : Found → List ℕ → Option (List ℕ)
   bases_under found name = option_map (λ (f : Stretch). f.bases) (lookup (bytes_eq name) found)
@@ -175,7 +175,7 @@ module _ (g : Sequences) where
   ranks-kept : (found : Found) (front rest : Sequences) → g ≡ front ++ rest → map (λ s. bases_under (kept_all found) s.0) rest ≡ map (λ s. bases_under found s.0) rest
   ranks-kept found front [] all = refl
   ranks-kept found front (s ∷ rest) all =
-      let there : named s.0 ≡ true = some_index (bytes_eq s.0) g ∙ ap (λ (l : Sequences). is_some (lookup (bytes_eq s.0) l)) all ∙ is-there front rest s in
+      let there : named s.0 ≡ true = there-is g s.0 ∙ ap (λ (l : Sequences). is_some (lookup (bytes_eq s.0) l)) all ∙ is-there front rest s in
       ap {B = Bases} (λ (o : Option (List ℕ)). o ∷ map (λ t. bases_under (kept_all found) t.0) rest) (under-kept found s.0 there)
       ∙ ap {B = Bases} (λ (l : Bases). bases_under found s.0 ∷ l) (ranks-kept found (front ++ s ∷ []) rest (all ∙ sym (append_assoc front (s ∷ []) rest)))
 
@@ -183,7 +183,7 @@ module _ (g : Sequences) where
   by-rank-kept found = ranks-kept found [] g refl
 
   lengths-kept : (found : Found) → with_lengths g (kept_all found) ≡ with_lengths g found
-  lengths-kept found = ap (λ (b : Bases). told b (find (has_wrong_length g) (kept_all found))) (by-rank-kept found) ∙ told-kept (by_rank g found) found
+  lengths-kept found = ap (λ (b : Bases). reported b (find (has_wrong_length g) (kept_all found))) (by-rank-kept found) ∙ reported-kept (by_rank g found) found
 
   -- ---- the whole text
 
@@ -206,4 +206,4 @@ module _ (g : Sequences) where
   text-err text f is = kept-err (after_fasta_lines 1 [] (lines text)) f (sym (lines-along 1 [] (lines text)) ∙ is)
 
   pub lengths-right : (found : Found) (bases : Bases) → find (has_wrong_length g) found ≡ None → bases ≡ by_rank g found → with_lengths g found ≡ Ok bases
-  lengths-right found bases right is = ap (told (by_rank g found)) right ∙ ap {B = Result Bases LoadFault} (λ (b : Bases). Ok b) (sym is)
+  lengths-right found bases right is = ap (reported (by_rank g found)) right ∙ ap {B = Result Bases LoadFault} (λ (b : Bases). Ok b) (sym is)

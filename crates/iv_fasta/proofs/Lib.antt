@@ -2,7 +2,6 @@ pub mod ComplementLemmas
 pub mod HalvesLemmas
 pub mod LineLemmas
 pub mod CutLemmas
-pub mod HeaderLemmas
 pub mod KeptLemmas
 pub mod LengthLemmas
 pub mod PlaceLemmas

@@ -66,16 +66,16 @@ kept-bases g n d line some not = cond-false _ _ _ some ∙ cond-false _ _ _ (beg
 -- ---- lines, one after another
 
 -- what is kept of the lines after one of this number, or its fault
-abbrev lines-behind : Sequences → ℕ → List (List ℕ) → Result Draft LoadCause → Result Draft LoadFault
-lines-behind g n rest (Ok more) = after_kept_lines g (n + 1) more rest
-lines-behind g n rest (Err why) = Err (record { line = n; cause = why })
+abbrev lines-later : Sequences → ℕ → List (List ℕ) → Result Draft LoadCause → Result Draft LoadFault
+lines-later g n rest (Ok more) = after_kept_lines g (n + 1) more rest
+lines-later g n rest (Err why) = Err (record { line = n; cause = why })
 
-line-behind : (g : Sequences) (n : ℕ) (d : Draft) (line : List ℕ) (rest : List (List ℕ)) (r : Result Draft LoadCause) → after_kept_line g n d line ≡ r
-    → after_kept_lines g n d (line ∷ rest) ≡ lines-behind g n rest r
-line-behind g n d line rest r is = by (after_kept_line g n d line) refl ∙ ap (lines-behind g n rest) is
+line-later : (g : Sequences) (n : ℕ) (d : Draft) (line : List ℕ) (rest : List (List ℕ)) (r : Result Draft LoadCause) → after_kept_line g n d line ≡ r
+    → after_kept_lines g n d (line ∷ rest) ≡ lines-later g n rest r
+line-later g n d line rest r is = by (after_kept_line g n d line) refl ∙ ap (lines-later g n rest) is
   where
     by : (s : Result Draft LoadCause) → s ≡ s
-        → elim s [ Ok more ↦ after_kept_lines g (n + 1) more rest | Err c ↦ Err (record { line = n; cause = c }) ] ≡ lines-behind g n rest s
+        → elim s [ Ok more ↦ after_kept_lines g (n + 1) more rest | Err c ↦ Err (record { line = n; cause = c }) ] ≡ lines-later g n rest s
     by (Ok more) e = refl
     by (Err why) e = refl
 
@@ -85,14 +85,14 @@ pub line-read : (g : Sequences) (n : ℕ) (d : Draft) (headers : Headed) (kept m
     → after_kept_lines g n d (lines coming) ≡ after_kept_lines g (n + 1) (drafted headers more named) (lines left)
 line-read g n d headers kept more named line coming left next first less same is =
     ap (after_kept_lines g n d) first
-    ∙ line-behind g n d line (lines (drop next coming)) (Ok (drafted headers kept named)) is
+    ∙ line-later g n d line (lines (drop next coming)) (Ok (drafted headers kept named)) is
     ∙ ap (λ (l : List ℕ). after_kept_lines g (n + 1) (drafted headers l named) (lines (drop next coming))) (sym same)
     ∙ ap (λ (l : List ℕ). after_kept_lines g (n + 1) (drafted headers more named) (lines l)) (sym less)
 
 -- and one that is refused ends the reading
 pub line-stops : (g : Sequences) (n : ℕ) (d : Draft) (why : LoadCause) (line coming : List ℕ) (next : ℕ) → lines coming ≡ line ∷ lines (drop next coming) → after_kept_line g n d line ≡ Err why
     → after_kept_lines g n d (lines coming) ≡ Err (record { line = n; cause = why })
-line-stops g n d why line coming next first is = ap (after_kept_lines g n d) first ∙ line-behind g n d line (lines (drop next coming)) (Err why) is
+line-stops g n d why line coming next first is = ap (after_kept_lines g n d) first ∙ line-later g n d line (lines (drop next coming)) (Err why) is
 
 -- the name in the first so many bytes of what comes
 pub name-within : (coming : List ℕ) (count : ℕ) → 0 < count → before_first is_blank (take (count - 1) (drop 1 coming)) ≡ header_name (take count coming)

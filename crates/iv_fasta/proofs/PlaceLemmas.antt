@@ -10,7 +10,7 @@ use Rattle.std.specs.Option.{option_map, unwrap_or}
 use Rattle.std.specs.Str.{bytes_eq}
 use Rattle.iv_text.specs.Genome.{Sequences}
 use Rattle.iv_fasta.specs.Fasta.{Stretch, Found, Bases, by_rank, bases_of}
-use Rattle.iv_fasta.specs.Places.{bases_at, placed, LiesWithin, IsPlacedWithin}
+use Rattle.iv_fasta.specs.Places.{bases_at, placed, EndsWithin, IsPlacedWithin}
 use Rattle.iv_fasta.specs.declared.base_range.BaseRange.{BaseRange}
 
 abbrev bases_under : Found → List ℕ → Option (List ℕ)
@@ -38,13 +38,13 @@ placed-at places bases seq place at =
     by (Some (Some p)) is = let same : place ≡ p = cc in ap {B = Option (List ℕ)} (λ (q : BaseRange). Some (bases_at bases q)) (sym same)
 
 -- where each place is among so many bases, so is one of them
-lies-at : (places : List (Option BaseRange)) (total seq : ℕ) (place : BaseRange) (o : Option (Option BaseRange)) → All (IsPlacedWithin total) places → slice_get places seq ≡ o
-    → Some place ≡ unwrap_or o None → LiesWithin total place
-lies-at places total seq place None all at is = cc
-lies-at places total seq place (Some None) all at is = cc
-lies-at places total seq place (Some (Some p)) all at is =
+is_placed-at : (places : List (Option BaseRange)) (total seq : ℕ) (place : BaseRange) (o : Option (Option BaseRange)) → All (IsPlacedWithin total) places → slice_get places seq ≡ o
+    → Some place ≡ unwrap_or o None → EndsWithin total place
+is_placed-at places total seq place None all at is = cc
+is_placed-at places total seq place (Some None) all at is = cc
+is_placed-at places total seq place (Some (Some p)) all at is =
     let same : place ≡ p = cc in
-    subst (λ (q : BaseRange). LiesWithin total q) (sym same)
+    subst (λ (q : BaseRange). EndsWithin total q) (sym same)
     (subst (λ (q : Option BaseRange). IsPlacedWithin total q) (get_or_from_slice_get places seq (Some p) None at) (all seq None (slice_get_within places seq (Some p) at)))
 
 -- ---- a part of a sequence's bases
@@ -78,8 +78,8 @@ pub part-is : (fasta : Bases) (places : List (Option BaseRange)) (bases shown : 
     → Some (slice_range shown (place.start + from) (place.start + to)) ≡ option_map (λ b. slice_range b start stop) (bases_of fasta seq)
 part-is fasta places bases shown seq start stop from to place view same all at cut_to cut_from =
     let there : bases_of fasta seq ≡ Some (bases_at bases place) = ap (λ (f : Bases). bases_of f seq) (sym view) ∙ placed-at places bases seq place at in
-    let lies : LiesWithin (length bases) place = lies-at places (length bases) seq place (slice_get places seq) all refl at in
-    let long : length (bases_at bases place) ≡ place.stop - place.start = length-between bases place.start place.stop lies.in_bounds in
+    let is_placed : EndsWithin (length bases) place = is_placed-at places (length bases) seq place (slice_get places seq) all refl at in
+    let long : length (bases_at bases place) ≡ place.stop - place.start = length-between bases place.start place.stop is_placed.in_bounds in
     ap {B = Option (List ℕ)} (λ (l : List ℕ). Some (slice_range l (place.start + from) (place.start + to))) same
     ∙ ap {B = Option (List ℕ)} (λ (l : List ℕ). Some l)
     (sym (range-range bases place.start place.stop from to (omega (arith, cut_from)) (omega (arith, cut_to)))

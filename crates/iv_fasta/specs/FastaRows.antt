@@ -1,5 +1,5 @@
 -- The rows of getfasta.
-use Rattle.std.specs.Prelude.{ℕ, ◌&&◌, ◌++◌, Bool, true, false, if◌then◌else◌, List, [], ◌∷◌, Option, None, Some, map, reverse, codes, decimal, slice_range}
+use Rattle.std.specs.Prelude.{ℕ, ◌++◌, Bool, true, false, if◌then◌else◌, List, [], ◌∷◌, Option, None, Some, map, reverse, codes, decimal, slice_range}
 use Rattle.std.specs.List.{flat_map}
 use Rattle.iv_text.specs.Genome.{Sequences, sequence_name}
 use Rattle.iv_text.specs.Row.{Row, strand_byte}
@@ -14,13 +14,13 @@ abbrev pub bracketed : Option Strand → List ℕ
 bracketed None = []
 bracketed (Some s) = codes "(" ++ strand_byte s ∷ codes ")"
 
--- what a head shows of a record's strand
-abbrev pub strand_mark : FastaRows → Option Strand → List ℕ
-strand_mark shown strand = if shown.stranded then bracketed strand else []
+-- the strand of a record where strands are shown
+abbrev pub shown_strand : FastaRows → Row → Option Strand
+shown_strand shown r = if shown.stranded then r.strand else None
 
 -- the head of a record: its sequence, from where to where, and the strand if it is shown
 abbrev pub head : FastaRows → Sequences → Row → List ℕ
-head shown g r = sequence_name g r.seq ++ codes ":" ++ decimal r.start ++ codes "-" ++ decimal r.stop ++ strand_mark shown r.strand
+head shown g r = sequence_name g r.seq ++ codes ":" ++ decimal r.start ++ codes "-" ++ decimal r.stop ++ bracketed (shown_strand shown r)
 
 -- the record is on the strand `-`
 abbrev pub is_minus : Option Strand → Bool
@@ -33,9 +33,9 @@ is_minus (Some Dot) = false
 abbrev pub opposite : List ℕ → List ℕ
 opposite bases = map complement (reverse bases)
 
--- the bases that are shown of those that a record covers: with strands, and on the strand `-`, the opposite ones
-abbrev pub shown_bases : FastaRows → Row → List ℕ → List ℕ
-shown_bases shown r bases = if shown.stranded && is_minus r.strand then opposite bases else bases
+-- the bases that are shown of those that a record covers, by the strand that is shown of it: on `-` the opposite ones
+abbrev pub shown_bases : Option Strand → List ℕ → List ℕ
+shown_bases strand bases = if is_minus strand then opposite bases else bases
 
 -- a head and its bases: on one line, separated by a TAB; or each on a line of its own, and `>` before the head
 abbrev pub framed : FastaRows → List ℕ → List ℕ → List ℕ
@@ -46,7 +46,7 @@ framed shown heading bases =
 -- the row of a record beside the bases of its sequence: nothing where there are none
 abbrev pub row_beside : FastaRows → Sequences → Row → Option (List ℕ) → List ℕ
 row_beside shown g r None = []
-row_beside shown g r (Some bases) = framed shown (head shown g r) (shown_bases shown r (slice_range bases r.start r.stop))
+row_beside shown g r (Some bases) = framed shown (head shown g r) (shown_bases (shown_strand shown r) (slice_range bases r.start r.stop))
 
 -- the row of a record
 abbrev pub fasta_rows : FastaRows → Sequences → Bases → Row → List ℕ

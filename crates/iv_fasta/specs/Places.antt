@@ -13,10 +13,10 @@ abbrev pub placed : List (Option BaseRange) → List ℕ → Bases
 placed places bases = map (option_map (bases_at bases)) places
 
 -- the place is among so many bases
-pub record LiesWithin (total : ℕ) (place : BaseRange) : Type 0 where
+pub record EndsWithin (total : ℕ) (place : BaseRange) : Type 0 where
   pub in_order : place.start ≤ place.stop
   pub in_bounds : place.stop ≤ total
 
 -- and so it does, if there is one
 abbrev pub IsPlacedWithin : ℕ → Option BaseRange → Type 0
-IsPlacedWithin total place = IfSome place (LiesWithin total)
+IsPlacedWithin total place = IfSome place (EndsWithin total)

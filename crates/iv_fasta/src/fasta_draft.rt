@@ -6,7 +6,7 @@ ghost use Rattle.std.specs.Str.{bytes_eq};
 ghost use Rattle.iv_text.specs.Lines.{lines};
 ghost use Rattle.iv_text.specs.declared.fault.LoadCause.TheVariants as cause;
 ghost use Rattle.iv_fasta.specs.Fasta.{Stretch, header_name, has_wrong_length, differs as differs_in, with_header, with_lengths, by_rank, bases_of};
-ghost use Rattle.iv_fasta.specs.Places.{bases_at, placed, LiesWithin, IsPlacedWithin};
+ghost use Rattle.iv_fasta.specs.Places.{bases_at, placed, EndsWithin, IsPlacedWithin};
 ghost use Rattle.iv_fasta.specs.Drafts.{cut, StartInOrder, StartInOrder-prop, sequence_at, drafted, headed, with_kept_line, after_kept_lines};
 
 use crate::base_range::BaseRange;
@@ -141,7 +141,7 @@ impl<A: Allocator + Copy> FastaDraft<A> {
     /// Where the bases of the sequence at this place lie, with its name and the number of its header's line.
     fn sequence(&self, place: usize) -> Option<(&[u8], u64, BaseRange)>
         ensures value { option_map (λ s. (s.0.now, sequence_at self.now.text.kept s.1 s.2)) result ≡ slice_get (cut self.now.headers self.now.text.kept) place }
-        ensures within { IfSome result (λ s. LiesWithin (length self.now.text.kept) s.2) }
+        ensures within { IfSome result (λ s. EndsWithin (length self.now.text.kept) s.2) }
     {
         let (name, header) = self.headers.at(place)?;
         let start = header.start;

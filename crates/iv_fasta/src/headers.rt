@@ -9,8 +9,7 @@ ghost use Rattle.iv_text.specs.declared.after_text.NameHasher.TheVariants as has
 ghost use Rattle.iv_fasta.specs.Drafts.{end_at};
 ghost use Rattle.iv_fasta.specs.Fasta.{header_sign};
 
-use indexmap::IndexMap;
-use iv_text::{AfterText, lines_of};
+use iv_text::{AfterText, NameMap, lines_of};
 use std::alloc::{AllocError, Allocator};
 use std::hash::{DefaultHasher, Hasher};
 use std::marker::Model;
@@ -28,16 +27,15 @@ pub(crate) struct Header {
 /// Headers, each under its name, in the order of the file.
 #[derive(Drop)]
 pub(crate) struct Headers<A: Allocator> {
-    headers: IndexMap<Vec<u8, A>, Header, AfterText, A>,
+    headers: NameMap<Header, A>,
 }
 
 impl<A: Allocator> Model for Headers<A> {
-    ghost use Rattle.std.specs.Prelude.{map};
     ghost use Rattle.iv_fasta.specs.Drafts.{Headed};
 
     ghost Value = { Headed };
 
-    ghost view = { λ h. map (λ e. (e.0.items, e.1)) h.headers.entries };
+    ghost view = { λ h. h.headers };
 }
 
 /// For names that are hashed after all headers of a text.
@@ -59,20 +57,8 @@ impl<A: Allocator + Copy> Headers<A> {
         ensures { result ≡ [] }
     {
         Headers {
-            headers: IndexMap::with_hasher(alloc, AfterText::of(b"")),
+            headers: NameMap::new(alloc, AfterText::of(b"")),
         }
-    }
-
-    /// Hashes the names anew, after all headers of a text. The headers stay, also after a fault.
-    fn hash_after(&mut self, alloc: A, text: &[u8]) -> Result<(), AllocError>
-        ensures ok { OnOk result (self.new ≡ self.old) }
-        ensures err { OnErr result (self.new ≡ self.old) }
-    {
-        let count = self.headers.len();
-        let mut anew = IndexMap::with_capacity_and_hasher(alloc, count, after_headers(text))?;
-        anew.append(&mut self.headers)?;
-        self.headers = anew;
-        Ok(())
     }
 
     /// Adds a header at the end, where a text begins with it that has all those to come. After a fault the headers are as before.
@@ -88,28 +74,16 @@ impl<A: Allocator + Copy> Headers<A> {
         ensures err { OnErr result (self.new ≡ self.old) }
     {
         if self.headers.len() == FEW {
-            self.hash_after(alloc, text)?;
+            self.headers.rehash(alloc, after_headers(text))?;
         }
-        self.insert(alloc, name, header)
-    }
-
-    /// Puts a header at the end. After a fault the headers are as before.
-    fn insert(&mut self, alloc: A, name: &[u8], header: Header) -> Result<(), AllocError>
-        requires fresh { place_of self.old name.now ≡ None }
-        ensures ok { OnOk result (self.new ≡ self.old ++ (name.now, header) ∷ []) }
-        ensures err { OnErr result (self.new ≡ self.old) }
-    {
-        let mut key = Vec::new(alloc);
-        key.extend_from_slice(name)?;
-        self.headers.insert(key, header)?;
-        Ok(())
+        self.headers.push(alloc, name, header)
     }
 
     /// The place of a name, byte for byte, from 0.
     pub(crate) fn place(&self, name: &[u8]) -> Option<usize>
         ensures { result ≡ place_of self.now name.now }
     {
-        self.headers.get_index_of(name)
+        self.headers.place(name)
     }
 
     /// The header at a place, with its name.
@@ -117,10 +91,8 @@ impl<A: Allocator + Copy> Headers<A> {
         ensures value { option_map (λ p. (p.0.now, p.1)) result ≡ slice_get self.now place }
         ensures small { IfSome result (λ _. place < 2 ^ 63) }
     {
-        // The length is known to be small once it is asked for.
-        let _length = self.headers.len();
-        let (name, header) = self.headers.get_index(place)?;
-        Some((name.as_slice(), *header))
+        let (name, header) = self.headers.at(place)?;
+        Some((name, *header))
     }
 
     /// Where the bases before the header at a place end, of so many bases in all.

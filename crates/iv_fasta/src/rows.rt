@@ -1,12 +1,12 @@
 //! The rows of getfasta.
 ghost use Rattle.std.specs.Prelude.{◌≡◌, [], if◌then◌else◌, length, codes};
 ghost use Rattle.iv_bytes.specs.Sinks.{Puts};
-ghost use Rattle.iv_fasta.specs.FastaRows.{opposite, strand_mark as mark_of, is_minus as says_minus, shown_bases, front, fasta_rows, fasta_text};
+ghost use Rattle.iv_fasta.specs.FastaRows.{opposite, bracketed, shown_strand as strand_of, is_minus as says_minus, shown_bases, front, fasta_rows, fasta_text};
 
 use crate::base::complement;
 use crate::fasta::Fasta;
 use iv_bytes::{Sink, WriteFault, put_all, put_pieces};
-use iv_text::{Genome, Record, Strand};
+use iv_text::{BedRecord, Genome, Strand};
 use iv_track::{Meter, Track};
 use std::alloc::Allocator;
 
@@ -46,36 +46,49 @@ pub fn print_fasta<A: Allocator + Copy, S: Sink>(
 ///
 /// The head is the sequence's name, `:`, start, `-` and stop, with strands also the strand in round brackets. It is
 /// after a `>` on a line of its own, the bases on the next; or with `-tab` before them, separated by a TAB. With strands the
-/// bases of a record on `-` are read backwards and complemented. It takes no memory. On a fault the sink has taken a prefix
-/// of the row.
-pub fn put_fasta<A: Allocator + Copy, S: Sink>(
+/// bases of a record on `-` are read backwards and complemented. Columns after the third are asked for only with strands. It
+/// takes no memory. On a fault the sink has taken a prefix of the row.
+pub fn put_fasta<R: BedRecord, A: Allocator + Copy, S: Sink>(
     shown: FastaRows,
     genome: &Genome<A>,
-    row: &Record<A>,
+    row: &R,
     fasta: &Fasta<A>,
     sink: &mut S,
 ) -> Result<(), WriteFault>
-    ensures { Puts (S.state sink.old) (S.state sink.new) result (fasta_rows shown genome.now fasta.now row.now) }
+    ensures { Puts (S.state sink.old) (S.state sink.new) result (fasta_rows shown genome.now fasta.now (R.as_row row.now)) }
 {
     let Some(bases) = fasta.bases(row.seq(), row.start(), row.stop()) else {
         return Ok(());
     };
-    put_front(shown, genome, row, sink)?;
-    put_bases(shown, row, bases, sink)?;
+    let strand = shown_strand(shown, row);
+    put_front(shown, genome, row, strand, sink)?;
+    put_bases(strand, bases, sink)?;
     put_all(sink, b"\n")
 }
 
+/// The strand of a record where strands are shown.
+fn shown_strand<R: BedRecord>(shown: FastaRows, row: &R) -> Option<Strand>
+    ensures { result ≡ strand_of shown (R.as_row row.now) }
+{
+    if shown.stranded {
+        row.to_ref().strand()
+    } else {
+        None
+    }
+}
+
 /// Puts all of a row that is before its bases.
-fn put_front<A: Allocator + Copy, S: Sink>(
+fn put_front<R: BedRecord, A: Allocator + Copy, S: Sink>(
     shown: FastaRows,
     genome: &Genome<A>,
-    row: &Record<A>,
+    row: &R,
+    strand: Option<Strand>,
     sink: &mut S,
 ) -> Result<(), WriteFault>
-    ensures { Puts (S.state sink.old) (S.state sink.new) result (front shown genome.now row.now) }
+    requires { strand ≡ strand_of shown (R.as_row row.now) }
+    ensures { Puts (S.state sink.old) (S.state sink.new) result (front shown genome.now (R.as_row row.now)) }
 {
     let sequence = genome.name(row.seq()).unwrap_or(b"");
-    let strand = strand_mark(shown, row.strand());
     let mut start = itoa::Buffer::new();
     let mut stop = itoa::Buffer::new();
     put_pieces(
@@ -87,7 +100,7 @@ fn put_front<A: Allocator + Copy, S: Sink>(
             start.format(row.start()).as_bytes(),
             b"-",
             stop.format(row.stop()).as_bytes(),
-            strand,
+            strand_mark(strand),
             head_end(shown),
         ],
     )
@@ -108,12 +121,9 @@ fn head_end<'t>(shown: FastaRows) -> &'t [u8]
 }
 
 /// What a head shows of a strand.
-fn strand_mark<'t>(shown: FastaRows, strand: Option<Strand>) -> &'t [u8]
-    ensures { result.now ≡ mark_of shown strand }
+fn strand_mark<'t>(strand: Option<Strand>) -> &'t [u8]
+    ensures { result.now ≡ bracketed strand }
 {
-    if !shown.stranded {
-        return b"";
-    }
     match strand {
         Some(Strand::Plus) => b"(+)",
         Some(Strand::Minus) => b"(-)",
@@ -123,15 +133,10 @@ fn strand_mark<'t>(shown: FastaRows, strand: Option<Strand>) -> &'t [u8]
 }
 
 /// Puts the bases that are shown of those that a record covers.
-fn put_bases<A: Allocator, S: Sink>(
-    shown: FastaRows,
-    row: &Record<A>,
-    bases: &[u8],
-    sink: &mut S,
-) -> Result<(), WriteFault>
-    ensures { Puts (S.state sink.old) (S.state sink.new) result (shown_bases shown row.now bases.now) }
+fn put_bases<S: Sink>(strand: Option<Strand>, bases: &[u8], sink: &mut S) -> Result<(), WriteFault>
+    ensures { Puts (S.state sink.old) (S.state sink.new) result (shown_bases strand bases.now) }
 {
-    if shown.stranded && is_minus(row.strand()) {
+    if is_minus(strand) {
         put_opposite(bases, sink)
     } else {
         put_all(sink, bases)

@@ -9,7 +9,7 @@ use Rattle.std.proofs.lemmas.List.Elements.{All-from_recursion, recursion_from_A
 use Rattle.std.proofs.lemmas.List.Sums.{sum_by-cons}
 use Rattle.iv_text.specs.Genome.{Sequences}
 use Rattle.iv_text.specs.Ordered.{added, ordered, AreInOrder}
-use Rattle.iv_text.specs.Read.{LiesOn}
+use Rattle.iv_text.specs.Read.{IsOnGenome}
 use Rattle.iv_text.specs.Row.{Row, beside_cmp, row_cmp}
 use Rattle.iv_text.proofs.OrderedLemmas.{ordered-in_order, rows-alone}
 use Rattle.iv_index.specs.Places.{bare, row_at, rows_at}
@@ -25,10 +25,10 @@ rows-bare w text (p ∷ places) = ap (λ (l : List Row). row_at 3 text p ∷ l) 
 -- ---- on the genome
 
 -- they are on it where they were
-pub lying-bare : (g : Sequences) (rows : List Row) → All (LiesOn g) rows → All (LiesOn g) (map bare rows)
-lying-bare g rows lie = All-from_recursion (LiesOn g) (map bare rows) (by rows (recursion_from_All (LiesOn g) rows lie))
+pub on_genome-bare : (g : Sequences) (rows : List Row) → All (IsOnGenome g) rows → All (IsOnGenome g) (map bare rows)
+on_genome-bare g rows lie = All-from_recursion (IsOnGenome g) (map bare rows) (by rows (recursion_from_All (IsOnGenome g) rows lie))
   where
-    by : (rows : List Row) → AllByRecursion (LiesOn g) rows → AllByRecursion (LiesOn g) (map bare rows)
+    by : (rows : List Row) → AllByRecursion (IsOnGenome g) rows → AllByRecursion (IsOnGenome g) (map bare rows)
     by [] all = tt
     by (r ∷ rows) all = (record { some = all.0.some; within = all.0.within }, by rows all.1)
 

@@ -5,3 +5,4 @@ pub mod SortedLemmas
 pub mod BareLemmas
 pub mod DedupLemmas
 pub mod JoinLemmas
+pub mod SequenceLemmas

@@ -10,7 +10,7 @@ use Rattle.iv_text.proofs.ReadLemmas.{hit}
 use Rattle.iv_text.proofs.BedLemmas.{row-taken, sound-none, sound-more, sound-width}
 use Rattle.iv_text.specs.Fields.{columns}
 use Rattle.iv_text.specs.Genome.{Sequences}
-use Rattle.iv_text.specs.Read.{read, row, told, has_fault, faults, column, Fits}
+use Rattle.iv_text.specs.Read.{read, row, or_fault, has_fault, faults, column, Fits}
 use Rattle.iv_text.specs.Row.{Row, strand_of}
 use Rattle.iv_text.specs.BedFile.{Draft, is_unread, with_row, after_row, after_rows, IsSoundDraft}
 use Rattle.iv_text.specs.declared.fault.RecordFault.{RecordFault}
@@ -28,16 +28,16 @@ use Rattle.iv_index.specs.declared.place.Place.{Place}
 
 -- ---- the record of a line
 
-told-ok : (o : Option RecordFault) (q r : Row) → told o q ≡ Ok r → q ≡ r
-told-ok None q r h = cc
-told-ok (Some f) q r h = cc
+or_fault-ok : (o : Option RecordFault) (q r : Row) → or_fault o q ≡ Ok r → q ≡ r
+or_fault-ok None q r h = cc
+or_fault-ok (Some f) q r h = cc
 
 row-is : (g : Sequences) (w : ℕ) (line : List ℕ) (r : Row) → read g w line ≡ Ok r → row g w (columns line) ≡ r
-row-is g w line r says = told-ok (find (has_fault g w (columns line)) faults) (row g w (columns line)) r says
+row-is g w line r says = or_fault-ok (find (has_fault g w (columns line)) faults) (row g w (columns line)) r says
 
-told-hit : (o : Option RecordFault) (f : RecordFault) (q r : Row) → o ≡ Some f → told o q ≡ Ok r → ⊥
-told-hit None f q r is h = cc
-told-hit (Some e) f q r is h = cc
+or_fault-hit : (o : Option RecordFault) (f : RecordFault) (q r : Row) → o ≡ Some f → or_fault o q ≡ Ok r → ⊥
+or_fault-hit None f q r is h = cc
+or_fault-hit (Some e) f q r is h = cc
 
 other_faults : List RecordFault
 other_faults = fault.UnknownSeq ∷ fault.StartNumber ∷ fault.StopNumber ∷ fault.Order ∷ fault.PastEnd ∷ fault.Name ∷ fault.Score ∷ fault.Strand ∷ []
@@ -48,7 +48,7 @@ count-is g w line r says = by (length (columns line) == w) refl
   where
     by : (t : Bool) → (length (columns line) == w) ≡ t → length (columns line) ≡ w
     by true e = eqb-true (length (columns line)) w e
-    by false e = absurd (told-hit (find (has_fault g w (columns line)) faults) fault.Columns (row g w (columns line)) r (hit (has_fault g w (columns line)) fault.Columns other_faults (ap not e)) says)
+    by false e = absurd (or_fault-hit (find (has_fault g w (columns line)) faults) fault.Columns (row g w (columns line)) r (hit (has_fault g w (columns line)) fault.Columns other_faults (ap not e)) says)
 
 column-past : (cs : List (List ℕ)) (k : ℕ) → length cs ≤ k → column cs k ≡ []
 column-past cs k past = get_or_past cs k [] past
@@ -214,7 +214,7 @@ text-fits g limit empty c h low high =
 fits-base : (g : Sequences) (w v : ℕ) (text : List ℕ) (ps : List Place) → All (Fits g w) (rows_at v text ps) → All HasBase ps
 fits-base g w v text [] fit = All-nil HasBase
 fits-base g w v text (p ∷ ps) fit =
-    All-cons HasBase p ps (All-head (Fits g w) (row_at v text p) (rows_at v text ps) fit).lies.some (fits-base g w v text ps (All-tail (Fits g w) (row_at v text p) (rows_at v text ps) fit))
+    All-cons HasBase p ps (All-head (Fits g w) (row_at v text p) (rows_at v text ps) fit).is_placed.some (fits-base g w v text ps (All-tail (Fits g w) (row_at v text p) (rows_at v text ps) fit))
 
 pub text-is : (g : Sequences) (limit empty : ℕ) (c : Cursor) → IsUnderway g limit c → 3 ≤ empty → empty ≤ 6 → ArePlaces (unwrap_or c.width empty) c.places
 text-is g limit empty c h low high =

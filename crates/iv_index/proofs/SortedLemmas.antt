@@ -5,7 +5,7 @@ use Rattle.std.proofs.lemmas.List.Elements.{All-from_recursion, recursion_from_A
 use Rattle.iv_text.specs.BedFile.{Bed}
 use Rattle.iv_text.specs.Genome.{Sequences}
 use Rattle.iv_text.specs.Ordered.{ordered, AreInOrder}
-use Rattle.iv_text.specs.Read.{Fits, LiesOn}
+use Rattle.iv_text.specs.Read.{Fits, IsOnGenome}
 use Rattle.iv_text.specs.Row.{Row, row_cmp}
 use Rattle.iv_text.proofs.OrderedLemmas.{all-all_added, ordered-in_order}
 
@@ -14,12 +14,12 @@ ordered-all : (P : Row → Type 0) (rows : List Row) → All P rows → All P (o
 ordered-all P rows all = All-from_recursion P (ordered rows) (all-all_added row_cmp P rows [] (recursion_from_All P rows all) tt)
 
 -- records that fit a genome lie on it
-pub lying-fit : (g : Sequences) (file : Bed) → All (Fits g file.width) file.rows → All (LiesOn g) file.rows
-lying-fit g file fit = λ k e within. let fits : Fits g file.width _ = fit k e within in fits.lies
+pub on_genome-fit : (g : Sequences) (file : Bed) → All (Fits g file.width) file.rows → All (IsOnGenome g) file.rows
+on_genome-fit g file fit = λ k e within. let fits : Fits g file.width _ = fit k e within in fits.is_placed
 
 -- they are where they were
-pub lying-sorted : (g : Sequences) (file sorted : Bed) → All (LiesOn g) file.rows → sorted ≡ record file { rows = ordered file.rows } → All (LiesOn g) sorted.rows
-lying-sorted g file sorted lie is = subst (λ (b : Bed). All (LiesOn g) b.rows) (sym is) (ordered-all (LiesOn g) file.rows lie)
+pub on_genome-sorted : (g : Sequences) (file sorted : Bed) → All (IsOnGenome g) file.rows → sorted ≡ record file { rows = ordered file.rows } → All (IsOnGenome g) sorted.rows
+on_genome-sorted g file sorted lie is = subst (λ (b : Bed). All (IsOnGenome g) b.rows) (sym is) (ordered-all (IsOnGenome g) file.rows lie)
 
 -- they are in order
 pub order-sorted : (file sorted : Bed) → sorted ≡ record file { rows = ordered file.rows } → AreInOrder sorted.rows

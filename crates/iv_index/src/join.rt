@@ -7,7 +7,7 @@ use std::alloc::Allocator;
 
 /// Joins a place to one that doesn't start past it, where the two overlap or are book-ended. Tells whether they do.
 fn take_in(last: &mut Place, place: &Place) -> bool
-    ensures told { result ≡ touches last.old place.now }
+    ensures touches { result ≡ touches last.old place.now }
     ensures new { last.new ≡ cond (touches last.old place.now) (grown last.old place.now) last.old }
 {
     if last.seq != place.seq || last.stop < place.start {

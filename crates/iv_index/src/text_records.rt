@@ -1,6 +1,8 @@
 //! Records of a text in a row.
-ghost use Rattle.std.specs.Prelude.{◌≡◌, ◌≤◌, ◌==◌, [], ◌∷◌, All, MatchOption, length, map, slice_get, take, drop};
+ghost use Rattle.std.specs.Prelude.{◌≡◌, ◌≤◌, ◌==◌, nat_lt, [], ◌∷◌, All, MatchOption, filter, length, map, slice_get, take, drop};
 ghost use Rattle.std.specs.Iterator.{YieldsFirst, item_count};
+ghost use Rattle.iv_text.specs.Ordered.{AreInOrder};
+ghost use Rattle.iv_cover.specs.TrackBlocks.{on};
 ghost use Rattle.iv_index.specs.Places.{HasBase, rows_at, spot_of_place, spot_of_row};
 
 use crate::place::Place;
@@ -102,6 +104,16 @@ impl<'t> TextRecords<'t> {
         (front, back)
     }
 
+    /// The records on the sequence of this rank, and those on later ones.
+    pub fn split_sequence(&self, rank: u32) -> (TextRecords<'t>, TextRecords<'t>)
+        requires order { AreInOrder self.now }
+        requires from { All (λ r. rank ≤ r.seq) self.now }
+        ensures here { result.0 ≡ on rank self.now }
+        ensures later { result.1 ≡ filter (λ r. nat_lt rank r.seq) self.now }
+    {
+        self.split_at(self.places.partition_point(|place| place.seq <= rank))
+    }
+
     /// Lets go of the first record, if there is one.
     pub fn drop_first(&mut self)
         ensures { self.new ≡ drop 1 self.old }
@@ -140,8 +152,8 @@ impl<'t> Iterator for TextRecords<'t> {
 
     /// The first record that is left.
     fn next(&mut self) -> Option<TextRecord<'t>> {
-        let (place, behind) = self.places.split_first()?;
-        self.places = behind;
+        let (place, others) = self.places.split_first()?;
+        self.places = others;
         Some(TextRecord::of_place(self.text, *place, self.width))
     }
 }

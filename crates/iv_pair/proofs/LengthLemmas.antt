@@ -6,7 +6,7 @@ use Rattle.std.specs.Option.{option_or}
 use Rattle.std.specs.declared.cmp.Ordering.{Ordering}
 use Rattle.std.specs.declared.cmp.Ordering.TheVariants.{Less}
 use Rattle.std.specs.Ordering.{is_eq, is_le, is_ge, nat_cmp, ordering_then}
-use Rattle.std.specs.Cmp.{IsTotalOrder, nat_cmp_total, on_total, then_total, tied_itself, Equal-is}
+use Rattle.std.specs.Cmp.{tied_itself, Equal-is}
 use Rattle.std.specs.Map.{keys_of, values_of, lookup, remove_entry, set_value}
 use Rattle.std.specs.BTreeMap.{insert_entry, is_at}
 use Rattle.std.specs.List.Sorted.{IsStrictlySortedBy}
@@ -16,25 +16,19 @@ use Rattle.std.proofs.lemmas.List.Folds.{find-append}
 use Rattle.std.proofs.lemmas.List.Sums.{sum_by-cons, count_by-le-length}
 use Rattle.std.proofs.lemmas.Map.Keys.{sorted_head, sorted_tail}
 use Rattle.std.proofs.lemmas.Map.{keys-set_value}
-use Rattle.std.proofs.lemmas.Map.Lookups.{CmpEqualImpliesEq, exact_pairs, exact_unsigned}
 use Rattle.std.proofs.lemmas.Map.Views.{All-keys-insert_entry, All-values-insert_entry, All-map-remove_entry, All-values-set_value, IfSome-lookup_from_All}
 use Rattle.std.proofs.lemmas.Bool.{cases_lt}
 use Rattle.iv_text.specs.Ordered.{copies_by, added_by, AreInOrder, added, copies, ordered}
 use Rattle.iv_text.specs.Row.{Row, row_cmp}
 use Rattle.iv_text.proofs.OrderedLemmas.{copies-added, length-all_added}
 use Rattle.iv_track.specs.Copies.{expanded, removed_by}
-use Rattle.iv_track.specs.Entries.{IsLedger, value_at, last_until}
+use Rattle.iv_track.specs.Entries.{IsLedger, value_at, last_until, pair_cmp}
 use Rattle.iv_track.specs.Tracked.{removed}
 use Rattle.iv_track.proofs.Counts.{copies-expanded, copies-removed, expanded-insert, expanded-remove_entry, expanded-set_value}
 use Rattle.iv_track.proofs.Edits.{added-removed}
-use Rattle.iv_pair.specs.Lengths.{length_of, length_cmp, with_length, IsTally, AreLengths, IsSecond, AreUpTo}
+use Rattle.iv_pair.specs.Lengths.{length_of, with_length, IsTally, AreLengths, IsSecond, AreUpTo}
+use Rattle.iv_track.proofs.NumberOrder.{pair_total, pair_exact}
 use Rattle.iv_pair.proofs.PlaceLemmas.{le_pair, ge_pair, pair_ge}
-
-pub lengths_total : IsTotalOrder length_cmp
-lengths_total = then_total (on_total (λ (k : ℕ × ℕ). k.0) nat_cmp_total) (on_total (λ (k : ℕ × ℕ). k.1) nat_cmp_total)
-
-lengths_exact : CmpEqualImpliesEq length_cmp
-lengths_exact = exact_pairs nat_cmp nat_cmp exact_unsigned exact_unsigned
 
 -- ---- how many pass a test, with one more in order
 
@@ -54,28 +48,28 @@ module _ {K : Type 0} (cmp : K → K → Ordering) (p : K → Bool) where
 -- ---- one more length in the map
 
 module _ (es fs : List ((ℕ × ℕ) × ℕ)) (k : ℕ × ℕ) (t : IsTally es) where
-  pub count_at : copies_by length_cmp (expanded es) k ≡ unwrap_or (value_at length_cmp es k) 0
-  count_at = copies-expanded length_cmp lengths_total es k t.ordered
+  pub count_at : copies_by pair_cmp (expanded es) k ≡ unwrap_or (value_at pair_cmp es k) 0
+  count_at = copies-expanded pair_cmp pair_total es k t.ordered
 
   -- a count above 0 is there
-  some_is : 0 < copies_by length_cmp (expanded es) k → value_at length_cmp es k ≡ Some (unwrap_or (value_at length_cmp es k) 0)
-  some_is some = go (value_at length_cmp es k) (omega (arith, some, count_at))
+  some_is : 0 < copies_by pair_cmp (expanded es) k → value_at pair_cmp es k ≡ Some (unwrap_or (value_at pair_cmp es k) 0)
+  some_is some = go (value_at pair_cmp es k) (omega (arith, some, count_at))
     where
       go : (o : Option ℕ) → 0 < unwrap_or o 0 → o ≡ Some (unwrap_or o 0)
       go None e = absurd (omega arith)
       go (Some m) e = refl
 
-  module _ (n : ℕ) (count : n ≡ unwrap_or (value_at length_cmp es k) 0) (put : fs ≡ insert_entry length_cmp es k (n + 1)) where
-    pub raised_rows : expanded fs ≡ added_by length_cmp (expanded es) k
+  module _ (n : ℕ) (count : n ≡ unwrap_or (value_at pair_cmp es k) 0) (put : fs ≡ insert_entry pair_cmp es k (n + 1)) where
+    pub raised_rows : expanded fs ≡ added_by pair_cmp (expanded es) k
     raised_rows =
-        ap expanded (put ∙ ap (λ m. insert_entry length_cmp es k (m + 1)) count)
-        ∙ expanded-insert length_cmp lengths_total lengths_exact es k t.ordered t.present
+        ap expanded (put ∙ ap (λ m. insert_entry pair_cmp es k (m + 1)) count)
+        ∙ expanded-insert pair_cmp pair_total pair_exact es k t.ordered t.present
 
-    pub raised_tally : IsLedger length_cmp fs → k.1 < 2 ^ 32 → IsTally fs
+    pub raised_tally : IsLedger pair_cmp fs → k.1 < 2 ^ 32 → IsTally fs
     raised_tally ordered fits = record {
       ordered = ordered;
-      present = subst (λ gs. All (λ m. 0 < m) (values_of gs)) (sym put) (All-values-insert_entry length_cmp k (n + 1) (λ m. 0 < m) es t.present (omega arith));
-      small = subst (λ gs. All (λ (q : ℕ × ℕ). q.1 < 2 ^ 32) (keys_of gs)) (sym put) (All-keys-insert_entry length_cmp k (n + 1) (λ (q : ℕ × ℕ). q.1 < 2 ^ 32) es t.small fits);
+      present = subst (λ gs. All (λ m. 0 < m) (values_of gs)) (sym put) (All-values-insert_entry pair_cmp k (n + 1) (λ m. 0 < m) es t.present (omega arith));
+      small = subst (λ gs. All (λ (q : ℕ × ℕ). q.1 < 2 ^ 32) (keys_of gs)) (sym put) (All-keys-insert_entry pair_cmp k (n + 1) (λ (q : ℕ × ℕ). q.1 < 2 ^ 32) es t.small fits);
     }
 
 -- ---- one length less in the map
@@ -83,51 +77,51 @@ module _ (es fs : List ((ℕ × ℕ) × ℕ)) (k : ℕ × ℕ) (t : IsTally es) 
 -- fs is the map es with one length k less
 pub record IsLowered (es fs : List ((ℕ × ℕ) × ℕ)) (k : ℕ × ℕ) : Type 0 where
   pub tally : IsTally fs
-  pub rows : expanded fs ≡ removed_by length_cmp (expanded es) k
+  pub rows : expanded fs ≡ removed_by pair_cmp (expanded es) k
 
 -- a length that is counted is there
-pub not-absent : (es : List ((ℕ × ℕ) × ℕ)) (k : ℕ × ℕ) → IsTally es → 0 < copies_by length_cmp (expanded es) k → value_at length_cmp es k ≡ None → ⊥
+pub not-absent : (es : List ((ℕ × ℕ) × ℕ)) (k : ℕ × ℕ) → IsTally es → 0 < copies_by pair_cmp (expanded es) k → value_at pair_cmp es k ≡ None → ⊥
 not-absent es k t some none = absurd (omega (arith, some, count_at es es k t, ap (λ o. unwrap_or o 0) none))
 
-module _ (es fs : List ((ℕ × ℕ) × ℕ)) (k : ℕ × ℕ) (t : IsTally es) (n : ℕ) (count : value_at length_cmp es k ≡ Some n) where
+module _ (es fs : List ((ℕ × ℕ) × ℕ)) (k : ℕ × ℕ) (t : IsTally es) (n : ℕ) (count : value_at pair_cmp es k ≡ Some n) where
   pub count-pos : 0 < n
-  count-pos = subst (λ o. IfSome o (λ m. 0 < m)) count (IfSome-lookup_from_All (λ m. 0 < m) (is_at (length_cmp k)) es t.present)
+  count-pos = subst (λ o. IfSome o (λ m. 0 < m)) count (IfSome-lookup_from_All (λ m. 0 < m) (is_at (pair_cmp k)) es t.present)
 
-  pub lowered_by_take : n ≡ 1 → fs ≡ remove_entry (is_at (length_cmp k)) es → IsLedger length_cmp fs → IsLowered es fs k
+  pub lowered_by_take : n ≡ 1 → fs ≡ remove_entry (is_at (pair_cmp k)) es → IsLedger pair_cmp fs → IsLowered es fs k
   lowered_by_take one is ordered = record {
     tally = record {
       ordered = ordered;
-      present = subst (λ gs. All (λ m. 0 < m) (values_of gs)) (sym is) (All-map-remove_entry (is_at (length_cmp k)) (λ e. e.1) (λ m. 0 < m) es t.present);
-      small = subst (λ gs. All (λ (q : ℕ × ℕ). q.1 < 2 ^ 32) (keys_of gs)) (sym is) (All-map-remove_entry (is_at (length_cmp k)) (λ e. e.0) (λ (q : ℕ × ℕ). q.1 < 2 ^ 32) es t.small);
+      present = subst (λ gs. All (λ m. 0 < m) (values_of gs)) (sym is) (All-map-remove_entry (is_at (pair_cmp k)) (λ e. e.1) (λ m. 0 < m) es t.present);
+      small = subst (λ gs. All (λ (q : ℕ × ℕ). q.1 < 2 ^ 32) (keys_of gs)) (sym is) (All-map-remove_entry (is_at (pair_cmp k)) (λ e. e.0) (λ (q : ℕ × ℕ). q.1 < 2 ^ 32) es t.small);
     };
-    rows = ap expanded is ∙ expanded-remove_entry length_cmp es k (count ∙ ap Some one);
+    rows = ap expanded is ∙ expanded-remove_entry pair_cmp es k (count ∙ ap Some one);
   }
 
-  pub lowered_by_set : n ≢ 1 → fs ≡ set_value (is_at (length_cmp k)) es (n - 1) → IsLedger length_cmp fs → IsLowered es fs k
+  pub lowered_by_set : n ≢ 1 → fs ≡ set_value (is_at (pair_cmp k)) es (n - 1) → IsLedger pair_cmp fs → IsLowered es fs k
   lowered_by_set more is ordered =
       let e : n ≡ suc (n - 1) = omega (arith, count-pos) in
       let below : 0 < n - 1 = omega (arith, count-pos) in
       record {
         tally = record {
           ordered = ordered;
-          present = subst (λ gs. All (λ m. 0 < m) (values_of gs)) (sym is) (All-values-set_value (is_at (length_cmp k)) (λ m. 0 < m) es (n - 1) t.present below);
+          present = subst (λ gs. All (λ m. 0 < m) (values_of gs)) (sym is) (All-values-set_value (is_at (pair_cmp k)) (λ m. 0 < m) es (n - 1) t.present below);
           small = subst (λ gs. All (λ (q : ℕ × ℕ). q.1 < 2 ^ 32) (keys_of gs)) (sym is)
-              (subst (All (λ (q : ℕ × ℕ). q.1 < 2 ^ 32)) (sym (keys-set_value (is_at (length_cmp k)) es (n - 1))) t.small);
+              (subst (All (λ (q : ℕ × ℕ). q.1 < 2 ^ 32)) (sym (keys-set_value (is_at (pair_cmp k)) es (n - 1))) t.small);
         };
-        rows = ap expanded is ∙ expanded-set_value length_cmp es k (n - 1) (count ∙ ap Some e);
+        rows = ap expanded is ∙ expanded-set_value pair_cmp es k (n - 1) (count ∙ ap Some e);
       }
 
 -- ---- the lengths of records, one after another
 
-with_length-cons : (r : Row) (rows : List Row) (k : ℕ × ℕ) → with_length (r ∷ rows) k ≡ cond (is_eq (length_cmp k (length_of r))) 1 0 + with_length rows k
-with_length-cons r rows k = sum_by-cons (λ q. cond (is_eq (length_cmp k (length_of q))) 1 0) r rows
+with_length-cons : (r : Row) (rows : List Row) (k : ℕ × ℕ) → with_length (r ∷ rows) k ≡ cond (is_eq (pair_cmp k (length_of r))) 1 0 + with_length rows k
+with_length-cons r rows k = sum_by-cons (λ q. cond (is_eq (pair_cmp k (length_of q))) 1 0) r rows
 
 -- the map has the lengths of all records but those that are left
 pub record IsCounted (es : List ((ℕ × ℕ) × ℕ)) (left rows : List Row) : Type 0 where
   pub tally : IsTally es
-  pub counts : (k : ℕ × ℕ) → copies_by length_cmp (expanded es) k + with_length left k ≡ with_length rows k
+  pub counts : (k : ℕ × ℕ) → copies_by pair_cmp (expanded es) k + with_length left k ≡ with_length rows k
 
-no_lengths : IsLedger {V = ℕ} length_cmp []
+no_lengths : IsLedger {V = ℕ} pair_cmp []
 unfolding IsStrictlySortedBy
 no_lengths = tt
 
@@ -137,11 +131,11 @@ IsCounted-begin es rows none = rw none record {
   counts = λ k. omega arith;
 }
 
-pub IsCounted-room : (es : List ((ℕ × ℕ) × ℕ)) (left rows : List Row) (k : ℕ × ℕ) → IsCounted es left rows → copies_by length_cmp (expanded es) k ≤ length rows
-IsCounted-room es left rows k c = omega (arith, c.counts k, count_by-le-length (λ r. is_eq (length_cmp k (length_of r))) rows)
+pub IsCounted-room : (es : List ((ℕ × ℕ) × ℕ)) (left rows : List Row) (k : ℕ × ℕ) → IsCounted es left rows → copies_by pair_cmp (expanded es) k ≤ length rows
+IsCounted-room es left rows k c = omega (arith, c.counts k, count_by-le-length (λ r. is_eq (pair_cmp k (length_of r))) rows)
 
 IsCounted-next : (es fs : List ((ℕ × ℕ) × ℕ)) (left after rows : List Row) (r : Row) → IsCounted es left rows → left ≡ r ∷ after
-    → IsTally fs → expanded fs ≡ added_by length_cmp (expanded es) (length_of r) → IsCounted fs after rows
+    → IsTally fs → expanded fs ≡ added_by pair_cmp (expanded es) (length_of r) → IsCounted fs after rows
 IsCounted-next es fs left after rows r c first t up = record {
   tally = t;
   counts = λ k. omega (
@@ -149,8 +143,8 @@ IsCounted-next es fs left after rows r c first t up = record {
     c.counts k,
     ap (λ (l : List Row). with_length l k) first,
     with_length-cons r after k,
-    ap (λ (l : List (ℕ × ℕ)). copies_by length_cmp l k) up,
-    copies-added length_cmp (expanded es) (length_of r) k,
+    ap (λ (l : List (ℕ × ℕ)). copies_by pair_cmp l k) up,
+    copies-added pair_cmp (expanded es) (length_of r) k,
   );
 }
 
@@ -165,7 +159,7 @@ drop-at rows i d low = rw (drop-cons rows i d low, add-one) refl
 
 -- the record at the index is counted
 pub IsCounted-at : (es fs : List ((ℕ × ℕ) × ℕ)) (rows : List Row) (i : ℕ) (d : Row) → i < length rows → IsCounted es (drop i rows) rows
-    → IsTally fs → expanded fs ≡ added_by length_cmp (expanded es) (length_of (get_or rows i d)) → IsCounted fs (drop (i + 1) rows) rows
+    → IsTally fs → expanded fs ≡ added_by pair_cmp (expanded es) (length_of (get_or rows i d)) → IsCounted fs (drop (i + 1) rows) rows
 IsCounted-at es fs rows i d low c t up = IsCounted-next es fs (drop i rows) (drop (i + 1) rows) rows (get_or rows i d) c (drop-at rows i d low) t up
 
 drop-end : (rows : List Row) (i : ℕ) → length rows ≤ i → drop i rows ≡ []
@@ -182,45 +176,45 @@ IsCounted-end es rows i past c = IsCounted-all es (drop i rows) rows c (drop-end
 pub AreLengths-ordered : (es : List ((ℕ × ℕ) × ℕ)) (rows : List Row) → AreLengths es rows → AreLengths es (ordered rows)
 AreLengths-ordered es rows a = record {
   tally = a.tally;
-  counts = λ k. omega (arith, a.counts k, count-all_added row_cmp (λ r. is_eq (length_cmp k (length_of r))) rows []);
+  counts = λ k. omega (arith, a.counts k, count-all_added row_cmp (λ r. is_eq (pair_cmp k (length_of r))) rows []);
 }
 
 -- ---- the lengths of a track's records, with one more and with one less
 
 -- a length is counted at most once for each record
-pub AreLengths-room : (es : List ((ℕ × ℕ) × ℕ)) (rows : List Row) (k : ℕ × ℕ) → AreLengths es rows → copies_by length_cmp (expanded es) k ≤ length rows
-AreLengths-room es rows k a = omega (arith, a.counts k, count_by-le-length (λ r. is_eq (length_cmp k (length_of r))) rows)
+pub AreLengths-room : (es : List ((ℕ × ℕ) × ℕ)) (rows : List Row) (k : ℕ × ℕ) → AreLengths es rows → copies_by pair_cmp (expanded es) k ≤ length rows
+AreLengths-room es rows k a = omega (arith, a.counts k, count_by-le-length (λ r. is_eq (pair_cmp k (length_of r))) rows)
 
-with_length-added : (rows : List Row) (r : Row) (k : ℕ × ℕ) → with_length (added rows r) k ≡ cond (is_eq (length_cmp k (length_of r))) 1 0 + with_length rows k
-with_length-added rows r k = count-added row_cmp (λ q. is_eq (length_cmp k (length_of q))) rows r
+with_length-added : (rows : List Row) (r : Row) (k : ℕ × ℕ) → with_length (added rows r) k ≡ cond (is_eq (pair_cmp k (length_of r))) 1 0 + with_length rows k
+with_length-added rows r k = count-added row_cmp (λ q. is_eq (pair_cmp k (length_of q))) rows r
 
 -- a record that is there is one of those that have its length
 with_length-removed : (rows : List Row) (r : Row) (k : ℕ × ℕ) → AreInOrder rows → 0 < copies rows r
-    → with_length rows k ≡ cond (is_eq (length_cmp k (length_of r))) 1 0 + with_length (removed rows r) k
+    → with_length rows k ≡ cond (is_eq (pair_cmp k (length_of r))) 1 0 + with_length (removed rows r) k
 with_length-removed rows r k order there = ap (λ (l : List Row). with_length l k) (added-removed rows r order there) ∙ with_length-added (removed rows r) r k
 
 -- its length is counted
-pub counted-there : (es : List ((ℕ × ℕ) × ℕ)) (rows : List Row) (r : Row) → AreLengths es rows → AreInOrder rows → 0 < copies rows r → 0 < copies_by length_cmp (expanded es) (length_of r)
+pub counted-there : (es : List ((ℕ × ℕ) × ℕ)) (rows : List Row) (r : Row) → AreLengths es rows → AreInOrder rows → 0 < copies rows r → 0 < copies_by pair_cmp (expanded es) (length_of r)
 counted-there es rows r a order there =
-    omega (arith, a.counts (length_of r), with_length-removed rows r (length_of r) order there, ap {B = ℕ} (λ (o : Ordering). cond (is_eq o) 1 0) (tied_itself lengths_total (length_of r)))
+    omega (arith, a.counts (length_of r), with_length-removed rows r (length_of r) order there, ap {B = ℕ} (λ (o : Ordering). cond (is_eq o) 1 0) (tied_itself pair_total (length_of r)))
 
 -- a record whose length isn't counted is not there
-pub absent-uncounted : (es : List ((ℕ × ℕ) × ℕ)) (rows : List Row) (r : Row) → AreLengths es rows → AreInOrder rows → copies_by length_cmp (expanded es) (length_of r) ≡ 0 → copies rows r ≡ 0
+pub absent-uncounted : (es : List ((ℕ × ℕ) × ℕ)) (rows : List Row) (r : Row) → AreLengths es rows → AreInOrder rows → copies_by pair_cmp (expanded es) (length_of r) ≡ 0 → copies rows r ≡ 0
 absent-uncounted es rows r a order none = elim (cases_lt 0 (copies rows r)) [
   | inl there ↦ absurd (omega (arith, none, counted-there es rows r a order there))
   | inr low ↦ omega arith
 ]
 
 pub AreLengths-added : (es fs : List ((ℕ × ℕ) × ℕ)) (rows : List Row) (r : Row) → AreLengths es rows → IsTally fs
-    → expanded fs ≡ added_by length_cmp (expanded es) (length_of r) → AreLengths fs (added rows r)
+    → expanded fs ≡ added_by pair_cmp (expanded es) (length_of r) → AreLengths fs (added rows r)
 AreLengths-added es fs rows r a t up = record {
   tally = t;
   counts = λ k. omega (
     arith,
     a.counts k,
     with_length-added rows r k,
-    ap (λ (l : List (ℕ × ℕ)). copies_by length_cmp l k) up,
-    copies-added length_cmp (expanded es) (length_of r) k,
+    ap (λ (l : List (ℕ × ℕ)). copies_by pair_cmp l k) up,
+    copies-added pair_cmp (expanded es) (length_of r) k,
   );
 }
 
@@ -232,33 +226,33 @@ AreLengths-removed es fs rows r a order there low = record {
     arith,
     a.counts k,
     with_length-removed rows r k order there,
-    ap (λ (l : List (ℕ × ℕ)). copies_by length_cmp l k) low.rows,
-    copies-removed length_cmp lengths_total (expanded es) (length_of r) k (counted-there es rows r a order there),
+    ap (λ (l : List (ℕ × ℕ)). copies_by pair_cmp l k) low.rows,
+    copies-removed pair_cmp pair_total (expanded es) (length_of r) k (counted-there es rows r a order there),
   );
 }
 
 -- a length that was counted is there to be taken back
-pub raised-there : (es fs : List ((ℕ × ℕ) × ℕ)) (k : ℕ × ℕ) → expanded fs ≡ added_by length_cmp (expanded es) k → 0 < copies_by length_cmp (expanded fs) k
+pub raised-there : (es fs : List ((ℕ × ℕ) × ℕ)) (k : ℕ × ℕ) → expanded fs ≡ added_by pair_cmp (expanded es) k → 0 < copies_by pair_cmp (expanded fs) k
 raised-there es fs k up =
     omega (
       arith,
-      ap (λ (l : List (ℕ × ℕ)). copies_by length_cmp l k) up,
-      copies-added length_cmp (expanded es) k k,
-      ap {B = ℕ} (λ (o : Ordering). cond (is_eq o) 1 0) (tied_itself lengths_total k),
+      ap (λ (l : List (ℕ × ℕ)). copies_by pair_cmp l k) up,
+      copies-added pair_cmp (expanded es) k k,
+      ap {B = ℕ} (λ (o : Ordering). cond (is_eq o) 1 0) (tied_itself pair_total k),
     )
 
 -- and then all is counted as before
-pub AreLengths-back : (es fs gs : List ((ℕ × ℕ) × ℕ)) (rows : List Row) (k : ℕ × ℕ) → AreLengths es rows → expanded fs ≡ added_by length_cmp (expanded es) k
+pub AreLengths-back : (es fs gs : List ((ℕ × ℕ) × ℕ)) (rows : List Row) (k : ℕ × ℕ) → AreLengths es rows → expanded fs ≡ added_by pair_cmp (expanded es) k
     → IsLowered fs gs k → AreLengths gs rows
 AreLengths-back es fs gs rows k a up low = record {
   tally = low.tally;
   counts = λ q. omega (
     arith,
     a.counts q,
-    ap (λ (l : List (ℕ × ℕ)). copies_by length_cmp l q) up,
-    copies-added length_cmp (expanded es) k q,
-    ap (λ (l : List (ℕ × ℕ)). copies_by length_cmp l q) low.rows,
-    copies-removed length_cmp lengths_total (expanded fs) k q (raised-there es fs k up),
+    ap (λ (l : List (ℕ × ℕ)). copies_by pair_cmp l q) up,
+    copies-added pair_cmp (expanded es) k q,
+    ap (λ (l : List (ℕ × ℕ)). copies_by pair_cmp l q) low.rows,
+    copies-removed pair_cmp pair_total (expanded fs) k q (raised-there es fs k up),
   );
 }
 
@@ -276,13 +270,13 @@ up_to [] seq n h = All-nil (λ (q : Row). q.seq ≡ seq → q.stop ≤ q.start +
 up_to (r ∷ rows) seq n h =
     All-cons (λ (q : Row). q.seq ≡ seq → q.stop ≤ q.start + n) r rows
     (λ is.
-    let own = ap {B = ℕ} (λ (o : Ordering). cond (is_eq o) 1 0) (tied_itself lengths_total (length_of r)) in
+    let own = ap {B = ℕ} (λ (o : Ordering). cond (is_eq o) 1 0) (tied_itself pair_total (length_of r)) in
     let long : r.stop - r.start ≤ n = h (length_of r) is (omega (arith, with_length-cons r rows (length_of r), own)) in
     omega arith)
     (up_to rows seq n (λ k is some. h k is (omega (arith, some, with_length-cons r rows k))))
 
 pub AreLengths-up_to : (es : List ((ℕ × ℕ) × ℕ)) (rows : List Row) (seq n : ℕ) → AreLengths es rows
-    → ((k : ℕ × ℕ) → k.0 ≡ seq → 0 < copies_by length_cmp (expanded es) k → k.1 ≤ n) → AreUpTo seq n rows
+    → ((k : ℕ × ℕ) → k.0 ≡ seq → 0 < copies_by pair_cmp (expanded es) k → k.1 ≤ n) → AreUpTo seq n rows
 AreLengths-up_to es rows seq n a bound = up_to rows seq n (λ k is some. bound k is (omega (arith, a.counts k, some)))
 
 -- ---- the last length of a sequence
@@ -307,15 +301,15 @@ module _ {K V : Type 0} (p : K × V → Bool) (Q : K → Type 0) where
 -- the key is at k or after it, and passes
 abbrev Reaches : (ℕ × ℕ → Bool) → ℕ × ℕ → Option ((ℕ × ℕ) × ℕ) → Type 0
 Reaches p k None = ⊥
-Reaches p k (Some e) = (is_le (length_cmp k e.0) ≡ true) × (p e.0 ≡ true)
+Reaches p k (Some e) = (is_le (pair_cmp k e.0) ≡ true) × (p e.0 ≡ true)
 
-reaches_here : (p : ℕ × ℕ → Bool) (k : ℕ × ℕ) (e : (ℕ × ℕ) × ℕ) → is_le (length_cmp k e.0) ≡ true → (b : Bool) → p e.0 ≡ b → b ≡ true → Reaches p k (cond b (Some e) None)
+reaches_here : (p : ℕ × ℕ → Bool) (k : ℕ × ℕ) (e : (ℕ × ℕ) × ℕ) → is_le (pair_cmp k e.0) ≡ true → (b : Bool) → p e.0 ≡ b → b ≡ true → Reaches p k (cond b (Some e) None)
 reaches_here p k e le true is h = (le, is)
 reaches_here p k e le false is h = absurd cc
 
-reaches_same : (p : ℕ × ℕ → Bool) (k : ℕ × ℕ) (e : (ℕ × ℕ) × ℕ) → k ≡ e.0 → is_le (length_cmp k e.0) ≡ true → p e.0 ≡ true → (o : Option ((ℕ × ℕ) × ℕ))
-    → IfSome o (λ f. (length_cmp e.0 f.0 ≡ Less) × (p f.0 ≡ true)) → Reaches p k (option_or o (cond (p e.0) (Some e) None))
-reaches_same p k e same le is (Some f) h = (ap (λ x. is_le (length_cmp x f.0)) same ∙ ap is_le h.0, h.1)
+reaches_same : (p : ℕ × ℕ → Bool) (k : ℕ × ℕ) (e : (ℕ × ℕ) × ℕ) → k ≡ e.0 → is_le (pair_cmp k e.0) ≡ true → p e.0 ≡ true → (o : Option ((ℕ × ℕ) × ℕ))
+    → IfSome o (λ f. (pair_cmp e.0 f.0 ≡ Less) × (p f.0 ≡ true)) → Reaches p k (option_or o (cond (p e.0) (Some e) None))
+reaches_same p k e same le is (Some f) h = (ap (λ x. is_le (pair_cmp x f.0)) same ∙ ap is_le h.0, h.1)
 reaches_same p k e same le is None h = reaches_here p k e le (p e.0) refl is
 
 reaches_past : (p : ℕ × ℕ → Bool) (k : ℕ × ℕ) (e : (ℕ × ℕ) × ℕ) → (o : Option ((ℕ × ℕ) × ℕ)) → Reaches p k o → Reaches p k (option_or o (cond (p e.0) (Some e) None))
@@ -325,24 +319,24 @@ reaches_past p k e None h = absurd h
 none_some : {X : Type 0} (x : X) → None ≡ Some x → ⊥
 none_some x e = cc
 
-reaches : (p : ℕ × ℕ → Bool) (es : List ((ℕ × ℕ) × ℕ)) (k : ℕ × ℕ) (n : ℕ) → IsLedger length_cmp es → p k ≡ true → lookup (is_at (length_cmp k)) es ≡ Some n → Reaches p k (find (λ e. p e.0) (reverse es))
+reaches : (p : ℕ × ℕ → Bool) (es : List ((ℕ × ℕ) × ℕ)) (k : ℕ × ℕ) (n : ℕ) → IsLedger pair_cmp es → p k ≡ true → lookup (is_at (pair_cmp k)) es ≡ Some n → Reaches p k (find (λ e. p e.0) (reverse es))
 reaches p [] k n s is h = absurd (none_some n h)
 reaches p (e ∷ es) k n s is h =
     subst (Reaches p k) (sym (find-reverse (λ f. p f.0) e es))
-    ((elim (is_eq (length_cmp k e.0)) as (λ b. is_eq (length_cmp k e.0) ≡ b → cond b (Some e.1) (lookup (is_at (length_cmp k)) es) ≡ Some n → Reaches p k (option_or (find (λ f. p f.0) (reverse es)) (cond (p e.0) (Some e) None))) [
+    ((elim (is_eq (pair_cmp k e.0)) as (λ b. is_eq (pair_cmp k e.0) ≡ b → cond b (Some e.1) (lookup (is_at (pair_cmp k)) es) ≡ Some n → Reaches p k (option_or (find (λ f. p f.0) (reverse es)) (cond (p e.0) (Some e) None))) [
       | true ↦ λ here _.
-          let tied = (Equal-is (length_cmp k e.0)).0 here in
-          let same : k ≡ e.0 = lengths_exact k e.0 tied in
+          let tied = (Equal-is (pair_cmp k e.0)).0 here in
+          let same : k ≡ e.0 = pair_exact k e.0 tied in
           reaches_same p k e same (ap is_le tied) (ap p (sym same) ∙ is) (find (λ f. p f.0) (reverse es))
-          (found_last (λ f. p f.0) (λ y. length_cmp e.0 y ≡ Less) es (sorted_head length_cmp e.0 (keys_of es) s))
-      | false ↦ λ past there. reaches_past p k e (find (λ f. p f.0) (reverse es)) (reaches p es k n (sorted_tail length_cmp e.0 (keys_of es) s) is there)
+          (found_last (λ f. p f.0) (λ y. pair_cmp e.0 y ≡ Less) es (sorted_head pair_cmp e.0 (keys_of es) s))
+      | false ↦ λ past there. reaches_past p k e (find (λ f. p f.0) (reverse es)) (reaches p es k n (sorted_tail pair_cmp e.0 (keys_of es) s) is there)
     ]) refl h)
 
-key_holds : (P : ℕ × ℕ → Type 0) (es : List ((ℕ × ℕ) × ℕ)) (k : ℕ × ℕ) (n : ℕ) → All P (keys_of es) → lookup (is_at (length_cmp k)) es ≡ Some n → P k
+key_holds : (P : ℕ × ℕ → Type 0) (es : List ((ℕ × ℕ) × ℕ)) (k : ℕ × ℕ) (n : ℕ) → All P (keys_of es) → lookup (is_at (pair_cmp k)) es ≡ Some n → P k
 key_holds P [] k n a h = absurd (none_some n h)
 key_holds P (e ∷ es) k n a h =
-    (elim (is_eq (length_cmp k e.0)) as (λ b. is_eq (length_cmp k e.0) ≡ b → cond b (Some e.1) (lookup (is_at (length_cmp k)) es) ≡ Some n → P k) [
-      | true ↦ λ here _. subst P (sym (lengths_exact k e.0 ((Equal-is (length_cmp k e.0)).0 here))) (All-head P e.0 (keys_of es) a)
+    (elim (is_eq (pair_cmp k e.0)) as (λ b. is_eq (pair_cmp k e.0) ≡ b → cond b (Some e.1) (lookup (is_at (pair_cmp k)) es) ≡ Some n → P k) [
+      | true ↦ λ here _. subst P (sym (pair_exact k e.0 ((Equal-is (pair_cmp k e.0)).0 here))) (All-head P e.0 (keys_of es) a)
       | false ↦ λ past there. key_holds P es k n (All-tail P e.0 (keys_of es) a) there
     ]) refl h
 
@@ -351,7 +345,7 @@ abbrev pub Bounds : ℕ → ℕ × ℕ → Option ((ℕ × ℕ) × ℕ) → Type
 Bounds seq k None = ⊥
 Bounds seq k (Some e) = (e.0.0 ≡ seq) × (k.1 ≤ e.0.1)
 
-bounds_from : (seq : ℕ) (k : ℕ × ℕ) → k.0 ≡ seq → (o : Option ((ℕ × ℕ) × ℕ)) → Reaches (λ q. is_ge (length_cmp (seq, 2 ^ 32 - 1) q)) k o → Bounds seq k o
+bounds_from : (seq : ℕ) (k : ℕ × ℕ) → k.0 ≡ seq → (o : Option ((ℕ × ℕ) × ℕ)) → Reaches (λ q. is_ge (pair_cmp (seq, 2 ^ 32 - 1) q)) k o → Bounds seq k o
 bounds_from seq k is None h = absurd h
 bounds_from seq k is (Some e) h =
     let low = le_pair k.0 e.0.0 k.1 e.0.1 h.0 in
@@ -360,11 +354,11 @@ bounds_from seq k is (Some e) h =
     let one : e.0.0 ≡ seq = omega arith in
     (one, low.1 (is ∙ sym one))
 
-pub length_bound : (es : List ((ℕ × ℕ) × ℕ)) (seq : ℕ) (k : ℕ × ℕ) → IsTally es → k.0 ≡ seq → 0 < copies_by length_cmp (expanded es) k → Bounds seq k (last_until length_cmp es (seq, 2 ^ 32 - 1))
+pub length_bound : (es : List ((ℕ × ℕ) × ℕ)) (seq : ℕ) (k : ℕ × ℕ) → IsTally es → k.0 ≡ seq → 0 < copies_by pair_cmp (expanded es) k → Bounds seq k (last_until pair_cmp es (seq, 2 ^ 32 - 1))
 length_bound es seq k t is some =
-    let there : value_at length_cmp es k ≡ Some (unwrap_or (value_at length_cmp es k) 0) = some_is es es k t some in
+    let there : value_at pair_cmp es k ≡ Some (unwrap_or (value_at pair_cmp es k) 0) = some_is es es k t some in
     let small : k.1 < 2 ^ 32 = key_holds (λ (q : ℕ × ℕ). q.1 < 2 ^ 32) es k _ t.small there in
     let fits : k.1 ≤ 2 ^ 32 - 1 = omega arith in
-    bounds_from seq k is (last_until length_cmp es (seq, 2 ^ 32 - 1))
-    (reaches (λ q. is_ge (length_cmp (seq, 2 ^ 32 - 1) q)) es k _ t.ordered
+    bounds_from seq k is (last_until pair_cmp es (seq, 2 ^ 32 - 1))
+    (reaches (λ q. is_ge (pair_cmp (seq, 2 ^ 32 - 1) q)) es k _ t.ordered
     (subst (λ (s : ℕ). is_ge (ordering_then (nat_cmp seq s) (nat_cmp (2 ^ 32 - 1) k.1)) ≡ true) (sym is) (pair_ge seq (2 ^ 32 - 1) k.1 fits)) there)

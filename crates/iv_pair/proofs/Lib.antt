@@ -5,3 +5,9 @@ pub mod UncoveredLemmas
 pub mod LineLemmas
 mod YieldLemmas
 mod CarryLemmas
+mod FrontLemmas
+mod CountLemmas
+mod ReachLemmas
+mod StepLemmas
+mod EmptyAlike
+mod CoverLemmas

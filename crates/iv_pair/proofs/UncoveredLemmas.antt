@@ -44,7 +44,7 @@ empty_runs-hit f from start stop to some low before on = elim (cases_lt from sta
     | inl inside ↦
         let m : max from stop ≡ stop = omega arith in
         rw m (covered f from stop to (omega arith) (λ p l h t. on p (omega arith) h l t))
-    | inr behind ↦ let m : max from stop ≡ from = omega arith in rw m refl
+    | inr beyond ↦ let m : max from stop ≡ from = omega arith in rw m refl
   ])
 ]
 
@@ -81,8 +81,8 @@ off seq p b never = go (covers seq p b) refl
 off_before : (seq p : ℕ) (b : Row) → p < b.start → covers seq p b ≡ false
 off_before seq p b h = off seq p b (λ e. let r : b.start ≤ p = (covers_parts seq p b e).1 in omega arith)
 
-off_behind : (seq p : ℕ) (b : Row) → b.stop ≤ p → covers seq p b ≡ false
-off_behind seq p b h = off seq p b (λ e. let r : p < b.stop = (covers_parts seq p b e).2 in omega arith)
+off_after : (seq p : ℕ) (b : Row) → b.stop ≤ p → covers seq p b ≡ false
+off_after seq p b h = off seq p b (λ e. let r : p < b.stop = (covers_parts seq p b e).2 in omega arith)
 
 off_apart : (seq start stop p : ℕ) (b : Row) → start ≤ p → p < stop → overlaps seq start stop b ≡ false → covers seq p b ≡ false
 off_apart seq start stop p b l h none = off seq p b (λ e.
@@ -129,7 +129,7 @@ Left-next f seq from to b rows some l =
       record {
         low = b.start;
         found = h.3;
-        same = λ p low high. let past : from ≤ p = omega (arith, low) in let behind : b.stop ≤ p = omega (arith, low) in omega (arith, l.same p past high, depth-cons b rows seq p, ap {B = ℕ} (λ c. cond c 1 0) (off_behind seq p b behind));
+        same = λ p low high. let past : from ≤ p = omega (arith, low) in let beyond : b.stop ≤ p = omega (arith, low) in omega (arith, l.same p past high, depth-cons b rows seq p, ap {B = ℕ} (λ c. cond c 1 0) (off_after seq p b beyond));
       },
     )
 

@@ -1,37 +1,32 @@
 -- How many records there are of each length, in a map. This is a part of the state of `Second`, as seen by its proof, and no part of
 -- what is promised.
 use Rattle.std.specs.Prelude.{◌≡◌, ℕ, ◌+◌, ◌-◌, ◌<◌, ◌≤◌, ◌^◌, List, All, count_by, length}
-use Rattle.std.specs.declared.cmp.Ordering.{Ordering}
-use Rattle.std.specs.Ordering.{is_eq, nat_cmp, ordering_then}
+use Rattle.std.specs.Ordering.{is_eq}
 use Rattle.std.specs.Map.{keys_of, values_of}
 use Rattle.iv_text.specs.Ordered.{copies_by}
 use Rattle.iv_text.specs.Row.{Row}
 use Rattle.iv_track.specs.Copies.{expanded}
-use Rattle.iv_track.specs.Entries.{IsLedger}
+use Rattle.iv_track.specs.Entries.{IsLedger, pair_cmp}
 use Rattle.iv_track.specs.Tracked.{Tracked}
 
 -- the rank of a record's sequence, and how many positions it has
 abbrev pub length_of : Row → ℕ × ℕ
 length_of r = (r.seq, r.stop - r.start)
 
--- lengths in order: by rank, and then by the number of positions
-abbrev pub length_cmp : ℕ × ℕ → ℕ × ℕ → Ordering
-length_cmp a b = ordering_then (nat_cmp a.0 b.0) (nat_cmp a.1 b.1)
-
 -- how many of the records have this length
 abbrev pub with_length : List Row → ℕ × ℕ → ℕ
-with_length rows k = count_by (λ r. is_eq (length_cmp k (length_of r))) rows
+with_length rows k = count_by (λ r. is_eq (pair_cmp k (length_of r))) rows
 
 -- a map from lengths of 32 bits to numbers that are not 0
 pub record IsTally (es : List ((ℕ × ℕ) × ℕ)) : Type 0 where
-  pub ordered : IsLedger length_cmp es
+  pub ordered : IsLedger pair_cmp es
   pub present : All (λ n. 0 < n) (values_of es)
   pub small : All (λ (k : ℕ × ℕ). k.1 < 2 ^ 32) (keys_of es)
 
 -- the map has each length that occurs, with the number of records that have it, and no other
 pub record AreLengths (es : List ((ℕ × ℕ) × ℕ)) (rows : List Row) : Type 0 where
   pub tally : IsTally es
-  pub counts : (k : ℕ × ℕ) → copies_by length_cmp (expanded es) k ≡ with_length rows k
+  pub counts : (k : ℕ × ℕ) → copies_by pair_cmp (expanded es) k ≡ with_length rows k
 
 -- what a second file keeps true: the map has the lengths of its track's records, of which there are no more than the limit
 pub record IsSecond (es : List ((ℕ × ℕ) × ℕ)) (track : Tracked) : Type 0 where

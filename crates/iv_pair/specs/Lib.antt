@@ -5,3 +5,7 @@ pub mod IntersectRows
 pub mod SubtractRows
 pub mod PairRows
 pub mod Putting
+pub mod Counts
+pub mod Pairs
+pub mod PairSweeps
+pub mod CoverAlone

@@ -148,7 +148,7 @@ fn place<'a, A: Allocator + Copy>(
     if goes_on {
         carried.keep(seq, start);
         take_begun(carried, rows, seq, start, 8, meter);
-        if stands_from(rows, seq, from, meter) {
+        if begins_from(rows, seq, from, meter) {
             return;
         }
     }
@@ -157,7 +157,7 @@ fn place<'a, A: Allocator + Copy>(
 }
 
 /// Whether the first of the records is from a start on. Where it does, to begin at the root would lead no further.
-fn stands_from<A: Allocator + Copy>(
+fn begins_from<A: Allocator + Copy>(
     rows: &Rows<'_, A>,
     seq: u32,
     from: u64,

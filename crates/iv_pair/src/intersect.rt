@@ -9,7 +9,7 @@ ghost use Rattle.iv_pair.specs.Hits.{hits_of};
 ghost use Rattle.iv_pair.specs.IntersectRows.{shared, intersect_rows};
 ghost use Rattle.iv_pair.specs.Putting.{Overlaps, AllOverlap, hit_line};
 
-use crate::lines::{put_count, put_if_hit, put_if_no_hit, put_pair};
+use crate::lines::{put_count, put_if, put_pair};
 use iv_bytes::{Sink, WriteFault};
 use iv_text::{BedRecord, Genome, RecordRef, put_line};
 use std::alloc::Allocator;
@@ -56,9 +56,9 @@ pub fn put_intersect<
     ensures { (second : List Row) → AlwaysYields H.next_gives T.as_row hits (hits_of second (R.as_row row.now)) → Puts (S.state sink.old) (S.state sink.new) result (intersect_rows shown genome.now (R.as_row row.now) (hits_of second (R.as_row row.now))) }
 {
     match shown {
-        IntersectRows::IfHit => put_if_hit(genome, row, hits, sink),
-        IntersectRows::IfNoHit => put_if_no_hit(genome, row, hits, sink),
-        IntersectRows::Count => put_count(genome, row, hits, sink),
+        IntersectRows::IfHit => put_if(true, genome, row, hits, sink),
+        IntersectRows::IfNoHit => put_if(false, genome, row, hits, sink),
+        IntersectRows::Count => put_count(genome, row, hits.count() as u64, sink),
         IntersectRows::Shared
         | IntersectRows::SharedAndHit
         | IntersectRows::Whole

@@ -4,7 +4,8 @@ ghost use Rattle.iv_text.specs.Ordered.{added_by, copies_by};
 ghost use Rattle.iv_text.specs.Row.{Row};
 ghost use Rattle.iv_track.specs.Copies.{expanded, removed_by};
 ghost use Rattle.iv_track.specs.Steps.{TakesUpTo};
-ghost use Rattle.iv_pair.specs.Lengths.{AreLengths, IsTally, length_cmp, length_of};
+ghost use Rattle.iv_track.specs.Entries.{pair_cmp};
+ghost use Rattle.iv_pair.specs.Lengths.{AreLengths, IsTally, length_of};
 
 use iv_text::Record;
 use iv_track::{Ledger, Meter};
@@ -34,9 +35,9 @@ pub(crate) fn raise<A: Allocator + Copy>(
 ) -> Result<(), AllocError>
     requires tally { IsTally lengths.old }
     requires small { key.1 < 2 ^ 32 }
-    requires room { copies_by length_cmp (expanded lengths.old) key < 2 ^ 32 - 1 }
-    ensures ok { OnOk result (IsTally lengths.new × (expanded lengths.new ≡ added_by length_cmp (expanded lengths.old) key)) }
-    ensures memory { OnErr result (copies_by length_cmp (expanded lengths.old) key ≡ 0) }
+    requires room { copies_by pair_cmp (expanded lengths.old) key < 2 ^ 32 - 1 }
+    ensures ok { OnOk result (IsTally lengths.new × (expanded lengths.new ≡ added_by pair_cmp (expanded lengths.old) key)) }
+    ensures memory { OnErr result (copies_by pair_cmp (expanded lengths.old) key ≡ 0) }
     ensures err { OnErr result (lengths.new ≡ lengths.old) }
     ensures steps { TakesUpTo meter.old meter.new 2 }
 {
@@ -52,8 +53,8 @@ pub(crate) fn lower<A: Allocator + Copy>(
     meter: &mut Meter,
 )
     requires tally { IsTally lengths.old }
-    requires there { 0 < copies_by length_cmp (expanded lengths.old) key }
-    ensures lowered { IsTally lengths.new × (expanded lengths.new ≡ removed_by length_cmp (expanded lengths.old) key) }
+    requires there { 0 < copies_by pair_cmp (expanded lengths.old) key }
+    ensures lowered { IsTally lengths.new × (expanded lengths.new ≡ removed_by pair_cmp (expanded lengths.old) key) }
     ensures steps { TakesUpTo meter.old meter.new 2 }
 {
     let Some(count) = lengths.get(&key, meter).copied() else {
@@ -85,7 +86,7 @@ pub(crate) fn lengths_of<A: Allocator + Copy>(
 /// A number of positions that no record on the sequence of this rank has more than: the greatest that is counted.
 pub(crate) fn longest<A: Allocator + Copy>(lengths: &Lengths<A>, seq: u32, meter: &mut Meter) -> u64
     requires { IsTally lengths.now }
-    ensures { (k : ℕ × ℕ) → k.0 ≡ seq → 0 < copies_by length_cmp (expanded lengths.now) k → k.1 ≤ result }
+    ensures { (k : ℕ × ℕ) → k.0 ≡ seq → 0 < copies_by pair_cmp (expanded lengths.now) k → k.1 ≤ result }
 {
     match lengths.at_or_before(&(seq, u32::MAX), meter) {
         Some((key, _)) => {

@@ -1,10 +1,10 @@
 //! Lines of records, of pairs of records, and of a record with a number.
-ghost use Rattle.std.specs.Prelude.{◌≤◌, ◌++◌, List, length, codes, decimal};
-ghost use Rattle.std.specs.Iterator.{AlwaysYields, UpTo};
+ghost use Rattle.std.specs.Prelude.{◌≡◌, ◌≤◌, ◌++◌, if◌then◌else◌, List, length, codes};
+ghost use Rattle.std.specs.Iterator.{AlwaysYields};
 ghost use Rattle.iv_bytes.specs.Sinks.{Puts};
 ghost use Rattle.iv_text.specs.Row.{Row};
-ghost use Rattle.iv_text.specs.RecordText.{record_text};
-ghost use Rattle.iv_pair.specs.IntersectRows.{record_line, pair_line, any_line, none_line};
+ghost use Rattle.iv_pair.specs.IntersectRows.{record_line, pair_line, any_line, none_line, intersect_rows};
+ghost use Rattle.iv_pair.specs.declared.intersect.IntersectRows.TheVariants.{Count};
 ghost use Rattle.iv_pair.specs.Putting.{part_line};
 
 use iv_bytes::{Sink, WriteFault, put_all};
@@ -56,53 +56,33 @@ pub(crate) fn put_part<A: Allocator + Copy, R: BedRecord, S: Sink>(
     }
 }
 
-/// Puts the line of a record, if it has a hit.
-pub(crate) fn put_if_hit<
+/// Puts the line of a record, if it has a hit, or if it has none.
+pub(crate) fn put_if<
     A: Allocator + Copy,
     R: BedRecord,
     T: BedRecord,
     H: Iterator<Item = T>,
     S: Sink,
->(genome: &Genome<A>, row: &R, hits: H, sink: &mut S) -> Result<(), WriteFault>
+>(has: bool, genome: &Genome<A>, row: &R, hits: H, sink: &mut S) -> Result<(), WriteFault>
     requires { H.can_next hits }
-    ensures { (found : List Row) → AlwaysYields H.next_gives T.as_row hits found → Puts (S.state sink.old) (S.state sink.new) result (any_line genome.now (R.as_row row.now) found) }
+    ensures { (found : List Row) → AlwaysYields H.next_gives T.as_row hits found → Puts (S.state sink.old) (S.state sink.new) result (if has then any_line genome.now (R.as_row row.now) found else none_line genome.now (R.as_row row.now) found) }
 {
     let mut hits = hits;
-    match hits.next() {
-        Some(_) => put_line(sink, genome, &row.to_ref()),
-        None => Ok(()),
-    }
-}
-
-/// Puts the line of a record, if it has none.
-pub(crate) fn put_if_no_hit<
-    A: Allocator + Copy,
-    R: BedRecord,
-    T: BedRecord,
-    H: Iterator<Item = T>,
-    S: Sink,
->(genome: &Genome<A>, row: &R, hits: H, sink: &mut S) -> Result<(), WriteFault>
-    requires { H.can_next hits }
-    ensures { (found : List Row) → AlwaysYields H.next_gives T.as_row hits found → Puts (S.state sink.old) (S.state sink.new) result (none_line genome.now (R.as_row row.now) found) }
-{
-    let mut hits = hits;
-    match hits.next() {
-        Some(_) => Ok(()),
-        None => put_line(sink, genome, &row.to_ref()),
+    if hits.next().is_some() == has {
+        put_line(sink, genome, &row.to_ref())
+    } else {
+        Ok(())
     }
 }
 
 /// Puts the line of a record with the number of its hits.
-pub(crate) fn put_count<
-    A: Allocator + Copy,
-    R: BedRecord,
-    T: BedRecord,
-    H: Iterator<Item = T>,
-    S: Sink,
->(genome: &Genome<A>, row: &R, hits: H, sink: &mut S) -> Result<(), WriteFault>
-    requires starts { H.can_next hits }
-    requires few { UpTo (H.remaining hits) u64.MAX }
-    ensures { (found : List Row) → AlwaysYields H.next_gives T.as_row hits found → Puts (S.state sink.old) (S.state sink.new) result (record_text genome.now (R.as_row row.now) ++ (codes "\t" ++ (decimal (length found) ++ codes "\n"))) }
+pub(crate) fn put_count<A: Allocator + Copy, R: BedRecord, S: Sink>(
+    genome: &Genome<A>,
+    row: &R,
+    count: u64,
+    sink: &mut S,
+) -> Result<(), WriteFault>
+    ensures { (found : List Row) → length found ≡ count → Puts (S.state sink.old) (S.state sink.new) result (intersect_rows Count genome.now (R.as_row row.now) found) }
 {
-    put_numbered(sink, genome, &row.to_ref(), hits.count() as u64)
+    put_numbered(sink, genome, &row.to_ref(), count)
 }

@@ -7,7 +7,7 @@ ghost use Rattle.iv_text.specs.Row.{Row};
 ghost use Rattle.iv_pair.specs.Hits.{hits_of};
 ghost use Rattle.iv_pair.specs.SubtractRows.{subtract_rows, uncovered_rows};
 
-use crate::lines::{put_if_no_hit, put_part};
+use crate::lines::{put_if, put_part};
 use iv_bytes::{Sink, WriteFault};
 use iv_text::{BedRecord, Genome};
 use std::alloc::Allocator;
@@ -27,7 +27,7 @@ pub fn put_subtract<
     ensures { (second : List Row) → AreInOrder second → AlwaysYields H.next_gives T.as_row hits (hits_of second (R.as_row row.now)) → Puts (S.state sink.old) (S.state sink.new) result (subtract_rows whole genome.now (R.as_row row.now) second) }
 {
     if whole {
-        put_if_no_hit(genome, row, hits, sink)
+        put_if(false, genome, row, hits, sink)
     } else {
         put_uncovered(genome, row, hits, sink)
     }

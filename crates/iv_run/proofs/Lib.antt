@@ -1,4 +1,4 @@
 pub mod ReadingLemmas
 pub mod LoadLemmas
 pub mod ShotLemmas
-pub mod SweepLemmas
+mod PlacesAlone

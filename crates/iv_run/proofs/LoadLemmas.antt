@@ -13,34 +13,34 @@ use Rattle.iv_args.specs.declared.plan.Slot.TheVariants.{Sizes, First, Other, Ba
 use Rattle.iv_run.specs.Loading.{parsed, bases_said, second_of, with_bases, with_second, with_first, with_genome, fault_of, damage_of}
 
 -- a fault is reported as damage, unless it is out of memory
-told : (c : LoadCause) (damaged : CliFault) → (c ≡ cause.Memory) ⊎ (fault_of c damaged ≡ damaged)
-told cause.Memory damaged = inl refl
-told cause.Columns damaged = inr refl
-told cause.Name damaged = inr refl
-told cause.Length damaged = inr refl
-told cause.Repeated damaged = inr refl
-told cause.BasesFirst damaged = inr refl
-told cause.Base damaged = inr refl
-told cause.WrongLength damaged = inr refl
-told (cause.Record f) damaged = inr refl
-told cause.TooMany damaged = inr refl
+reported : (c : LoadCause) (damaged : CliFault) → (c ≡ cause.Memory) ⊎ (fault_of c damaged ≡ damaged)
+reported cause.Memory damaged = inl refl
+reported cause.Columns damaged = inr refl
+reported cause.Name damaged = inr refl
+reported cause.Length damaged = inr refl
+reported cause.Repeated damaged = inr refl
+reported cause.BasesFirst damaged = inr refl
+reported cause.Base damaged = inr refl
+reported cause.WrongLength damaged = inr refl
+reported (cause.Record f) damaged = inr refl
+reported cause.TooMany damaged = inr refl
 
 -- why a file's fault is reported: out of memory, or what the file's text says
 abbrev pub IsWhy : {T : Type 0} → LoadFault → Result T LoadFault → Type 0
 IsWhy f said = (f ≡ record { line = 0; cause = cause.Memory }) ⊎ (said ≡ Err f)
 
 -- a fault of one file is out of memory, or what the whole is reported as where the file's damage is that
-told-by : {S T : Type 0} (slot : Slot) (f : LoadFault) (said : Result S LoadFault) (whole : Result T CliFault)
+reported-by : {S T : Type 0} (slot : Slot) (f : LoadFault) (said : Result S LoadFault) (whole : Result T CliFault)
     → (said ≡ Err f → whole ≡ Err (Damaged slot f)) → IsWhy f said → (damage_of slot f ≡ Memory) ⊎ (whole ≡ Err (damage_of slot f))
-told-by slot f said whole leads (inl memory) = inl (ap (damage_of slot) memory)
-told-by slot f said whole leads (inr is) = elim (told f.cause (Damaged slot f)) [
+reported-by slot f said whole leads (inl memory) = inl (ap (damage_of slot) memory)
+reported-by slot f said whole leads (inr is) = elim (reported f.cause (Damaged slot f)) [
   | inl memory ↦ inl (ap (λ c. fault_of c (Damaged slot f)) memory)
   | inr same ↦ inr (leads is ∙ ap Err (sym same))
 ]
 
 module _ (width : ℕ) (sizes first : List ℕ) (other bases : Option (List ℕ)) (limit : ℕ) where
   pub genome-damaged : (f : LoadFault) → IsWhy f (genome_of sizes) → (damage_of Sizes f ≡ Memory) ⊎ (parsed width sizes first other bases limit ≡ Err (damage_of Sizes f))
-  genome-damaged f why = told-by Sizes f (genome_of sizes) (parsed width sizes first other bases limit) (ap (with_genome width first other bases limit)) why
+  genome-damaged f why = reported-by Sizes f (genome_of sizes) (parsed width sizes first other bases limit) (ap (with_genome width first other bases limit)) why
 
   -- the genome file is sound
   module _ (g : Sequences) (genome : genome_of sizes ≡ Ok g) where
@@ -49,7 +49,7 @@ module _ (width : ℕ) (sizes first : List ℕ) (other bases : Option (List ℕ)
 
     pub first-damaged : (f : LoadFault) → IsWhy f (bed_of g width limit first) → (damage_of First f ≡ Memory) ⊎ (parsed width sizes first other bases limit ≡ Err (damage_of First f))
     first-damaged f why =
-        told-by First f (bed_of g width limit first) (parsed width sizes first other bases limit) (λ is. past-genome ∙ ap (with_first g width other bases limit) is) why
+        reported-by First f (bed_of g width limit first) (parsed width sizes first other bases limit) (λ is. past-genome ∙ ap (with_first g width other bases limit) is) why
 
     -- the first BED file is sound
     module _ (bed : Bed) (sound : bed_of g width limit first ≡ Ok bed) where
@@ -58,7 +58,7 @@ module _ (width : ℕ) (sizes first : List ℕ) (other bases : Option (List ℕ)
 
       pub second-damaged : (f : LoadFault) → IsWhy f (second_of g width limit other) → (damage_of Other f ≡ Memory) ⊎ (parsed width sizes first other bases limit ≡ Err (damage_of Other f))
       second-damaged f why =
-          told-by Other f (second_of g width limit other) (parsed width sizes first other bases limit) (λ is. past-first ∙ ap (with_second g bed bases limit) is) why
+          reported-by Other f (second_of g width limit other) (parsed width sizes first other bases limit) (λ is. past-first ∙ ap (with_second g bed bases limit) is) why
 
       -- the second BED file is sound, or there is none
       module _ (second : Option Bed) (whole : second_of g width limit other ≡ Ok second) where
@@ -66,4 +66,4 @@ module _ (width : ℕ) (sizes first : List ℕ) (other bases : Option (List ℕ)
         past-second = past-first ∙ ap (with_second g bed bases limit) whole
 
         pub bases-damaged : (f : LoadFault) → IsWhy f (bases_said g bases) → (damage_of Bases f ≡ Memory) ⊎ (parsed width sizes first other bases limit ≡ Err (damage_of Bases f))
-        bases-damaged f why = told-by Bases f (bases_said g bases) (parsed width sizes first other bases limit) (λ is. past-second ∙ ap (with_bases g bed second limit) is) why
+        bases-damaged f why = reported-by Bases f (bases_said g bases) (parsed width sizes first other bases limit) (λ is. past-second ∙ ap (with_bases g bed second limit) is) why

@@ -1,48 +1,103 @@
--- A run of one subcommand.
-use Rattle.std.proofs.Common.{◌≡◌, ℕ, List, Option, Some, None, Result, Ok, Err, refl, sym, ap, ◌∙◌, subst}
-use Rattle.iv_bytes.specs.Sinks.{SinkState}
+-- A run by one sweep.
+use Rattle.std.proofs.Common.{◌≡◌, ◌⊎◌, inl, inr, ℕ, false, List, [], map, Option, Result, Ok, Err, refl, sym, ap, ◌∙◌, subst}
+use Rattle.std.specs.Prelude.{All}
+use Rattle.std.specs.Option.{is_some}
+use Rattle.iv_bytes.specs.Sinks.{SinkState, Takes}
+use Rattle.iv_text.specs.BedFile.{Bed, bed_of}
 use Rattle.iv_text.specs.Genome.{Sequences}
-use Rattle.iv_text.specs.BedFile.{Bed}
+use Rattle.iv_text.specs.GenomeFile.{genome_of}
+use Rattle.iv_text.specs.Ordered.{ordered}
+use Rattle.iv_text.specs.Read.{IsOnGenome}
+use Rattle.iv_text.specs.declared.fault.LoadFault.{LoadFault}
+use Rattle.iv_index.specs.Places.{bare}
+use Rattle.iv_index.proofs.BareLemmas.{on_genome-bare, ordered-bare}
+use Rattle.iv_index.proofs.SortedLemmas.{on_genome-sorted}
 use Rattle.iv_fasta.specs.Fasta.{Bases}
-use Rattle.iv_view.specs.declared.view.View.{View}
+use Rattle.iv_view.specs.Views.{kept_text, read_words, view_text}
 use Rattle.iv_view.specs.declared.fault.ViewFault.{ViewFault}
-use Rattle.iv_workspace.specs.States.{State, begun}
-use Rattle.iv_workspace.specs.Views.{words_said}
+use Rattle.iv_view.specs.declared.fault.ViewFault.TheVariants as viewing
+use Rattle.iv_view.specs.declared.view.KeptView.{KeptView}
+use Rattle.iv_view.specs.declared.view.View.{View}
+use Rattle.iv_run.specs.Places.{NeedsPlacesAlone}
+use Rattle.iv_run.specs.Prints.{Prints}
 use Rattle.iv_run.specs.declared.fault.CliFault.{CliFault}
-use Rattle.iv_run.specs.Loading.{Parsed, session_of}
-use Rattle.iv_run.specs.Shots.{Shows, shown_in, said_in, shown_of, text_or_fault}
+use Rattle.iv_run.specs.declared.fault.CliFault.TheVariants as fault
+use Rattle.iv_run.specs.Loading.{Parsed, parsed, second_of, bases_said, with_bases, with_second, with_first, with_genome, fault_of_view}
+use Rattle.iv_run.specs.Shots.{Shows, shown_of, text_or_fault, text_beside, view_beside}
 
--- what a session of the files shows is what the files are to show
-begun-shows : (g : Sequences) (first : Bed) (second : Option Bed) (bases : Option Bases) (limit : ℕ) (words : List (List ℕ))
-    → shown_in (begun g first second bases limit) words
-    ≡ shown_of words (Ok (record { genome = g; first = first; second = second; bases = bases; limit = limit }))
-begun-shows g first None bases limit words = by (words_said (begun g first None bases limit) words)
-  where
-    by : (r : Result View ViewFault) → said_in (begun g first None bases limit) r
-        ≡ text_or_fault (record { genome = g; first = first; second = None; bases = bases; limit = limit }) r
-    by (Err why) = refl
-    by (Ok view) = refl
-begun-shows g first (Some file) bases limit words = by (words_said (begun g first (Some file) bases limit) words)
-  where
-    by : (r : Result View ViewFault) → said_in (begun g first (Some file) bases limit) r
-        ≡ text_or_fault (record { genome = g; first = first; second = Some file; bases = bases; limit = limit }) r
-    by (Err why) = refl
-    by (Ok view) = refl
+-- ---- damaged files
 
-err≢ok : {T E : Type 0} (t : T) (e : E) → Err e ≡ Ok t → ⊥
-err≢ok t e h = cc
+-- no file is reported as a fault of the output
+module _ (width : ℕ) (first : List ℕ) (other bases : Option (List ℕ)) (limit : ℕ) where
+  bases-reported : (g : Sequences) (bed : Bed) (second : Option Bed) (r : Result (Option Bases) LoadFault) → with_bases g bed second limit r ≡ Err fault.Output → ⊥
+  bases-reported g bed second (Err f) e = cc
+  bases-reported g bed second (Ok said) e = cc
 
-ok-same : (a b : State) → ◌≡◌ {A = Result State CliFault} (Ok a) (Ok b) → a ≡ b
-ok-same a b h = cc
+  second-reported : (g : Sequences) (bed : Bed) (r : Result (Option Bed) LoadFault) → with_second g bed bases limit r ≡ Err fault.Output → ⊥
+  second-reported g bed (Err f) e = cc
+  second-reported g bed (Ok second) e = bases-reported g bed second (bases_said g bases) e
 
-loaded-shows : (p : Result Parsed CliFault) (s : State) (words : List (List ℕ)) → session_of p ≡ Ok s → shown_in s words ≡ shown_of words p
-loaded-shows (Err f) s words h = absurd (err≢ok s f h)
-loaded-shows (Ok files) s words h =
-    ap (λ (x : State). shown_in x words) (sym (ok-same (begun files.genome files.first files.second files.bases files.limit) s h))
-    ∙ begun-shows files.genome files.first files.second files.bases files.limit words
+  first-reported : (g : Sequences) (r : Result Bed LoadFault) → with_first g width other bases limit r ≡ Err fault.Output → ⊥
+  first-reported g (Err f) e = cc
+  first-reported g (Ok bed) e = second-reported g bed (second_of g width limit other) e
 
--- what was printed from the session of the files is what they are to show
-pub shown-loaded : (p : Result Parsed CliFault) (s : State) (words view : List (List ℕ)) (old new : SinkState) (result : Result (Unit {0}) CliFault)
-    → session_of p ≡ Ok s → words ≡ view → Shows old new result (shown_in s words) → Shows old new result (shown_of view p)
-shown-loaded p s words view old new result loaded same shows =
-    subst (λ (said : Result (List ℕ) CliFault). Shows old new result said) (loaded-shows p s words loaded ∙ ap (λ (l : List (List ℕ)). shown_of l p) same) shows
+  genome-reported : (r : Result Sequences LoadFault) → with_genome width first other bases limit r ≡ Err fault.Output → ⊥
+  genome-reported (Err f) e = cc
+  genome-reported (Ok g) e = first-reported g (bed_of g width limit first) e
+
+-- a damaged file is reported, and nothing is printed
+pub shows-damage : (width : ℕ) (sizes first : List ℕ) (other bases : Option (List ℕ)) (limit : ℕ) (words : List (List ℕ)) (reported : CliFault) (old : SinkState)
+    → (reported ≡ fault.Memory) ⊎ (parsed width sizes first other bases limit ≡ Err reported) → Shows old old (Err reported) (shown_of words (parsed width sizes first other bases limit))
+shows-damage width sizes first other bases limit words fault.Memory old why = refl
+shows-damage width sizes first other bases limit words fault.Output old (inl e) = cc
+shows-damage width sizes first other bases limit words fault.Output old (inr e) = absurd (genome-reported width first other bases limit (genome_of sizes) e)
+shows-damage width sizes first other bases limit words (fault.Words code) old (inl e) = cc
+shows-damage width sizes first other bases limit words (fault.Words code) old (inr e) = (ap (shown_of words) e, refl)
+shows-damage width sizes first other bases limit words (fault.Damaged slot damage) old (inl e) = cc
+shows-damage width sizes first other bases limit words (fault.Damaged slot damage) old (inr e) = (ap (shown_of words) e, refl)
+
+-- ---- sound files
+
+module _ (said : Result Parsed CliFault) (files : Parsed) (is : said ≡ Ok files) (words : List (List ℕ)) where
+  asked-is : (r : Result View ViewFault) → view_beside files words ≡ r → shown_of words said ≡ text_or_fault files r
+  asked-is r asked = ap (shown_of words) is ∙ ap (text_or_fault files) asked
+
+  -- a fault of the words is reported, and nothing is printed
+  pub shows-words : (why : ViewFault) (old : SinkState) → view_beside files words ≡ Err why → Shows old old (Err (fault_of_view why)) (shown_of words said)
+  shows-words viewing.NoMemory old asked = refl
+  shows-words viewing.BadName old asked = (asked-is (Err viewing.BadName) asked, refl)
+  shows-words viewing.Taken old asked = (asked-is (Err viewing.Taken) asked, refl)
+  shows-words viewing.TooMany old asked = (asked-is (Err viewing.TooMany) asked, refl)
+  shows-words viewing.Words old asked = (asked-is (Err viewing.Words) asked, refl)
+  shows-words viewing.Column old asked = (asked-is (Err viewing.Column) asked, refl)
+  shows-words viewing.NoStrand old asked = (asked-is (Err viewing.NoStrand) asked, refl)
+  shows-words viewing.NoSecond old asked = (asked-is (Err viewing.NoSecond) asked, refl)
+  shows-words viewing.NoFasta old asked = (asked-is (Err viewing.NoFasta) asked, refl)
+
+  -- the text of the view is printed; or a prefix of it is, and the output failed; or nothing is, for out of memory
+  pub shows-text : (view : View) → view_beside files words ≡ Ok view → (old new : SinkState) (result : Result (Unit {0}) CliFault)
+      → Prints old new result (text_beside files view) → Shows old new result (shown_of words said)
+  shows-text view asked old new (Ok done) takes = (text_beside files view, asked-is (Ok view) asked, takes)
+  shows-text view asked old new (Err fault.Output) fails = (text_beside files view, asked-is (Ok view) asked, fails)
+  shows-text view asked old new (Err fault.Memory) same = same
+  shows-text view asked old new (Err (fault.Words code)) prints = absurd prints
+  shows-text view asked old new (Err (fault.Damaged slot damage)) prints = absurd prints
+
+-- ---- records that are sorted for a view
+
+-- the records that are sorted: those of the file, or where the view needs no more of them, their places
+abbrev pub AreEnough : KeptView → Bed → Bed → Type 0
+AreEnough view file left = (left ≡ file) ⊎ (NeedsPlacesAlone view × (left ≡ record file { width = 3; rows = map bare file.rows }))
+
+module _ (view : KeptView) (file left sorted : Bed) (is : sorted ≡ record left { rows = ordered left.rows }) (g : Sequences) where
+  -- they have the text of all the file's records in track order
+  pub text-sorted_for : AreEnough view file left → kept_text view g sorted.rows ≡ kept_text view g (ordered file.rows)
+  text-sorted_for (inl same) = ap (λ (b : Bed). kept_text view g b.rows) is ∙ ap (λ (b : Bed). kept_text view g (ordered b.rows)) same
+  text-sorted_for (inr (needs, same)) =
+      ap (λ (b : Bed). kept_text view g b.rows) is ∙ ap (λ (b : Bed). kept_text view g (ordered b.rows)) same
+      ∙ ap (kept_text view g) (ordered-bare file.rows) ∙ needs g (ordered file.rows)
+
+  -- and lie where those do
+  pub on_genome-sorted_for : AreEnough view file left → All (IsOnGenome g) file.rows → All (IsOnGenome g) sorted.rows
+  on_genome-sorted_for (inl same) lie = on_genome-sorted g left sorted (subst (λ (b : Bed). All (IsOnGenome g) b.rows) (sym same) lie) is
+  on_genome-sorted_for (inr (needs, same)) lie = on_genome-sorted g left sorted (subst (λ (b : Bed). All (IsOnGenome g) b.rows) (sym same) (on_genome-bare g file.rows lie)) is

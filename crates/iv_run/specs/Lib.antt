@@ -1,3 +1,5 @@
 pub mod Files
 pub mod Loading
 pub mod Shots
+pub mod Prints
+pub mod Places

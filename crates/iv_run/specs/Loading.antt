@@ -14,12 +14,8 @@ use Rattle.iv_view.specs.Views.{view_code}
 use Rattle.iv_view.specs.declared.fault.ViewFault.{ViewFault}
 use Rattle.iv_view.specs.declared.fault.ViewFault.TheVariants as viewing
 use Rattle.iv_workspace.specs.States.{State, begun}
-use Rattle.iv_workspace.specs.declared.fault.PrintFault.{PrintFault}
-use Rattle.iv_workspace.specs.declared.fault.PrintFault.TheVariants as printing
-use Rattle.iv_sweep.specs.declared.fault.SweepFault.{SweepFault}
-use Rattle.iv_sweep.specs.declared.fault.SweepFault.TheVariants as sweeping
 use Rattle.iv_run.specs.declared.fault.CliFault.{CliFault}
-use Rattle.iv_run.specs.declared.fault.CliFault.TheVariants.{Words, Damaged, Output, Memory}
+use Rattle.iv_run.specs.declared.fault.CliFault.TheVariants.{Words, Damaged, Memory}
 use Rattle.iv_args.specs.declared.plan.Slot.{Slot}
 use Rattle.iv_args.specs.declared.plan.Slot.TheVariants.{Sizes, First, Other, Bases}
 
@@ -35,17 +31,6 @@ damage_of slot f = fault_of f.cause (Damaged slot f)
 abbrev pub fault_of_view : ViewFault → CliFault
 fault_of_view viewing.NoMemory = Memory
 fault_of_view why = Words (view_code why)
-
--- how a fault of a print is reported
-abbrev pub fault_of_print : PrintFault → CliFault
-fault_of_print printing.NoMemory = Memory
-fault_of_print printing.Write = Output
-fault_of_print printing.NoView = Words 21
-
--- how a fault of a print in one sweep is reported
-abbrev pub fault_of_sweep : SweepFault → CliFault
-fault_of_sweep sweeping.NoMemory = Memory
-fault_of_sweep sweeping.Write = Output
 
 -- what the files of a run say, and how many records each track of them may hold
 pub record Parsed : Type 0 where

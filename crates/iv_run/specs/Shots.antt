@@ -1,16 +1,13 @@
 -- What a run of one subcommand prints.
-use Rattle.std.specs.Prelude.{◌≡◌, ℕ, List, [], Option, None, Result, Ok, Err}
+use Rattle.std.specs.Prelude.{◌≡◌, ℕ, List, [], Option, Result, Ok, Err}
 use Rattle.std.specs.Option.{is_some, option_map, unwrap_or}
 use Rattle.iv_bytes.specs.Sinks.{SinkState, Takes, FailsIn}
 use Rattle.iv_text.specs.BedFile.{Bed}
-use Rattle.iv_text.specs.Genome.{Sequences}
 use Rattle.iv_text.specs.Ordered.{ordered}
 use Rattle.iv_text.specs.Row.{Row}
 use Rattle.iv_view.specs.Views.{read_words, view_code, view_text}
 use Rattle.iv_view.specs.declared.view.View.{View}
 use Rattle.iv_view.specs.declared.fault.ViewFault.{ViewFault}
-use Rattle.iv_workspace.specs.States.{State}
-use Rattle.iv_workspace.specs.Views.{text_in, words_said}
 use Rattle.iv_run.specs.declared.fault.CliFault.{CliFault}
 use Rattle.iv_run.specs.declared.fault.CliFault.TheVariants as fault
 use Rattle.iv_run.specs.Loading.{Parsed, parsed}
@@ -43,14 +40,6 @@ shown_of words (Ok files) = text_or_fault files (view_beside files words)
 abbrev pub shown : RunPlan → List ℕ → List ℕ → Option (List ℕ) → Option (List ℕ) → ℕ → Result (List ℕ) CliFault
 shown plan sizes first other bases limit = shown_of plan.view (parsed plan.width sizes first other bases limit)
 
--- what the view of these words prints in a session, or the fault of the words (of `print_once`; no part of what is promised)
-abbrev pub said_in : State → Result View ViewFault → Result (List ℕ) CliFault
-said_in session (Err why) = Err (fault.Words (view_code why))
-said_in session (Ok view) = Ok (text_in session view)
-
-abbrev pub shown_in : State → List (List ℕ) → Result (List ℕ) CliFault
-shown_in session words = said_in session (words_said session words)
-
 -- what a run leaves of its output, where this is what it is to print: all of the text; or a prefix of it, the output failed;
 -- or nothing, for a fault that it is to tell, or for out of memory
 abbrev pub Shows : SinkState → SinkState → Result (Unit {0}) CliFault → Result (List ℕ) CliFault → Type 0
@@ -59,13 +48,3 @@ Shows old new (Err fault.Output) said = (text : List ℕ) × (said ≡ Ok text) 
 Shows old new (Err fault.Memory) said = new ≡ old
 Shows old new (Err (fault.Words code)) said = (said ≡ Err (fault.Words code)) × (new ≡ old)
 Shows old new (Err (fault.Damaged slot damage)) said = (said ≡ Err (fault.Damaged slot damage)) × (new ≡ old)
-
--- a genome, and what the BED files say (from here on: of a run by one sweep, and no part of what is promised)
-pub record FileTexts : Type 0 where
-  pub genome : Sequences
-  pub first : Bed
-  pub second : Option Bed
-
--- what files say among which there is no FASTA file
-abbrev pub without_bases : ℕ → FileTexts → Parsed
-without_bases limit t = record { genome = t.genome; first = t.first; second = t.second; bases = None; limit = limit }

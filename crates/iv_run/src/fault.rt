@@ -1,10 +1,8 @@
 //! Faults of a run.
 use iv_args::Slot;
 use iv_bytes::{ReadFault, WriteFault};
-use iv_sweep::SweepFault;
 use iv_text::{LoadCause, LoadFault};
 use iv_view::ViewFault;
-use iv_workspace::PrintFault;
 use std::alloc::AllocError;
 use thiserror::Error;
 
@@ -76,7 +74,7 @@ impl From<(Slot, LoadFault)> for CliFault {
     ghost use Rattle.std.specs.Prelude.{◌≡◌};
     ghost use Rattle.iv_run.specs.Loading.{damage_of};
 
-    ghost from_gives = { λ told fault. fault ≡ damage_of told.0 told.1 };
+    ghost from_gives = { λ why fault. fault ≡ damage_of why.0 why.1 };
 
     fn from((slot, fault): (Slot, LoadFault)) -> CliFault {
         match fault.cause {
@@ -91,41 +89,12 @@ impl From<ViewFault> for CliFault {
     ghost use Rattle.std.specs.Prelude.{◌≡◌};
     ghost use Rattle.iv_run.specs.Loading.{fault_of_view};
 
-    ghost from_gives = { λ told fault. fault ≡ fault_of_view told };
+    ghost from_gives = { λ why fault. fault ≡ fault_of_view why };
 
-    fn from(told: ViewFault) -> CliFault {
-        match told {
+    fn from(why: ViewFault) -> CliFault {
+        match why {
             ViewFault::NoMemory => CliFault::Memory,
-            _ => CliFault::Words(told.code()),
-        }
-    }
-}
-
-impl From<PrintFault> for CliFault {
-    ghost use Rattle.std.specs.Prelude.{◌≡◌};
-    ghost use Rattle.iv_run.specs.Loading.{fault_of_print};
-
-    ghost from_gives = { λ told fault. fault ≡ fault_of_print told };
-
-    fn from(told: PrintFault) -> CliFault {
-        match told {
-            PrintFault::NoMemory => CliFault::Memory,
-            PrintFault::Write => CliFault::Output,
-            PrintFault::NoView => CliFault::Words(21),
-        }
-    }
-}
-
-impl From<SweepFault> for CliFault {
-    ghost use Rattle.std.specs.Prelude.{◌≡◌};
-    ghost use Rattle.iv_run.specs.Loading.{fault_of_sweep};
-
-    ghost from_gives = { λ told fault. fault ≡ fault_of_sweep told };
-
-    fn from(told: SweepFault) -> CliFault {
-        match told {
-            SweepFault::NoMemory => CliFault::Memory,
-            SweepFault::Write => CliFault::Output,
+            _ => CliFault::Words(why.code()),
         }
     }
 }

@@ -68,7 +68,7 @@ fn parse_second<A: Allocator + Copy>(
 }
 
 /// What the FASTA file says, where there is one, or its first fault.
-fn parse_fasta<A: Allocator + Copy>(
+pub(crate) fn parse_fasta<A: Allocator + Copy>(
     alloc: A,
     genome: &Genome<A>,
     text: Option<Vec<u8, A>>,

@@ -1,10 +1,13 @@
 //! From the files of a run to a session, or to the rows of one view.
 #![tactic(auto)]
 
+mod fasta_rows;
 mod fault;
 mod inputs;
+mod kept_rows;
 mod laws;
 mod one_shot;
+mod pair_rows;
 mod reading;
 mod text_files;
 

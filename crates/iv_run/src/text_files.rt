@@ -1,49 +1,55 @@
-//! The genome file of a run and one BED file or two, with the records where they are in the texts.
-ghost use Rattle.std.specs.Prelude.{◌≡◌, ◌<◌, ◌≤◌, ◌^◌, ◌⊎◌, All, List, None, Ok, IsSome, IfSome, IfOk, IfErr, OnOk, length};
-ghost use Rattle.std.specs.Option.{is_some, option_copied};
+//! The files of a run of one subcommand, with the records where they are in the texts.
+ghost use Rattle.std.specs.Prelude.{◌≡◌, ◌<◌, ◌≤◌, ◌^◌, ◌⊎◌, All, List, [], Ok, Err, IsSome, IfSome, IfOk, IfErr, OnOk, length};
+ghost use Rattle.std.specs.Option.{is_some, option_copied, option_map, unwrap_or};
 ghost use Rattle.iv_text.specs.Genome.{Sequences};
 ghost use Rattle.iv_text.specs.Ordered.{AreInOrder, ordered};
-ghost use Rattle.iv_text.specs.Read.{LiesOn};
+ghost use Rattle.iv_text.specs.Read.{IsOnGenome};
 ghost use Rattle.iv_text.specs.Row.{Row};
 ghost use Rattle.iv_text.specs.declared.fault.LoadCause.TheVariants as cause;
+ghost use Rattle.iv_fasta.specs.FastaRows.{fasta_text};
 ghost use Rattle.iv_pair.specs.PairRows.{pair_text};
-ghost use Rattle.iv_sweep.specs.Prints.{Prints};
-ghost use Rattle.iv_sweep_pairs.specs.CoverAlone.{DependsOnCoverAlone, HaveBases};
+ghost use Rattle.iv_run.specs.Prints.{Prints};
+ghost use Rattle.iv_pair.specs.CoverAlone.{DependsOnCoverAlone, HaveBases};
 ghost use Rattle.iv_view.specs.Views.{kept_text};
 ghost use Rattle.iv_run.specs.Loading.{parsed, second_of};
-ghost use Rattle.iv_run.specs.Shots.{ordered_other, without_bases};
+ghost use Rattle.iv_run.specs.Shots.{ordered_other};
 
+use crate::fasta_rows::print_fasta;
 use crate::fault::CliFault;
-use crate::inputs::Inputs;
+use crate::inputs::{Inputs, parse_fasta};
+use crate::kept_rows::{needs_places_alone, print_kept};
+use crate::pair_rows::print_pairs;
 use iv_args::{Plan, Slot};
 use iv_bytes::Sink;
+use iv_fasta::{Fasta, FastaRows};
 use iv_index::BedText;
-use iv_pair::PairRows;
-use iv_sweep::{SweepFault, needs_places_alone, print_kept, print_pairs};
-use iv_sweep_pairs::needs_cover_alone;
+use iv_pair::{PairRows, needs_cover_alone};
 use iv_text::{Genome, LoadFault};
 use iv_view::KeptView;
 use std::alloc::{AllocError, Allocator, Global};
 use std::marker::Model;
 
-/// A genome, and the records of one file or two, as the files say them. Those of the first lie on the genome.
+/// A genome, the records of one BED file or two, and the bases of a FASTA file or none, as the files say them. The records of
+/// the first are on the genome.
 #[derive(Drop)]
 pub(crate) struct TextFiles<'t, A: Allocator + Copy = Global> {
     genome: Genome<A>,
     first: BedText<'t, A>,
     second: Option<BedText<'t, A>>,
+    fasta: Option<Fasta<A>>,
+    limit: u32,
 }
 
 impl<'t, A: Allocator + Copy> Model for TextFiles<'t, A> {
     ghost use Rattle.std.specs.Prelude.{All};
-    ghost use Rattle.iv_text.specs.Read.{LiesOn};
-    ghost use Rattle.iv_run.specs.Shots.{FileTexts};
+    ghost use Rattle.iv_text.specs.Read.{IsOnGenome};
+    ghost use Rattle.iv_run.specs.Loading.{Parsed};
 
-    ghost Value = { FileTexts };
+    ghost Value = { Parsed };
 
-    ghost view = { λ files. record { genome = files.genome; first = files.first; second = files.second } };
+    ghost view = { λ files. record { genome = files.genome; first = files.first; second = files.second; bases = files.fasta; limit = files.limit } };
 
-    ghost invariant = { λ files. All (LiesOn files.genome) files.first.rows };
+    ghost invariant = { λ files. All (IsOnGenome files.genome) files.first.rows };
 }
 
 /// What the second BED file says, where there is one, or its first fault.
@@ -75,7 +81,7 @@ fn sort_for<'t, A: Allocator + Copy>(
 ) -> Result<(), AllocError>
     ensures text { OnOk result ((genome : Sequences) → kept_text view.now genome file.new.rows ≡ kept_text view.now genome (ordered file.old.rows)) }
     ensures order { OnOk result (AreInOrder file.new.rows) }
-    ensures lying { OnOk result ((genome : Sequences) → All (LiesOn genome) file.old.rows → All (LiesOn genome) file.new.rows) }
+    ensures on_genome { OnOk result ((genome : Sequences) → All (IsOnGenome genome) file.old.rows → All (IsOnGenome genome) file.new.rows) }
 {
     if needs_places_alone(view) {
         file.drop_columns();
@@ -115,19 +121,21 @@ fn join_sorted<'t, A: Allocator + Copy>(rows: PairRows, file: &mut BedText<'t, A
 }
 
 impl<'t, A: Allocator + Copy> TextFiles<'t, A> {
-    /// What the genome file and the BED files say, or the fault of the first damaged one.
+    /// What the files say, or the fault of the first damaged one, in the order genome file, first BED file, second BED file,
+    /// FASTA file.
     pub(crate) fn read(
         alloc: A,
         plan: &Plan<'_, A>,
         inputs: &Inputs<'t>,
+        bases: Option<Vec<u8, A>>,
         limit: u32,
     ) -> Result<TextFiles<'t, A>, CliFault>
         requires first { length inputs.now.first.now < 2 ^ 32 }
         requires other { IfSome (option_copied inputs.now.other) (λ text. length text < 2 ^ 32) }
         ensures ok { IfOk result (λ files.
-            parsed plan.now.width inputs.now.sizes.now inputs.now.first.now (option_copied inputs.now.other) None limit ≡ Ok (without_bases limit files)) }
+            parsed plan.now.width inputs.now.sizes.now inputs.now.first.now (option_copied inputs.now.other) (option_map (λ text. text.items) bases) limit ≡ Ok files) }
         ensures err { IfErr result (λ fault. (fault ≡ CliFault.Memory) ⊎
-            (parsed plan.now.width inputs.now.sizes.now inputs.now.first.now (option_copied inputs.now.other) None limit ≡ Err fault)) }
+            (parsed plan.now.width inputs.now.sizes.now inputs.now.first.now (option_copied inputs.now.other) (option_map (λ text. text.items) bases) limit ≡ Err fault)) }
     {
         let genome = match Genome::parse(alloc, inputs.sizes) {
             Ok(genome) => genome,
@@ -141,10 +149,16 @@ impl<'t, A: Allocator + Copy> TextFiles<'t, A> {
             Ok(second) => second,
             Err(fault) => return Err(CliFault::from((Slot::Other, fault))),
         };
+        let fasta = match parse_fasta(alloc, &genome, bases) {
+            Ok(fasta) => fasta,
+            Err(fault) => return Err(CliFault::from((Slot::Bases, fault))),
+        };
         Ok(TextFiles {
             genome,
             first,
             second,
+            fasta,
+            limit,
         })
     }
 
@@ -162,23 +176,32 @@ impl<'t, A: Allocator + Copy> TextFiles<'t, A> {
         self.second.is_some()
     }
 
+    /// Whether there is a FASTA file.
+    pub(crate) fn has_bases(&self) -> bool
+        ensures { result ≡ is_some self.now.bases }
+    {
+        self.fasta.is_some()
+    }
+
     /// Prints the text of a view of the first file, for its records in the order of a track.
     ///
     /// # Errors
     ///
-    /// `NoMemory`, and then nothing was printed. `Write`, and then a prefix of the text was.
+    /// `Memory`, and then nothing was printed. `Output`, and then a prefix of the text was.
     pub(crate) fn print_kept<S: Sink>(
         self,
         alloc: A,
         view: KeptView,
         sink: &mut S,
-    ) -> Result<(), SweepFault>
+    ) -> Result<(), CliFault>
         ensures { Prints (S.state sink.old) (S.state sink.new) result (kept_text view self.entry.genome (ordered self.entry.first.rows)) }
     {
         let TextFiles {
             genome,
             mut first,
             second: _,
+            fasta: _,
+            limit: _,
         } = self;
         sort_for(alloc, &view, &mut first)?;
         print_kept(alloc, view, first.records(), &genome, sink)
@@ -188,13 +211,13 @@ impl<'t, A: Allocator + Copy> TextFiles<'t, A> {
     ///
     /// # Errors
     ///
-    /// `NoMemory`, and then nothing was printed. `Write`, and then a prefix of the text was.
+    /// `Memory`, and then nothing was printed. `Output`, and then a prefix of the text was.
     pub(crate) fn print_pairs<S: Sink>(
         self,
         alloc: A,
         rows: PairRows,
         sink: &mut S,
-    ) -> Result<(), SweepFault>
+    ) -> Result<(), CliFault>
         requires { IsSome self.second }
         ensures { Prints (S.state sink.old) (S.state sink.new) result (pair_text rows self.entry.genome (ordered self.entry.first.rows) (ordered_other self.entry.second)) }
     {
@@ -202,22 +225,42 @@ impl<'t, A: Allocator + Copy> TextFiles<'t, A> {
             genome,
             mut first,
             second,
+            fasta: _,
+            limit: _,
         } = self;
-        match second {
-            Some(mut second) => {
-                first.sort(alloc)?;
-                first.law_of_bases();
-                sort_beside(alloc, rows, &mut second)?;
-                print_pairs(
-                    alloc,
-                    rows,
-                    &first.records(),
-                    &second.records(),
-                    &genome,
-                    sink,
-                )
-            }
-            None => unreachable!(),
-        }
+        let Some(mut second) = second else {
+            unreachable!()
+        };
+        first.sort(alloc)?;
+        first.law_of_bases();
+        sort_beside(alloc, rows, &mut second)?;
+        let (first, second) = (first.records(), second.records());
+        print_pairs(alloc, rows, &first, &second, &genome, sink)
+    }
+
+    /// Prints the bases of the records of the first file, in the order of a track. There is a FASTA file.
+    ///
+    /// # Errors
+    ///
+    /// `Memory`, and then nothing was printed. `Output`, and then a prefix of the text was.
+    pub(crate) fn print_fasta<S: Sink>(
+        self,
+        alloc: A,
+        shown: FastaRows,
+        sink: &mut S,
+    ) -> Result<(), CliFault>
+        requires { IsSome self.bases }
+        ensures { Prints (S.state sink.old) (S.state sink.new) result (fasta_text shown self.entry.genome (unwrap_or self.entry.bases []) (ordered self.entry.first.rows)) }
+    {
+        let TextFiles {
+            genome,
+            first: mut records,
+            second: _,
+            fasta,
+            limit: _,
+        } = self;
+        let Some(fasta) = fasta else { unreachable!() };
+        records.sort(alloc)?;
+        print_fasta(shown, records.records(), &fasta, &genome, sink)
     }
 }

@@ -11,7 +11,7 @@ use Rattle.iv_session.specs.declared.script.RunCause.TheVariants.{Input, TooLong
 use Rattle.iv_session.specs.declared.script.RunFault.{RunFault}
 use Rattle.iv_session.specs.declared.script.Summary.{Summary}
 use Rattle.iv_workspace.specs.States.{State}
-use Rattle.iv_session.proofs.SizeLemmas.{length-sizes, whole-sizes, over-behind, over-none, over-first, over-low, over-past, passes-more, some-inj}
+use Rattle.iv_session.proofs.SizeLemmas.{length-sizes, whole-sizes, over-after, over-none, over-first, over-low, over-past, passes-more, some-inj}
 
 -- the input that is known is the text
 known_text : (s : SourceState) (text whole : List ℕ) → s.coming ≡ Some text → IsInput s whole → text ≡ whole
@@ -37,7 +37,7 @@ from-line old new before after most_lines most n cause text known u =
     let few : 1 + length (line_sizes u.front) ≤ most_lines + 1 = omega (arith, u.within.0) in
     ap (λ (l : List ℕ). first_over most_lines most 1 (line_sizes l)) is
     ∙ ap (λ (l : List ℕ). first_over most_lines most 1 l) (whole-sizes u.front rest u.ended)
-    ∙ over-behind most_lines most 1 (line_sizes u.front) (line_sizes rest) u.within.1 few
+    ∙ over-after most_lines most 1 (line_sizes u.front) (line_sizes rest) u.within.1 few
     ∙ ap (λ (k : ℕ). first_over most_lines most k (line_sizes rest)) number
 
 pub stopped-noticed : (old new : State) (before after : Streams) (most_lines most n : ℕ) (text : List ℕ) (fault : RunFault)

@@ -15,6 +15,8 @@ use Rattle.iv_workspace.specs.Views.{opened, all_text, text_in}
 use Rattle.iv_view.specs.Views.{read_words}
 use Rattle.iv_session.specs.Written.{Written, printed, refused_by}
 use Rattle.iv_session.specs.declared.request.Request.TheVariants as request
+use Rattle.iv_session.specs.declared.edit.Edit.TheVariants as edit
+use Rattle.iv_session.specs.declared.edit.Target.TheVariants as target
 use Rattle.iv_session.specs.declared.fault.LineFault.TheVariants as line
 use Rattle.iv_session.specs.declared.fault.RequestFault.TheVariants as request_fault
 use Rattle.iv_workspace.specs.declared.fault.PrintFault.TheVariants as printing
@@ -65,8 +67,8 @@ with_two = with_track with_one (with_record second_row)
 pub comments-ask_nothing : asked empty (codes "# a note") ≡ Ok request.Nothing
 comments-ask_nothing = refl
 
-pub commands-stand_before_a_tab : asked empty (codes "print" ++ tab ++ codes "m") ≡ Ok (request.Print (codes "m"))
-commands-stand_before_a_tab = refl
+pub commands-come_before_a_tab : asked empty (codes "print" ++ tab ++ codes "m") ≡ Ok (request.Print (codes "m"))
+commands-come_before_a_tab = refl
 
 pub other_words-are_no_commands : asked empty (codes "paint" ++ tab ++ codes "m") ≡ Err request_fault.Command
 other_words-are_no_commands = refl
@@ -74,11 +76,11 @@ other_words-are_no_commands = refl
 pub printall-takes_no_field : asked empty (codes "printall" ++ tab) ≡ Err request_fault.Command
 printall-takes_no_field = refl
 
-pub records-stand_behind_add : asked empty (codes "add" ++ tab ++ codes "chr1" ++ tab ++ codes "10" ++ tab ++ codes "20") ≡ Ok (request.Add first_row)
-records-stand_behind_add = refl
+pub records-come_after_add : asked empty (codes "add" ++ tab ++ codes "chr1" ++ tab ++ codes "10" ++ tab ++ codes "20") ≡ Ok (request.Edit target.First (edit.Add first_row))
+records-come_after_add = refl
 
-pub lengths-stand_behind_names : asked empty (codes "resize" ++ tab ++ codes "chr1" ++ tab ++ codes "20") ≡ Ok (request.Resize (codes "chr1") 20)
-lengths-stand_behind_names = refl
+pub lengths-come_after_names : asked empty (codes "resize" ++ tab ++ codes "chr1" ++ tab ++ codes "20") ≡ Ok (request.Resize (codes "chr1") 20)
+lengths-come_after_names = refl
 
 -- a name is looked for only after a sound length
 pub bad_lengths-come_before_names : asked empty (codes "resize" ++ tab ++ codes "chr9" ++ tab ++ codes "x") ≡ Err request_fault.Length
@@ -99,8 +101,8 @@ names-are_taken_once = refl
 pub names-come_before_words : opened with_a_view (codes "n") [] ≡ Err fault.Words
 names-come_before_words = refl
 
-pub views-stand_under_their_names : all_text (record with_a_view { views = (codes "b", merging) ∷ (codes "a", merging) ∷ [] }) ≡ codes "#b\n#a\n"
-views-stand_under_their_names = refl
+pub views-are_under_their_names : all_text (record with_a_view { views = (codes "b", merging) ∷ (codes "a", merging) ∷ [] }) ≡ codes "#b\n#a\n"
+views-are_under_their_names = refl
 
 -- two adds and a print between an opening and a refused add
 abbrev script : List (List ℕ)
@@ -120,10 +122,10 @@ script-steps = (
   inl ([], ((plain_merge, refl, refl), refl), refl),
   (
     with_one,
-    inl ([], (omega arith, (refl, (refl, refl, (λ stale. stale), (λ none. refl), tt)), refl), refl),
+    inl ([], ((omega arith, (refl, (refl, refl, (λ stale. stale), (λ none. refl), tt))), refl), refl),
     (
       with_two,
-      inl ([], (omega arith, (refl, (refl, refl, (λ stale. stale), (λ none. refl), tt)), refl), refl),
+      inl ([], ((omega arith, (refl, (refl, refl, (λ stale. stale), (λ none. refl), tt))), refl), refl),
       (
         with_two,
         inl (text_in with_two plain_merge, (merging, refl, refl, refl), refl),
@@ -138,7 +140,7 @@ abbrev with_stale : State
 with_stale = record with_one { views = (codes "m", record { view = plain_merge; stale = true }) ∷ [] }
 
 pub edits-may_leave_a_view_stale : Runs with_a_view (codes "add" ++ tab ++ codes "chr1" ++ tab ++ codes "10" ++ tab ++ codes "20") with_stale silent
-edits-may_leave_a_view_stale = inl ([], (omega arith, (refl, (refl, refl, (λ stale. refl), (λ none. absurd (cc (none))), tt)), refl), refl)
+edits-may_leave_a_view_stale = inl ([], ((omega arith, (refl, (refl, refl, (λ stale. refl), (λ none. absurd (cc (none))), tt))), refl), refl)
 
 pub prints-may_want_memory : Runs with_stale (codes "print" ++ tab ++ codes "m") with_stale (refused_by (Some 22))
 prints-may_want_memory = inr (line.Print printing.NoMemory, (record { view = plain_merge; stale = true }, refl, refl), refl, refl)
@@ -162,8 +164,8 @@ beside = record with_one { second = Some other; views = (codes "v", record { vie
 pub bad_words-come_before_the_file : opened empty (codes "i") (codes "intersect" ∷ codes "-u" ∷ codes "-v" ∷ []) ≡ Err fault.Words
 bad_words-come_before_the_file = refl
 
-pub no_second-is_told : opened empty (codes "i") (codes "intersect" ∷ codes "-c" ∷ codes "-wa" ∷ []) ≡ Err fault.NoSecond
-no_second-is_told = refl
+pub no_second-is_reported : opened empty (codes "i") (codes "intersect" ∷ codes "-c" ∷ codes "-wa" ∷ []) ≡ Err fault.NoSecond
+no_second-is_reported = refl
 
 pub options-go_in_any_order : opened (record empty { second = Some other }) (codes "i") (codes "intersect" ∷ codes "-wb" ∷ codes "-wa" ∷ []) ≡ Ok (view.Written (written.Paired (pair.Intersect rows.WholeAndHit)))
 options-go_in_any_order = refl
@@ -172,14 +174,14 @@ pub records_with_a_hit-are_left_out : all_text beside ≡ codes "#v\n"
 records_with_a_hit-are_left_out = refl
 
 -- an edit of the second file asks for one, before its columns are looked at
-pub no_second-is_told_before_columns : asked empty (codes "removeb") ≡ Err request_fault.NoSecond
-no_second-is_told_before_columns = refl
+pub no_second-is_reported_before_columns : asked empty (codes "removeb") ≡ Err request_fault.NoSecond
+no_second-is_reported_before_columns = refl
 
 pub columns-are_missing_beside_a_second : asked beside (codes "removeb") ≡ Err (request_fault.Record record_fault.Columns)
 columns-are_missing_beside_a_second = refl
 
-pub records-stand_behind_addb : asked beside (codes "addb" ++ tab ++ codes "chr1" ++ tab ++ codes "10" ++ tab ++ codes "20") ≡ Ok (request.AddSecond first_row)
-records-stand_behind_addb = refl
+pub records-come_after_addb : asked beside (codes "addb" ++ tab ++ codes "chr1" ++ tab ++ codes "10" ++ tab ++ codes "20") ≡ Ok (request.Edit target.Second (edit.Add first_row))
+records-come_after_addb = refl
 
 -- a record that only touches is no hit
 pub hits-are_no_neighbours : hits_of other.rows (record first_row { start = 18; stop = 20 }) ≡ []
@@ -194,11 +196,11 @@ with_bases = record empty { track = record { rows = record second_row { seq = 1;
 pub strands-come_before_the_file : opened empty (codes "f") (codes "getfasta" ∷ codes "-s" ∷ []) ≡ Err fault.NoStrand
 strands-come_before_the_file = refl
 
-pub no_fasta-is_told : opened empty (codes "f") (codes "getfasta" ∷ codes "-tab" ∷ []) ≡ Err fault.NoFasta
-no_fasta-is_told = refl
+pub no_fasta-is_reported : opened empty (codes "f") (codes "getfasta" ∷ codes "-tab" ∷ []) ≡ Err fault.NoFasta
+no_fasta-is_reported = refl
 
-pub no_option-stands_twice : opened with_bases (codes "f") (codes "getfasta" ∷ codes "-tab" ∷ codes "-tab" ∷ []) ≡ Err fault.Words
-no_option-stands_twice = refl
+pub no_option-is_twice : opened with_bases (codes "f") (codes "getfasta" ∷ codes "-tab" ∷ codes "-tab" ∷ []) ≡ Err fault.Words
+no_option-is_twice = refl
 
 pub bases-are_shown_with_strands : opened with_bases (codes "f") (codes "getfasta" ∷ codes "-tab" ∷ codes "-s" ∷ []) ≡ Ok (view.Written (written.Getfasta (record { stranded = true; tab = true })))
 bases-are_shown_with_strands = refl

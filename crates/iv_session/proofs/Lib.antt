@@ -3,7 +3,7 @@ pub mod ReadLemmas
 pub mod ScriptLemmas
 pub mod StopLemmas
 pub mod ColumnLemmas
-pub mod SecondLemmas
+pub mod EditLemmas
 pub mod RunLemmas
 pub mod Examples
 pub mod EndingLemmas

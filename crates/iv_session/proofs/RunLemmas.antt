@@ -14,7 +14,7 @@ use Rattle.iv_workspace.specs.Views.{view_named, opened, unless_fault, has_name_
 use Rattle.iv_workspace.specs.declared.fault.PrintFault.{PrintFault}
 use Rattle.iv_workspace.specs.declared.fault.PrintFault.TheVariants as printing
 use Rattle.iv_session.specs.Requests.{asked, request_code, fault_code}
-use Rattle.iv_session.specs.Written.{Written, printed, refused_by, refusal_count, told}
+use Rattle.iv_session.specs.Written.{Written, printed, refused_by, refusal_count, message_if}
 use Rattle.iv_session.specs.Running.{AsksToPrint, Ends, Runs, RunsLast, DoesAsked, RefusesAsked, Leaves, Writes, WritesFault}
 use Rattle.iv_session.specs.Scripts.{RanLine, FailedLine, Tells, refusals_of}
 use Rattle.iv_session.specs.declared.request.Request.{Request}
@@ -155,12 +155,7 @@ fresher-done (Ok (request.Print name)) old new text print (v, named, is, same) =
     subst (IsButCurrent old) (sym is) (refl, freshens-one old.views name)
 fresher-done (Ok request.PrintAll) old new text print (is, same) = subst (IsButCurrent old) (sym is) (refl, freshens-all old.views)
 fresher-done (Ok request.Nothing) old new text print does = absurd print
-fresher-done (Ok (request.Add r)) old new text print does = absurd print
-fresher-done (Ok (request.Remove r)) old new text print does = absurd print
-fresher-done (Ok (request.Replace r q)) old new text print does = absurd print
-fresher-done (Ok (request.AddSecond r)) old new text print does = absurd print
-fresher-done (Ok (request.RemoveSecond r)) old new text print does = absurd print
-fresher-done (Ok (request.ReplaceSecond r q)) old new text print does = absurd print
+fresher-done (Ok (request.Edit target e)) old new text print does = absurd print
 fresher-done (Ok (request.Resize name n)) old new text print does = absurd print
 fresher-done (Ok (request.Open name said)) old new text print does = absurd print
 fresher-done (Ok (request.Close name)) old new text print does = absurd print
@@ -174,12 +169,7 @@ fresher-same old new same = subst (IsButCurrent old) (sym same) (refl, freshens-
 fresher-left : (asks : Result Request RequestFault) (old new : State) → Leaves asks old new → IsButCurrent old new
 fresher-left (Ok request.PrintAll) old new left = left
 fresher-left (Ok request.Nothing) old new left = fresher-same old new left
-fresher-left (Ok (request.Add r)) old new left = fresher-same old new left
-fresher-left (Ok (request.Remove r)) old new left = fresher-same old new left
-fresher-left (Ok (request.Replace r q)) old new left = fresher-same old new left
-fresher-left (Ok (request.AddSecond r)) old new left = fresher-same old new left
-fresher-left (Ok (request.RemoveSecond r)) old new left = fresher-same old new left
-fresher-left (Ok (request.ReplaceSecond r q)) old new left = fresher-same old new left
+fresher-left (Ok (request.Edit target e)) old new left = fresher-same old new left
 fresher-left (Ok (request.Resize name n)) old new left = fresher-same old new left
 fresher-left (Ok (request.Open name said)) old new left = fresher-same old new left
 fresher-left (Ok (request.Close name)) old new left = fresher-same old new left
@@ -208,39 +198,39 @@ ran-done old text new n out0 out1 said did = record {
   written = did.written;
   makes = did.ends;
   output = did.writes.0;
-  messages = subst (λ (r : Option (List ℕ)). Takes said said (told n r)) (sym did.writes.1) (Takes-nothing said);
+  messages = subst (λ (r : Option (List ℕ)). Takes said said (message_if n r)) (sym did.writes.1) (Takes-nothing said);
   count = ap refusal_count did.writes.1;
 }
 
 -- a line that was not done
 pub ran-fault : (old : State) (text : List ℕ) (new : State) (n : ℕ) (out0 out1 said0 said1 : SinkState) (f : LineFault) (result : Result Outcome RunCause)
     → Writes (asked old text) old new out0 out1 (Err f) → Tells (fault_code f) n said0 said1 result → Ran old text new n out0 out1 said0 said1 result
-ran-fault old text new n out0 out1 said0 said1 f result did tells = by (fault_code f) result did.writes did.prints tells
+ran-fault old text new n out0 out1 said0 said1 f result did says = by (fault_code f) result did.writes did.prints says
   where
     by : (code : Option ℕ) (result : Result Outcome RunCause) → WritesFault code out0 out1 did.written → (code ≡ None → AsksToPrint (asked old text))
         → Tells code n said0 said1 result → Ran old text new n out0 out1 said0 said1 result
-    by None (Ok ended_as) writes prints tells = absurd tells
-    by None (Err failed) writes prints tells =
+    by None (Ok ended_as) writes prints says = absurd says
+    by None (Err failed) writes prints says =
         let print = prints refl in
         let whole : FailedLine (RunsLast cause.Output old text new) n out0 out1 said0 said0 cause.Output = record {
           written = did.written;
           makes = (did.ends, (print, writes.1, fresher-ends (asked old text) old new did.written did.ends (inl print)));
           texts = (writes.0, Takes-nothing said0);
         } in
-        subst (λ (o : SinkState). FailedLine (RunsLast failed old text new) n out0 out1 said0 o failed) (sym tells.0)
-        (subst (λ (c : RunCause). FailedLine (RunsLast c old text new) n out0 out1 said0 said0 c) (sym tells.1) whole)
-    by (Some code) (Ok ended_as) writes prints tells = record {
+        subst (λ (o : SinkState). FailedLine (RunsLast failed old text new) n out0 out1 said0 o failed) (sym says.0)
+        (subst (λ (c : RunCause). FailedLine (RunsLast c old text new) n out0 out1 said0 said0 c) (sym says.1) whole)
+    by (Some code) (Ok ended_as) writes prints says = record {
       written = did.written;
       makes = did.ends;
       output = writes.0;
-      messages = subst (λ (r : Option (List ℕ)). Takes said0 said1 (told n r)) (sym writes.1) tells.0;
-      count = ap refusal_count writes.1 ∙ sym (ap refusals_of tells.1);
+      messages = subst (λ (r : Option (List ℕ)). Takes said0 said1 (message_if n r)) (sym writes.1) says.0;
+      count = ap refusal_count writes.1 ∙ sym (ap refusals_of says.1);
     }
-    by (Some code) (Err failed) writes prints tells =
+    by (Some code) (Err failed) writes prints says =
         let some : IsSome did.written.refusal = subst (λ (r : Option (List ℕ)). IsSome r) (sym writes.1) refl in
         let whole : FailedLine (RunsLast cause.Messages old text new) n out0 out1 said0 said1 cause.Messages = record {
           written = did.written;
           makes = (did.ends, (some, fresher-ends (asked old text) old new did.written did.ends (inr some)));
-          texts = (writes.0, subst (λ (r : Option (List ℕ)). FailsIn said0 said1 (told n r)) (sym writes.1) tells.0);
+          texts = (writes.0, subst (λ (r : Option (List ℕ)). FailsIn said0 said1 (message_if n r)) (sym writes.1) says.0);
         } in
-        subst (λ (c : RunCause). FailedLine (RunsLast c old text new) n out0 out1 said0 said1 c) (sym tells.1) whole
+        subst (λ (c : RunCause). FailedLine (RunsLast c old text new) n out0 out1 said0 said1 c) (sym says.1) whole

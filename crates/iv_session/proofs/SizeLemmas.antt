@@ -237,17 +237,17 @@ over most_lines most n size (inl full) = ap (λ (t : Bool). t || nat_lt most siz
 over most_lines most n size (inr long) = either (nat_lt most_lines n) (nat_lt most size) (lt-ltb most size long)
 
 -- lines that keep the limits are gone over
-pub over-behind : (most_lines most n : ℕ) (xs ys : List ℕ) → All (λ size. size ≤ most) xs → n + length xs ≤ most_lines + 1
+pub over-after : (most_lines most n : ℕ) (xs ys : List ℕ) → All (λ size. size ≤ most) xs → n + length xs ≤ most_lines + 1
     → first_over most_lines most n (xs ++ ys) ≡ first_over most_lines most (n + length xs) ys
-over-behind most_lines most n [] ys fit few =
+over-after most_lines most n [] ys fit few =
     let same : n ≡ n + 0 = omega arith in
     ap (λ (k : ℕ). first_over most_lines most k ys) same
-over-behind most_lines most n (x ∷ xs) ys fit few =
+over-after most_lines most n (x ∷ xs) ys fit few =
     let low : n ≤ most_lines = omega (arith, few) in
     let fewer : n + 1 + length xs ≤ most_lines + 1 = omega (arith, few) in
     let same : n + 1 + length xs ≡ n + length (x ∷ xs) = omega arith in
     cond-false _ _ _ (not-over most_lines most n x low (All-head (λ (size : ℕ). size ≤ most) x xs fit))
-    ∙ over-behind most_lines most (n + 1) xs ys (All-tail (λ (size : ℕ). size ≤ most) x xs fit) fewer
+    ∙ over-after most_lines most (n + 1) xs ys (All-tail (λ (size : ℕ). size ≤ most) x xs fit) fewer
     ∙ ap (λ (k : ℕ). first_over most_lines most k ys) same
 
 -- none of them passes one
@@ -255,7 +255,7 @@ pub over-none : (most_lines most : ℕ) (sizes : List ℕ) → AreWithin most_li
 over-none most_lines most sizes within =
     let few : 1 + length sizes ≤ most_lines + 1 = omega (arith, within.0) in
     ap (λ (l : List ℕ). first_over most_lines most 1 l) (sym (append-nil sizes))
-    ∙ over-behind most_lines most 1 sizes [] within.1 few
+    ∙ over-after most_lines most 1 sizes [] within.1 few
 
 -- the first one does
 pub over-first : (most_lines most n : ℕ) (sizes : List ℕ) → Passes most_lines most n sizes → first_over most_lines most n sizes ≡ Some n
@@ -268,7 +268,7 @@ pub over-found : (most_lines most : ℕ) (front back : List ℕ) → AreWithin m
 over-found most_lines most front back within passes =
     let few : 1 + length front ≤ most_lines + 1 = omega (arith, within.0) in
     let same : 1 + length front ≡ length front + 1 = omega arith in
-    over-behind most_lines most 1 front back within.1 few
+    over-after most_lines most 1 front back within.1 few
     ∙ ap (λ (k : ℕ). first_over most_lines most k back) same
     ∙ over-first most_lines most (length front + 1) back passes
 
@@ -276,8 +276,8 @@ pub some-inj : (n m : ℕ) → Some n ≡ Some m → n ≡ m
 some-inj n m is = ap (λ (o : Option ℕ). unwrap_or o 0) is
 
 low-step : (t : Bool) (n m : ℕ) (later : Option ℕ) → (later ≡ Some m → n + 1 ≤ m) → cond t (Some n) later ≡ Some m → n ≤ m
-low-step true n m later behind is = let same : n ≡ m = some-inj n m is in omega (arith, same)
-low-step false n m later behind is = let low : n + 1 ≤ m = behind is in omega (arith, low)
+low-step true n m later after is = let same : n ≡ m = some-inj n m is in omega (arith, same)
+low-step false n m later after is = let low : n + 1 ≤ m = after is in omega (arith, low)
 
 -- it is found at its number or after
 pub over-low : (most_lines most n m : ℕ) (sizes : List ℕ) → first_over most_lines most n sizes ≡ Some m → n ≤ m

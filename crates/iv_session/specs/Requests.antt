@@ -1,5 +1,5 @@
 -- What a line of a script asks for, and why it is refused.
-use Rattle.std.specs.Prelude.{◌+◌, ◌≤◌, ℕ, ◌==◌, ◌||◌, nat_le, if◌then◌else◌, List, [], ◌∷◌, Option, None, Some, Result, Ok, Err, length, take, drop, codes}
+use Rattle.std.specs.Prelude.{◌≤◌, ℕ, ◌==◌, ◌||◌, nat_le, if◌then◌else◌, List, [], ◌∷◌, Option, None, Some, Result, Ok, Err, length, drop, codes}
 use Rattle.std.specs.Str.{bytes_eq}
 use Rattle.iv_text.specs.Bytes.{number_sign}
 use Rattle.iv_text.specs.Fields.{columns}
@@ -7,18 +7,20 @@ use Rattle.iv_text.specs.Fault.{record_code}
 use Rattle.iv_text.specs.Genome.{Sequences, most_length}
 use Rattle.iv_text.specs.GenomeFile.{begins_with}
 use Rattle.iv_text.specs.Number.{number}
-use Rattle.iv_text.specs.Read.{Fits, column, read_columns}
-use Rattle.iv_text.specs.Row.{Row}
+use Rattle.iv_text.specs.Read.{column}
 use Rattle.iv_text.specs.declared.fault.RecordFault.{RecordFault}
-use Rattle.iv_text.specs.declared.fault.RecordFault.TheVariants as row
 use Rattle.iv_view.specs.Views.{view_code}
 use Rattle.iv_track.specs.Fault.{edit_code}
 use Rattle.iv_workspace.specs.Resizes.{resize_code}
 use Rattle.iv_workspace.specs.Views.{print_code}
-use Rattle.iv_workspace.specs.States.{State, FitsSecond}
+use Rattle.iv_workspace.specs.States.{State}
 use Rattle.iv_workspace.specs.declared.fault.SecondFault.{SecondFault}
 use Rattle.iv_workspace.specs.declared.fault.SecondFault.TheVariants as other
-use Rattle.iv_track.specs.Tracked.{Tracked}
+use Rattle.iv_session.specs.TrackEdits.{EditFits, FitsIn, edit_said, width_of}
+use Rattle.iv_session.specs.declared.edit.EditKind.{EditKind}
+use Rattle.iv_session.specs.declared.edit.EditKind.TheVariants as kind
+use Rattle.iv_session.specs.declared.edit.Target.{Target}
+use Rattle.iv_session.specs.declared.edit.Target.TheVariants as target
 use Rattle.iv_session.specs.declared.fault.LineFault.{LineFault}
 use Rattle.iv_session.specs.declared.fault.LineFault.TheVariants as line
 use Rattle.iv_session.specs.declared.fault.RequestFault.{RequestFault}
@@ -46,19 +48,6 @@ fault_code (line.Print f) = print_code f
 abbrev pub of_second : SecondFault → RequestFault
 of_second other.NoSecond = fault.NoSecond
 of_second (other.Record f) = fault.Record f
-
--- two records, or the fault of the first, or else that of the second
-abbrev pub both : Result Row RecordFault → Result Row RecordFault → Result (Row × Row) RecordFault
-both (Err f) second = Err f
-both (Ok r) (Err f) = Err f
-both (Ok r) (Ok q) = Ok (r, q)
-
--- the records of twice as many columns as the width: one of the first half, and one of the other
-abbrev pub read_two : Sequences → ℕ → List (List ℕ) → Result (Row × Row) RecordFault
-read_two g width cs =
-    if length cs == width + width
-    then both (read_columns g width (take width cs)) (read_columns g width (drop width cs))
-    else Err row.Columns
 
 -- the field of a list that has just one
 abbrev pub only_field : List (List ℕ) → Result (List ℕ) RequestFault
@@ -107,20 +96,24 @@ abbrev pub of_rows : {X : Type 0} → (X → Request) → Result X RecordFault �
 of_rows asks (Ok x) = Ok (asks x)
 of_rows asks (Err f) = Err (fault.Record f)
 
--- what is asked of the second file's track: that there is none is reported first
-abbrev pub beside : Option Tracked → (Tracked → Result Request RequestFault) → Result Request RequestFault
-beside None asks = Err fault.NoSecond
-beside (Some t) asks = asks t
+-- the edit of a track of this width that fields say, or why there is none
+abbrev pub edit_at : Sequences → Target → EditKind → List (List ℕ) → Result ℕ RequestFault → Result Request RequestFault
+edit_at g target kind fields (Err f) = Err f
+edit_at g target kind fields (Ok width) = of_rows (request.Edit target) (edit_said g width kind fields)
+
+-- the edit of a track of a session that fields say: that there is no second file is reported first
+abbrev pub edit_asked : State → Target → EditKind → List (List ℕ) → Result Request RequestFault
+edit_asked s target kind fields = edit_at s.genome target kind fields (width_of s target)
 
 -- what a command asks for with these fields, in a session
 abbrev pub asked_by : State → List ℕ → List (List ℕ) → Result Request RequestFault
 asked_by s word fields =
-    if bytes_eq word (codes "add") then of_rows (λ r. request.Add r) (read_columns s.genome s.track.width fields)
-    else if bytes_eq word (codes "remove") then of_rows (λ r. request.Remove r) (read_columns s.genome s.track.width fields)
-    else if bytes_eq word (codes "replace") then of_rows (λ rows. request.Replace rows.0 rows.1) (read_two s.genome s.track.width fields)
-    else if bytes_eq word (codes "addb") then beside s.second (λ t. of_rows (λ r. request.AddSecond r) (read_columns s.genome t.width fields))
-    else if bytes_eq word (codes "removeb") then beside s.second (λ t. of_rows (λ r. request.RemoveSecond r) (read_columns s.genome t.width fields))
-    else if bytes_eq word (codes "replaceb") then beside s.second (λ t. of_rows (λ rows. request.ReplaceSecond rows.0 rows.1) (read_two s.genome t.width fields))
+    if bytes_eq word (codes "add") then edit_asked s target.First kind.Add fields
+    else if bytes_eq word (codes "remove") then edit_asked s target.First kind.Remove fields
+    else if bytes_eq word (codes "replace") then edit_asked s target.First kind.Replace fields
+    else if bytes_eq word (codes "addb") then edit_asked s target.Second kind.Add fields
+    else if bytes_eq word (codes "removeb") then edit_asked s target.Second kind.Remove fields
+    else if bytes_eq word (codes "replaceb") then edit_asked s target.Second kind.Replace fields
     else if bytes_eq word (codes "open") then of_fields (λ pair. request.Open pair.0 pair.1) (two_fields fields)
     else if bytes_eq word (codes "close") then of_fields (λ name. request.Close name) (only_field fields)
     else if bytes_eq word (codes "print") then of_fields (λ name. request.Print name) (only_field fields)
@@ -137,12 +130,7 @@ asked s text =
 
 -- the records of a request fit the session, and no length is above the greatest
 abbrev pub RequestFits : State → Request → Type 0
-RequestFits s (request.Add r) = Fits s.genome s.track.width r
-RequestFits s (request.Remove r) = Fits s.genome s.track.width r
-RequestFits s (request.Replace r q) = Fits s.genome s.track.width r × Fits s.genome s.track.width q
-RequestFits s (request.AddSecond r) = FitsSecond s r
-RequestFits s (request.RemoveSecond r) = FitsSecond s r
-RequestFits s (request.ReplaceSecond r q) = FitsSecond s r × FitsSecond s q
+RequestFits s (request.Edit target e) = EditFits (FitsIn s target) e
 RequestFits s (request.Resize name n) = n ≤ most_length
 RequestFits s request.Nothing = Unit {0}
 RequestFits s (request.Open name words) = Unit {0}

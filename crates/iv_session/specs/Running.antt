@@ -1,18 +1,16 @@
 -- What a line of a script may do.
-use Rattle.std.specs.Prelude.{◌≡◌, ◌<◌, ◌⊎◌, ℕ, true, List, [], Option, None, Some, Result, Ok, Err, IsSome, IsSomeAnd, length}
+use Rattle.std.specs.Prelude.{◌≡◌, ◌<◌, ◌⊎◌, ℕ, true, List, [], Option, None, Some, Result, Ok, Err, IsSome}
 use Rattle.iv_bytes.specs.Sinks.{SinkState, Takes, FailsIn}
 use Rattle.iv_text.specs.Fault.{fault_text}
 use Rattle.iv_text.specs.Fields.{words}
-use Rattle.iv_text.specs.Ordered.{copies}
 use Rattle.iv_workspace.specs.OpenViews.{Shown, stale_count}
 use Rattle.iv_workspace.specs.Prints.{with_printed, with_all_printed, IsButCurrent}
-use Rattle.iv_track.specs.Edits.{RefusesAdd, RefusesRemove, RefusesReplace, with_record, without_record, with_replaced}
-use Rattle.iv_workspace.specs.States.{State, IsButStale, with_track, with_second, without_view}
-use Rattle.iv_workspace.specs.Edits.{RefusesCopy}
+use Rattle.iv_workspace.specs.States.{State, without_view}
 use Rattle.iv_workspace.specs.Resizes.{resized}
 use Rattle.iv_workspace.specs.Views.{view_named, Opens, RefusesOpen, all_text, text_in}
 use Rattle.iv_workspace.specs.declared.fault.PrintFault.TheVariants as printing
 use Rattle.iv_session.specs.Requests.{asked, fault_code}
+use Rattle.iv_session.specs.TrackEdits.{IsEdited, RefusesIn}
 use Rattle.iv_session.specs.Written.{Written, printed, refused_by}
 use Rattle.iv_session.specs.declared.fault.LineFault.{LineFault}
 use Rattle.iv_session.specs.declared.fault.LineFault.TheVariants as fault
@@ -26,18 +24,7 @@ use Rattle.iv_session.specs.declared.script.RunCause.TheVariants as cause
 -- stale, but after one of the second file none becomes so; a view that is printed is current
 abbrev pub Does : Request → State → State → List ℕ → Type 0
 Does request.Nothing old new text = (new ≡ old) × (text ≡ [])
-Does (request.Add r) old new text =
-    (length old.track.rows < old.track.limit) × IsButStale (with_track old (with_record r)) new × (text ≡ [])
-Does (request.Remove r) old new text =
-    (0 < copies old.track.rows r) × IsButStale (with_track old (without_record r)) new × (text ≡ [])
-Does (request.Replace r q) old new text =
-    (0 < copies old.track.rows r) × IsButStale (with_track old (with_replaced r q)) new × (text ≡ [])
-Does (request.AddSecond r) old new text =
-    IsSomeAnd old.second (λ t. length t.rows < t.limit) × (new ≡ with_second old (with_record r)) × (text ≡ [])
-Does (request.RemoveSecond r) old new text =
-    IsSomeAnd old.second (λ t. 0 < copies t.rows r) × (new ≡ with_second old (without_record r)) × (text ≡ [])
-Does (request.ReplaceSecond r q) old new text =
-    IsSomeAnd old.second (λ t. 0 < copies t.rows r) × (new ≡ with_second old (with_replaced r q)) × (text ≡ [])
+Does (request.Edit target e) old new text = IsEdited target e old new × (text ≡ [])
 Does (request.Resize name n) old new text = (resized old name n ≡ Ok new) × (text ≡ [])
 Does (request.Open name said) old new text = Opens old name (words said) new × (text ≡ [])
 Does (request.Close name) old new text =
@@ -48,12 +35,7 @@ Does request.PrintAll old new text = (new ≡ with_all_printed old) × (text ≡
 
 -- why a request is refused: a print for out of memory only where a view to be printed is stale
 abbrev pub Refuses : Request → State → LineFault → Type 0
-Refuses (request.Add r) s (fault.Edit f) = RefusesCopy s.track f ⊎ RefusesAdd s.track r f
-Refuses (request.Remove r) s (fault.Edit f) = RefusesCopy s.track f ⊎ RefusesRemove s.track r f
-Refuses (request.Replace r q) s (fault.Edit f) = RefusesCopy s.track f ⊎ RefusesReplace s.track r q f
-Refuses (request.AddSecond r) s (fault.Edit f) = IsSomeAnd s.second (λ t. RefusesCopy t f ⊎ RefusesAdd t r f)
-Refuses (request.RemoveSecond r) s (fault.Edit f) = IsSomeAnd s.second (λ t. RefusesCopy t f ⊎ RefusesRemove t r f)
-Refuses (request.ReplaceSecond r q) s (fault.Edit f) = IsSomeAnd s.second (λ t. RefusesCopy t f ⊎ RefusesReplace t r q f)
+Refuses (request.Edit target e) s (fault.Edit f) = RefusesIn target e s f
 Refuses (request.Resize name n) s (fault.Resize f) = resized s name n ≡ Err f
 Refuses (request.Open name said) s (fault.Open f) = RefusesOpen s name (words said) f
 Refuses (request.Close name) s (fault.Close f) = view_named s.views name ≡ None
@@ -71,7 +53,7 @@ DoesAsked (Err f) old new text = ⊥
 -- why a line is refused: it is no request, or its request is refused
 abbrev pub RefusesAsked : Result Request RequestFault → State → LineFault → Type 0
 RefusesAsked (Ok asks) s f = Refuses asks s f
-RefusesAsked (Err told) s f = f ≡ fault.Request told
+RefusesAsked (Err reported) s f = f ≡ fault.Request reported
 
 -- what a refused line leaves: all as before, but that a print of all views may have made some of them current
 abbrev pub Leaves : Result Request RequestFault → State → State → Type 0

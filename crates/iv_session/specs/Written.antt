@@ -22,14 +22,14 @@ abbrev pub message : ℕ → List ℕ → List ℕ
 message n reason = codes "line " ++ decimal n ++ codes ": " ++ reason ++ codes "\n"
 
 -- what line number n writes to the messages
-abbrev pub told : ℕ → Option (List ℕ) → List ℕ
-told n None = []
-told n (Some reason) = message n reason
+abbrev pub message_if : ℕ → Option (List ℕ) → List ℕ
+message_if n None = []
+message_if n (Some reason) = message n reason
 
 -- the messages of lines that follow each other, the first of which has the number n
 abbrev pub messages_from : ℕ → List Written → List ℕ
 messages_from n [] = []
-messages_from n (w ∷ written) = told n w.refusal ++ messages_from (n + 1) written
+messages_from n (w ∷ written) = message_if n w.refusal ++ messages_from (n + 1) written
 
 -- whether a line is refused, as a number
 abbrev pub refusal_count : Option (List ℕ) → ℕ

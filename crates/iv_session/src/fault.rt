@@ -29,10 +29,10 @@ impl From<RecordFault> for RequestFault {
     ghost use Rattle.std.specs.Prelude.{◌≡◌};
     ghost use Rattle.iv_session.specs.declared.fault.RequestFault.TheVariants.{Record};
 
-    ghost from_gives = { λ told fault. fault ≡ Record told };
+    ghost from_gives = { λ why fault. fault ≡ Record why };
 
-    fn from(told: RecordFault) -> RequestFault {
-        RequestFault::Record(told)
+    fn from(why: RecordFault) -> RequestFault {
+        RequestFault::Record(why)
     }
 }
 
@@ -40,10 +40,10 @@ impl From<SecondFault> for RequestFault {
     ghost use Rattle.std.specs.Prelude.{◌≡◌};
     ghost use Rattle.iv_session.specs.Requests.{of_second};
 
-    ghost from_gives = { λ told fault. fault ≡ of_second told };
+    ghost from_gives = { λ why fault. fault ≡ of_second why };
 
-    fn from(told: SecondFault) -> RequestFault {
-        match told {
+    fn from(why: SecondFault) -> RequestFault {
+        match why {
             SecondFault::NoSecond => RequestFault::NoSecond,
             SecondFault::Record(fault) => RequestFault::Record(fault),
         }
@@ -72,10 +72,10 @@ impl From<RequestFault> for LineFault {
     ghost use Rattle.std.specs.Prelude.{◌≡◌};
     ghost use Rattle.iv_session.specs.declared.fault.LineFault.TheVariants.{Request};
 
-    ghost from_gives = { λ told fault. fault ≡ Request told };
+    ghost from_gives = { λ why fault. fault ≡ Request why };
 
-    fn from(told: RequestFault) -> LineFault {
-        LineFault::Request(told)
+    fn from(why: RequestFault) -> LineFault {
+        LineFault::Request(why)
     }
 }
 
@@ -83,10 +83,10 @@ impl From<EditFault> for LineFault {
     ghost use Rattle.std.specs.Prelude.{◌≡◌};
     ghost use Rattle.iv_session.specs.declared.fault.LineFault.TheVariants.{Edit};
 
-    ghost from_gives = { λ told fault. fault ≡ Edit told };
+    ghost from_gives = { λ why fault. fault ≡ Edit why };
 
-    fn from(told: EditFault) -> LineFault {
-        LineFault::Edit(told)
+    fn from(why: EditFault) -> LineFault {
+        LineFault::Edit(why)
     }
 }
 
@@ -94,10 +94,10 @@ impl From<ResizeFault> for LineFault {
     ghost use Rattle.std.specs.Prelude.{◌≡◌};
     ghost use Rattle.iv_session.specs.declared.fault.LineFault.TheVariants.{Resize};
 
-    ghost from_gives = { λ told fault. fault ≡ Resize told };
+    ghost from_gives = { λ why fault. fault ≡ Resize why };
 
-    fn from(told: ResizeFault) -> LineFault {
-        LineFault::Resize(told)
+    fn from(why: ResizeFault) -> LineFault {
+        LineFault::Resize(why)
     }
 }
 
@@ -105,10 +105,10 @@ impl From<ViewFault> for LineFault {
     ghost use Rattle.std.specs.Prelude.{◌≡◌};
     ghost use Rattle.iv_session.specs.declared.fault.LineFault.TheVariants.{Open};
 
-    ghost from_gives = { λ told fault. fault ≡ Open told };
+    ghost from_gives = { λ why fault. fault ≡ Open why };
 
-    fn from(told: ViewFault) -> LineFault {
-        LineFault::Open(told)
+    fn from(why: ViewFault) -> LineFault {
+        LineFault::Open(why)
     }
 }
 
@@ -116,10 +116,10 @@ impl From<NoView> for LineFault {
     ghost use Rattle.std.specs.Prelude.{◌≡◌};
     ghost use Rattle.iv_session.specs.declared.fault.LineFault.TheVariants.{Close};
 
-    ghost from_gives = { λ told fault. fault ≡ Close told };
+    ghost from_gives = { λ why fault. fault ≡ Close why };
 
-    fn from(told: NoView) -> LineFault {
-        LineFault::Close(told)
+    fn from(why: NoView) -> LineFault {
+        LineFault::Close(why)
     }
 }
 
@@ -127,10 +127,10 @@ impl From<PrintFault> for LineFault {
     ghost use Rattle.std.specs.Prelude.{◌≡◌};
     ghost use Rattle.iv_session.specs.declared.fault.LineFault.TheVariants.{Print};
 
-    ghost from_gives = { λ told fault. fault ≡ Print told };
+    ghost from_gives = { λ why fault. fault ≡ Print why };
 
-    fn from(told: PrintFault) -> LineFault {
-        LineFault::Print(told)
+    fn from(why: PrintFault) -> LineFault {
+        LineFault::Print(why)
     }
 }
 

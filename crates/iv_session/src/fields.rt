@@ -78,8 +78,8 @@ pub(crate) fn split_columns(text: &[u8], count: u8) -> Option<(&[u8], &[u8])>
 {
     let mut rest = text;
     for _ in 0..count {
-        let (_, behind) = split_first_column(rest);
-        rest = behind?;
+        let (_, after) = split_first_column(rest);
+        rest = after?;
     }
     Some((&text[..text.len() - rest.len() - 1], rest))
 }

@@ -1,6 +1,7 @@
 //! Scripts of a session: the lines by which a curator corrects a track and prints its views.
 #![tactic(auto)]
 
+mod edit;
 mod fault;
 mod fields;
 mod laws;

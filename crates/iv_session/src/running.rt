@@ -44,28 +44,8 @@ fn run_request<A: Allocator + Copy, W: Sink>(
 {
     match request {
         Request::Nothing => Ok(()),
-        Request::Add(row) => {
-            session.add(&row)?;
-            Ok(())
-        }
-        Request::Remove(row) => {
-            session.remove(&row)?;
-            Ok(())
-        }
-        Request::Replace(old, new) => {
-            session.replace(&old, &new)?;
-            Ok(())
-        }
-        Request::AddSecond(row) => {
-            session.add_second(&row)?;
-            Ok(())
-        }
-        Request::RemoveSecond(row) => {
-            session.remove_second(&row)?;
-            Ok(())
-        }
-        Request::ReplaceSecond(old, new) => {
-            session.replace_second(&old, &new)?;
+        Request::Edit(target, edit) => {
+            edit.run(session, target)?;
             Ok(())
         }
         Request::Resize(name, length) => {

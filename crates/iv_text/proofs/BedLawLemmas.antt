@@ -8,7 +8,7 @@ use Rattle.std.proofs.lemmas.Option.{none-some}
 use Rattle.iv_text.specs.Fields.{columns}
 use Rattle.iv_text.specs.Lines.{lines}
 use Rattle.iv_text.specs.Genome.{Sequences}
-use Rattle.iv_text.specs.Read.{has_fault, faults, row, told}
+use Rattle.iv_text.specs.Read.{has_fault, faults, row, or_fault}
 use Rattle.iv_text.specs.Row.{Row}
 use Rattle.iv_text.specs.BedFile.{is_unread, is_width, with_row, Bed, Draft, drafted, width_at, after_row, after_rows, finished, bed_of}
 use Rattle.iv_text.specs.FileLaws.{HaveNoCause, IsFirstFault, record_lines, first_width, rows_of, bed_from, width_after, has_row_cause, row_causes, row_cause}
@@ -82,7 +82,7 @@ outcome more None = Ok more
 outcome more (Some c) = Err c
 
 row-by : (limit w : ℕ) (rows : List Row) (r : Row) (fits : Bool) (f : Option RecordFault)
-    → cond fits (drafted w (with_row limit rows (told f r))) (Err cause.Columns) ≡ outcome (record { width = Some w; rows = rows ++ r ∷ [] }) (cause_by fits f (nat_le limit (length rows)))
+    → cond fits (drafted w (with_row limit rows (or_fault f r))) (Err cause.Columns) ≡ outcome (record { width = Some w; rows = rows ++ r ∷ [] }) (cause_by fits f (nat_le limit (length rows)))
 row-by limit w rows r false f = refl
 row-by limit w rows r true (Some f) = refl
 row-by limit w rows r true None = by (nat_le limit (length rows))

@@ -1,5 +1,5 @@
 -- A genome with another length of one sequence.
-use Rattle.std.proofs.Common.{◌≡◌, ℕ, ◌<◌, zero, suc, List, [], ◌∷◌, Some, length, map, position, arith, refl, sym, ap}
+use Rattle.std.proofs.Common.{◌≡◌, ℕ, ◌<◌, zero, suc, List, [], ◌∷◌, Some, length, position, arith, refl, sym, ap}
 use Rattle.std.specs.Str.{bytes_eq}
 use Rattle.std.proofs.lemmas.List.Quantifiers.{position-Some}
 use Rattle.std.proofs.lemmas.List.{length-map}
@@ -7,12 +7,11 @@ use Rattle.indexmap.specs.Layout.{set_value_at}
 use Rattle.iv_text.specs.Named.{names_of}
 use Rattle.iv_text.specs.Genome.{Sequences, name_at, length_at, rank_of, with_length}
 
--- a value that is written in a map is the length of its name
-pub with_length-is : {K : Type 0} (items : K → List ℕ) (es : List (K × ℕ)) (rank n : ℕ)
-    → map {B = List ℕ × ℕ} (λ e. (items e.0, e.1)) (set_value_at es rank n) ≡ with_length (map {B = List ℕ × ℕ} (λ e. (items e.0, e.1)) es) rank n
-with_length-is items [] rank n = refl
-with_length-is items (e ∷ es) zero n = refl
-with_length-is items (e ∷ es) (suc rank) n = ap (λ (g : Sequences). (items e.0, e.1) ∷ g) (with_length-is items es rank n)
+-- a value that is written is the length of its name
+pub with_length-is : (g : Sequences) (rank n : ℕ) → set_value_at g rank n ≡ with_length g rank n
+with_length-is [] rank n = refl
+with_length-is (s ∷ g) zero n = refl
+with_length-is (s ∷ g) (suc rank) n = ap (λ (rest : Sequences). s ∷ rest) (with_length-is g rank n)
 
 -- the names stay
 pub names-with_length : (g : Sequences) (rank n : ℕ) → names_of (with_length g rank n) ≡ names_of g

@@ -21,7 +21,7 @@ use Rattle.iv_text.specs.declared.fault.RecordFault.{RecordFault}
 use Rattle.iv_text.specs.declared.fault.RecordFault.TheVariants as fault
 use Rattle.std.specs.Cmp.Lexicographic.{same_text, pointwise}
 use Rattle.iv_text.specs.Genome.{Sequences, rank_of, length_at}
-use Rattle.iv_text.specs.Read.{read, row, column, told, has_fault, faults, bad_text, number_in, length_of, AreColumns, AreSound}
+use Rattle.iv_text.specs.Read.{read, row, column, or_fault, has_fault, faults, bad_text, number_in, length_of, AreColumns, AreSound}
 use Rattle.iv_text.specs.Row.{Row, IsRow, strand_of}
 use Rattle.std.proofs.lemmas.List.{take-append-drop, get_or_past}
 
@@ -111,10 +111,10 @@ named-rest line name (Some x) h =
 
 place-columns : (line name d1 d2 rest : List ℕ) (others : List (List ℕ)) → line ≡ name ++ 9 ∷ (d1 ++ 9 ∷ (d2 ++ rest)) → HasNoTab name → HasNoTab d1 → HasNoTab d2 → AreBehind rest others
     → columns line ≡ name ∷ d1 ∷ d2 ∷ others
-place-columns line name d1 d2 rest others whole p0 p1 p2 behind =
+place-columns line name d1 d2 rest others whole p0 p1 p2 after =
     ap columns whole ∙ column-more name (d1 ++ 9 ∷ (d2 ++ rest)) p0
     ∙ ap (λ (cs : List (List ℕ)). name ∷ cs) (column-more d1 (d2 ++ rest) p1)
-    ∙ ap (λ (cs : List (List ℕ)). name ∷ d1 ∷ cs) (behind d2 p2)
+    ∙ ap (λ (cs : List (List ℕ)). name ∷ d1 ∷ cs) (after d2 p2)
 
 -- columns that were cut from the front of a text
 pub place-begins : (g : Sequences) (text name r0 r1 r2 r3 rest : List ℕ) (rank from to len : ℕ)
@@ -187,7 +187,7 @@ sound-line g w line seq start stop name score sixth rank from to len strand cols
     (guarded 6 w (is_none (strand_of (column cs 5))) (λ h. ap is_none stranded ∙ is_there strand (sound.strand_good h))) in
     let same : r ≡ record_of rank from to name score strand w =
     λ i. record { seq = at_rank i; start = at_start i; stop = at_stop i; name = cols.name_is i; score = cols.score_is i; strand = stranded i; width = w } in
-    ap (λ o. told o r) none ∙ ap Ok same
+    ap (λ o. or_fault o r) none ∙ ap Ok same
 
 -- the columns beyond the width are empty
 pub row-of : (w : ℕ) (cs : List (List ℕ)) (seq start stop name score sixth : List ℕ) (rank from to : ℕ) (strand : Option Strand)
@@ -204,9 +204,9 @@ pub line-read : (g : Sequences) (w : ℕ) (line rest name score sixth : List ℕ
     → BeginsWithPlace g line rank from to rest → AreBehind rest others → ((a b c : List ℕ) → AreColumns w (a ∷ b ∷ c ∷ others) a b c name score sixth)
     → strand ≡ strand_of sixth → AreSound w name score strand
     → read g w line ≡ Ok (record_of rank from to name score strand w)
-line-read g w line rest name score sixth others rank from to strand place behind are strand_is sound =
+line-read g w line rest name score sixth others rank from to strand place after are strand_is sound =
     let cols = place-columns line place.name place.starts place.stops rest others place.text_is
-    place.named.plain (number-plain place.starts from place.start_is) (number-plain place.stops to place.stop_is) behind in
+    place.named.plain (number-plain place.starts from place.start_is) (number-plain place.stops to place.stop_is) after in
     let all : AreColumns w (columns line) place.name place.starts place.stops name score sixth =
     subst (λ (cs : List (List ℕ)). AreColumns w cs place.name place.starts place.stops name score sixth) (sym cols) (are place.name place.starts place.stops) in
     sound-line g w line place.name place.starts place.stops name score sixth rank from to place.len strand all place.named.rank_is place.named.length_is place.start_is place.stop_is
@@ -214,13 +214,13 @@ line-read g w line rest name score sixth others rank from to strand place behind
 
 -- ---- a line that was read names its record's sequence
 
-told-ok : (o : Option RecordFault) (q r : Row) → told o q ≡ Ok r → q ≡ r
-told-ok None q r h = cc
-told-ok (Some f) q r h = cc
+or_fault-ok : (o : Option RecordFault) (q r : Row) → or_fault o q ≡ Ok r → q ≡ r
+or_fault-ok None q r h = cc
+or_fault-ok (Some f) q r h = cc
 
-told-hit : (o : Option RecordFault) (f : RecordFault) (q r : Row) → o ≡ Some f → told o q ≡ Ok r → ⊥
-told-hit None f q r is h = cc
-told-hit (Some e) f q r is h = cc
+or_fault-hit : (o : Option RecordFault) (f : RecordFault) (q r : Row) → o ≡ Some f → or_fault o q ≡ Ok r → ⊥
+or_fault-hit None f q r is h = cc
+or_fault-hit (Some e) f q r is h = cc
 
 later_faults : List RecordFault
 later_faults = fault.StartNumber ∷ fault.StopNumber ∷ fault.Order ∷ fault.PastEnd ∷ fault.Name ∷ fault.Score ∷ fault.Strand ∷ []
@@ -231,7 +231,7 @@ read-ranked g w line r says = by (rank_of g (column (columns line) 0)) refl (has
   where
     by : (o : Option ℕ) → rank_of g (column (columns line) 0) ≡ o → (b : Bool) → has_fault g w (columns line) fault.Columns ≡ b → rank_of g (column (columns line) 0) ≡ Some r.seq
     by (Some k) is b many =
-        is ∙ ap Some (sym (ap (λ (o : Option ℕ). unwrap_or o 0) is) ∙ ap (λ (q : Row). q.seq) (told-ok (find (has_fault g w (columns line)) faults) (row g w (columns line)) r says))
-    by None is true many = absurd (told-hit (find (has_fault g w (columns line)) faults) fault.Columns (row g w (columns line)) r (hit (has_fault g w (columns line)) fault.Columns (fault.UnknownSeq ∷ later_faults) many) says)
-    by None is false many = absurd (told-hit (find (has_fault g w (columns line)) faults) fault.UnknownSeq (row g w (columns line)) r
+        is ∙ ap Some (sym (ap (λ (o : Option ℕ). unwrap_or o 0) is) ∙ ap (λ (q : Row). q.seq) (or_fault-ok (find (has_fault g w (columns line)) faults) (row g w (columns line)) r says))
+    by None is true many = absurd (or_fault-hit (find (has_fault g w (columns line)) faults) fault.Columns (row g w (columns line)) r (hit (has_fault g w (columns line)) fault.Columns (fault.UnknownSeq ∷ later_faults) many) says)
+    by None is false many = absurd (or_fault-hit (find (has_fault g w (columns line)) faults) fault.UnknownSeq (row g w (columns line)) r
         (skip (has_fault g w (columns line)) fault.Columns (fault.UnknownSeq ∷ later_faults) many ∙ hit (has_fault g w (columns line)) fault.UnknownSeq later_faults (ap is_none is)) says)

@@ -79,8 +79,8 @@ or_neither : (s t : Bool) → s ≡ false → t ≡ false → (s || t) ≡ false
 or_neither true t p q = p
 or_neither false t p q = q
 
-headed-behind : (word name rest : List ℕ) → HasNoTab word → HasNoTab (word ++ codes " ") → is_headed word name ≡ false → is_headed word (name ++ 9 ∷ rest) ≡ false
-headed-behind word name rest plain spaced other =
+headed-after : (word name rest : List ℕ) → HasNoTab word → HasNoTab (word ++ codes " ") → is_headed word name ≡ false → is_headed word (name ++ 9 ∷ rest) ≡ false
+headed-after word name rest plain spaced other =
     let line : List ℕ = name ++ 9 ∷ rest in
     let n : ℕ = length word + 1 in
     let apart = or_false (bytes_eq name word) (bytes_eq (word ++ codes " ") (take n name)) other in
@@ -112,10 +112,10 @@ no_tab-plain (b ∷ bs) h =
     is_not false h = refl
 
 -- a line that begins with a name that is no header, and a TAB, is none
-unread-behind : (name rest : List ℕ) → is_unread name ≡ false → is_unread (name ++ 9 ∷ rest) ≡ false
+unread-after : (name rest : List ℕ) → is_unread name ≡ false → is_unread (name ++ 9 ∷ rest) ≡ false
 unfolding no_tab
-unread-behind [] rest other = cc
-unread-behind (b ∷ bs) rest other =
+unread-after [] rest other = cc
+unread-after (b ∷ bs) rest other =
     let name : List ℕ = b ∷ bs in
     let line : List ℕ = name ++ 9 ∷ rest in
     let first = or_false ((length name == 0) || begins_with 35 name || is_headed track_word name) (is_headed browser_word name) other in
@@ -124,8 +124,8 @@ unread-behind (b ∷ bs) rest other =
     or_neither ((length line == 0) || begins_with 35 line || is_headed track_word line) (is_headed browser_word line)
     (or_neither ((length line == 0) || begins_with 35 line) (is_headed track_word line)
     (or_neither (length line == 0) (begins_with 35 line) (ne_eqb (length line) 0 (λ e. omega (arith, e))) third.1)
-    (headed-behind track_word name rest (no_tab-plain track_word refl) (no_tab-plain (track_word ++ codes " ") refl) second.1))
-    (headed-behind browser_word name rest (no_tab-plain browser_word refl) (no_tab-plain (browser_word ++ codes " ") refl) first.1)
+    (headed-after track_word name rest (no_tab-plain track_word refl) (no_tab-plain (track_word ++ codes " ") refl) second.1))
+    (headed-after browser_word name rest (no_tab-plain browser_word refl) (no_tab-plain (browser_word ++ codes " ") refl) first.1)
 
 -- ---- the line
 
@@ -182,11 +182,11 @@ laid-without z (cell ∷ cells) ends other plain =
     All-cons (λ b. b ≢ z) 9 (cell ++ laid cells) other
     (All-append (λ b. b ≢ z) cell (laid cells) (cell-without z cell ends (All-head IsCell cell cells plain)) (laid-without z cells ends other (All-tail IsCell cell cells plain)))
 
-laid-behind : (cells : List (List ℕ)) → All IsCell cells → AreBehind (laid cells) cells
-laid-behind [] plain = column-last
-laid-behind (cell ∷ cells) plain = λ column p.
+laid-after : (cells : List (List ℕ)) → All IsCell cells → AreBehind (laid cells) cells
+laid-after [] plain = column-last
+laid-after (cell ∷ cells) plain = λ column p.
     column-more column (cell ++ laid cells) p
-    ∙ ap (λ (cs : List (List ℕ)). column ∷ cs) (laid-behind cells (All-tail IsCell cell cells plain) cell (cell-tab cell (All-head IsCell cell cells plain)))
+    ∙ ap (λ (cs : List (List ℕ)). column ∷ cs) (laid-after cells (All-tail IsCell cell cells plain) cell (cell-tab cell (All-head IsCell cell cells plain)))
 
 -- a cell with a byte may be a name or a score
 pub cell-text : (cell : List ℕ) → 0 < length cell → IsCell cell → bad_text cell ≡ false
@@ -217,8 +217,8 @@ abbrev pub IsStrand : List ℕ → Type 0
 IsStrand cell = IsSome (strand_of cell)
 
 -- a cell in front of others
-laid-in-front : (text cell behind rest : List ℕ) (cells : List (List ℕ)) → text ≡ 9 ∷ (cell ++ behind) → behind ≡ laid cells ++ rest → text ≡ laid (cell ∷ cells) ++ rest
-laid-in-front text cell behind rest cells first others =
+laid-in-front : (text cell after rest : List ℕ) (cells : List (List ℕ)) → text ≡ 9 ∷ (cell ++ after) → after ≡ laid cells ++ rest → text ≡ laid (cell ∷ cells) ++ rest
+laid-in-front text cell after rest cells first others =
     first ∙ ap (λ t. 9 ∷ (cell ++ t)) others ∙ ap (λ t. 9 ∷ t) (sym (append_assoc cell (laid cells) rest))
 
 pub four-columns : (w : ℕ) (text rest : List ℕ) → w ≡ 4 → BeginsWithCell IsText text rest → BeginsWithCells w text rest
@@ -230,20 +230,20 @@ four-columns w text rest is name = record {
   sound = record { name_good = λ wide. name.3; score_good = λ wide. absurd (omega (arith, wide, is)); strand_good = λ wide. absurd (omega (arith, wide, is)) };
 }
 
-pub five-columns : (w : ℕ) (text behind rest : List ℕ) → w ≡ 5 → BeginsWithCell IsText text behind → BeginsWithCell IsText behind rest → BeginsWithCells w text rest
-five-columns w text behind rest is name score = record {
+pub five-columns : (w : ℕ) (text after rest : List ℕ) → w ≡ 5 → BeginsWithCell IsText text after → BeginsWithCell IsText after rest → BeginsWithCells w text rest
+five-columns w text after rest is name score = record {
   cells = name.0 ∷ score.0 ∷ [];
-  text_is = laid-in-front text name.0 behind rest (score.0 ∷ []) name.1 (laid-in-front behind score.0 rest rest [] score.1 refl);
+  text_is = laid-in-front text name.0 after rest (score.0 ∷ []) name.1 (laid-in-front after score.0 rest rest [] score.1 refl);
   plain = All-cons IsCell name.0 (score.0 ∷ []) name.2 (All-cons IsCell score.0 [] score.2 (All-nil IsCell));
   count = sym is;
   sound = record { name_good = λ wide. name.3; score_good = λ wide. score.3; strand_good = λ wide. absurd (omega (arith, wide, is)) };
 }
 
-pub six-columns : (w : ℕ) (text behind_name behind_score rest : List ℕ) → w ≡ 6 → BeginsWithCell IsText text behind_name → BeginsWithCell IsText behind_name behind_score → BeginsWithCell IsStrand behind_score rest → BeginsWithCells w text rest
-six-columns w text behind_name behind_score rest is name score strand = record {
+pub six-columns : (w : ℕ) (text after_name after_score rest : List ℕ) → w ≡ 6 → BeginsWithCell IsText text after_name → BeginsWithCell IsText after_name after_score → BeginsWithCell IsStrand after_score rest → BeginsWithCells w text rest
+six-columns w text after_name after_score rest is name score strand = record {
   cells = name.0 ∷ score.0 ∷ strand.0 ∷ [];
-  text_is = laid-in-front text name.0 behind_name rest (score.0 ∷ strand.0 ∷ []) name.1
-      (laid-in-front behind_name score.0 behind_score rest (strand.0 ∷ []) score.1 (laid-in-front behind_score strand.0 rest rest [] strand.1 refl));
+  text_is = laid-in-front text name.0 after_name rest (score.0 ∷ strand.0 ∷ []) name.1
+      (laid-in-front after_name score.0 after_score rest (strand.0 ∷ []) score.1 (laid-in-front after_score strand.0 rest rest [] strand.1 refl));
   plain = All-cons IsCell name.0 (score.0 ∷ strand.0 ∷ []) name.2 (All-cons IsCell score.0 (strand.0 ∷ []) score.2 (All-cons IsCell strand.0 [] strand.2 (All-nil IsCell)));
   count = sym is;
   sound = record { name_good = λ wide. name.3; score_good = λ wide. score.3; strand_good = λ wide. strand.3 };
@@ -257,17 +257,17 @@ first-byte text some = grind (arith, common_steps)
 
 pub short-line : (g : Sequences) (w : ℕ) (text next : List ℕ) (l : ShortLine) (rest end : List ℕ) → BeginsWithPlace g text l.seq l.start l.stop rest → BeginsWithCells w rest end
     → (end ≡ 10 ∷ next) ⊎ (end ≡ 13 ∷ 10 ∷ next) → l.size ≡ length text - length next → IsShortLine g w text l
-short-line g w text next l rest end place behind feed size_is =
-    let cells : List (List ℕ) = behind.cells in
+short-line g w text next l rest end place after feed size_is =
+    let cells : List (List ℕ) = after.cells in
     let tail : List ℕ = place.stops ++ laid cells in
     let line : List ℕ = place_line place.name place.starts tail in
     let digits : all_ascii_digits place.stops ≡ true = number-digits place.stops l.stop place.stop_is in
-    let feedless_tail : HasNoFeed tail = All-append (λ b. b ≢ 10) place.stops (laid cells) (digits-without 10 place.stops refl digits) (laid-without 10 cells refl (λ e. omega (arith, e)) behind.plain) in
+    let feedless_tail : HasNoFeed tail = All-append (λ b. b ≢ 10) place.stops (laid cells) (digits-without 10 place.stops refl digits) (laid-without 10 cells refl (λ e. omega (arith, e)) after.plain) in
     let plain : HasNoFeed line = feedless place.name place.starts tail place.named.one_line (digits-without 10 place.starts refl (number-digits place.starts l.start place.start_is)) feedless_tail in
-    let kept : strip_last 13 line ≡ line = stripped place.name place.starts tail (All-append (λ b. b ≢ 13) place.stops (laid cells) (digits-without 13 place.stops refl digits) (laid-without 13 cells refl (λ e. omega (arith, e)) behind.plain)) in
+    let kept : strip_last 13 line ≡ line = stripped place.name place.starts tail (All-append (λ b. b ≢ 13) place.stops (laid cells) (digits-without 13 place.stops refl digits) (laid-without 13 cells refl (λ e. omega (arith, e)) after.plain)) in
     let ends = ended line end next plain kept feed in
     let text_is : text ≡ line ++ end =
-    place.text_is ∙ ap (λ t. place_line place.name place.starts (place.stops ++ t)) behind.text_is
+    place.text_is ∙ ap (λ t. place_line place.name place.starts (place.stops ++ t)) after.text_is
     ∙ ap (place_line place.name place.starts) (sym (append_assoc place.stops (laid cells) end)) ∙ place-parts place.name place.starts tail end in
     let sized = append-size ends.0 next l.size (size_is ∙ ap (λ (t : List ℕ). length t - length next) (text_is ∙ ends.2)) in
     let alone : BeginsWithPlace g line l.seq l.start l.stop (laid cells) =
@@ -289,14 +289,14 @@ short-line g w text next l rest end place behind feed size_is =
       lines_are = ap lines text_is ∙ ends.3 ∙ ap (λ (t : List ℕ). line ∷ lines t) (sym (ap (drop l.size) (text_is ∙ ends.2) ∙ sized.1));
       some = omega (arith, ends.1, sized.0);
       within = omega arith;
-      unread = unread-behind place.name (place.starts ++ 9 ∷ tail) place.named.unread;
-      reads = line-read g w line (laid cells) (column cells 0) (column cells 1) (column cells 2) cells l.seq l.start l.stop (strand_of (column cells 2)) alone (laid-behind cells behind.plain)
-          (λ a b c. record { count = omega (arith, behind.count); seq_is = refl; start_is = refl; stop_is = refl; name_is = refl; score_is = refl; strand_is = refl })
-          refl behind.sound;
+      unread = unread-after place.name (place.starts ++ 9 ∷ tail) place.named.unread;
+      reads = line-read g w line (laid cells) (column cells 0) (column cells 1) (column cells 2) cells l.seq l.start l.stop (strand_of (column cells 2)) alone (laid-after cells after.plain)
+          (λ a b c. record { count = omega (arith, after.count); seq_is = refl; start_is = refl; stop_is = refl; name_is = refl; score_is = refl; strand_is = refl })
+          refl after.sound;
       seq_is = refl;
       start_is = refl;
       stop_is = refl;
-      fits = record { width_is = refl; lies = record { some = place.some; within = (ranked g l.seq place.len place.named.length_is, subst (λ n. l.stop ≤ n) (sym (ap (λ (o : Option ℕ). unwrap_or o 0) place.named.length_is)) place.within) }; beside = behind.sound };
+      fits = record { width_is = refl; is_placed = record { some = place.some; within = (ranked g l.seq place.len place.named.length_is, subst (λ n. l.stop ≤ n) (sym (ap (λ (o : Option ℕ). unwrap_or o 0) place.named.length_is)) place.within) }; beside = after.sound };
     }
   where
     ranked : (h : Sequences) (rank len : ℕ) → length_at h rank ≡ Some len → rank < length h

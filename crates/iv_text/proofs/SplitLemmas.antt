@@ -24,9 +24,9 @@ line-fed xs k first is =
     let within : k < length xs = first.high in
     let feed : get_or xs k 0 ≡ 10 = eqb-true (get_or xs k 0) 10 is in
     let whole : xs ≡ take k xs ++ (get_or xs k 0 ∷ drop (k + 1) xs) = sym (take-append-drop k xs) ∙ ap (λ t. take k xs ++ t) (rw (add-one, drop-cons xs k 0) refl) in
-    let parted : take k xs ++ (get_or xs k 0 ∷ drop (k + 1) xs) ≡ (take k xs ++ 10 ∷ []) ++ drop (k + 1) xs =
+    let split_up : take k xs ++ (get_or xs k 0 ∷ drop (k + 1) xs) ≡ (take k xs ++ 10 ∷ []) ++ drop (k + 1) xs =
     ap (λ b. take k xs ++ (b ∷ drop (k + 1) xs)) feed ∙ sym (append_assoc (take k xs) (10 ∷ []) (drop (k + 1) xs)) in
-    ap lines (whole ∙ parted) ∙ lines-line (take k xs) (drop (k + 1) xs) (plain-front xs k (omega arith) first.before)
+    ap lines (whole ∙ split_up) ∙ lines-line (take k xs) (drop (k + 1) xs) (plain-front xs k (omega arith) first.before)
 
 pub line-ended : (xs : List ℕ) → 0 < length xs → Nowhere (Passes (is_byte 10) xs) 0 (length xs) → lines xs ≡ xs ∷ lines (drop (length xs) xs)
 line-ended xs some none = lines-last xs (plain-all xs none) some ∙ ap (λ rest. xs ∷ lines rest) (sym (drop_all (length xs) xs (omega arith)))

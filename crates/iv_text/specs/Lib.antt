@@ -4,6 +4,7 @@ pub mod Fields
 pub mod Number
 pub mod Row
 pub mod Named
+pub mod NameMap
 pub mod Genome
 pub mod Read
 pub mod Fault

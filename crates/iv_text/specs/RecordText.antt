@@ -18,9 +18,13 @@ tabbed width columns = flat_map (λ column. codes "\t" ++ column) (take (width -
 abbrev pub rest_text : Row → List ℕ
 rest_text r = tabbed r.width (r.name ∷ r.score ∷ strand_text r.strand ∷ [])
 
--- the first three columns of a record on this genome, with a TAB between two of them
+-- the columns of an interval: the name of its sequence, start and stop, with a TAB between two of them
+abbrev pub interval_text : List ℕ → ℕ → ℕ → List ℕ
+interval_text name start stop = name ++ codes "\t" ++ decimal start ++ codes "\t" ++ decimal stop
+
+-- the first three columns of a record on this genome
 abbrev pub place_text : Sequences → Row → List ℕ
-place_text g r = sequence_name g r.seq ++ codes "\t" ++ decimal r.start ++ codes "\t" ++ decimal r.stop
+place_text g r = interval_text (sequence_name g r.seq) r.start r.stop
 
 -- the columns of a record on this genome, with a TAB between two of them
 abbrev pub record_text : Sequences → Row → List ℕ

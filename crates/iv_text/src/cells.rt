@@ -55,13 +55,13 @@ pub(crate) fn after_cells(width: u8, text: &[u8]) -> Option<&[u8]>
     if width == 3 {
         return Some(text);
     }
-    let behind_name = after_text(text)?;
+    let after_name = after_text(text)?;
     if width == 4 {
-        return Some(behind_name);
+        return Some(after_name);
     }
-    let behind_score = after_text(behind_name)?;
+    let after_score = after_text(after_name)?;
     if width == 5 {
-        return Some(behind_score);
+        return Some(after_score);
     }
-    after_strand(behind_score)
+    after_strand(after_score)
 }

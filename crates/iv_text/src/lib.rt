@@ -14,6 +14,7 @@ mod laws;
 mod lines;
 mod long_texts;
 mod name_and_score;
+mod name_map;
 mod number;
 mod reading;
 mod record;
@@ -40,12 +41,13 @@ pub use laws::{
     one_length_changes, one_ordered_list,
 };
 pub use lines::{lines_of, split_line};
+pub use name_map::NameMap;
 pub use number::{read_digits, read_number};
 pub use reading::read_record;
 pub use record::Record;
 pub use record_reader::RecordReader;
 pub use record_ref::RecordRef;
 pub use record_text::{put_line, put_numbered, put_record, put_row, strand_bytes};
-pub use row_buffer::RowBuffer;
+pub use row_buffer::{RowBuffer, put_interval};
 pub use short_line::ShortLine;
 pub use strand::{Strand, read_strand};

@@ -9,7 +9,7 @@ ghost use Rattle.iv_text.specs.OnePass.{IsNamed, BeginsWithPlace};
 use crate::bed_file::is_unread;
 use crate::cells::after_cells;
 use crate::fault::RecordFault;
-use crate::fields::{after_byte, columns_behind, cut_first_column};
+use crate::fields::{after_byte, columns_after, cut_first_column};
 use crate::genome::Genome;
 use crate::lines::after_line_end;
 use crate::number::split_number;
@@ -103,8 +103,8 @@ impl<'g, 't, A: Allocator + Copy> RecordReader<'g, 't, A> {
         let before = self.before?;
         let rest = after_name(text, before.name)?;
         let from_start = after_byte(rest, b'\t')?;
-        let (start, behind) = split_number(from_start)?;
-        let from_stop = after_byte(behind, b'\t')?;
+        let (start, after) = split_number(from_start)?;
+        let from_stop = after_byte(after, b'\t')?;
         let (stop, rest) = split_number(from_stop)?;
         if start >= stop || stop > u64::from(before.length) {
             return None;
@@ -145,7 +145,7 @@ impl<'g, 't, A: Allocator + Copy> RecordReader<'g, 't, A> {
         ensures fits { IfSome result (λ r. Fits self.now width r) }
     {
         let front = self.split_place(line)?;
-        let columns = columns_behind(front.rest)?;
+        let columns = columns_after(front.rest)?;
         let others = optional_columns_of(columns, width)?;
         let strand = read_strand(others.strand);
         let sound = are_sound(width, others.name, others.score, strand);

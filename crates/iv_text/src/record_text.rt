@@ -30,19 +30,8 @@ fn put_place<S: Sink, A: Allocator + Copy>(
 ) -> Result<(), WriteFault>
     ensures { Puts (S.state sink.old) (S.state sink.new) result (place_text genome.now row.now) }
 {
-    let sequence = genome.name(row.seq()).unwrap_or(b"");
-    let mut start = itoa::Buffer::new();
-    let mut stop = itoa::Buffer::new();
-    put_pieces(
-        sink,
-        &[
-            sequence,
-            b"\t",
-            start.format(row.start()).as_bytes(),
-            b"\t",
-            stop.format(row.stop()).as_bytes(),
-        ],
-    )
+    let name = genome.name(row.seq()).unwrap_or(b"");
+    RowBuffer::new().put_after_numbers(name, row.start(), row.stop(), sink)
 }
 
 /// Puts a record's columns after the third, each with a TAB in front of it.
@@ -81,22 +70,22 @@ fn prepend_rest(tail: &mut RowBuffer, row: &RecordRef<'_>)
 {
     if row.width() >= 6 {
         tail.prepend(strand_bytes(row.strand()));
-        tail.lay_byte(b'\t');
+        tail.prepend_byte(b'\t');
     }
     if row.width() >= 5 {
         tail.prepend(row.score());
-        tail.lay_byte(b'\t');
+        tail.prepend_byte(b'\t');
     }
     if row.width() >= 4 {
         tail.prepend(row.name());
-        tail.lay_byte(b'\t');
+        tail.prepend_byte(b'\t');
     }
 }
 
 /// Puts a record's columns, as many as its width, with a TAB between two of them, and what is laid after them.
 ///
 /// The first is the name that the genome has at the record's rank, or nothing if it has none.
-/// On a fault the sink has taken a prefix of the text. What is laid afterwards is not said.
+/// On a fault the sink has taken a prefix of the text. The buffer's bytes afterwards are unspecified.
 pub fn put_row<S: Sink, A: Allocator + Copy>(
     sink: &mut S,
     genome: &Genome<A>,
@@ -110,11 +99,8 @@ pub fn put_row<S: Sink, A: Allocator + Copy>(
         return put_all(sink, tail.as_slice());
     }
     prepend_rest(tail, row);
-    tail.prepend_number(row.stop());
-    tail.lay_byte(b'\t');
-    tail.prepend_number(row.start());
-    tail.lay_byte(b'\t');
-    tail.put_after(genome.name(row.seq()).unwrap_or(b""), sink)
+    let name = genome.name(row.seq()).unwrap_or(b"");
+    tail.put_after_numbers(name, row.start(), row.stop(), sink)
 }
 
 /// Puts a record's columns as [`put_row`] does, with nothing after them and no line end.
@@ -139,7 +125,7 @@ pub fn put_line<S: Sink, A: Allocator + Copy>(
     ensures { Puts (S.state sink.old) (S.state sink.new) result (record_text genome.now row.now ++ codes "\n") }
 {
     let mut tail = RowBuffer::new();
-    tail.lay_byte(b'\n');
+    tail.prepend_byte(b'\n');
     put_row(sink, genome, row, &mut tail)
 }
 
@@ -155,8 +141,8 @@ pub fn put_numbered<S: Sink, A: Allocator + Copy>(
     ensures { Puts (S.state sink.old) (S.state sink.new) result (record_text genome.now row.now ++ codes "\t" ++ decimal number ++ codes "\n") }
 {
     let mut tail = RowBuffer::new();
-    tail.lay_byte(b'\n');
+    tail.prepend_byte(b'\n');
     tail.prepend_number(number);
-    tail.lay_byte(b'\t');
+    tail.prepend_byte(b'\t');
     put_row(sink, genome, row, &mut tail)
 }

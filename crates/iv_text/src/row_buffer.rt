@@ -1,6 +1,7 @@
 //! The back of a row, laid from its end.
-ghost use Rattle.std.specs.Prelude.{◌≡◌, ◌+◌, ◌<◌, ◌≤◌, ◌∷◌, ◌++◌, [], decimal, length};
+ghost use Rattle.std.specs.Prelude.{◌≡◌, ◌+◌, ◌<◌, ◌≤◌, ◌∷◌, ◌++◌, [], codes, decimal, length};
 ghost use Rattle.iv_bytes.specs.Sinks.{Puts};
+ghost use Rattle.iv_text.specs.RecordText.{interval_text};
 
 use itoa::write_digits;
 use iv_bytes::{Sink, WriteFault, put_all};
@@ -55,7 +56,7 @@ impl RowBuffer {
     }
 
     /// Lays a byte in front of what is laid.
-    pub fn lay_byte(&mut self, byte: u8)
+    pub fn prepend_byte(&mut self, byte: u8)
         requires { length self.old < 192 }
         ensures { self.new ≡ byte ∷ self.old }
     {
@@ -84,7 +85,7 @@ impl RowBuffer {
 
     /// Puts a front and what is laid after it, as a whole where there is room for both.
     ///
-    /// On a fault the sink has taken a prefix of them. What is laid afterwards is not said.
+    /// On a fault the sink has taken a prefix of them. The buffer's bytes afterwards are unspecified.
     pub fn put_after<S: Sink>(&mut self, front: &[u8], sink: &mut S) -> Result<(), WriteFault>
         ensures { Puts (S.state sink.old) (S.state sink.new) result (front.now ++ self.old) }
     {
@@ -95,4 +96,41 @@ impl RowBuffer {
         self.prepend(front);
         put_all(sink, self.as_slice())
     }
+
+    /// Puts a name, two numbers, such as the start and the stop of an interval, and what is laid: with a TAB between two of the
+    /// three, and as a whole where there is room for all.
+    ///
+    /// On a fault the sink has taken a prefix of them. The buffer's bytes afterwards are unspecified.
+    pub fn put_after_numbers<S: Sink>(
+        &mut self,
+        name: &[u8],
+        first: u64,
+        second: u64,
+        sink: &mut S,
+    ) -> Result<(), WriteFault>
+        requires { length self.old + 42 ≤ 192 }
+        ensures { Puts (S.state sink.old) (S.state sink.new) result (interval_text name.now first second ++ self.old) }
+    {
+        self.prepend_number(second);
+        self.prepend_byte(b'\t');
+        self.prepend_number(first);
+        self.prepend_byte(b'\t');
+        self.put_after(name, sink)
+    }
+}
+
+/// Puts the row of an interval, 0-based and half-open: the name of its sequence, start and stop.
+///
+/// It takes no memory. On a fault the sink has taken a prefix of the row.
+pub fn put_interval<S: Sink>(
+    name: &[u8],
+    start: u64,
+    stop: u64,
+    sink: &mut S,
+) -> Result<(), WriteFault>
+    ensures { Puts (S.state sink.old) (S.state sink.new) result (interval_text name.now start stop ++ codes "\n") }
+{
+    let mut end = RowBuffer::new();
+    end.prepend_byte(b'\n');
+    end.put_after_numbers(name, start, stop, sink)
 }

@@ -1,6 +1,6 @@
 -- Steps one after another.
 use Rattle.std.proofs.Common.{◌≡◌, ℕ, ◌+◌, ◌-◌, ◌^◌, ◌≤◌, Bool, true, false, cond, nat_lt, arith, sym, subst}
-use Rattle.iv_track.specs.Steps.{ticked, TakesUpTo}
+use Rattle.iv_track.specs.Steps.{ticked, TakesUpTo, TakesForEach}
 
 -- no step
 pub takes_none : (n : ℕ) → TakesUpTo n n 0
@@ -21,3 +21,11 @@ takes_within old new m n le h = record { no_less = h.no_less; at_most = omega ar
 -- two calls, one after another
 pub takes_both : (old now new m n : ℕ) → TakesUpTo old now m → TakesUpTo now new n → TakesUpTo old new (m + n)
 takes_both old now new m n g h = record { no_less = omega arith; at_most = omega arith }
+
+-- nothing is done yet
+pub each_none : (n all : ℕ) → TakesForEach n n all all
+each_none n all = record { no_less = omega arith; at_most = omega arith }
+
+-- and one after another
+pub each_more : (old now new all some left : ℕ) → TakesForEach old now all some → TakesForEach now new some left → TakesForEach old new all left
+each_more old now new all some left g h = record { no_less = omega arith; at_most = omega arith }

@@ -97,11 +97,11 @@ module _ (es fs : List (Row × ℕ)) (len width limit : ℕ) (r : Row) (t : IsTr
     }
 
 -- a write of a key that is there is done
-pub set_gives : (res : Result ℕ ℕ) (at : Option ℕ) (n m : ℕ) (P : Type 0) → at ≡ Some n → OnOk res P → IfErr res (λ back. back ≡ m × (at ≡ None)) → P
+pub set_gives : {V : Type 0} (res : Result V V) (at : Option V) (n m : V) (P : Type 0) → at ≡ Some n → OnOk res P → IfErr res (λ back. back ≡ m × (at ≡ None)) → P
 set_gives (Ok x) at n m P here done absent = done
-set_gives (Err x) at n m P here done absent = let none : at ≡ None = absent.1 in absurd (some_not_none n (sym here ∙ none))
+set_gives {V} (Err x) at n m P here done absent = let none : at ≡ None = absent.1 in absurd (some_not_none n (sym here ∙ none))
   where
-    some_not_none : (n : ℕ) → Some n ≡ None → ⊥
+    some_not_none : (n : V) → Some n ≡ None → ⊥
     some_not_none n e = cc
 
 -- the first row that passes a test, with its copies, is the first entry that does

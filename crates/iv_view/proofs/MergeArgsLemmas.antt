@@ -38,25 +38,25 @@ said-value word value words said other =
     cond-false (bytes_eq word (codes "-s")) (option_and_then (said_by (value ∷ words)) (with_flag said)) (option_and_then (said_by words) (with_value word value said)) other
 
 -- the words of a slice that are left after its first
-abbrev pub behind : List (Bor (List ℕ)) → List (Bor (List ℕ))
-behind ws = take (length ws - 1) (drop 1 ws)
+abbrev pub later : List (Bor (List ℕ)) → List (Bor (List ℕ))
+later ws = take (length ws - 1) (drop 1 ws)
 
 abbrev pub texts : List (Bor (List ℕ)) → List (List ℕ)
 texts ws = map (λ word. word.now) ws
 
 pub going-flag : (ws : List (Bor (List ℕ))) (d : Bor (List ℕ)) (said : MergeArgs) (all : Option MergeArgs) → 1 ≤ length ws → bytes_eq (get_or ws 0 d).now (codes "-s") ≡ true → said.stranded ≡ false
-    → said_by (texts ws) said ≡ all → said_by (texts (behind ws)) (record said { stranded = true }) ≡ all
+    → said_by (texts ws) said ≡ all → said_by (texts (later ws)) (record said { stranded = true }) ≡ all
 going-flag ws d said all some is free known =
-    sym (said-flag (get_or ws 0 d).now (texts (behind ws)) said is free)
+    sym (said-flag (get_or ws 0 d).now (texts (later ws)) said is free)
     ∙ ap (λ (l : List (List ℕ)). said_by l said) (sym (one-up (λ word. word.now) ws d some))
     ∙ known
 
-pub going-value : (ws : List (Bor (List ℕ))) (d e : Bor (List ℕ)) (said next : MergeArgs) (all : Option MergeArgs) → 1 ≤ length ws → 1 ≤ length (behind ws)
-    → bytes_eq (get_or ws 0 d).now (codes "-s") ≡ false → with_value (get_or ws 0 d).now (get_or (behind ws) 0 e).now said ≡ Some next
-    → said_by (texts ws) said ≡ all → said_by (texts (behind (behind ws))) next ≡ all
+pub going-value : (ws : List (Bor (List ℕ))) (d e : Bor (List ℕ)) (said next : MergeArgs) (all : Option MergeArgs) → 1 ≤ length ws → 1 ≤ length (later ws)
+    → bytes_eq (get_or ws 0 d).now (codes "-s") ≡ false → with_value (get_or ws 0 d).now (get_or (later ws) 0 e).now said ≡ Some next
+    → said_by (texts ws) said ≡ all → said_by (texts (later (later ws))) next ≡ all
 going-value ws d e said next all some more other taken known =
-    ap (option_and_then (said_by (texts (behind (behind ws))))) (sym taken)
-    ∙ sym (said-value (get_or ws 0 d).now (get_or (behind ws) 0 e).now (texts (behind (behind ws))) said other)
-    ∙ ap (λ (l : List (List ℕ)). said_by ((get_or ws 0 d).now ∷ l) said) (sym (one-up (λ word. word.now) (behind ws) e more))
+    ap (option_and_then (said_by (texts (later (later ws))))) (sym taken)
+    ∙ sym (said-value (get_or ws 0 d).now (get_or (later ws) 0 e).now (texts (later (later ws))) said other)
+    ∙ ap (λ (l : List (List ℕ)). said_by ((get_or ws 0 d).now ∷ l) said) (sym (one-up (λ word. word.now) (later ws) e more))
     ∙ ap (λ (l : List (List ℕ)). said_by l said) (sym (one-up (λ word. word.now) ws d some))
     ∙ known

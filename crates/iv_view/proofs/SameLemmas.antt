@@ -2,16 +2,16 @@
 use Rattle.std.proofs.Common.{◌≡◌, Bool, true, false, List, [], ◌∷◌, refl, sym, ap, rules, eqb-true}
 use Rattle.std.proofs.Math.Bool.{beq}
 use Rattle.std.proofs.lemmas.Bool.{and_parts}
-use Rattle.iv_summary.specs.declared.column.Column.{Column}
-use Rattle.iv_summary.specs.declared.op.Op.{Op}
-use Rattle.iv_summary.specs.declared.column.ColumnSummary.{ColumnSummary}
+use Rattle.iv_cover.specs.declared.column.Column.{Column}
+use Rattle.iv_cover.specs.declared.op.Op.{Op}
+use Rattle.iv_cover.specs.declared.column.ColumnSummary.{ColumnSummary}
 use Rattle.iv_blocks.specs.declared.options.Options.{Options}
 use Rattle.iv_blocks.specs.declared.options.Summaries.{Summaries}
 use Rattle.iv_view.specs.declared.kept_state.StateKey.{StateKey}
 use Rattle.iv_view.specs.declared.kept_state.StateKey.TheVariants as keep
-use Rattle.iv_summary.specs.contracts.column.ColumnPartialEq.TheImpl as column
-use Rattle.iv_summary.specs.contracts.column.ColumnSummaryPartialEq.TheImpl as summary
-use Rattle.iv_summary.specs.contracts.op.OpPartialEq.TheImpl as op
+use Rattle.iv_cover.specs.contracts.column.ColumnPartialEq.TheImpl as column
+use Rattle.iv_cover.specs.contracts.column.ColumnSummaryPartialEq.TheImpl as summary
+use Rattle.iv_cover.specs.contracts.op.OpPartialEq.TheImpl as op
 use Rattle.iv_blocks.specs.contracts.options.SummariesPartialEq.TheImpl as summaries
 use Rattle.iv_blocks.specs.contracts.options.OptionsPartialEq.TheImpl as options
 use Rattle.iv_view.specs.contracts.kept_state.StateKeyPartialEq.TheImpl as state_key

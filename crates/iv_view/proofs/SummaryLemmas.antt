@@ -3,9 +3,9 @@ use Rattle.std.proofs.Common.{◌≡◌, ℕ, zero, suc, ◌+◌, ◌-◌, ◌<�
 use Rattle.std.proofs.Math.Seq.{set-append_seam}
 use Rattle.std.specs.List.{zip}
 use Rattle.std.specs.Option.{option_map}
-use Rattle.iv_summary.specs.declared.column.ColumnSummary.{ColumnSummary}
-use Rattle.iv_summary.specs.declared.op.Op.{Op}
-use Rattle.iv_summary.specs.declared.op.Op.TheVariants.{Count}
+use Rattle.iv_cover.specs.declared.column.ColumnSummary.{ColumnSummary}
+use Rattle.iv_cover.specs.declared.op.Op.{Op}
+use Rattle.iv_cover.specs.declared.op.Op.TheVariants.{Count}
 use Rattle.iv_blocks.specs.Groups.{filled, pushed, unused}
 use Rattle.iv_blocks.specs.declared.options.Summaries.{Summaries}
 use Rattle.iv_view.specs.Lists.{all_some}

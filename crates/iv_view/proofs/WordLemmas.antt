@@ -18,6 +18,8 @@ use Rattle.iv_fasta.specs.declared.rows.FastaRows.{FastaRows}
 use Rattle.iv_pair.specs.declared.pair_rows.PairRows.{PairRows}
 use Rattle.iv_view.specs.declared.fault.ViewFault.{ViewFault}
 use Rattle.iv_view.specs.declared.view.View.{View}
+use Rattle.iv_view.specs.declared.view.View.TheVariants as view
+use Rattle.iv_view.specs.declared.written_view.WrittenView.TheVariants as written
 use Rattle.iv_view.specs.declared.view.KeptView.{KeptView}
 use Rattle.iv_view.proofs.FlagLemmas.{flag-cut}
 use Rattle.iv_view.proofs.RowLemmas.{intersect_others, getfasta_others}
@@ -126,45 +128,60 @@ pub words-cut : (width : ℕ) (has_second has_bases : Bool) (words : List (List 
 words-cut width has_second has_bases [] = refl
 words-cut width has_second has_bases (word ∷ words) = rw (options-cut words, limited-cut words, rows-cut words, intersect-cut words, whole-cut words, fasta-cut words) refl
 
--- a view that needs a second file is read only beside one
-abbrev IsServed : Bool → Result View ViewFault → Type 0
-IsServed has_second said = IfOk said (λ v. IsTrue (needs_second v) → IsTrue has_second)
+-- the view is written with the bases of a FASTA file
+abbrev needs_bases : View → Bool
+needs_bases (view.Kept v) = false
+needs_bases (view.Written (written.Paired rows)) = false
+needs_bases (view.Written (written.Getfasta shown)) = true
 
-served-either : (has_second b : Bool) (first second : Result View ViewFault) → IsServed has_second first → IsServed has_second second
-    → IsServed has_second (if b then first else second)
-served-either has_second true first second one two = one
-served-either has_second false first second one two = two
+-- a view that needs a second file or a FASTA file is read only beside one
+module _ (has_second has_bases : Bool) where
+  abbrev IsServed : Result View ViewFault → Type 0
+  IsServed said = IfOk said (λ v. (IsTrue (needs_second v) → IsTrue has_second) × (IsTrue (needs_bases v) → IsTrue has_bases))
 
-served-merge : (has_second : Bool) (said : Result Options ViewFault) → IsServed has_second (as_merge said)
-served-merge has_second (Err why) = tt
-served-merge has_second (Ok options) = λ needs. absurd (cc needs)
+  served-either : (b : Bool) (first second : Result View ViewFault) → IsServed first → IsServed second → IsServed (if b then first else second)
+  served-either true first second one two = one
+  served-either false first second one two = two
 
-served-kept : (has_second : Bool) (asked : Option KeptView) → IsServed has_second (or_bad_words asked)
-served-kept has_second None = tt
-served-kept has_second (Some v) = λ needs. absurd (cc needs)
+  served-merge : (said : Result Options ViewFault) → IsServed (as_merge said)
+  served-merge (Err why) = tt
+  served-merge (Ok options) = (λ needs. absurd (cc needs), λ needs. absurd (cc needs))
 
-served-paired : (has_second : Bool) (asked : Option PairRows) → IsServed has_second (beside_second has_second asked)
-served-paired has_second None = tt
-served-paired true (Some rows) = λ needs. refl
-served-paired false (Some rows) = tt
+  served-kept : (asked : Option KeptView) → IsServed (or_bad_words asked)
+  served-kept None = tt
+  served-kept (Some v) = (λ needs. absurd (cc needs), λ needs. absurd (cc needs))
 
-served-fasta : (width : ℕ) (has_second has_bases : Bool) (asked : Option FastaRows) → IsServed has_second (beside_fasta width has_bases asked)
-served-fasta width has_second has_bases None = tt
-served-fasta width has_second has_bases (Some shown) =
-    served-either has_second (shown.stranded && nat_lt width 6) _ _ tt
-    (served-either has_second has_bases _ _ (λ needs. absurd (cc needs)) tt)
+  served-beside : (has : Bool) (v : View) (fault : ViewFault)
+      → (has ≡ true → (IsTrue (needs_second v) → IsTrue has_second) × (IsTrue (needs_bases v) → IsTrue has_bases))
+      → IsServed (if has then Ok v else Err fault)
+  served-beside true v fault is = is refl
+  served-beside false v fault is = tt
 
-served : (width : ℕ) (has_second has_bases : Bool) (words : List (List ℕ)) → IsServed has_second (read_words width has_second has_bases words)
-served width has_second has_bases [] = tt
-served width has_second has_bases (word ∷ words) =
-    served-either has_second (bytes_eq word (codes "merge")) _ _ (served-merge has_second _)
-    (served-either has_second (bytes_eq word (codes "cluster")) _ _ (served-kept has_second _)
-    (served-either has_second (bytes_eq word (codes "complement")) _ _ (served-kept has_second _)
-    (served-either has_second (bytes_eq word (codes "genomecov")) _ _ (served-kept has_second _)
-    (served-either has_second (bytes_eq word (codes "intersect")) _ _ (served-paired has_second _)
-    (served-either has_second (bytes_eq word (codes "subtract")) _ _ (served-paired has_second _)
-    (served-either has_second (bytes_eq word (codes "getfasta")) _ _ (served-fasta width has_second has_bases _) tt))))))
+  served-paired : (asked : Option PairRows) → IsServed (beside_second has_second asked)
+  served-paired None = tt
+  served-paired (Some rows) = served-beside has_second _ _ (λ is. (λ needs. is, λ needs. absurd (cc needs)))
+
+  served-fasta : (width : ℕ) (asked : Option FastaRows) → IsServed (beside_fasta width has_bases asked)
+  served-fasta width None = tt
+  served-fasta width (Some shown) =
+      served-either (shown.stranded && nat_lt width 6) _ _ tt
+      (served-beside has_bases _ _ (λ is. (λ needs. absurd (cc needs), λ needs. is)))
+
+  served : (width : ℕ) (words : List (List ℕ)) → IsServed (read_words width has_second has_bases words)
+  served width [] = tt
+  served width (word ∷ words) =
+      served-either (bytes_eq word (codes "merge")) _ _ (served-merge _)
+      (served-either (bytes_eq word (codes "cluster")) _ _ (served-kept _)
+      (served-either (bytes_eq word (codes "complement")) _ _ (served-kept _)
+      (served-either (bytes_eq word (codes "genomecov")) _ _ (served-kept _)
+      (served-either (bytes_eq word (codes "intersect")) _ _ (served-paired _)
+      (served-either (bytes_eq word (codes "subtract")) _ _ (served-paired _)
+      (served-either (bytes_eq word (codes "getfasta")) _ _ (served-fasta width _) tt))))))
 
 pub needs-there : (width : ℕ) (has_second has_bases : Bool) (words : List (List ℕ)) (v : View)
     → read_words width has_second has_bases words ≡ Ok v → IsTrue (needs_second v) → IsTrue has_second
-needs-there width has_second has_bases words v is = subst (IsServed has_second) is (served width has_second has_bases words)
+needs-there width has_second has_bases words v is = (subst (IsServed has_second has_bases) is (served has_second has_bases width words)).0
+
+pub bases-there : (width : ℕ) (has_second has_bases : Bool) (words : List (List ℕ)) (shown : FastaRows)
+    → read_words width has_second has_bases words ≡ Ok (view.Written (written.Getfasta shown)) → IsTrue has_bases
+bases-there width has_second has_bases words shown is = (subst (IsServed has_second has_bases) is (served has_second has_bases width words)).1 refl

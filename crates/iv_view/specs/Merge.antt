@@ -3,12 +3,12 @@ use Rattle.std.specs.Prelude.{ℕ, Bool, true, false, nat_le, nat_lt, ◌&&◌, 
 use Rattle.std.specs.Option.{option_map, is_some}
 use Rattle.std.specs.Str.{bytes_eq}
 use Rattle.iv_text.specs.Number.{number}
-use Rattle.iv_summary.specs.Columns.{column_numbered}
-use Rattle.iv_summary.specs.Summaries.{op_named}
-use Rattle.iv_summary.specs.declared.column.Column.{Column}
-use Rattle.iv_summary.specs.declared.column.ColumnSummary.{ColumnSummary}
-use Rattle.iv_summary.specs.declared.op.Op.{Op}
-use Rattle.iv_summary.specs.declared.op.Op.TheVariants.{Sum}
+use Rattle.iv_cover.specs.Columns.{column_numbered}
+use Rattle.iv_cover.specs.Summaries.{op_named}
+use Rattle.iv_cover.specs.declared.column.Column.{Column}
+use Rattle.iv_cover.specs.declared.column.ColumnSummary.{ColumnSummary}
+use Rattle.iv_cover.specs.declared.op.Op.{Op}
+use Rattle.iv_cover.specs.declared.op.Op.TheVariants.{Sum}
 use Rattle.iv_blocks.specs.Groups.{filled}
 use Rattle.iv_blocks.specs.declared.options.Options.{Options}
 use Rattle.iv_blocks.specs.declared.options.Summaries.{Summaries}

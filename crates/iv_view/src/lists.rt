@@ -2,11 +2,11 @@
 ghost use Rattle.std.specs.Prelude.{◌≡◌, ◌≤◌, ℕ, List, Option, Some, None, nat_le, if◌then◌else◌, length, replicate};
 ghost use Rattle.std.specs.Option.{option_map};
 ghost use Rattle.iv_text.specs.Number.{number};
-ghost use Rattle.iv_summary.specs.Summaries.{op_named};
+ghost use Rattle.iv_cover.specs.Summaries.{op_named};
 ghost use Rattle.iv_view.specs.Lists.{items_in, of_length};
 
 use arrayvec::ArrayVec;
-use iv_summary::Op;
+use iv_cover::Op;
 use iv_text::{Fields, read_number};
 
 /// At most this many items.

@@ -3,7 +3,7 @@ ghost use Rattle.std.specs.Prelude.{◌≡◌, ◌≤◌, [], ◌∷◌, None, n
 ghost use Rattle.std.specs.List.{zip};
 ghost use Rattle.std.specs.Option.{option_map, option_copied};
 ghost use Rattle.iv_blocks.specs.Groups.{filled};
-ghost use Rattle.iv_summary.specs.Columns.{column_numbered};
+ghost use Rattle.iv_cover.specs.Columns.{column_numbered};
 ghost use Rattle.iv_view.specs.Lists.{all_some, pairs};
 ghost use Rattle.iv_view.specs.Merge.{said_by, nothing_said, merge_options, asked_summaries, distance_of, lists_of, summary_within, column_within as column_in};
 
@@ -12,7 +12,7 @@ use crate::lists::{MOST_ITEMS, read_items, repeated};
 use crate::options::MergeArgs;
 use arrayvec::ArrayVec;
 use iv_blocks::{Options, Summaries};
-use iv_summary::{Column, ColumnSummary, Op};
+use iv_cover::{Column, ColumnSummary, Op};
 use iv_text::read_number;
 
 /// The greatest distance.

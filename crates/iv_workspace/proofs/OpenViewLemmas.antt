@@ -1,15 +1,13 @@
 -- The open views, one after another.
 use denote.Ref.{Bor}
-use Rattle.std.proofs.Common.{◌≡◌, ℕ, suc, ◌+◌, ◌≤◌, ◌++◌, Bool, true, false, cond, List, [], ◌∷◌, Option, None, Some, length, map, slice_get, drop, add-one, zero, refl, sym, ap, ap₂, subst, ◌∙◌, append_assoc, append-nil, arith, if◌then◌else◌}
+use Rattle.std.proofs.Common.{◌≡◌, ℕ, suc, ◌+◌, ◌≤◌, ◌++◌, Bool, true, false, cond, List, [], ◌∷◌, Option, None, Some, length, slice_get, drop, add-one, zero, refl, sym, ap, ap₂, subst, ◌∙◌, append_assoc, append-nil, arith, if◌then◌else◌}
 use Rattle.std.specs.List.{AllByRecursion}
 use Rattle.std.specs.Map.{values_of, lookup, remove_entry}
-use Rattle.std.specs.Option.{is_some, option_map, option_copied}
+use Rattle.std.specs.Option.{is_some, option_map}
 use Rattle.std.specs.Str.{bytes_eq}
-use Rattle.std.proofs.lemmas.Option.{slice_get-map}
-use Rattle.std.proofs.lemmas.List.{length-append, length-map, map-append}
-use Rattle.indexmap.specs.Layout.{set_value_at}
+use Rattle.std.proofs.lemmas.List.{length-append, map-append}
+use Rattle.iv_text.proofs.NamedLemmas.{set_value_at}
 use Rattle.iv_text.specs.Row.{Row}
-use Rattle.iv_text.proofs.NamedLemmas.{lookup-is}
 use Rattle.iv_view.specs.KeptStates.{state_key_of, repair_steps_of}
 use Rattle.iv_view.specs.declared.view.View.{View}
 use Rattle.iv_workspace.specs.ViewStates.{all_seen, seen}
@@ -17,13 +15,6 @@ use Rattle.iv_workspace.specs.OpenViews.{Shown, Stales, Freshens, current, all_c
 use Rattle.iv_workspace.specs.declared.open_view.OpenView.{OpenView}
 
 -- ---- a walk over the places of a map, each of which is written
-
--- the entries as contracts see them
-abbrev pub named : {K V : Type 0} → (K → List ℕ) → List (K × V) → List (List ℕ × V)
-named {K} {V} items es = map {B = List ℕ × V} (λ e. (items e.0, e.1)) es
-
-pub named-length : {K V : Type 0} (items : K → List ℕ) (es : List (K × V)) → length (named items es) ≡ length es
-named-length {K} {V} items es = length-map {B = List ℕ × V} es (λ e. (items e.0, e.1))
 
 -- the entries before a place are done
 pub record Midway {V : Type 0} (Done : List (List ℕ × V) → List (List ℕ × V) → Type 0) (old now : List (List ℕ × V)) (place : ℕ) : Type 0 where
@@ -40,32 +31,32 @@ pub midway-begin : {V : Type 0} (Done : List (List ℕ × V) → List (List ℕ 
 midway-begin Done old now same does = record { front = []; done = []; rest = old; old_is = refl; now_is = same; front_is = refl; done_is = refl; does = does }
 
 -- the entry at a place, once it is written
-written : {K V : Type 0} (items : K → List ℕ) (es : List (K × V)) (done rest : List (List ℕ × V)) (place : ℕ) (v w : V)
-    → named items es ≡ done ++ rest → place ≡ length done → slice_get (values_of es) place ≡ Some v
-    → (n : List ℕ) × (more : List (List ℕ × V)) × (rest ≡ (n, v) ∷ more) × (named items (set_value_at es place w) ≡ done ++ (n, w) ∷ more)
-written {K} {V} items es done rest place v w are at found =
-    subst (λ (i : ℕ). (n : List ℕ) × (more : List (List ℕ × V)) × (rest ≡ (n, v) ∷ more) × (named items (set_value_at es i w) ≡ done ++ (n, w) ∷ more)) (sym at)
+written : {V : Type 0} (es : List (List ℕ × V)) (done rest : List (List ℕ × V)) (place : ℕ) (v w : V)
+    → es ≡ done ++ rest → place ≡ length done → slice_get (values_of es) place ≡ Some v
+    → (n : List ℕ) × (more : List (List ℕ × V)) × (rest ≡ (n, v) ∷ more) × (set_value_at es place w ≡ done ++ (n, w) ∷ more)
+written {V} es done rest place v w are at found =
+    subst (λ (i : ℕ). (n : List ℕ) × (more : List (List ℕ × V)) × (rest ≡ (n, v) ∷ more) × (set_value_at es i w ≡ done ++ (n, w) ∷ more)) (sym at)
     (by es done are (subst (λ (i : ℕ). slice_get (values_of es) i ≡ Some v) at found))
   where
-    by : (es : List (K × V)) (done : List (List ℕ × V)) → named items es ≡ done ++ rest → slice_get (values_of es) (length done) ≡ Some v
-        → (n : List ℕ) × (more : List (List ℕ × V)) × (rest ≡ (n, v) ∷ more) × (named items (set_value_at es (length done) w) ≡ done ++ (n, w) ∷ more)
+    by : (es : List (List ℕ × V)) (done : List (List ℕ × V)) → es ≡ done ++ rest → slice_get (values_of es) (length done) ≡ Some v
+        → (n : List ℕ) × (more : List (List ℕ × V)) × (rest ≡ (n, v) ∷ more) × (set_value_at es (length done) w ≡ done ++ (n, w) ∷ more)
     by [] done are found = absurd (cc (found))
     by (e ∷ es) [] are found =
         let is : e.1 ≡ v = cc (found) in
-        (items e.0, named items es, sym are ∙ ap (λ (u : V). (items e.0, u) ∷ named items es) is, refl)
+        (e.0, es, sym are ∙ ap (λ (u : V). (e.0, u) ∷ es) is, refl)
     by (e ∷ es) (d ∷ done) are found =
-        let first : (items e.0, e.1) ≡ d = cc (are) in
-        let tail : named items es ≡ done ++ rest = cc (are) in
+        let first : e ≡ d = cc (are) in
+        let tail : es ≡ done ++ rest = cc (are) in
         let more = by es done tail found in
         (more.0, more.1, more.2, ap₂ (λ (x : List ℕ × V) (l : List (List ℕ × V)). x ∷ l) first more.3)
 
 -- one more entry is done
-pub midway-next : {K V : Type 0} (items : K → List ℕ) (Done Then : List (List ℕ × V) → List (List ℕ × V) → Type 0) (old : List (List ℕ × V)) (es : List (K × V)) (place : ℕ) (v w : V)
-    → Midway Done old (named items es) place → slice_get (values_of es) place ≡ Some v
+pub midway-next : {V : Type 0} (Done Then : List (List ℕ × V) → List (List ℕ × V) → Type 0) (old : List (List ℕ × V)) (es : List (List ℕ × V)) (place : ℕ) (v w : V)
+    → Midway Done old es place → slice_get (values_of es) place ≡ Some v
     → ((front done more : List (List ℕ × V)) (n : List ℕ) → old ≡ front ++ (n, v) ∷ more → Done front done → Then (front ++ (n, v) ∷ []) (done ++ (n, w) ∷ []))
-    → Midway Then old (named items (set_value_at es place w)) (place + 1)
-midway-next {K} {V} items Done Then old es place v w mid found step =
-    let p = written items es mid.done mid.rest place v w mid.now_is mid.done_is found in
+    → Midway Then old (set_value_at es place w) (place + 1)
+midway-next {V} Done Then old es place v w mid found step =
+    let p = written es mid.done mid.rest place v w mid.now_is mid.done_is found in
     let old_is : old ≡ mid.front ++ (p.0, v) ∷ p.1 = mid.old_is ∙ ap (λ (l : List (List ℕ × V)). mid.front ++ l) p.2 in
     record {
       front = mid.front ++ (p.0, v) ∷ [];
@@ -87,15 +78,15 @@ pub record Written {V : Type 0} (old new : List (List ℕ × V)) (place : ℕ) (
   pub old_is : old ≡ front ++ (name, v) ∷ more
   pub new_is : new ≡ front ++ (name, w) ∷ more
 
-pub written-at : {K V : Type 0} (items : K → List ℕ) (es : List (K × V)) (place : ℕ) (v w : V) → slice_get (values_of es) place ≡ Some v
-    → Written (named items es) (named items (set_value_at es place w)) place v w
-written-at items [] place v w found = absurd (cc (found))
-written-at {K} {V} items (e ∷ es) zero v w found =
+pub written-at : {V : Type 0} (es : List (List ℕ × V)) (place : ℕ) (v w : V) → slice_get (values_of es) place ≡ Some v
+    → Written es (set_value_at es place w) place v w
+written-at [] place v w found = absurd (cc (found))
+written-at {V} (e ∷ es) zero v w found =
     let is : e.1 ≡ v = cc (found) in
-    record { front = []; more = named items es; name = items e.0; front_is = refl; old_is = ap (λ (u : V). (items e.0, u) ∷ named items es) is; new_is = refl }
-written-at {K} {V} items (e ∷ es) (suc place) v w found =
-    let u = written-at items es place v w found in
-    let first : List (List ℕ × V) → List (List ℕ × V) = λ l. (items e.0, e.1) ∷ l in
+    record { front = []; more = es; name = e.0; front_is = refl; old_is = ap (λ (u : V). (e.0, u) ∷ es) is; new_is = refl }
+written-at {V} (e ∷ es) (suc place) v w found =
+    let u = written-at es place v w found in
+    let first : List (List ℕ × V) → List (List ℕ × V) = λ l. e ∷ l in
     record { front = first u.front; more = u.more; name = u.name; front_is = ap suc u.front_is; old_is = ap first u.old_is; new_is = ap first u.new_is }
 
 -- all entries are done
@@ -145,14 +136,14 @@ stales-trans (v ∷ old) (m ∷ mid) (w ∷ new) first second = (
 -- ---- the view at a place
 
 -- what the stale views from a place on are
-pub stale-next : {K A : Type 0} (items : K → List ℕ) (es : List (K × OpenView A)) (i : ℕ) (v : OpenView A) → slice_get (values_of es) i ≡ Some v
-    → stale_count (all_seen (drop i (named items es))) ≡ (if (seen v).stale then 1 else 0) + stale_count (all_seen (drop (i + 1) (named items es)))
-stale-next {K} {A} items es i v found = subst (λ (k : ℕ). stale_count (all_seen (drop i (named items es))) ≡ (if (seen v).stale then 1 else 0) + stale_count (all_seen (drop k (named items es)))) (sym (add-one i)) (by es i found)
+pub stale-next : {A : Type 0} (es : List (List ℕ × OpenView A)) (i : ℕ) (v : OpenView A) → slice_get (values_of es) i ≡ Some v
+    → stale_count (all_seen (drop i es)) ≡ (if (seen v).stale then 1 else 0) + stale_count (all_seen (drop (i + 1) es))
+stale-next {A} es i v found = subst (λ (k : ℕ). stale_count (all_seen (drop i es)) ≡ (if (seen v).stale then 1 else 0) + stale_count (all_seen (drop k es))) (sym (add-one i)) (by es i found)
   where
-    by : (es : List (K × OpenView A)) (i : ℕ) → slice_get (values_of es) i ≡ Some v
-        → stale_count (all_seen (drop i (named items es))) ≡ (if (seen v).stale then 1 else 0) + stale_count (all_seen (drop (suc i) (named items es)))
+    by : (es : List (List ℕ × OpenView A)) (i : ℕ) → slice_get (values_of es) i ≡ Some v
+        → stale_count (all_seen (drop i es)) ≡ (if (seen v).stale then 1 else 0) + stale_count (all_seen (drop (suc i) es))
     by [] i found = absurd (cc (found))
-    by (e ∷ es) zero found = let is : e.1 ≡ v = cc (found) in ap (λ (u : OpenView A). (if (seen u).stale then 1 else 0) + stale_count (all_seen (named items es))) is
+    by (e ∷ es) zero found = let is : e.1 ≡ v = cc (found) in ap (λ (u : OpenView A). (if (seen u).stale then 1 else 0) + stale_count (all_seen es)) is
     by (e ∷ es) (suc i) found = by es i found
 
 pub all-append : {X : Type 0} (P : X → Type 0) (xs ys : List X) → AllByRecursion P xs → AllByRecursion P ys → AllByRecursion P (xs ++ ys)
@@ -168,10 +159,10 @@ all-back P [] ys a = a
 all-back P (x ∷ xs) ys a = all-back P xs ys a.1
 
 -- the view at a place, where all were right before
-pub midway-at : {K V : Type 0} (items : K → List ℕ) (Done : List (List ℕ × V) → List (List ℕ × V) → Type 0) (P : V → Type 0) (old : List (List ℕ × V)) (es : List (K × V)) (place : ℕ) (v : V)
-    → Midway Done old (named items es) place → slice_get (values_of es) place ≡ Some v → AllByRecursion (λ e. P e.1) old → P v
-midway-at {K} {V} items Done P old es place v mid found all =
-    let p = written items es mid.done mid.rest place v v mid.now_is mid.done_is found in
+pub midway-at : {V : Type 0} (Done : List (List ℕ × V) → List (List ℕ × V) → Type 0) (P : V → Type 0) (old : List (List ℕ × V)) (es : List (List ℕ × V)) (place : ℕ) (v : V)
+    → Midway Done old es place → slice_get (values_of es) place ≡ Some v → AllByRecursion (λ e. P e.1) old → P v
+midway-at {V} Done P old es place v mid found all =
+    let p = written es mid.done mid.rest place v v mid.now_is mid.done_is found in
     let old_is : old ≡ mid.front ++ (p.0, v) ∷ p.1 = mid.old_is ∙ ap (λ (l : List (List ℕ × V)). mid.front ++ l) p.2 in
     (all-back (λ e. P e.1) mid.front ((p.0, v) ∷ p.1) (subst (λ (l : List (List ℕ × V)). AllByRecursion (λ e. P e.1) l) old_is all)).0
 
@@ -220,30 +211,14 @@ seen-lookup {A} name (v ∷ views) = elim (bytes_eq name v.0) as (λ b. cond b (
   | false ↦ seen-lookup name views
 ]
 
--- the entry at a place of what a map is seen as
-pub named-at : {K V : Type 0} (items : K → List ℕ) (es : List (K × V)) (seen_as : List (List ℕ × V)) (i : ℕ) (o : Option (K × V))
-    → named items es ≡ seen_as → o ≡ slice_get es i → option_map (λ e. (items e.0, e.1)) o ≡ slice_get seen_as i
-named-at {K} {V} items es seen_as i o same is =
-    ap (option_map (λ e. (items e.0, e.1))) is ∙ sym (slice_get-map (λ e. (items e.0, e.1)) es i) ∙ ap (λ (l : List (List ℕ × V)). slice_get l i) same
-
 -- the same, at the place where the loop is
-pub stale-yes : {K A : Type 0} (items : K → List ℕ) (es : List (K × OpenView A)) (i : ℕ) (v : OpenView A) → slice_get (values_of es) i ≡ Some v → (seen v).stale ≡ true
-    → stale_count (all_seen (drop i (named items es))) ≡ 1 + stale_count (all_seen (drop (i + 1) (named items es)))
-stale-yes items es i v found is = stale-next items es i v found ∙ ap (λ (b : Bool). (if b then 1 else 0) + stale_count (all_seen (drop (i + 1) (named items es)))) is
+pub stale-yes : {A : Type 0} (es : List (List ℕ × OpenView A)) (i : ℕ) (v : OpenView A) → slice_get (values_of es) i ≡ Some v → (seen v).stale ≡ true
+    → stale_count (all_seen (drop i es)) ≡ 1 + stale_count (all_seen (drop (i + 1) es))
+stale-yes es i v found is = stale-next es i v found ∙ ap (λ (b : Bool). (if b then 1 else 0) + stale_count (all_seen (drop (i + 1) es))) is
 
-pub stale-no : {K A : Type 0} (items : K → List ℕ) (es : List (K × OpenView A)) (i : ℕ) (v : OpenView A) → slice_get (values_of es) i ≡ Some v → (seen v).stale ≡ false
-    → stale_count (all_seen (drop i (named items es))) ≡ 0 + stale_count (all_seen (drop (i + 1) (named items es)))
-stale-no items es i v found is = stale-next items es i v found ∙ ap (λ (b : Bool). (if b then 1 else 0) + stale_count (all_seen (drop (i + 1) (named items es)))) is
-
--- what a look-up under a name gives, as contracts see it
-pub named-seen : {K A : Type 0} (items : K → List ℕ) (name : List ℕ) (es : List (K × OpenView A)) (old : List (List ℕ × OpenView A)) (o : Option (Bor (OpenView A)))
-    → named items es ≡ old → option_copied o ≡ lookup (λ k. bytes_eq name (items k)) es → option_map (λ v. seen v.now) o ≡ lookup (bytes_eq name) (all_seen old)
-named-seen {K} {A} items name es old o same found =
-    copied o ∙ ap (option_map seen) (found ∙ lookup-is items name es ∙ ap (lookup (bytes_eq name)) same) ∙ sym (seen-lookup name old)
-  where
-    copied : (o : Option (Bor (OpenView A))) → option_map (λ v. seen v.now) o ≡ option_map seen (option_copied o)
-    copied None = refl
-    copied (Some v) = refl
+pub stale-no : {A : Type 0} (es : List (List ℕ × OpenView A)) (i : ℕ) (v : OpenView A) → slice_get (values_of es) i ≡ Some v → (seen v).stale ≡ false
+    → stale_count (all_seen (drop i es)) ≡ 0 + stale_count (all_seen (drop (i + 1) es))
+stale-no es i v found is = stale-next es i v found ∙ ap (λ (b : Bool). (if b then 1 else 0) + stale_count (all_seen (drop (i + 1) es))) is
 
 -- without the view of a name
 pub remove-seen : {A : Type 0} (name : List ℕ) (views : List (List ℕ × OpenView A)) → all_seen (remove_entry (bytes_eq name) views) ≡ remove_entry (bytes_eq name) (all_seen views)

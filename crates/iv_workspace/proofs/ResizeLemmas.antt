@@ -126,15 +126,15 @@ pub end-is : (g : Sequences) (seq end : ℕ) (o : Option ℕ) → o ≡ length_a
 end-is g seq end o at is = is ∙ ap (λ (p : Option ℕ). unwrap_or p 0) at
 
 module _ (g : Sequences) (t : Tracked) (is : IsTrackOn g t) where
-  lies : (q : Row) → Mem q t.rows → (q.start < q.stop) × IsWithin g q.seq q.stop
-  lies q m = let fits = all-mem (Fits g t.width) t.rows is.fit q m in (fits.lies.some, fits.lies.within)
+  is_placed : (q : Row) → Mem q t.rows → (q.start < q.stop) × IsWithin g q.seq q.stop
+  is_placed q m = let fits = all-mem (Fits g t.width) t.rows is.fit q m in (fits.is_placed.some, fits.is_placed.within)
 
   pub rows-some : All (λ q. q.start < q.stop) t.rows
-  rows-some = mem-all (λ (q : Row). q.start < q.stop) t.rows (λ q m. (lies q m).0)
+  rows-some = mem-all (λ (q : Row). q.start < q.stop) t.rows (λ q m. (is_placed q m).0)
 
   pub rows-within : (seq end : ℕ) → end ≡ unwrap_or (length_at g seq) 0 → All (λ q. q.seq ≡ seq → q.stop ≤ end) t.rows
   rows-within seq end at = mem-all (λ (q : Row). q.seq ≡ seq → q.stop ≤ end) t.rows (λ q m same.
-      let top : q.stop ≤ unwrap_or (length_at g q.seq) 0 = (lies q m).1.1 in
+      let top : q.stop ≤ unwrap_or (length_at g q.seq) 0 = (is_placed q m).1.1 in
       let here : unwrap_or (length_at g q.seq) 0 ≡ end = ap (λ (k : ℕ). unwrap_or (length_at g k) 0) same ∙ sym at in
       omega (arith, top, here))
 
@@ -194,7 +194,7 @@ within-stays g seq n q is not =
 fits-stays : (g : Sequences) (width seq n : ℕ) (q : Row) → Fits g width q → reaches_past seq n q ≡ false → Fits (with_length g seq n) width q
 fits-stays g width seq n q is not = record {
   width_is = is.width_is;
-  lies = record { some = is.lies.some; within = within-stays g seq n q is.lies.within not };
+  is_placed = record { some = is.is_placed.some; within = within-stays g seq n q is.is_placed.within not };
   beside = is.beside;
 }
 

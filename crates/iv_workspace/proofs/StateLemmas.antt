@@ -4,13 +4,12 @@ use Rattle.std.specs.Option.{option_copied}
 use Rattle.std.proofs.Common.{◌≡◌, ℕ, suc, zero, ◌+◌, ◌<◌, ◌≤◌, ◌++◌, ◌⊎◌, inl, inr, Bool, true, false, if◌then◌else◌, List, [], ◌∷◌, Option, None, Some, length, drop, slice_get, get_or, add-one, refl, sym, ap, ap₂, subst, ◌∙◌, arith}
 use Rattle.std.specs.Prelude.{IfSome, ◌&&◌, ◌||◌, not}
 use Rattle.std.specs.List.{AllByRecursion}
-use Rattle.std.specs.List.{position}
 use Rattle.std.specs.Map.{keys_of, values_of, lookup, remove_entry}
 use Rattle.std.specs.Str.{bytes_eq}
 use Rattle.std.proofs.lemmas.List.{map-append}
 use Rattle.std.proofs.lemmas.List.Quantifiers.{position-Some}
-use Rattle.indexmap.specs.Layout.{set_value_at}
-use Rattle.indexmap.proofs.MapLemmas.{Missing-position}
+use Rattle.iv_text.proofs.NamedLemmas.{set_value_at, unnamed}
+use Rattle.iv_text.specs.Named.{place_of}
 use Rattle.iv_text.specs.Row.{Row}
 use Rattle.iv_view.specs.KeptStates.{built_for, state_key_of, IsRight}
 use Rattle.iv_view.specs.declared.kept_state.KeptState.{KeptState}
@@ -19,7 +18,7 @@ use Rattle.iv_view.specs.declared.view.View.{View}
 use Rattle.iv_workspace.specs.ViewStates.{seen, all_seen, kept_with, owned, all_owned, IsOwned, IsKept, HaveStates, IsOwnRight, AreOwnRight, AreRight, IsRepaired, AreRepaired, AreMarked, IsMissing, NoneNeeds, current_at}
 use Rattle.iv_workspace.specs.OpenViews.{Shown, Stales, Freshens, current, all_current, with_current, stale_count, all_steps, view_steps}
 use Rattle.iv_workspace.specs.declared.open_view.OpenView.{OpenView}
-use Rattle.iv_workspace.proofs.OpenViewLemmas.{Midway, midway-begin, midway-next, midway-end, midway-at, Written, written-at, named, all-append, all-front, all-back, all-removed, all-named, all-at, stales-append, freshens-same, seen-append, remove-seen}
+use Rattle.iv_workspace.proofs.OpenViewLemmas.{Midway, midway-begin, midway-next, midway-end, midway-at, Written, written-at, all-append, all-front, all-back, all-removed, all-named, all-at, stales-append, freshens-same, seen-append, remove-seen}
 
 -- ---- what is kept is among the states
 
@@ -140,16 +139,16 @@ module _ {A : Type 0} (names : List (List ℕ)) (rows with_r : List Row) (r : Ro
       → AreRepaired names rows with_r r kept old now before after
   repairs-end kept now place before after u past = midway-end (λ front done. AreRepaired names rows with_r r kept front done before after) old now place u.mid past
 
-module _ {K A : Type 0} (items : K → List ℕ) (names : List (List ℕ)) (rows with_r : List Row) (r : Row) (old : List (List ℕ × OpenView A)) where
-  pub repairs-at : (P : OpenView A → Type 0) (kept : Bool) (es : List (K × OpenView A)) (place before mid : ℕ) (v : OpenView A)
-      → Repairing names rows with_r r kept old (named items es) place before mid → slice_get (values_of es) place ≡ Some v → AllByRecursion (λ e. P e.1) old → P v
-  repairs-at P kept es place before mid v u found all = midway-at items _ P old es place v u.mid found all
+module _ {A : Type 0} (names : List (List ℕ)) (rows with_r : List Row) (r : Row) (old : List (List ℕ × OpenView A)) where
+  pub repairs-at : (P : OpenView A → Type 0) (kept : Bool) (es : List (List ℕ × OpenView A)) (place before mid : ℕ) (v : OpenView A)
+      → Repairing names rows with_r r kept old es place before mid → slice_get (values_of es) place ≡ Some v → AllByRecursion (λ e. P e.1) old → P v
+  repairs-at P kept es place before mid v u found all = midway-at _ P old es place v u.mid found all
 
-  pub repairs-next : (kept also : Bool) (es : List (K × OpenView A)) (place before mid after : ℕ) (v w : OpenView A)
-      → Repairing names rows with_r r kept old (named items es) place before mid → slice_get (values_of es) place ≡ Some v → IsRepaired names rows with_r r also v w mid after
-      → Repairing names rows with_r r (kept && also) old (named items (set_value_at es place w)) (place + 1) before after
+  pub repairs-next : (kept also : Bool) (es : List (List ℕ × OpenView A)) (place before mid after : ℕ) (v w : OpenView A)
+      → Repairing names rows with_r r kept old es place before mid → slice_get (values_of es) place ≡ Some v → IsRepaired names rows with_r r also v w mid after
+      → Repairing names rows with_r r (kept && also) old (set_value_at es place w) (place + 1) before after
   repairs-next kept also es place before mid after v w u found one = record {
-    mid = midway-next items
+    mid = midway-next
         (λ front done. AreRepaired names rows with_r r kept front done before mid) (λ front done. AreRepaired names rows with_r r (kept && also) front done before after)
         old es place v w u.mid found (λ front done more n old_is all. repaired-push names rows with_r r kept also front done n v w before mid after all one);
   }
@@ -228,18 +227,18 @@ module _ {A : Type 0} (old : List (List ℕ × OpenView A)) where
       let all = midway-end (Marking (all_owned old)) old now place u.mid past in
       record { right = all.right; stales = all.stales; states = subst (λ (l : List (Option StateKey)). HaveStates l (all_seen now)) (sym all.owned_same) all.have }
 
-module _ {K A : Type 0} (items : K → List ℕ) (old : List (List ℕ × OpenView A)) where
+module _ {A : Type 0} (old : List (List ℕ × OpenView A)) where
   -- `kept` says whether the view has a state among those that there are
-  pub marks-next : (es : List (K × OpenView A)) (place : ℕ) (v w : OpenView A) (kept : Bool) → MarkingUpTo old (named items es) place → slice_get (values_of es) place ≡ Some v
-      → (kept ≡ true → IsKept (all_owned (named items es)) v.view) × (IsKept (all_owned (named items es)) v.view → kept ≡ true) → w ≡ marked v (v.stale || not kept)
-      → MarkingUpTo old (named items (set_value_at es place w)) (place + 1)
+  pub marks-next : (es : List (List ℕ × OpenView A)) (place : ℕ) (v w : OpenView A) (kept : Bool) → MarkingUpTo old es place → slice_get (values_of es) place ≡ Some v
+      → (kept ≡ true → IsKept (all_owned es) v.view) × (IsKept (all_owned es) v.view → kept ≡ true) → w ≡ marked v (v.stale || not kept)
+      → MarkingUpTo old (set_value_at es place w) (place + 1)
   marks-next es place v w kept u found says is =
       let states = all_owned old in
-      let same : all_owned (named items es) ≡ states = marks-owned old (named items es) place u in
+      let same : all_owned es ≡ states = marks-owned old es place u in
       let known : (kept ≡ true → IsKept states v.view) × (IsKept states v.view → kept ≡ true) =
       subst (λ (l : List (Option StateKey)). (kept ≡ true → IsKept l v.view) × (IsKept l v.view → kept ≡ true)) same says in
       record {
-        mid = midway-next items (Marking states) (Marking states) old es place v w u.mid found (λ front done more n old_is all.
+        mid = midway-next (Marking states) (Marking states) old es place v w u.mid found (λ front done more n old_is all.
             subst (λ (x : OpenView A). Marking states (front ++ (n, v) ∷ []) (done ++ (n, x) ∷ [])) (sym is)
             (marking-push states v (v.stale || not kept) front done n all
             (λ there. unless v.stale kept (known.1 there)) (λ stale. stays v.stale kept stale) (λ fresh. known.0 (fresh-kept v.stale kept fresh))
@@ -263,15 +262,15 @@ module _ {K A : Type 0} (items : K → List ℕ) (old : List (List ℕ × OpenVi
 -- ---- the view at a place
 
 -- the view at a place of a map, among the views
-pub at-place : {K A : Type 0} (items : K → List ℕ) (es : List (K × OpenView A)) (place : ℕ) (v : OpenView A) → slice_get (values_of es) place ≡ Some v
-    → (n : List ℕ) × (slice_get (named items es) place ≡ Some (n, v)) × (drop place (named items es) ≡ (n, v) ∷ drop (place + 1) (named items es))
-at-place {K} {A} items es place v found =
-    subst (λ (k : ℕ). (n : List ℕ) × (slice_get (named items es) place ≡ Some (n, v)) × (drop place (named items es) ≡ (n, v) ∷ drop k (named items es))) (sym (add-one place)) (by es place found)
+pub at-place : {A : Type 0} (es : List (List ℕ × OpenView A)) (place : ℕ) (v : OpenView A) → slice_get (values_of es) place ≡ Some v
+    → (n : List ℕ) × (slice_get es place ≡ Some (n, v)) × (drop place es ≡ (n, v) ∷ drop (place + 1) es)
+at-place {A} es place v found =
+    subst (λ (k : ℕ). (n : List ℕ) × (slice_get es place ≡ Some (n, v)) × (drop place es ≡ (n, v) ∷ drop k es)) (sym (add-one place)) (by es place found)
   where
-    by : (es : List (K × OpenView A)) (place : ℕ) → slice_get (values_of es) place ≡ Some v
-        → (n : List ℕ) × (slice_get (named items es) place ≡ Some (n, v)) × (drop place (named items es) ≡ (n, v) ∷ drop (suc place) (named items es))
+    by : (es : List (List ℕ × OpenView A)) (place : ℕ) → slice_get (values_of es) place ≡ Some v
+        → (n : List ℕ) × (slice_get es place ≡ Some (n, v)) × (drop place es ≡ (n, v) ∷ drop (suc place) es)
     by [] place found = absurd (cc (found))
-    by (e ∷ es) zero found = let is : e.1 ≡ v = cc (found) in (items e.0, ap (λ (u : OpenView A). Some (items e.0, u)) is, ap (λ (u : OpenView A). (items e.0, u) ∷ named items es) is)
+    by (e ∷ es) zero found = let is : e.1 ≡ v = cc (found) in (e.0, ap (λ (u : OpenView A). Some (e.0, u)) is, ap (λ (u : OpenView A). (e.0, u) ∷ es) is)
     by (e ∷ es) (suc place) found = by es place found
 
 -- its state is among those of the views
@@ -280,10 +279,10 @@ owned-at {A} [] place e what found is = absurd (cc (found))
 owned-at {A} (x ∷ views) zero e what found is = let same : x ≡ e = cc (found) in inl (ap (λ (u : List ℕ × OpenView A). owned u.1) same ∙ is)
 owned-at {A} (x ∷ views) (suc place) e what found is = inr (owned-at views place e what found is)
 
-module _ {K A : Type 0} (items : K → List ℕ) (views : List (List ℕ × OpenView A)) (es : List (K × OpenView A)) (same : named items es ≡ views) (place : ℕ) (v : OpenView A) (found : slice_get (values_of es) place ≡ Some v) where
+module _ {A : Type 0} (views : List (List ℕ × OpenView A)) (es : List (List ℕ × OpenView A)) (same : es ≡ views) (place : ℕ) (v : OpenView A) (found : slice_get (values_of es) place ≡ Some v) where
   -- its name, its place and what follows it
   pub view-at : (n : List ℕ) × (slice_get views place ≡ Some (n, v)) × (drop place views ≡ (n, v) ∷ drop (place + 1) views)
-  view-at = subst (λ (l : List (List ℕ × OpenView A)). (n : List ℕ) × (slice_get l place ≡ Some (n, v)) × (drop place l ≡ (n, v) ∷ drop (place + 1) l)) same (at-place items es place v found)
+  view-at = subst (λ (l : List (List ℕ × OpenView A)). (n : List ℕ) × (slice_get l place ≡ Some (n, v)) × (drop place l ≡ (n, v) ∷ drop (place + 1) l)) same (at-place es place v found)
 
   -- its state is that of what is kept of it, and is right
   pub state-at : (what : StateKey) (k : KeptState A) → v.state ≡ Some k → state_key_of v.view ≡ Some what → (names : List (List ℕ)) (rows : List Row) → AreOwnRight views names rows
@@ -300,10 +299,10 @@ module _ {K A : Type 0} (items : K → List ℕ) (views : List (List ℕ × Open
   kept-at what k is kept = owned-at views place (view-at.0, v) what view-at.1 (ap (kept_with v.view) is ∙ kept)
 
   -- what isn't kept in its state is kept in those after it, if it is from it on
-  pub kept-behind : (what : StateKey) → (owned v ≡ Some what → ⊥) → IsOwned what (all_owned (drop place views)) → IsOwned what (all_owned (drop (place + 1) views))
-  kept-behind what other a = elim (subst (λ (l : List (List ℕ × OpenView A)). IsOwned what (all_owned l)) view-at.2 a) [
+  pub kept-later : (what : StateKey) → (owned v ≡ Some what → ⊥) → IsOwned what (all_owned (drop place views)) → IsOwned what (all_owned (drop (place + 1) views))
+  kept-later what other a = elim (subst (λ (l : List (List ℕ × OpenView A)). IsOwned what (all_owned l)) view-at.2 a) [
     | inl here ↦ absurd (other here)
-    | inr behind ↦ behind
+    | inr later ↦ later
   ]
 
   -- a view that needs what is kept
@@ -312,14 +311,14 @@ module _ {K A : Type 0} (items : K → List ℕ) (views : List (List ℕ × Open
 
   -- it doesn't need it, and so none does if none after it does
   pub needless-at : (what : StateKey) → ((v.stale ≡ false) × (state_key_of v.view ≡ Some what) → ⊥) → NoneNeeds what (all_seen (drop (place + 1) views)) → NoneNeeds what (all_seen (drop place views))
-  needless-at what needless behind = subst (λ (l : List (List ℕ × OpenView A)). NoneNeeds what (all_seen l)) (sym view-at.2) ((λ fresh kept. needless (fresh, kept)), behind)
+  needless-at what needless later = subst (λ (l : List (List ℕ × OpenView A)). NoneNeeds what (all_seen l)) (sym view-at.2) ((λ fresh kept. needless (fresh, kept)), later)
 
 -- the same, by the views before the place is written
-pub marks-in : {K A : Type 0} (items : K → List ℕ) (old now : List (List ℕ × OpenView A)) (es : List (K × OpenView A)) → named items es ≡ now → (place : ℕ) (v : OpenView A) → slice_get (values_of es) place ≡ Some v → (w : OpenView A) (kept : Bool)
+pub marks-in : {A : Type 0} (old now : List (List ℕ × OpenView A)) (es : List (List ℕ × OpenView A)) → es ≡ now → (place : ℕ) (v : OpenView A) → slice_get (values_of es) place ≡ Some v → (w : OpenView A) (kept : Bool)
     → MarkingUpTo old now place → (kept ≡ true → IsKept (all_owned now) v.view) × (IsKept (all_owned now) v.view → kept ≡ true) → w ≡ marked v (v.stale || not kept)
-    → MarkingUpTo old (named items (set_value_at es place w)) (place + 1)
-marks-in {K} {A} items old now es same place v found w kept u says is =
-    marks-next items old es place v w kept (subst (λ (l : List (List ℕ × OpenView A)). MarkingUpTo old l place) (sym same) u) found
+    → MarkingUpTo old (set_value_at es place w) (place + 1)
+marks-in {A} old now es same place v found w kept u says is =
+    marks-next old es place v w kept (subst (λ (l : List (List ℕ × OpenView A)). MarkingUpTo old l place) (sym same) u) found
     (subst (λ (l : List (List ℕ × OpenView A)). (kept ≡ true → IsKept (all_owned l) v.view) × (IsKept (all_owned l) v.view → kept ≡ true)) (sym same) says) is
 
 -- ---- a view that is written
@@ -570,76 +569,72 @@ current-same (suc place) (e ∷ views) v found is = ap (λ (l : List (List ℕ �
 
 -- ---- the view of a name, by its place
 
--- a key is that of the name
-abbrev is_named : {K : Type 0} → (K → List ℕ) → List ℕ → K → Bool
-is_named items name k = bytes_eq name (items k)
-
-module _ {K A : Type 0} (items : K → List ℕ) (name : List ℕ) where
+module _ {A : Type 0} (name : List ℕ) where
   -- the key at a place is the first of the name
-  abbrev IsFirst : List (K × OpenView A) → ℕ → Type 0
+  abbrev IsFirst : List (List ℕ × OpenView A) → ℕ → Type 0
   IsFirst [] place = ⊥
-  IsFirst (e ∷ es) zero = is_named items name e.0 ≡ true
-  IsFirst (e ∷ es) (suc place) = (is_named items name e.0 ≡ false) × IsFirst es place
+  IsFirst (e ∷ es) zero = bytes_eq name e.0 ≡ true
+  IsFirst (e ∷ es) (suc place) = (bytes_eq name e.0 ≡ false) × IsFirst es place
 
-  first-of : (es : List (K × OpenView A)) (place : ℕ) → position (is_named items name) (keys_of es) ≡ Some place → IsFirst es place
+  first-of : (es : List (List ℕ × OpenView A)) (place : ℕ) → place_of es name ≡ Some place → IsFirst es place
   first-of [] place is = absurd (cc (is))
   first-of (e ∷ es) place is =
-      let p = position-Some (is_named items name) (keys_of (e ∷ es)) place e.0 is in
+      let p = position-Some (bytes_eq name) (keys_of (e ∷ es)) place e.0 is in
       by (e ∷ es) place p.0 p.1 p.2
     where
-      by : (xs : List (K × OpenView A)) (i : ℕ) → i < length (keys_of xs) → is_named items name (get_or (keys_of xs) i e.0) ≡ true → ((k : ℕ) → k < i → is_named items name (get_or (keys_of xs) k e.0) ≡ false) → IsFirst xs i
+      by : (xs : List (List ℕ × OpenView A)) (i : ℕ) → i < length (keys_of xs) → bytes_eq name (get_or (keys_of xs) i e.0) ≡ true → ((k : ℕ) → k < i → bytes_eq name (get_or (keys_of xs) k e.0) ≡ false) → IsFirst xs i
       by [] i within here before = absurd (omega (arith, within))
       by (x ∷ xs) zero within here before = here
       by (x ∷ xs) (suc i) within here before = (before 0 (omega arith), by xs i (omega (arith, within)) here (λ k low. before (suc k) (omega (arith, low))))
 
-  pub placed-current : (es : List (K × OpenView A)) (place : ℕ) → position (is_named items name) (keys_of es) ≡ Some place
-      → current_at place (all_seen (named items es)) ≡ with_current (all_seen (named items es)) name
+  pub placed-current : (es : List (List ℕ × OpenView A)) (place : ℕ) → place_of es name ≡ Some place
+      → current_at place (all_seen es) ≡ with_current (all_seen es) name
   placed-current es place is = by es place (first-of es place is)
     where
-      by : (es : List (K × OpenView A)) (place : ℕ) → IsFirst es place → current_at place (all_seen (named items es)) ≡ with_current (all_seen (named items es)) name
+      by : (es : List (List ℕ × OpenView A)) (place : ℕ) → IsFirst es place → current_at place (all_seen es) ≡ with_current (all_seen es) name
       by [] place first = absurd first
       by (e ∷ es) zero first =
-          sym (ap (λ (b : Bool). if b then (items e.0, current (seen e.1)) ∷ all_seen (named items es) else (items e.0, seen e.1) ∷ with_current (all_seen (named items es)) name) first)
+          sym (ap (λ (b : Bool). if b then (e.0, current (seen e.1)) ∷ all_seen es else (e.0, seen e.1) ∷ with_current (all_seen es) name) first)
       by (e ∷ es) (suc place) first =
-          ap (λ (l : List (List ℕ × Shown)). (items e.0, seen e.1) ∷ l) (by es place first.1)
-          ∙ sym (ap (λ (b : Bool). if b then (items e.0, current (seen e.1)) ∷ all_seen (named items es) else (items e.0, seen e.1) ∷ with_current (all_seen (named items es)) name) first.0)
+          ap (λ (l : List (List ℕ × Shown)). (e.0, seen e.1) ∷ l) (by es place first.1)
+          ∙ sym (ap (λ (b : Bool). if b then (e.0, current (seen e.1)) ∷ all_seen es else (e.0, seen e.1) ∷ with_current (all_seen es) name) first.0)
 
   -- the view of the name is the one at the place
-  pub placed-stale : (es : List (K × OpenView A)) (place : ℕ) → position (is_named items name) (keys_of es) ≡ Some place
-      → IfSome (slice_get (all_seen (named items es)) place) (λ v. v.1.stale ≡ true) → IfSome (lookup (bytes_eq name) (all_seen (named items es))) (λ v. v.stale ≡ true)
+  pub placed-stale : (es : List (List ℕ × OpenView A)) (place : ℕ) → place_of es name ≡ Some place
+      → IfSome (slice_get (all_seen es) place) (λ v. v.1.stale ≡ true) → IfSome (lookup (bytes_eq name) (all_seen es)) (λ v. v.stale ≡ true)
   placed-stale es place is = by es place (first-of es place is)
     where
-      by : (es : List (K × OpenView A)) (place : ℕ) → IsFirst es place
-          → IfSome (slice_get (all_seen (named items es)) place) (λ v. v.1.stale ≡ true) → IfSome (lookup (bytes_eq name) (all_seen (named items es))) (λ v. v.stale ≡ true)
+      by : (es : List (List ℕ × OpenView A)) (place : ℕ) → IsFirst es place
+          → IfSome (slice_get (all_seen es) place) (λ v. v.1.stale ≡ true) → IfSome (lookup (bytes_eq name) (all_seen es)) (λ v. v.stale ≡ true)
       by [] place first stale = absurd first
       by (e ∷ es) zero first stale =
-          subst (λ (b : Bool). IfSome (if b then Some (seen e.1) else lookup (bytes_eq name) (all_seen (named items es))) (λ v. v.stale ≡ true)) (sym first) stale
+          subst (λ (b : Bool). IfSome (if b then Some (seen e.1) else lookup (bytes_eq name) (all_seen es)) (λ v. v.stale ≡ true)) (sym first) stale
       by (e ∷ es) (suc place) first stale =
-          subst (λ (b : Bool). IfSome (if b then Some (seen e.1) else lookup (bytes_eq name) (all_seen (named items es))) (λ v. v.stale ≡ true)) (sym first.0) (by es place first.1 stale)
+          subst (λ (b : Bool). IfSome (if b then Some (seen e.1) else lookup (bytes_eq name) (all_seen es)) (λ v. v.stale ≡ true)) (sym first.0) (by es place first.1 stale)
 
   -- where no view has the name, none is made current
-  pub unplaced : (es : List (K × OpenView A)) → position (is_named items name) (keys_of es) ≡ None → all_seen (named items es) ≡ with_current (all_seen (named items es)) name
-  unplaced es is = by es (Missing-position (is_named items name) es is).value
+  pub unplaced : (es : List (List ℕ × OpenView A)) → place_of es name ≡ None → all_seen es ≡ with_current (all_seen es) name
+  unplaced es is = by es (unnamed es name is)
     where
-      by : (es : List (K × OpenView A)) → lookup (is_named items name) es ≡ None → all_seen (named items es) ≡ with_current (all_seen (named items es)) name
+      by : (es : List (List ℕ × OpenView A)) → lookup (bytes_eq name) es ≡ None → all_seen es ≡ with_current (all_seen es) name
       by [] none = refl
-      by (e ∷ es) none = head (bytes_eq name (items e.0)) none (λ there. by es there)
+      by (e ∷ es) none = head (bytes_eq name (e.0)) none (λ there. by es there)
         where
-          head : (b : Bool) → (if b then Some e.1 else lookup (is_named items name) es) ≡ None
-              → (lookup (is_named items name) es ≡ None → all_seen (named items es) ≡ with_current (all_seen (named items es)) name)
-              → (items e.0, seen e.1) ∷ all_seen (named items es) ≡ (if b then (items e.0, current (seen e.1)) ∷ all_seen (named items es) else (items e.0, seen e.1) ∷ with_current (all_seen (named items es)) name)
+          head : (b : Bool) → (if b then Some e.1 else lookup (bytes_eq name) es) ≡ None
+              → (lookup (bytes_eq name) es ≡ None → all_seen es ≡ with_current (all_seen es) name)
+              → (e.0, seen e.1) ∷ all_seen es ≡ (if b then (e.0, current (seen e.1)) ∷ all_seen es else (e.0, seen e.1) ∷ with_current (all_seen es) name)
           head true none more = absurd (cc (none))
-          head false none more = ap (λ (l : List (List ℕ × Shown)). (items e.0, seen e.1) ∷ l) (more none)
+          head false none more = ap (λ (l : List (List ℕ × Shown)). (e.0, seen e.1) ∷ l) (more none)
 
 -- ---- the view at a place of a map is written
 
-module _ {K A : Type 0} (items : K → List ℕ) (old : List (List ℕ × OpenView A)) (es : List (K × OpenView A)) (same : named items es ≡ old) (place : ℕ) (v : OpenView A) (found : slice_get (values_of es) place ≡ Some v) where
-  written-in : (w : OpenView A) → Written old (named items (set_value_at es place w)) place v w
-  written-in w = subst (λ (l : List (List ℕ × OpenView A)). Written l (named items (set_value_at es place w)) place v w) same (written-at items es place v w found)
+module _ {A : Type 0} (old : List (List ℕ × OpenView A)) (es : List (List ℕ × OpenView A)) (same : es ≡ old) (place : ℕ) (v : OpenView A) (found : slice_get (values_of es) place ≡ Some v) where
+  written-in : (w : OpenView A) → Written old (set_value_at es place w) place v w
+  written-in w = subst (λ (l : List (List ℕ × OpenView A)). Written l (set_value_at es place w) place v w) same (written-at es place v w found)
 
   -- the view at the place, as contracts see it
   pub seen-at-place : (n : List ℕ) × (slice_get (all_seen old) place ≡ Some (n, seen v))
-  seen-at-place = let at = view-at items old es same place v found in (at.0, by old place at.1)
+  seen-at-place = let at = view-at old es same place v found in (at.0, by old place at.1)
     where
       by : {n : List ℕ} (views : List (List ℕ × OpenView A)) (i : ℕ) → slice_get views i ≡ Some (n, v) → slice_get (all_seen views) i ≡ Some (n, seen v)
       by [] i is = absurd (cc (is))
@@ -655,25 +650,25 @@ module _ {K A : Type 0} (items : K → List ℕ) (old : List (List ℕ × OpenVi
 
   -- it is built anew
   module _ (w : OpenView A) (state : Option (KeptState A)) (is : w ≡ renewed v.view state) where
-    pub renewed-in : (names : List (List ℕ)) (rows : List Row) → v.stale ≡ true → IsMissing (all_owned old) v.view names rows state → AreRight old names rows → AreRight (named items (set_value_at es place w)) names rows
+    pub renewed-in : (names : List (List ℕ)) (rows : List Row) → v.stale ≡ true → IsMissing (all_owned old) v.view names rows state → AreRight old names rows → AreRight (set_value_at es place w) names rows
     renewed-in names rows stale missing right =
-        subst (λ (x : OpenView A). AreRight (named items (set_value_at es place x)) names rows) (sym is)
-        (renewed-right names rows old (named items (set_value_at es place (renewed v.view state))) place v state (written-in (renewed v.view state)) stale missing right)
+        subst (λ (x : OpenView A). AreRight (set_value_at es place x) names rows) (sym is)
+        (renewed-right names rows old (set_value_at es place (renewed v.view state)) place v state (written-in (renewed v.view state)) stale missing right)
 
-    pub renewed-seen : all_seen (named items (set_value_at es place w)) ≡ current_at place (all_seen old)
-    renewed-seen = written-current old (named items (set_value_at es place w)) place v w (written-in w) (ap (λ (x : OpenView A). x.view) is) (ap (λ (x : OpenView A). x.stale) is)
+    pub renewed-seen : all_seen (set_value_at es place w) ≡ current_at place (all_seen old)
+    renewed-seen = written-current old (set_value_at es place w) place v w (written-in w) (ap (λ (x : OpenView A). x.view) is) (ap (λ (x : OpenView A). x.stale) is)
 
   -- it takes a state over
   module _ (w : OpenView A) (k : KeptState A) (is : w ≡ with_state v k) where
     pub handed-in : (what : StateKey) (closed : View) (names : List (List ℕ)) (rows : List Row) → state_key_of closed ≡ Some what
         → IfSome (slice_get old place) (λ u. (u.1.stale ≡ false) × (state_key_of u.1.view ≡ Some what)) → AreOwnRight old names rows → HaveStates (state_key_of closed ∷ all_owned old) (all_seen old)
-        → (state_key_of closed ≡ Some (built_for k)) × IsRight k names rows → AreRight (named items (set_value_at es place w)) names rows
+        → (state_key_of closed ≡ Some (built_for k)) × IsRight k names rows → AreRight (set_value_at es place w) names rows
     handed-in what closed names rows kept needs right have state =
-        let here = subst (λ (o : Option (List ℕ × OpenView A)). IfSome o (λ u. (u.1.stale ≡ false) × (state_key_of u.1.view ≡ Some what))) (view-at items old es same place v found).1 needs in
-        subst (λ (x : OpenView A). AreRight (named items (set_value_at es place x)) names rows) (sym is)
-        (handed-right names rows old (named items (set_value_at es place (with_state v k))) place v k what closed (written-in (with_state v k)) here.0 here.1 kept right have state)
+        let here = subst (λ (o : Option (List ℕ × OpenView A)). IfSome o (λ u. (u.1.stale ≡ false) × (state_key_of u.1.view ≡ Some what))) (view-at old es same place v found).1 needs in
+        subst (λ (x : OpenView A). AreRight (set_value_at es place x) names rows) (sym is)
+        (handed-right names rows old (set_value_at es place (with_state v k)) place v k what closed (written-in (with_state v k)) here.0 here.1 kept right have state)
 
-    pub handed-seen : all_seen (named items (set_value_at es place w)) ≡ all_seen old
+    pub handed-seen : all_seen (set_value_at es place w) ≡ all_seen old
     handed-seen =
         let u = written-in w in
         let shown : seen w ≡ seen v = ap (λ (x : OpenView A). seen x) is in

@@ -24,10 +24,10 @@ impl From<RecordFault> for SecondFault {
     ghost use Rattle.std.specs.Prelude.{◌≡◌};
     ghost use Rattle.iv_workspace.specs.declared.fault.SecondFault.TheVariants.{Record};
 
-    ghost from_gives = { λ told fault. fault ≡ Record told };
+    ghost from_gives = { λ why fault. fault ≡ Record why };
 
-    fn from(told: RecordFault) -> SecondFault {
-        SecondFault::Record(told)
+    fn from(why: RecordFault) -> SecondFault {
+        SecondFault::Record(why)
     }
 }
 

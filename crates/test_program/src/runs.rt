@@ -115,7 +115,7 @@ fn files_that_are_damaged(rt: HostRuntime) -> Result<(), Fail> {
             LoadCause::TooMany,
         ),
     ] {
-        // The second file and the FASTA file are damaged too, and aren't told.
+        // The second file and the FASTA file are damaged too, and aren't reported.
         for other in [None, Some(b"x".as_slice())] {
             let inputs = Inputs {
                 sizes,

@@ -1,4 +1,7 @@
 //! What several tests begin with.
+ghost use Rattle.std.specs.Prelude.{◌<◌, ◌^◌, IfSome, IsTrue, length};
+ghost use Rattle.std.specs.Option.{option_copied};
+
 use iv_args::Plan;
 use iv_bytes::MemSink;
 use iv_run::{CliFault, Inputs, shot};
@@ -27,6 +30,21 @@ pub(crate) fn beside<'a>(first: &'a [u8], other: &'a [u8]) -> Inputs<'a> {
     }
 }
 
+/// Whether each BED file has fewer than 2^32 bytes, as it must have for a run.
+pub(crate) fn are_short(inputs: &Inputs<'_>) -> bool
+    ensures { IsTrue result → (length inputs.now.first.now < 2 ^ 32) × IfSome (option_copied inputs.now.other) (λ text. length text < 2 ^ 32) }
+{
+    let other = inputs.other.unwrap_or(b"");
+    is_short(inputs.first) && is_short(other)
+}
+
+/// Whether a text has fewer than 2^32 bytes.
+fn is_short(text: &[u8]) -> bool
+    ensures { IsTrue result → length text.now < 2 ^ 32 }
+{
+    text.len() <= u32::MAX as usize
+}
+
 /// What a run of the plan answers, and what it has printed, into a sink that takes so many bytes.
 pub(crate) fn run(
     rt: &HostRuntime,
@@ -40,6 +58,9 @@ pub(crate) fn run(
         Some(text) => Some(text.to_vec(rt.alloc())?),
         None => None,
     };
+    if !are_short(inputs) {
+        return Err(Fail::new("a long text"));
+    }
     let fault = shot(rt.alloc(), plan, inputs, bases, MOST, &mut sink).err();
     Ok((fault, sink))
 }

@@ -1,5 +1,6 @@
 //! Each growth of a run of one subcommand, refused in turn.
 use crate::patterns::{Case, cases, texts_of};
+use crate::shot_fixtures::are_short;
 use iv_args::{Plan, PlanFault};
 use iv_bytes::MemSink;
 use iv_run::{CliFault, Inputs, shot};
@@ -26,6 +27,9 @@ fn is_refused<'a>(
     bases: Option<Vec<u8, &'a RefusesNth<Global>>>,
     sink: &mut MemSink,
 ) -> Result<bool, Fail> {
+    if !are_short(inputs) {
+        return Err(Fail::new("a long text"));
+    }
     match shot(alloc, plan, inputs, bases, 100, sink) {
         Ok(()) => Ok(false),
         Err(CliFault::Memory) => Ok(true),

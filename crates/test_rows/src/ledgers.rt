@@ -18,9 +18,9 @@ fn is_looked_into(ledger: &Ledger<u32, char>) -> bool {
     let mut meter = Meter::new();
     let before = ledger.at_or_before(&4, &mut meter) == Some((&3, &'b'));
     let from = ledger.at_or_after(&4, &mut meter) == Some((&5, &'c'));
-    let behind = ledger.after(&5, &mut meter).is_none();
+    let later = ledger.after(&5, &mut meter).is_none();
     let at = ledger.get(&5, &mut meter) == Some(&'c');
-    before && from && behind && at && meter.steps() == 4 && ledger.len() == 3
+    before && from && later && at && meter.steps() == 4 && ledger.len() == 3
 }
 
 #[test]

@@ -87,15 +87,15 @@ fn is_put_after(rt: &HostRuntime, front: &str) -> Result<bool, Fail> {
 }
 
 /// The same of a front of so many letters.
-fn is_behind(rt: &HostRuntime, letters: usize) -> Result<bool, Fail> {
+fn is_after(rt: &HostRuntime, letters: usize) -> Result<bool, Fail> {
     let front = "a".repeat(rt.alloc(), letters)?;
     is_put_after(rt, &front)
 }
 
 #[test]
-fn tails_behind_fronts(rt: HostRuntime) -> Result<(), Fail> {
+fn tails_after_fronts(rt: HostRuntime) -> Result<(), Fail> {
     for letters in [0, 1, 172, 173, 9000] {
-        assert!(rt; is_behind(&rt, letters)?);
+        assert!(rt; is_after(&rt, letters)?);
     }
     Ok(())
 }

@@ -1,5 +1,5 @@
 //! What operations give for values, and results over records.
-use iv_summary::{Column, ColumnSummary, Op, results, summary};
+use iv_cover::{Column, ColumnSummary, Op, results, summary};
 use iv_text::{Genome, Record, read_record};
 use std::alloc::Global;
 use std::test::Fail;

@@ -47,7 +47,7 @@ pub(crate) fn written<'a>(
 }
 
 /// Whether one line is answered by this fault and prints nothing, while the session's next growth is refused.
-fn is_told<'a>(
+fn is_reported<'a>(
     rt: &HostRuntime,
     memory: Memory<'a>,
     session: &mut Session<&'a RefusesNth<Global>>,
@@ -61,18 +61,18 @@ fn is_told<'a>(
 }
 
 /// Whether each of these, between two texts, is answered by its fault and asks for no growth.
-pub(crate) fn are_told<'a>(
+pub(crate) fn are_reported<'a>(
     rt: &HostRuntime,
     memory: Memory<'a>,
     session: &mut Session<&'a RefusesNth<Global>>,
     lines: &[Told<'_>],
     around: Around<'_>,
 ) -> Result<bool, Fail> {
-    let (front, behind) = around;
+    let (front, later) = around;
     let before = memory.session.refusals();
     for (middle, fault) in lines {
-        let line = joined(rt, &[front, *middle, behind])?;
-        if !is_told(rt, memory, session, line.as_slice(), *fault)? {
+        let line = joined(rt, &[front, *middle, later])?;
+        if !is_reported(rt, memory, session, line.as_slice(), *fault)? {
             return Ok(false);
         }
     }
@@ -117,28 +117,28 @@ const EDITS: [Around<'static>; 8] = [
 ];
 
 /// Whether the damaged records are answered by their faults in an edit, and a sound one by the growth that is refused.
-fn is_edit_told<'a>(
+fn is_edit_reported<'a>(
     rt: &HostRuntime,
     memory: Memory<'a>,
     session: &mut Session<&'a RefusesNth<Global>>,
     edit: Around<'_>,
 ) -> Result<bool, Fail> {
-    let (front, behind) = edit;
-    let damaged = are_told(rt, memory, session, &DAMAGED, edit)?;
+    let (front, later) = edit;
+    let damaged = are_reported(rt, memory, session, &DAMAGED, edit)?;
     let before = memory.session.refusals();
-    let line = joined(rt, &[front, b"chr1\t10\t20\tn\t0\t+", behind])?;
-    let sound = is_told(rt, memory, session, line.as_slice(), b"no memory")?;
+    let line = joined(rt, &[front, b"chr1\t10\t20\tn\t0\t+", later])?;
+    let sound = is_reported(rt, memory, session, line.as_slice(), b"no memory")?;
     Ok(damaged && sound && before < memory.session.refusals())
 }
 
 /// Whether that is so in each edit, and the session has the record that it had.
-fn are_edits_told<'a>(
+fn are_edits_reported<'a>(
     rt: &HostRuntime,
     memory: Memory<'a>,
     session: &mut Session<&'a RefusesNth<Global>>,
 ) -> Result<bool, Fail> {
     for edit in EDITS {
-        if !is_edit_told(rt, memory, session, edit)? {
+        if !is_edit_reported(rt, memory, session, edit)? {
             return Ok(false);
         }
     }
@@ -161,7 +161,7 @@ fn holds_of_edits(rt: &HostRuntime) -> Result<bool, Fail> {
         ..ALONE
     };
     let mut session = session_in(memory.session, 6, record, beside, 9)?;
-    are_edits_told(rt, memory, &mut session)
+    are_edits_reported(rt, memory, &mut session)
 }
 
 #[test]

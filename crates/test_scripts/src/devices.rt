@@ -166,10 +166,10 @@ const READS: [(u64, u32, u32); 13] = [
 /// Whether the script ends so where a read fails, whichever it is.
 fn ends_at_each_read(rt: &HostRuntime, bad: Bad) -> Result<bool, Fail> {
     let mut number = 0u32;
-    for (line, writes, told) in READS {
+    for (line, writes, reported) in READS {
         number = number.saturating_add(1);
         let cause = RunCause::Input;
-        let calls = (number, writes, told);
+        let calls = (number, writes, reported);
         if !ends(rt, (number, 0, 0), bad, RunFault { line, cause }, calls)? {
             return Ok(false);
         }
@@ -260,12 +260,12 @@ fn lines_of(ended: &Ended) -> Option<u64> {
 
 /// Whether the script, at its end after a read, has so many lines, of which the last one writes this to the messages. Where it
 /// writes nothing there, it is done. No read comes after that.
-fn ends_short(rt: &HostRuntime, number: u32, lines: u64, told: &[u8]) -> Result<bool, Fail> {
+fn ends_short(rt: &HostRuntime, number: u32, lines: u64, reported: &[u8]) -> Result<bool, Fail> {
     let run = run_script_over(rt, SCRIPT, (number, 0, 0), Bad::Nothing)?;
-    let next = lines.saturating_add(u64::from(told.is_empty()));
+    let next = lines.saturating_add(u64::from(reported.is_empty()));
     let (output, before) = written_before(next);
     let mut messages = before.to_vec(rt.alloc())?;
-    messages.extend_from_slice(told)?;
+    messages.extend_from_slice(reported)?;
     Ok(
         lines_of(&run) == Some(lines)
             && run.reads == number
@@ -276,9 +276,9 @@ fn ends_short(rt: &HostRuntime, number: u32, lines: u64, told: &[u8]) -> Result<
 #[test]
 fn each_read_gives_nothing(rt: HostRuntime) -> Result<(), Fail> {
     let mut number = 0u32;
-    for (lines, told) in SHORT_READS {
+    for (lines, reported) in SHORT_READS {
         number = number.saturating_add(1);
-        assert!(rt; ends_short(&rt, number, lines, told)?);
+        assert!(rt; ends_short(&rt, number, lines, reported)?);
     }
     Ok(())
 }

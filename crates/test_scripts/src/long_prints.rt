@@ -23,12 +23,12 @@ enum Behind {
 }
 
 /// Adds a row of the record of a number, counted from 0.
-fn push_row(rt: &HostRuntime, text: &mut String, number: u32, behind: Behind) -> Result<(), Fail> {
+fn push_row(rt: &HostRuntime, text: &mut String, number: u32, later: Behind) -> Result<(), Fail> {
     let start = 100_000u32.saturating_add(number.saturating_mul(100));
     let stop = start.saturating_add(10);
     text.push_str(format!(in rt.alloc(); "big\t{start}\t{stop}")?.as_str())?;
-    match behind {
-        Behind::Text(behind) => text.push_str(behind)?,
+    match later {
+        Behind::Text(later) => text.push_str(later)?,
         Behind::Number => {
             let count = number.saturating_add(1);
             text.push_str(format!(in rt.alloc(); "\t{count}")?.as_str())?;
@@ -38,11 +38,11 @@ fn push_row(rt: &HostRuntime, text: &mut String, number: u32, behind: Behind) ->
 }
 
 /// A heading and a row of each record.
-fn rows(rt: &HostRuntime, heading: &str, behind: Behind) -> Result<String, Fail> {
+fn rows(rt: &HostRuntime, heading: &str, later: Behind) -> Result<String, Fail> {
     let mut text = String::new(rt.alloc());
     text.push_str(heading)?;
     for number in 0..COUNT {
-        push_row(rt, &mut text, number, behind)?;
+        push_row(rt, &mut text, number, later)?;
     }
     Ok(text)
 }
@@ -117,7 +117,7 @@ fn prints_view(rt: &HostRuntime, script: &[u8], text: &[u8], piece: usize) -> Re
 
 #[test]
 fn long_views(rt: HostRuntime) -> Result<(), Fail> {
-    for (script, behind, piece) in [
+    for (script, later, piece) in [
         (b"open\tv\tmerge\n".as_slice(), Behind::Text(""), 1),
         (b"open\tv\tmerge\n", Behind::Text(""), 65_536),
         (b"open\tv\tmerge -c 1 -o count\n", Behind::Text("\t1"), 1000),
@@ -126,7 +126,7 @@ fn long_views(rt: HostRuntime) -> Result<(), Fail> {
         (b"open\tv\tintersect -c\n", Behind::Text("\t0"), 65_536),
         (b"open\tv\tsubtract\n", Behind::Text(""), 8_193),
     ] {
-        let text = rows(&rt, "", behind)?;
+        let text = rows(&rt, "", later)?;
         assert!(rt; prints_view(&rt, script, text.as_bytes(), piece)?);
     }
     Ok(())

@@ -1,6 +1,6 @@
 //! Lines that are refused for other reasons than a damaged record, while the session's next growth is refused: each is answered by
 //! its own fault, and asks for no growth.
-use crate::damaged::{Memory, Told, are_told, written};
+use crate::damaged::{Memory, Told, are_reported, written};
 use crate::fixtures::{ALONE, Beside, session_in};
 use crate::many_views::open_all;
 use iv_workspace::Session;
@@ -19,7 +19,7 @@ struct Setting<'a> {
 
 /// Whether a script is done over a session, and then each line is answered by its fault and asks for no growth. The session keeps
 /// its record.
-fn are_lines_told<'a>(
+fn are_lines_reported<'a>(
     rt: &HostRuntime,
     memory: Memory<'a>,
     session: &mut Session<&'a RefusesNth<Global>>,
@@ -27,8 +27,8 @@ fn are_lines_told<'a>(
     lines: &[Told<'_>],
 ) -> Result<bool, Fail> {
     let (_, messages) = written(rt, memory, session, script)?;
-    let told = are_told(rt, memory, session, lines, (b"", b""))?;
-    Ok(told && messages.bytes().is_empty() && session.len() == 1)
+    let reported = are_reported(rt, memory, session, lines, (b"", b""))?;
+    Ok(reported && messages.bytes().is_empty() && session.len() == 1)
 }
 
 /// The same over a session of its own, with a limit of one record.
@@ -47,7 +47,7 @@ fn holds_of_lines(
     };
     let (width, beside) = (setting.width, setting.beside);
     let mut session = session_in(memory.session, width, setting.first, beside, 1)?;
-    are_lines_told(rt, memory, &mut session, setting.script, lines)
+    are_lines_reported(rt, memory, &mut session, setting.script, lines)
 }
 
 /// One record of three columns in either file, and two open views.

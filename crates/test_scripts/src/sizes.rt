@@ -15,9 +15,9 @@ struct Files {
 }
 
 /// Adds two texts at the end.
-fn push(text: &mut String, front: &str, behind: &str) -> Result<(), Fail> {
+fn push(text: &mut String, front: &str, later: &str) -> Result<(), Fail> {
     text.push_str(front)?;
-    text.push_str(behind)?;
+    text.push_str(later)?;
     Ok(())
 }
 

@@ -91,7 +91,7 @@ fn check_refused_edit(rt: &HostRuntime, session: &mut Session) -> Result<(), Fai
 }
 
 #[test]
-fn bases_behind_a_refused_edit(rt: HostRuntime) -> Result<(), Fail> {
+fn bases_after_a_refused_edit(rt: HostRuntime) -> Result<(), Fail> {
     let mut session = session(&rt)?;
     check_refused_edit(&rt, &mut session)
 }

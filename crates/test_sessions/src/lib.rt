@@ -14,6 +14,8 @@ mod lengths;
 #[cfg(test)]
 mod refusals;
 #[cfg(test)]
+mod refused_prints;
+#[cfg(test)]
 mod regular;
 #[cfg(test)]
 mod repairs;

@@ -1,9 +1,9 @@
 //! Edits of a track of no record, of 15, 300 and a thousand beside open views, with each growth of the edit refused in turn.
 use crate::apart::{SECOND, SIZES, View, apart, text};
 use crate::fixtures::{Edit, Files, alone, answer, session_of};
-use iv_bytes::MemSink;
+use crate::refused_prints::is_print_refused_once;
 use iv_track::EditFault;
-use iv_workspace::{PrintFault, Session};
+use iv_workspace::Session;
 use std::alloc::Global;
 use std::test::Fail;
 use test_faults::RefusesNth;
@@ -107,43 +107,6 @@ fn edited(
     }
 }
 
-/// Prints a view into an output that has room for just this text. Whether memory was refused; then nothing is written.
-fn is_print_refused(
-    rt: &HostRuntime,
-    session: &mut Session<&RefusesNth<Global>>,
-    name: &[u8],
-    want: &[u8],
-) -> Result<bool, Fail> {
-    let mut sink = MemSink::new(rt.alloc(), want.len(), 999)?;
-    match session.print_view(name, &mut sink) {
-        Ok(()) if sink.bytes() == want => Ok(false),
-        Err(PrintFault::NoMemory) if sink.bytes().is_empty() => Ok(true),
-        _ => Err(Fail::new("another print")),
-    }
-}
-
-/// Prints a view with the growth of a number refused, and again if it was refused, which only a stale view is. Whether it was.
-fn is_print_refused_once(
-    rt: &HostRuntime,
-    alloc: &RefusesNth<Global>,
-    session: &mut Session<&RefusesNth<Global>>,
-    name: &[u8],
-    growth: u64,
-    want: &[u8],
-) -> Result<bool, Fail> {
-    let (was_current, before) = (session.is_current(name), alloc.refusals());
-    alloc.again(growth.max(1));
-    let refused = is_print_refused(rt, session, name, want)?;
-    let is_met = alloc.refusals() != before;
-    if refused && !is_met || is_met && was_current || refused == session.is_current(name) {
-        return Err(Fail::new("another print of a stale view"));
-    }
-    if refused && is_print_refused(rt, session, name, want)? {
-        return Err(Fail::new("refused twice"));
-    }
-    Ok(refused)
-}
-
 /// Prints each view, which must have the rows of the records at these starts. How many prints were refused.
 fn refused_prints(
     rt: &HostRuntime,
@@ -155,6 +118,7 @@ fn refused_prints(
     let mut refused = 0u32;
     for (name, _, view, growth) in views {
         let want = text(rt, *view, starts)?;
+        let name = Some(*name);
         let met = is_print_refused_once(rt, alloc, session, name, *growth, want.as_bytes())?;
         refused = refused.saturating_add(u32::from(met));
     }

@@ -124,7 +124,7 @@ fn refused_work(rt: &HostRuntime, session: &mut Session<&RefusesNth<Global>>) ->
     if prints_nothing_beside(rt, session)? {
         Ok(opened.saturating_add(edited))
     } else {
-        Err(Fail::new("another print behind the edits"))
+        Err(Fail::new("another print after the edits"))
     }
 }
 

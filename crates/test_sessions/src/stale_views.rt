@@ -2,10 +2,10 @@
 use crate::around::{Around, all_texts};
 use crate::fixtures::{Edit, Files, alone, answer};
 use crate::refusals::begun_again;
-use iv_bytes::MemSink;
+use crate::refused_prints::{is_print_refused, is_print_refused_once};
 use iv_track::EditFault;
 use iv_view::ViewFault;
-use iv_workspace::{PrintFault, Session};
+use iv_workspace::Session;
 use std::alloc::Global;
 use std::cell::Cell;
 use std::test::Fail;
@@ -109,25 +109,6 @@ fn stale_after(
     }
 }
 
-/// Prints a view, or all, which must write this text or, where memory is refused, nothing. Whether it was refused.
-fn is_print_refused(
-    rt: &HostRuntime,
-    session: &mut Session<&RefusesNth<Global>>,
-    name: Option<&[u8]>,
-    want: &[u8],
-) -> Result<bool, Fail> {
-    let mut sink = MemSink::new(rt.alloc(), 1000, 99)?;
-    let done = match name {
-        Some(name) => session.print_view(name, &mut sink),
-        None => session.print_all(&mut sink),
-    };
-    match done {
-        Ok(()) if sink.bytes() == want => Ok(false),
-        Err(PrintFault::NoMemory) if sink.bytes().is_empty() => Ok(true),
-        _ => Err(Fail::new("another print")),
-    }
-}
-
 /// Opens each view and prints it, each again where memory is refused. How often it was.
 fn refused_openings(
     rt: &HostRuntime,
@@ -165,27 +146,6 @@ fn refused_edits(session: &mut Session<&RefusesNth<Global>>) -> Result<(u32, u32
     Ok((refused, most))
 }
 
-/// Prints a view, or all, with its first growth refused, and again where there was one. Whether there was.
-fn is_print_refused_once(
-    rt: &HostRuntime,
-    alloc: &RefusesNth<Global>,
-    session: &mut Session<&RefusesNth<Global>>,
-    name: Option<&[u8]>,
-    want: &[u8],
-) -> Result<bool, Fail> {
-    let (stale, before) = (count_stale(session), alloc.refusals());
-    alloc.again(1);
-    let refused = is_print_refused(rt, session, name, want)?;
-    let is_met = alloc.refusals() != before;
-    if refused != is_met || refused && count_stale(session) != stale {
-        return Err(Fail::new("another answer to a refused print"));
-    }
-    if refused && is_print_refused(rt, session, name, want)? {
-        return Err(Fail::new("refused twice"));
-    }
-    Ok(refused)
-}
-
 /// Prints all views at once, if that is asked for, and then each by itself, with a growth of each print refused. How many
 /// prints met the refusal.
 fn refused_prints(
@@ -197,10 +157,10 @@ fn refused_prints(
     let mut refused = 0u32;
     if at_once {
         let all = all_texts(rt, &VIEWS, true)?;
-        refused = u32::from(is_print_refused_once(rt, alloc, session, None, all.as_slice())?);
+        refused = u32::from(is_print_refused_once(rt, alloc, session, None, 1, all.as_slice())?);
     }
     for (name, _, _, text) in VIEWS {
-        let met = is_print_refused_once(rt, alloc, session, Some(name), text)?;
+        let met = is_print_refused_once(rt, alloc, session, Some(name), 1, text)?;
         refused = refused.saturating_add(u32::from(met));
     }
     if count_stale(session) > 0 {

@@ -40,8 +40,8 @@ fn bases_of_megabytes(rt: HostRuntime) -> Result<(), Fail> {
     let bases = repeated(&rt, b"ACGTNacgtR", 240_000)?;
     let lines = repeated(&rt, LINE, 40_000)?;
     let header = b">big a chromosome\n".as_slice();
-    for behind in [bases.as_slice(), lines.as_slice()] {
-        let text = joined(&rt, &[header, behind])?;
+    for later in [bases.as_slice(), lines.as_slice()] {
+        let text = joined(&rt, &[header, later])?;
         assert!(rt; reads(&rt, b"big\t2400000\n", text.as_slice(), bases.as_slice())?);
     }
     Ok(())

@@ -7,8 +7,8 @@ use Rattle.iv_pair.proofs.hit_finder.place.Goals as goal
 pub take_begun-requires : goal.take_begun-requires
 take_begun-requires g c = (search rules, (c.requires.start, (c.requires.ordered, subst (AllCover c.args.seq c.args.start) (sym c.keep.ensures) (kept-cover c.args.seq c.args.start c.args.carried.now))))
 
-pub returns-then-stands_from : goal.returns-then-stands_from
-returns-then-stands_from g c =
+pub returns-then-begins_from : goal.returns-then-begins_from
+returns-then-begins_from g c =
     let seq = c.args.seq in
     let start = c.args.start in
     let rows = c.args.rows.now in

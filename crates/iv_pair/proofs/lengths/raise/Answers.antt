@@ -4,8 +4,8 @@ use Rattle.std.specs.Prelude.{unwrap_or, OnErr}
 use Rattle.iv_text.specs.Ordered.{copies_by}
 use Rattle.iv_track.specs.Copies.{expanded}
 use Rattle.iv_track.proofs.StepLemmas.{takes_none, takes_one_more}
-use Rattle.iv_pair.specs.Lengths.{length_cmp}
 use Rattle.iv_pair.proofs.LengthLemmas.{count_at, raised_rows, raised_tally}
+use Rattle.iv_track.specs.Entries.{pair_cmp}
 use Rattle.iv_pair.proofs.lengths.raise.Goals as goal
 
 pub overflow_add-count : goal.overflow_add-count
@@ -29,7 +29,7 @@ after_refusal (Err e) P p = p
 
 pub returns-in_err-put-clause-memory : goal.returns-in_err-put-clause-memory
 returns-in_err-put-clause-memory g c =
-    after_refusal c.from_residual.result (copies_by length_cmp (expanded c.args.lengths.now) c.args.key ≡ 0)
+    after_refusal c.from_residual.result (copies_by pair_cmp (expanded c.args.lengths.now) c.args.key ≡ 0)
     (count_at c.args.lengths.now c.args.lengths.now c.args.key c.requires.tally ∙ ap (λ o. unwrap_or o 0) c.in_err-put.ensures.absent)
 
 pub returns-in_err-put-clause-steps : goal.returns-in_err-put-clause-steps

@@ -8,65 +8,15 @@ use Rattle.iv_session.proofs.running.run_request.Goals as goal
 pub returns-in-Nothing : goal.returns-in-Nothing
 returns-in-Nothing g c = rw c.in-Nothing.is (done-silent (Ok request.Nothing) c.args.session.now _ _ (refl, refl))
 
-pub returns-in_err-add-in-Add : goal.returns-in_err-add-in-Add
-returns-in_err-add-in-Add g c =
+pub returns-in_err-run-in-Edit : goal.returns-in_err-run-in-Edit
+returns-in_err-run-in-Edit g c =
     let p = err_from_is_err_and c.from_residual.result c.from_residual.ensures.1 in
-    rw (p.1, p.2, c.in-Add.is)
-    (refused (Ok (request.Add c.in-Add.row)) c.args.session.now _ _ (line.Edit c.in_err-add-in-Add.field-0.0) _ refl c.in_err-add-in-Add.ensures.why c.in_err-add-in-Add.ensures.err)
+    rw (p.1, p.2, c.in-Edit.is)
+    (refused (Ok (request.Edit c.in-Edit.target c.in-Edit.edit)) c.args.session.now _ _ (line.Edit c.in_err-run-in-Edit.field-0.0) _ refl c.in_err-run-in-Edit.ensures.why c.in_err-run-in-Edit.ensures.err)
 
-pub returns-in_ok-add-in-Add : goal.returns-in_ok-add-in-Add
-returns-in_ok-add-in-Add g c =
-    rw c.in-Add.is (done-silent (Ok (request.Add c.in-Add.row)) c.args.session.now _ _ (c.in_ok-add-in-Add.ensures.room, c.in_ok-add-in-Add.ensures.ok, refl))
-
-pub returns-in_err-remove-in-Remove : goal.returns-in_err-remove-in-Remove
-returns-in_err-remove-in-Remove g c =
-    let p = err_from_is_err_and c.from_residual-in_err-remove-in-Remove.result c.from_residual-in_err-remove-in-Remove.ensures.1 in
-    rw (p.1, p.2, c.in-Remove.is)
-    (refused (Ok (request.Remove c.in-Remove.row)) c.args.session.now _ _ (line.Edit c.in_err-remove-in-Remove.field-0.0) _ refl c.in_err-remove-in-Remove.ensures.why c.in_err-remove-in-Remove.ensures.err)
-
-pub returns-in_ok-remove-in-Remove : goal.returns-in_ok-remove-in-Remove
-returns-in_ok-remove-in-Remove g c =
-    rw c.in-Remove.is (done-silent (Ok (request.Remove c.in-Remove.row)) c.args.session.now _ _ (c.in_ok-remove-in-Remove.ensures.there, c.in_ok-remove-in-Remove.ensures.ok, refl))
-
-pub returns-in_err-replace-in-Replace : goal.returns-in_err-replace-in-Replace
-returns-in_err-replace-in-Replace g c =
-    let p = err_from_is_err_and c.from_residual-in_err-replace-in-Replace.result c.from_residual-in_err-replace-in-Replace.ensures.1 in
-    rw (p.1, p.2, c.in-Replace.is)
-    (refused (Ok (request.Replace c.in-Replace.old c.in-Replace.new)) c.args.session.now _ _ (line.Edit c.in_err-replace-in-Replace.field-0.0) _ refl c.in_err-replace-in-Replace.ensures.why c.in_err-replace-in-Replace.ensures.err)
-
-pub returns-in_ok-replace-in-Replace : goal.returns-in_ok-replace-in-Replace
-returns-in_ok-replace-in-Replace g c =
-    rw c.in-Replace.is (done-silent (Ok (request.Replace c.in-Replace.old c.in-Replace.new)) c.args.session.now _ _ (c.in_ok-replace-in-Replace.ensures.there, c.in_ok-replace-in-Replace.ensures.ok, refl))
-
-pub returns-in_err-add_second-in-AddSecond : goal.returns-in_err-add_second-in-AddSecond
-returns-in_err-add_second-in-AddSecond g c =
-    let p = err_from_is_err_and c.from_residual-in_err-add_second-in-AddSecond.result c.from_residual-in_err-add_second-in-AddSecond.ensures.1 in
-    rw (p.1, p.2, c.in-AddSecond.is)
-    (refused (Ok (request.AddSecond c.in-AddSecond.row)) c.args.session.now _ _ (line.Edit c.in_err-add_second-in-AddSecond.field-0.0) _ refl c.in_err-add_second-in-AddSecond.ensures.why c.in_err-add_second-in-AddSecond.ensures.err)
-
-pub returns-in_ok-add_second-in-AddSecond : goal.returns-in_ok-add_second-in-AddSecond
-returns-in_ok-add_second-in-AddSecond g c =
-    rw c.in-AddSecond.is (done-silent (Ok (request.AddSecond c.in-AddSecond.row)) c.args.session.now _ _ (c.in_ok-add_second-in-AddSecond.ensures.room, c.in_ok-add_second-in-AddSecond.ensures.ok, refl))
-
-pub returns-in_err-remove_second-in-RemoveSecond : goal.returns-in_err-remove_second-in-RemoveSecond
-returns-in_err-remove_second-in-RemoveSecond g c =
-    let p = err_from_is_err_and c.from_residual-in_err-remove_second-in-RemoveSecond.result c.from_residual-in_err-remove_second-in-RemoveSecond.ensures.1 in
-    rw (p.1, p.2, c.in-RemoveSecond.is)
-    (refused (Ok (request.RemoveSecond c.in-RemoveSecond.row)) c.args.session.now _ _ (line.Edit c.in_err-remove_second-in-RemoveSecond.field-0.0) _ refl c.in_err-remove_second-in-RemoveSecond.ensures.why c.in_err-remove_second-in-RemoveSecond.ensures.err)
-
-pub returns-in_ok-remove_second-in-RemoveSecond : goal.returns-in_ok-remove_second-in-RemoveSecond
-returns-in_ok-remove_second-in-RemoveSecond g c =
-    rw c.in-RemoveSecond.is (done-silent (Ok (request.RemoveSecond c.in-RemoveSecond.row)) c.args.session.now _ _ (c.in_ok-remove_second-in-RemoveSecond.ensures.there, c.in_ok-remove_second-in-RemoveSecond.ensures.ok, refl))
-
-pub returns-in_err-replace_second-in-ReplaceSecond : goal.returns-in_err-replace_second-in-ReplaceSecond
-returns-in_err-replace_second-in-ReplaceSecond g c =
-    let p = err_from_is_err_and c.from_residual-in_err-replace_second-in-ReplaceSecond.result c.from_residual-in_err-replace_second-in-ReplaceSecond.ensures.1 in
-    rw (p.1, p.2, c.in-ReplaceSecond.is)
-    (refused (Ok (request.ReplaceSecond c.in-ReplaceSecond.old c.in-ReplaceSecond.new)) c.args.session.now _ _ (line.Edit c.in_err-replace_second-in-ReplaceSecond.field-0.0) _ refl c.in_err-replace_second-in-ReplaceSecond.ensures.why c.in_err-replace_second-in-ReplaceSecond.ensures.err)
-
-pub returns-in_ok-replace_second-in-ReplaceSecond : goal.returns-in_ok-replace_second-in-ReplaceSecond
-returns-in_ok-replace_second-in-ReplaceSecond g c =
-    rw c.in-ReplaceSecond.is (done-silent (Ok (request.ReplaceSecond c.in-ReplaceSecond.old c.in-ReplaceSecond.new)) c.args.session.now _ _ (c.in_ok-replace_second-in-ReplaceSecond.ensures.there, c.in_ok-replace_second-in-ReplaceSecond.ensures.ok, refl))
+pub returns-in_ok-run-in-Edit : goal.returns-in_ok-run-in-Edit
+returns-in_ok-run-in-Edit g c =
+    rw c.in-Edit.is (done-silent (Ok (request.Edit c.in-Edit.target c.in-Edit.edit)) c.args.session.now _ _ (c.in_ok-run-in-Edit.ensures.ok, refl))
 
 pub returns-in_err-resize-in-Resize : goal.returns-in_err-resize-in-Resize
 returns-in_err-resize-in-Resize g c =

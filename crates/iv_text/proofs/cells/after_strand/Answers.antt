@@ -4,7 +4,7 @@ use Rattle.iv_text.proofs.cells.after_strand.Goals as goal
 
 pub returns-in-len1-up : goal.returns-in-len1-up
 returns-in-len1-up c =
-    let behind = c.in_ok-strand.strand.now in
-    let b : ℕ = get_or behind 0 0 in
+    let after = c.in_ok-strand.strand.now in
+    let b : ℕ = get_or after 0 0 in
     let is = sym c.is_strand.ensures ∙ c.if-is_strand.true in
-    (b ∷ [], c.in_ok-strand.ensures ∙ ap (λ t. 9 ∷ t) (first-byte behind c.in-len1-up.len_at_least), cell-strand b is, is)
+    (b ∷ [], c.in_ok-strand.ensures ∙ ap (λ t. 9 ∷ t) (first-byte after c.in-len1-up.len_at_least), cell-strand b is, is)

@@ -1,8 +1,8 @@
 use Rattle.std.proofs.Common.{◌∙◌, ◌<◌, get_or, lt-ltb, refl, sym, ap, arith}
 use Rattle.iv_blocks.specs.declared.options.Summaries.{Summaries}
-use Rattle.iv_summary.specs.declared.op.Op.TheVariants.{Count}
+use Rattle.iv_cover.specs.declared.op.Op.TheVariants.{Count}
 use Rattle.std.specs.Option.{option_map}
-use Rattle.iv_summary.specs.declared.column.Column.{Column}
+use Rattle.iv_cover.specs.declared.column.Column.{Column}
 use Rattle.iv_blocks.specs.Groups.{filled}
 use Rattle.iv_view.proofs.SummaryLemmas.{asked-fault, asked-more}
 use Rattle.iv_view.proofs.merge.summaries_of.Goals as goal

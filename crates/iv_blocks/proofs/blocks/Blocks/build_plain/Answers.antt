@@ -1,7 +1,7 @@
 use Rattle.std.proofs.Common.{◌≡◌, ◌∙◌, List, map, sym, ap, subst}
 use Rattle.std.specs.Prelude.{All}
 use Rattle.iv_text.specs.Ordered.{AreInOrder}
-use Rattle.iv_text.specs.Read.{LiesOn}
+use Rattle.iv_text.specs.Read.{IsOnGenome}
 use Rattle.iv_text.specs.Row.{Row}
 use Rattle.iv_cover.specs.TrackBlocks.{blocks_of}
 use Rattle.iv_track.specs.Entries.{IsLedger, value_at}
@@ -20,7 +20,7 @@ from_entries-requires-clause-ascend g c es run =
     let s = c.args.genome.now in
     let rows = c.args.track.now.rows in
     let all = c.walk.ensures.rows ∙ filter-from_first rows in
-    let lie = subst (λ (l : List Row). All (LiesOn s) l) (sym all) (all-lie s c.args.track.now.width rows c.requires.fit) in
+    let lie = subst (λ (l : List Row). All (IsOnGenome s) l) (sym all) (all-lie s c.args.track.now.width rows c.requires.fit) in
     let left : c.of.result ≡ blocks_of c.args.options.distance s rows = c.of.ensures ∙ c.of-sweep.ensures s lie ∙ ap (blocks_of c.args.options.distance s) all in
     subst (IsLedger key_cmp) (sym (drained c.of.result es run ∙ ap (map plain_entry) left))
     (plain-ordered c.args.options s c.args.track.now.width rows c.requires.fit c.requires.together c.requires.nothing)
@@ -31,7 +31,7 @@ returns-clause-right g c =
     let rows = c.args.track.now.rows in
     let e = c.in_ok-from_entries.ensures in
     let all = c.walk.ensures.rows ∙ filter-from_first rows in
-    let lie = subst (λ (l : List Row). All (LiesOn s) l) (sym all) (all-lie s c.args.track.now.width rows c.requires.fit) in
+    let lie = subst (λ (l : List Row). All (IsOnGenome s) l) (sym all) (all-lie s c.args.track.now.width rows c.requires.fit) in
     let left : c.of.result ≡ blocks_of c.args.options.distance s rows = c.of.ensures ∙ c.of-sweep.ensures s lie ∙ ap (blocks_of c.args.options.distance s) all in
     record {
       ordered = e.ordered;

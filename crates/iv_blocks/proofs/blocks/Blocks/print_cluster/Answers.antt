@@ -6,7 +6,7 @@ use Rattle.iv_text.specs.Ordered.{AreInOrder}
 use Rattle.iv_text.specs.Row.{Row}
 use Rattle.iv_cover.specs.declared.block.Block.{Block}
 use Rattle.iv_track.proofs.WalkLemmas.{filter-from_first}
-use Rattle.iv_blocks.specs.BlockCursor.{lies_at, starts_until, drop_while}
+use Rattle.iv_blocks.specs.BlockCursor.{interval_of, starts_until, drop_while}
 use Rattle.iv_blocks.specs.KeptBlocks.{KeptBlocks, Entries}
 use Rattle.iv_blocks.proofs.ClusterLemmas.{IsPassed-begin, IsPassed-next, IsPassed-few, number-is, rows-next}
 use Rattle.iv_blocks.specs.declared.options.Options.{Options}
@@ -17,7 +17,7 @@ pub loop-row-init : goal.loop-row-init
 loop-row-init g c =
     let all : c.walk-rows.result ≡ c.args.track.now.rows = c.walk-rows.ensures.rows ∙ filter-from_first c.args.track.now.rows in
     let ahead = c.of-ahead.ensures.all in
-    let long : length c.of-ahead.result ≡ length c.args.self.now.entries = ap (λ (l : List Block). length l) ahead ∙ length-map c.args.self.now.entries lies_at in
+    let long : length c.of-ahead.result ≡ length c.args.self.now.entries = ap (λ (l : List Block). length l) ahead ∙ length-map c.args.self.now.entries interval_of in
     record {
       put = rw all (Underway-begin _ _);
       ordered = subst (λ (l : List Row). AreInOrder l) (sym all) c.walk-rows.ensures.ordered;
@@ -30,7 +30,7 @@ pub count_until-number-requires : goal.count_until-number-requires
 count_until-number-requires g c =
     let entries : c.self.inside.ledger ≡ c.args.self.now.entries = ap (λ (b : KeptBlocks). b.entries) c.self.view_is in
     let few = IsPassed-few c.loop-row.number _ _ c.loop-row.ahead c.loop-row.rows c.in-Some.row.now c.loop-row.invariant.passed refl in
-    record { few = omega (arith, few.1, length-map c.args.self.now.entries lies_at, ap (λ (l : Entries). length l) entries, c.len-few.ensures.len, c.len-few.ensures.small) }
+    record { few = omega (arith, few.1, length-map c.args.self.now.entries interval_of, ap (λ (l : Entries). length l) entries, c.len-few.ensures.len, c.len-few.ensures.small) }
 
 pub overflow_add-number : goal.overflow_add-number
 overflow_add-number g c =
@@ -38,7 +38,7 @@ overflow_add-number g c =
     let r = c.in-Some.row.now in
     let counted : c.count_until-number.result ≡ length (take_while (starts_until r.seq r.start) c.loop-row.ahead) = rw (← c.seq.ensures, ← c.start.ensures) c.count_until-number.ensures.count in
     let few = IsPassed-few c.loop-row.number c.count_until-number.result _ c.loop-row.ahead c.loop-row.rows r c.loop-row.invariant.passed counted in
-    omega (arith, few.0, length-map c.args.self.now.entries lies_at, ap (λ (l : Entries). length l) entries, c.len-few.ensures.len, c.len-few.ensures.small)
+    omega (arith, few.0, length-map c.args.self.now.entries interval_of, ap (λ (l : Entries). length l) entries, c.len-few.ensures.len, c.len-few.ensures.small)
 
 pub loop-row-preserved : goal.loop-row-preserved
 loop-row-preserved g c =

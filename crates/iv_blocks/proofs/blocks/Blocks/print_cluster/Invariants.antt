@@ -2,7 +2,7 @@ use Rattle.std.proofs.Common.{◌+◌, ◌≤◌, length, map}
 use Rattle.std.specs.List.{flat_map}
 use Rattle.iv_bytes.proofs.Putting.{Underway}
 use Rattle.iv_text.specs.Ordered.{AreInOrder}
-use Rattle.iv_blocks.specs.BlockCursor.{lies_at}
+use Rattle.iv_blocks.specs.BlockCursor.{interval_of}
 use Rattle.iv_blocks.specs.ClusterRows.{cluster_row, cluster_text}
 use Rattle.iv_blocks.proofs.ClusterLemmas.{IsPassed}
 use Rattle.iv_blocks.proofs.blocks.Blocks.print_cluster.Given as goal
@@ -14,7 +14,7 @@ invariant-loop-row g l = record {
       (flat_map (cluster_row l.self.options.distance l.genome l.track.rows) l.rows)
       (cluster_text l.self.options.distance l.genome l.track.rows);
   ordered : AreInOrder l.rows;
-  passed : IsPassed l.number (map lies_at l.self.entries) l.ahead l.rows;
+  passed : IsPassed l.number (map interval_of l.self.entries) l.ahead l.rows;
   no_less : l.fn.meter ≤ l.meter;
   at_most : l.meter + length l.rows + length l.ahead ≤ l.fn.meter + (3 + length l.track.rows + length l.self.entries);
 }

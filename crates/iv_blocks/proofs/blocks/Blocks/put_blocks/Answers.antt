@@ -29,7 +29,7 @@ loop-row-init g c =
     sym (ap (λ (m : MembersLeft). m.members) c.of-members.ensures.members) ∙ c.in-Some.ensures.member in
     let records : c.of-members.result.records ≡ length (between_on a.group.rank a.from a.to a.track.now.rows) = ap (λ (m : MembersLeft). m.records) c.of-members.ensures.members in
     record {
-      sweep = rw c.place-start.ensures (sweep-first a.self.now a.genome.now a.track.now.rows a.group a.from a.to known c.in-Some.first.now c.next.new.self.members all);
+      sweep = rw (c.place-start.ensures, c.as_ref.ensures) (sweep-first a.self.now a.genome.now a.track.now.rows a.group a.from a.to known c.in-Some.first.now c.next.new.self.members all);
       no_less = omega (arith, c.of-members.ensures.steps.no_less, steps.no_less);
       paid = omega (arith, c.of-members.ensures.steps.at_most, steps.at_most, records);
     }
@@ -53,9 +53,10 @@ loop-row-preserved-then-from-distance g c =
     let s : IsSweeping a.self.now a.genome.now a.track.now.rows a.group a.from a.to c.loop-row.self c.loop-row.start c.loop-row.stop (r ∷ rest) =
     subst (λ (l : List Row). IsSweeping a.self.now a.genome.now a.track.now.rows a.group a.from a.to c.loop-row.self c.loop-row.start c.loop-row.stop l) c.in-Some-next.ensures.member i.sweep in
     let distance : c.from-distance.result ≡ a.self.now.options.distance = c.from-distance.ensures ∙ ap (λ (b : KeptBlocks). b.options.distance) c.self.view_is in
-    let starts = ap (λ (p : ℕ × ℕ). p.0) c.place-next_start.ensures in
+    let placed = c.place-next_start.ensures ∙ ap (λ (q : Row). (q.start, q.stop)) c.as_ref-in-Some-next.ensures in
+    let starts = ap (λ (p : ℕ × ℕ). p.0) placed in
     record {
-      sweep = rw (c.max-stop.ensures, c.place-next_start.ensures)
+      sweep = rw (c.max-stop.ensures, placed)
           (sweep-join a.self.now a.genome.now a.track.now.rows a.group a.from a.to known c.loop-row.self c.loop-row.start c.loop-row.stop r rest s
           (omega (arith, c.if-from-distance.true, c.from.ensures, c.from-in-Some-next.ensures, distance, starts)));
       no_less = omega (arith, i.no_less, steps.no_less);
@@ -95,11 +96,12 @@ loop-row-preserved g c =
     let s : IsSweeping a.self.now a.genome.now a.track.now.rows a.group a.from a.to c.loop-row.self c.loop-row.start c.loop-row.stop (r ∷ rest) =
     subst (λ (l : List Row). IsSweeping a.self.now a.genome.now a.track.now.rows a.group a.from a.to c.loop-row.self c.loop-row.start c.loop-row.stop l) c.in-Some-next.ensures.member i.sweep in
     let distance : c.from-distance.result ≡ a.self.now.options.distance = c.from-distance.ensures ∙ ap (λ (b : KeptBlocks). b.options.distance) c.self.view_is in
-    let starts : c.place-next_start.result.0 ≡ r.start = ap (λ (p : ℕ × ℕ). p.0) c.place-next_start.ensures in
+    let placed = c.place-next_start.ensures ∙ ap (λ (q : Row). (q.start, q.stop)) c.as_ref-in-Some-next.ensures in
+    let starts : c.place-next_start.result.0 ≡ r.start = ap (λ (p : ℕ × ℕ). p.0) placed in
     let parts : c.loop-row.stop + a.self.now.options.distance < r.start = omega (arith, c.if-from-distance.false, c.from.ensures, c.from-in-Some-next.ensures, distance, starts) in
     let long : c.loop-row.start < c.loop-row.stop = i.sweep.put.last.block.long in
     record {
-      sweep = rw c.place-next_start.ensures
+      sweep = rw placed
           (sweep-open a.self.now a.genome.now a.track.now.rows a.group a.from a.to known c.loop-row.self c.put_block.new.self c.loop-row.start c.loop-row.stop r rest s parts c.in_ok-put_block.ensures.ok);
       no_less = omega (arith, i.no_less, next.no_less, c.put_block.ensures.steps.no_less);
       paid = omega (

@@ -2,7 +2,7 @@ use Rattle.std.proofs.Common.{◌+◌, ◌==◌, ◌&&◌, nat_le, max, ◌∙�
 use Rattle.iv_cover.specs.declared.block.Block.{Block}
 use Rattle.iv_cover.specs.Coming.{coming, left}
 use Rattle.iv_cover.specs.TrackBlocks.{Group, with_members}
-use Rattle.iv_cover.proofs.Comings.{coming-begun, coming-joined, coming-parted}
+use Rattle.iv_cover.proofs.Comings.{coming-begun, coming-joined, coming-split_up}
 use Rattle.iv_cover.proofs.block_walk.BlockWalk.next.Goals.{in-Some, in-None+in_ok-first-in-None}
 use Rattle.iv_cover.proofs.block_walk.BlockWalk.next.Goals as goal
 
@@ -41,7 +41,7 @@ returns-then-not-is_joined_by g c =
     let b = with_members c.loop-record.block i.0 in (
       i.0,
       i.1 ∙ ap (coming d (Some b)) c.in-Some-next.ensures.row
-          ∙ coming-parted d b c.in-Some-next.record.now c.next-in-loop-record.new.self
+          ∙ coming-split_up d b c.in-Some-next.record.now c.next-in-loop-record.new.self
           (sym (c.is_joined_by.ensures ∙ ap (λ (n : Block). (n.sequence == b.sequence) && nat_le n.start (b.stop + d)) c.of-next.ensures) ∙ c.if-not-is_joined_by.true),
     )
 

@@ -1,11 +1,11 @@
 use Rattle.std.proofs.Common.{◌≡◌, arith}
-use Rattle.iv_depth.proofs.DepthLemmas.{AreOnGenome-of, text-of, entries-of}
+use Rattle.iv_depth.proofs.DepthLemmas.{AreAhead-of, text-of, entries-of}
 use Rattle.iv_depth.proofs.depth.Depth.print.Goals as goal
 
 pub put_genome-requires : goal.put_genome-requires
 put_genome-requires g c =
     let entries : c.self.inside.changes ≡ c.args.self.now = c.self.view_is in
-    AreOnGenome-of c.args.genome.now c.args.track.now.width c.args.track.now.rows c.self.inside.changes c.requires.fit (rw entries c.requires.right) (omega (arith, c.len-few.ensures))
+    AreAhead-of c.args.genome.now c.args.track.now.width c.args.track.now.rows c.self.inside.changes c.requires.fit (rw entries c.requires.right) (omega (arith, c.len-few.ensures))
 
 pub returns-clause-text : goal.returns-clause-text
 returns-clause-text g c =

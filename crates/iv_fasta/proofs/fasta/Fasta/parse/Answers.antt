@@ -20,7 +20,7 @@ returns-in-Ok-clause-lengths g c =
 pub returns-in_err-draft-clause-err : goal.returns-in_err-draft-clause-err
 returns-in_err-draft-clause-err g c =
     let p = err_from_is_err_and c.from_residual.result c.from_residual.ensures.1 in
-    rw (p.1, p.2) (elim c.in_err-draft.ensures.err [ inl memory ↦ inl memory | inr told ↦ inr (text-err c.args.genome.now c.args.text.items _ told) ])
+    rw (p.1, p.2) (elim c.in_err-draft.ensures.err [ inl memory ↦ inl memory | inr reported ↦ inr (text-err c.args.genome.now c.args.text.items _ reported) ])
 
 pub returns-in_err-check_lengths-clause-err : goal.returns-in_err-check_lengths-clause-err
 returns-in_err-check_lengths-clause-err g c =

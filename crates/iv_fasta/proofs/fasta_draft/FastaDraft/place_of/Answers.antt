@@ -1,8 +1,9 @@
 use Rattle.std.proofs.Common.{ap, sym, ◌∙◌}
 use Rattle.std.specs.Option.{option_map}
+use Rattle.iv_text.proofs.NamedLemmas.{unnamed}
 use Rattle.iv_fasta.specs.Fasta.{Stretch}
 use Rattle.iv_fasta.specs.Drafts.{cut}
-use Rattle.iv_fasta.proofs.CutLemmas.{place-cut, lookup-at, lookup-none, place-there}
+use Rattle.iv_fasta.proofs.CutLemmas.{place-cut, lookup-at, place-there}
 use Rattle.iv_fasta.proofs.fasta_draft.FastaDraft.place_of.Goals as goal
 
 pub returns-in-Some-sequence-clause-value : goal.returns-in-Some-sequence-clause-value
@@ -20,5 +21,5 @@ returns-in-None-sequence-clause-value g c =
 pub returns-in-None-clause-value : goal.returns-in-None-clause-value
 returns-in-None-clause-value g c =
     let self = c.args.self.now in
-    sym (ap (option_map (λ (s : Stretch). s.bases)) (lookup-none (cut self.headers self.text.kept) c.args.name.now
+    sym (ap (option_map (λ (s : Stretch). s.bases)) (unnamed (cut self.headers self.text.kept) c.args.name.now
     (place-cut self.headers self.text.kept c.args.name.now ∙ sym c.in-None.ensures)))

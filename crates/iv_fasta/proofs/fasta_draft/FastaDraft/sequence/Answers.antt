@@ -1,5 +1,5 @@
 use Rattle.std.proofs.Common.{sym}
-use Rattle.iv_fasta.proofs.CutLemmas.{sequence-is, sequence-lies, cut-past}
+use Rattle.iv_fasta.proofs.CutLemmas.{sequence-is, sequence-is_placed, cut-past}
 use Rattle.iv_fasta.proofs.fasta_draft.FastaDraft.sequence.Goals as goal
 
 pub returns-in_err-name-clause-value : goal.returns-in_err-name-clause-value
@@ -15,4 +15,4 @@ returns-clause-value g c =
 pub returns-clause-within : goal.returns-clause-within
 returns-clause-within g c =
     let self = c.args.self.now in
-    sequence-lies self.headers self.text.kept c.in_ok-name.name.now c.in_ok-name.header c.args.place c.end_before-stop.result c.count.result c.count.ensures self.in_order c.in_ok-name.ensures.value c.end_before-stop.ensures
+    sequence-is_placed self.headers self.text.kept c.in_ok-name.name.now c.in_ok-name.header c.args.place c.end_before-stop.result c.count.result c.count.ensures self.in_order c.in_ok-name.ensures.value c.end_before-stop.ensures

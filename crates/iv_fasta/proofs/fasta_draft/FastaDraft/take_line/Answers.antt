@@ -31,9 +31,9 @@ returns-in_err-take_header-clause-err g c =
     let p = err_from_is_err_and c.from_residual.result c.from_residual.ensures.1 in
     rw (p.1, p.2) (elim c.in_err-take_header.ensures.err [
       | inl memory ↦ inl memory
-      | inr told ↦ inr (line-stops c.args.genome.now c.args.number said _ line self.text.coming next first
+      | inr reported ↦ inr (line-stops c.args.genome.now c.args.number said _ line self.text.coming next first
           (kept-header c.args.genome.now c.args.number said line some c.if-line-eq62.true
-          ∙ ap (headed c.args.genome.now (header_name line)) (ap (λ l. with_header c.args.number (cut self.headers self.text.kept) (header_name l)) whole ∙ told)))
+          ∙ ap (headed c.args.genome.now (header_name line)) (ap (λ l. with_header c.args.number (cut self.headers self.text.kept) (header_name l)) whole ∙ reported)))
     ])
 
 pub returns-then-line-eq62-clause-ok : goal.returns-then-line-eq62-clause-ok

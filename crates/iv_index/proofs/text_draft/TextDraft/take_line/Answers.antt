@@ -41,13 +41,13 @@ returns-in_err-take_place-clause-err g c =
     let line = c.split_line-size.result.0.now in
     let same = c.in_ok-take_short.ensures.not (ap Ok c.if-branch.false) in
     let now : Cursor = record { text = c.self.inside.text.now; at = c.self.inside.at; width = c.self.inside.width; places = c.self.inside.places.items } in
-    let told : LoadCause = c.in_err-take_place.field-0.0 in
-    handed-on c.from_residual-in_err-take_place.result told _ c.from_residual-in_err-take_place.ensures.1
+    let or_fault : LoadCause = c.in_err-take_place.field-0.0 in
+    handed-on c.from_residual-in_err-take_place.result or_fault _ c.from_residual-in_err-take_place.ensures.1
     (elim c.in_err-take_place.ensures.err [
       | inl memory ↦ inl memory
       | inr full ↦ inr (λ n.
           ap (left_after c.args.reader.now c.args.limit n) (sym same ∙ sym c.self.view_is)
-          ∙ step-err c.args.reader.now c.args.limit n now line c.split_line-size.result.1 told c.split_line-size.ensures.lines
+          ∙ step-err c.args.reader.now c.args.limit n now line c.split_line-size.result.1 or_fault c.split_line-size.ensures.lines
           (too-many c.args.reader.now c.args.limit now line c.in-Some.width c.in-Ok.place (sym c.is_unread.ensures ∙ c.if-is_unread.false)
           c.in-Some.ensures.0 c.in-Some.ensures.1 c.in-Some.ensures.2 c.in-Ok.ensures.ok full.1 ∙ ap Err (sym full.0)))
     ])

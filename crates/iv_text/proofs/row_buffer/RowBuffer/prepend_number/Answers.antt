@@ -8,7 +8,7 @@ write_digits-self-inside-requires c =
     let digits : length (decimal c.args.number) ≤ 20 = search (rules, length-decimal-le 20) in
     let len : length c.args.self.now ≡ length c.self.inside.bytes - c.self.inside.start =
     ap length (sym c.self.view_is) ∙ length-drop c.self.inside.start c.self.inside.bytes in
-    let told = c.self.told in
+    let or_fault = c.self.told in
     (omega arith, omega arith)
 
 pub returns-clause-short : goal.returns-clause-short
@@ -18,5 +18,5 @@ returns-clause-short c =
     ap length (sym c.self.view_is) ∙ length-drop c.self.inside.start c.self.inside.bytes in
     let laid = length-drop c.write_digits-self-inside.result c.write_digits-self-inside.new.buf in
     let start = c.write_digits-self-inside.ensures.start in
-    let told = c.self.told in
+    let or_fault = c.self.told in
     omega arith

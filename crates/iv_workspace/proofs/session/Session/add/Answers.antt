@@ -68,7 +68,7 @@ returns-clause-stale g c = ap (λ (a : Accepted). a.stale) c.of.ensures
 pub returns-in_err-add-clause-why : goal.returns-in_err-add-clause-why
 returns-in_err-add-clause-why g c =
     let p = err_from_is_err_and c.from_residual-in_err-add.result c.from_residual-in_err-add.ensures.1 in
-    let told = c.in_err-add.field-0.0 in
+    let reported = c.in_err-add.field-0.0 in
     rw (p.1, p.2) (inr
-    (subst (λ (s : State). RefusesAdd s.track c.args.row.now told) c.self.view_is
-    (subst (λ (r : Row). RefusesAdd c.self.inside.track r told) c.in_ok-record.ensures.ok c.in_err-add.ensures.why)))
+    (subst (λ (s : State). RefusesAdd s.track c.args.row.now reported) c.self.view_is
+    (subst (λ (r : Row). RefusesAdd c.self.inside.track r reported) c.in_ok-record.ensures.ok c.in_err-add.ensures.why)))

@@ -13,10 +13,10 @@ use Rattle.iv_workspace.proofs.session.Session.add_second.Goals as goal
 pub returns-in_err-add-clause-why : goal.returns-in_err-add-clause-why
 returns-in_err-add-clause-why g c =
     let p = err_from_is_err_and c.from_residual-in_err-add.result c.from_residual-in_err-add.ensures.1 in
-    let told = c.in_err-add.field-0.0 in
+    let reported = c.in_err-add.field-0.0 in
     rw (p.1, p.2)
-    (of-second (λ t. RefusesCopy t told ⊎ RefusesAdd t c.args.row.now told) _ c.args.self.now c.in-Some.second c.self.view_is c.in-Some.is
-    (inr (subst (λ (r : Row). RefusesAdd c.in-Some.second r told) c.in_ok-record.ensures.ok c.in_err-add.ensures.why)))
+    (of-second (λ t. RefusesCopy t reported ⊎ RefusesAdd t c.args.row.now reported) _ c.args.self.now c.in-Some.second c.self.view_is c.in-Some.is
+    (inr (subst (λ (r : Row). RefusesAdd c.in-Some.second r reported) c.in_ok-record.ensures.ok c.in_err-add.ensures.why)))
 
 pub invariant_of-self-2 : goal.invariant_of-self-2
 invariant_of-self-2 g c =

@@ -13,10 +13,10 @@ use Rattle.iv_workspace.proofs.session.Session.remove_second.Goals as goal
 pub returns-in_err-remove-clause-why : goal.returns-in_err-remove-clause-why
 returns-in_err-remove-clause-why g c =
     let p = err_from_is_err_and c.from_residual-in_err-remove.result c.from_residual-in_err-remove.ensures.1 in
-    let told = c.in_err-remove.field-0.0 in
+    let reported = c.in_err-remove.field-0.0 in
     rw (p.1, p.2)
-    (of-second (λ t. RefusesCopy t told ⊎ RefusesRemove t c.args.row.now told) _ c.args.self.now c.in-Some.second c.self.view_is c.in-Some.is
-    (inr (subst (λ (r : Row). RefusesRemove c.in-Some.second r told) c.in_ok-record.ensures.ok c.in_err-remove.ensures.why)))
+    (of-second (λ t. RefusesCopy t reported ⊎ RefusesRemove t c.args.row.now reported) _ c.args.self.now c.in-Some.second c.self.view_is c.in-Some.is
+    (inr (subst (λ (r : Row). RefusesRemove c.in-Some.second r reported) c.in_ok-record.ensures.ok c.in_err-remove.ensures.why)))
 
 pub returns-clause-there : goal.returns-clause-there
 returns-clause-there g c =

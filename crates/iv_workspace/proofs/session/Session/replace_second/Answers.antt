@@ -15,12 +15,12 @@ pub returns-in_err-replace-clause-why : goal.returns-in_err-replace-clause-why
 returns-in_err-replace-clause-why g c =
     let p = err_from_is_err_and c.from_residual-in_err-replace.result c.from_residual-in_err-replace.ensures.1 in
     let t = c.in-Some.second in
-    let told = c.in_err-replace.field-0.0 in
+    let reported = c.in_err-replace.field-0.0 in
     rw (p.1, p.2)
-    (of-second (λ u. RefusesCopy u told ⊎ RefusesReplace u c.args.old.now c.args.new.now told) _ c.args.self.now t c.self.view_is c.in-Some.is
+    (of-second (λ u. RefusesCopy u reported ⊎ RefusesReplace u c.args.old.now c.args.new.now reported) _ c.args.self.now t c.self.view_is c.in-Some.is
     (inr
-    (subst (λ (r : Row). RefusesReplace t r c.args.new.now told) c.in_ok-before.ensures.ok
-    (subst (λ (q : Row). RefusesReplace t c.in_ok-before.before q told) c.in_ok-after.ensures.ok c.in_err-replace.ensures.why))))
+    (subst (λ (r : Row). RefusesReplace t r c.args.new.now reported) c.in_ok-before.ensures.ok
+    (subst (λ (q : Row). RefusesReplace t c.in_ok-before.before q reported) c.in_ok-after.ensures.ok c.in_err-replace.ensures.why))))
 
 pub returns-clause-there : goal.returns-clause-there
 returns-clause-there g c =

@@ -1,25 +1,23 @@
-use Rattle.std.proofs.Common.{◌≡◌, ◌∙◌, true, ap, refl, subst, sym, length, arith}
+use Rattle.std.proofs.Common.{◌≡◌, ◌∙◌, true, ap, refl, subst, length, arith}
 use Rattle.std.specs.Prelude.{◌||◌, not}
-use Rattle.indexmap.specs.Layout.{length-set_value_at}
+use Rattle.iv_text.proofs.NamedLemmas.{length-set_value_at}
 use Rattle.iv_workspace.specs.ViewStates.{IsKept, all_owned}
-use Rattle.iv_workspace.proofs.OpenViewLemmas.{named-length}
 use Rattle.iv_workspace.proofs.StateLemmas.{marked, marks-begin, marks-in, marks-end, same-there}
 use Rattle.iv_workspace.proofs.views.Views.mark_stale.Goals as goal
 
 pub loop-place-init : goal.loop-place-init
-loop-place-init g c = (marks-begin _ _ refl, omega (arith, c.len-place-end.ensures.len, ap length c.self.view_is, named-length (λ k. k.items) c.self.inside.views.entries))
+loop-place-init g c = (marks-begin _ _ refl, omega (arith, c.len-place-end.ensures.value, ap length c.self.view_is))
 
 pub invariant_of-self : goal.invariant_of-self
-invariant_of-self g c = omega (arith, length-set_value_at c.self-in-loop-place.inside.views.entries c.loop-place.place (marked c.index_mut-opened.result.now (c.index_mut-opened.result.now.stale || not c.is_kept-kept.result)), c.self-in-loop-place.invariant)
+invariant_of-self g c = omega (arith, length-set_value_at c.self-in-loop-place.inside.views c.loop-place.place (marked c.index_mut-opened.result.now (c.index_mut-opened.result.now.stale || not c.is_kept-kept.result)), c.self-in-loop-place.invariant)
 
 pub loop-place-preserved : goal.loop-place-preserved
 loop-place-preserved g c = (
-  marks-in (λ k. k.items) _ _ _ c.self-in-loop-place.view_is c.loop-place.place _ c.index_mut-opened.ensures.value _ c.is_kept-kept.result c.loop-place.invariant.0
+  marks-in _ _ _ c.self-in-loop-place.view_is c.loop-place.place _ c.index_mut-opened.ensures.value _ c.is_kept-kept.result c.loop-place.invariant.0
       (subst (λ v. (c.is_kept-kept.result ≡ true → IsKept (all_owned c.loop-place.self) v.view) × (IsKept (all_owned c.loop-place.self) v.view → c.is_kept-kept.result ≡ true))
       (same-there _ _ c.index.ensures c.index_mut-opened.ensures.value) c.is_kept-kept.ensures)
       refl,
-  named-length (λ k. k.items) _ ∙ length-set_value_at c.self-in-loop-place.inside.views.entries c.loop-place.place _
-      ∙ sym (named-length (λ k. k.items) c.self-in-loop-place.inside.views.entries) ∙ ap length c.self-in-loop-place.view_is ∙ c.loop-place.invariant.1,
+  length-set_value_at c.self-in-loop-place.inside.views c.loop-place.place _ ∙ ap length c.self-in-loop-place.view_is ∙ c.loop-place.invariant.1,
 )
 
 pub returns : goal.returns

@@ -3,7 +3,6 @@ use Rattle.std.specs.Prelude.{IfSome}
 use Rattle.iv_bytes.proofs.Putting.{OnErr-all}
 use Rattle.iv_workspace.specs.ViewStates.{all_seen, current_at}
 use Rattle.iv_workspace.specs.OpenViews.{Freshens}
-use Rattle.iv_workspace.proofs.OpenViewLemmas.{named-length}
 use Rattle.iv_workspace.proofs.StateLemmas.{current_to, current-none, current-next, current-length, current-all, current-freshens, seen-length, stale-among}
 use Rattle.iv_workspace.proofs.views.Views.refresh_all.Goals as goal
 
@@ -11,7 +10,7 @@ pub loop-place-init : goal.loop-place-init
 loop-place-init g c = (
   c.requires.right,
   current-none (all_seen c.args.self.now),
-  omega (arith, c.len-place-end.ensures.len, ap length c.self.view_is, named-length (λ k. k.items) c.self.inside.views.entries),
+  omega (arith, c.len-place-end.ensures.value, ap length c.self.view_is),
 )
 
 pub refresh_at-requires-clause-within : goal.refresh_at-requires-clause-within

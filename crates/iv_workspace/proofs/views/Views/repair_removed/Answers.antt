@@ -1,26 +1,25 @@
 use Rattle.std.proofs.Common.{◌∙◌, sym, arith}
-use Rattle.indexmap.specs.Layout.{length-set_value_at}
+use Rattle.iv_text.proofs.NamedLemmas.{length-set_value_at}
 use Rattle.iv_text.specs.Named.{names_of}
 use Rattle.iv_text.specs.Ordered.{added}
 use Rattle.iv_workspace.specs.ViewStates.{IsOwnRight}
-use Rattle.iv_workspace.proofs.OpenViewLemmas.{named-length}
 use Rattle.iv_workspace.proofs.StateLemmas.{repairs-begin, repairs-at, repairs-next, repairs-end}
 use Rattle.iv_workspace.proofs.views.Views.repair_removed.Goals as goal
 
 pub loop-place-init : goal.loop-place-init
-loop-place-init g c = (repairs-begin _ _ _ _ _ _ _ c.self.view_is, sym c.len-place-end.ensures.len, omega (arith, c.self.invariant, c.len-place-end.ensures.len))
+loop-place-init g c = (repairs-begin _ _ _ _ _ _ _ c.self.view_is, sym c.len-place-end.ensures.value, omega (arith, c.self.invariant, c.len-place-end.ensures.value))
 
 pub removed-kept-requires-clause-right : goal.removed-kept-requires-clause-right
 removed-kept-requires-clause-right g c =
-    repairs-at (λ k. k.items) _ _ _ _ _ (λ v. IsOwnRight v (names_of c.args.genome.now) (added c.args.track.now.rows c.args.row.now)) _ c.loop-place.self-inside.views.entries c.loop-place.place _ _ _
+    repairs-at _ _ _ _ _ (λ v. IsOwnRight v (names_of c.args.genome.now) (added c.args.track.now.rows c.args.row.now)) _ c.loop-place.self-inside.views c.loop-place.place _ _ _
     c.loop-place.invariant.0 c.index_mut-view.ensures.value c.requires.right
 
 pub loop-place-preserved : goal.loop-place-preserved
 loop-place-preserved g c = (
-  repairs-next (λ k. k.items) _ _ _ _ _ _ _ c.loop-place.self-inside.views.entries c.loop-place.place _ _ _ _ _ c.loop-place.invariant.0 c.index_mut-view.ensures.value c.removed-kept.ensures,
-  length-set_value_at c.loop-place.self-inside.views.entries c.loop-place.place _ ∙ c.loop-place.invariant.1,
+  repairs-next _ _ _ _ _ _ _ c.loop-place.self-inside.views c.loop-place.place _ _ _ _ _ c.loop-place.invariant.0 c.index_mut-view.ensures.value c.removed-kept.ensures,
+  length-set_value_at c.loop-place.self-inside.views c.loop-place.place _ ∙ c.loop-place.invariant.1,
   c.loop-place.invariant.2,
 )
 
 pub returns : goal.returns
-returns g c = repairs-end _ _ _ _ _ _ _ _ _ _ c.loop-place.invariant.0 (omega (arith, c.loop-place.invariant.1, named-length (λ k. k.items) c.loop-place.self-inside.views.entries))
+returns g c = repairs-end _ _ _ _ _ _ _ _ _ _ c.loop-place.invariant.0 (omega (arith, c.loop-place.invariant.1))

@@ -1,0 +1,94 @@
+use Rattle.std.proofs.Common.{◌≡◌, ◌≤◌, ◌<◌, ◌-◌, ◌+◌, ◌==◌, ◌++◌, ◌∙◌, nat_lt, filter, List, ℕ, All, length, vec_capacity, ap, sym, subst, arith, rules}
+use Rattle.std.specs.List.{flat_map, range_with_len}
+use Rattle.iv_bytes.proofs.Putting.{Underway-begin, Puts-err}
+use Rattle.iv_text.specs.Genome.{seq_count, sequence_name}
+use Rattle.iv_text.specs.Ordered.{AreInOrder}
+use Rattle.iv_text.specs.Row.{Row}
+use Rattle.iv_cover.specs.TrackBlocks.{on}
+use Rattle.iv_blocks.specs.Groups.{listed}
+use Rattle.iv_blocks.specs.declared.options.Options.{Options}
+use Rattle.iv_blocks.specs.MergeSweeps.{sequence_rows}
+use Rattle.iv_cover.specs.Results.{HasRoom}
+use Rattle.iv_cover.proofs.FirstLemmas.{Underway-step, Underway-failed}
+use Rattle.iv_blocks.proofs.RoomLemmas.{room-more}
+use Rattle.iv_blocks.proofs.SideLemmas.{few}
+use Rattle.iv_blocks.proofs.TextLemmas.{all-from, from-in, from-order, from-here, from-later, ranks-next, rank-is, rank_rows}
+use Rattle.iv_blocks.proofs.merge_sweep.MergeSweep.print.Goals as goal
+
+pub loop-rank-init : goal.loop-rank-init
+loop-rank-init g c =
+    let n : seq_count c.args.genome.now - 0 ≡ seq_count c.args.genome.now = omega arith in
+    let records : c.self.inside.records ≡ c.args.self.now.1 = ap (λ (p : Options × List Row). p.1) c.self.view_is in
+    record {
+      put = rw n (Underway-begin _ _);
+      left_is = c.again-left.ensures ∙ records ∙ sym (all-from c.args.self.now.1);
+      options_are = ap (λ (p : Options × List Row). p.0) c.self.view_is;
+      records_are = records;
+      room = subst (λ (p : Options × List Row). HasRoom (vec_capacity c.self.inside.values) (length p.1) (listed p.0.summaries)) c.self.view_is c.self.invariant;
+    }
+
+pub split_sequence-here-requires-clause-order : goal.split_sequence-here-requires-clause-order
+split_sequence-here-requires-clause-order g c =
+    subst AreInOrder (sym c.loop-rank.invariant.left_is) (from-order c.loop-rank.rank c.args.self.now.1 c.requires.order)
+
+pub split_sequence-here-requires-clause-from : goal.split_sequence-here-requires-clause-from
+split_sequence-here-requires-clause-from g c =
+    subst (λ (l : List Row). All (λ r. c.loop-rank.rank ≤ r.seq) l) (sym c.loop-rank.invariant.left_is) (from-in c.loop-rank.rank c.args.self.now.1)
+
+pub put_sequence-requires : goal.put_sequence-requires
+put_sequence-requires g c =
+    let i = c.loop-rank.invariant in
+    let rows = c.args.self.now.1 in
+    let rank = c.loop-rank.rank in
+    let room : ℕ = vec_capacity c.loop-rank.self-inside.values in
+    let here : c.split_sequence-here.result.0 ≡ on rank rows = c.split_sequence-here.ensures.here ∙ ap (on rank) i.left_is ∙ from-here rank rows in
+    let fewer : length c.split_sequence-here.result.0 ≤ length rows = omega (arith, ap (λ (l : List Row). length l) here, few (λ (r : Row). r.seq == rank) rows) in
+    record {
+      room = room-more room room (length rows) (length c.split_sequence-here.result.0) (listed c.loop-rank.self-inside.options.summaries) (omega arith) fewer
+          (subst (λ (o : Options). HasRoom room (length rows) (listed o.summaries)) (sym i.options_are) i.room);
+    }
+
+pub returns-in_err-put_sequence-clause-text : goal.returns-in_err-put_sequence-clause-text
+returns-in_err-put_sequence-clause-text g c =
+    let i = c.loop-rank.invariant in
+    let o = c.args.self.now.0 in
+    let rows = c.args.self.now.1 in
+    let rank = c.loop-rank.rank in
+    let genome = c.args.genome.now in
+    let f = rank_rows o genome rows c.requires.order c.requires.on_genome in
+    let named : c.unwrap_or-name.result.now ≡ sequence_name genome rank = search rules in
+    let low : rank < seq_count genome = omega (arith, c.loop-rank-test.true, c.count-rank-end.ensures.value) in
+    let here : c.split_sequence-here.result.0 ≡ on rank rows = c.split_sequence-here.ensures.here ∙ ap (on rank) i.left_is ∙ from-here rank rows in
+    let same : sequence_rows c.loop-rank.self-inside.options c.unwrap_or-name.result.now c.split_sequence-here.result.0 ≡ f rank
+    = ap (λ (p : Options). sequence_rows p c.unwrap_or-name.result.now c.split_sequence-here.result.0) i.options_are
+    ∙ ap (λ (n : List ℕ). sequence_rows o n c.split_sequence-here.result.0) named
+    ∙ ap (sequence_rows o (sequence_name genome rank)) here
+    ∙ rank-is o genome rows c.requires.order c.requires.on_genome rank low in
+    let rest : List ℕ = flat_map f (range_with_len (rank + 1) (seq_count genome - (rank + 1))) in
+    Puts-err _ _ c.from_residual.result _ c.from_residual.ensures.0
+    (Underway-failed _ _ _ _ _ _ _ (ranks-next f rank (seq_count genome) low ∙ ap (λ (l : List ℕ). l ++ rest) (sym same)) i.put c.in_err-put_sequence.ensures.text)
+
+pub loop-rank-preserved : goal.loop-rank-preserved
+loop-rank-preserved g c =
+    let i = c.loop-rank.invariant in
+    let o = c.args.self.now.0 in
+    let rows = c.args.self.now.1 in
+    let rank = c.loop-rank.rank in
+    let genome = c.args.genome.now in
+    let f = rank_rows o genome rows c.requires.order c.requires.on_genome in
+    let named : c.unwrap_or-name.result.now ≡ sequence_name genome rank = search rules in
+    let low : rank < seq_count genome = omega (arith, c.loop-rank-test.true, c.count-rank-end.ensures.value) in
+    let here : c.split_sequence-here.result.0 ≡ on rank rows = c.split_sequence-here.ensures.here ∙ ap (on rank) i.left_is ∙ from-here rank rows in
+    let same : sequence_rows c.loop-rank.self-inside.options c.unwrap_or-name.result.now c.split_sequence-here.result.0 ≡ f rank
+    = ap (λ (p : Options). sequence_rows p c.unwrap_or-name.result.now c.split_sequence-here.result.0) i.options_are
+    ∙ ap (λ (n : List ℕ). sequence_rows o n c.split_sequence-here.result.0) named
+    ∙ ap (sequence_rows o (sequence_name genome rank)) here
+    ∙ rank-is o genome rows c.requires.order c.requires.on_genome rank low in
+    let rest : List ℕ = flat_map f (range_with_len (rank + 1) (seq_count genome - (rank + 1))) in
+    record {
+      put = Underway-step _ _ _ _ _ _ _ (ranks-next f rank (seq_count genome) low ∙ ap (λ (l : List ℕ). l ++ rest) (sym same)) i.put c.in_ok-put_sequence.ensures.text;
+      left_is = c.split_sequence-here.ensures.later ∙ ap (λ (l : List Row). filter (λ r. nat_lt rank r.seq) l) i.left_is ∙ from-later rank rows;
+      options_are = i.options_are;
+      records_are = i.records_are;
+      room = room-more (vec_capacity c.loop-rank.self-inside.values) (vec_capacity c.put_sequence.new.values) (length rows) (length rows) (listed o.summaries) c.in_ok-put_sequence.ensures.room (omega arith) i.room;
+    }

@@ -1,0 +1,9 @@
+use Rattle.std.proofs.Common.{None, ap, ◌∙◌}
+use Rattle.iv_cover.proofs.Merging.{merge-all}
+use Rattle.iv_cover.specs.Coming.{coming}
+use Rattle.iv_blocks.proofs.SideLemmas.{on-both}
+use Rattle.iv_blocks.proofs.side_blocks.SideBlocks.of_all.Goals as goal
+
+pub returns : goal.returns
+returns c = λ g lie.
+    c.of.ensures ∙ ap (coming c.args.distance None) (on-both c.args.records) ∙ merge-all c.args.distance g c.args.records c.requires lie

@@ -1,0 +1,31 @@
+-- What is still to be put in the midst of a sweep over blocks. This is the state of a print, as seen by its proof, and no part of
+-- what is promised.
+use Rattle.std.specs.Prelude.{ℕ, ◌+◌, ◌++◌, List, [], ◌∷◌, Option, Some, None, codes, decimal}
+use Rattle.std.specs.List.{flat_map}
+use Rattle.iv_text.specs.Genome.{Sequences, sequence_name}
+use Rattle.iv_text.specs.RecordText.{record_text}
+use Rattle.iv_text.specs.Row.{Row}
+use Rattle.iv_cover.specs.declared.block.Block.{Block}
+use Rattle.iv_cover.specs.TrackBlocks.{Group}
+
+-- where a block with members is
+abbrev pub interval_of : Group → Block
+interval_of b = record { sequence = b.sequence; start = b.start; stop = b.stop }
+
+-- where the first of the blocks starts: the rank of its sequence, and the position
+abbrev pub next_start : List Group → Option (ℕ × ℕ)
+next_start [] = None
+next_start (b ∷ blocks) = Some (b.sequence, b.start)
+
+-- the row of an interval: the sequence's name, start and stop between tabs, and a line feed
+abbrev pub interval_row : Sequences → Block → List ℕ
+interval_row g b = sequence_name g b.sequence ++ codes "\t" ++ decimal b.start ++ codes "\t" ++ decimal b.stop ++ codes "\n"
+
+-- the row of a record with this number after its columns
+abbrev pub numbered_row : Sequences → ℕ → Row → List ℕ
+numbered_row g number r = record_text g r ++ codes "\t" ++ decimal number ++ codes "\n"
+
+-- the rows of the members of blocks, with the numbers of the blocks, of which the first follows this number
+abbrev pub numbered_rows : Sequences → ℕ → List Group → List ℕ
+numbered_rows g number [] = []
+numbered_rows g number (b ∷ blocks) = flat_map (numbered_row g (number + 1)) b.members ++ numbered_rows g (number + 1) blocks

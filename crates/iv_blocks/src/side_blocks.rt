@@ -1,0 +1,155 @@
+//! The blocks of records of a text on one side, one after another.
+ghost use Rattle.std.specs.Prelude.{◌≡◌, ◌∷◌, ◌+◌, ◌^◌, ◌<◌, ◌≤◌, length, take, drop, filter, None, true, List, All};
+ghost use Rattle.std.specs.Iterator.{YieldsFirst, item_count};
+ghost use Rattle.iv_text.specs.Genome.{Sequences};
+ghost use Rattle.iv_text.specs.Ordered.{AreInOrder};
+ghost use Rattle.iv_text.specs.Read.{IsOnGenome};
+ghost use Rattle.iv_text.specs.Row.{Row};
+ghost use Rattle.iv_cover.specs.Coming.{coming};
+ghost use Rattle.iv_cover.specs.TrackBlocks.{blocks_of, with_members};
+ghost use Rattle.iv_blocks.specs.BlockSweeps.{next_start};
+ghost use Rattle.iv_blocks.specs.Sides.{is_on};
+
+use crate::side::Side;
+use crate::side_records::SideRecords;
+use iv_cover::Block;
+use iv_index::{TextRecord, TextRecords};
+use std::marker::Model;
+
+/// A block, and the records that are in it, in their order.
+#[derive(Drop)]
+pub(crate) struct SideBlock<'t> {
+    pub(crate) block: Block,
+    pub(crate) members: SideRecords<'t>,
+}
+
+impl<'t> Model for SideBlock<'t> {
+    ghost use Rattle.iv_cover.specs.TrackBlocks.{Group, with_members};
+
+    ghost Value = { Group };
+
+    ghost view = { λ b. with_members b.block b.members };
+}
+
+/// The blocks that are still to come of a sweep over records of a text, of those on one side: an iterator.
+///
+/// Records of one sequence that overlap, are book-ended or lie at most `distance` bases apart are in one
+/// block. Blocks come by the sequence's rank, and then by start. The model is the list of those that are left, each with its
+/// members. No call takes memory.
+#[derive(Drop)]
+pub(crate) struct SideBlocks<'t> {
+    rest: TextRecords<'t>,
+    side: Side,
+    distance: u32,
+}
+
+impl<'t> Model for SideBlocks<'t> {
+    ghost use Rattle.std.specs.Prelude.{List, None, filter};
+    ghost use Rattle.iv_cover.specs.Coming.{coming};
+    ghost use Rattle.iv_cover.specs.TrackBlocks.{Group};
+    ghost use Rattle.iv_blocks.specs.Sides.{is_on};
+
+    ghost Value = { List Group };
+
+    ghost view = { λ b. coming b.distance None (filter (is_on b.side) b.rest) };
+}
+
+impl<'t> SideBlocks<'t> {
+    /// The blocks of those of the records that are on the side.
+    pub(crate) fn of(records: TextRecords<'t>, side: Side, distance: u32) -> Self
+        ensures { result ≡ coming distance None (filter (is_on side) records.entry) }
+    {
+        SideBlocks {
+            rest: records,
+            side,
+            distance,
+        }
+    }
+
+    /// The blocks of all records, which are in the order of a track.
+    ///
+    /// They are the blocks of the definition for every genome that the records are on.
+    pub(crate) fn of_all(records: TextRecords<'t>, distance: u32) -> Self
+        requires { AreInOrder records }
+        ensures { (g : Sequences) → All (IsOnGenome g) records.entry → result ≡ blocks_of distance g records.entry }
+    {
+        SideBlocks::of(records, Side::Both, distance)
+    }
+
+    /// Where the next block starts: the rank of its sequence, and the position. `None` where no block is left.
+    pub(crate) fn next_start(&self) -> Option<(u32, u64)>
+        ensures { result ≡ next_start self.now }
+    {
+        let ahead = ahead_on(self.side, &self.rest);
+        let first = ahead.first()?;
+        Some((first.seq(), first.start()))
+    }
+}
+
+impl<'t> Iterator for SideBlocks<'t> {
+    type Item = SideBlock<'t>;
+
+    ghost next_gives = { YieldsFirst (λ blocks. blocks) };
+
+    ghost remaining = { item_count (λ blocks. blocks) };
+
+    /// The next block, `None` after the last. It looks at its members, at those between, and at the record after them.
+    fn next(&mut self) -> Option<SideBlock<'t>> {
+        let ahead = ahead_on(self.side, &self.rest);
+        // So few records are left that a `usize` counts them.
+        let _few = ahead.len();
+        let (first, others) = ahead.split_first()?;
+        let (block, count) = block_from(&first, others, self.side, self.distance);
+        let (members, rest) = ahead.split_at(count);
+        self.rest = rest;
+        Some(SideBlock {
+            block,
+            members: SideRecords::of(members, self.side),
+        })
+    }
+}
+
+/// The records from the first on the side on.
+fn ahead_on<'t>(side: Side, records: &TextRecords<'t>) -> TextRecords<'t>
+    ensures same { filter (is_on side) result ≡ filter (is_on side) records.now }
+    ensures first { (r : Row) (rs : List Row) → result ≡ r ∷ rs → is_on side r ≡ true }
+{
+    let mut ahead = records.again();
+    while let Some((record, others)) = ahead.split_first() {
+        if side.has(&record) {
+            break;
+        }
+        ahead = others;
+    }
+    ahead
+}
+
+/// The block that a record on the side begins, with those of the others that join it, and how many there are up to its end,
+/// with those of the other side.
+fn block_from(
+    first: &TextRecord<'_>,
+    others: TextRecords<'_>,
+    side: Side,
+    distance: u32,
+) -> (Block, usize)
+    requires few { length others + 1 < 2 ^ 64 }
+    requires on { is_on side first.now ≡ true }
+    ensures within { result.1 ≤ length others.entry + 1 }
+    ensures next { coming distance None (filter (is_on side) (first.now ∷ others.entry)) ≡ with_members result.0 (filter (is_on side) (take result.1 (first.now ∷ others.entry))) ∷ coming distance None (filter (is_on side) (drop result.1 (first.now ∷ others.entry))) }
+{
+    first.law_of_place();
+    let mut block = Block::of(first);
+    let mut count = 1;
+    for record in others {
+        if side.has(&record) {
+            record.law_of_place();
+            let next = Block::of(&record);
+            if !block.is_joined_by(next, distance) {
+                return (block, count);
+            }
+            block = block.with(next);
+        }
+        count += 1;
+    }
+    (block, count)
+}

@@ -1,0 +1,9 @@
+use Rattle.iv_cover.specs.TrackBlocks.{start_of, stop_of}
+use Rattle.iv_cover.proofs.Meanings.{filled, starts-apart}
+use Rattle.iv_cover.proofs.laws.gaps_separate_blocks.Goals as goal
+
+pub returns-clause-within : goal.returns-clause-within
+returns-clause-within c = λ d rows x p. filled start_of stop_of d rows x p
+
+pub returns-clause-between : goal.returns-clause-between
+returns-clause-between c = λ d rows x y. starts-apart start_of stop_of d rows x y

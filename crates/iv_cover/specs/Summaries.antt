@@ -1,0 +1,73 @@
+-- What each operation gives for values in the order of a track.
+use Rattle.std.specs.Prelude.{ℕ, ◌==◌, ℤ, pos, neg_ℤ, ◌+ℤ◌, List, [], ◌∷◌, length, fold, Option, Some, None, if◌then◌else◌, codes, decimal}
+use Rattle.std.specs.List.{join_with_byte}
+use Rattle.std.specs.Int.{int_min, int_max}
+use Rattle.std.specs.Fmt.{signed_decimal}
+use Rattle.std.specs.Option.{option_map, option_and_then}
+use Rattle.std.specs.Str.{bytes_eq}
+use Rattle.std.specs.Ordering.{nat_cmp}
+use Rattle.std.specs.Cmp.Lexicographic.{slice_cmp}
+use Rattle.std.specs.declared.cmp.Ordering.TheVariants.{Less, Equal, Greater}
+use Rattle.iv_text.specs.Bytes.{minus_sign, comma}
+use Rattle.iv_text.specs.Number.{number_up_to}
+use Rattle.iv_cover.specs.declared.op.Op.{Op}
+use Rattle.iv_cover.specs.declared.op.Op.TheVariants.{Count, Sum, Min, Max, Collapse, Distinct}
+
+-- the operation of this name
+abbrev pub op_named : List ℕ → Option Op
+op_named name =
+    if bytes_eq name (codes "count") then Some Count
+    else if bytes_eq name (codes "sum") then Some Sum
+    else if bytes_eq name (codes "min") then Some Min
+    else if bytes_eq name (codes "max") then Some Max
+    else if bytes_eq name (codes "collapse") then Some Collapse
+    else if bytes_eq name (codes "distinct") then Some Distinct
+    else None
+
+-- the number that a value is: an optional minus sign, and 1 to 15 digits
+abbrev pub number_of : List ℕ → Option ℤ
+number_of [] = None
+number_of (byte ∷ bytes) =
+    if byte == minus_sign then option_map (λ n. neg_ℤ (pos n)) (number_up_to 15 bytes)
+    else option_map pos (number_up_to 15 (byte ∷ bytes))
+
+-- the numbers among the values, without each value that is a full stop; none where some other value is no number
+abbrev pub numbers_of : List (List ℕ) → Option (List ℤ)
+numbers_of [] = Some []
+numbers_of (value ∷ values) =
+    if bytes_eq value (codes ".")
+    then numbers_of values
+    else option_and_then (λ number. option_map (λ numbers. number ∷ numbers) (numbers_of values)) (number_of value)
+
+-- numbers taken together two by two, if there are any
+abbrev pub taken_together : (ℤ → ℤ → ℤ) → List ℤ → Option ℤ
+taken_together both [] = None
+taken_together both (number ∷ numbers) = Some (fold both number numbers)
+
+-- a number in decimal; a full stop where there is none
+abbrev pub number_text : Option ℤ → List ℕ
+number_text None = codes "."
+number_text (Some number) = signed_decimal number
+
+-- values in the order of their bytes with one more, if it is not among them
+abbrev pub with_value : List ℕ → List (List ℕ) → List (List ℕ)
+with_value value [] = value ∷ []
+with_value value (first ∷ values) = elim (slice_cmp nat_cmp value first) [
+  | Less ↦ value ∷ first ∷ values
+  | Equal ↦ first ∷ values
+  | Greater ↦ first ∷ with_value value values
+]
+
+-- the different values, in the order of their bytes
+abbrev pub different : List (List ℕ) → List (List ℕ)
+different [] = []
+different (value ∷ values) = with_value value (different values)
+
+-- what the operation gives for the values
+abbrev pub summary_of : Op → List (List ℕ) → List ℕ
+summary_of Count values = decimal (length values)
+summary_of Sum values = number_text (option_and_then (taken_together ◌+ℤ◌) (numbers_of values))
+summary_of Min values = number_text (option_and_then (taken_together int_min) (numbers_of values))
+summary_of Max values = number_text (option_and_then (taken_together int_max) (numbers_of values))
+summary_of Collapse values = join_with_byte comma values
+summary_of Distinct values = join_with_byte comma (different values)

@@ -1,0 +1,61 @@
+//! A text that grows.
+ghost use Rattle.std.specs.Prelude.{◌≡◌, [], None, IfOk};
+ghost use Rattle.std.specs.Option.{is_some};
+ghost use Rattle.iv_bytes.specs.Sinks.{in_memory};
+
+use iv_bytes::{Sink, WriteFault};
+use std::alloc::{AllocError, Allocator};
+
+/// A sink whose text grows. It fails where a growth is refused.
+#[derive(Drop)]
+pub(crate) struct GrowingText<A: Allocator> {
+    text: Vec<u8, A>,
+    // What the growth answered that was refused.
+    refused: Option<AllocError>,
+}
+
+impl<A: Allocator> GrowingText<A> {
+    /// An empty text.
+    pub(crate) fn new(alloc: A) -> GrowingText<A>
+        ensures { (result.text.items ≡ []) × (result.refused ≡ None) }
+    {
+        GrowingText {
+            text: Vec::new(alloc),
+            refused: None,
+        }
+    }
+
+    /// The text that was taken.
+    ///
+    /// # Errors
+    ///
+    /// A growth was refused.
+    pub(crate) fn finish(self) -> Result<Vec<u8, A>, AllocError>
+        ensures { IfOk result (λ text. (text.items ≡ self.text.items) × (self.refused ≡ None)) }
+    {
+        let GrowingText { text, refused } = self;
+        match refused {
+            Some(refused) => Err(refused),
+            None => Ok(text),
+        }
+    }
+}
+
+impl<A: Allocator> Sink for GrowingText<A> {
+    ghost state = { λ s. in_memory s.text.items (is_some s.refused) };
+
+    fn push(&mut self, bytes: &[u8]) -> Result<usize, WriteFault> {
+        if self.refused.is_some() {
+            return Err(WriteFault);
+        }
+        if let Err(refused) = self.text.extend_from_slice(bytes) {
+            self.refused = Some(refused);
+            return Err(WriteFault);
+        }
+        Ok(bytes.len())
+    }
+
+    fn failed(&self) -> bool {
+        self.refused.is_some()
+    }
+}

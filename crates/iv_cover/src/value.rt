@@ -1,0 +1,67 @@
+//! The value of a record's column.
+ghost use Rattle.std.specs.Prelude.{◌≡◌};
+ghost use Rattle.iv_cover.specs.Columns.{column_value};
+ghost use Rattle.iv_cover.specs.Values.{kind_text};
+
+use crate::column::Column;
+use crate::digits::Digits;
+use iv_text::{RecordRef, strand_bytes};
+use std::marker::Model;
+
+/// The value of a record's column, which takes no memory. Its model is its text.
+#[derive(Debug, Drop)]
+pub struct Value<'a> {
+    kind: Kind<'a>,
+}
+
+/// A text that is lent, or a position.
+#[derive(Debug, Drop)]
+enum Kind<'a> {
+    Text(&'a [u8]),
+    Position(Digits),
+}
+
+impl<'a> Model for Value<'a> {
+    ghost use Rattle.std.specs.Prelude.{List, ℕ};
+    ghost use Rattle.iv_cover.specs.Values.{kind_text};
+
+    ghost Value = { List ℕ };
+
+    ghost view = { λ v. kind_text v.kind };
+}
+
+impl<'a> Value<'a> {
+    /// The value of a record's column, where its sequence has this name.
+    pub fn of(column: Column, sequence: &'a [u8], row: &RecordRef<'a>) -> Value<'a>
+        ensures { result ≡ column_value sequence.now column row.now }
+    {
+        let kind = match column {
+            Column::Sequence => Kind::Text(sequence),
+            Column::Start => Kind::Position(Digits::of(row.start())),
+            Column::Stop => Kind::Position(Digits::of(row.stop())),
+            Column::Name => Kind::Text(row.name()),
+            Column::Score => Kind::Text(row.score()),
+            Column::Strand => Kind::Text(strand_bytes(row.strand())),
+        };
+        Value { kind }
+    }
+
+    /// A value that is this text.
+    pub(crate) fn text(text: &'a [u8]) -> Value<'a>
+        ensures { result ≡ text.now }
+    {
+        Value {
+            kind: Kind::Text(text),
+        }
+    }
+
+    /// The value as text.
+    pub fn as_slice(&self) -> &[u8]
+        ensures { result.now ≡ self.now }
+    {
+        match &self.kind {
+            Kind::Text(text) => text,
+            Kind::Position(digits) => digits.as_slice(),
+        }
+    }
+}

@@ -1,0 +1,87 @@
+//! What the values of columns are read from.
+ghost use Rattle.std.specs.Prelude.{◌≡◌, ◌<◌, ◌^◌, ℕ, List, length, map};
+ghost use Rattle.std.specs.Iterator.{YieldsFirst};
+ghost use Rattle.iv_cover.specs.Columns.{column_value};
+ghost use Rattle.iv_cover.specs.declared.column.Column.{Column};
+
+use crate::column::Column;
+use crate::value::Value;
+use iv_text::Record;
+use std::alloc::Allocator;
+
+/// What values are read from, one after another: the records of a block, or a list of values, in which each column is the same.
+///
+/// It can be gone over again and again, and takes no memory. What it lends lives for `'t`.
+pub trait Values<'t>: Drop {
+    /// How many values are left.
+    ghost size: { Self → ℕ };
+    /// The values that are left of a column, where the records' sequence has this name.
+    ghost left: { List ℕ → Column → Self → List (List ℕ) };
+
+    /// The same values once more.
+    fn again(&self) -> Self
+        ensures { (name : List ℕ) (column : Column) → left name column result ≡ left name column self.now };
+
+    /// How many values are left.
+    fn count(&self) -> u64
+        ensures { result ≡ size self.now };
+
+    /// The next value of a column, where the records' sequence has this name; `None` after the last.
+    fn next_value(&mut self, name: &'t [u8], column: Column) -> Option<Value<'t>>
+        ensures { YieldsFirst (left name.now column) self.old result self.new };
+
+    /// A law for callers' proofs: 64 bits count the values of a column. The call does nothing.
+    fn law_of_size(&self)
+        ensures few { size self.now < 2 ^ 64 }
+        ensures each { (name : List ℕ) (column : Column) → length (left name column self.now) ≡ size self.now };
+}
+
+impl<'t, A: Allocator> Values<'t> for &'t [&'t Record<A>] {
+    ghost size = { λ rows. length rows.now };
+
+    ghost left = { λ name column rows. map (column_value name column) (map (λ row. row.now) rows.now) };
+
+    fn again(&self) -> Self {
+        *self
+    }
+
+    fn count(&self) -> u64 {
+        self.len() as u64
+    }
+
+    fn next_value(&mut self, name: &'t [u8], column: Column) -> Option<Value<'t>> {
+        let rows = *self;
+        let first = rows.first()?;
+        *self = &rows[1..];
+        Some(Value::of(column, name, &first.as_ref()))
+    }
+
+    fn law_of_size(&self) {
+        let _few = self.len();
+    }
+}
+
+impl<'t> Values<'t> for &'t [&'t [u8]] {
+    ghost size = { λ texts. length texts.now };
+
+    ghost left = { λ name column texts. map (λ text. text.now) texts.now };
+
+    fn again(&self) -> Self {
+        *self
+    }
+
+    fn count(&self) -> u64 {
+        self.len() as u64
+    }
+
+    fn next_value(&mut self, _name: &'t [u8], _column: Column) -> Option<Value<'t>> {
+        let texts = *self;
+        let first = texts.first()?;
+        *self = &texts[1..];
+        Some(Value::text(first))
+    }
+
+    fn law_of_size(&self) {
+        let _few = self.len();
+    }
+}

@@ -1,7 +1,0 @@
-use Rattle.std.proofs.Common.{◌∙◌, ap, map}
-use Rattle.iv_fasta.proofs.HeaderLemmas.{put-all}
-use Rattle.iv_fasta.proofs.headers.Headers.hash_after.Goals as goal
-
-pub returns-clause-ok : goal.returns-clause-ok
-returns-clause-ok g c =
-    ap (map _) (c.in_ok-append.ensures.entries ∙ put-all (λ v. v.items) _ _ c.in_ok-anew.ensures.empty c.len-count.ensures.unique) ∙ c.self.view_is

@@ -1,7 +1,0 @@
-use Rattle.std.proofs.Common.{◌∙◌, ap}
-use Rattle.iv_text.specs.Named.{place_of}
-use Rattle.iv_text.proofs.NamedLemmas.{place-is}
-use Rattle.iv_fasta.proofs.headers.Headers.place.Goals as goal
-
-pub returns : goal.returns
-returns g c = c.get_index_of.ensures.index ∙ place-is _ c.args.name.now c.self.inside.headers.entries ∙ ap (λ s. place_of s c.args.name.now) c.self.view_is

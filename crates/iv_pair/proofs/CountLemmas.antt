@@ -1,0 +1,225 @@
+-- The number of hits of a record, from where the others begin and end.
+use Rattle.std.proofs.Common.{◌≡◌, ℕ, ◌+◌, ◌<◌, ◌≤◌, inl, inr, Bool, true, false, cond, List, [], ◌∷◌, All, length, get_or, map, refl, sym, ap, subst, ◌∙◌, arith}
+use Rattle.std.specs.Prelude.{count_by}
+use Rattle.std.specs.Cmp.{IsTotalOrder, nat_cmp_total, on_total, then_total}
+use Rattle.std.specs.List.Sorted.{IsPartitionedBy, IsPermutation, IsSorted}
+use Rattle.std.specs.Ordering.{is_le, is_lt, nat_cmp, ordering_then}
+use Rattle.std.specs.declared.cmp.Ordering.{Ordering}
+use Rattle.std.proofs.lemmas.Bool.{cases_lt}
+use Rattle.std.proofs.lemmas.Bool.Decides.{nat_tests}
+use Rattle.std.proofs.lemmas.Cmp.{ranked, by_ranked}
+use Rattle.std.proofs.lemmas.List.Elements.{All-from_recursion, All-head, All-tail, All-nil, All-cons, All-weaker}
+use Rattle.std.proofs.lemmas.List.MinMax.{ranks_by}
+use Rattle.std.proofs.lemmas.List.Sorted.{sorted_far, sum_by-IsPermutation}
+use Rattle.std.proofs.lemmas.List.Sums.{sum_by-cons, length-filter}
+use Rattle.iv_text.specs.Ordered.{AreInOrder}
+use Rattle.iv_text.specs.Row.{Row, row_cmp}
+use Rattle.iv_index.specs.Places.{HasBase, Spot, spot_of_place, spot_of_row}
+use Rattle.iv_index.specs.declared.place.Place.{Place}
+use Rattle.iv_pair.specs.Hits.{overlaps, hits_of}
+use Rattle.iv_pair.specs.Counts.{is_before, is_up_to, begins_before, ends_by, place_before, end_by, end_of, AreEndsOf, AreStartsOf, EndsAscend}
+use Rattle.iv_pair.specs.PairSweeps.{Precedes}
+use Rattle.iv_pair.specs.declared.ends.End.{End}
+use Rattle.iv_pair.proofs.FrontLemmas.{count-implied, count-map, split_up-cons}
+use Rattle.iv_pair.proofs.ReachLemmas.{precedes}
+
+-- ---- one record beside another
+
+-- b is a hit of a, or ends before a, or does neither; and it begins before a ends in the first two cases alone
+one-of : (a b : Row) → a.start < a.stop → b.start < b.stop
+    → cond {A = ℕ} (overlaps a.seq a.start a.stop b) 1 0 + cond {A = ℕ} (ends_by a.seq a.start b) 1 0 ≡ cond {A = ℕ} (begins_before a.seq a.stop b) 1 0
+one-of a b some long = grind (arith, nat_tests)
+
+-- the number of hits: those that begin before a ends, less those that end up to where it begins
+pub count-hits : (a : Row) (second : List Row) → a.start < a.stop → All (λ (b : Row). b.start < b.stop) second
+    → length (hits_of second a) + count_by (ends_by a.seq a.start) second ≡ count_by (begins_before a.seq a.stop) second
+count-hits a second some long = ap (λ (n : ℕ). n + count_by (ends_by a.seq a.start) second) (length-filter (overlaps a.seq a.start a.stop) second) ∙ go second long
+  where
+    go : (rows : List Row) → All (λ (b : Row). b.start < b.stop) rows
+        → count_by (overlaps a.seq a.start a.stop) rows + count_by (ends_by a.seq a.start) rows ≡ count_by (begins_before a.seq a.stop) rows
+    go [] h = refl
+    go (b ∷ rows) h =
+        omega (
+          arith,
+          sum_by-cons (λ (r : Row). cond {A = ℕ} (overlaps a.seq a.start a.stop r) 1 0) b rows,
+          sum_by-cons (λ (r : Row). cond {A = ℕ} (ends_by a.seq a.start r) 1 0) b rows,
+          sum_by-cons (λ (r : Row). cond {A = ℕ} (begins_before a.seq a.stop r) 1 0) b rows,
+          one-of a b some (All-head (λ (r : Row). r.start < r.stop) b rows h),
+          go rows (All-tail (λ (r : Row). r.start < r.stop) b rows h),
+        )
+
+-- ---- positions in order
+
+-- the place t of sequence s is this place or after it
+abbrev IsOnward : ℕ → ℕ → ℕ → ℕ → Type 0
+IsOnward seq at s t = (seq ≤ s) × (seq ≡ s → at ≤ t)
+
+-- what is before a position is before a later one
+before-later : (seq at s t x y : ℕ) → IsOnward seq at s t → is_before seq at x y ≡ true → is_before s t x y ≡ true
+before-later seq at s t x y h e = grind (arith, nat_tests)
+
+up_to-later : (seq at s t x y : ℕ) → IsOnward seq at s t → is_up_to seq at x y ≡ true → is_up_to s t x y ≡ true
+up_to-later seq at s t x y h e = grind (arith, nat_tests)
+
+-- and what is no later than that too
+before-earlier : (seq at s t x y : ℕ) → IsOnward x y s t → is_before seq at s t ≡ true → is_before seq at x y ≡ true
+before-earlier seq at s t x y h e = grind (arith, nat_tests)
+
+up_to-earlier : (seq at s t x y : ℕ) → IsOnward x y s t → is_up_to seq at s t ≡ true → is_up_to seq at x y ≡ true
+up_to-earlier seq at s t x y h e = grind (arith, nat_tests)
+
+-- no fewer begin before a later position, and no fewer end up to it
+pub begun-more : (seq at s t : ℕ) (rows : List Row) → seq ≤ s → (seq ≡ s → at ≤ t) → count_by (begins_before seq at) rows ≤ count_by (begins_before s t) rows
+begun-more seq at s t rows low same = count-implied (begins_before seq at) (begins_before s t) rows (λ b e. before-later seq at s t b.seq b.start (low, same) e)
+
+pub ended-more : (seq at s t : ℕ) (rows : List Row) → seq ≤ s → (seq ≡ s → at ≤ t) → count_by (ends_by seq at) rows ≤ count_by (ends_by s t) rows
+ended-more seq at s t rows low same = count-implied (ends_by seq at) (ends_by s t) rows (λ b e. up_to-later seq at s t b.seq b.stop (low, same) e)
+
+-- ---- places as records
+
+-- the places lie where the records do
+abbrev LieAs : List Place → List Row → Type 0
+LieAs places rows = map spot_of_place places ≡ map spot_of_row rows
+
+head-same : (a b : Spot) (xs ys : List Spot) → a ∷ xs ≡ b ∷ ys → a ≡ b
+head-same a b xs ys e = cc
+
+tail-same : (a b : Spot) (xs ys : List Spot) → a ∷ xs ≡ b ∷ ys → xs ≡ ys
+tail-same a b xs ys e = cc
+
+none-same : (b : Spot) (ys : List Spot) → [] ≡ b ∷ ys → ⊥
+none-same b ys e = cc
+
+some-same : (a : Spot) (xs : List Spot) → a ∷ xs ≡ [] → ⊥
+some-same a xs e = cc
+
+-- what holds of each place holds of each record, where it is said of where they are
+all-rows : (P : Spot → Type 0) (places : List Place) (rows : List Row) → LieAs places rows → All (λ place. P (spot_of_place place)) places → All (λ r. P (spot_of_row r)) rows
+all-rows P [] [] e h = All-nil (λ r. P (spot_of_row r))
+all-rows P [] (r ∷ rows) e h = absurd (none-same _ _ e)
+all-rows P (place ∷ places) [] e h = absurd (some-same _ _ e)
+all-rows P (place ∷ places) (r ∷ rows) e h =
+    All-cons (λ q. P (spot_of_row q)) r rows
+    (subst P (head-same _ _ _ _ e) (All-head (λ q. P (spot_of_place q)) place places h))
+    (all-rows P places rows (tail-same _ _ _ _ e) (All-tail (λ q. P (spot_of_place q)) place places h))
+
+-- and the other way round
+all-places : (P : Spot → Type 0) (places : List Place) (rows : List Row) → LieAs places rows → All (λ r. P (spot_of_row r)) rows → All (λ place. P (spot_of_place place)) places
+all-places P [] rows e h = All-nil (λ place. P (spot_of_place place))
+all-places P (place ∷ places) [] e h = absurd (some-same _ _ e)
+all-places P (place ∷ places) (r ∷ rows) e h =
+    All-cons (λ q. P (spot_of_place q)) place places
+    (subst P (sym (head-same _ _ _ _ e)) (All-head (λ q. P (spot_of_row q)) r rows h))
+    (all-places P places rows (tail-same _ _ _ _ e) (All-tail (λ q. P (spot_of_row q)) r rows h))
+
+-- a test of where they are counts as many places as records
+count-places : (p : Spot → Bool) (places : List Place) (rows : List Row) → LieAs places rows → count_by (λ place. p (spot_of_place place)) places ≡ count_by (λ r. p (spot_of_row r)) rows
+count-places p places rows e = sym (count-map spot_of_place p places) ∙ ap (λ (l : List Spot). count_by p l) e ∙ count-map spot_of_row p rows
+
+-- ---- where they begin
+
+starts-ascend : (seq at : ℕ) (places : List Place) (rows : List Row) → LieAs places rows → AreInOrder rows → IsPartitionedBy (place_before seq at) places
+starts-ascend seq at [] rows e order = λ i j d le lt h. absurd (omega arith)
+starts-ascend seq at (place ∷ places) [] e order = absurd (some-same _ _ e)
+starts-ascend seq at (place ∷ places) (r ∷ rows) e order =
+    let same : spot_of_place place ≡ spot_of_row r = head-same _ _ _ _ e in
+    let on : place.seq ≡ r.seq = ap (λ (s : Spot). s.seq) same in
+    let from : place.start ≡ r.start = ap (λ (s : Spot). s.start) same in
+    let later : All (λ (q : Row). (r.seq ≤ q.seq) × (r.seq ≡ q.seq → r.start ≤ q.start)) rows =
+    All-weaker (λ (q : Row). is_le (row_cmp r q) ≡ true) (λ (q : Row). (r.seq ≤ q.seq) × (r.seq ≡ q.seq → r.start ≤ q.start)) (λ q k. precedes r q k) rows
+    (All-from_recursion (λ (q : Row). is_le (row_cmp r q) ≡ true) rows order.0) in
+    let onward : All (λ (q : Place). (r.seq ≤ q.seq) × (r.seq ≡ q.seq → r.start ≤ q.start)) places
+    = all-places (λ (s : Spot). (r.seq ≤ s.seq) × (r.seq ≡ s.seq → r.start ≤ s.start)) places rows (tail-same _ _ _ _ e) later in
+    split_up-cons (place_before seq at) place places
+    (All-weaker (λ (q : Place). (r.seq ≤ q.seq) × (r.seq ≡ q.seq → r.start ≤ q.start)) (λ (q : Place). place_before seq at q ≡ true → place_before seq at place ≡ true)
+    (λ q k h. rw (on, from) (before-earlier seq at q.seq q.start r.seq r.start k h)) places onward)
+    (starts-ascend seq at places rows (tail-same _ _ _ _ e) order.1)
+
+pub AreStartsOf-rows : (places : List Place) (rows : List Row) → map spot_of_place places ≡ map spot_of_row rows → All HasBase places → AreInOrder rows → AreStartsOf places rows
+AreStartsOf-rows places rows e some order = record {
+  ascend = λ seq at. starts-ascend seq at places rows e order;
+  counts = λ seq at. count-places (λ s. is_before seq at s.seq s.start) places rows e;
+  some = all-rows (λ (s : Spot). s.start < s.stop) places rows e some;
+}
+
+-- ---- where they end
+
+-- ends by the rank of the sequence, and then by the stop
+abbrev pub end_cmp : End → End → Ordering
+end_cmp a b = ordering_then (nat_cmp a.seq b.seq) (nat_cmp a.stop b.stop)
+
+ends_total : IsTotalOrder end_cmp
+ends_total = then_total (on_total (λ (e : End). e.seq) nat_cmp_total) (on_total (λ (e : End). e.stop) nat_cmp_total)
+
+no-less : (a b : ℕ) → is_lt (nat_cmp b a) ≡ false → a ≤ b
+no-less a b h = by_ranked (b < a) (b ≡ a) (a < b) (nat_cmp b a) (ranked b a _ refl) (λ e l. let bad : true ≡ false = sym (ap is_lt e) ∙ h in absurd cc) (λ e l. omega arith) (λ e l. omega arith)
+
+end-onward : (a b : End) → is_lt (end_cmp b a) ≡ false → IsOnward a.seq a.stop b.seq b.stop
+end-onward a b h =
+    let then : Ordering → Bool = λ (o : Ordering). is_lt (ordering_then o (nat_cmp b.stop a.stop)) in
+    by_ranked (b.seq < a.seq) (b.seq ≡ a.seq) (a.seq < b.seq) (nat_cmp b.seq a.seq) (ranked b.seq a.seq _ refl)
+    (λ e l. let bad : true ≡ false = sym (ap then e) ∙ h in absurd cc)
+    (λ e l. (omega arith, λ _. no-less a.stop b.stop (sym (ap then e) ∙ h)))
+    (λ e l. (omega arith, λ same. absurd (omega arith)))
+
+pub EndsAscend-sorted : (ends : List End) → IsSorted end_cmp ends → EndsAscend ends
+EndsAscend-sorted ends up = λ seq at i j d le lt e.
+    let a : End = get_or ends i d in
+    let b : End = get_or ends j d in
+    up_to-earlier seq at b.seq b.stop a.seq a.stop
+    (end-onward a b (sorted_far (λ x y. is_lt (end_cmp x y)) (ranks_by ends_total (λ (x : End). x)) ends up i j d le lt)) e
+
+pub AreEndsOf-moved : (ends : List End) (places : List Place) (rows : List Row) → map spot_of_place places ≡ map spot_of_row rows
+    → IsPermutation (map end_of places) ends → EndsAscend ends → AreEndsOf ends rows
+AreEndsOf-moved ends places rows e moved up = record {
+  ascend = up;
+  counts = λ seq at.
+      sum_by-IsPermutation (λ (x : End). cond {A = ℕ} (end_by seq at x) 1 0) (map end_of places) ends moved
+      ∙ count-map end_of (end_by seq at) places
+      ∙ count-places (λ s. is_up_to seq at s.seq s.stop) places rows e;
+}
+
+-- ---- the next record of the first list
+
+later-precede : (a : Row) (rows : List Row) → AreInOrder (a ∷ rows) → All (Precedes a) rows
+later-precede a rows order =
+    All-weaker (λ (q : Row). is_le (row_cmp a q) ≡ true) (Precedes a) (λ q k. precedes a q k) rows (All-from_recursion (λ (q : Row). is_le (row_cmp a q) ≡ true) rows order.0)
+
+-- no fewer begin before it
+pub begun-later : (a : Row) (rows second : List Row) (places : List Place) (seq start n : ℕ) → AreInOrder (a ∷ rows) → AreStartsOf places second → seq ≡ a.seq → start ≡ a.start
+    → n ≡ count_by (place_before seq start) places → All (λ y. n ≤ count_by (begins_before y.seq y.start) second) rows
+begun-later a rows second places seq start n order lie on from is =
+    let e : n ≡ count_by (begins_before a.seq a.start) second = is ∙ lie.counts seq start ∙ (λ i. count_by (begins_before (on i) (from i)) second) in
+    All-weaker (Precedes a) (λ y. n ≤ count_by (begins_before y.seq y.start) second)
+    (λ y k. omega (arith, e, begun-more a.seq a.start y.seq y.start second k.0 k.1)) rows (later-precede a rows order)
+
+-- and no fewer end up to where it begins
+pub ended-later : (a : Row) (rows second : List Row) (ends : List End) (seq start n : ℕ) → AreInOrder (a ∷ rows) → AreEndsOf ends second → seq ≡ a.seq → start ≡ a.start
+    → n ≡ count_by (end_by seq start) ends → All (λ y. n ≤ count_by (ends_by y.seq y.start) second) rows
+ended-later a rows second ends seq start n order are on from is =
+    let e : n ≡ count_by (ends_by a.seq a.start) second = is ∙ are.counts seq start ∙ (λ i. count_by (ends_by (on i) (from i)) second) in
+    All-weaker (Precedes a) (λ y. n ≤ count_by (ends_by y.seq y.start) second)
+    (λ y k. omega (arith, e, ended-more a.seq a.start y.seq y.start second k.0 k.1)) rows (later-precede a rows order)
+
+-- ---- a cursor over starts
+
+-- no fewer places begin before a later position
+pub places-more : (seq at later : ℕ) (places : List Place) → at ≤ later → count_by (place_before seq at) places ≤ count_by (place_before seq later) places
+places-more seq at later places le = count-implied (place_before seq at) (place_before seq later) places (λ place e. before-later seq at seq later place.seq place.start (omega arith, λ _. le) e)
+
+-- one that may go past all of them counts them
+pub passes-all : (n count most : ℕ) → n ≤ count → (n < most → n ≡ count) → count ≤ most → n ≡ count
+passes-all n count most few all low = elim (cases_lt n most) [
+  | inl less ↦ all less
+  | inr past ↦ omega arith
+]
+
+-- ---- what two cursors say of a record
+
+pub hits-between : (a : Row) (second : List Row) (ends : List End) (places : List Place) (seq start stop ended reached : ℕ) → AreEndsOf ends second → AreStartsOf places second
+    → a.start < a.stop → seq ≡ a.seq → start ≡ a.start → stop ≡ a.stop → ended ≡ count_by (end_by seq start) ends → reached ≡ count_by (place_before seq stop) places
+    → length (hits_of second a) + ended ≡ reached
+hits-between a second ends places seq start stop ended reached are lie some on from to low high =
+    let e : ended ≡ count_by (ends_by a.seq a.start) second = low ∙ are.counts seq start ∙ (λ i. count_by (ends_by (on i) (from i)) second) in
+    let r : reached ≡ count_by (begins_before a.seq a.stop) second = high ∙ lie.counts seq stop ∙ (λ i. count_by (begins_before (on i) (to i)) second) in
+    omega (arith, e, r, count-hits a second some lie.some)

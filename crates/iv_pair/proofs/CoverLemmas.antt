@@ -1,0 +1,98 @@
+-- What rows need of the second list.
+use Rattle.std.proofs.Common.{◌≡◌, ℕ, ◌+◌, ◌<◌, ◌==◌, ◌||◌, not, Bool, true, false, cond, List, [], ◌∷◌, ◌++◌, refl, sym, ap, ◌∙◌, arith, zero-add}
+use Rattle.std.specs.List.{flat_map, list_any}
+use Rattle.std.proofs.lemmas.Bool.{false≢true, ne_eqb}
+use Rattle.std.proofs.lemmas.List.Elements.{All-head, All-tail}
+use Rattle.iv_text.specs.Genome.{Sequences}
+use Rattle.iv_text.specs.Row.{Row, part}
+use Rattle.iv_cover.specs.Depth.{covers, depth}
+use Rattle.iv_cover.specs.Runs.{Run}
+use Rattle.iv_cover.proofs.DepthLemmas.{depth-cons}
+use Rattle.iv_cover.proofs.Tests.{all-mem, any-found, any-at}
+use Rattle.iv_index.specs.Cover.{is_covered}
+use Rattle.iv_pair.specs.Hits.{overlaps, hits_of}
+use Rattle.iv_pair.specs.IntersectRows.{record_line, any_line, none_line}
+use Rattle.iv_pair.specs.PairRows.{pair_rows}
+use Rattle.iv_pair.specs.SubtractRows.{uncovered_rows}
+use Rattle.iv_pair.specs.declared.intersect.IntersectRows.TheVariants.{Shared, SharedAndHit, Whole, WholeAndHit, IfHit, IfNoHit, Count}
+use Rattle.iv_pair.specs.declared.pair_rows.PairRows.{PairRows}
+use Rattle.iv_pair.specs.declared.pair_rows.PairRows.TheVariants.{Intersect, Subtract}
+use Rattle.iv_pair.proofs.HitsLemmas.{overlap-means}
+use Rattle.iv_pair.specs.CoverAlone.{HaveBases, CoverAlike, DependsOnCoverAlone, needs_cover_alone}
+use Rattle.iv_pair.proofs.EmptyAlike.{empty-alike}
+
+-- two tests are one where each implies the other
+same_tests : (b c : Bool) → (b ≡ true → c ≡ true) → (c ≡ true → b ≡ true) → b ≡ c
+same_tests true true f h = refl
+same_tests true false f h = sym (f refl)
+same_tests false true f h = h refl
+same_tests false false f h = refl
+
+-- whether a record has a hit
+abbrev has_hit : List Row → Row → Bool
+has_hit rows a = list_any (overlaps a.seq a.start a.stop) rows
+
+any-line : (g : Sequences) (a : Row) (rows : List Row) → any_line g a (hits_of rows a) ≡ cond (has_hit rows a) (record_line g a) []
+any-line g a [] = refl
+any-line g a (q ∷ rows) = elim (overlaps a.seq a.start a.stop q) as (λ c. any_line g a (cond c (q ∷ hits_of rows a) (hits_of rows a)) ≡ cond (c || has_hit rows a) (record_line g a) []) [
+  | true ↦ refl
+  | false ↦ any-line g a rows
+]
+
+none-line : (g : Sequences) (a : Row) (rows : List Row) → none_line g a (hits_of rows a) ≡ cond (has_hit rows a) [] (record_line g a)
+none-line g a [] = refl
+none-line g a (q ∷ rows) = elim (overlaps a.seq a.start a.stop q) as (λ c. none_line g a (cond c (q ∷ hits_of rows a) (hits_of rows a)) ≡ cond (c || has_hit rows a) [] (record_line g a)) [
+  | true ↦ refl
+  | false ↦ none-line g a rows
+]
+
+-- a hit in one list is one in another that covers the same
+hit-alike : (second other : List Row) (a : Row) → a.start < a.stop → HaveBases second → HaveBases other → CoverAlike second other → has_hit second a ≡ true → has_hit other a ≡ true
+hit-alike second other a some bases others alike hit =
+    let q = any-found (overlaps a.seq a.start a.stop) second hit in
+    let at = (overlap-means a.seq a.start a.stop q.0 some (all-mem (λ (r : Row). r.start < r.stop) second bases q.0 q.1)).0 q.2 in
+    let there = any-found (covers a.seq at.0) other (sym (alike a.seq at.0) ∙ any-at (covers a.seq at.0) second q.0 q.1 at.3) in
+    any-at (overlaps a.seq a.start a.stop) other there.0 there.1
+    ((overlap-means a.seq a.start a.stop there.0 some (all-mem (λ (r : Row). r.start < r.stop) other others there.0 there.1)).1 (at.0, at.1, at.2, there.2))
+
+hits-alike : (second other : List Row) (a : Row) → a.start < a.stop → HaveBases second → HaveBases other → CoverAlike second other → has_hit second a ≡ has_hit other a
+hits-alike second other a some bases others alike =
+    same_tests (has_hit second a) (has_hit other a) (hit-alike second other a some bases others alike) (hit-alike other second a some others bases (λ seq p. sym (alike seq p)))
+
+-- a position has depth 0 exactly where no record covers it
+depth-zero : (rows : List Row) (seq p : ℕ) → (depth rows seq p == 0) ≡ not (is_covered rows seq p)
+depth-zero [] seq p = refl
+depth-zero (q ∷ rows) seq p =
+    ap (λ n. n == 0) (depth-cons q rows seq p)
+    ∙ (elim (covers seq p q) as (λ c. (cond c 1 0 + depth rows seq p == 0) ≡ not (c || is_covered rows seq p)) [
+      | true ↦ ne_eqb (1 + depth rows seq p) 0 (λ e. absurd (omega arith))
+      | false ↦ ap (λ n. n == 0) (zero-add (depth rows seq p)) ∙ depth-zero rows seq p
+    ])
+
+uncovered-alike : (g : Sequences) (a : Row) (second other : List Row) → CoverAlike second other → uncovered_rows g a second ≡ uncovered_rows g a other
+uncovered-alike g a second other alike =
+    ap (flat_map (λ (run : Run). record_line g (part a run.start run.stop)))
+    (empty-alike (depth second a.seq) (depth other a.seq) (λ p. depth-zero second a.seq p ∙ ap not (alike a.seq p) ∙ sym (depth-zero other a.seq p)) a.start a.stop)
+
+-- the rows of one record
+rows-alike : (rows : PairRows) → needs_cover_alone rows ≡ true → (g : Sequences) (a : Row) (second other : List Row) → a.start < a.stop → HaveBases second → HaveBases other → CoverAlike second other
+    → pair_rows rows g a second ≡ pair_rows rows g a other
+rows-alike (Intersect Shared) is g a second other some bases others alike = absurd (false≢true is)
+rows-alike (Intersect SharedAndHit) is g a second other some bases others alike = absurd (false≢true is)
+rows-alike (Intersect Whole) is g a second other some bases others alike = absurd (false≢true is)
+rows-alike (Intersect WholeAndHit) is g a second other some bases others alike = absurd (false≢true is)
+rows-alike (Intersect IfHit) is g a second other some bases others alike =
+    any-line g a second ∙ ap (λ b. cond b (record_line g a) []) (hits-alike second other a some bases others alike) ∙ sym (any-line g a other)
+rows-alike (Intersect IfNoHit) is g a second other some bases others alike =
+    none-line g a second ∙ ap (λ b. cond b [] (record_line g a)) (hits-alike second other a some bases others alike) ∙ sym (none-line g a other)
+rows-alike (Intersect Count) is g a second other some bases others alike = absurd (false≢true is)
+rows-alike (Subtract true) is g a second other some bases others alike =
+    none-line g a second ∙ ap (λ b. cond b [] (record_line g a)) (hits-alike second other a some bases others alike) ∙ sym (none-line g a other)
+rows-alike (Subtract false) is g a second other some bases others alike = uncovered-alike g a second other alike
+
+-- the rows of all
+pub text-alike : (rows : PairRows) → needs_cover_alone rows ≡ true → DependsOnCoverAlone rows
+text-alike rows is g [] second other firsts bases others alike = refl
+text-alike rows is g (a ∷ first) second other firsts bases others alike =
+    (λ i. rows-alike rows is g a second other (All-head (λ (r : Row). r.start < r.stop) a first firsts) bases others alike i
+    ++ text-alike rows is g first second other (All-tail (λ (r : Row). r.start < r.stop) a first firsts) bases others alike i)

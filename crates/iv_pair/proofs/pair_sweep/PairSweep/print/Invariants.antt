@@ -1,0 +1,17 @@
+use Rattle.std.proofs.Common.{◌≡◌, length}
+use Rattle.std.specs.List.{flat_map}
+use Rattle.iv_bytes.proofs.Putting.{Underway}
+use Rattle.iv_pair.specs.PairRows.{pair_rows, pair_text}
+use Rattle.iv_pair.proofs.pair_sweep.PairSweep.print.Given as goal
+
+-- the second list stays, and the rows of the records that are left are to come
+abbrev pub invariant-loop-row : goal.invariant-loop-row
+invariant-loop-row g l = record {
+  same : l.self.second ≡ l.fn.self.second;
+  put : Underway (g.S.Sink.state l.fn.sink) (g.S.Sink.state l.sink)
+      (flat_map (λ a. pair_rows l.rows l.genome a l.fn.self.second) l.self.first)
+      (pair_text l.rows l.genome l.fn.self.first l.fn.self.second);
+}
+
+abbrev pub decreases-loop-row : goal.decreases-loop-row
+decreases-loop-row g l = length l.self.first

@@ -1,0 +1,143 @@
+//! One sweep over the records of two texts.
+ghost use Rattle.std.specs.Prelude.{◌≡◌, ◌+◌, ◌≤◌, ◌++◌, length, filter, All, IfOk, vec_len, vec_capacity};
+ghost use Rattle.iv_text.specs.Ordered.{AreInOrder};
+ghost use Rattle.iv_pair.specs.Pairs.{Gives};
+ghost use Rattle.iv_pair.specs.PairSweeps.{Covers, HitAlike, reaches};
+
+use crate::active_hits::ActiveHits;
+use crate::beside::{is_past, reaches};
+use iv_index::{TextRecord, TextRecords};
+use std::alloc::{AllocError, Allocator, Global};
+use std::marker::Model;
+
+/// Two lists of records in order, before or in the midst of one sweep over both.
+///
+/// Its model is what is left of the first list, the second list, and the hits of the record that was given last.
+#[derive(Drop)]
+pub struct PairSweep<'t, A: Allocator = Global> {
+    /// Those of the first list that were not given yet.
+    first: TextRecords<'t>,
+    /// The second list.
+    second: TextRecords<'t>,
+    /// Those of the second list that start past the start of the record that was given last.
+    rest: TextRecords<'t>,
+    /// Those of the second list that have its first position.
+    active: Vec<TextRecord<'t>, A>,
+    /// The interval of that record.
+    seq: u32,
+    start: u64,
+    stop: u64,
+}
+
+impl<'t, A: Allocator> Model for PairSweep<'t, A> {
+    ghost use Rattle.std.specs.Prelude.{◌++◌, vec_len, vec_capacity};
+    ghost use Rattle.iv_pair.specs.Hits.{hits};
+    ghost use Rattle.iv_pair.specs.Pairs.{Pairs};
+    ghost use Rattle.iv_pair.specs.PairSweeps.{IsSweep};
+
+    ghost Value = { Pairs };
+
+    ghost view = { λ s. record { first = s.first; second = s.second; found = s.active.items ++ hits s.rest s.seq s.start s.stop } };
+
+    ghost invariant = { λ s. IsSweep (vec_len s.active) (vec_capacity s.active) s.active.items s.rest s.second s.first };
+}
+
+impl<'t, A: Allocator + Copy> PairSweep<'t, A> {
+    /// The sweep over two lists, before their first records. It takes all the memory that it will need.
+    ///
+    /// # Errors
+    ///
+    /// Memory was refused.
+    pub fn new(
+        alloc: A,
+        first: &TextRecords<'t>,
+        second: &TextRecords<'t>,
+    ) -> Result<Self, AllocError>
+        requires first { AreInOrder first.now }
+        requires second { AreInOrder second.now }
+        ensures first { IfOk result (λ s. s.first ≡ first.now) }
+        ensures second { IfOk result (λ s. s.second ≡ second.now) }
+    {
+        let active = Vec::with_capacity(alloc, second.len())?;
+        Ok(PairSweep {
+            first: first.again(),
+            second: second.again(),
+            rest: second.again(),
+            active,
+            seq: 0,
+            start: 0,
+            stop: 0,
+        })
+    }
+
+    /// A law for callers' proofs: the second list is in order. The call does nothing.
+    pub(crate) fn law_of_order(&self)
+        ensures { AreInOrder self.now.second }
+    {
+        // What is read has its invariant.
+        let _seq = self.seq;
+    }
+
+    /// The next record of the first list. `hits` then has its hits.
+    pub(crate) fn next(&mut self) -> Option<TextRecord<'t>>
+        ensures { Gives self.old result self.new }
+    {
+        let (row, _) = self.first.split_first()?;
+        self.first.drop_first();
+        row.law_of_place();
+        drop_passed(&mut self.active, &row);
+        take_begun(&mut self.active, &mut self.rest, &row);
+        self.seq = row.seq();
+        self.start = row.start();
+        self.stop = row.stop();
+        Some(row)
+    }
+
+    /// The hits of the record that was given last, in the order of the second list.
+    pub(crate) fn hits(&self) -> ActiveHits<'_, 't>
+        ensures { result ≡ self.now.found }
+    {
+        ActiveHits {
+            active: self.active.as_slice(),
+            rest: self.rest.again(),
+            seq: self.seq,
+            start: self.start,
+            stop: self.stop,
+        }
+    }
+}
+
+/// Drops what doesn't reach past the start of `row`.
+fn drop_passed<A: Allocator>(active: &mut Vec<TextRecord<'_>, A>, row: &TextRecord<'_>)
+    ensures kept { active.new.items ≡ filter (reaches row.now) active.old.items }
+    ensures len { vec_len active.new ≤ vec_len active.old }
+    ensures capacity { vec_capacity active.new ≡ vec_capacity active.old }
+{
+    active.retain(|other| reaches(row, other));
+}
+
+/// Adds those of the second list that have the first position of `row`, and leaves those that start past it.
+fn take_begun<'t, A: Allocator>(
+    active: &mut Vec<TextRecord<'t>, A>,
+    rest: &mut TextRecords<'t>,
+    row: &TextRecord<'_>,
+)
+    requires room { vec_len active.old + length rest.old ≤ vec_capacity active.old }
+    requires ordered { AreInOrder rest.old }
+    requires active { All (Covers row.now) active.old.items }
+    ensures room { vec_len active.new + length rest.new ≤ vec_capacity active.new }
+    ensures ordered { AreInOrder rest.new }
+    ensures active { All (Covers row.now) active.new.items }
+    ensures alike { HitAlike row.now (active.new.items ++ rest.new) (active.old.items ++ rest.old) }
+{
+    while let Some((next, _)) = rest.split_first() {
+        if is_past(row, &next) {
+            break;
+        }
+        rest.drop_first();
+        if reaches(row, &next) {
+            // There is room for it: `new` took as much as the second list is long.
+            let _ = active.push(next);
+        }
+    }
+}

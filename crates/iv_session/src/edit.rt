@@ -1,0 +1,148 @@
+//! Edits of the two tracks of a session.
+ghost use Rattle.std.specs.Prelude.{◌≡◌, ◌≢◌, ◌≤◌, Err, IfOk, IfErr, OnOk, OnErr};
+ghost use Rattle.iv_text.specs.Fields.{fields_left};
+ghost use Rattle.iv_text.specs.Read.{Fits, read_columns};
+ghost use Rattle.iv_session.specs.TrackEdits.{EditFits, FitsIn, IsEdited, RefusesIn, both, edit_said, read_two, width_of};
+
+use crate::fault::RequestFault;
+use crate::fields::split_columns;
+use iv_text::{Genome, RecordFault, RecordRef, read_record};
+use iv_track::EditFault;
+use iv_workspace::{Accepted, Session};
+use std::alloc::Allocator;
+
+/// Which of the two tracks an edit is for: the session's own, or the second file.
+#[derive(Clone, Copy, Debug, PartialEq, Eq)]
+pub(crate) enum Target {
+    First,
+    Second,
+}
+
+impl Target {
+    /// How many columns the records of the track have, 3 to 6; or the fault that there is no second file.
+    pub(crate) fn width<A: Allocator + Copy>(self, session: &Session<A>) -> Result<u8, RequestFault>
+        ensures value { result ≡ width_of session.now self }
+        ensures known { IfOk result (λ width. (3 ≤ width) × (width ≤ 6)) }
+    {
+        match self {
+            Target::First => Ok(session.track().width()),
+            Target::Second => match session.second_width() {
+                Some(width) => Ok(width),
+                None => Err(RequestFault::NoSecond),
+            },
+        }
+    }
+}
+
+/// What an edit does, whatever its records are.
+#[derive(Clone, Copy, Debug, PartialEq, Eq)]
+pub(crate) enum EditKind {
+    Add,
+    Remove,
+    Replace,
+}
+
+/// An edit of a track.
+#[derive(Drop)]
+pub(crate) enum Edit<'a> {
+    /// To add a record.
+    Add(RecordRef<'a>),
+    /// To take a copy of a record out.
+    Remove(RecordRef<'a>),
+    /// To take a copy of the first record out, and to add the second.
+    Replace(RecordRef<'a>, RecordRef<'a>),
+}
+
+impl<'a> Edit<'a> {
+    /// The edit that the columns after a command say, on a track of this width, or their first fault.
+    pub(crate) fn read<A: Allocator + Copy>(
+        genome: &Genome<A>,
+        width: u8,
+        kind: EditKind,
+        fields: Option<&'a [u8]>,
+    ) -> Result<Edit<'a>, RecordFault>
+        requires { (3 ≤ width) × (width ≤ 6) }
+        ensures value { result ≡ edit_said genome.now width kind (fields_left 9 fields.entry) }
+        ensures fits { IfOk result (EditFits (Fits genome.now width)) }
+    {
+        match kind {
+            EditKind::Add => Ok(Edit::Add(one_row(genome, width, fields)?)),
+            EditKind::Remove => Ok(Edit::Remove(one_row(genome, width, fields)?)),
+            EditKind::Replace => {
+                let (old, new) = two_rows(genome, width, fields)?;
+                Ok(Edit::Replace(old, new))
+            }
+        }
+    }
+
+    /// Does the edit to a track of a session. A refusal changes nothing.
+    pub(crate) fn run<A: Allocator + Copy>(
+        &self,
+        session: &mut Session<A>,
+        target: Target,
+    ) -> Result<Accepted, EditFault>
+        requires { EditFits (FitsIn session.old target) self.now }
+        ensures ok { OnOk result (IsEdited target self.now session.old session.new) }
+        ensures why { IfErr result (RefusesIn target self.now session.old) }
+        ensures err { OnErr result (session.new ≡ session.old) }
+    {
+        match (target, self) {
+            (Target::First, Edit::Add(row)) => session.add(row),
+            (Target::First, Edit::Remove(row)) => session.remove(row),
+            (Target::First, Edit::Replace(old, new)) => session.replace(old, new),
+            (Target::Second, Edit::Add(row)) => session.add_second(row),
+            (Target::Second, Edit::Remove(row)) => session.remove_second(row),
+            (Target::Second, Edit::Replace(old, new)) => session.replace_second(old, new),
+        }
+    }
+}
+
+/// The record of the columns after a command, of this width, or its first fault.
+fn one_row<'a, A: Allocator + Copy>(
+    genome: &Genome<A>,
+    width: u8,
+    fields: Option<&'a [u8]>,
+) -> Result<RecordRef<'a>, RecordFault>
+    requires { (3 ≤ width) × (width ≤ 6) }
+    ensures value { result ≡ read_columns genome.now width (fields_left 9 fields.entry) }
+    ensures fits { IfOk result (Fits genome.now width) }
+{
+    read_record(genome, width, fields.unwrap_or(b""))
+}
+
+/// Both records of a line, or a fault: that the second has too few or too many columns is reported first, then a
+/// fault of the first record, then one of the second.
+fn both_rows<'a>(
+    first: Result<RecordRef<'a>, RecordFault>,
+    second: Result<RecordRef<'a>, RecordFault>,
+) -> Result<(RecordRef<'a>, RecordRef<'a>), RecordFault>
+    ensures columns { second.entry ≡ Err RecordFault.Columns → result ≡ Err RecordFault.Columns }
+    ensures others { second.entry ≢ Err RecordFault.Columns → result ≡ both first.entry second.entry }
+{
+    match (first, second) {
+        (_, Err(RecordFault::Columns)) => Err(RecordFault::Columns),
+        (Err(fault), _) => Err(fault),
+        (Ok(_), Err(fault)) => Err(fault),
+        (Ok(first), Ok(second)) => Ok((first, second)),
+    }
+}
+
+/// The two records of the columns after a command, of this width, or their first fault.
+fn two_rows<'a, A: Allocator + Copy>(
+    genome: &Genome<A>,
+    width: u8,
+    fields: Option<&'a [u8]>,
+) -> Result<(RecordRef<'a>, RecordRef<'a>), RecordFault>
+    requires { (3 ≤ width) × (width ≤ 6) }
+    ensures value { result ≡ read_two genome.now width (fields_left 9 fields.entry) }
+    ensures first { IfOk result (λ rows. Fits genome.now width rows.0) }
+    ensures second { IfOk result (λ rows. Fits genome.now width rows.1) }
+{
+    match split_columns(fields.unwrap_or(b""), width) {
+        Some((old, new)) => both_rows(
+            read_record(genome, width, old),
+            read_record(genome, width, new),
+        ),
+        None => Err(RecordFault::Columns),
+    }
+}

@@ -1,3 +1,0 @@
-pub mod NumberFoldLemmas
-mod JoinLemmas
-pub mod DifferentLemmas

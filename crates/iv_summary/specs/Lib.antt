@@ -1,4 +1,0 @@
-pub mod Summaries
-pub mod NumberFolds
-pub mod Columns
-pub mod Values

@@ -1,4 +1,0 @@
-pub mod ComingLemmas
-pub mod MergeTexts
-pub mod ComplementTexts
-pub mod ClusterTexts

@@ -1,3 +1,0 @@
-pub mod EdgeLemmas
-pub mod SplitLemmas
-pub mod OrderLemmas

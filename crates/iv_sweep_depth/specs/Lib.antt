@@ -1,2 +1,0 @@
-pub mod Edges
-pub mod Sweeps

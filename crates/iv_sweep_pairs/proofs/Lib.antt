@@ -1,6 +1,0 @@
-mod FrontLemmas
-mod CountLemmas
-mod Lying
-mod StepLemmas
-mod EmptyAlike
-mod CoverLemmas

@@ -1,7 +1,0 @@
-use Rattle.std.proofs.Common.{rules}
-use Rattle.std.proofs.lemmas.Fn.{filter_same}
-use Rattle.iv_sweep_pairs.specs.Sweeps.{reaches}
-use Rattle.iv_sweep_pairs.proofs.pair_sweep.drop_passed.Goals as goal
-
-pub returns-clause-kept : goal.returns-clause-kept
-returns-clause-kept g c = filter_same _ (λ b. reaches c.args.row.now b) _ (λ x b f' k. search rules) _ _ c.retain.ensures.filtered

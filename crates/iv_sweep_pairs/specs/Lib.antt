@@ -1,4 +1,0 @@
-pub mod Counts
-pub mod Pairs
-pub mod Sweeps
-pub mod CoverAlone

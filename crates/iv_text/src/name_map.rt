@@ -1,0 +1,149 @@
+//! Values under names, in order.
+ghost use Rattle.std.specs.Prelude.{◌≡◌, ◌<◌, ◌≤◌, ◌^◌, ◌++◌, ◌∷◌, [], None, Some, IfNone, IfSome, OnOk, OnErr, length, slice_get};
+ghost use Rattle.std.specs.Borrow.{sem};
+ghost use Rattle.std.specs.Map.{lookup, remove_entry, values_of};
+ghost use Rattle.std.specs.Option.{option_map};
+ghost use Rattle.std.specs.Str.{bytes_eq};
+ghost use Rattle.iv_text.specs.Named.{place_of, AreApart};
+ghost use Rattle.iv_text.specs.NameMap.{lends_value};
+
+use crate::after_text::AfterText;
+use indexmap::IndexMap;
+use std::alloc::{AllocError, Allocator, Global};
+use std::marker::Model;
+use std::ops::{Index, IndexMut};
+
+/// Values, each under a name, in the order in which they came.
+///
+/// No name is twice. Its model is the list of the names with their values.
+#[derive(Drop)]
+pub struct NameMap<V, A: Allocator = Global> {
+    named: IndexMap<Vec<u8, A>, V, AfterText, A>,
+}
+
+impl<V, A: Allocator> Model for NameMap<V, A> {
+    ghost use Rattle.std.specs.Prelude.{List, ℕ, map};
+
+    ghost Value = { List (List ℕ × V) };
+
+    ghost view = { λ m. map {B = List ℕ × V} (λ e. (e.0.items, e.1)) m.named.entries };
+}
+
+impl<V: Drop, A: Allocator + Copy> NameMap<V, A> {
+    /// No name yet; nothing grows. The names will be hashed by `hasher`.
+    pub fn new(alloc: A, hasher: AfterText) -> Self
+        ensures { result ≡ [] }
+    {
+        NameMap {
+            named: IndexMap::with_hasher(alloc, hasher),
+        }
+    }
+
+    /// Hashes the names anew. They stay as they are, also after a fault.
+    ///
+    /// # Errors
+    ///
+    /// Memory was refused.
+    pub fn rehash(&mut self, alloc: A, hasher: AfterText) -> Result<(), AllocError>
+        ensures ok { OnOk result (self.new ≡ self.old) }
+        ensures err { OnErr result (self.new ≡ self.old) }
+    {
+        let mut anew = IndexMap::with_capacity_and_hasher(alloc, self.named.len(), hasher)?;
+        anew.append(&mut self.named)?;
+        self.named = anew;
+        Ok(())
+    }
+
+    /// Puts a value under a new name, last.
+    ///
+    /// # Errors
+    ///
+    /// Memory was refused. Nothing changes.
+    pub fn push(&mut self, alloc: A, name: &[u8], value: V) -> Result<(), AllocError>
+        requires fresh { place_of self.old name.now ≡ None }
+        ensures ok { OnOk result (self.new ≡ self.old ++ (name.now, value) ∷ []) }
+        ensures err { OnErr result (self.new ≡ self.old) }
+    {
+        let mut key = Vec::new(alloc);
+        key.extend_from_slice(name)?;
+        self.named.insert(key, value)?;
+        Ok(())
+    }
+
+    /// Takes the value of a name out, if there is one. The others keep their order.
+    pub fn remove(&mut self, name: &[u8]) -> Option<V>
+        ensures value { result ≡ lookup (bytes_eq name.now) self.old }
+        ensures rest { self.new ≡ remove_entry (bytes_eq name.now) self.old }
+        ensures none { IfNone result (self.new ≡ self.old) }
+        ensures no_more { length self.new ≤ length self.old }
+    {
+        self.named.shift_remove(name)
+    }
+
+    /// The place of a name, byte for byte, from 0.
+    pub fn place(&self, name: &[u8]) -> Option<usize>
+        ensures value { result ≡ place_of self.now name.now }
+        ensures within { IfSome result (λ place. place < length self.now) }
+    {
+        self.named.get_index_of(name)
+    }
+
+    /// The place of a name, with the value under it.
+    pub fn find(&self, name: &[u8]) -> Option<(usize, &V)>
+        ensures place { option_map (λ p. p.0) result ≡ place_of self.now name.now }
+        ensures value { option_map (λ p. p.1.now) result ≡ lookup (bytes_eq name.now) self.now }
+        ensures at { IfSome result (λ p. slice_get (values_of self.now) p.0 ≡ Some p.1.now) }
+    {
+        match self.named.get_full(name) {
+            Some((place, _, value)) => Some((place, value)),
+            None => None,
+        }
+    }
+
+    /// The name at a place, with its value.
+    pub fn at(&self, place: usize) -> Option<(&[u8], &V)>
+        ensures value { option_map (λ p. (p.0.now, p.1.now)) result ≡ slice_get self.now place }
+        ensures small { IfSome result (λ _. place < 2 ^ 63) }
+    {
+        let (name, value) = self.named.as_slice().get_index(place)?;
+        Some((name.as_slice(), value))
+    }
+
+    /// How many names there are.
+    pub fn len(&self) -> usize
+        ensures value { result ≡ length self.now }
+        ensures small { result < 2 ^ 63 }
+    {
+        self.named.len()
+    }
+
+    /// A law for callers' proofs: no name is twice. The call does nothing.
+    pub fn law_of_names(&self)
+        ensures { AreApart self.now }
+    {
+        // The map's keys are known to be distinct once its length is asked for.
+        let _count = self.named.len();
+    }
+}
+
+impl<V, A: Allocator> Index<usize> for NameMap<V, A> {
+    type Output = V;
+
+    ghost can_index = { λ m place. place < length m };
+
+    ghost index_gives = { λ m place value. slice_get (values_of m) place ≡ Some value };
+
+    fn index(&self, place: usize) -> &V {
+        &self.named[place]
+    }
+}
+
+impl<V, A: Allocator> IndexMut<usize> for NameMap<V, A> {
+    fn index_mut(&mut self, place: usize) -> &mut V
+        requires { place < length self.old }
+        ensures* writes_back { sem 𝓛 (lends_value V.row A.row A.Allocator self.entry place result) }
+        ensures value { slice_get (values_of self.old) place ≡ Some result.now }
+    {
+        &mut self.named[place]
+    }
+}

@@ -1,0 +1,72 @@
+//! Corrected lengths.
+ghost use Rattle.std.specs.Prelude.{◌≡◌, ◌+◌, ◌≤◌, ◌<◌, None, Some, length, false, not, IfErr, OnOk, OnErr, Ok, Err};
+ghost use Rattle.iv_text.specs.Genome.{most_length};
+ghost use Rattle.iv_text.specs.Read.{read};
+ghost use Rattle.iv_workspace.specs.Resizes.{has_other_bases, has_record_past, resized};
+
+use super::Session;
+use crate::fault::ResizeFault;
+use crate::past_end::{second_reaches_past, track_reaches_past};
+use iv_track::Meter;
+use std::alloc::Allocator;
+
+impl<A: Allocator + Copy> Session<A> {
+    /// Corrects the length of the sequence of this name. No view is built anew or becomes stale: each prints by the new
+    /// length from then on. It takes no memory.
+    ///
+    /// A record that was read before may not fit any more; `fits` tells.
+    ///
+    /// # Errors
+    ///
+    /// `UnknownSeq`; then `Shorter`, where a record of the track or of the second file on the sequence has a stop above
+    /// the length; then `Fixed`, where the FASTA file has another number of bases of it. Nothing changes.
+    pub fn resize(&mut self, name: &[u8], length: u64) -> Result<(), ResizeFault>
+        requires { length ≤ most_length }
+        ensures ok { OnOk result (resized self.old name.now length ≡ Ok self.new) }
+        ensures why { IfErr result (λ fault. resized self.old name.now length ≡ Err fault) }
+        ensures err { OnErr result (self.new ≡ self.old) }
+    {
+        let Some(seq) = self.genome.rank(name) else {
+            return Err(ResizeFault::UnknownSeq);
+        };
+        if self.has_record_past(seq, length) {
+            return Err(ResizeFault::Shorter);
+        }
+        if self.has_other_bases(seq, length) {
+            return Err(ResizeFault::Fixed);
+        }
+        self.genome.set_length(seq, length);
+        Ok(())
+    }
+
+    /// Whether a record of the track or of the second file on the sequence of this rank has a stop above a length.
+    fn has_record_past(&self, seq: u32, length: u64) -> bool
+        ensures { result ≡ has_record_past self.now seq length }
+    {
+        let end = self.genome.length(seq).unwrap_or(0);
+        if length >= end {
+            return false;
+        }
+        let mut meter = Meter::new();
+        if track_reaches_past(&self.track, seq, length, &mut meter) {
+            return true;
+        }
+        match &self.second {
+            Some(second) => second_reaches_past(second, seq, length, end),
+            None => false,
+        }
+    }
+
+    /// Whether the FASTA file has the sequence of this rank, and another number of bases of it.
+    fn has_other_bases(&self, seq: u32, length: u64) -> bool
+        ensures { result ≡ has_other_bases self.now.bases seq length }
+    {
+        let Some(fasta) = &self.fasta else {
+            return false;
+        };
+        match fasta.length(seq) {
+            Some(count) => count != length,
+            None => false,
+        }
+    }
+}

@@ -1,0 +1,72 @@
+//! Prints of the open views.
+ghost use Rattle.std.specs.Prelude.{◌<◌, [], Some, All};
+ghost use Rattle.std.specs.Option.{option_copied, unwrap_or};
+ghost use Rattle.iv_bytes.specs.Sinks.{Puts};
+ghost use Rattle.iv_text.specs.Named.{names_of};
+ghost use Rattle.iv_text.specs.Read.{Fits};
+ghost use Rattle.iv_view.specs.Views.{second_rows, view_text};
+ghost use Rattle.iv_workspace.specs.ViewStates.{AreRight, IsKept, all_owned};
+ghost use Rattle.iv_workspace.specs.States.{IsServed};
+
+use super::Views;
+use iv_bytes::{Buffered, Sink, WriteFault};
+use iv_fasta::Fasta;
+use iv_pair::Second;
+use iv_text::Genome;
+use iv_track::{Meter, Track};
+use iv_view::View;
+use std::alloc::Allocator;
+
+impl<A: Allocator + Copy> Views<A> {
+    /// Prints a view whose state is kept, through one buffer. On a fault the sink has taken a prefix of the text.
+    pub(crate) fn print<S: Sink>(
+        &self,
+        view: View,
+        track: &Track<A>,
+        second: Option<&Second<A>>,
+        fasta: Option<&Fasta<A>>,
+        genome: &Genome<A>,
+        meter: &mut Meter,
+        sink: &mut S,
+    ) -> Result<(), WriteFault>
+        requires kept { IsKept (all_owned self.now) view }
+        requires served { IsServed (option_copied second) view }
+        requires right { AreRight self.now (names_of genome.now) track.now.rows }
+        requires fit { All (Fits genome.now track.now.width) track.now.rows }
+        ensures { Puts (S.state sink.old) (S.state sink.new) result
+            (view_text view genome.now track.now.rows (second_rows (option_copied second.entry)) (unwrap_or (option_copied fasta.entry) [])) }
+    {
+        let mut buffer = Buffered::new(sink);
+        self.put(view, track, second, fasta, genome, meter, &mut buffer)?;
+        buffer.finish()
+    }
+
+    /// Puts the text of a view whose state is kept straight into the sink.
+    pub(crate) fn put<S: Sink>(
+        &self,
+        view: View,
+        track: &Track<A>,
+        second: Option<&Second<A>>,
+        fasta: Option<&Fasta<A>>,
+        genome: &Genome<A>,
+        meter: &mut Meter,
+        sink: &mut S,
+    ) -> Result<(), WriteFault>
+        requires kept { IsKept (all_owned self.now) view }
+        requires served { IsServed (option_copied second) view }
+        requires right { AreRight self.now (names_of genome.now) track.now.rows }
+        requires fit { All (Fits genome.now track.now.width) track.now.rows }
+        ensures { Puts (S.state sink.old) (S.state sink.new) result
+            (view_text view genome.now track.now.rows (second_rows (option_copied second.entry)) (unwrap_or (option_copied fasta.entry) [])) }
+    {
+        match view {
+            View::Kept(kept) => {
+                let Some(state) = self.state_for(kept.state_key()) else {
+                    unreachable!()
+                };
+                kept.print(state, track, genome, meter, sink)
+            }
+            View::Written(view) => view.print(track, second, fasta, genome, meter, sink),
+        }
+    }
+}

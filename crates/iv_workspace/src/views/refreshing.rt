@@ -1,0 +1,97 @@
+//! Stale views are built anew.
+ghost use Rattle.std.specs.Prelude.{◌≡◌, ◌<◌, Some, IfSome, OnOk, OnErr, All, length, true};
+ghost use Rattle.std.specs.List.{slice_get};
+ghost use Rattle.iv_text.specs.Named.{names_of};
+ghost use Rattle.iv_text.specs.Read.{Fits};
+ghost use Rattle.iv_workspace.specs.ViewStates.{AreRight, all_seen, current_at};
+ghost use Rattle.iv_workspace.specs.OpenViews.{Freshens, all_current, stale_count, with_current};
+ghost use Rattle.iv_workspace.specs.Views.{view_named};
+
+use super::Views;
+use iv_text::Genome;
+use iv_track::{Meter, Track};
+use std::alloc::{AllocError, Allocator};
+
+impl<A: Allocator + Copy> Views<A> {
+    /// Builds the view of a name anew, if there is one that is stale.
+    ///
+    /// # Errors
+    ///
+    /// It is stale, and memory was refused. Nothing changes.
+    pub(crate) fn refresh(
+        &mut self,
+        name: &[u8],
+        alloc: A,
+        track: &Track<A>,
+        genome: &Genome<A>,
+        meter: &mut Meter,
+    ) -> Result<(), AllocError>
+        requires right { AreRight self.old (names_of genome.now) track.now.rows }
+        requires fit { All (Fits genome.now track.now.width) track.now.rows }
+        ensures right { AreRight self.new (names_of genome.now) track.now.rows }
+        ensures ok { OnOk result (all_seen self.new ≡ with_current (all_seen self.old) name.now) }
+        ensures err { OnErr result (self.new ≡ self.old) }
+        ensures stale { OnErr result (IfSome (view_named (all_seen self.old) name.now) (λ v. v.stale ≡ true)) }
+    {
+        let Some(place) = self.views.place(name) else {
+            return Ok(());
+        };
+        self.refresh_at(place, alloc, track, genome, meter)
+    }
+
+    /// Builds all stale views anew.
+    ///
+    /// # Errors
+    ///
+    /// A view is stale, and memory was refused. Those before it were built.
+    pub(crate) fn refresh_all(
+        &mut self,
+        alloc: A,
+        track: &Track<A>,
+        genome: &Genome<A>,
+        meter: &mut Meter,
+    ) -> Result<(), AllocError>
+        requires right { AreRight self.old (names_of genome.now) track.now.rows }
+        requires fit { All (Fits genome.now track.now.width) track.now.rows }
+        ensures right { AreRight self.new (names_of genome.now) track.now.rows }
+        ensures ok { OnOk result (all_seen self.new ≡ all_current (all_seen self.old)) }
+        ensures err { OnErr result (Freshens (all_seen self.old) (all_seen self.new)) }
+        ensures stale { OnErr result (0 < stale_count (all_seen self.old)) }
+    {
+        for place in 0..self.views.len() {
+            self.refresh_at(place, alloc, track, genome, meter)?;
+        }
+        Ok(())
+    }
+
+    /// Builds the view at a place anew, if it is stale. Where another view has its state, nothing is built.
+    ///
+    /// # Errors
+    ///
+    /// It is stale, and memory was refused. Nothing changes.
+    fn refresh_at(
+        &mut self,
+        place: usize,
+        alloc: A,
+        track: &Track<A>,
+        genome: &Genome<A>,
+        meter: &mut Meter,
+    ) -> Result<(), AllocError>
+        requires within { place < length self.old }
+        requires right { AreRight self.old (names_of genome.now) track.now.rows }
+        requires fit { All (Fits genome.now track.now.width) track.now.rows }
+        ensures right { AreRight self.new (names_of genome.now) track.now.rows }
+        ensures ok { OnOk result (all_seen self.new ≡ current_at place (all_seen self.old)) }
+        ensures err { OnErr result (self.new ≡ self.old) }
+        ensures stale { OnErr result (IfSome (slice_get (all_seen self.old) place) (λ v. v.1.stale ≡ true)) }
+    {
+        let opened = &self.views[place];
+        if !opened.stale {
+            return Ok(());
+        }
+        let state = self.missing_state(alloc, opened.view, track, genome, meter)?;
+        let opened = &mut self.views[place];
+        opened.renew(state);
+        Ok(())
+    }
+}
