@@ -57,7 +57,7 @@ session -g sizes -i records.bed < refused
 ends 'a refused line' 1 "line 2: end past the sequence's end\n"
 prints 'a refused line' 'chr1\t10\t20\n'
 
-for words in '' 'merge' 'merge -i records.bed' 'merge -g sizes -a records.bed' 'merge -g -i records.bed' 'merge -g sizes -i records.bed -L' 'cluster -g sizes -i records.bed -s' 'complement -g sizes -i records.bed -d 1' 'genomecov -g sizes -i records.bed' 'intersect -g sizes -i records.bed -b records.bed' 'intersect -g sizes -a records.bed' 'subtract -g sizes -b records.bed' 'getfasta -g sizes -bed records.bed' 'getfasta -g sizes -i records.bed -fi bases.fa' 'sort -g sizes -i records.bed' '--help sort' '--help merge cluster' 'session' 'session -g sizes' 'session -g sizes -i records.bed -width 7' 'session -g sizes -i records.bed -b' 'session -b b -g sizes -i records.bed -b b' 'session -g sizes -b records.bed' 'session -g sizes -i records.bed -fi' 'session -fi f -g sizes -i records.bed -fi f' '--help me' '--help --version' '-help'; do
+for words in '' 'merge' 'merge -i records.bed' 'merge -g sizes -a records.bed' 'merge -g -i records.bed' 'merge -g sizes -i records.bed -L' 'cluster -g sizes -i records.bed -s' 'complement -g sizes -i records.bed -d 1' 'genomecov -g sizes -i records.bed' 'intersect -g sizes -i records.bed -b records.bed' 'intersect -g sizes -a records.bed' 'subtract -g sizes -b records.bed' 'getfasta -g sizes -bed records.bed' 'getfasta -g sizes -i records.bed -fi bases.fa' 'sort -g sizes -i records.bed' '--help sort' '--help merge cluster' 'merge --help extra' 'sort --help' 'merge help' '-h merge' 'help help' 'version' 'session' 'session -g sizes' 'session -g sizes -i records.bed -width 7' 'session -g sizes -i records.bed -b' 'session -b b -g sizes -i records.bed -b b' 'session -g sizes -b records.bed' 'session -g sizes -i records.bed -fi' 'session -fi f -g sizes -i records.bed -fi f' '--help me' '--help --version' '-help'; do
     # shellcheck disable=SC2086 # the words are to be separated
     "$program" $words > out 2> err < prints
     ends "words: $words" 2 'bedkeep: bad options\n'
@@ -167,11 +167,14 @@ fi
 ends 'a closed pipe' 4 'bedkeep: output cannot be written\n'
 
 (ulimit -v 40000 && head -c 200000000 /dev/zero | "$program" session -g sizes -i /dev/stdin > out 2> err)
-ends 'want of memory' 5 'bedkeep: no memory\n'
+ends 'out of memory' 5 'bedkeep: no memory\n'
 
 "$program" --version > out 2> err
 ends 'the version' 0 ''
-prints 'the version' 'bedkeep 0.1.0\n'
+if ! grep -qxE 'bedkeep [0-9]+\.[0-9]+\.[0-9]+' out || ! grep -qxE 'proved with rattle-kit-[^ ]+ logic [0-9a-f]+' out; then
+    echo "the version: standard output: $(cat out)" >&2
+    failed=1
+fi
 "$program" --help > out 2> err
 ends 'the help' 0 ''
 for word in 'usage: bedkeep session -g GENOME -i BED' --help --version '-b BED' '-fi FASTA' -width open add remove replace addb removeb replaceb resize close print printall merge intersect subtract getfasta; do
@@ -180,11 +183,41 @@ for word in 'usage: bedkeep session -g GENOME -i BED' --help --version '-b BED' 
         failed=1
     fi
 done
+
+# same HELP WORD..: these words print the help in the file HELP
+same() {
+    local help=$1
+    shift
+    "$program" "$@" > out 2> err
+    ends "words: $*" 0 ''
+    if ! cmp -s "$help" out; then
+        echo "words: $*: the help is not that of --help" >&2
+        failed=1
+    fi
+}
+"$program" --help > help
+same help -h
+same help help
+
+# The example of each help is run as it is, in a shell that has the program as bedkeep.
+mkdir path && ln -s "$program" path/bedkeep
 for subject in session merge cluster complement genomecov intersect subtract getfasta; do
-    "$program" --help "$subject" > out 2> err
-    ends "the help of $subject" 0 ''
-    if ! grep -q -e "^usage: bedkeep $subject -g GENOME" out; then
-        echo "the help of $subject does not tell how it is used" >&2
+    "$program" --help "$subject" > help
+    for words in "--help $subject" "help $subject" "$subject --help" "$subject -h"; do
+        # shellcheck disable=SC2086 # the words are to be separated
+        same help $words
+    done
+    if ! grep -q -e "^usage: bedkeep $subject -g GENOME" help; then
+        echo "the help of $subject does not say how it is used" >&2
+        failed=1
+    fi
+    sed -n '/^example:$/,/^prints:$/s/^  //p' help > example
+    sed '1,/^prints:$/d' help | sed 's/^  //' > wanted
+    mkdir "$subject"
+    (cd "$subject" && PATH=../path:$PATH bash -e ../example > ../out 2> ../err)
+    ends "the example in the help of $subject" 0 ''
+    if [ ! -s out ] || ! cmp -s wanted out; then
+        echo "the example in the help of $subject: standard output: $(cat out)" >&2
         failed=1
     fi
 done

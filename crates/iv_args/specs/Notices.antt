@@ -1,16 +1,27 @@
 -- The words that ask for a notice.
-use Rattle.std.specs.Prelude.{ℕ, if◌then◌else◌, List, [], ◌∷◌, Option, None, Some, codes}
+use Rattle.std.specs.Prelude.{ℕ, ◌||◌, Bool, if◌then◌else◌, List, [], ◌∷◌, Option, None, Some, codes}
 use Rattle.std.specs.Option.{option_map}
 use Rattle.std.specs.Str.{bytes_eq}
 use Rattle.iv_args.specs.Words.{run_of}
 use Rattle.iv_args.specs.declared.notice.Notice.{Notice}
 use Rattle.iv_args.specs.declared.notice.Notice.TheVariants.{Help, HelpOf, Version}
 
--- the notice that words ask for: the one word `--help` or the one word `--version`, or `--help` and the word of a kind of run
+-- the first words that ask for help
+abbrev pub is_help_command : List ℕ → Bool
+is_help_command word = bytes_eq word (codes "--help") || bytes_eq word (codes "help")
+
+-- the options that ask for help
+abbrev pub is_help_option : List ℕ → Bool
+is_help_option word = bytes_eq word (codes "--help") || bytes_eq word (codes "-h")
+
+-- the notice that words ask for: help where one of these words is alone; help on one kind of run where its word comes after the
+-- first word that asks for help, or before the option; and the version where `--version` is alone
 abbrev pub notice_of : List (List ℕ) → Option Notice
 notice_of [] = None
 notice_of (word ∷ []) =
-    if bytes_eq word (codes "--help") then Some Help
+    if is_help_command word || is_help_option word then Some Help
     else (if bytes_eq word (codes "--version") then Some Version else None)
-notice_of (word ∷ next ∷ []) = if bytes_eq word (codes "--help") then option_map HelpOf (run_of next) else None
+notice_of (word ∷ next ∷ []) =
+    if is_help_command word then option_map HelpOf (run_of next)
+    else (if is_help_option next then option_map HelpOf (run_of word) else None)
 notice_of (word ∷ next ∷ third ∷ words) = None

@@ -14,11 +14,12 @@ usage: bedkeep session -g GENOME -i BED [-b BED] [-fi FASTA] [-width N]
        bedkeep intersect -g GENOME -a BED -b BED [-wa] [-wb] [-u|-v|-c] [-width N]
        bedkeep subtract -g GENOME -a BED -b BED [-A] [-width N]
        bedkeep getfasta -g GENOME -bed BED -fi FASTA [-s] [-tab] [-width N]
-       bedkeep --help [SUBCOMMAND]
+       bedkeep --help [SUBCOMMAND]      (or: bedkeep SUBCOMMAND --help)
        bedkeep --version
 
 session reads a script on standard input; the others print one view of their
-files and end. Options stand in any order. Records needn't be sorted.
+files and end. Options come in any order, and other options of bedtools are
+refused. Records needn't be sorted.
   -g GENOME   names and lengths of the sequences, two columns
   -i BED      the records, three to six columns, in any order; of intersect and
               subtract it is -a, of getfasta -bed
@@ -105,56 +106,120 @@ Lines of a script, their fields separated by one TAB:
   printall                            print all views, each under #NAME
   close     NAME                      close a view
 Empty lines and lines that begin with # are skipped. A VIEW is a subcommand with
-its options, separated by spaces: merge, cluster, complement, genomecov, intersect,
-subtract, getfasta.
+its options, separated by spaces: merge, cluster, complement, genomecov,
+intersect, subtract, getfasta. A refused line changes nothing; standard error
+names it with the reason, and the exit status is 1.
+
+Different from bedtools: bedtools has no sessions. The help of each subcommand
+says what else differs.
+
+example:
+  printf 'chr1\\t100\\n' > example.sizes
+  printf 'chr1\\t10\\t20\\n' > example.bed
+  printf 'open\\tm\\tmerge\\nadd\\tchr1\\t15\\t30\\nprint\\tm\\n' > example.script
+  bedkeep session -g example.sizes -i example.bed < example.script
+prints:
+  chr1\t10\t30
 ";
 
 const MERGE: &[u8] =
     b"usage: bedkeep merge -g GENOME -i BED [-d N] [-s] [-c LIST [-o LIST]] [-width N]
 
-A row for each block: records that overlap or are book-ended are one block.
+Prints a row for each block: its sequence, start and stop, and its summaries.
+Records that overlap or are book-ended are one block.
   -g GENOME   names and lengths of the sequences, two columns
   -i BED      the records, three to six columns, in any order
   -d N        records at most N bases apart are one block too
-  -s          blocks of each strand by itself, those of + first
+  -s          blocks of each strand by itself, without records of strand .;
+              needs six columns
   -c LIST     columns by number, separated by commas: a summary of each
   -o LIST     operations: count, sum, min, max, collapse, distinct (default sum)
   -width N    columns of a BED without a record, 3 to 6 (default 3)
+
+Different from bedtools: the genome file is needed, and rows come in its order;
+records needn't be sorted. With -s the blocks of + come before those of -, and
+not by start. -c without -o sums. For sum, min and max a number is an optional -
+and up to 15 digits, and all digits are printed; a value . is skipped, and any
+other value makes the result . for its block.
+
+example:
+  printf 'chr1\\t100\\n' > example.sizes
+  printf 'chr1\\t15\\t30\\tb\\nchr1\\t10\\t20\\ta\\n' > example.bed
+  bedkeep merge -g example.sizes -i example.bed -c 4 -o collapse
+prints:
+  chr1\t10\t30\ta,b
 ";
 
 const CLUSTER: &[u8] = b"usage: bedkeep cluster -g GENOME -i BED [-d N] [-width N]
 
-Every record with the number of its block.
+Prints every record with the number of its block, counted from 1. Records that
+overlap or are book-ended are in one block.
   -g GENOME   names and lengths of the sequences, two columns
   -i BED      the records, three to six columns, in any order
   -d N        records at most N bases apart are in one block
   -width N    columns of a BED without a record, 3 to 6 (default 3)
+
+Different from bedtools: the genome file is needed, and rows come in its order;
+records needn't be sorted. There is no -s.
+
+example:
+  printf 'chr1\\t100\\n' > example.sizes
+  printf 'chr1\\t50\\t60\\nchr1\\t15\\t30\\nchr1\\t10\\t20\\n' > example.bed
+  bedkeep cluster -g example.sizes -i example.bed
+prints:
+  chr1\t10\t20\t1
+  chr1\t15\t30\t1
+  chr1\t50\t60\t2
 ";
 
 const COMPLEMENT: &[u8] = b"usage: bedkeep complement -g GENOME -i BED [-L] [-width N]
 
-The intervals that no record covers.
+Prints the intervals that no record covers.
   -g GENOME   names and lengths of the sequences, two columns
   -i BED      the records, three to six columns, in any order
   -L          only on sequences that have a record
   -width N    columns of a BED without a record, 3 to 6 (default 3)
+
+Different from bedtools: records needn't be sorted. A sequence of length 0 is
+allowed and has no row.
+
+example:
+  printf 'chr1\\t100\\n' > example.sizes
+  printf 'chr1\\t15\\t30\\nchr1\\t10\\t20\\n' > example.bed
+  bedkeep complement -g example.sizes -i example.bed
+prints:
+  chr1\t0\t10
+  chr1\t30\t100
 ";
 
 const GENOMECOV: &[u8] = b"usage: bedkeep genomecov -g GENOME -i BED -bg|-bga|-d [-width N]
 
-Depth: how many records cover a position.
+Prints depth: how many records cover a position. Give one of -bg, -bga and -d.
   -g GENOME   names and lengths of the sequences, two columns
   -i BED      the records, three to six columns, in any order
   -bg         a row for each interval of one depth above 0
   -bga        the same, also where the depth is 0
   -d          a row for each position, counted from 1
   -width N    columns of a BED without a record, 3 to 6 (default 3)
+
+Different from bedtools: one of -bg, -bga and -d is needed, since there is no
+histogram. Records needn't be sorted. Sequences without a record come in their
+places in the genome file, and not last.
+
+example:
+  printf 'chr1\\t100\\n' > example.sizes
+  printf 'chr1\\t15\\t30\\nchr1\\t10\\t20\\n' > example.bed
+  bedkeep genomecov -g example.sizes -i example.bed -bg
+prints:
+  chr1\t10\t15\t1
+  chr1\t15\t20\t2
+  chr1\t20\t30\t1
 ";
 
 const INTERSECT: &[u8] = b"usage: bedkeep intersect -g GENOME -a BED -b BED [-wa] [-wb] [-width N]
        bedkeep intersect -g GENOME -a BED -b BED -u|-v|-c [-width N]
 
-For each record of the first file each overlap with a record of the second: the
+Prints each overlap of a record of the first file with one of the second: the
 part that both share.
   -g GENOME   names and lengths of the sequences, two columns
   -a BED      the records, three to six columns, in any order
@@ -162,29 +227,68 @@ part that both share.
   -wa         the record whole
   -wb         also the other record whole
   -u          the record once if it has an overlap
-  -v          the record if it has none
+  -v          the record once if it has none
   -c          each record with the number of its overlaps
   -width N    columns of a BED without a record, 3 to 6 (default 3)
+
+Different from bedtools: the genome file is needed, and rows come in its order.
+The overlaps of one record come by start and stop of the second file's records.
+At most one of -u, -v and -c can be given, and none of them beside -wb.
+
+example:
+  printf 'chr1\\t100\\n' > example.sizes
+  printf 'chr1\\t10\\t20\\ta\\nchr1\\t50\\t60\\tb\\n' > example.bed
+  printf 'chr1\\t15\\t55\\n' > example_b.bed
+  bedkeep intersect -g example.sizes -a example.bed -b example_b.bed
+prints:
+  chr1\t15\t20\ta
+  chr1\t50\t55\tb
 ";
 
 const SUBTRACT: &[u8] = b"usage: bedkeep subtract -g GENOME -a BED -b BED [-A] [-width N]
 
-The parts of each record of the first file that the second doesn't cover.
+Prints the parts of each record of the first file that the second doesn't cover.
   -g GENOME   names and lengths of the sequences, two columns
   -a BED      the records, three to six columns, in any order
   -b BED      the records of the second file
   -A          only whole records that have no overlap
   -width N    columns of a BED without a record, 3 to 6 (default 3)
+
+Different from bedtools: the genome file is needed, and rows come in its order.
+
+example:
+  printf 'chr1\\t100\\n' > example.sizes
+  printf 'chr1\\t10\\t20\\ta\\nchr1\\t50\\t60\\tb\\n' > example.bed
+  printf 'chr1\\t15\\t55\\n' > example_b.bed
+  bedkeep subtract -g example.sizes -a example.bed -b example_b.bed
+prints:
+  chr1\t10\t15\ta
+  chr1\t55\t60\tb
 ";
 
 const GETFASTA: &[u8] =
     b"usage: bedkeep getfasta -g GENOME -bed BED -fi FASTA [-s] [-tab] [-width N]
 
-The bases of each record whose sequence the FASTA file has.
+Prints the bases of each record whose sequence the FASTA file has.
   -g GENOME   names and lengths of the sequences, two columns
   -bed BED    the records, three to six columns, in any order
   -fi FASTA   the bases of the sequences
-  -s          with the strand; those on - reversed and complemented
-  -tab        on one line
+  -s          with the strand, and the bases of records on - reversed and
+              complemented; needs six columns
+  -tab        head and bases on one line, separated by a TAB
   -width N    columns of a BED without a record, 3 to 6 (default 3)
+
+Different from bedtools: the genome file is needed, and rows come in its order.
+No index file is read or made, and lines of the FASTA file may have any lengths.
+A record past the end of its sequence is an error. One whose sequence the FASTA
+file lacks has no row, without a warning.
+
+example:
+  printf 'chr1\\t12\\n' > example.sizes
+  printf 'chr1\\t6\\t10\\ta\\t0\\t-\\n' > example.bed
+  printf '>chr1\\nAACCGGTTACGT\\n' > example.fa
+  bedkeep getfasta -g example.sizes -bed example.bed -fi example.fa -s
+prints:
+  >chr1:6-10(-)
+  GTAA
 ";

@@ -1,6 +1,6 @@
 //! What the program says of itself.
 ghost use Rattle.std.specs.Prelude.{◌≡◌, map};
-ghost use Rattle.iv_args.specs.Notices.{notice_of};
+ghost use Rattle.iv_args.specs.Notices.{notice_of, is_help_command as help_command, is_help_option as help_option};
 
 use crate::help::{HELP, help_of};
 use crate::run::Run;
@@ -12,22 +12,37 @@ pub enum Notice {
     Help,
     /// How one kind of run is used.
     HelpOf(Run),
-    /// Its name and version.
+    /// Its name and version, and what proved it.
     Version,
 }
 
+/// Whether a first word asks for help.
+fn is_help_command(word: &[u8]) -> bool
+    ensures { result ≡ help_command word.now }
+{
+    word == b"--help".as_slice() || word == b"help".as_slice()
+}
+
+/// Whether an option asks for help.
+fn is_help_option(word: &[u8]) -> bool
+    ensures { result ≡ help_option word.now }
+{
+    word == b"--help".as_slice() || word == b"-h".as_slice()
+}
+
 impl Notice {
-    /// The notice that the words after the program's name ask for: the one word `--help` or the one word
-    /// `--version`, or `--help` and a subcommand or `session`.
+    /// The notice that the words after the program's name ask for.
+    ///
+    /// Help: `--help`, `-h` or `help` alone. Help on a subcommand or on `session`: its word after `--help` or `help`, or
+    /// before `--help` or `-h`. The version: `--version` alone.
     pub fn of(words: &[&[u8]]) -> Option<Notice>
         ensures { result ≡ notice_of (map (λ word. word.now) words.now) }
     {
         match words {
-            [word] if *word == b"--help".as_slice() => Some(Notice::Help),
+            [word] if is_help_command(word) || is_help_option(word) => Some(Notice::Help),
             [word] if *word == b"--version".as_slice() => Some(Notice::Version),
-            [word, subject] if *word == b"--help".as_slice() => {
-                Run::of(subject).map(Notice::HelpOf)
-            }
+            [word, subject] if is_help_command(word) => Run::of(subject).map(Notice::HelpOf),
+            [subject, word] if is_help_option(word) => Run::of(subject).map(Notice::HelpOf),
             _ => None,
         }
     }
@@ -37,7 +52,9 @@ impl Notice {
         match self {
             Notice::Help => HELP,
             Notice::HelpOf(run) => help_of(run),
-            Notice::Version => b"bedkeep 0.1.0\n",
+            Notice::Version => {
+                b"bedkeep 0.1.0\nproved with rattle-kit-13f logic dac8208d650f15bf\n"
+            }
         }
     }
 }

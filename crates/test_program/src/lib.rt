@@ -26,6 +26,8 @@ mod shot_refusals;
 #[cfg(test)]
 mod shots;
 #[cfg(test)]
+mod words_notices;
+#[cfg(test)]
 mod words_sessions;
 #[cfg(test)]
 mod words_subcommands;

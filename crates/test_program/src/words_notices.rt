@@ -1,0 +1,63 @@
+//! Words that ask for help or for the version.
+use iv_args::{Notice, Plan, PlanFault, Run};
+use std::test::Fail;
+use test_faults::words_of;
+
+/// Whether the words, separated by spaces, ask for this notice, and are no plan.
+fn asks(rt: &HostRuntime, text: &[u8], notice: Option<Notice>) -> Result<bool, Fail> {
+    let words = words_of(rt.alloc(), text)?;
+    let read = Plan::read(rt.alloc(), words.as_slice());
+    Ok(Notice::of(words.as_slice()) == notice && read.err() == Some(PlanFault::Words))
+}
+
+#[test]
+fn words_of_notices(rt: HostRuntime) -> Result<(), Fail> {
+    for (words, notice) in [
+        (b"--help".as_slice(), Notice::Help),
+        (b"-h", Notice::Help),
+        (b"help", Notice::Help),
+        (b"--version", Notice::Version),
+        (b"--help session", Notice::HelpOf(Run::Session)),
+        (b"help session", Notice::HelpOf(Run::Session)),
+        (b"session --help", Notice::HelpOf(Run::Session)),
+        (b"session -h", Notice::HelpOf(Run::Session)),
+        (b"--help merge", Notice::HelpOf(Run::Merge)),
+        (b"merge --help", Notice::HelpOf(Run::Merge)),
+        (b"cluster -h", Notice::HelpOf(Run::Cluster)),
+        (b"help complement", Notice::HelpOf(Run::Complement)),
+        (b"genomecov --help", Notice::HelpOf(Run::Genomecov)),
+        (b"intersect -h", Notice::HelpOf(Run::Intersect)),
+        (b"help subtract", Notice::HelpOf(Run::Subtract)),
+        (b"getfasta --help", Notice::HelpOf(Run::Getfasta)),
+    ] {
+        assert!(rt; asks(&rt, words, Some(notice))?);
+    }
+    Ok(())
+}
+
+#[test]
+fn words_that_are_no_notice(rt: HostRuntime) -> Result<(), Fail> {
+    for words in [
+        b"".as_slice(),
+        b"-help",
+        b"--Help",
+        b"version",
+        b"-h merge",
+        b"help help",
+        b"--help --help",
+        b"help --help",
+        b"-h -h",
+        b"--version --help",
+        b"--help --version",
+        b"help sort",
+        b"sort --help",
+        b"merge help",
+        b"merge --version",
+        b"merge --help extra",
+        b"help merge cluster",
+        b"merge cluster --help",
+    ] {
+        assert!(rt; asks(&rt, words, None)?);
+    }
+    Ok(())
+}
