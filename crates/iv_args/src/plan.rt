@@ -1,12 +1,14 @@
 //! The words of a run.
 ghost use Rattle.std.specs.Prelude.{◌≡◌, ◌≤◌, ◌⊎◌, map, IfOk, IfErr, List, ℕ};
 ghost use Rattle.std.specs.Option.{option_copied};
+ghost use Rattle.iv_view.specs.Views.{read_words};
 ghost use Rattle.iv_args.specs.Words.{RunPlan, IsPlan, file_of, is_session};
 ghost use Rattle.iv_args.specs.Drafts.{Makes};
 
 use crate::fault::PlanFault;
-use crate::plan_draft::{PlanDraft, are_view_words};
+use crate::plan_draft::PlanDraft;
 use crate::run::Run;
+use iv_view::{View, ViewFault};
 use std::alloc::{Allocator, Global};
 use std::marker::Model;
 
@@ -32,31 +34,34 @@ pub struct Plan<'a, A: Allocator + Copy = Global> {
     other: Option<&'a [u8]>,
     bases: Option<&'a [u8]>,
     width: u8,
-    view: Vec<&'a [u8], A>,
+    words: Vec<&'a [u8], A>,
+    // What the words of the view say for records of six columns beside both files.
+    view: Result<View, ViewFault>,
 }
 
 impl<'a, A: Allocator + Copy> Model for Plan<'a, A> {
-    ghost use Rattle.std.specs.Prelude.{◌≤◌, map};
+    ghost use Rattle.std.specs.Prelude.{◌≡◌, ◌≤◌, true, map};
     ghost use Rattle.std.specs.Option.{option_copied};
+    ghost use Rattle.iv_view.specs.Views.{read_words};
     ghost use Rattle.iv_args.specs.Words.{RunPlan};
 
     ghost Value = { RunPlan };
 
-    ghost view = { λ p. record { run = p.run; sizes = p.sizes.now; first = p.first.now; other = option_copied p.other; bases = option_copied p.bases; width = p.width; view = map (λ word. word.now) p.view.items } };
+    ghost view = { λ p. record { run = p.run; sizes = p.sizes.now; first = p.first.now; other = option_copied p.other; bases = option_copied p.bases; width = p.width; view = map (λ word. word.now) p.words.items } };
 
-    ghost invariant = { λ p. (3 ≤ p.width) × (p.width ≤ 6) };
+    ghost invariant = { λ p. (3 ≤ p.width) × (p.width ≤ 6) × (p.view ≡ read_words 6 true true (map (λ word. word.now) p.words.items)) };
 }
 
 /// The plan of what the words have said, where that is one.
 fn plan_of<'a, A: Allocator + Copy>(
-    alloc: A,
     run: Run,
     draft: PlanDraft<'a, A>,
 ) -> Result<Plan<'a, A>, PlanFault>
     ensures ok { IfOk result (λ plan. Makes run draft.entry plan) }
     ensures err { IfErr result (λ fault. (fault ≡ PlanFault.Words) × ((plan : RunPlan) → ¬ Makes run draft.entry plan)) }
 {
-    if !draft.has_needed(run) || !are_view_words(alloc, run, draft.view.as_slice()) {
+    let view = draft.read_view();
+    if !draft.has_needed(run) || !draft.has_view(run, view) {
         return Err(PlanFault::Words);
     }
     let width = draft.width();
@@ -70,7 +75,8 @@ fn plan_of<'a, A: Allocator + Copy>(
         other: draft.other,
         bases: draft.bases,
         width,
-        view: draft.view,
+        words: draft.words,
+        view,
     })
 }
 
@@ -100,7 +106,7 @@ impl<'a, A: Allocator + Copy> Plan<'a, A> {
         };
         let mut draft = PlanDraft::new(alloc, run, word)?;
         draft.take_all(run, rest)?;
-        plan_of(alloc, run, draft)
+        plan_of(run, draft)
     }
 
     /// The kind of run.
@@ -141,6 +147,24 @@ impl<'a, A: Allocator + Copy> Plan<'a, A> {
     pub fn view_words(&self) -> &[&'a [u8]]
         ensures { map (λ word. word.now) result.now ≡ self.now.view }
     {
-        self.view.as_slice()
+        self.words.as_slice()
+    }
+
+    /// The view that is to be printed, of records of this width, beside a second file and a FASTA file or without. A session
+    /// has none.
+    ///
+    /// # Errors
+    ///
+    /// `Column`, then `NoStrand`, then `NoSecond` or `NoFasta`, and `Words` in a session.
+    pub fn view_beside(
+        &self,
+        width: u8,
+        has_second: bool,
+        has_bases: bool,
+    ) -> Result<View, ViewFault>
+        ensures { result ≡ read_words width has_second has_bases self.now.view }
+    {
+        let view = self.view?;
+        view.narrowed(width, has_second, has_bases)
     }
 }

@@ -1,7 +1,8 @@
 //! What the words of a run have said so far.
-ghost use Rattle.std.specs.Prelude.{◌≡◌, ◌≤◌, ◌⊎◌, ◌∷◌, [], Some, None, IfOk, IfErr, OnOk, map, length, drop};
+ghost use Rattle.std.specs.Prelude.{◌≡◌, ◌≤◌, ◌⊎◌, ◌∷◌, [], true, Some, None, IfOk, IfErr, OnOk, map, length, drop};
 ghost use Rattle.std.specs.Option.{option_copied, option_to_list};
-ghost use Rattle.iv_args.specs.Words.{width_of, width_said, are_view_words as are_words_of_a_view};
+ghost use Rattle.iv_view.specs.Views.{read_words};
+ghost use Rattle.iv_args.specs.Words.{width_of, width_said, are_view_words};
 ghost use Rattle.iv_args.specs.Drafts.{begun_by, drafted, with_value, viewed, has_needed_files};
 
 use crate::fault::PlanFault;
@@ -13,9 +14,6 @@ use std::marker::Model;
 /// The width of a BED file without a record, where none is asked for.
 const USUAL_WIDTH: u8 = 3;
 
-/// The greatest width of a BED file.
-const GREATEST_WIDTH: u8 = 6;
-
 /// The width that a value says: one digit from 3 to 6.
 fn read_width(value: &[u8]) -> Option<u8>
     ensures { result ≡ width_of value.now }
@@ -23,19 +21,6 @@ fn read_width(value: &[u8]) -> Option<u8>
     match value {
         [digit] if *digit >= b'3' && *digit <= b'6' => Some(*digit - b'0'),
         _ => None,
-    }
-}
-
-/// Whether words are those of a view, on records of six columns and beside both files. A session has none.
-pub(crate) fn are_view_words<A: Allocator + Copy>(alloc: A, run: Run, words: &[&[u8]]) -> bool
-    ensures { result ≡ are_words_of_a_view run (map (λ word. word.now) words.now) }
-{
-    match run {
-        Run::Session => words.is_empty(),
-        _ => !matches!(
-            View::read(alloc, GREATEST_WIDTH, true, true, words),
-            Err(ViewFault::Words)
-        ),
     }
 }
 
@@ -47,7 +32,7 @@ pub(crate) struct PlanDraft<'a, A: Allocator + Copy = Global> {
     pub(crate) other: Option<&'a [u8]>,
     pub(crate) bases: Option<&'a [u8]>,
     width: Option<&'a [u8]>,
-    pub(crate) view: Vec<&'a [u8], A>,
+    pub(crate) words: Vec<&'a [u8], A>,
 }
 
 impl<'a, A: Allocator + Copy> Model for PlanDraft<'a, A> {
@@ -57,7 +42,7 @@ impl<'a, A: Allocator + Copy> Model for PlanDraft<'a, A> {
 
     ghost Value = { PartialPlan };
 
-    ghost view = { λ d. record { sizes = option_copied d.sizes; first = option_copied d.first; other = option_copied d.other; bases = option_copied d.bases; width = option_copied d.width; view = map (λ word. word.now) d.view.items } };
+    ghost view = { λ d. record { sizes = option_copied d.sizes; first = option_copied d.first; other = option_copied d.other; bases = option_copied d.bases; width = option_copied d.width; view = map (λ word. word.now) d.words.items } };
 }
 
 impl<'a, A: Allocator + Copy> PlanDraft<'a, A> {
@@ -72,7 +57,7 @@ impl<'a, A: Allocator + Copy> PlanDraft<'a, A> {
             other: None,
             bases: None,
             width: None,
-            view: Vec::new(alloc),
+            words: Vec::new(alloc),
         };
         if run != Run::Session {
             draft.keep(&[word])?;
@@ -84,7 +69,7 @@ impl<'a, A: Allocator + Copy> PlanDraft<'a, A> {
     fn keep(&mut self, words: &[&'a [u8]]) -> Result<(), AllocError>
         ensures { OnOk result (self.new ≡ viewed (map (λ word. word.now) words.now) self.old) }
     {
-        self.view.extend_from_slice(words)?;
+        self.words.extend_from_slice(words)?;
         Ok(())
     }
 
@@ -178,6 +163,24 @@ impl<'a, A: Allocator + Copy> PlanDraft<'a, A> {
         ensures { result ≡ has_needed_files run self.now }
     {
         (self.other.is_some() || !run.needs_other()) && (self.bases.is_some() || !run.needs_bases())
+    }
+
+    /// What the words of the view say, for records of six columns beside both files.
+    pub(crate) fn read_view(&self) -> Result<View, ViewFault>
+        ensures { result ≡ read_words 6 true true self.now.view }
+    {
+        View::asked(self.words.as_slice())
+    }
+
+    /// Whether the words of the view are such, given what they say. A session has none.
+    pub(crate) fn has_view(&self, run: Run, view: Result<View, ViewFault>) -> bool
+        requires { view ≡ read_words 6 true true self.now.view }
+        ensures { result ≡ are_view_words run self.now.view }
+    {
+        match run {
+            Run::Session => self.words.is_empty(),
+            _ => !matches!(view, Err(ViewFault::Words)),
+        }
     }
 
     /// The width of a BED file without a record, 3 where none is given, and `None` where what is given says none.

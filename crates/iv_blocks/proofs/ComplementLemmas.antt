@@ -162,7 +162,7 @@ shown-some from to (b ∷ blocks) some = refl
 abbrev pub interval_at : List Row → ℕ → ℕ → Option Block
 interval_at rows s x = place_of s x (block_at start_of stop_of 0 (group false s false rows) x)
 
--- where the blocks on a sequence lie
+-- where the blocks on a sequence are
 abbrev pub intervals_on : Sequences → List Row → ℕ → List Block
 intervals_on g rows s = values (interval_at rows s) (sequence_length g s)
 
@@ -222,7 +222,7 @@ module _ (g : Sequences) (rows : List Row) (lie : All (IsOnGenome g) rows) where
 
 module _ (o : Options) (g : Sequences) (width : ℕ) (rows : List Row) (entries : Entries) (right : AreBlocksOf o (names_of g) rows entries) (fit : All (Fits g width) rows)
     (distance : o.distance ≡ 0) (together : o.stranded ≡ false) where
-  -- where the entries of a sequence lie
+  -- where the entries of a sequence are
   abbrev own_entries : ℕ → Entries
   own_entries s = flat_map (λ t. map (entry_of o g s t) (side_blocks o g rows s t)) (sides o.stranded)
 

@@ -115,7 +115,7 @@ pub record IsEdit (o : Options) (g : Group) (r : Row) (less rows : List Row) : T
   pub in_group : is_in_group o.stranded g.rank g.minus r ≡ true
   pub lasts : (q : Row) → Mem q rows → q.start < q.stop
 
--- what an edit knows of the record's group, which was asked for the options p
+-- what an edit knows of the record's group, which was found by the options p
 edit-of : (o p : Options) (g : Group) (r : Row) (less rows : List Row) → p ≡ o → (g.stranded ≡ p.stranded) × (is_in_group p.stranded g.rank g.minus r ≡ true)
     → HasOneMore less r rows → ((q : Row) → Mem q rows → q.start < q.stop) → IsEdit o g r less rows
 edit-of o p g r less rows same known more lasts =
@@ -290,12 +290,13 @@ module _ (o : Options) (names : List (List ℕ)) (g : Group) (r : Row) (less row
           let range = starts_in-true start_of stop_of o.distance b.0 b.1 q both.1 in
           stops_within start_of stop_of o.distance H b.0 b.1 block_is q here (omega (arith, range.1)))
 
-      pub removed-takes : (m0 m1 m2 : ℕ) → rows ≡ added less r → TakesUpTo m0 m1 1 → TakesUpTo m1 m2 (3 + 5 * length (between_on g.rank b.0 b.1 less)) → TakesUpTo m0 m2 (block_steps o rows r)
-      removed-takes m0 m1 m2 rows_are first second =
+      pub removed-takes : (m0 m1 m2 m3 : ℕ) → rows ≡ added less r → TakesUpTo m0 m1 1 → TakesUpTo m1 m2 1
+          → TakesUpTo m2 m3 (2 + 5 * length (between_on g.rank b.0 b.1 less)) → TakesUpTo m0 m3 (block_steps o rows r)
+      removed-takes m0 m1 m2 m3 rows_are first second third =
           let all = around-is b.0 b.1 block_is last.within (omega (arith, ends, lasting r more_g.added)) in
           let fewer = added-fewer (λ q. (q.seq == g.rank) && starts_between b.0 b.1 q) less r in
           let same = ap (λ (l : List Row). length (between_on g.rank b.0 b.1 l)) rows_are in
-          record { no_less = omega (arith, first, second); at_most = omega (arith, first, second, all, fewer, same) }
+          record { no_less = omega (arith, first, second, third); at_most = omega (arith, first, second, third, all, fewer, same) }
 
       pub removed-all : (new : KeptBlocks) → old.options ≡ o → ArePut g names (between b.0 b.1 less) (without_block old g b.0) new → AreBlocksOf o names less new.entries
       removed-all new options put = record {

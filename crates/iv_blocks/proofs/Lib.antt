@@ -25,6 +25,5 @@ pub mod MergeTexts
 pub mod ComplementTexts
 pub mod ClusterTexts
 pub mod SideLemmas
-pub mod SequenceLemmas
 pub mod RoomLemmas
 pub mod TextLemmas

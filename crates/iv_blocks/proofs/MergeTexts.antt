@@ -17,7 +17,7 @@ use Rattle.iv_blocks.specs.PlainOptions.{IsPlain}
 use Rattle.iv_blocks.specs.BlockSweeps.{interval_of, interval_row}
 
 module _ (d : ℕ) (g : Sequences) (rows : List Row) (o : Options) (plain : IsPlain d o) where
-  -- the row of a block of which nothing is asked
+  -- the row of a block without summaries
   plain-row : (s : ℕ) (b : ℕ × (ℕ × List Row)) → interval_row g (interval_of (block_on s b)) ≡ block_row (sequence_name g s) [] b
   plain-row s b = ap (λ (l : List ℕ). l ++ codes "\n") (sym (append-nil (sequence_name g s ++ codes "\t" ++ decimal b.0 ++ codes "\t" ++ decimal b.1.0)))
 

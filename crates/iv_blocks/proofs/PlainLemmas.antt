@@ -1,4 +1,4 @@
--- The blocks of which nothing is asked, as they are kept.
+-- Blocks without summaries, as they are kept.
 use Rattle.std.proofs.Common.{◌≡◌, ℕ, Bool, true, false, List, [], ◌∷◌, ◌++◌, map, length, ◌==◌, ◌&&◌, refl, sym, ◌∙◌, ap, subst, append-nil, All}
 use Rattle.std.specs.Iterator.{Drains}
 use Rattle.std.specs.List.{flat_map, range_with_len}
@@ -22,7 +22,7 @@ use Rattle.iv_blocks.proofs.EntryLemmas.{rank_entries, all_entries}
 use Rattle.iv_blocks.proofs.InOrderLemmas.{all-ordered, all-look}
 use Rattle.iv_blocks.proofs.KeptLemmas.{flat_map-agree, side_blocks, entry_of, sides-are, none-past, none-later}
 
--- records that fit a genome lie on it
+-- records that fit a genome are on it
 pub all-lie : (g : Sequences) (width : ℕ) (rows : List Row) → All (Fits g width) rows → All (IsOnGenome g) rows
 all-lie g width rows fit = All-weaker (Fits g width) (IsOnGenome g) (λ r fits. fits.is_placed) rows fit
 

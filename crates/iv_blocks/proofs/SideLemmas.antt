@@ -5,7 +5,7 @@ use Rattle.std.proofs.lemmas.List.Elements.{filter-append}
 use Rattle.std.specs.Prelude.{slice_get}
 use Rattle.iv_text.specs.Row.{Row}
 use Rattle.iv_blocks.specs.Sides.{is_on}
-use Rattle.iv_blocks.specs.declared.side.Side.TheVariants.{Both}
+use Rattle.iv_blocks.specs.declared.side_records.Side.TheVariants.{Both}
 use Rattle.iv_cover.specs.declared.block.Block.{Block}
 use Rattle.iv_cover.specs.TrackBlocks.{Group, with_members}
 use Rattle.iv_cover.specs.Coming.{is_joined, coming}

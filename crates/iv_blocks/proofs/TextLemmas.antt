@@ -1,7 +1,6 @@
 -- The text of the definition, sequence by sequence.
-use Rattle.std.proofs.Common.{ℕ, suc, ◌+◌, ◌-◌, ◌<◌, ◌≤◌, ◌≡◌, ◌==◌, nat_le, nat_lt, Bool, true, List, [], ◌++◌, map, filter, None, sym, ap, ◌∙◌, All, append-nil, arith, eq-eqb, eqb-true, le-leb, leb-true, lt-ltb, ltb-true}
+use Rattle.std.proofs.Common.{ℕ, suc, ◌+◌, ◌-◌, ◌<◌, ◌≡◌, ◌==◌, Bool, true, List, [], ◌++◌, map, filter, None, sym, ap, ◌∙◌, All, append-nil, arith, eq-eqb}
 use Rattle.std.specs.List.{flat_map, range_with_len}
-use Rattle.std.proofs.lemmas.Bool.{and_parts, and_from}
 use Rattle.std.proofs.lemmas.List.Folds.{flat_map-map}
 use Rattle.iv_text.specs.Genome.{Sequences, seq_count, sequence_name, sequence_length}
 use Rattle.iv_text.specs.Ordered.{AreInOrder}
@@ -10,55 +9,22 @@ use Rattle.iv_text.specs.Row.{Row, row_cmp}
 use Rattle.iv_cover.specs.Blocks.{blocks_below}
 use Rattle.iv_cover.specs.Coming.{coming}
 use Rattle.iv_cover.specs.TrackBlocks.{Group, start_of, stop_of, on, block_on, blocks_on}
-use Rattle.iv_cover.proofs.Cover.{same_tests}
 use Rattle.iv_cover.proofs.InOrder.{in_order-filter}
 use Rattle.iv_cover.proofs.Merging.{gathered-more, gathered-none_from, merge-all, on-none, blocks-none}
-use Rattle.iv_cover.proofs.Tests.{all-mem, mem-all, mem-filter, filter-filter, filter-agree, filter-all}
+use Rattle.iv_cover.proofs.Tests.{all-mem, mem-all, filter-filter, filter-all}
 use Rattle.iv_blocks.specs.Groups.{group, is_in_group, is_on_side, listed, sides}
 use Rattle.iv_blocks.specs.MergeRows.{side_rows}
 use Rattle.iv_blocks.specs.declared.options.Options.{Options}
 use Rattle.iv_blocks.proofs.KeptLemmas.{flat_map-agree, group-in}
 use Rattle.iv_blocks.specs.Sides.{is_on}
 use Rattle.iv_blocks.specs.MergeSweeps.{group_row, group_rows, sequence_rows}
-use Rattle.iv_blocks.specs.declared.side.Side.TheVariants.{Plus, Minus}
-
--- ---- the records from a sequence on
-
--- the record is on the sequence of this rank or a later one
-abbrev pub is_from : ℕ → Row → Bool
-is_from rank r = nat_le rank r.seq
-
-pub all-from : (rows : List Row) → filter (is_from 0) rows ≡ rows
-all-from rows = filter-all (is_from 0) rows (λ q m. le-leb 0 q.seq (omega arith))
-
-pub from-in : (rank : ℕ) (rows : List Row) → All (λ r. rank ≤ r.seq) (filter (is_from rank) rows)
-from-in rank rows = mem-all (λ r. rank ≤ r.seq) (filter (is_from rank) rows) (λ q m. leb-true rank q.seq (mem-filter (is_from rank) rows q m).1)
-
-pub from-order : (rank : ℕ) (rows : List Row) → AreInOrder rows → AreInOrder (filter (is_from rank) rows)
-from-order rank rows order = in_order-filter row_cmp (is_from rank) rows order
-
-pub from-here : (rank : ℕ) (rows : List Row) → on rank (filter (is_from rank) rows) ≡ on rank rows
-from-here rank rows =
-    filter-filter (λ r. r.seq == rank) (is_from rank) rows
-    ∙ filter-agree _ _ rows (λ q m. same_tests _ _
-    (λ e. (and_parts (is_from rank q) (q.seq == rank) e).1)
-    (λ e. and_from _ _ (le-leb rank q.seq (omega (arith, eqb-true q.seq rank e))) e))
-
-pub from-later : (rank : ℕ) (rows : List Row) → filter (λ r. nat_lt rank r.seq) (filter (is_from rank) rows) ≡ filter (is_from (rank + 1)) rows
-from-later rank rows =
-    filter-filter (λ r. nat_lt rank r.seq) (is_from rank) rows
-    ∙ filter-agree _ _ rows (λ q m. same_tests _ _
-    (λ e. le-leb (rank + 1) q.seq (omega (arith, ltb-true rank q.seq (and_parts (is_from rank q) (nat_lt rank q.seq) e).1)))
-    (λ e. let low : rank + 1 ≤ q.seq = leb-true (rank + 1) q.seq e in and_from _ _ (le-leb rank q.seq (omega (arith, low))) (lt-ltb rank q.seq (omega (arith, low)))))
+use Rattle.iv_blocks.specs.declared.side_records.Side.TheVariants.{Plus, Minus}
 
 -- the first of the ranks that are left
-pub ranks-next : (f : ℕ → List ℕ) (rank count : ℕ) → rank < count → flat_map f (range_with_len rank (count - rank)) ≡ f rank ++ flat_map f (range_with_len (rank + 1) (count - (rank + 1)))
+ranks-next : (f : ℕ → List ℕ) (rank count : ℕ) → rank < count → flat_map f (range_with_len rank (count - rank)) ≡ f rank ++ flat_map f (range_with_len (rank + 1) (count - (rank + 1)))
 ranks-next f rank count low =
     let more : count - rank ≡ suc (count - (rank + 1)) = omega arith in
     ap (λ (n : ℕ). flat_map f (range_with_len rank n)) more
-
-pub ranks-none : (f : ℕ → List ℕ) (rank count : ℕ) → count ≤ rank → flat_map f (range_with_len rank (count - rank)) ≡ []
-ranks-none f rank count past = let none : count - rank ≡ 0 = omega arith in ap (λ (n : ℕ). flat_map f (range_with_len rank n)) none
 
 -- ---- strands apart
 
@@ -108,7 +74,18 @@ module _ (o : Options) (g : Sequences) (rows : List Row) (order : AreInOrder row
       ∙ ap (flat_map (group_row name asked)) (one-sequence rank minus low)
       ∙ flat_map-map (group_row name asked) (block_on rank) (blocks_below start_of stop_of o.distance (of rank minus) (sequence_length g rank))
 
-  pub rank-is : (rank : ℕ) → rank < seq_count g → sequence_rows o (sequence_name g rank) (on rank rows) ≡ rank_rows rank
+  rank-is : (rank : ℕ) → rank < seq_count g → sequence_rows o (sequence_name g rank) (on rank rows) ≡ rank_rows rank
   rank-is rank low =
       flat_map-agree (λ minus. group_rows o (sequence_name g rank) (filter (is_on_side o.stranded minus) (on rank rows))) (side_rows o g rows rank) (sides o.stranded)
       (λ minus. side-is rank minus low)
+
+  -- the rows of the first of the sequences that are left, as they are put, and those of the sequences after it
+  pub rows-next : (p : Options) (name : List ℕ) (here : List Row) (rank : ℕ) → rank < seq_count g → p ≡ o → name ≡ sequence_name g rank → here ≡ on rank rows
+      → flat_map rank_rows (range_with_len rank (seq_count g - rank)) ≡ sequence_rows p name here ++ flat_map rank_rows (range_with_len (rank + 1) (seq_count g - (rank + 1)))
+  rows-next p name here rank low options named is =
+      let rest : List ℕ = flat_map rank_rows (range_with_len (rank + 1) (seq_count g - (rank + 1))) in
+      ranks-next rank_rows rank (seq_count g) low
+      ∙ ap (λ (l : List ℕ). l ++ rest) (sym (rank-is rank low))
+      ∙ ap (λ (l : List Row). sequence_rows o (sequence_name g rank) l ++ rest) (sym is)
+      ∙ ap (λ (n : List ℕ). sequence_rows o n here ++ rest) (sym named)
+      ∙ ap (λ (q : Options). sequence_rows q name here ++ rest) (sym options)

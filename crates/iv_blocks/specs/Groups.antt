@@ -50,7 +50,7 @@ members_between g from to rows = filter (λ r. is_in_group g.stranded g.rank g.m
 abbrev pub sides : Bool → List Bool
 sides stranded = if stranded then false ∷ true ∷ [] else false ∷ []
 
--- the summaries that are asked, in order
+-- the summaries, in order
 abbrev pub listed : Summaries → List ColumnSummary
 listed s = take s.count s.summaries
 
@@ -66,6 +66,6 @@ filled summaries = record { summaries = summaries ++ replicate (16 - length summ
 abbrev pub pushed : Summaries → ColumnSummary → Summaries
 pushed s summary = record { summaries = slice_set s.summaries s.count summary; count = s.count + 1 }
 
--- records of both strands are joined at this distance, and nothing is asked of a block
+-- records of both strands are joined at this distance, and there are no summaries
 abbrev pub joined : ℕ → Options
 joined distance = record { distance = distance; stranded = false; summaries = filled [] }

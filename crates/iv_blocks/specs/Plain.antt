@@ -1,10 +1,10 @@
--- Blocks of which nothing is asked, as they are kept.
+-- Blocks without summaries, as they are kept.
 use Rattle.std.specs.Prelude.{false, List, [], map, Option}
 use Rattle.std.specs.Iterator.{YieldsFirst}
 use Rattle.iv_cover.specs.TrackBlocks.{Group}
 use Rattle.iv_blocks.specs.KeptBlocks.{Key, Kept}
 
--- the key of a block of which nothing is asked, and what is kept of it
+-- the key of a block without summaries, and what is kept of it
 abbrev pub plain_entry : Group → Key × Kept
 plain_entry b = ((b.sequence, false, b.start), record { stop = b.stop; results = [] })
 

@@ -3,7 +3,7 @@ use Rattle.std.specs.Prelude.{◌≡◌, ℕ, false, []}
 use Rattle.iv_blocks.specs.Groups.{listed}
 use Rattle.iv_blocks.specs.declared.options.Options.{Options}
 
--- the options of a merge at this distance that joins both strands and asks nothing of a block
+-- the options of a merge at this distance that joins both strands and has no summaries
 pub record IsPlain (distance : ℕ) (o : Options) : Type 0 where
   pub far : o.distance ≡ distance
   pub together : o.stranded ≡ false

@@ -2,8 +2,8 @@
 use Rattle.std.specs.Prelude.{Bool, true, false}
 use Rattle.iv_text.specs.Row.{Row}
 use Rattle.iv_blocks.specs.Groups.{is_on_side}
-use Rattle.iv_blocks.specs.declared.side.Side.{Side}
-use Rattle.iv_blocks.specs.declared.side.Side.TheVariants.{Both, Plus, Minus}
+use Rattle.iv_blocks.specs.declared.side_records.Side.{Side}
+use Rattle.iv_blocks.specs.declared.side_records.Side.TheVariants.{Both, Plus, Minus}
 
 -- the record is on this side: any is where strands are together; else it is one on `+`, or one on `-`
 abbrev pub is_on : Side → Row → Bool

@@ -4,7 +4,8 @@ ghost use Rattle.iv_blocks.specs.KeptBlocks.{AreBlocksOf, block_steps};
 
 use crate::group::Group;
 use crate::options::Options;
-use iv_cover::Kept;
+use crate::plain::PlainBlocks;
+use iv_cover::{BlockWalk, Kept};
 use iv_text::{Genome, RecordRef};
 use iv_track::{Ledger, Meter, Track};
 use std::alloc::{AllocError, Allocator, Global};
@@ -15,7 +16,7 @@ use std::marker::Model;
 pub(crate) struct KeptBlock<A: Allocator> {
     /// Where it stops, from 0, not included.
     pub(crate) stop: u32,
-    /// Its results, each with a TAB in front of it; `None` where nothing is asked.
+    /// Its results, each with a TAB in front of it; `None` where there are no summaries.
     pub(crate) results: Option<Box<Vec<u8, A>, A>>,
 }
 
@@ -57,8 +58,8 @@ impl<A: Allocator + Copy> Kept<A> for Blocks<A> {
 
     ghost repair_steps = { block_steps };
 
-    /// Nothing grows but the ledger, and the results that are asked. Where strands are together and nothing is asked, the ledger
-    /// is built at once.
+    /// Nothing grows but the ledger, and the results that are kept. Where the options are plain, the ledger is built at once
+    /// from one walk over the track; else the blocks are put one by one.
     fn build(
         alloc: A,
         options: Options,
@@ -66,10 +67,23 @@ impl<A: Allocator + Copy> Kept<A> for Blocks<A> {
         genome: &Genome<A>,
         meter: &mut Meter,
     ) -> Result<Blocks<A>, AllocError> {
-        if options.stranded || !options.summaries.as_slice().is_empty() {
-            return Blocks::build_by_groups(alloc, options, track, genome, meter);
+        if options.is_plain() {
+            let sweep = BlockWalk::of(track.walk(0, 0, meter), options.distance);
+            return Ok(Blocks {
+                options,
+                alloc,
+                ledger: Ledger::from_entries(alloc, PlainBlocks::of(sweep, meter))?,
+            });
         }
-        Blocks::build_plain(alloc, options, track, genome, meter)
+        let mut blocks = Blocks {
+            options,
+            alloc,
+            ledger: Ledger::new(alloc),
+        };
+        for rank in 0..genome.count() {
+            blocks.put_sequence(track, genome, rank, meter)?;
+        }
+        Ok(blocks)
     }
 
     /// The blocks that the record reaches become one with it.
@@ -89,7 +103,7 @@ impl<A: Allocator + Copy> Kept<A> for Blocks<A> {
         self.put_block(track, genome, group, low, high, meter)
     }
 
-    /// The record's block is made anew from the others that were in it.
+    /// The record's block is taken out, and the others that were in it are put as blocks again.
     fn removed(
         &mut self,
         track: &Track<A>,
@@ -104,7 +118,8 @@ impl<A: Allocator + Copy> Kept<A> for Blocks<A> {
         let Some((start, stop)) = self.before(group, start, meter) else {
             unreachable!()
         };
-        self.rebuild(track, genome, group, start, stop, meter)
+        self.take(group, start, meter);
+        self.put_blocks(track, genome, group, start, stop, meter)
     }
 }
 

@@ -49,7 +49,7 @@ pub(crate) fn put_gaps<B: BlocksAhead, A: Allocator + Copy, S: Sink>(
     Ok(())
 }
 
-/// Puts the gaps of one sequence, and goes past its blocks. Where it has no block, it is one gap, if such are wanted.
+/// Puts the gaps of one sequence, and goes past its blocks. Where it has no block, it is one gap, if `empty_wanted`.
 fn put_sequence<B: BlocksAhead, S: Sink>(
     empty_wanted: bool,
     name: &[u8],

@@ -4,7 +4,6 @@
 
 mod block_cursor;
 mod blocks;
-mod building;
 mod cluster;
 mod complement;
 mod gaps;
@@ -18,19 +17,13 @@ mod options;
 mod plain;
 mod putting;
 mod repair;
-mod sequence;
-mod side;
 mod side_blocks;
 mod side_records;
 mod side_rows;
-mod sweep_cluster;
-mod sweep_complement;
-mod sweep_merge;
+mod sweeps;
 
 pub use blocks::Blocks;
 pub use laws::{gaps_are_maximal, numbers_are_of_blocks};
 pub use merge_sweep::MergeSweep;
 pub use options::{Options, Summaries};
-pub use sweep_cluster::put_cluster;
-pub use sweep_complement::put_complement;
-pub use sweep_merge::put_merge;
+pub use sweeps::{put_cluster, put_complement, put_merge};

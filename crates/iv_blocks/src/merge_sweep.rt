@@ -6,7 +6,6 @@ ghost use Rattle.iv_text.specs.Read.{IsOnGenome};
 ghost use Rattle.iv_blocks.specs.MergeRows.{merge_text};
 
 use crate::options::Options;
-use crate::sequence::split_sequence;
 use crate::side_rows::put_sequence;
 use iv_bytes::{Sink, WriteFault};
 use iv_cover::{Value, asks_distinct};
@@ -15,7 +14,7 @@ use iv_text::Genome;
 use std::alloc::{AllocError, Allocator, Global};
 use std::marker::Model;
 
-/// What is asked of blocks of records of a text, the records, and where `distinct` is asked, room for a value of each.
+/// The options of a merge, the records of a text, and where a summary is `distinct`, room for a value of each.
 #[derive(Drop)]
 pub struct MergeSweep<'t, A: Allocator = Global> {
     options: Options,
@@ -39,7 +38,7 @@ impl<'t, A: Allocator> Model for MergeSweep<'t, A> {
 }
 
 impl<'t, A: Allocator + Copy> MergeSweep<'t, A> {
-    /// A sweep over the records. It takes all the memory that it needs: none where `distinct` isn't asked.
+    /// A sweep over the records. It takes all the memory that it needs: none where no summary is `distinct`.
     pub fn new(alloc: A, options: Options, records: TextRecords<'t>) -> Result<Self, AllocError>
         ensures { IfOk result (λ s. s ≡ (options, records.entry)) }
     {
@@ -59,7 +58,7 @@ impl<'t, A: Allocator + Copy> MergeSweep<'t, A> {
     /// Prints a row for each block: the name of its sequence, start and stop, and the results over its records. It takes no
     /// memory.
     ///
-    /// The records are in the order of a track, and lie on the genome. They are left as they are.
+    /// The records are in the order of a track, and are on the genome. They are left as they are.
     ///
     /// # Errors
     ///
@@ -73,7 +72,7 @@ impl<'t, A: Allocator + Copy> MergeSweep<'t, A> {
         let mut left = self.records.again();
         for rank in 0..genome.count() {
             let name = genome.name(rank).unwrap_or(b"");
-            let (here, later) = split_sequence(&left, rank);
+            let (here, later) = left.split_sequence(rank);
             put_sequence(&self.options, name, &here, &mut self.values, sink)?;
             left = later;
         }

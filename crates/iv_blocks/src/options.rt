@@ -1,10 +1,11 @@
-//! What is asked of blocks.
-ghost use Rattle.std.specs.Prelude.{◌≡◌, [], nat_lt, IsTrue, IsFalse};
+//! The options of a merge.
+ghost use Rattle.std.specs.Prelude.{◌≡◌, ◌↔◌, [], nat_lt, IsTrue, IsFalse};
 ghost use Rattle.iv_blocks.specs.Groups.{listed, filled, pushed, joined as only_joined};
+ghost use Rattle.iv_blocks.specs.PlainOptions.{IsPlain};
 
 use iv_cover::{Column, ColumnSummary, Op};
 
-/// The summaries that are asked of each block, at most 16, in the order of their columns of output.
+/// The summaries of each block, at most 16, in the order of their columns of output.
 #[derive(Clone, Copy, Debug, PartialEq, Eq, Drop)]
 pub struct Summaries {
     // Those from `count` on mean nothing.
@@ -49,19 +50,19 @@ impl Summaries {
     }
 }
 
-/// Which records are joined into one block, and what is asked of its records.
+/// Which records are joined into one block, and which summaries of them are printed.
 #[derive(Clone, Copy, Debug, PartialEq, Eq, Drop)]
 pub struct Options {
     /// Records at most this many bases apart are joined.
     pub distance: u32,
     /// Whether only records of one strand are joined.
     pub stranded: bool,
-    /// What is asked of the records of each block.
+    /// The summaries of the records of each block.
     pub summaries: Summaries,
 }
 
 impl Options {
-    /// Records of both strands are joined, at most this many bases apart, and nothing is asked of a block.
+    /// Records of both strands are joined, at most this many bases apart, and there are no summaries.
     pub fn joined(distance: u32) -> Options
         ensures { result ≡ only_joined distance }
     {
@@ -70,5 +71,12 @@ impl Options {
             stranded: false,
             summaries: Summaries::none(),
         }
+    }
+
+    /// Whether records of both strands are joined, and there are no summaries.
+    pub fn is_plain(&self) -> bool
+        ensures { IsTrue result ↔ IsPlain self.now.distance self.now }
+    {
+        !self.stranded && self.summaries.as_slice().is_empty()
     }
 }

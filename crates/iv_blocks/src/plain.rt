@@ -1,19 +1,12 @@
-//! The blocks of a whole track where nothing is asked of their records, as the entries of a ledger.
+//! The blocks of a walk, as the entries of a ledger where no results are kept.
 ghost use Rattle.std.specs.Prelude.{◌≡◌};
 ghost use Rattle.std.specs.Iterator.{item_count};
-ghost use Rattle.std.specs.Prelude.{All, IfOk, false, []};
-ghost use Rattle.iv_text.specs.Named.{names_of};
-ghost use Rattle.iv_text.specs.Read.{Fits};
-ghost use Rattle.iv_blocks.specs.Groups.{listed};
-ghost use Rattle.iv_blocks.specs.KeptBlocks.{AreBlocksOf};
 ghost use Rattle.iv_blocks.specs.Plain.{GivesKept};
 
-use crate::blocks::{Blocks, KeptBlock, Key};
-use crate::options::Options;
+use crate::blocks::{KeptBlock, Key};
 use iv_cover::BlockWalk;
-use iv_text::Genome;
-use iv_track::{Ledger, Meter, Track};
-use std::alloc::{AllocError, Allocator};
+use iv_track::Meter;
+use std::alloc::Allocator;
 use std::marker::Model;
 
 /// An iterator over the blocks of a walk, each as it is kept.
@@ -56,34 +49,5 @@ impl<'a, 'm, A: Allocator + Copy> Iterator for PlainBlocks<'a, 'm, A> {
             results: None,
         };
         Some(((block.sequence, false, block.start), kept))
-    }
-}
-
-impl<A: Allocator + Copy> Blocks<A> {
-    /// The blocks of a track's records, where strands are together and nothing is asked: one walk over the track, from which the
-    /// ledger is built at once.
-    ///
-    /// # Errors
-    ///
-    /// Memory was refused.
-    pub(crate) fn build_plain(
-        alloc: A,
-        options: Options,
-        track: &Track<A>,
-        genome: &Genome<A>,
-        meter: &mut Meter,
-    ) -> Result<Blocks<A>, AllocError>
-        requires fit { All (Fits genome.now track.now.width) track.now.rows }
-        requires together { options.stranded ≡ false }
-        requires nothing { listed options.summaries ≡ [] }
-        ensures right { IfOk result (λ b. AreBlocksOf options (names_of genome.now) track.now.rows b.entries) }
-        ensures options { IfOk result (λ b. b.options ≡ options) }
-    {
-        let sweep = BlockWalk::of(track.walk(0, 0, meter), options.distance);
-        Ok(Blocks {
-            options,
-            alloc,
-            ledger: Ledger::from_entries(alloc, PlainBlocks::of(sweep, meter))?,
-        })
     }
 }

@@ -8,7 +8,7 @@ ghost use Rattle.iv_track.specs.Steps.{TakesUpTo};
 ghost use Rattle.iv_cover.specs.Columns.{results_over};
 ghost use Rattle.iv_blocks.specs.Groups.{between, between_on, members_between, listed};
 ghost use Rattle.iv_blocks.specs.KeptBlocks.{key_cmp, results_of};
-ghost use Rattle.iv_blocks.specs.Putting.{ArePut, with_block};
+ghost use Rattle.iv_blocks.specs.Putting.{ArePut, ArePutOn, with_block};
 
 use crate::blocks::{Blocks, KeptBlock, place};
 use crate::group::Group;
@@ -19,6 +19,35 @@ use iv_track::{Meter, Track};
 use std::alloc::{AllocError, Allocator};
 
 impl<A: Allocator + Copy> Blocks<A> {
+    /// Puts the blocks of the records on the sequence of this rank over what is there, those of each side.
+    pub(crate) fn put_sequence(
+        &mut self,
+        track: &Track<A>,
+        genome: &Genome<A>,
+        rank: u32,
+        meter: &mut Meter,
+    ) -> Result<(), AllocError>
+        requires fit { All (Fits genome.now track.now.width) track.now.rows }
+        ensures { OnOk result (ArePutOn rank (names_of genome.now) track.now.rows self.old self.new) }
+    {
+        let length = genome.short_length(rank).unwrap_or(0);
+        let stranded = self.options.stranded;
+        let first = Group {
+            rank,
+            stranded,
+            minus: false,
+        };
+        self.put_blocks(track, genome, first, 0, length, meter)?;
+        if !stranded {
+            return Ok(());
+        }
+        let other = Group {
+            minus: true,
+            ..first
+        };
+        self.put_blocks(track, genome, other, 0, length, meter)
+    }
+
     /// Puts the blocks of a group's records that start at `from` or after and below `to`, over what is there: they are the
     /// blocks of these records alone.
     ///
@@ -42,7 +71,7 @@ impl<A: Allocator + Copy> Blocks<A> {
         ensures ok { OnOk result (ArePut group (names_of genome.now) (between from to track.now.rows) self.old self.new) }
         ensures steps { TakesUpTo meter.old meter.new (2 + 5 * length (between_on group.rank from to track.now.rows)) }
     {
-        // The ledger tells that its keys ascend, also where nothing is put.
+        // The keys of the ledger ascend, also where nothing is put.
         let _ordered = self.ledger.len();
         let distance = u64::from(self.options.distance);
         let mut members = Members::of(track, group, from, to, meter);
@@ -90,7 +119,7 @@ impl<A: Allocator + Copy> Blocks<A> {
         Ok(())
     }
 
-    /// The results of a block, `None` where nothing is asked.
+    /// The results of a block, `None` where there are no summaries.
     ///
     /// At most 2 steps, and one for each record, of any strand, that starts in the block.
     fn results(

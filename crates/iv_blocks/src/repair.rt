@@ -1,48 +1,17 @@
-//! The parts of a repair: blocks that are joined, taken out and made anew.
-ghost use Rattle.std.specs.Prelude.{◌≡◌, ◌+◌, ◌-◌, ◌*◌, ◌≤◌, All, OnOk, length};
-ghost use Rattle.iv_text.specs.Named.{names_of};
-ghost use Rattle.iv_text.specs.Read.{Fits};
+//! The parts of a repair: blocks that are joined and taken out.
+ghost use Rattle.std.specs.Prelude.{◌≡◌, ◌+◌, ◌-◌, ◌*◌, ◌≤◌};
 ghost use Rattle.iv_track.specs.Entries.{IsLedger};
 ghost use Rattle.iv_track.specs.Steps.{TakesUpTo};
-ghost use Rattle.iv_blocks.specs.Groups.{between, between_on, members_between};
 ghost use Rattle.iv_blocks.specs.KeptBlocks.{key_cmp};
 ghost use Rattle.iv_blocks.specs.Lookups.{kept_in};
-ghost use Rattle.iv_blocks.specs.Putting.{ArePut};
 ghost use Rattle.iv_blocks.specs.Repairs.{without_block, KeepsOthers, JoinsBefore, JoinsAfter, count_from};
 
 use crate::blocks::Blocks;
 use crate::group::Group;
-use iv_text::Genome;
-use iv_track::{Meter, Track};
-use std::alloc::{AllocError, Allocator};
+use iv_track::Meter;
+use std::alloc::Allocator;
 
 impl<A: Allocator + Copy> Blocks<A> {
-    /// Replaces the block of the group from `start` to `stop` by the blocks of the group's records that start there.
-    ///
-    /// None of these records stops past `stop`. At most 3 steps, and 5 for each record, of any strand, that starts there.
-    ///
-    /// # Errors
-    ///
-    /// Memory was refused. Some of the blocks may be put.
-    pub(crate) fn rebuild(
-        &mut self,
-        track: &Track<A>,
-        genome: &Genome<A>,
-        group: Group,
-        start: u32,
-        stop: u32,
-        meter: &mut Meter,
-    ) -> Result<(), AllocError>
-        requires apart { group.stranded ≡ self.old.options.stranded }
-        requires fit { All (Fits genome.now track.now.width) track.now.rows }
-        requires stops { All (λ r. r.stop ≤ stop) (members_between group start stop track.now.rows) }
-        ensures ok { OnOk result (ArePut group (names_of genome.now) (between start stop track.now.rows) (without_block self.old group start) self.new) }
-        ensures steps { TakesUpTo meter.old meter.new (3 + 5 * length (between_on group.rank start stop track.now.rows)) }
-    {
-        self.take(group, start, meter);
-        self.put_blocks(track, genome, group, start, stop, meter)
-    }
-
     /// Joins the interval from `start` to `stop` with the group's last block that starts at `start` or before it, if that
     /// reaches it. The block is taken out.
     ///
@@ -106,7 +75,7 @@ impl<A: Allocator + Copy> Blocks<A> {
     }
 
     /// Takes out the block of the group that starts here, if there is one. One step.
-    fn take(&mut self, group: Group, start: u32, meter: &mut Meter)
+    pub(crate) fn take(&mut self, group: Group, start: u32, meter: &mut Meter)
         ensures taken { self.new ≡ without_block self.old group start }
         ensures ordered { IsLedger key_cmp self.new.entries }
         ensures steps { TakesUpTo meter.old meter.new 1 }

@@ -1,5 +1,5 @@
 //! The blocks of records of a text on one side, one after another.
-ghost use Rattle.std.specs.Prelude.{◌≡◌, ◌∷◌, ◌+◌, ◌^◌, ◌<◌, ◌≤◌, length, take, drop, filter, None, true, List, All};
+ghost use Rattle.std.specs.Prelude.{◌≡◌, ◌∷◌, ◌+◌, ◌^◌, ◌<◌, ◌≤◌, length, take, drop, filter, map, None, true, List, All};
 ghost use Rattle.std.specs.Iterator.{YieldsFirst, item_count};
 ghost use Rattle.iv_text.specs.Genome.{Sequences};
 ghost use Rattle.iv_text.specs.Ordered.{AreInOrder};
@@ -7,11 +7,11 @@ ghost use Rattle.iv_text.specs.Read.{IsOnGenome};
 ghost use Rattle.iv_text.specs.Row.{Row};
 ghost use Rattle.iv_cover.specs.Coming.{coming};
 ghost use Rattle.iv_cover.specs.TrackBlocks.{blocks_of, with_members};
-ghost use Rattle.iv_blocks.specs.BlockSweeps.{next_start};
+ghost use Rattle.iv_blocks.specs.BlockSweeps.{interval_of, next_start};
 ghost use Rattle.iv_blocks.specs.Sides.{is_on};
 
-use crate::side::Side;
-use crate::side_records::SideRecords;
+use crate::gaps::BlocksAhead;
+use crate::side_records::{Side, SideRecords};
 use iv_cover::Block;
 use iv_index::{TextRecord, TextRecords};
 use std::marker::Model;
@@ -33,7 +33,7 @@ impl<'t> Model for SideBlock<'t> {
 
 /// The blocks that are still to come of a sweep over records of a text, of those on one side: an iterator.
 ///
-/// Records of one sequence that overlap, are book-ended or lie at most `distance` bases apart are in one
+/// Records of one sequence that overlap, are book-ended or are at most `distance` bases apart are in one
 /// block. Blocks come by the sequence's rank, and then by start. The model is the list of those that are left, each with its
 /// members. No call takes memory.
 #[derive(Drop)]
@@ -56,11 +56,11 @@ impl<'t> Model for SideBlocks<'t> {
 
 impl<'t> SideBlocks<'t> {
     /// The blocks of those of the records that are on the side.
-    pub(crate) fn of(records: TextRecords<'t>, side: Side, distance: u32) -> Self
-        ensures { result ≡ coming distance None (filter (is_on side) records.entry) }
+    pub(crate) fn of(records: &TextRecords<'t>, side: Side, distance: u32) -> Self
+        ensures { result ≡ coming distance None (filter (is_on side) records.now) }
     {
         SideBlocks {
-            rest: records,
+            rest: records.again(),
             side,
             distance,
         }
@@ -69,9 +69,9 @@ impl<'t> SideBlocks<'t> {
     /// The blocks of all records, which are in the order of a track.
     ///
     /// They are the blocks of the definition for every genome that the records are on.
-    pub(crate) fn of_all(records: TextRecords<'t>, distance: u32) -> Self
-        requires { AreInOrder records }
-        ensures { (g : Sequences) → All (IsOnGenome g) records.entry → result ≡ blocks_of distance g records.entry }
+    pub(crate) fn of_all(records: &TextRecords<'t>, distance: u32) -> Self
+        requires { AreInOrder records.now }
+        ensures { (g : Sequences) → All (IsOnGenome g) records.now → result ≡ blocks_of distance g records.now }
     {
         SideBlocks::of(records, Side::Both, distance)
     }
@@ -106,6 +106,24 @@ impl<'t> Iterator for SideBlocks<'t> {
             block,
             members: SideRecords::of(members, self.side),
         })
+    }
+}
+
+impl<'t> BlocksAhead for SideBlocks<'t> {
+    /// A sweep counts no steps.
+    type Meter = ();
+
+    ghost left = { λ blocks. map interval_of blocks };
+
+    ghost steps = { λ _. 0 };
+
+    fn next_until(&mut self, rank: u32, position: u64, _counter: &mut ()) -> Option<Block> {
+        let (sequence, start) = self.next_start()?;
+        if sequence > rank || (sequence == rank && start > position) {
+            return None;
+        }
+        let found = self.next()?;
+        Some(found.block)
     }
 }
 

@@ -1,17 +1,38 @@
-//! Records of a text on one side.
+//! Sides of a sequence, and the records of a text on one of them.
 ghost use Rattle.std.specs.Prelude.{◌≡◌, filter, length, map};
 ghost use Rattle.std.specs.Iterator.{YieldsFirst, item_count};
 ghost use Rattle.iv_cover.specs.Columns.{column_value};
 ghost use Rattle.iv_blocks.specs.Sides.{is_on};
 
-use crate::side::Side;
 use iv_cover::{Column, Value, Values};
 use iv_index::{TextRecord, TextRecords};
+use iv_text::Strand;
 use std::marker::Model;
+
+/// Which records of a sequence may be in one block with one another: all, or those of one strand.
+#[derive(Clone, Copy, Debug, PartialEq, Eq)]
+pub(crate) enum Side {
+    Both,
+    Plus,
+    Minus,
+}
+
+impl Side {
+    /// Whether the record is on this side. Where both are one, its line isn't looked at.
+    pub(crate) fn has(self, row: &TextRecord<'_>) -> bool
+        ensures { result ≡ is_on self row.now }
+    {
+        match self {
+            Side::Both => true,
+            Side::Plus => matches!(row.strand(), Some(Strand::Plus)),
+            Side::Minus => matches!(row.strand(), Some(Strand::Minus)),
+        }
+    }
+}
 
 /// Records of a text on one side, in their order: an iterator. Its model is the list of those that are left.
 ///
-/// Those of the other side stand between them and are passed over. No call takes memory.
+/// Those of the other side are between them and are passed over. No call takes memory.
 #[derive(Debug, Drop)]
 pub(crate) struct SideRecords<'t> {
     records: TextRecords<'t>,

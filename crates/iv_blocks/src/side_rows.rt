@@ -7,8 +7,8 @@ ghost use Rattle.iv_blocks.specs.MergeSweeps.{group_row, group_rows, sequence_ro
 ghost use Rattle.iv_cover.specs.Results.{HasRoom};
 
 use crate::options::Options;
-use crate::side::Side;
 use crate::side_blocks::{SideBlock, SideBlocks};
+use crate::side_records::Side;
 use iv_bytes::{Sink, WriteFault, put_all, put_pieces};
 use iv_cover::{ColumnSummary, Value, put_results};
 use iv_index::TextRecords;
@@ -47,7 +47,7 @@ fn put_side<'t, A: Allocator, S: Sink>(
     ensures room { vec_capacity values.old ≤ vec_capacity values.new }
 {
     let summaries = options.summaries.as_slice();
-    for found in SideBlocks::of(records.again(), side, options.distance) {
+    for found in SideBlocks::of(records, side, options.distance) {
         put_block(summaries, name, &found, values, sink)?;
     }
     Ok(())

@@ -19,7 +19,7 @@ use Rattle.iv_text.specs.declared.fault.LoadCause.{LoadCause}
 use Rattle.iv_text.specs.declared.fault.LoadCause.TheVariants as cause
 use Rattle.iv_text.specs.declared.fault.LoadFault.{LoadFault}
 use Rattle.iv_text.specs.ShortLine.{IsShortLine}
-use Rattle.iv_text.specs.declared.short_line.ShortLine.{ShortLine}
+use Rattle.iv_text.specs.declared.record_reader.ShortLine.{ShortLine}
 use Rattle.iv_index.proofs.PlaceLemmas.{line-found, line-is}
 use Rattle.iv_text.specs.Lines.{lines}
 use Rattle.iv_index.specs.Places.{HasBase, line_at, row_of, row_at, rows_at}

@@ -4,7 +4,6 @@
 mod bed_text;
 mod heads;
 mod join;
-mod line;
 mod optional_columns;
 mod order;
 mod place;

@@ -3,11 +3,10 @@ ghost use Rattle.std.specs.Prelude.{◌≡◌, ◌≤◌, cond, nat_le, [], None
 ghost use Rattle.iv_text.specs.Fields.{columns as columns_of};
 ghost use Rattle.iv_text.specs.Read.{column};
 ghost use Rattle.iv_text.specs.Row.{strand_of};
-ghost use Rattle.iv_index.specs.Places.{row_at};
+ghost use Rattle.iv_index.specs.Places.{line_at, row_at};
 
-use crate::line::line_from;
 use crate::place::Place;
-use iv_text::{Fields, Strand, columns, read_strand};
+use iv_text::{Fields, Strand, columns, read_strand, split_line};
 
 /// The columns of a record beside its place. Those beyond the width are empty.
 #[derive(Clone, Copy, Debug)]
@@ -64,4 +63,14 @@ pub(crate) fn optional_columns_of(text: &[u8], place: Place, width: u8) -> Optio
         };
     }
     optional_columns_in(line_from(text, place.line), width)
+}
+
+/// The line that begins at a byte of a text, empty past the end.
+fn line_from(text: &[u8], from: u32) -> &[u8]
+    ensures { result.now ≡ line_at text.now from }
+{
+    if from as usize >= text.len() {
+        return &[];
+    }
+    split_line(&text[from as usize..]).0
 }

@@ -99,9 +99,11 @@ impl<'t> TextRecords<'t> {
         ensures front { result.0 ≡ take count self.now }
         ensures back { result.1 ≡ drop count self.now }
     {
-        let mut back = self.again();
-        let front = back.take_front(count);
-        (front, back)
+        let (front, back) = self.places.split_at(count);
+        (
+            TextRecords::of_places(self.text, front, self.width),
+            TextRecords::of_places(self.text, back, self.width),
+        )
     }
 
     /// The records on the sequence of this rank, and those on later ones.
@@ -112,26 +114,6 @@ impl<'t> TextRecords<'t> {
         ensures later { result.1 ≡ filter (λ r. nat_lt rank r.seq) self.now }
     {
         self.split_at(self.places.partition_point(|place| place.seq <= rank))
-    }
-
-    /// Lets go of the first record, if there is one.
-    pub fn drop_first(&mut self)
-        ensures { self.new ≡ drop 1 self.old }
-    {
-        if let Some((_, rest)) = self.places.split_first() {
-            self.places = rest;
-        }
-    }
-
-    /// Takes so many records from the front.
-    pub fn take_front(&mut self, count: usize) -> TextRecords<'t>
-        requires { count ≤ length self.old }
-        ensures front { result ≡ take count self.old }
-        ensures back { self.new ≡ drop count self.old }
-    {
-        let (front, back) = self.places.split_at(count);
-        self.places = back;
-        TextRecords::of_places(self.text, front, self.width)
     }
 
     /// The places of the records, in their order.

@@ -54,7 +54,7 @@ onward-trans a b c d e f h k =
 pub onward-itself : (a b : ℕ) → IsOnward a b a b
 onward-itself a b = (omega arith, λ e. omega arith)
 
--- what doesn't lie past a place starts there or before it
+-- what isn't past a place starts there or before it
 pub begun-not_from : (seq start : ℕ) (b : Row) → is_from seq (start + 1) b ≡ false → IsOnward b.seq b.start seq start
 begun-not_from seq start b not = (
   elim (cases_lt seq b.seq) [

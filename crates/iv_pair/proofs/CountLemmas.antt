@@ -19,7 +19,7 @@ use Rattle.iv_index.specs.declared.place.Place.{Place}
 use Rattle.iv_pair.specs.Hits.{overlaps, hits_of}
 use Rattle.iv_pair.specs.Counts.{is_before, is_up_to, begins_before, ends_by, place_before, end_by, end_of, AreEndsOf, AreStartsOf, EndsAscend}
 use Rattle.iv_pair.specs.PairSweeps.{Precedes}
-use Rattle.iv_pair.specs.declared.ends.End.{End}
+use Rattle.iv_pair.specs.declared.count_sweep.End.{End}
 use Rattle.iv_pair.proofs.FrontLemmas.{count-implied, count-map, split_up-cons}
 use Rattle.iv_pair.proofs.ReachLemmas.{precedes}
 
@@ -77,7 +77,7 @@ ended-more seq at s t rows low same = count-implied (ends_by seq at) (ends_by s 
 
 -- ---- places as records
 
--- the places lie where the records do
+-- the places are where the records are
 abbrev LieAs : List Place → List Row → Type 0
 LieAs places rows = map spot_of_place places ≡ map spot_of_row rows
 

@@ -4,7 +4,7 @@ use Rattle.std.specs.List.Sorted.{IsPartitionedBy}
 use Rattle.iv_text.specs.Ordered.{AreInOrder}
 use Rattle.iv_text.specs.Row.{Row}
 use Rattle.iv_index.specs.declared.place.Place.{Place}
-use Rattle.iv_pair.specs.declared.ends.End.{End}
+use Rattle.iv_pair.specs.declared.count_sweep.End.{End}
 
 -- two lists of records
 pub record Lists : Type 0 where

@@ -1,19 +1,22 @@
 //! How many hits each record has, in one sweep over the records of two texts.
-ghost use Rattle.std.specs.Prelude.{◌≡◌, IfOk};
+ghost use Rattle.std.specs.Prelude.{◌≡◌, ◌<◌, ◌≤◌, IfOk, count_by, length, map};
+ghost use Rattle.std.specs.List.Sorted.{IsPermutation};
 ghost use Rattle.iv_bytes.specs.Sinks.{Puts};
 ghost use Rattle.iv_text.specs.Ordered.{AreInOrder};
+ghost use Rattle.iv_pair.specs.Counts.{EndsAscend, StartsAscend, end_by, end_of, is_before, is_up_to, place_before};
 ghost use Rattle.iv_pair.specs.PairRows.{pair_text};
 ghost use Rattle.iv_pair.specs.declared.intersect.IntersectRows.TheVariants.{Count};
 ghost use Rattle.iv_pair.specs.declared.pair_rows.PairRows.TheVariants.{Intersect};
 
-use crate::ends::{End, ends_of, pass_ends};
 use crate::lines::put_count;
-use crate::starts::{count_starts, pass_starts};
 use iv_bytes::{Sink, WriteFault};
-use iv_index::TextRecords;
+use iv_index::{Place, TextRecords};
 use iv_text::Genome;
 use std::alloc::{AllocError, Allocator, Global};
 use std::marker::Model;
+
+/// How many places are looked at one after another, before a search goes over those that are left.
+const FEW: usize = 8;
 
 /// Two lists of records in order, and where those of the second end: 8 bytes for each of them.
 ///
@@ -83,4 +86,94 @@ impl<'t, A: Allocator + Copy> CountSweep<'t, A> {
         }
         Ok(())
     }
+}
+
+/// Where a record ends. Ends are in order by the rank of the sequence, and then by the stop.
+#[derive(Clone, Copy, Debug, PartialEq, Eq, PartialOrd, Ord)]
+struct End {
+    /// The rank of the sequence in the genome.
+    seq: u32,
+    /// The stop of the record, not included.
+    stop: u32,
+}
+
+/// The ends of these places, in order: 8 bytes for each.
+fn ends_of<A: Allocator>(alloc: A, places: &[Place]) -> Result<Vec<End, A>, AllocError>
+    ensures moved { IfOk result (λ ends. IsPermutation (map end_of places.now) ends.items) }
+    ensures ordered { IfOk result (λ ends. EndsAscend ends.items) }
+{
+    let mut ends = Vec::with_capacity(alloc, places.len())?;
+    for place in places {
+        ends.push(End {
+            seq: place.seq,
+            stop: place.stop,
+        })?;
+    }
+    ends.sort_unstable();
+    Ok(ends)
+}
+
+/// How many of the ends are at a position or before it, where it is known that so many are.
+fn pass_ends(ends: &[End], from: usize, seq: u32, at: u64) -> usize
+    requires ordered { EndsAscend ends.now }
+    requires from { from ≤ count_by (end_by seq at) ends.now }
+    ensures { result ≡ count_by (end_by seq at) ends.now }
+{
+    let mut passed = from;
+    while passed < ends.len() {
+        if !is_by(&ends[passed], seq, at) {
+            return passed;
+        }
+        passed += 1;
+    }
+    passed
+}
+
+/// Whether an end is at a position of a sequence or before it.
+fn is_by(end: &End, seq: u32, at: u64) -> bool
+    ensures { result ≡ is_up_to seq at end.now.seq end.now.stop }
+{
+    end.seq < seq || end.seq == seq && u64::from(end.stop) <= at
+}
+
+/// How many places begin before a position, where it is known that so many do.
+///
+/// The next few are looked at one after another. Where all of them begin before it, the others are searched.
+fn count_starts(places: &[Place], from: usize, seq: u32, at: u64) -> usize
+    requires ordered { StartsAscend places.now }
+    requires from { from ≤ count_by (place_before seq at) places.now }
+    ensures { result ≡ count_by (place_before seq at) places.now }
+{
+    let until = from + FEW.min(places.len() - from);
+    let passed = pass_starts(places, from, until, seq, at);
+    if passed < until {
+        return passed;
+    }
+    let others = &places[passed..];
+    passed + others.partition_point(|place| begins_before(place, seq, at))
+}
+
+/// Passes places that begin before a position, where it is known that so many do. It goes no further than to an index.
+fn pass_starts(places: &[Place], from: usize, until: usize, seq: u32, at: u64) -> usize
+    requires ordered { StartsAscend places.now }
+    requires from { from ≤ count_by (place_before seq at) places.now }
+    requires until { until ≤ length places.now }
+    ensures few { result ≤ count_by (place_before seq at) places.now }
+    ensures all { result < until → result ≡ count_by (place_before seq at) places.now }
+{
+    let mut passed = from;
+    while passed < until {
+        if !begins_before(&places[passed], seq, at) {
+            return passed;
+        }
+        passed += 1;
+    }
+    passed
+}
+
+/// Whether a place begins before a position of a sequence.
+fn begins_before(place: &Place, seq: u32, at: u64) -> bool
+    ensures { result ≡ is_before seq at place.now.seq place.now.start }
+{
+    place.seq < seq || place.seq == seq && u64::from(place.start) < at
 }

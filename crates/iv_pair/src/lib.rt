@@ -3,12 +3,9 @@
 #![tactic(auto)]
 
 mod active_hits;
-mod beside;
 mod carried;
 mod count_sweep;
 mod counted_edits;
-mod cover_alone;
-mod ends;
 mod hit_finder;
 mod hits;
 mod intersect;
@@ -17,20 +14,15 @@ mod lengths;
 mod lines;
 mod pair_rows;
 mod pair_sweep;
-mod printing;
 mod second;
-mod starts;
 mod subtract;
-mod sweep_rows;
 
 pub use count_sweep::CountSweep;
-pub use cover_alone::needs_cover_alone;
 pub use hits::{Hits, is_from, overlaps};
 pub use intersect::{IntersectRows, put_intersect};
 pub use iv_fasta::{Fasta, FastaRows, complement, print_fasta, put_fasta};
 pub use laws::{overlap_is_a_shared_position, uncovered_parts_are_maximal};
-pub use pair_rows::{PairRows, put_pair_rows};
+pub use pair_rows::{PairRows, needs_cover_alone, print_pairs, put_pair_rows};
 pub use pair_sweep::PairSweep;
-pub use printing::print_pairs;
 pub use second::Second;
 pub use subtract::put_subtract;

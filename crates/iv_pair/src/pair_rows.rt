@@ -1,16 +1,20 @@
-//! The rows of one record and its hits, of an intersect or a subtract.
-ghost use Rattle.std.specs.Prelude.{List};
+//! The rows of an intersect or a subtract: those of one record and its hits, and those of all records of a track.
+ghost use Rattle.std.specs.Prelude.{◌≡◌, IsTrue, List};
 ghost use Rattle.std.specs.Iterator.{AlwaysYields, UpTo};
 ghost use Rattle.iv_bytes.specs.Sinks.{Puts};
 ghost use Rattle.iv_text.specs.Ordered.{AreInOrder};
 ghost use Rattle.iv_text.specs.Row.{Row};
+ghost use Rattle.iv_pair.specs.CoverAlone.{DependsOnCoverAlone, needs_cover_alone};
 ghost use Rattle.iv_pair.specs.Hits.{hits_of};
-ghost use Rattle.iv_pair.specs.PairRows.{pair_rows};
+ghost use Rattle.iv_pair.specs.PairRows.{pair_rows, pair_text};
 
+use crate::hit_finder::HitFinder;
 use crate::intersect::{IntersectRows, put_intersect};
+use crate::second::Second;
 use crate::subtract::put_subtract;
 use iv_bytes::{Sink, WriteFault};
 use iv_text::{BedRecord, Genome};
+use iv_track::{Meter, Track};
 use std::alloc::Allocator;
 
 /// Which rows are put of a record and its hits.
@@ -20,6 +24,47 @@ pub enum PairRows {
     Intersect(IntersectRows),
     /// Those of a subtract; where this is true, only whole records are taken away: `-A`.
     Subtract(bool),
+}
+
+/// Whether these rows depend on the second list only by which positions its records cover. They do for each subtract, and
+/// for an intersect that only asks whether a record has a hit: `-u` and `-v`.
+///
+/// Where it is true, another second list that covers the same positions gives the same text.
+pub fn needs_cover_alone(rows: PairRows) -> bool
+    ensures value { result ≡ needs_cover_alone rows }
+    ensures alone { IsTrue result → DependsOnCoverAlone rows }
+{
+    match rows {
+        PairRows::Intersect(IntersectRows::IfHit | IntersectRows::IfNoHit) => true,
+        PairRows::Intersect(_) => false,
+        PairRows::Subtract(_) => true,
+    }
+}
+
+/// Puts the rows of each record of the track, in its order, as bedtools intersect or subtract does.
+///
+/// One walk over the track, and no memory. On a fault the sink has taken a prefix of the text.
+pub fn print_pairs<A: Allocator + Copy, S: Sink>(
+    rows: PairRows,
+    track: &Track<A>,
+    second: &Second<A>,
+    genome: &Genome<A>,
+    meter: &mut Meter,
+    sink: &mut S,
+) -> Result<(), WriteFault>
+    ensures { Puts (S.state sink.old) (S.state sink.new) result (pair_text rows genome.now track.now.rows second.now.rows) }
+{
+    // The records of the second file are in order.
+    let _count = second.len();
+    let mut finder = HitFinder::of(second, meter);
+    let mut walk = track.walk(0, 0, meter);
+    while let Some(row) = walk.next(meter) {
+        finder.seek(row.seq(), row.start(), row.stop(), meter);
+        let hits = finder.hits();
+        hits.law_of_few();
+        put_pair_rows(rows, genome, row, hits, sink)?;
+    }
+    Ok(())
 }
 
 /// Puts the rows of one record and its hits, in the order of a track, which any iterator may give.

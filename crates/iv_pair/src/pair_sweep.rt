@@ -1,12 +1,16 @@
-//! One sweep over the records of two texts.
+//! The rows of an intersect or a subtract, in one sweep over the records of two texts.
 ghost use Rattle.std.specs.Prelude.{◌≡◌, ◌+◌, ◌≤◌, ◌++◌, length, filter, All, IfOk, vec_len, vec_capacity};
+ghost use Rattle.iv_bytes.specs.Sinks.{Puts};
 ghost use Rattle.iv_text.specs.Ordered.{AreInOrder};
+ghost use Rattle.iv_pair.specs.PairRows.{pair_text};
 ghost use Rattle.iv_pair.specs.Pairs.{Gives};
-ghost use Rattle.iv_pair.specs.PairSweeps.{Covers, HitAlike, reaches};
+ghost use Rattle.iv_pair.specs.PairSweeps.{Covers, HitAlike, is_past, reaches};
 
 use crate::active_hits::ActiveHits;
-use crate::beside::{is_past, reaches};
+use crate::pair_rows::{PairRows, put_pair_rows};
+use iv_bytes::{Sink, WriteFault};
 use iv_index::{TextRecord, TextRecords};
+use iv_text::Genome;
 use std::alloc::{AllocError, Allocator, Global};
 use std::marker::Model;
 
@@ -70,8 +74,28 @@ impl<'t, A: Allocator + Copy> PairSweep<'t, A> {
         })
     }
 
+    /// Puts the rows of each record of the first list that is left, in its order, as bedtools intersect or subtract does.
+    ///
+    /// It takes no memory. On a fault the sink has taken a prefix of the text.
+    pub fn print<S: Sink>(
+        &mut self,
+        rows: PairRows,
+        genome: &Genome<A>,
+        sink: &mut S,
+    ) -> Result<(), WriteFault>
+        ensures { Puts (S.state sink.old) (S.state sink.new) result (pair_text rows genome.now self.old.first self.old.second) }
+    {
+        self.law_of_order();
+        while let Some(row) = self.next() {
+            let hits = self.hits();
+            hits.law_of_few();
+            put_pair_rows(rows, genome, &row, hits, sink)?;
+        }
+        Ok(())
+    }
+
     /// A law for callers' proofs: the second list is in order. The call does nothing.
-    pub(crate) fn law_of_order(&self)
+    fn law_of_order(&self)
         ensures { AreInOrder self.now.second }
     {
         // What is read has its invariant.
@@ -79,11 +103,11 @@ impl<'t, A: Allocator + Copy> PairSweep<'t, A> {
     }
 
     /// The next record of the first list. `hits` then has its hits.
-    pub(crate) fn next(&mut self) -> Option<TextRecord<'t>>
+    fn next(&mut self) -> Option<TextRecord<'t>>
         ensures { Gives self.old result self.new }
     {
-        let (row, _) = self.first.split_first()?;
-        self.first.drop_first();
+        let (row, others) = self.first.split_first()?;
+        self.first = others;
         row.law_of_place();
         drop_passed(&mut self.active, &row);
         take_begun(&mut self.active, &mut self.rest, &row);
@@ -94,7 +118,7 @@ impl<'t, A: Allocator + Copy> PairSweep<'t, A> {
     }
 
     /// The hits of the record that was given last, in the order of the second list.
-    pub(crate) fn hits(&self) -> ActiveHits<'_, 't>
+    fn hits(&self) -> ActiveHits<'_, 't>
         ensures { result ≡ self.now.found }
     {
         ActiveHits {
@@ -130,14 +154,28 @@ fn take_begun<'t, A: Allocator>(
     ensures active { All (Covers row.now) active.new.items }
     ensures alike { HitAlike row.now (active.new.items ++ rest.new) (active.old.items ++ rest.old) }
 {
-    while let Some((next, _)) = rest.split_first() {
+    while let Some((next, others)) = rest.split_first() {
         if is_past(row, &next) {
             break;
         }
-        rest.drop_first();
+        *rest = others;
         if reaches(row, &next) {
             // There is room for it: `new` took as much as the second list is long.
             let _ = active.push(next);
         }
     }
+}
+
+/// Whether `b` is on the sequence of `a` and stops past its start.
+fn reaches(a: &TextRecord<'_>, b: &TextRecord<'_>) -> bool
+    ensures { result ≡ reaches a.now b.now }
+{
+    b.seq() == a.seq() && a.start() < b.stop()
+}
+
+/// Whether `b` is on a later sequence than `a`, or starts past its start.
+fn is_past(a: &TextRecord<'_>, b: &TextRecord<'_>) -> bool
+    ensures { result ≡ is_past a.now b.now }
+{
+    a.seq() < b.seq() || b.seq() == a.seq() && a.start() < b.start()
 }

@@ -123,7 +123,7 @@ impl<A: Allocator + Copy> Second<A> {
 
     /// Adds the new record, of the width, and takes one copy of the old one. At most 16 steps.
     ///
-    /// Where there are as many records as the limit, that is no hindrance.
+    /// It is not refused where there are as many records as the limit.
     ///
     /// # Errors
     ///

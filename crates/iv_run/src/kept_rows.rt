@@ -4,11 +4,10 @@ ghost use Rattle.iv_text.specs.Ordered.{AreInOrder};
 ghost use Rattle.iv_text.specs.Read.{IsOnGenome};
 ghost use Rattle.iv_run.specs.Places.{NeedsPlacesAlone};
 ghost use Rattle.iv_run.specs.Prints.{Prints};
-ghost use Rattle.iv_blocks.specs.PlainOptions.{IsPlain};
 ghost use Rattle.iv_view.specs.Views.{kept_text};
 
 use crate::fault::CliFault;
-use iv_blocks::{MergeSweep, Options, put_cluster, put_complement, put_merge};
+use iv_blocks::{MergeSweep, put_cluster, put_complement, put_merge};
 use iv_bytes::{Buffered, Sink};
 use iv_depth::DepthSweep;
 use iv_index::TextRecords;
@@ -17,12 +16,12 @@ use iv_view::KeptView;
 use std::alloc::Allocator;
 
 /// Whether the rows of a view depend on nothing of a record but its place, as those of `complement`, of `genomecov`, and of a
-/// `merge` that joins both strands and asks nothing of a block.
+/// `merge` that joins both strands and prints no summary.
 pub(crate) fn needs_places_alone(view: &KeptView) -> bool
     ensures { IsTrue result → NeedsPlacesAlone view.now }
 {
     match view {
-        KeptView::Merge(options) => is_plain(options),
+        KeptView::Merge(options) => options.is_plain(),
         KeptView::Cluster(_) => false,
         KeptView::Complement(_) | KeptView::Genomecov(_) => true,
     }
@@ -68,7 +67,7 @@ fn put_kept<'t, A: Allocator + Copy, S: Sink>(
 {
     match view {
         KeptView::Merge(options) => {
-            if is_plain(&options) {
+            if options.is_plain() {
                 put_merge(options.distance, &records, genome, sink)?;
             } else {
                 MergeSweep::new(alloc, options, records)?.print(genome, sink)?;
@@ -81,11 +80,4 @@ fn put_kept<'t, A: Allocator + Copy, S: Sink>(
         }
     }
     Ok(())
-}
-
-/// Whether a merge joins both strands and asks nothing of a block.
-fn is_plain(options: &Options) -> bool
-    ensures { IsTrue result → IsPlain options.now.distance options.now }
-{
-    !options.stranded && options.summaries.as_slice().is_empty()
 }

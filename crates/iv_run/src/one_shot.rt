@@ -36,13 +36,7 @@ pub fn shot<A: Allocator + Copy, S: Sink>(
         (shown plan.now inputs.now.sizes.now inputs.now.first.now (option_copied inputs.now.other) (option_map (λ text. text.items) bases) limit) }
 {
     let files = TextFiles::read(alloc, plan, inputs, bases, limit)?;
-    let view = View::read(
-        alloc,
-        files.width(),
-        files.has_second(),
-        files.has_bases(),
-        plan.view_words(),
-    )?;
+    let view = plan.view_beside(files.width(), files.has_second(), files.has_bases())?;
     match view {
         View::Kept(view) => files.print_kept(alloc, view, sink),
         View::Written(WrittenView::Paired(rows)) => files.print_pairs(alloc, rows, sink),

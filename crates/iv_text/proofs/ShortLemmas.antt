@@ -23,7 +23,7 @@ use Rattle.iv_text.specs.GenomeFile.{begins_with}
 use Rattle.iv_text.specs.Read.{column, bad_text, is_line_byte}
 use Rattle.iv_text.specs.Row.{strand_of}
 use Rattle.iv_text.specs.ShortLine.{IsShortLine}
-use Rattle.iv_text.specs.declared.short_line.ShortLine.{ShortLine}
+use Rattle.iv_text.specs.declared.record_reader.ShortLine.{ShortLine}
 
 -- ---- bytes that are no end of a line
 

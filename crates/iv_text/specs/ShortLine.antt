@@ -5,7 +5,7 @@ use Rattle.iv_text.specs.Genome.{Sequences}
 use Rattle.iv_text.specs.Lines.{lines}
 use Rattle.iv_text.specs.Read.{read, Fits}
 use Rattle.iv_text.specs.Row.{Row}
-use Rattle.iv_text.specs.declared.short_line.ShortLine.{ShortLine}
+use Rattle.iv_text.specs.declared.record_reader.ShortLine.{ShortLine}
 
 -- the first line of the text says a record of this width that is here, and the next line begins so many bytes further on
 pub record IsShortLine (g : Sequences) (width : ℕ) (text : List ℕ) (l : ShortLine) : Type 0 where

@@ -22,7 +22,6 @@ mod record_reader;
 mod record_ref;
 mod record_text;
 mod row_buffer;
-mod short_line;
 mod strand;
 
 pub use after_text::{AfterText, NameHasher};
@@ -45,9 +44,8 @@ pub use name_map::NameMap;
 pub use number::{read_digits, read_number};
 pub use reading::read_record;
 pub use record::Record;
-pub use record_reader::RecordReader;
+pub use record_reader::{RecordReader, ShortLine};
 pub use record_ref::RecordRef;
 pub use record_text::{put_line, put_numbered, put_record, put_row, strand_bytes};
 pub use row_buffer::{RowBuffer, put_interval};
-pub use short_line::ShortLine;
 pub use strand::{Strand, read_strand};

@@ -15,11 +15,23 @@ use crate::lines::after_line_end;
 use crate::number::split_number;
 use crate::reading::{are_sound, optional_columns_of, read_record};
 use crate::record_ref::RecordRef;
-use crate::short_line::ShortLine;
 use crate::strand::read_strand;
 use bstr::ByteSlice;
 use std::alloc::Allocator;
 use std::marker::Model;
+
+/// The first line of a text: where its record is, 0-based and half-open, and how long the line is.
+#[derive(Clone, Copy, Debug)]
+pub struct ShortLine {
+    /// The rank of its sequence in the genome.
+    pub seq: u32,
+    /// Where it starts, from 0.
+    pub start: u32,
+    /// Where it stops, not included.
+    pub stop: u32,
+    /// How many bytes the line has, its LF with them.
+    pub size: usize,
+}
 
 /// A sequence as a line names it, with its rank and its length.
 #[derive(Clone, Copy, Debug)]

@@ -6,10 +6,12 @@ mod fault;
 mod laws;
 mod ledger;
 mod meter;
+mod rows;
 mod track;
 
 pub use fault::EditFault;
 pub use laws::{one_record_added, one_record_removed};
 pub use ledger::{Ledger, Walk};
 pub use meter::Meter;
-pub use track::{Rows, Track};
+pub use rows::Rows;
+pub use track::Track;

@@ -2,7 +2,6 @@
 ghost use Rattle.std.specs.Prelude.{◌≡◌, ◌+◌, ◌-◌, ◌^◌, ◌<◌, ◌≤◌, [], length, Some, None, IfOk, IfErr, OnOk, OnErr, All, option_map, vec_len};
 ghost use Rattle.std.specs.Map.Iter.{deref_pair};
 ghost use Rattle.std.specs.List.{filter};
-ghost use Rattle.std.specs.Iterator.{YieldsFirstRef};
 ghost use Rattle.iv_text.specs.Row.{Row, row_cmp};
 ghost use Rattle.iv_text.specs.Ordered.{AreInOrder, copies, ordered};
 ghost use Rattle.iv_track.specs.Edits.{RefusesAdd, RefusesRemove, RefusesReplace, with_record, without_record, with_replaced};
@@ -11,8 +10,9 @@ ghost use Rattle.iv_track.specs.Tracked.{BeginsFrom, most_records};
 
 use crate::counted::Counted;
 use crate::fault::EditFault;
-use crate::ledger::{Ledger, Walk};
+use crate::ledger::Ledger;
 use crate::meter::Meter;
+use crate::rows::Rows;
 use iv_text::Record;
 use std::alloc::{AllocError, Allocator, Global};
 use std::marker::Model;
@@ -276,54 +276,4 @@ fn least_from<A: Allocator + Copy>(alloc: A, seq: u32, start: u64) -> Option<Rec
     // No record starts so late.
     let next = seq.checked_add(1)?;
     Some(Record::least_at(alloc, next, 0))
-}
-
-/// A walk over records of a track, in its order: an iterator whose `next` counts its steps.
-///
-/// A record comes once for each of its copies. Its model is the list of the records that are left.
-#[derive(Drop)]
-pub struct Rows<'a, A: Allocator + Copy = Global> {
-    entries: Walk<'a, Record<A>, u32>,
-    held: Option<(&'a Record<A>, u32)>,
-}
-
-impl<'a, A: Allocator + Copy> Model for Rows<'a, A> {
-    ghost use Rattle.std.specs.Prelude.{List, ◌++◌, ◌<◌, All};
-    ghost use Rattle.std.specs.Map.{values_of};
-    ghost use Rattle.iv_text.specs.Row.{Row};
-    ghost use Rattle.iv_track.specs.Copies.{expanded, again};
-
-    ghost Value = { List Row };
-
-    ghost view = { λ w. again w.held ++ expanded w.entries };
-
-    ghost invariant = { λ w. All (λ n. 0 < n) (values_of w.entries) };
-}
-
-impl<'a, A: Allocator + Copy> Rows<'a, A> {
-    /// The next record, `None` after the last. A call is at most one step.
-    pub fn next(&mut self, meter: &mut Meter) -> Option<&'a Record<A>>
-        ensures row { YieldsFirstRef (λ rows. rows) self.old result self.new }
-        ensures steps { TakesUpTo meter.old meter.new 1 }
-    {
-        if let Some((row, left)) = self.held {
-            if left > 0 {
-                self.held = Some((row, left - 1));
-                return Some(row);
-            }
-        }
-        let (row, count) = self.entries.next(meter)?;
-        self.held = Some((row, *count - 1));
-        Some(row)
-    }
-
-    /// The same walk once more, from where it is now. It is no step, and takes no memory.
-    pub fn again(&self) -> Rows<'a, A>
-        ensures { result ≡ self.now }
-    {
-        Rows {
-            entries: self.entries.again(),
-            held: self.held,
-        }
-    }
 }

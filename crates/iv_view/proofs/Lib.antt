@@ -6,4 +6,5 @@ mod RowLemmas
 mod MergeArgsLemmas
 mod SameLemmas
 mod SummaryLemmas
+pub mod NarrowingLemmas
 pub mod WordLemmas

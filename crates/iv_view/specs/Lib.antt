@@ -8,4 +8,5 @@ pub mod Intersect
 pub mod Subtract
 pub mod Getfasta
 pub mod Views
+pub mod Narrowing
 pub mod KeptStates

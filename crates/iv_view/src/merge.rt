@@ -3,9 +3,9 @@ ghost use Rattle.std.specs.Prelude.{◌≡◌, ◌≤◌, [], ◌∷◌, None, n
 ghost use Rattle.std.specs.List.{zip};
 ghost use Rattle.std.specs.Option.{option_map, option_copied};
 ghost use Rattle.iv_blocks.specs.Groups.{filled};
-ghost use Rattle.iv_cover.specs.Columns.{column_numbered};
 ghost use Rattle.iv_view.specs.Lists.{all_some, pairs};
-ghost use Rattle.iv_view.specs.Merge.{said_by, nothing_said, merge_options, asked_summaries, distance_of, lists_of, summary_within, column_within as column_in};
+ghost use Rattle.iv_view.specs.Merge.{said_by, nothing_said, merge_options, asked_summaries, distance_of, lists_of, summary_within};
+ghost use Rattle.iv_view.specs.Narrowing.{number_of as number_of_column, has_columns as columns_are_there, narrowed_options};
 
 use crate::fault::ViewFault;
 use crate::lists::{MOST_ITEMS, read_items, repeated};
@@ -25,17 +25,14 @@ struct Lists {
     ops: ArrayVec<Op, MOST_ITEMS>,
 }
 
-/// The options that the words after `merge` say, on a track of this width.
-pub(crate) fn read_merge(width: u8, words: &[&[u8]]) -> Result<Options, ViewFault>
-    ensures { result ≡ merge_options width (said_by (map (λ word. word.now) words.now) nothing_said) }
+/// The options that the words after `merge` say, for records of six columns.
+pub(crate) fn read_merge(words: &[&[u8]]) -> Result<Options, ViewFault>
+    ensures { result ≡ merge_options 6 (said_by (map (λ word. word.now) words.now) nothing_said) }
 {
     let said = MergeArgs::read(words).ok_or(ViewFault::Words)?;
     let distance = read_distance(said.distance).ok_or(ViewFault::Words)?;
     let lists = read_lists(said.columns, said.ops).ok_or(ViewFault::Words)?;
-    let summaries = read_summaries(width, lists.columns.as_slice(), lists.ops.as_slice())?;
-    if said.stranded && width < 6 {
-        return Err(ViewFault::NoStrand);
-    }
+    let summaries = read_summaries(lists.columns.as_slice(), lists.ops.as_slice())?;
     Ok(Options {
         distance,
         stranded: said.stranded,
@@ -87,38 +84,64 @@ fn usual_ops() -> ArrayVec<Op, MOST_ITEMS>
     ops
 }
 
-/// The summaries that columns and operations ask for, paired off, on a track of this width.
-fn read_summaries(width: u8, columns: &[u64], ops: &[Op]) -> Result<Summaries, ViewFault>
+/// The summaries that columns and operations ask for, paired off.
+fn read_summaries(columns: &[u64], ops: &[Op]) -> Result<Summaries, ViewFault>
     requires few { (length columns.now ≤ 16) × (length ops.now ≤ 16) }
-    ensures { result ≡ asked_summaries width (pairs columns.now ops.now) }
+    ensures { result ≡ asked_summaries 6 (pairs columns.now ops.now) }
 {
     let count = columns.len().max(ops.len());
     let columns = repeated(columns, count).ok_or(ViewFault::Words)?;
     let ops = repeated(ops, count).ok_or(ViewFault::Words)?;
-    summaries_of(width, columns.as_slice(), ops.as_slice()).ok_or(ViewFault::Column)
+    summaries_of(columns.as_slice(), ops.as_slice()).ok_or(ViewFault::Column)
 }
 
-/// The summaries of columns and operations side by side, if a track of this width has the columns.
-fn summaries_of(width: u8, columns: &[u64], ops: &[Op]) -> Option<Summaries>
+/// The summaries of columns and operations side by side, if there are such columns.
+fn summaries_of(columns: &[u64], ops: &[Op]) -> Option<Summaries>
     requires few { length columns.now ≤ 16 }
     requires paired { length ops.now ≡ length columns.now }
-    ensures { result ≡ option_map filled (all_some (map (summary_within width) (zip columns.now ops.now))) }
+    ensures { result ≡ option_map filled (all_some (map (summary_within 6) (zip columns.now ops.now))) }
 {
     let mut summaries = Summaries::none();
     for place in 0..columns.len() {
-        let column = column_within(width, columns[place])?;
+        let column = Column::numbered(columns[place])?;
         let op = ops[place];
         summaries.push(ColumnSummary { column, op });
     }
     Some(summaries)
 }
 
-/// The column of this number, if a track of this width has it.
-fn column_within(width: u8, number: u64) -> Option<Column>
-    ensures { result ≡ column_in width number }
+/// The options for records of this width, where they were read for records of six columns.
+pub(crate) fn narrow_merge(width: u8, options: Options) -> Result<Options, ViewFault>
+    ensures { result ≡ narrowed_options width options }
 {
-    if number > u64::from(width) {
-        return None;
+    if !has_columns(width, options.summaries.as_slice()) {
+        return Err(ViewFault::Column);
     }
-    Column::numbered(number)
+    if options.stranded && width < 6 {
+        return Err(ViewFault::NoStrand);
+    }
+    Ok(options)
+}
+
+/// Whether records of this width have the columns that are asked for.
+fn has_columns(width: u8, summaries: &[ColumnSummary]) -> bool
+    ensures { result ≡ columns_are_there width summaries.now }
+{
+    summaries
+        .iter()
+        .all(|asked| number_of(asked.column) <= width)
+}
+
+/// The number of a column, from 1.
+fn number_of(column: Column) -> u8
+    ensures { result ≡ number_of_column column }
+{
+    match column {
+        Column::Sequence => 1,
+        Column::Start => 2,
+        Column::Stop => 3,
+        Column::Name => 4,
+        Column::Score => 5,
+        Column::Strand => 6,
+    }
 }

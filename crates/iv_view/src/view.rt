@@ -1,6 +1,7 @@
 //! The kinds of view.
-ghost use Rattle.std.specs.Prelude.{◌≡◌, map};
+ghost use Rattle.std.specs.Prelude.{◌≡◌, true, map};
 ghost use Rattle.iv_view.specs.Views.{read_words, or_bad_words as kept_or_bad_words, beside_second as beside_a_second, beside_fasta as beside_a_fasta, needs_second as wants_second};
+ghost use Rattle.iv_view.specs.Narrowing.{narrowed as narrowed_view};
 
 use crate::cluster::read_cluster;
 use crate::complement::read_complement;
@@ -8,7 +9,7 @@ use crate::fault::ViewFault;
 use crate::genomecov::read_genomecov;
 use crate::getfasta::read_getfasta;
 use crate::intersect::read_intersect;
-use crate::merge::read_merge;
+use crate::merge::{narrow_merge, read_merge};
 use crate::subtract::read_subtract;
 use crate::written_view::WrittenView;
 use iv_blocks::Options;
@@ -55,9 +56,21 @@ impl View {
     ) -> Result<View, ViewFault>
         ensures { result ≡ read_words width has_second has_bases (map (λ word. word.now) words.now) }
     {
+        let view = View::asked(words)?;
+        view.narrowed(width, has_second, has_bases)
+    }
+
+    /// The view that words ask for, of records of six columns beside both files.
+    ///
+    /// # Errors
+    ///
+    /// `Words` where they ask for no view, then `Column`.
+    pub fn asked(words: &[&[u8]]) -> Result<View, ViewFault>
+        ensures { result ≡ read_words 6 true true (map (λ word. word.now) words.now) }
+    {
         let (word, options) = words.split_first().ok_or(ViewFault::Words)?;
         if *word == b"merge".as_slice() {
-            Ok(View::Kept(KeptView::Merge(read_merge(width, options)?)))
+            Ok(View::Kept(KeptView::Merge(read_merge(options)?)))
         } else if *word == b"cluster".as_slice() {
             or_bad_words(read_cluster(options).map(KeptView::Cluster))
         } else if *word == b"complement".as_slice() {
@@ -65,13 +78,35 @@ impl View {
         } else if *word == b"genomecov".as_slice() {
             or_bad_words(read_genomecov(options).map(KeptView::Genomecov))
         } else if *word == b"intersect".as_slice() {
-            beside_second(has_second, read_intersect(options).map(PairRows::Intersect))
+            beside_second(true, read_intersect(options).map(PairRows::Intersect))
         } else if *word == b"subtract".as_slice() {
-            beside_second(has_second, read_subtract(options).map(PairRows::Subtract))
+            beside_second(true, read_subtract(options).map(PairRows::Subtract))
         } else if *word == b"getfasta".as_slice() {
-            beside_fasta(width, has_bases, read_getfasta(options))
+            beside_fasta(6, true, read_getfasta(options))
         } else {
             Err(ViewFault::Words)
+        }
+    }
+
+    /// The view of records of this width, beside a second file and a FASTA file or without. It was read for records of six
+    /// columns beside both files, and this is what its words ask for here.
+    ///
+    /// # Errors
+    ///
+    /// `Column`, then `NoStrand`, then `NoSecond` or `NoFasta`.
+    pub fn narrowed(self, width: u8, has_second: bool, has_bases: bool) -> Result<View, ViewFault>
+        ensures { result ≡ narrowed_view width has_second has_bases self }
+    {
+        match self {
+            View::Kept(KeptView::Merge(options)) => {
+                Ok(View::Kept(KeptView::Merge(narrow_merge(width, options)?)))
+            }
+            View::Kept(KeptView::Cluster(_) | KeptView::Complement(_) | KeptView::Genomecov(_)) =>
+                Ok(self),
+            View::Written(WrittenView::Paired(rows)) => beside_second(has_second, Some(rows)),
+            View::Written(WrittenView::Getfasta(shown)) => {
+                beside_fasta(width, has_bases, Some(shown))
+            }
         }
     }
 

@@ -164,7 +164,7 @@ track-past inside s seq n same past =
     sym (or_left (list_any (reaches_past seq n) inside.track.rows) (list_any (reaches_past seq n) (second_rows inside.second)) past)
     ∙ ap (λ (t : State). has_record_past t seq n) same
 
--- none is, and so it is asked of the second file
+-- none is, and so the second file is looked at
 pub second-past : (inside s : State) (second : Option Tracked) (seq n : ℕ) (answer : Bool) → inside ≡ s → list_any (reaches_past seq n) inside.track.rows ≡ false → inside.second ≡ second
     → answer ≡ list_any (reaches_past seq n) (second_rows second) → answer ≡ has_record_past s seq n
 second-past inside s second seq n answer same none is answered =

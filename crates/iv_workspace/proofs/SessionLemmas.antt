@@ -111,7 +111,7 @@ no-name_fault inside s name words v same good free few said =
 
 -- ---- views beside a second file
 
--- views that are the same, but for which of them are stale, stand beside it too
+-- which views are stale makes no difference to that
 served-stales : (second : Option Tracked) (old new : List (List ℕ × Shown)) → Stales old new → AreServed second old → AreServed second new
 served-stales second [] [] less served = tt
 served-stales second [] (w ∷ new) less served = absurd less

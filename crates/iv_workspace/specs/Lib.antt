@@ -4,4 +4,5 @@ pub mod Edits
 pub mod Views
 pub mod Resizes
 pub mod Prints
+pub mod Changes
 pub mod ViewStates

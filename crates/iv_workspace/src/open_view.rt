@@ -1,17 +1,26 @@
 //! An open view.
-ghost use Rattle.std.specs.Prelude.{◌≡◌, ◌≢◌, ◌↔◌, All, None, Some, IfSome, IsTrue, true, false};
+ghost use Rattle.std.specs.Prelude.{◌≡◌, ◌≢◌, ◌↔◌, All, None, Some, IfSome, OnOk, IsTrue, true, false};
 ghost use Rattle.iv_text.specs.Named.{names_of};
-ghost use Rattle.iv_text.specs.Ordered.{added as with_one};
 ghost use Rattle.iv_text.specs.Read.{Fits};
-ghost use Rattle.iv_cover.specs.Kept.{IsRightWithout};
-ghost use Rattle.iv_view.specs.KeptStates.{state_key_of};
+ghost use Rattle.iv_track.specs.Steps.{TakesUpTo};
+ghost use Rattle.iv_view.specs.KeptStates.{built_for, state_key_of, IsRight, repair_steps};
+ghost use Rattle.iv_workspace.specs.Changes.{WasRight, with_edited};
 ghost use Rattle.iv_workspace.specs.ViewStates.{IsOwnRight, IsRepaired, owned};
 
 use iv_cover::Kept;
 use iv_text::{Genome, RecordRef};
 use iv_track::{Meter, Track};
 use iv_view::{KeptState, StateKey, View};
-use std::alloc::{Allocator, Global};
+use std::alloc::{AllocError, Allocator, Global};
+
+/// What an edit did to the records of a track.
+#[derive(Clone, Copy, Debug, PartialEq, Eq)]
+pub(crate) enum Change {
+    /// A copy of a record was added.
+    Added,
+    /// A copy of a record was taken out.
+    Removed,
+}
 
 /// An open view. What is kept of it is in its own state, or in that of another open view of which the same is kept.
 #[derive(Drop)]
@@ -67,55 +76,52 @@ impl<A: Allocator + Copy> OpenView<A> {
         self.state = Some(state);
     }
 
-    /// Repairs the view's own state, if it has one, after the record was added to the track.
+    /// Repairs the view's own state, if it has one, after an edit of the track.
     ///
     /// `false` where memory was refused: the state is lost, and the view is stale.
-    pub(crate) fn added(
+    pub(crate) fn repair(
         &mut self,
+        change: Change,
         track: &Track<A>,
         genome: &Genome<A>,
         row: &RecordRef<'_>,
         meter: &mut Meter,
     ) -> bool
-        requires right { IsRightWithout (λ v rows. IsOwnRight v (names_of genome.now) rows) self.old track.now.rows row.now }
+        requires right { WasRight change (λ v rows. IsOwnRight v (names_of genome.now) rows) self.old track.now.rows row.now }
         requires fit { All (Fits genome.now track.now.width) track.now.rows }
         requires fits { Fits genome.now track.now.width row.now }
-        ensures { IsRepaired (names_of genome.now) track.now.rows track.now.rows row.now result self.old self.new meter.old meter.new }
+        ensures { IsRepaired (names_of genome.now) track.now.rows (with_edited change track.now.rows row.now) row.now result self.old self.new meter.old meter.new }
     {
         let Some(mut state) = self.state.take() else {
             return true;
         };
-        if state.added(track, genome, row, meter).is_err() {
+        if repair_state(&mut state, change, track, genome, row, meter).is_err() {
             self.stale = true;
             return false;
         }
         self.state = Some(state);
         true
     }
+}
 
-    /// Repairs the view's own state, if it has one, after one copy of the record was taken out of the track.
-    ///
-    /// `false` where memory was refused: the state is lost, and the view is stale.
-    pub(crate) fn removed(
-        &mut self,
-        track: &Track<A>,
-        genome: &Genome<A>,
-        row: &RecordRef<'_>,
-        meter: &mut Meter,
-    ) -> bool
-        requires right { IsOwnRight self.old (names_of genome.now) (with_one track.now.rows row.now) }
-        requires fit { All (Fits genome.now track.now.width) track.now.rows }
-        requires fits { Fits genome.now track.now.width row.now }
-        ensures { IsRepaired (names_of genome.now) track.now.rows (with_one track.now.rows row.now) row.now result self.old self.new meter.old meter.new }
-    {
-        let Some(mut state) = self.state.take() else {
-            return true;
-        };
-        if state.removed(track, genome, row, meter).is_err() {
-            self.stale = true;
-            return false;
-        }
-        self.state = Some(state);
-        true
+/// Repairs a state after an edit of the track. After a refusal it has to be built anew.
+fn repair_state<A: Allocator + Copy>(
+    state: &mut KeptState<A>,
+    change: Change,
+    track: &Track<A>,
+    genome: &Genome<A>,
+    row: &RecordRef<'_>,
+    meter: &mut Meter,
+) -> Result<(), AllocError>
+    requires right { WasRight change (λ s rows. IsRight s (names_of genome.now) rows) state.old track.now.rows row.now }
+    requires fit { All (Fits genome.now track.now.width) track.now.rows }
+    requires fits { Fits genome.now track.now.width row.now }
+    ensures right { OnOk result (IsRight state.new (names_of genome.now) track.now.rows) }
+    ensures built_for { OnOk result (built_for state.new ≡ built_for state.old) }
+    ensures steps { TakesUpTo meter.old meter.new (repair_steps (built_for state.old) (with_edited change track.now.rows row.now) row.now) }
+{
+    match change {
+        Change::Added => state.added(track, genome, row, meter),
+        Change::Removed => state.removed(track, genome, row, meter),
     }
 }

@@ -14,7 +14,7 @@ impl<A: Allocator + Copy> Session<A> {
     /// Corrects the length of the sequence of this name. No view is built anew or becomes stale: each prints by the new
     /// length from then on. It takes no memory.
     ///
-    /// A record that was read before may not fit any more; `fits` tells.
+    /// A record that was read before may not fit any more; `fits` says whether it does.
     ///
     /// # Errors
     ///

@@ -8,6 +8,7 @@ ghost use Rattle.iv_workspace.specs.OpenViews.{all_steps, stale_count};
 ghost use Rattle.iv_workspace.specs.States.{IsButStale, with_track};
 
 use super::{Accepted, Session};
+use crate::open_view::Change;
 use iv_text::RecordRef;
 use iv_track::{EditFault, Meter};
 use std::alloc::Allocator;
@@ -29,7 +30,8 @@ impl<A: Allocator + Copy> Session<A> {
         let record = row.to_record(self.alloc)?;
         let mut meter = Meter::new();
         self.track.add(record, &mut meter)?;
-        self.views.added(&self.track, &self.genome, row, &mut meter);
+        self.views
+            .repair(Change::Added, &self.track, &self.genome, row, &mut meter);
         Ok(Accepted::of(&meter, &self.views))
     }
 
@@ -49,8 +51,7 @@ impl<A: Allocator + Copy> Session<A> {
         let record = row.to_record(self.alloc)?;
         let mut meter = Meter::new();
         self.track.remove(&record, &mut meter)?;
-        self.views
-            .removed(&self.track, &self.genome, row, &mut meter);
+        self.views.repair(Change::Removed, &self.track, &self.genome, row, &mut meter);
         Ok(Accepted::of(&meter, &self.views))
     }
 
@@ -82,12 +83,12 @@ impl<A: Allocator + Copy> Session<A> {
             return Err(EditFault::Absent);
         }
         self.track.stage(after, &mut meter)?;
-        self.views.added(&self.track, &self.genome, new, &mut meter);
+        self.views
+            .repair(Change::Added, &self.track, &self.genome, new, &mut meter);
         let Ok(()) = self.track.remove(&before, &mut meter) else {
             unreachable!()
         };
-        self.views
-            .removed(&self.track, &self.genome, old, &mut meter);
+        self.views.repair(Change::Removed, &self.track, &self.genome, old, &mut meter);
         Ok(Accepted::of(&meter, &self.views))
     }
 }

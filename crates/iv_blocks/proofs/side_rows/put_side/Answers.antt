@@ -20,7 +20,7 @@ loop-found-init g c =
     let d = c.args.options.now.distance in
     let on = is_on c.args.side in
     let given : c.into_iter-found-iterator.result ≡ coming d None (filter on c.args.records.now)
-    = c.into_iter-found-iterator.ensures.into_iter_gives ∙ c.of-found-items.ensures ∙ ap (λ (l : List Row). coming d None (filter on l)) c.again.ensures in
+    = c.into_iter-found-iterator.ensures.into_iter_gives ∙ c.of-found-items.ensures in
     record {
       put = rw given (Underway-begin _ _);
       few = omega (arith, ap (λ (l : List Group). length (members_of l)) given, ap (λ (l : List Row). length l) (coming-members d (filter on c.args.records.now) None), few on c.args.records.now);

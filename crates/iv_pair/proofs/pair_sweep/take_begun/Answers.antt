@@ -1,4 +1,4 @@
-use Rattle.std.proofs.Common.{◌≡◌, ◌<◌, [], ◌∷◌, ◌++◌, All, drop, length, vec_len, vec_capacity, List, sym, ap, ◌∙◌, subst, arith}
+use Rattle.std.proofs.Common.{◌≡◌, ◌<◌, [], ◌∷◌, ◌++◌, All, length, vec_len, vec_capacity, List, sym, ap, ◌∙◌, subst, arith}
 use Rattle.std.specs.Result.{is_ok}
 use Rattle.std.proofs.lemmas.Bool.{cond-true}
 use Rattle.std.proofs.lemmas.List.Elements.{All-push}
@@ -13,9 +13,9 @@ pub loop-next-preserved-then-reaches : goal.loop-next-preserved-then-reaches
 loop-next-preserved-then-reaches g c =
     let a = c.args.row.now in
     let b = c.in-Some.next in
-    let bs = c.drop_first.new.self in
+    let bs = c.in-Some.others in
     let i = c.loop-next.invariant in
-    let e : c.loop-next.rest ≡ b ∷ bs = c.in-Some.ensures ∙ ap (λ (l : List Row). b ∷ l) (sym (ap (drop 1) c.in-Some.ensures) ∙ sym c.drop_first.ensures) in
+    let e : c.loop-next.rest ≡ b ∷ bs = c.in-Some.ensures in
     let held = c.loop-next.active.items in
     let old = c.args.active.now.items ++ c.args.rest.now in
     let cover : Covers a b = covers a b (past-not a b (sym c.is_past.ensures ∙ c.if-is_past.false)) (sym c.reaches.ensures ∙ c.if-reaches.true) in
@@ -32,9 +32,9 @@ pub loop-next-preserved : goal.loop-next-preserved
 loop-next-preserved g c =
     let a = c.args.row.now in
     let b = c.in-Some.next in
-    let bs = c.drop_first.new.self in
+    let bs = c.in-Some.others in
     let i = c.loop-next.invariant in
-    let e : c.loop-next.rest ≡ b ∷ bs = c.in-Some.ensures ∙ ap (λ (l : List Row). b ∷ l) (sym (ap (drop 1) c.in-Some.ensures) ∙ sym c.drop_first.ensures) in
+    let e : c.loop-next.rest ≡ b ∷ bs = c.in-Some.ensures in
     let held = c.loop-next.active.items in
     let old = c.args.active.now.items ++ c.args.rest.now in
     record {

@@ -3,7 +3,7 @@ use Rattle.iv_run.proofs.PlacesAlone.{complement-bare, genomecov-bare, merge-bar
 use Rattle.iv_run.proofs.kept_rows.needs_places_alone.Goals as goal
 
 pub returns-in-Merge : goal.returns-in-Merge
-returns-in-Merge c = λ plain g rows. rw c.in-Merge.is (merge-bare c.in-Merge.options.distance c.in-Merge.options g rows (c.is_plain.ensures plain))
+returns-in-Merge c = λ plain g rows. rw c.in-Merge.is (merge-bare c.in-Merge.options.distance c.in-Merge.options g rows (c.is_plain.ensures.0 plain))
 
 pub returns-in-Complement : goal.returns-in-Complement
 returns-in-Complement c = λ _ g rows. elim c.in-Complement.is [

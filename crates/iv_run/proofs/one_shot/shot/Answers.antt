@@ -10,7 +10,7 @@ print_pairs-requires g c =
     let one = c.in-Written-Paired.is in
     let two : c.in-Written-Paired.field-0 ≡ written.Paired c.in-Written-Paired.rows = rw one at c.in-Written-Paired.field-0-is in
     let view-is : c.in_ok-view.view ≡ view.Written (written.Paired c.in-Written-Paired.rows) = one ∙ ap view.Written two in
-    let asked = sym (rw (c.width.ensures, c.has_second.ensures, c.has_bases.ensures, c.view_words.ensures) at c.in_ok-view.ensures) in
+    let asked = sym (rw (c.width.ensures, c.has_second.ensures, c.has_bases.ensures) at c.in_ok-view.ensures) in
     let files = c.in_ok-files.files in
     needs-there files.first.width (is_some files.second) (is_some files.bases) c.args.plan.now.view (view.Written (written.Paired c.in-Written-Paired.rows)) (asked ∙ ap Ok view-is) refl
 
@@ -19,6 +19,6 @@ print_fasta-requires g c =
     let one = c.in-Written-Getfasta.is in
     let two : c.in-Written-Getfasta.field-0 ≡ written.Getfasta c.in-Written-Getfasta.shown = rw one at c.in-Written-Getfasta.field-0-is in
     let view-is : c.in_ok-view.view ≡ view.Written (written.Getfasta c.in-Written-Getfasta.shown) = one ∙ ap view.Written two in
-    let asked = sym (rw (c.width.ensures, c.has_second.ensures, c.has_bases.ensures, c.view_words.ensures) at c.in_ok-view.ensures) in
+    let asked = sym (rw (c.width.ensures, c.has_second.ensures, c.has_bases.ensures) at c.in_ok-view.ensures) in
     let files = c.in_ok-files.files in
     bases-there files.first.width (is_some files.second) (is_some files.bases) c.args.plan.now.view c.in-Written-Getfasta.shown (asked ∙ ap Ok view-is)

@@ -1,5 +1,4 @@
-use Rattle.std.proofs.Common.{◌≡◌, ◌≤◌, ◌<◌, ◌-◌, ◌+◌, ◌==◌, ◌++◌, ◌∙◌, nat_lt, filter, List, ℕ, All, length, vec_capacity, ap, sym, subst, arith, rules}
-use Rattle.std.specs.List.{flat_map, range_with_len}
+use Rattle.std.proofs.Common.{◌≡◌, ◌≤◌, ◌<◌, ◌-◌, ◌==◌, ◌∙◌, nat_lt, filter, List, ℕ, All, length, vec_capacity, ap, sym, subst, arith, rules}
 use Rattle.iv_bytes.proofs.Putting.{Underway-begin, Puts-err}
 use Rattle.iv_text.specs.Genome.{seq_count, sequence_name}
 use Rattle.iv_text.specs.Ordered.{AreInOrder}
@@ -7,12 +6,12 @@ use Rattle.iv_text.specs.Row.{Row}
 use Rattle.iv_cover.specs.TrackBlocks.{on}
 use Rattle.iv_blocks.specs.Groups.{listed}
 use Rattle.iv_blocks.specs.declared.options.Options.{Options}
-use Rattle.iv_blocks.specs.MergeSweeps.{sequence_rows}
 use Rattle.iv_cover.specs.Results.{HasRoom}
 use Rattle.iv_cover.proofs.FirstLemmas.{Underway-step, Underway-failed}
+use Rattle.iv_index.proofs.SequenceLemmas.{all-from, from-in, from-order, from-here, from-later}
 use Rattle.iv_blocks.proofs.RoomLemmas.{room-more}
 use Rattle.iv_blocks.proofs.SideLemmas.{few}
-use Rattle.iv_blocks.proofs.TextLemmas.{all-from, from-in, from-order, from-here, from-later, ranks-next, rank-is, rank_rows}
+use Rattle.iv_blocks.proofs.TextLemmas.{rows-next}
 use Rattle.iv_blocks.proofs.merge_sweep.MergeSweep.print.Goals as goal
 
 pub loop-rank-init : goal.loop-rank-init
@@ -51,44 +50,30 @@ put_sequence-requires g c =
 pub returns-in_err-put_sequence-clause-text : goal.returns-in_err-put_sequence-clause-text
 returns-in_err-put_sequence-clause-text g c =
     let i = c.loop-rank.invariant in
-    let o = c.args.self.now.0 in
     let rows = c.args.self.now.1 in
     let rank = c.loop-rank.rank in
     let genome = c.args.genome.now in
-    let f = rank_rows o genome rows c.requires.order c.requires.on_genome in
     let named : c.unwrap_or-name.result.now ≡ sequence_name genome rank = search rules in
     let low : rank < seq_count genome = omega (arith, c.loop-rank-test.true, c.count-rank-end.ensures.value) in
     let here : c.split_sequence-here.result.0 ≡ on rank rows = c.split_sequence-here.ensures.here ∙ ap (on rank) i.left_is ∙ from-here rank rows in
-    let same : sequence_rows c.loop-rank.self-inside.options c.unwrap_or-name.result.now c.split_sequence-here.result.0 ≡ f rank
-    = ap (λ (p : Options). sequence_rows p c.unwrap_or-name.result.now c.split_sequence-here.result.0) i.options_are
-    ∙ ap (λ (n : List ℕ). sequence_rows o n c.split_sequence-here.result.0) named
-    ∙ ap (sequence_rows o (sequence_name genome rank)) here
-    ∙ rank-is o genome rows c.requires.order c.requires.on_genome rank low in
-    let rest : List ℕ = flat_map f (range_with_len (rank + 1) (seq_count genome - (rank + 1))) in
+    let next = rows-next c.args.self.now.0 genome rows c.requires.order c.requires.on_genome c.loop-rank.self-inside.options c.unwrap_or-name.result.now c.split_sequence-here.result.0 rank low i.options_are named here in
     Puts-err _ _ c.from_residual.result _ c.from_residual.ensures.0
-    (Underway-failed _ _ _ _ _ _ _ (ranks-next f rank (seq_count genome) low ∙ ap (λ (l : List ℕ). l ++ rest) (sym same)) i.put c.in_err-put_sequence.ensures.text)
+    (Underway-failed _ _ _ _ _ _ _ next i.put c.in_err-put_sequence.ensures.text)
 
 pub loop-rank-preserved : goal.loop-rank-preserved
 loop-rank-preserved g c =
     let i = c.loop-rank.invariant in
-    let o = c.args.self.now.0 in
     let rows = c.args.self.now.1 in
     let rank = c.loop-rank.rank in
     let genome = c.args.genome.now in
-    let f = rank_rows o genome rows c.requires.order c.requires.on_genome in
     let named : c.unwrap_or-name.result.now ≡ sequence_name genome rank = search rules in
     let low : rank < seq_count genome = omega (arith, c.loop-rank-test.true, c.count-rank-end.ensures.value) in
     let here : c.split_sequence-here.result.0 ≡ on rank rows = c.split_sequence-here.ensures.here ∙ ap (on rank) i.left_is ∙ from-here rank rows in
-    let same : sequence_rows c.loop-rank.self-inside.options c.unwrap_or-name.result.now c.split_sequence-here.result.0 ≡ f rank
-    = ap (λ (p : Options). sequence_rows p c.unwrap_or-name.result.now c.split_sequence-here.result.0) i.options_are
-    ∙ ap (λ (n : List ℕ). sequence_rows o n c.split_sequence-here.result.0) named
-    ∙ ap (sequence_rows o (sequence_name genome rank)) here
-    ∙ rank-is o genome rows c.requires.order c.requires.on_genome rank low in
-    let rest : List ℕ = flat_map f (range_with_len (rank + 1) (seq_count genome - (rank + 1))) in
+    let next = rows-next c.args.self.now.0 genome rows c.requires.order c.requires.on_genome c.loop-rank.self-inside.options c.unwrap_or-name.result.now c.split_sequence-here.result.0 rank low i.options_are named here in
     record {
-      put = Underway-step _ _ _ _ _ _ _ (ranks-next f rank (seq_count genome) low ∙ ap (λ (l : List ℕ). l ++ rest) (sym same)) i.put c.in_ok-put_sequence.ensures.text;
+      put = Underway-step _ _ _ _ _ _ _ next i.put c.in_ok-put_sequence.ensures.text;
       left_is = c.split_sequence-here.ensures.later ∙ ap (λ (l : List Row). filter (λ r. nat_lt rank r.seq) l) i.left_is ∙ from-later rank rows;
       options_are = i.options_are;
       records_are = i.records_are;
-      room = room-more (vec_capacity c.loop-rank.self-inside.values) (vec_capacity c.put_sequence.new.values) (length rows) (length rows) (listed o.summaries) c.in_ok-put_sequence.ensures.room (omega arith) i.room;
+      room = room-more (vec_capacity c.loop-rank.self-inside.values) (vec_capacity c.put_sequence.new.values) (length rows) (length rows) (listed c.args.self.now.0.summaries) c.in_ok-put_sequence.ensures.room (omega arith) i.room;
     }

@@ -6,4 +6,4 @@ use Rattle.iv_blocks.proofs.side_blocks.SideBlocks.of_all.Goals as goal
 
 pub returns : goal.returns
 returns c = λ g lie.
-    c.of.ensures ∙ ap (coming c.args.distance None) (on-both c.args.records) ∙ merge-all c.args.distance g c.args.records c.requires lie
+    c.of.ensures ∙ ap (coming c.args.distance None) (on-both c.args.records.now) ∙ merge-all c.args.distance g c.args.records.now c.requires lie

@@ -1,4 +1,4 @@
-use Rattle.std.proofs.Common.{◌≡◌, ◌∷◌, ◌++◌, All, List, refl, sym, ap, drop, ◌∙◌, subst}
+use Rattle.std.proofs.Common.{◌≡◌, ◌∷◌, ◌++◌, All, List, refl, sym, ap, ◌∙◌, subst}
 use Rattle.std.proofs.lemmas.List.Elements.{All-head}
 use Rattle.iv_text.specs.Row.{Row}
 use Rattle.iv_text.specs.Ordered.{AreInOrder}
@@ -10,16 +10,16 @@ use Rattle.iv_pair.proofs.pair_sweep.PairSweep.next.Goals as goal
 pub take_begun-requires-clause-active : goal.take_begun-requires-clause-active
 take_begun-requires-clause-active g c =
     let a = c.in_ok-row.row in
-    let split : c.self.inside.first ≡ a ∷ c.drop_first.new.self = c.in_ok-row.ensures ∙ ap (λ (l : List Row). a ∷ l) (sym (ap (drop 1) c.in_ok-row.ensures) ∙ sym c.drop_first.ensures) in
+    let split : c.self.inside.first ≡ a ∷ c.in_ok-row.others = c.in_ok-row.ensures in
     let held = c.self.inside.active.items in
     let begun = subst (λ (l : List Row). All (λ y. All (λ b. Precedes b y) held) l) split c.self.invariant.begun in
-    subst (All (Covers a)) (sym c.drop_passed.ensures.kept) (kept-covers a held (All-head (λ y. All (λ b. Precedes b y) held) a c.drop_first.new.self begun))
+    subst (All (Covers a)) (sym c.drop_passed.ensures.kept) (kept-covers a held (All-head (λ y. All (λ b. Precedes b y) held) a c.in_ok-row.others begun))
 
 pub invariant_of-self : goal.invariant_of-self
 invariant_of-self g c =
     let a = c.in_ok-row.row in
-    let split : c.self.inside.first ≡ a ∷ c.drop_first.new.self = c.in_ok-row.ensures ∙ ap (λ (l : List Row). a ∷ l) (sym (ap (drop 1) c.in_ok-row.ensures) ∙ sym c.drop_first.ensures) in
-    let others = c.drop_first.new.self in
+    let split : c.self.inside.first ≡ a ∷ c.in_ok-row.others = c.in_ok-row.ensures in
+    let others = c.in_ok-row.others in
     let s = c.self.inside in
     let t = c.take_begun.ensures in
     let taken = c.take_begun.new.active.items in
@@ -38,8 +38,8 @@ invariant_of-self g c =
 pub returns : goal.returns
 returns g c =
     let a = c.in_ok-row.row in
-    let split : c.self.inside.first ≡ a ∷ c.drop_first.new.self = c.in_ok-row.ensures ∙ ap (λ (l : List Row). a ∷ l) (sym (ap (drop 1) c.in_ok-row.ensures) ∙ sym c.drop_first.ensures) in
-    let others = c.drop_first.new.self in
+    let split : c.self.inside.first ≡ a ∷ c.in_ok-row.others = c.in_ok-row.ensures in
+    let others = c.in_ok-row.others in
     let s = c.self.inside in
     let t = c.take_begun.ensures in
     let taken = c.take_begun.new.active.items in

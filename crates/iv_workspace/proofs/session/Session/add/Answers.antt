@@ -13,15 +13,15 @@ use Rattle.iv_workspace.specs.declared.session.Accepted.{Accepted}
 use Rattle.iv_workspace.proofs.SessionLemmas.{edited, fit-added, track-added, session-stales}
 use Rattle.iv_workspace.proofs.session.Session.add.Goals as goal
 
-pub added-requires-clause-right : goal.added-requires-clause-right
-added-requires-clause-right g c = record {
-  others = c.self.inside.track.rows;
+pub repair-requires-clause-right : goal.repair-requires-clause-right
+repair-requires-clause-right g c = record {
+  before = c.self.inside.track.rows;
   right = c.self.invariant.1;
-  rows_are = ap (λ (t : Tracked). t.rows) c.in_ok-add.ensures.ok ∙ ap (added c.self.inside.track.rows) c.in_ok-record.ensures.ok;
+  changed = ap (λ (t : Tracked). t.rows) c.in_ok-add.ensures.ok ∙ ap (added c.self.inside.track.rows) c.in_ok-record.ensures.ok;
 }
 
-pub added-requires-clause-fit : goal.added-requires-clause-fit
-added-requires-clause-fit g c =
+pub repair-requires-clause-fit : goal.repair-requires-clause-fit
+repair-requires-clause-fit g c =
     let inside = c.self.inside in
     let F : State → Type 0 = λ s. Fits s.genome s.track.width c.args.row.now in
     let fits : Fits inside.genome inside.track.width c.in_ok-record.record =
@@ -29,8 +29,8 @@ added-requires-clause-fit g c =
     subst (λ (t : Tracked). All (Fits inside.genome t.width) t.rows) (sym c.in_ok-add.ensures.ok)
     (fit-added inside.genome inside.track c.in_ok-record.record c.self.invariant.0.track_is fits)
 
-pub added-requires-clause-fits : goal.added-requires-clause-fits
-added-requires-clause-fits g c =
+pub repair-requires-clause-fits : goal.repair-requires-clause-fits
+repair-requires-clause-fits g c =
     let F : State → Type 0 = λ s. Fits s.genome s.track.width c.args.row.now in
     subst (λ (t : Tracked). Fits c.self.inside.genome t.width c.args.row.now) (sym c.in_ok-add.ensures.ok) (subst F (sym c.self.view_is) c.requires)
 
@@ -42,15 +42,15 @@ invariant_of-self-2 g c =
     subst (λ (r : Row). Fits inside.genome inside.track.width r) (sym c.in_ok-record.ensures.ok) (subst F (sym c.self.view_is) c.requires) in (
       session-stales inside.genome inside.track _ inside.second _ _ c.self.invariant.0
           (subst (IsTrackOn inside.genome) (sym c.in_ok-add.ensures.ok) (track-added inside.genome inside.track c.in_ok-record.record c.self.invariant.0.track_is fits c.in_ok-add.ensures.room))
-          c.added.ensures.stales,
-      c.added.ensures.right,
+          c.repair.ensures.stales,
+      c.repair.ensures.right,
     )
 
 pub returns-clause-ok : goal.returns-clause-ok
 returns-clause-ok g c =
     edited (with_record c.args.row.now) _ _ c.add.new.self _ c.self.view_is
     (c.in_ok-add.ensures.ok ∙ ap (λ (r : Row). record c.self.inside.track { rows = added c.self.inside.track.rows r }) c.in_ok-record.ensures.ok)
-    c.added.ensures.stales
+    c.repair.ensures.stales
 
 pub returns-clause-steps : goal.returns-clause-steps
 returns-clause-steps g c =
@@ -59,7 +59,7 @@ returns-clause-steps g c =
     ap (λ (t : Tracked). all_steps (all_seen inside.views) t.rows c.args.row.now) c.in_ok-add.ensures.ok
     ∙ ap (λ (r : Row). all_steps (all_seen inside.views) (added inside.track.rows r) c.args.row.now) c.in_ok-record.ensures.ok
     ∙ ap (λ (s : State). all_steps s.views (added s.track.rows c.args.row.now) c.args.row.now) c.self.view_is in
-    let more = c.added.ensures.steps in
+    let more = c.repair.ensures.steps in
     omega (arith, same, more.at_most, c.in_ok-add.ensures.steps.at_most, c.new-meter.ensures, ap (λ (a : Accepted). a.steps) c.of.ensures)
 
 pub returns-clause-stale : goal.returns-clause-stale

@@ -1,11 +1,10 @@
 use Rattle.std.proofs.Common.{◌≡◌, ◌∙◌, List, inr, arith, ap, sym, subst}
 use Rattle.std.proofs.lemmas.Result.{err_from_is_err_and}
-use Rattle.iv_text.specs.Named.{names_of}
 use Rattle.iv_text.specs.Ordered.{added}
 use Rattle.iv_text.specs.Read.{Fits}
 use Rattle.iv_text.specs.Row.{Row}
 use Rattle.iv_track.specs.Tracked.{Tracked, removed}
-use Rattle.iv_workspace.specs.ViewStates.{AreRight, all_seen}
+use Rattle.iv_workspace.specs.ViewStates.{all_seen}
 use Rattle.iv_workspace.specs.OpenViews.{all_steps}
 use Rattle.iv_track.specs.Edits.{RefusesRemove, without_record}
 use Rattle.iv_workspace.specs.States.{State, IsTrackOn}
@@ -19,22 +18,22 @@ with-again : (old new : Tracked) (r q : Row) → r ≡ q → old.rows ≡ added 
     → old.rows ≡ added new.rows q
 with-again old new r q same again is = again ∙ ap (λ (t : Tracked). added t.rows r) (sym is) ∙ ap (added new.rows) same
 
-pub removed-requires-clause-right : goal.removed-requires-clause-right
-removed-requires-clause-right g c =
+pub repair-requires-clause-right : goal.repair-requires-clause-right
+repair-requires-clause-right g c =
     let inside = c.self.inside in
     let e = c.in_ok-remove.ensures in
     let rows = with-again inside.track c.remove.new.self _ c.args.row.now c.in_ok-record.ensures.ok (added-removed inside.track.rows c.in_ok-record.record e.was_ordered e.there) e.ok in
-    subst (λ (l : List Row). AreRight inside.views (names_of inside.genome) l) rows c.self.invariant.1
+    record { before = inside.track.rows; right = c.self.invariant.1; changed = rows }
 
-pub removed-requires-clause-fit : goal.removed-requires-clause-fit
-removed-requires-clause-fit g c =
+pub repair-requires-clause-fit : goal.repair-requires-clause-fit
+repair-requires-clause-fit g c =
     let inside = c.self.inside in
     let whole : IsTrackOn inside.genome c.remove.new.self = subst (IsTrackOn inside.genome) (sym c.in_ok-remove.ensures.ok)
     (track-removed inside.genome inside.track c.in_ok-record.record c.self.invariant.0.track_is c.in_ok-remove.ensures.there) in
     whole.fit
 
-pub removed-requires-clause-fits : goal.removed-requires-clause-fits
-removed-requires-clause-fits g c =
+pub repair-requires-clause-fits : goal.repair-requires-clause-fits
+repair-requires-clause-fits g c =
     let F : State → Type 0 = λ s. Fits s.genome s.track.width c.args.row.now in
     subst (λ (t : Tracked). Fits c.self.inside.genome t.width c.args.row.now) (sym c.in_ok-remove.ensures.ok) (subst F (sym c.self.view_is) c.requires)
 
@@ -43,15 +42,15 @@ invariant_of-self-2 g c =
     let inside = c.self.inside in (
       session-stales inside.genome inside.track _ inside.second _ _ c.self.invariant.0
           (subst (IsTrackOn inside.genome) (sym c.in_ok-remove.ensures.ok) (track-removed inside.genome inside.track c.in_ok-record.record c.self.invariant.0.track_is c.in_ok-remove.ensures.there))
-          c.removed.ensures.stales,
-      c.removed.ensures.right,
+          c.repair.ensures.stales,
+      c.repair.ensures.right,
     )
 
 pub returns-clause-ok : goal.returns-clause-ok
 returns-clause-ok g c =
     edited (without_record c.args.row.now) _ _ c.remove.new.self _ c.self.view_is
     (c.in_ok-remove.ensures.ok ∙ ap (λ (r : Row). record c.self.inside.track { rows = removed c.self.inside.track.rows r }) c.in_ok-record.ensures.ok)
-    c.removed.ensures.stales
+    c.repair.ensures.stales
 
 pub returns-clause-steps : goal.returns-clause-steps
 returns-clause-steps g c =
@@ -61,7 +60,7 @@ returns-clause-steps g c =
     let same : all_steps (all_seen inside.views) (added c.remove.new.self.rows c.args.row.now) c.args.row.now ≡ all_steps c.args.self.now.views c.args.self.now.track.rows c.args.row.now =
     ap (λ (l : List Row). all_steps (all_seen inside.views) l c.args.row.now) (sym rows)
     ∙ ap (λ (s : State). all_steps s.views s.track.rows c.args.row.now) c.self.view_is in
-    let more = c.removed.ensures.steps in
+    let more = c.repair.ensures.steps in
     omega (arith, same, more.at_most, e.steps.at_most, c.new-meter.ensures, ap (λ (a : Accepted). a.steps) c.of.ensures)
 
 pub returns-clause-stale : goal.returns-clause-stale

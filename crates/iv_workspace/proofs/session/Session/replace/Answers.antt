@@ -1,12 +1,11 @@
 use Rattle.std.specs.Prelude.{All}
 use Rattle.std.proofs.Common.{◌≡◌, ◌∙◌, ◌<◌, List, inr, arith, ap, sym, subst}
 use Rattle.std.proofs.lemmas.Result.{err_from_is_err_and}
-use Rattle.iv_text.specs.Named.{names_of}
 use Rattle.iv_text.specs.Ordered.{added, copies}
 use Rattle.iv_text.specs.Read.{Fits}
 use Rattle.iv_text.specs.Row.{Row}
 use Rattle.iv_track.specs.Tracked.{Tracked}
-use Rattle.iv_workspace.specs.ViewStates.{AreRight, all_seen}
+use Rattle.iv_workspace.specs.ViewStates.{all_seen}
 use Rattle.iv_workspace.specs.OpenViews.{all_steps}
 use Rattle.iv_track.specs.Edits.{with_replaced}
 use Rattle.iv_workspace.specs.States.{State}
@@ -34,8 +33,8 @@ returns-then-copies-eq0-clause-why g c =
     (subst (λ (s : State). copies s.track.rows c.args.old.now ≡ 0) c.self.view_is
     (subst (λ (r : Row). copies c.self.inside.track.rows r ≡ 0) c.in_ok-before.ensures.ok none))
 
-pub added-requires-clause-fit : goal.added-requires-clause-fit
-added-requires-clause-fit g c =
+pub repair-requires-clause-fit : goal.repair-requires-clause-fit
+repair-requires-clause-fit g c =
     let inside = c.self.inside in
     let F : State → Type 0 = λ s. Fits s.genome s.track.width c.args.new.now in
     let fits : Fits inside.genome inside.track.width c.in_ok-after.after =
@@ -48,22 +47,22 @@ unreachable-requires g c =
     let again = staged-there c.self.inside.track c.stage.new.self c.in_ok-before.before c.in_ok-after.after there c.in_ok-stage.ensures.ok in
     omega (arith, again, refused-absent c.stage.new.self c.in_ok-before.before _ c.in_default.ensures.why)
 
-pub removed-requires-clause-right : goal.removed-requires-clause-right
-removed-requires-clause-right g c =
+pub repair-requires-2-clause-right : goal.repair-requires-2-clause-right
+repair-requires-2-clause-right g c =
     let there : 0 < copies c.self.inside.track.rows c.in_ok-before.before = omega (arith, c.copies.ensures.value) in
     let whole = replaced-in _ _ _ _ _ _ _ _ c.self.view_is c.in_ok-before.ensures.ok c.in_ok-after.ensures.ok c.self.invariant.0.track_is c.copies.ensures.ordered there c.requires.new
     c.in_ok-stage.ensures.ok c.in-Ok.ensures.ok in
-    subst (λ (l : List Row). AreRight c.added.new.self (names_of c.self.inside.genome) l) whole.again c.added.ensures.right
+    record { before = c.stage.new.self.rows; right = c.repair.ensures.right; changed = whole.again }
 
-pub removed-requires-clause-fit : goal.removed-requires-clause-fit
-removed-requires-clause-fit g c =
+pub repair-requires-2-clause-fit : goal.repair-requires-2-clause-fit
+repair-requires-2-clause-fit g c =
     let there : 0 < copies c.self.inside.track.rows c.in_ok-before.before = omega (arith, c.copies.ensures.value) in
     let whole = replaced-in _ _ _ _ _ _ _ _ c.self.view_is c.in_ok-before.ensures.ok c.in_ok-after.ensures.ok c.self.invariant.0.track_is c.copies.ensures.ordered there c.requires.new
     c.in_ok-stage.ensures.ok c.in-Ok.ensures.ok in
     whole.track_is.fit
 
-pub removed-requires-clause-fits : goal.removed-requires-clause-fits
-removed-requires-clause-fits g c =
+pub repair-requires-2-clause-fits : goal.repair-requires-2-clause-fits
+repair-requires-2-clause-fits g c =
     let there : 0 < copies c.self.inside.track.rows c.in_ok-before.before = omega (arith, c.copies.ensures.value) in
     let whole = replaced-in _ _ _ _ _ _ _ _ c.self.view_is c.in_ok-before.ensures.ok c.in_ok-after.ensures.ok c.self.invariant.0.track_is c.copies.ensures.ordered there c.requires.new
     c.in_ok-stage.ensures.ok c.in-Ok.ensures.ok in
@@ -74,9 +73,9 @@ invariant_of-self-2 g c =
     let there : 0 < copies c.self.inside.track.rows c.in_ok-before.before = omega (arith, c.copies.ensures.value) in
     let whole = replaced-in _ _ _ _ _ _ _ _ c.self.view_is c.in_ok-before.ensures.ok c.in_ok-after.ensures.ok c.self.invariant.0.track_is c.copies.ensures.ordered there c.requires.new
     c.in_ok-stage.ensures.ok c.in-Ok.ensures.ok in
-    let less = stales-trans _ _ _ c.added.ensures.stales c.removed.ensures.stales in (
+    let less = stales-trans _ _ _ c.repair.ensures.stales c.repair-2.ensures.stales in (
       session-stales c.self.inside.genome c.self.inside.track _ c.self.inside.second _ _ c.self.invariant.0 whole.track_is less,
-      c.removed.ensures.right,
+      c.repair-2.ensures.right,
     )
 
 pub returns-clause-ok : goal.returns-clause-ok
@@ -85,7 +84,7 @@ returns-clause-ok g c =
     let whole = replaced-in _ _ _ _ _ _ _ _ c.self.view_is c.in_ok-before.ensures.ok c.in_ok-after.ensures.ok c.self.invariant.0.track_is c.copies.ensures.ordered there c.requires.new
     c.in_ok-stage.ensures.ok c.in-Ok.ensures.ok in
     edited (with_replaced c.args.old.now c.args.new.now) _ _ c.remove.new.self _ c.self.view_is whole.is
-    (stales-trans _ _ _ c.added.ensures.stales c.removed.ensures.stales)
+    (stales-trans _ _ _ c.repair.ensures.stales c.repair-2.ensures.stales)
 
 pub returns-clause-steps : goal.returns-clause-steps
 returns-clause-steps g c =
@@ -100,9 +99,9 @@ returns-clause-steps g c =
     let second : all_steps (all_seen inside.views) (added c.remove.new.self.rows c.args.old.now) c.args.old.now
     ≡ all_steps c.args.self.now.views (added c.args.self.now.track.rows c.args.new.now) c.args.old.now =
     ap (λ (l : List Row). all_steps (all_seen inside.views) l c.args.old.now) (sym whole.again) ∙ bound c.args.old.now in
-    let less = stales-steps _ _ (added c.remove.new.self.rows c.args.old.now) c.args.old.now c.added.ensures.stales in
-    let one = c.added.ensures.steps in
-    let two = c.removed.ensures.steps in
+    let less = stales-steps _ _ (added c.remove.new.self.rows c.args.old.now) c.args.old.now c.repair.ensures.stales in
+    let one = c.repair.ensures.steps in
+    let two = c.repair-2.ensures.steps in
     omega (
       arith,
       bound c.args.new.now,

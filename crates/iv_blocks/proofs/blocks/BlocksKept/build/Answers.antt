@@ -1,0 +1,69 @@
+use Rattle.std.proofs.Common.{◌≡◌, ◌∙◌, List, map, sym, ap, subst, arith}
+use Rattle.std.specs.Prelude.{All}
+use Rattle.iv_text.specs.Named.{names_of}
+use Rattle.iv_text.specs.Ordered.{AreInOrder}
+use Rattle.iv_text.specs.Read.{IsOnGenome}
+use Rattle.iv_text.specs.Row.{Row}
+use Rattle.iv_cover.specs.TrackBlocks.{blocks_of}
+use Rattle.iv_track.specs.Entries.{IsLedger, value_at}
+use Rattle.iv_track.proofs.WalkLemmas.{filter-from_first}
+use Rattle.iv_blocks.specs.KeptBlocks.{AreBlocksOf, Entries, key_cmp}
+use Rattle.iv_blocks.specs.Plain.{plain_entry}
+use Rattle.iv_blocks.specs.PlainOptions.{IsPlain}
+use Rattle.iv_blocks.specs.declared.options.Options.{Options}
+use Rattle.iv_blocks.proofs.Builds.{built-none, built-next, built-all}
+use Rattle.iv_blocks.proofs.PlainLemmas.{all-lie, drained, plain-ordered, plain-found}
+use Rattle.iv_blocks.proofs.blocks.BlocksKept.build.Goals as goal
+
+-- ---- where the options are plain
+
+pub of-sweep-requires : goal.of-sweep-requires
+of-sweep-requires g c =
+    subst AreInOrder (sym (c.walk.ensures.rows ∙ filter-from_first c.args.track.now.rows)) c.walk.ensures.ordered
+
+pub from_entries-requires-clause-ascend : goal.from_entries-requires-clause-ascend
+from_entries-requires-clause-ascend g c es run =
+    let plain : IsPlain c.args.options.distance c.args.options = c.is_plain.ensures.0 c.if-is_plain.true in
+    let s = c.args.genome.now in
+    let rows = c.args.track.now.rows in
+    let all = c.walk.ensures.rows ∙ filter-from_first rows in
+    let lie = subst (λ (l : List Row). All (IsOnGenome s) l) (sym all) (all-lie s c.args.track.now.width rows c.requires.fit) in
+    let left : c.of.result ≡ blocks_of c.args.options.distance s rows = c.of.ensures ∙ c.of-sweep.ensures s lie ∙ ap (blocks_of c.args.options.distance s) all in
+    subst (IsLedger key_cmp) (sym (drained c.of.result es run ∙ ap (map plain_entry) left))
+    (plain-ordered c.args.options s c.args.track.now.width rows c.requires.fit plain.together plain.nothing)
+
+pub returns-then-is_plain-clause-right : goal.returns-then-is_plain-clause-right
+returns-then-is_plain-clause-right g c =
+    let plain : IsPlain c.args.options.distance c.args.options = c.is_plain.ensures.0 c.if-is_plain.true in
+    let s = c.args.genome.now in
+    let rows = c.args.track.now.rows in
+    let e = c.in_ok-from_entries.ensures in
+    let all = c.walk.ensures.rows ∙ filter-from_first rows in
+    let lie = subst (λ (l : List Row). All (IsOnGenome s) l) (sym all) (all-lie s c.args.track.now.width rows c.requires.fit) in
+    let left : c.of.result ≡ blocks_of c.args.options.distance s rows = c.of.ensures ∙ c.of-sweep.ensures s lie ∙ ap (blocks_of c.args.options.distance s) all in
+    record {
+      ordered = e.ordered;
+      blocks = λ k.
+          e.values.2 k
+          ∙ ap (λ (l : Entries). value_at key_cmp l k) (drained c.of.result e.values.0 e.values.1 ∙ ap (map plain_entry) left)
+          ∙ plain-found c.args.options s c.args.track.now.width rows c.requires.fit plain.together plain.nothing k;
+    }
+
+-- ---- where they are not
+
+pub loop-rank-init : goal.loop-rank-init
+loop-rank-init g c = built-none c.args.genome.now c.args.track.now.rows (record { options = c.args.options; entries = c.new.result }) c.new.ensures
+
+pub loop-rank-preserved : goal.loop-rank-preserved
+loop-rank-preserved g c =
+    let a = c.args in
+    built-next a.genome.now a.track.now.width a.track.now.rows c.requires.fit a.options c.loop-rank.rank c.loop-rank.blocks c.put_sequence.new.self c.loop-rank.invariant c.in_ok-put_sequence.ensures
+
+pub returns-clause-right : goal.returns-clause-right
+returns-clause-right g c =
+    let a = c.args in
+    subst (λ (o : Options). AreBlocksOf o (names_of a.genome.now) a.track.now.rows c.loop-rank.blocks.entries) (sym c.loop-rank.invariant.for_options)
+    (built-all a.genome.now a.track.now.width a.track.now.rows c.requires.fit a.options c.loop-rank.rank c.loop-rank.blocks c.loop-rank.invariant (omega (arith, c.count-rank-end.ensures.value, c.loop-rank-test.false)))
+
+pub returns-clause-built_for : goal.returns-clause-built_for
+returns-clause-built_for g c = c.loop-rank.invariant.for_options

@@ -1,0 +1,13 @@
+use Rattle.std.proofs.Common.{◌+◌, ◌≤◌, length}
+use Rattle.iv_bytes.proofs.Putting.{Underway}
+use Rattle.iv_cover.specs.TrackBlocks.{blocks_of}
+use Rattle.iv_blocks.specs.BlockSweeps.{numbered_rows}
+use Rattle.iv_blocks.proofs.sweeps.put_cluster.Given as goal
+
+-- the rows of the blocks that are left are to come, and there are no more of them than records
+abbrev pub invariant-loop-found : goal.invariant-loop-found
+invariant-loop-found g l = record {
+  put : Underway (g.S.Sink.state l.fn.sink) (g.S.Sink.state l.sink)
+      (numbered_rows l.genome l.number l.found-iterator) (numbered_rows l.genome 0 (blocks_of l.distance l.genome l.records));
+  few : l.number + length l.found-iterator ≤ length l.records;
+}

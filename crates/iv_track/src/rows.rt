@@ -1,0 +1,60 @@
+//! A walk over the records of a track.
+ghost use Rattle.std.specs.Prelude.{◌≡◌};
+ghost use Rattle.std.specs.Iterator.{YieldsFirstRef};
+ghost use Rattle.iv_track.specs.Steps.{TakesUpTo};
+
+use crate::ledger::Walk;
+use crate::meter::Meter;
+use iv_text::Record;
+use std::alloc::{Allocator, Global};
+use std::marker::Model;
+
+/// A walk over records of a track, in its order: an iterator whose `next` counts its steps.
+///
+/// A record comes once for each of its copies. Its model is the list of the records that are left.
+#[derive(Drop)]
+pub struct Rows<'a, A: Allocator + Copy = Global> {
+    pub(crate) entries: Walk<'a, Record<A>, u32>,
+    pub(crate) held: Option<(&'a Record<A>, u32)>,
+}
+
+impl<'a, A: Allocator + Copy> Model for Rows<'a, A> {
+    ghost use Rattle.std.specs.Prelude.{List, ◌++◌, ◌<◌, All};
+    ghost use Rattle.std.specs.Map.{values_of};
+    ghost use Rattle.iv_text.specs.Row.{Row};
+    ghost use Rattle.iv_track.specs.Copies.{expanded, again};
+
+    ghost Value = { List Row };
+
+    ghost view = { λ w. again w.held ++ expanded w.entries };
+
+    ghost invariant = { λ w. All (λ n. 0 < n) (values_of w.entries) };
+}
+
+impl<'a, A: Allocator + Copy> Rows<'a, A> {
+    /// The next record, `None` after the last. A call is at most one step.
+    pub fn next(&mut self, meter: &mut Meter) -> Option<&'a Record<A>>
+        ensures row { YieldsFirstRef (λ rows. rows) self.old result self.new }
+        ensures steps { TakesUpTo meter.old meter.new 1 }
+    {
+        if let Some((row, left)) = self.held {
+            if left > 0 {
+                self.held = Some((row, left - 1));
+                return Some(row);
+            }
+        }
+        let (row, count) = self.entries.next(meter)?;
+        self.held = Some((row, *count - 1));
+        Some(row)
+    }
+
+    /// The same walk once more, from where it is now. It is no step, and takes no memory.
+    pub fn again(&self) -> Rows<'a, A>
+        ensures { result ≡ self.now }
+    {
+        Rows {
+            entries: self.entries.again(),
+            held: self.held,
+        }
+    }
+}

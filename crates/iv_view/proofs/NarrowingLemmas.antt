@@ -1,0 +1,247 @@
+-- What words ask for on fewer than six columns, or without one of the files, is what they ask for with all of these, narrowed.
+use Rattle.std.proofs.Common.{◌≡◌, ◌∙◌, ℕ, zero, suc, ◌<◌, Bool, true, false, inl, inr, List, [], ◌∷◌, Option, Some, None, map, length, replicate, refl, sym, ap, arith}
+use Rattle.std.specs.Prelude.{Result, Ok, Err, ◌&&◌, ◌-◌, ◌==◌, not, nat_le, nat_lt, if◌then◌else◌, option_and_then, codes}
+use Rattle.std.specs.Option.{option_map}
+use Rattle.std.specs.Str.{bytes_eq}
+use Rattle.std.proofs.lemmas.Bool.{cases_lt, cond-true, cond-false, le-leb, ne_eqb, and_right}
+use Rattle.std.proofs.lemmas.List.{take_all, take-append-le}
+use Rattle.iv_cover.specs.Columns.{column_numbered}
+use Rattle.iv_cover.specs.declared.column.Column.{Column}
+use Rattle.iv_cover.specs.declared.column.ColumnSummary.{ColumnSummary}
+use Rattle.iv_cover.specs.declared.op.Op.{Op}
+use Rattle.iv_blocks.specs.Groups.{filled, listed, unused}
+use Rattle.iv_blocks.specs.declared.options.Options.{Options}
+use Rattle.iv_depth.specs.declared.depth_rows.DepthRows.{DepthRows}
+use Rattle.iv_fasta.specs.declared.rows.FastaRows.{FastaRows}
+use Rattle.iv_pair.specs.declared.pair_rows.PairRows.{PairRows}
+use Rattle.iv_pair.specs.declared.pair_rows.PairRows.TheVariants as pair
+use Rattle.iv_view.specs.Complement.{is_limited}
+use Rattle.iv_view.specs.Genomecov.{genomecov_rows}
+use Rattle.iv_view.specs.Getfasta.{fasta_rows_said}
+use Rattle.iv_view.specs.Intersect.{intersect_rows_said}
+use Rattle.iv_view.specs.Lists.{all_some}
+use Rattle.iv_view.specs.Merge.{MergeArgs, said_by, nothing_said, distance_of, lists_of, pairs_of, column_within, summary_within, filled_or_fault, asked_summaries, options_within, options_with, merge_options, cluster_distance}
+use Rattle.iv_view.specs.Narrowing.{number_of, has_columns, narrowed_options, narrowed}
+use Rattle.iv_view.specs.Subtract.{is_whole}
+use Rattle.iv_view.specs.Views.{read_words, or_bad_words, as_merge, beside_second, beside_fasta}
+use Rattle.iv_view.specs.declared.fault.ViewFault.{ViewFault}
+use Rattle.iv_view.specs.declared.fault.ViewFault.TheVariants as fault
+use Rattle.iv_view.specs.declared.view.View.{View}
+use Rattle.iv_view.specs.declared.view.View.TheVariants as view
+use Rattle.iv_view.specs.declared.view.KeptView.TheVariants as kept
+use Rattle.iv_view.specs.declared.written_view.WrittenView.TheVariants as written
+
+-- ---- one column
+
+-- the column, if records of this width have it
+abbrev column_there : ℕ → Column → Option Column
+column_there width column = if nat_le (number_of column) width then Some column else None
+
+nothing-either : (b : Bool) → ◌≡◌ {A = Option Column} (if b then None else None) None
+nothing-either true = refl
+nothing-either false = refl
+
+-- there is no seventh column
+column-none : (n : ℕ) → 6 < n → column_numbered n ≡ None
+column-none n far =
+    cond-false (n == 1) _ _ (ne_eqb n 1 (λ e. omega arith))
+    ∙ cond-false (n == 2) _ _ (ne_eqb n 2 (λ e. omega arith))
+    ∙ cond-false (n == 3) _ _ (ne_eqb n 3 (λ e. omega arith))
+    ∙ cond-false (n == 4) _ _ (ne_eqb n 4 (λ e. omega arith))
+    ∙ cond-false (n == 5) _ _ (ne_eqb n 5 (λ e. omega arith))
+    ∙ cond-false (n == 6) _ _ (ne_eqb n 6 (λ e. omega arith))
+
+column-far : (width n : ℕ) → 6 < n → column_within width n ≡ None
+column-far width n far = ap (λ (o : Option Column). if nat_le n width then o else None) (column-none n far) ∙ nothing-either (nat_le n width)
+
+-- each column is there of records of six
+pub six-columns : (n : ℕ) → column_within 6 n ≡ column_numbered n
+six-columns n = elim (cases_lt 6 n) [
+  | inl far ↦ column-far 6 n far ∙ sym (column-none n far)
+  | inr within ↦ cond-true (nat_le n 6) (column_numbered n) None (le-leb n 6 within)
+]
+
+column-narrowed : (width n : ℕ) → column_within width n ≡ option_and_then (column_there width) (column_within 6 n)
+column-narrowed width zero = nothing-either (nat_le 0 width)
+column-narrowed width (suc zero) = refl
+column-narrowed width (suc (suc zero)) = refl
+column-narrowed width (suc (suc (suc zero))) = refl
+column-narrowed width (suc (suc (suc (suc zero)))) = refl
+column-narrowed width (suc (suc (suc (suc (suc zero))))) = refl
+column-narrowed width (suc (suc (suc (suc (suc (suc zero)))))) = refl
+column-narrowed width (suc (suc (suc (suc (suc (suc (suc n))))))) = neither (suc (suc (suc (suc (suc (suc (suc n))))))) (omega arith)
+  where
+    neither : (n : ℕ) → 6 < n → column_within width n ≡ option_and_then (column_there width) (column_within 6 n)
+    neither n far = column-far width n far ∙ sym (ap (option_and_then (column_there width)) (column-far 6 n far))
+
+-- ---- summaries
+
+-- the summary, if records of this width have its column
+abbrev summary_there : ℕ → ColumnSummary → Option ColumnSummary
+summary_there width asked = if nat_le (number_of asked.column) width then Some asked else None
+
+-- the summaries, if records of this width have the column of each
+abbrev summaries_there : ℕ → List ColumnSummary → Option (List ColumnSummary)
+summaries_there width asked = if has_columns width asked then Some asked else None
+
+abbrev with_op : Op → Column → ColumnSummary
+with_op op column = record { column = column; op = op }
+
+summary-there : (width : ℕ) (op : Op) (o : Option Column)
+    → option_map (with_op op) (option_and_then (column_there width) o) ≡ option_and_then (summary_there width) (option_map (with_op op) o)
+summary-there width op None = refl
+summary-there width op (Some column) = by (nat_le (number_of column) width)
+  where
+    by : (b : Bool) → option_map (with_op op) (if b then Some column else None) ≡ (if b then Some (with_op op column) else None)
+    by true = refl
+    by false = refl
+
+summary-narrowed : (width : ℕ) (asked : ℕ × Op) → summary_within width asked ≡ option_and_then (summary_there width) (summary_within 6 asked)
+summary-narrowed width asked =
+    ap (option_map (with_op asked.1)) (column-narrowed width asked.0) ∙ summary-there width asked.1 (column_within 6 asked.0)
+
+-- a summary before others
+abbrev before : ColumnSummary → List ColumnSummary → List ColumnSummary
+before first others = first ∷ others
+
+first-there : (b : Bool) (width : ℕ) (first : ColumnSummary) (items : List (Option ColumnSummary)) (r : Option (List ColumnSummary))
+    → all_some items ≡ option_and_then (summaries_there width) r
+    → all_some ((if b then Some first else None) ∷ items) ≡ option_and_then (λ others. if b && has_columns width others then Some (before first others) else None) r
+first-there false width first items None is = refl
+first-there false width first items (Some others) is = refl
+first-there true width first items None is = ap (option_map (before first)) is
+first-there true width first items (Some others) is = ap (option_map (before first)) is ∙ by (has_columns width others)
+  where
+    by : (b : Bool) → option_map (before first) (if b then Some others else None) ≡ (if b then Some (before first others) else None)
+    by true = refl
+    by false = refl
+
+one-more : (width : ℕ) (o : Option ColumnSummary) (items six : List (Option ColumnSummary)) → all_some items ≡ option_and_then (summaries_there width) (all_some six)
+    → all_some (option_and_then (summary_there width) o ∷ items) ≡ option_and_then (summaries_there width) (all_some (o ∷ six))
+one-more width None items six is = refl
+one-more width (Some first) items six is = first-there (nat_le (number_of first.column) width) width first items (all_some six) is ∙ over (all_some six)
+  where
+    over : (r : Option (List ColumnSummary))
+        → option_and_then (λ others. if nat_le (number_of first.column) width && has_columns width others then Some (before first others) else None) r
+        ≡ option_and_then (summaries_there width) (option_map (before first) r)
+    over None = refl
+    over (Some others) = refl
+
+summaries-narrowed : (width : ℕ) (asked : List (ℕ × Op))
+    → all_some (map (summary_within width) asked) ≡ option_and_then (summaries_there width) (all_some (map (summary_within 6) asked))
+summaries-narrowed width [] = refl
+summaries-narrowed width (first ∷ asked) =
+    ap (λ (o : Option ColumnSummary). all_some (o ∷ map (summary_within width) asked)) (summary-narrowed width first)
+    ∙ one-more width (summary_within 6 first) (map (summary_within width) asked) (map (summary_within 6) asked) (summaries-narrowed width asked)
+
+listed-filled : (summaries : List ColumnSummary) → listed (filled summaries) ≡ summaries
+listed-filled summaries =
+    take-append-le (length summaries) summaries (replicate (16 - length summaries) unused) (omega arith)
+    ∙ take_all (length summaries) summaries (omega arith)
+
+-- ---- the options of a merge
+
+-- the options that were read, narrowed, or their fault
+abbrev options_from : ℕ → Result Options ViewFault → Result Options ViewFault
+options_from width (Err why) = Err why
+options_from width (Ok options) = narrowed_options width options
+
+module _ (width : ℕ) (stranded : Bool) (distance : ℕ) where
+  abbrev with_summaries : List ColumnSummary → Options
+  with_summaries summaries = record { distance = distance; stranded = stranded; summaries = filled summaries }
+
+  -- the options, where each column is there or one isn't
+  abbrev if_there : Bool → List ColumnSummary → Result Options ViewFault
+  if_there there summaries =
+      if not there then Err fault.Column
+      else if stranded && nat_lt width 6 then Err fault.NoStrand
+      else Ok (with_summaries summaries)
+
+  options-there : (b : Bool) (summaries : List ColumnSummary)
+      → options_within width stranded distance (filled_or_fault (if b then Some summaries else None)) ≡ if_there b summaries
+  options-there true summaries = refl
+  options-there false summaries = refl
+
+  options-narrowed : (r : Option (List ColumnSummary))
+      → options_within width stranded distance (filled_or_fault (option_and_then (summaries_there width) r))
+      ≡ options_from width (options_within 6 stranded distance (filled_or_fault r))
+  options-narrowed None = refl
+  options-narrowed (Some summaries) =
+      options-there (has_columns width summaries) summaries
+      ∙ ap (λ (s : List ColumnSummary). if_there (has_columns width s) summaries) (sym (listed-filled summaries))
+      ∙ sym (ap (options_from width) (cond-false (stranded && nat_lt 6 6) (Err fault.NoStrand) (Ok (with_summaries summaries)) (and_right stranded (nat_lt 6 6) refl)))
+
+said-narrowed : (width : ℕ) (said : Option MergeArgs) → merge_options width said ≡ options_from width (merge_options 6 said)
+said-narrowed width None = refl
+said-narrowed width (Some said) = by (distance_of said.distance) (pairs_of (lists_of said.columns said.ops))
+  where
+    by : (distance : Option ℕ) (asked : Option (List (ℕ × Op)))
+        → options_with width said.stranded distance (asked_summaries width asked) ≡ options_from width (options_with 6 said.stranded distance (asked_summaries 6 asked))
+    by None asked = refl
+    by (Some distance) None = refl
+    by (Some distance) (Some asked) =
+        ap (λ (r : Option (List ColumnSummary)). options_within width said.stranded distance (filled_or_fault r)) (summaries-narrowed width asked)
+        ∙ options-narrowed width said.stranded distance (all_some (map (summary_within 6) asked))
+
+-- ---- all views
+
+-- the view that was read, narrowed, or its fault
+abbrev narrowed_from : ℕ → Bool → Bool → Result View ViewFault → Result View ViewFault
+narrowed_from width has_second has_bases (Err why) = Err why
+narrowed_from width has_second has_bases (Ok v) = narrowed width has_second has_bases v
+
+module _ (width : ℕ) (has_second has_bases : Bool) where
+  abbrev here : Result View ViewFault → Result View ViewFault
+  here said = narrowed_from width has_second has_bases said
+
+  either : (b : Bool) (one two six_one six_two : Result View ViewFault) → one ≡ here six_one → two ≡ here six_two
+      → (if b then one else two) ≡ here (if b then six_one else six_two)
+  either true one two six_one six_two is other = is
+  either false one two six_one six_two is other = other
+
+  narrowed-merge : (said : Option MergeArgs) → as_merge (merge_options width said) ≡ here (as_merge (merge_options 6 said))
+  narrowed-merge said = ap as_merge (said-narrowed width said) ∙ by (merge_options 6 said)
+    where
+      by : (r : Result Options ViewFault) → as_merge (options_from width r) ≡ here (as_merge r)
+      by (Err why) = refl
+      by (Ok options) = refl
+
+  narrowed-cluster : (asked : Option ℕ) → or_bad_words (option_map kept.Cluster asked) ≡ here (or_bad_words (option_map kept.Cluster asked))
+  narrowed-cluster None = refl
+  narrowed-cluster (Some distance) = refl
+
+  narrowed-complement : (asked : Option Bool) → or_bad_words (option_map kept.Complement asked) ≡ here (or_bad_words (option_map kept.Complement asked))
+  narrowed-complement None = refl
+  narrowed-complement (Some limited) = refl
+
+  narrowed-genomecov : (asked : Option DepthRows) → or_bad_words (option_map kept.Genomecov asked) ≡ here (or_bad_words (option_map kept.Genomecov asked))
+  narrowed-genomecov None = refl
+  narrowed-genomecov (Some shown) = refl
+
+  narrowed-paired : (asked : Option PairRows) → beside_second has_second asked ≡ here (beside_second true asked)
+  narrowed-paired None = refl
+  narrowed-paired (Some rows) = refl
+
+  narrowed-fasta : (asked : Option FastaRows) → beside_fasta width has_bases asked ≡ here (beside_fasta 6 true asked)
+  narrowed-fasta None = refl
+  narrowed-fasta (Some shown) =
+      sym (ap here (cond-false (shown.stranded && nat_lt 6 6) (Err fault.NoStrand) (Ok (view.Written (written.Getfasta shown))) (and_right shown.stranded (nat_lt 6 6) refl)))
+
+  words-narrowed : (words : List (List ℕ)) → read_words width has_second has_bases words ≡ here (read_words 6 true true words)
+  words-narrowed [] = refl
+  words-narrowed (word ∷ words) =
+      either (bytes_eq word (codes "merge")) _ _ _ _ (narrowed-merge (said_by words nothing_said))
+      (either (bytes_eq word (codes "cluster")) _ _ _ _ (narrowed-cluster (cluster_distance (said_by words nothing_said)))
+      (either (bytes_eq word (codes "complement")) _ _ _ _ (narrowed-complement (is_limited words))
+      (either (bytes_eq word (codes "genomecov")) _ _ _ _ (narrowed-genomecov (genomecov_rows words))
+      (either (bytes_eq word (codes "intersect")) _ _ _ _ (narrowed-paired (option_map pair.Intersect (intersect_rows_said words)))
+      (either (bytes_eq word (codes "subtract")) _ _ _ _ (narrowed-paired (option_map pair.Subtract (is_whole words)))
+      (either (bytes_eq word (codes "getfasta")) _ _ _ _ (narrowed-fasta (fasta_rows_said words)) refl))))))
+
+  -- what a view that was read is narrowed to
+  pub view-narrowed : (words : List (List ℕ)) (v : View) → read_words 6 true true words ≡ Ok v → narrowed width has_second has_bases v ≡ read_words width has_second has_bases words
+  view-narrowed words v is = sym (words-narrowed words ∙ ap here is)
+
+  -- a fault stays
+  pub fault-narrowed : (words : List (List ℕ)) (why : ViewFault) → read_words 6 true true words ≡ Err why → read_words width has_second has_bases words ≡ Err why
+  fault-narrowed words why is = words-narrowed words ∙ ap here is

@@ -1,0 +1,10 @@
+use Rattle.std.proofs.Common.{◌≡◌, ◌≤◌, length}
+use Rattle.iv_text.specs.Named.{names_of}
+use Rattle.iv_workspace.specs.Changes.{with_edited}
+use Rattle.iv_workspace.proofs.StateLemmas.{Repairing}
+use Rattle.iv_workspace.proofs.views.Views.repair_each.Given as goal
+
+abbrev pub invariant-loop-place : goal.invariant-loop-place
+invariant-loop-place g l =
+    Repairing (names_of l.genome) l.track.rows (with_edited l.change l.track.rows l.row) l.row l.kept l.fn.self l.self-inside.views l.place l.fn.meter l.meter
+    × (length l.self-inside.views ≡ l.place-end) × (l.place-end ≤ 64)
