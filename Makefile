@@ -4,24 +4,60 @@
 RT ?= rt
 PROGRAM := build/bedkeep
 
+# Where `make install` puts what it installs; DESTDIR comes before each of these folders.
+PREFIX ?= /usr/local
+DESTDIR ?=
+prefix = $(PREFIX)
+bindir = $(prefix)/bin
+datadir = $(prefix)/share
+docdir = $(datadir)/doc/bedkeep
+man1dir = $(datadir)/man/man1
+bashdir = $(datadir)/bash-completion/completions
+zshdir = $(datadir)/zsh/site-functions
+INSTALL ?= install
+INSTALL_PROGRAM ?= $(INSTALL) -m 755
+INSTALL_DATA ?= $(INSTALL) -m 644
+EXAMPLES := $(wildcard examples/*.*)
+
 .DEFAULT_GOAL := help
-.PHONY: help build demo test wrong-bodies clean
+.PHONY: help build demo install uninstall dist test wrong-bodies clean
 
 help:
 	@echo 'make build   prove and build the program; it is left at $(PROGRAM)'
 	@echo 'make demo    build it, then run the scripts of examples/ over the files beside them'
-	@echo 'make test    the whole gate: searches, every proof from nothing, the wrong bodies, the tests, the stored run, a run through pipes, every exit, the examples, random scripts while something goes wrong'
+	@echo 'make install     put the built program, its man page and its completions below PREFIX (/usr/local)'
+	@echo 'make uninstall   take them away again'
+	@echo 'make dist    build it, then leave an archive and a Debian package of a release in build/'
+	@echo 'make test    the whole gate: searches, every proof from nothing, the wrong bodies, the tests, the stored run, a run through pipes, every exit, the examples, the steps of the guide, the options in the man page and the completions, random scripts while something goes wrong'
 	@echo 'make wrong-bodies   the wrong bodies that the gate leaves out, an hour or more'
 	@echo 'make clean   remove all that builds and proofs left behind'
 	@echo 'make help    this list'
 
-# `rt run` proves, builds and then runs: the crate's stored run, whose output `make test` compares.
 build:
-	cd crates/bedkeep && $(RT) run -- session -g data/sizes -i data/empty.bed < stdin > /dev/null
+	RT=$(RT) scripts/build.sh
 	mkdir -p build && cp crates/bedkeep/out/bedkeep $(PROGRAM)
 
 demo: build
 	scripts/examples.sh --show $(PROGRAM)
+
+# It builds nothing, so that it can run as another user than the one who built.
+install:
+	@test -x $(PROGRAM) || { echo '$(PROGRAM) is not there: run make build first' >&2; exit 1; }
+	$(INSTALL) -d $(addprefix $(DESTDIR),$(bindir) $(man1dir) $(bashdir) $(zshdir) $(docdir)/examples)
+	$(INSTALL_PROGRAM) $(PROGRAM) $(DESTDIR)$(bindir)/bedkeep
+	$(INSTALL_DATA) man/bedkeep.1 $(DESTDIR)$(man1dir)/bedkeep.1
+	$(INSTALL_DATA) completions/bedkeep.bash $(DESTDIR)$(bashdir)/bedkeep
+	$(INSTALL_DATA) completions/_bedkeep $(DESTDIR)$(zshdir)/_bedkeep
+	$(INSTALL_DATA) docs/FORMAT.md LICENSE $(DESTDIR)$(docdir)
+	$(INSTALL_DATA) $(EXAMPLES) $(DESTDIR)$(docdir)/examples
+
+uninstall:
+	rm -f $(addprefix $(DESTDIR),$(bindir)/bedkeep $(man1dir)/bedkeep.1 $(bashdir)/bedkeep $(zshdir)/_bedkeep)
+	rm -f $(addprefix $(DESTDIR)$(docdir)/,FORMAT.md LICENSE $(EXAMPLES))
+	rmdir $(addprefix $(DESTDIR)$(docdir),/examples /) 2> /dev/null || true
+
+dist: build
+	RT=$(RT) scripts/dist.sh
 
 # rt ci leaves the program that it proved and built beside the crate.
 test:
@@ -32,6 +68,8 @@ test:
 	scripts/answers_at_once.sh $(PROGRAM)
 	scripts/exits.sh $(PROGRAM)
 	scripts/examples.sh $(PROGRAM)
+	python3 scripts/options_agree.py $(PROGRAM)
+	python3 scripts/guide.py $(PROGRAM)
 	python3 scripts/hostile.py $(PROGRAM) --seed 1 --seconds 20
 
 wrong-bodies:

@@ -1,0 +1,77 @@
+# bash completion for bedkeep
+
+# The options of a kind of run.
+_bedkeep_options() {
+    case $1 in
+        session) echo '-g -i -b -fi -width' ;;
+        merge) echo '-g -i -d -s -c -o -width' ;;
+        cluster) echo '-g -i -d -width' ;;
+        complement) echo '-g -i -L -width' ;;
+        genomecov) echo '-g -i -bg -bga -d -width' ;;
+        intersect) echo '-g -a -b -wa -wb -u -v -c -width' ;;
+        subtract) echo '-g -a -b -A -width' ;;
+        getfasta) echo '-g -bed -fi -s -tab -width' ;;
+    esac
+}
+
+# What the value of an option is, for a kind of run; nothing where it takes none.
+_bedkeep_value() {
+    case $1:$2 in
+        *:-g | *:-i | *:-a | *:-bed | *:-fi | session:-b | intersect:-b | subtract:-b) echo file ;;
+        *:-width) echo width ;;
+        merge:-o) echo operation ;;
+        merge:-d | merge:-c | cluster:-d) echo other ;;
+    esac
+}
+
+# The options that can't come after an option, for a kind of run: itself, and those that it is not allowed beside.
+_bedkeep_taken() {
+    case $1:$2 in
+        genomecov:-bg | genomecov:-bga | genomecov:-d) echo '-bg -bga -d' ;;
+        intersect:-u | intersect:-v | intersect:-c) echo '-u -v -c -wb' ;;
+        intersect:-wb) echo '-wb -u -v -c' ;;
+        *) echo "$2" ;;
+    esac
+}
+
+# The options that can still come after these words of a kind of run.
+_bedkeep_left() {
+    local subcommand=$1 option word taken=' '
+    shift
+    for word in "$@"; do
+        taken+="$(_bedkeep_taken "$subcommand" "$word") "
+    done
+    for option in $(_bedkeep_options "$subcommand"); do
+        [[ $taken == *" $option "* ]] || echo "$option"
+    done
+}
+
+_bedkeep() {
+    local kinds='session merge cluster complement genomecov intersect subtract getfasta'
+    local word=${COMP_WORDS[COMP_CWORD]} before=${COMP_WORDS[COMP_CWORD - 1]} subcommand=${COMP_WORDS[1]}
+    local choices=
+    COMPREPLY=()
+    if ((COMP_CWORD == 1)); then
+        choices="$kinds help -h --help --version"
+    elif [[ $subcommand == help || $subcommand == --help ]]; then
+        ((COMP_CWORD == 2)) && choices=$kinds
+    elif ((COMP_CWORD == 2)) || [[ ${COMP_WORDS[2]} != -h && ${COMP_WORDS[2]} != --help ]]; then
+        case $(_bedkeep_value "$subcommand" "$before") in
+            file)
+                compopt -o filenames
+                mapfile -t COMPREPLY < <(compgen -f -- "$word")
+                return
+                ;;
+            width) choices='3 4 5 6' ;;
+            operation) choices='count sum min max collapse distinct' ;;
+            other) ;;
+            *)
+                choices=$(_bedkeep_left "$subcommand" "${COMP_WORDS[@]:2:COMP_CWORD-2}")
+                ((COMP_CWORD == 2)) && [[ -n $choices ]] && choices+=' --help -h'
+                ;;
+        esac
+    fi
+    mapfile -t COMPREPLY < <(compgen -W "$choices" -- "$word")
+}
+
+complete -F _bedkeep bedkeep
