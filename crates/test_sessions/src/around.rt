@@ -27,6 +27,17 @@ pub(crate) fn all_texts(
     Ok(all)
 }
 
+/// Whether a print of all views is the texts before the edits or after them.
+fn prints_all(
+    rt: &HostRuntime,
+    session: &mut Session,
+    views: &[Around<'_>],
+    edited: bool,
+) -> Result<bool, Fail> {
+    let all = all_texts(rt, views, edited)?;
+    prints(rt, session, None, all.as_slice())
+}
+
 /// Prints each view, and then all, which must be the texts before the edits or after them; all views are current.
 fn check_prints(
     rt: &HostRuntime,
@@ -40,8 +51,7 @@ fn check_prints(
             return Err(Fail::new("another print of a view"));
         }
     }
-    let all = all_texts(rt, views, edited)?;
-    if !prints(rt, session, None, all.as_slice())? {
+    if !prints_all(rt, session, views, edited)? {
         return Err(Fail::new("another print of all views"));
     }
     Ok(())

@@ -64,20 +64,34 @@ const EDITS: [Edit<'static>; 4] = [
     Edit::Add(b"u\t0\t1\tk\t0\t+"),
 ];
 
+/// Those bases.
+fn fasta(rt: &HostRuntime, genome: &Genome) -> Result<Fasta, Fail> {
+    let text = BASES.to_vec(rt.alloc())?;
+    Ok(Fasta::parse(rt.alloc(), genome, text)?)
+}
+
 /// A session of that genome, a BED file and those bases.
 fn session(rt: &HostRuntime) -> Result<Session, Fail> {
-    let text = BASES.to_vec(rt.alloc())?;
     let genome = Genome::parse(rt.alloc(), SIZES)?;
     let file = BedFile::parse(rt.alloc(), &genome, 3, 9, FIRST)?;
-    let fasta = Fasta::parse(rt.alloc(), &genome, text)?;
+    let fasta = fasta(rt, &genome)?;
     Ok(Session::new(rt.alloc(), genome, file, None, Some(fasta), 9)?)
+}
+
+/// Looks at that session.
+fn in_session<F>(rt: &HostRuntime, look: F) -> Result<(), Fail>
+where
+    F: Fn(&mut Session) -> Result<(), Fail>,
+    requires { F.IsAlwaysCallable look }
+{
+    let mut session = session(rt)?;
+    look(&mut session)
 }
 
 /// Rows before edits of the track and after them; the FASTA file lacks the second sequence.
 #[test]
 fn bases_around_edits(rt: HostRuntime) -> Result<(), Fail> {
-    let mut session = session(&rt)?;
-    print_around_edits(&rt, &mut session, &VIEWS, &EDITS)
+    in_session(&rt, |session| print_around_edits(&rt, session, &VIEWS, &EDITS))
 }
 
 /// Opens a view, and adds a record that passes the end of its sequence, which is refused. The view prints what it printed
@@ -92,16 +106,14 @@ fn check_refused_edit(rt: &HostRuntime, session: &mut Session) -> Result<(), Fai
 
 #[test]
 fn bases_after_a_refused_edit(rt: HostRuntime) -> Result<(), Fail> {
-    let mut session = session(&rt)?;
-    check_refused_edit(&rt, &mut session)
+    in_session(&rt, |session| check_refused_edit(&rt, session))
 }
 
 /// Views of bases add no step to an edit.
 #[test]
 fn edits_beside_bases(rt: HostRuntime) -> Result<(), Fail> {
     let views = &VIEWS[..5];
-    let mut session = session(&rt)?;
-    edit_without_steps(&mut session, views, &EDITS)
+    in_session(&rt, |session| edit_without_steps(session, views, &EDITS))
 }
 
 /// Corrects lengths of that session: records past the new end are reported before the bases, and what has none is free.
@@ -114,6 +126,5 @@ fn corrects(session: &mut Session) -> bool {
 
 #[test]
 fn lengths_beside_bases(rt: HostRuntime) -> Result<(), Fail> {
-    let mut session = session(&rt)?;
-    holds(corrects(&mut session))
+    in_session(&rt, |session| holds(corrects(session)))
 }

@@ -69,14 +69,15 @@ pub(crate) fn session_of<A: Allocator + Copy>(alloc: A, files: Files<'_>) -> Opt
     Session::new(alloc, genome, first, second, None, limit).ok()
 }
 
-/// The session of files that are sound.
-pub(crate) fn begun(rt: &HostRuntime, files: Files<'_>) -> Result<Session, Fail> {
-    Ok(session_of(rt.alloc(), files).ok_or("no session")?)
-}
-
-/// The session of a BED file over that genome.
-pub(crate) fn session(rt: &HostRuntime, first: &[u8], limit: u32) -> Result<Session, Fail> {
-    begun(rt, alone(first, limit))
+/// What is made of the session of files that are sound. What owns a session and has many exits is slow to prove, so it is owned
+/// here, and looked at elsewhere.
+pub(crate) fn in_session<T, F>(rt: &HostRuntime, files: Files<'_>, look: F) -> Result<T, Fail>
+where
+    F: Fn(&mut Session) -> Result<T, Fail>,
+    requires { F.IsAlwaysCallable look }
+{
+    let mut session = session_of(rt.alloc(), files).ok_or("no session")?;
+    look(&mut session)
 }
 
 /// A failed test, unless this is so.
@@ -88,19 +89,21 @@ pub(crate) fn holds(is_so: bool) -> Result<(), Fail> {
     }
 }
 
-/// What a print of this view, or of all, writes into an output with room for this number of bytes, and its fault.
-pub(crate) fn printed(
+/// Whether a print of this view, or of all, into an output with room for this number of bytes has this fault, and writes this.
+pub(crate) fn prints_into(
     rt: &HostRuntime,
     session: &mut Session,
     name: Option<&[u8]>,
     room: usize,
-) -> Result<(MemSink, Option<PrintFault>), Fail> {
+    fault: Option<PrintFault>,
+    want: &[u8],
+) -> Result<bool, Fail> {
     let mut sink = MemSink::new(rt.alloc(), room, 3)?;
     let done = match name {
         Some(name) => session.print_view(name, &mut sink),
         None => session.print_all(&mut sink),
     };
-    Ok((sink, done.err()))
+    Ok(done.err() == fault && sink.bytes() == want)
 }
 
 /// Whether a print of this view, or of all, writes this.
@@ -110,8 +113,7 @@ pub(crate) fn prints(
     name: Option<&[u8]>,
     want: &[u8],
 ) -> Result<bool, Fail> {
-    let (sink, fault) = printed(rt, session, name, 2000)?;
-    Ok(fault.is_none() && sink.bytes() == want)
+    prints_into(rt, session, name, 2000, None, want)
 }
 
 /// An edit by the records of lines.

@@ -1,5 +1,5 @@
 //! Corrections of lengths, call by call.
-use crate::fixtures::{Files, SIZES, begun, holds, prints, session};
+use crate::fixtures::{Files, alone, holds, in_session, prints};
 use iv_workspace::{ResizeFault, Session};
 use std::test::Fail;
 
@@ -30,12 +30,18 @@ fn corrects(session: &mut Session) -> bool {
     session.is_current(b"c")
 }
 
+/// Opens a view, does all that, and prints the view.
+fn check_corrections(rt: &HostRuntime, session: &mut Session) -> Result<(), Fail> {
+    session.open_view(b"c", &[b"complement"])?;
+    let is_so = corrects(session)
+        && prints(rt, session, Some(b"c"), b"chr1\t0\t10\nchr3\t0\t5\n")?;
+    holds(is_so)
+}
+
 #[test]
 fn lengths_of_a_session(rt: HostRuntime) -> Result<(), Fail> {
-    let mut session = session(&rt, b"chr1\t10\t20\n", 9)?;
-    session.open_view(b"c", &[b"complement"])?;
-    holds(corrects(&mut session))?;
-    holds(prints(&rt, &mut session, Some(b"c"), b"chr1\t0\t10\nchr3\t0\t5\n")?)
+    let files = alone(b"chr1\t10\t20\n", 9);
+    in_session(&rt, files, |session| check_corrections(&rt, session))
 }
 
 /// A record that was read before a resize may not fit after it.
@@ -47,8 +53,7 @@ fn fits_no_more(session: &mut Session) -> Result<bool, Fail> {
 
 #[test]
 fn records_read_before(rt: HostRuntime) -> Result<(), Fail> {
-    let mut session = session(&rt, b"", 9)?;
-    holds(fits_no_more(&mut session)?)
+    in_session(&rt, alone(b"", 9), |session| holds(fits_no_more(session)?))
 }
 
 /// Corrects lengths of a session whose second file has a record that ends at 50 on the second sequence.
@@ -62,14 +67,10 @@ fn corrects_beside(session: &mut Session) -> bool {
 #[test]
 fn lengths_beside_a_second_file(rt: HostRuntime) -> Result<(), Fail> {
     let files = Files {
-        sizes: SIZES,
-        first: b"",
         second: Some(b"chr2\t40\t50\n"),
-        width: 3,
-        limit: 9,
+        ..alone(b"", 9)
     };
-    let mut session = begun(&rt, files)?;
-    holds(corrects_beside(&mut session))
+    in_session(&rt, files, |session| holds(corrects_beside(session)))
 }
 
 #[test]

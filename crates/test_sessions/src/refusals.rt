@@ -1,5 +1,5 @@
 //! Each growth of a session's memory, refused in turn.
-use crate::fixtures::{Edit as Call, Files, alone, answer, session_of};
+use crate::fixtures::{Edit as Call, Files, alone, answer, holds, session_of};
 use iv_track::{EditFault, Meter};
 use iv_workspace::Session;
 use std::alloc::Global;
@@ -34,6 +34,14 @@ fn line(rt: &HostRuntime, start: u32) -> Result<String, Fail> {
     Ok(format!(in rt.alloc(); "chr1\t{start}\t{stop}\tname")?)
 }
 
+/// Puts a line and its line feed at the end of a text.
+fn push_line(rt: &HostRuntime, text: &mut String, start: u32) -> Result<(), Fail> {
+    let line = line(rt, start)?;
+    text.push_str(line.as_str())?;
+    text.push_str("\n")?;
+    Ok(())
+}
+
 /// Whether the session holds just the records of the lines with these starts, from the first one on, this number in all.
 fn holds_lines(session: &Session<&RefusesNth<Global>>, first: u32, count: u32) -> bool {
     let mut meter = Meter::new();
@@ -55,14 +63,12 @@ fn is_done(
     here: &[u8],
     there: &[u8],
 ) -> Result<bool, Fail> {
-    let old = session.read(here)?;
-    let new = session.read(there)?;
-    let done = match edit {
-        Edit::Add => session.add(&old),
-        Edit::Replace => session.replace(&old, &new),
-        Edit::Remove => session.remove(&new),
+    let call = match edit {
+        Edit::Add => Call::Add(here),
+        Edit::Replace => Call::Replace(here, there),
+        Edit::Remove => Call::Remove(there),
     };
-    match done {
+    match answer(session, call)? {
         Ok(_) => Ok(true),
         Err(EditFault::NoMemory) => Ok(false),
         Err(_) => Err(Fail::new("another fault")),
@@ -124,7 +130,7 @@ fn refused_edits(
 }
 
 /// The session of files, begun again where memory is refused, and how many calls met the refusal.
-pub(crate) fn begun_again<'a>(
+fn begun_again<'a>(
     alloc: &'a RefusesNth<Global>,
     files: Files<'_>,
 ) -> Result<(Session<&'a RefusesNth<Global>>, u32), Fail> {
@@ -132,6 +138,20 @@ pub(crate) fn begun_again<'a>(
         Some(session) => Ok((session, 0)),
         None => Ok((session_of(alloc, files).ok_or("refused twice")?, 1)),
     }
+}
+
+/// What is made of the session of files, which is begun again where memory is refused, and how many calls met the refusal.
+pub(crate) fn in_refusing<T, F>(
+    alloc: &RefusesNth<Global>,
+    files: Files<'_>,
+    look: F,
+) -> Result<(Result<T, Fail>, u32), Fail>
+where
+    F: Fn(&mut Session<&RefusesNth<Global>>) -> Result<T, Fail>,
+    requires { F.IsAlwaysCallable look }
+{
+    let (mut session, begun) = begun_again(alloc, files)?;
+    Ok((look(&mut session), begun))
 }
 
 /// Edits a session that begins without a record, and looks at the records of another one. How many calls met the
@@ -157,8 +177,9 @@ fn refused_calls(rt: &HostRuntime, alloc: &RefusesNth<Global>, text: &[u8]) -> R
         width: 4,
         ..alone(text, COUNT)
     };
-    let (mut session, refused) = begun_again(alloc, files)?;
-    Ok(refused_in(rt, &mut session, text.is_empty())?.saturating_add(refused))
+    let is_empty = text.is_empty();
+    let (met, begun) = in_refusing(alloc, files, |session| refused_in(rt, session, is_empty))?;
+    Ok(begun.saturating_add(met?))
 }
 
 /// Whether some growth was refused, and none is any more after the last one.
@@ -167,16 +188,25 @@ fn is_refused_in_turn(rt: &HostRuntime, text: &[u8]) -> Result<bool, Fail> {
     Ok(met > 0)
 }
 
-#[test]
-fn each_growth_refused(rt: HostRuntime) -> Result<(), Fail> {
+/// A file of all records.
+fn lines(rt: &HostRuntime) -> Result<String, Fail> {
     let mut text = String::new(rt.alloc());
     for start in 0..COUNT {
-        text.push_str(line(&rt, start)?.as_str())?;
-        text.push_str("\n")?;
+        push_line(rt, &mut text, start)?;
     }
+    Ok(text)
+}
+
+#[test]
+fn each_growth_refused(rt: HostRuntime) -> Result<(), Fail> {
     assert!(rt; is_refused_in_turn(&rt, b"")?);
-    assert!(rt; is_refused_in_turn(&rt, text.as_bytes())?);
     Ok(())
+}
+
+#[test]
+fn each_growth_of_a_file_refused(rt: HostRuntime) -> Result<(), Fail> {
+    let text = lines(&rt)?;
+    holds(is_refused_in_turn(&rt, text.as_bytes())?)
 }
 
 /// The answers of a session of no record to the first edits: an `add` and a `remove` with the first growth refused, and the
@@ -199,15 +229,19 @@ fn first_answers(
     Ok(as_before)
 }
 
-/// A copy of the record comes first, so a record that isn't there is out of memory too.
-#[test]
-fn first_growth_of_an_edit_refused(rt: HostRuntime) -> Result<(), Fail> {
-    let alloc = RefusesNth::new(rt.alloc(), u64::MAX);
+/// The same from the making of the session on.
+fn check_first_answers(alloc: &RefusesNth<Global>) -> Result<(), Fail> {
     let files = Files {
         width: 4,
         ..alone(b"", COUNT)
     };
-    let (mut session, _) = begun_again(&alloc, files)?;
-    assert!(rt; first_answers(&alloc, &mut session)?);
-    Ok(())
+    let (is_so, _) = in_refusing(alloc, files, |session| first_answers(alloc, session))?;
+    holds(is_so?)
+}
+
+/// A copy of the record comes first, so a record that isn't there is out of memory too.
+#[test]
+fn first_growth_of_an_edit_refused(rt: HostRuntime) -> Result<(), Fail> {
+    let alloc = RefusesNth::new(rt.alloc(), u64::MAX);
+    check_first_answers(&alloc)
 }

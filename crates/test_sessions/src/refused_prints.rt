@@ -5,6 +5,15 @@ use std::alloc::Global;
 use std::test::Fail;
 use test_faults::RefusesNth;
 
+/// Whether a print that wrote these bytes was refused memory, and has written nothing then; else it has to write this text.
+fn is_refused(done: Result<(), PrintFault>, bytes: &[u8], want: &[u8]) -> Result<bool, Fail> {
+    match done {
+        Ok(()) if bytes == want => Ok(false),
+        Err(PrintFault::NoMemory) if bytes.is_empty() => Ok(true),
+        _ => Err(Fail::new("another print")),
+    }
+}
+
 /// Prints a view, or all, into an output that has room for just this text. Whether memory was refused; then nothing is written.
 pub(crate) fn is_print_refused(
     rt: &HostRuntime,
@@ -17,11 +26,7 @@ pub(crate) fn is_print_refused(
         Some(name) => session.print_view(name, &mut sink),
         None => session.print_all(&mut sink),
     };
-    match done {
-        Ok(()) if sink.bytes() == want => Ok(false),
-        Err(PrintFault::NoMemory) if sink.bytes().is_empty() => Ok(true),
-        _ => Err(Fail::new("another print")),
-    }
+    is_refused(done, sink.bytes(), want)
 }
 
 /// Whether the view of a name is current.

@@ -1,6 +1,7 @@
 //! Edits of a track of no record, of 15, 300 and a thousand beside open views, with each growth of the edit refused in turn.
 use crate::apart::{SECOND, SIZES, View, apart, text};
-use crate::fixtures::{Edit, Files, alone, answer, session_of};
+use crate::fixtures::{Edit, Files, alone, answer};
+use crate::refusals::in_refusing;
 use crate::refused_prints::is_print_refused_once;
 use iv_track::EditFault;
 use iv_workspace::Session;
@@ -107,6 +108,19 @@ fn edited(
     }
 }
 
+/// Prints a view, which must have the rows of the records at these starts. Whether the print was refused.
+fn is_refused_print(
+    rt: &HostRuntime,
+    alloc: &RefusesNth<Global>,
+    session: &mut Session<&RefusesNth<Global>>,
+    open: Open<'_>,
+    starts: &[u32],
+) -> Result<bool, Fail> {
+    let (name, _, view, growth) = open;
+    let want = text(rt, view, starts)?;
+    is_print_refused_once(rt, alloc, session, Some(name), growth, want.as_bytes())
+}
+
 /// Prints each view, which must have the rows of the records at these starts. How many prints were refused.
 fn refused_prints(
     rt: &HostRuntime,
@@ -116,10 +130,8 @@ fn refused_prints(
     starts: &[u32],
 ) -> Result<u32, Fail> {
     let mut refused = 0u32;
-    for (name, _, view, growth) in views {
-        let want = text(rt, *view, starts)?;
-        let name = Some(*name);
-        let met = is_print_refused_once(rt, alloc, session, name, *growth, want.as_bytes())?;
+    for view in views {
+        let met = is_refused_print(rt, alloc, session, *view, starts)?;
         refused = refused.saturating_add(u32::from(met));
     }
     Ok(refused)
@@ -157,23 +169,46 @@ fn run(
         second: Some(SECOND),
         ..alone(first, 2000)
     };
-    let mut session = session_of(alloc, files).ok_or("no session")?;
-    edited_and_printed(rt, alloc, &mut session, views, case, number)
+    let (seen, _) = in_refusing(alloc, files, |session| {
+        edited_and_printed(rt, alloc, session, views, case, number)
+    })?;
+    seen
+}
+
+/// The same with an allocator of its own.
+fn run_alone(
+    rt: &HostRuntime,
+    views: &[Open<'_>],
+    case: Case<'_>,
+    first: &[u8],
+    number: u64,
+) -> Result<Seen, Fail> {
+    let alloc = RefusesNth::new(rt.alloc(), u64::MAX);
+    run(rt, &alloc, views, case, first, number)
 }
 
 /// Does the edit of a case with each of its growths refused in turn, until it meets none.
-fn refused_in_turn(rt: &HostRuntime, views: &[Open<'_>], case: Case<'_>) -> Result<Seen, Fail> {
-    let first = text(rt, View::Merge, case.before)?;
+fn run_in_turn(
+    rt: &HostRuntime,
+    views: &[Open<'_>],
+    case: Case<'_>,
+    first: &[u8],
+) -> Result<Seen, Fail> {
     let mut seen = NOTHING;
     for number in 1..1000u64 {
-        let alloc = RefusesNth::new(rt.alloc(), u64::MAX);
-        let more = run(rt, &alloc, views, case, first.as_bytes(), number)?;
+        let more = run_alone(rt, views, case, first, number)?;
         if more == NOTHING {
             return Ok(seen);
         }
         seen = seen.and(more);
     }
     Err(Fail::new("no end of growths"))
+}
+
+/// The same, with the file of the records before the edit.
+fn refused_in_turn(rt: &HostRuntime, views: &[Open<'_>], case: Case<'_>) -> Result<Seen, Fail> {
+    let first = text(rt, View::Merge, case.before)?;
+    run_in_turn(rt, views, case, first.as_bytes())
 }
 
 /// Merge, cluster and complement keep the same blocks, so one print of the three is refused where they are stale.
@@ -190,25 +225,34 @@ fn first_record(rt: HostRuntime) -> Result<(), Fail> {
     Ok(())
 }
 
-/// What is seen at an edit of so many records, one in each thousand bases: one more, one less, and one in the place of another.
-fn edits_of(rt: &HostRuntime, views: &[Open<'_>], count: u32) -> Result<[Seen; 3], Fail> {
+/// What is seen at an edit of so many records, one in each thousand bases, which takes one out and puts one in.
+fn edit_of(
+    rt: &HostRuntime,
+    views: &[Open<'_>],
+    count: u32,
+    edit: Edit<'_>,
+    without: Option<u32>,
+    with: Option<u32>,
+) -> Result<Seen, Fail> {
     let before = apart(rt, count, None, None)?;
-    let added = apart(rt, count, None, Some(500))?;
-    let removed = apart(rt, count, Some(0), None)?;
-    let replaced = apart(rt, count, Some(1000), Some(1500))?;
-    let of = |edit, after| Case {
+    let after = apart(rt, count, without, with)?;
+    let case = Case {
         before: before.as_slice(),
         edit,
-        after,
+        after: after.as_slice(),
     };
-    let add = of(Edit::Add(b"big\t500\t510"), added.as_slice());
-    let remove = of(Edit::Remove(b"big\t0\t10"), removed.as_slice());
+    refused_in_turn(rt, views, case)
+}
+
+/// What is seen at edits of so many records: one more, one less, and one in the place of another.
+fn edits_of(rt: &HostRuntime, views: &[Open<'_>], count: u32) -> Result<[Seen; 3], Fail> {
+    let add = Edit::Add(b"big\t500\t510");
+    let remove = Edit::Remove(b"big\t0\t10");
     let replace = Edit::Replace(b"big\t1000\t1010", b"big\t1500\t1510");
-    let replace = of(replace, replaced.as_slice());
     Ok([
-        refused_in_turn(rt, views, add)?,
-        refused_in_turn(rt, views, remove)?,
-        refused_in_turn(rt, views, replace)?,
+        edit_of(rt, views, count, add, None, Some(500))?,
+        edit_of(rt, views, count, remove, Some(0), None)?,
+        edit_of(rt, views, count, replace, Some(1000), Some(1500))?,
     ])
 }
 

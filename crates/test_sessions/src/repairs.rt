@@ -1,5 +1,6 @@
 //! Steps of edits beside open views, with ample memory, so that no view becomes stale.
-use crate::fixtures::{Edit, Files, alone, answer, begun, holds, prints};
+use crate::apart::SIZES;
+use crate::fixtures::{Edit, Files, alone, answer, holds, in_session, prints};
 use iv_workspace::Session;
 use std::test::Fail;
 
@@ -18,13 +19,12 @@ fn most_steps(around: u32) -> u64 {
     8 + 8 + 2 * (16 + 8 * u64::from(around))
 }
 
-/// A session of a BED file over one sequence of a million bases.
-fn session(rt: &HostRuntime, text: &[u8]) -> Result<Session, Fail> {
-    let files = Files {
-        sizes: b"big\t1000000\n",
+/// A BED file over one sequence of a million bases.
+fn files_of(text: &[u8]) -> Files<'_> {
+    Files {
+        sizes: SIZES,
         ..alone(text, 2000)
-    };
-    begun(rt, files)
+    }
 }
 
 /// Opens the views.
@@ -33,13 +33,6 @@ fn open_views(session: &mut Session) -> Result<(), Fail> {
         session.open_view(name, words)?;
     }
     Ok(())
-}
-
-/// Such a session with the views open.
-fn with_views(rt: &HostRuntime, text: &[u8]) -> Result<Session, Fail> {
-    let mut session = session(rt, text)?;
-    open_views(&mut session)?;
-    Ok(session)
 }
 
 /// Whether an edit takes at most this number of steps and leaves all views current.
@@ -67,15 +60,16 @@ fn print_as(
     Ok(true)
 }
 
-/// Does edits, each of which takes at most this number of steps and leaves all views current.
+/// Opens the views and does edits, each of which takes at most this number of steps and leaves all views current.
 fn repair_within(session: &mut Session, edits: &[Edit<'_>], most: u64) -> Result<(), Fail> {
+    open_views(session)?;
     for edit in edits {
         holds(repairs_within(session, *edit, most)?)?;
     }
     Ok(())
 }
 
-/// Does edits, which take at most this number of steps each, and views print these texts afterwards.
+/// Opens the views and does edits, which take at most this number of steps each, and views print these texts afterwards.
 fn repair_to(
     rt: &HostRuntime,
     session: &mut Session,
@@ -90,7 +84,7 @@ fn repair_to(
 /// A record that holds two others is taken out: three records were around it.
 #[test]
 fn removal_that_splits_a_block(rt: HostRuntime) -> Result<(), Fail> {
-    let mut session = with_views(&rt, b"big\t0\t100\nbig\t10\t20\nbig\t60\t70\n")?;
+    let files = files_of(b"big\t0\t100\nbig\t10\t20\nbig\t60\t70\n");
     let edits = [Edit::Remove(b"big\t0\t100")];
     let texts: [(&[u8], &[u8]); 4] = [
         (b"m", b"big\t10\t20\nbig\t60\t70\n"),
@@ -98,7 +92,15 @@ fn removal_that_splits_a_block(rt: HostRuntime) -> Result<(), Fail> {
         (b"c", b"big\t0\t10\nbig\t20\t60\nbig\t70\t1000000\n"),
         (b"g", b"big\t10\t20\t1\nbig\t60\t70\t1\n"),
     ];
-    repair_to(&rt, &mut session, &edits, most_steps(3), &texts)
+    in_session(&rt, files, |session| repair_to(&rt, session, &edits, most_steps(3), &texts))
+}
+
+/// Puts the line of a record of ten bases at the end of a text.
+fn push_line(rt: &HostRuntime, text: &mut String, start: u32) -> Result<(), Fail> {
+    let stop = start.saturating_add(10);
+    let line = format!(in rt.alloc(); "big\t{start}\t{stop}\n")?;
+    text.push_str(line.as_str())?;
+    Ok(())
 }
 
 /// A thousand records, each of ten bases and so far after the one before.
@@ -106,32 +108,33 @@ fn thousand(rt: &HostRuntime, apart: u32) -> Result<String, Fail> {
     let mut text = String::new(rt.alloc());
     let mut start = 0u32;
     for _ in 0..1000u32 {
-        let stop = start.saturating_add(10);
-        text.push_str(format!(in rt.alloc(); "big\t{start}\t{stop}\n")?.as_str())?;
+        push_line(rt, &mut text, start)?;
         start = start.saturating_add(apart);
     }
     Ok(text)
 }
 
-/// A session of these records, with the views open.
-fn of_a_thousand(rt: &HostRuntime, apart: u32) -> Result<Session, Fail> {
+/// What is made of a session of these records.
+fn in_a_thousand<F>(rt: &HostRuntime, apart: u32, look: F) -> Result<(), Fail>
+where
+    F: Fn(&mut Session) -> Result<(), Fail>,
+    requires { F.IsAlwaysCallable look }
+{
     let text = thousand(rt, apart)?;
-    with_views(rt, text.as_bytes())
+    in_session(rt, files_of(text.as_bytes()), look)
 }
 
 /// Edits of a thousand records, each with one record around it, or in one case none but its neighbours within the distance:
 /// the steps of an edit don't grow with the track.
 #[test]
 fn edits_of_a_thousand_records(rt: HostRuntime) -> Result<(), Fail> {
-    let mut session = of_a_thousand(&rt, 1000)?;
     let edits = [Edit::Add(b"big\t500\t510"), Edit::Remove(b"big\t0\t10")];
-    repair_within(&mut session, &edits, most_steps(1))
+    in_a_thousand(&rt, 1000, |session| repair_within(session, &edits, most_steps(1)))
 }
 
 /// A thousand copies of one record; one more, and two less: the blocks stay, the depth changes.
 #[test]
 fn edits_of_a_thousand_copies(rt: HostRuntime) -> Result<(), Fail> {
-    let mut session = of_a_thousand(&rt, 0)?;
     let copy = b"big\t0\t10";
     let edits = [Edit::Add(copy), Edit::Remove(copy), Edit::Remove(copy)];
     let texts: [(&[u8], &[u8]); 3] = [
@@ -139,11 +142,14 @@ fn edits_of_a_thousand_copies(rt: HostRuntime) -> Result<(), Fail> {
         (b"c", b"big\t10\t1000000\n"),
         (b"g", b"big\t0\t10\t999\n"),
     ];
-    repair_to(&rt, &mut session, &edits, most_steps(1001), &texts)
+    in_a_thousand(&rt, 0, |session| {
+        repair_to(&rt, session, &edits, most_steps(1001), &texts)
+    })
 }
 
-/// Closes all views but those of these names, and gives the steps of an edit beside them.
+/// Opens the views, closes all but those of these names, and gives the steps of an edit beside them.
 fn steps_of(session: &mut Session, names: &[&[u8]]) -> Result<u64, Fail> {
+    open_views(session)?;
     for (name, _) in VIEWS {
         if !names.contains(&name) {
             session.close_view(name)?;
@@ -155,8 +161,8 @@ fn steps_of(session: &mut Session, names: &[&[u8]]) -> Result<u64, Fail> {
 
 /// The steps of an edit beside views of these names.
 fn steps_beside(rt: &HostRuntime, names: &[&[u8]]) -> Result<u64, Fail> {
-    let mut session = with_views(rt, b"big\t0\t100\nbig\t50\t70\n")?;
-    steps_of(&mut session, names)
+    let files = files_of(b"big\t0\t100\nbig\t50\t70\n");
+    in_session(rt, files, |session| steps_of(session, names))
 }
 
 /// The blocks of merge, cluster and complement are repaired once, and those of a merge of another distance beside them.
@@ -183,8 +189,9 @@ fn edit_without(
     Ok(stale == 0 && print_as(rt, session, texts)?)
 }
 
-/// Closes views one after another, with an edit after each. Those that are left print their texts.
+/// Opens the views, and closes some one after another, with an edit after each. Those that are left print their texts.
 fn close_in_turn(rt: &HostRuntime, session: &mut Session) -> Result<(), Fail> {
+    open_views(session)?;
     let texts: [(&[u8], &[u8]); 2] = [
         (b"k", b"big\t0\t100\t1\nbig\t200\t300\t2\n"),
         (b"c", b"big\t100\t200\nbig\t300\t1000000\n"),
@@ -200,6 +207,5 @@ fn close_in_turn(rt: &HostRuntime, session: &mut Session) -> Result<(), Fail> {
 /// Those that are left keep what they need.
 #[test]
 fn views_that_are_closed(rt: HostRuntime) -> Result<(), Fail> {
-    let mut session = with_views(&rt, b"big\t0\t100\n")?;
-    close_in_turn(&rt, &mut session)
+    in_session(&rt, files_of(b"big\t0\t100\n"), |session| close_in_turn(&rt, session))
 }

@@ -1,6 +1,6 @@
 //! Sessions beside a second file: views that are written from the records of both.
 use crate::around::{Around, edit_without_steps, print_around_edits};
-use crate::fixtures::{Edit, Files, alone, answer_beside, begun, holds, prints, session};
+use crate::fixtures::{Edit, Files, alone, answer_beside, holds, in_session, prints};
 use iv_track::EditFault;
 use iv_workspace::{SecondFault, Session};
 use std::test::Fail;
@@ -94,28 +94,29 @@ const EDITS: [Edit<'static>; 3] = [
     Edit::Remove(b"chr1\t30\t40"),
 ];
 
-/// A session of a BED file beside a second one.
-fn session_beside(rt: &HostRuntime, first: &[u8], second: &[u8]) -> Result<Session, Fail> {
-    let files = Files {
+/// A BED file beside a second one.
+fn beside<'a>(first: &'a [u8], second: &'a [u8]) -> Files<'a> {
+    Files {
         second: Some(second),
         ..alone(first, 9)
-    };
-    begun(rt, files)
+    }
 }
 
 /// Views of which a state is kept, and views that are written from the records, before and after edits of the track.
 #[test]
 fn views_beside_a_second_file(rt: HostRuntime) -> Result<(), Fail> {
-    let mut session = session_beside(&rt, FIRST, SECOND)?;
-    print_around_edits(&rt, &mut session, &VIEWS, &EDITS)
+    in_session(&rt, beside(FIRST, SECOND), |session| {
+        print_around_edits(&rt, session, &VIEWS, &EDITS)
+    })
 }
 
 /// Views of which nothing is kept add no step to an edit.
 #[test]
 fn edits_beside_written_views(rt: HostRuntime) -> Result<(), Fail> {
     let views = &VIEWS[1..11];
-    let mut session = session_beside(&rt, FIRST, SECOND)?;
-    edit_without_steps(&mut session, views, &EDITS)
+    in_session(&rt, beside(FIRST, SECOND), |session| {
+        edit_without_steps(session, views, &EDITS)
+    })
 }
 
 /// Prints views of a record of six columns beside records of three.
@@ -143,9 +144,8 @@ fn check_two_widths(rt: &HostRuntime, session: &mut Session) -> Result<(), Fail>
 
 #[test]
 fn files_of_two_widths(rt: HostRuntime) -> Result<(), Fail> {
-    let first = b"chr1\t10\t20\tx\t7\t-\n";
-    let mut session = session_beside(&rt, first, b"chr1\t12\t14\nchr1\t13\t16\n")?;
-    check_two_widths(&rt, &mut session)
+    let files = beside(b"chr1\t10\t20\tx\t7\t-\n", b"chr1\t12\t14\nchr1\t13\t16\n");
+    in_session(&rt, files, |session| check_two_widths(&rt, session))
 }
 
 /// Edits of a second file of two records, of which it may have two, and why each is refused.
@@ -179,8 +179,7 @@ fn edits_at_the_limit(rt: HostRuntime) -> Result<(), Fail> {
         second: Some(b"chr1\t10\t20\nchr1\t30\t40\n"),
         ..alone(b"", 2)
     };
-    let mut session = begun(&rt, files)?;
-    holds(answer_at_limit(&mut session)?)
+    in_session(&rt, files, |session| holds(answer_at_limit(session)?))
 }
 
 /// Whether a session answers that it has no second file, whatever the line.
@@ -195,6 +194,5 @@ fn has_none(session: &Session) -> Result<bool, Fail> {
 
 #[test]
 fn no_second_file(rt: HostRuntime) -> Result<(), Fail> {
-    let session = session(&rt, FIRST, 9)?;
-    holds(has_none(&session)?)
+    in_session(&rt, alone(FIRST, 9), |session| holds(has_none(session)?))
 }

@@ -1,6 +1,6 @@
 //! Edits of a second file beside open views, while each growth of memory is refused in turn.
 use crate::fixtures::{Edit, Files, alone, answer_beside};
-use crate::refusals::begun_again;
+use crate::refusals::in_refusing;
 use iv_bytes::MemSink;
 use iv_track::EditFault;
 use iv_workspace::Session;
@@ -39,18 +39,36 @@ fn refused_openings(session: &mut Session<&RefusesNth<Global>>) -> Result<u32, F
     Ok(refused)
 }
 
-/// What all views print, each of which is current.
-fn printed(rt: &HostRuntime, session: &mut Session<&RefusesNth<Global>>) -> Result<MemSink, Fail> {
+/// Whether all views are current.
+fn are_current(session: &Session<&RefusesNth<Global>>) -> bool {
     for (name, _) in VIEWS {
         if !session.is_current(name) {
-            return Err(Fail::new("a view that is not current"));
+            return false;
         }
+    }
+    true
+}
+
+/// What all views print, each of which is current.
+fn printed(rt: &HostRuntime, session: &mut Session<&RefusesNth<Global>>) -> Result<MemSink, Fail> {
+    if !are_current(session) {
+        return Err(Fail::new("a view that is not current"));
     }
     let mut sink = MemSink::new(rt.alloc(), 1000, 99)?;
     match session.print_all(&mut sink) {
         Ok(()) => Ok(sink),
         Err(_) => Err(Fail::new("a current view wants memory")),
     }
+}
+
+/// Whether all views print this.
+fn prints_all(
+    rt: &HostRuntime,
+    session: &mut Session<&RefusesNth<Global>>,
+    want: &[u8],
+) -> Result<bool, Fail> {
+    let sink = printed(rt, session)?;
+    Ok(sink.bytes() == want)
 }
 
 /// Does an edit. Whether memory was refused for it.
@@ -62,17 +80,18 @@ fn is_refused(session: &mut Session<&RefusesNth<Global>>, edit: Edit<'_>) -> Res
     }
 }
 
-/// Does an edit, again where memory is refused, which must leave all prints as they were. How often it was.
-fn refused_edit(
+/// Does an edit where all views print this, again where memory is refused, which must leave all prints as they were. How often
+/// it was.
+fn refused_from(
     rt: &HostRuntime,
     session: &mut Session<&RefusesNth<Global>>,
     edit: Edit<'_>,
+    before: &[u8],
 ) -> Result<u32, Fail> {
-    let before = printed(rt, session)?;
     if !is_refused(session, edit)? {
         return Ok(0);
     }
-    if printed(rt, session)?.bytes() != before.bytes() {
+    if !prints_all(rt, session, before)? {
         return Err(Fail::new("changed by a refused edit"));
     }
     if is_refused(session, edit)? {
@@ -81,28 +100,52 @@ fn refused_edit(
     Ok(1)
 }
 
-/// Adds a record at each start, then replaces each by one at a later start, then takes those out. How often memory was
-/// refused.
+/// The same, whatever they print.
+fn refused_edit(
+    rt: &HostRuntime,
+    session: &mut Session<&RefusesNth<Global>>,
+    edit: Edit<'_>,
+) -> Result<u32, Fail> {
+    let before = printed(rt, session)?;
+    refused_from(rt, session, edit, before.bytes())
+}
+
+/// What is done at each start.
+#[derive(Clone, Copy)]
+enum Kind {
+    Add,
+    Replace,
+    Remove,
+}
+
+/// Does an edit at a start: adds the record there, or replaces it by one at a later start, or takes that out. How often memory
+/// was refused.
+fn refused_at(
+    rt: &HostRuntime,
+    session: &mut Session<&RefusesNth<Global>>,
+    kind: Kind,
+    start: u32,
+) -> Result<u32, Fail> {
+    let here = line(rt, start)?;
+    let there = line(rt, start.saturating_add(COUNT))?;
+    let edit = match kind {
+        Kind::Add => Edit::Add(here.as_bytes()),
+        Kind::Replace => Edit::Replace(here.as_bytes(), there.as_bytes()),
+        Kind::Remove => Edit::Remove(there.as_bytes()),
+    };
+    refused_edit(rt, session, edit)
+}
+
+/// Does each edit at each start. How often memory was refused.
 fn refused_edits(
     rt: &HostRuntime,
     session: &mut Session<&RefusesNth<Global>>,
 ) -> Result<u32, Fail> {
     let mut refused = 0u32;
-    for start in 0..COUNT {
-        let here = line(rt, start)?;
-        let met = refused_edit(rt, session, Edit::Add(here.as_bytes()))?;
-        refused = refused.saturating_add(met);
-    }
-    for start in 0..COUNT {
-        let here = line(rt, start)?;
-        let there = line(rt, start.saturating_add(COUNT))?;
-        let edit = Edit::Replace(here.as_bytes(), there.as_bytes());
-        refused = refused.saturating_add(refused_edit(rt, session, edit)?);
-    }
-    for start in COUNT..COUNT.saturating_add(COUNT) {
-        let there = line(rt, start)?;
-        let met = refused_edit(rt, session, Edit::Remove(there.as_bytes()))?;
-        refused = refused.saturating_add(met);
+    for kind in [Kind::Add, Kind::Replace, Kind::Remove] {
+        for start in 0..COUNT {
+            refused = refused.saturating_add(refused_at(rt, session, kind, start)?);
+        }
     }
     Ok(refused)
 }
@@ -114,7 +157,7 @@ fn prints_nothing_beside(
 ) -> Result<bool, Fail> {
     let want =
         b"#c\nchr1\t10\t20\tn\t0\nchr1\t30\t40\tn\t0\n#s\nchr1\t10\t20\tn\nchr1\t30\t40\tn\n#m\nchr1\t10\t20\nchr1\t30\t40\n";
-    Ok(printed(rt, session)?.bytes() == want.as_slice())
+    prints_all(rt, session, want)
 }
 
 /// Opens the views and does the edits. How many calls met the refusal.
@@ -135,8 +178,8 @@ fn refused_calls(rt: &HostRuntime, alloc: &RefusesNth<Global>) -> Result<u32, Fa
         width: 4,
         ..alone(FIRST, COUNT)
     };
-    let (mut session, begun) = begun_again(alloc, files)?;
-    Ok(begun.saturating_add(refused_work(rt, &mut session)?))
+    let (met, begun) = in_refusing(alloc, files, |session| refused_work(rt, session))?;
+    Ok(begun.saturating_add(met?))
 }
 
 #[test]

@@ -1,5 +1,5 @@
 //! The calls of a session, one by one.
-use crate::fixtures::{Edit, answer, holds, printed, prints, session};
+use crate::fixtures::{Edit, alone, answer, holds, in_session, prints, prints_into};
 use iv_text::RecordFault;
 use iv_track::{EditFault, Meter};
 use iv_view::ViewFault;
@@ -40,8 +40,7 @@ fn check_edits(session: &mut Session) -> Result<(), Fail> {
 
 #[test]
 fn edits(rt: HostRuntime) -> Result<(), Fail> {
-    let mut session = session(&rt, b"chr1\t10\t20\tn\n", 2)?;
-    check_edits(&mut session)
+    in_session(&rt, alone(b"chr1\t10\t20\tn\n", 2), check_edits)
 }
 
 /// What the session says of a line, and whether the record is one of a session with four columns.
@@ -67,12 +66,14 @@ fn reads(plain: &Session, named: &Session) -> bool {
     fault_of_line(plain, plain, b"chr1\t90\t100") == (None, true)
 }
 
+/// Reads them beside a session of four columns.
+fn check_reads(rt: &HostRuntime, plain: &Session) -> Result<(), Fail> {
+    in_session(rt, alone(b"chr1\t1\t2\tn\n", 2), |named| holds(reads(plain, named)))
+}
+
 #[test]
 fn records_that_are_read(rt: HostRuntime) -> Result<(), Fail> {
-    let plain = session(&rt, b"", 2)?;
-    let named = session(&rt, b"chr1\t1\t2\tn\n", 2)?;
-    assert!(rt; reads(&plain, &named));
-    Ok(())
+    in_session(&rt, alone(b"", 2), |plain| check_reads(&rt, plain))
 }
 
 /// How many records a session holds, its track's width and limit, and the first record of the second sequence with the
@@ -88,14 +89,15 @@ fn numbers_of(session: &Session) -> (u32, u8, u32, Option<(u64, u64, u32)>) {
 
 #[test]
 fn session_of_a_file(rt: HostRuntime) -> Result<(), Fail> {
-    let session = session(&rt, b"chr2\t0\t1\nchr1\t10\t20\nchr2\t0\t1\n", 5)?;
-    holds(numbers_of(&session) == (3, 3, 5, Some((0, 1, 2))))
+    let files = alone(b"chr2\t0\t1\nchr1\t10\t20\nchr2\t0\t1\n", 5);
+    in_session(&rt, files, |session| {
+        holds(numbers_of(session) == (3, 3, 5, Some((0, 1, 2))))
+    })
 }
 
 /// The fault of an opening in a session without views.
 fn fault_of_opening(rt: &HostRuntime, name: &[u8], word: &[u8]) -> Result<Option<ViewFault>, Fail> {
-    let mut session = session(rt, b"", 2)?;
-    Ok(session.open_view(name, &[word]).err())
+    in_session(rt, alone(b"", 2), |session| Ok(session.open_view(name, &[word]).err()))
 }
 
 #[test]
@@ -117,16 +119,19 @@ fn names_of_views(rt: HostRuntime) -> Result<(), Fail> {
     Ok(())
 }
 
-/// A session of three records with two open views.
-fn with_views(rt: &HostRuntime) -> Result<Session, Fail> {
-    let mut session = session(rt, b"chr1\t31\t40\nchr1\t20\t30\nchr1\t10\t20\n", 9)?;
+/// A file of three records.
+const THREE: &[u8] = b"chr1\t31\t40\nchr1\t20\t30\nchr1\t10\t20\n";
+
+/// Opens two views.
+fn open_two(session: &mut Session) -> Result<(), Fail> {
     session.open_view(b"a", &[b"merge"])?;
     session.open_view(b"b", &[b"merge"])?;
-    Ok(session)
+    Ok(())
 }
 
-/// Prints the views of a session, one by one and all, into outputs with and without room.
+/// Opens two views, and prints them, one by one and all, into outputs with and without room.
 fn check_prints(rt: &HostRuntime, session: &mut Session) -> Result<(), Fail> {
+    open_two(session)?;
     let all = b"#a\nchr1\t10\t30\nchr1\t31\t40\n#b\nchr1\t10\t30\nchr1\t31\t40\n";
     for (name, room, want, text) in [
         (Some(b"a".as_slice()), 99, None, &all[3..25]),
@@ -135,8 +140,7 @@ fn check_prints(rt: &HostRuntime, session: &mut Session) -> Result<(), Fail> {
         (None, 99, None, all),
         (None, 28, Some(PrintFault::Write), &all[..28]),
     ] {
-        let (sink, fault) = printed(rt, session, name, room)?;
-        if fault != want || sink.bytes() != text {
+        if !prints_into(rt, session, name, room, want, text)? {
             return Err(Fail::new("another print"));
         }
     }
@@ -145,8 +149,7 @@ fn check_prints(rt: &HostRuntime, session: &mut Session) -> Result<(), Fail> {
 
 #[test]
 fn prints_into_outputs(rt: HostRuntime) -> Result<(), Fail> {
-    let mut session = with_views(&rt)?;
-    check_prints(&rt, &mut session)
+    in_session(&rt, alone(THREE, 9), |session| check_prints(&rt, session))
 }
 
 /// Adds a record and closes a view, which alone isn't current any more.
@@ -158,15 +161,15 @@ fn closes(session: &mut Session) -> Result<bool, Fail> {
     Ok(is_added && is_current && is_absent && is_closed)
 }
 
-/// Does all that, and prints the view that is left.
+/// Opens two views, does all that, and prints the view that is left.
 fn close_one_of_two(rt: &HostRuntime, session: &mut Session) -> Result<(), Fail> {
+    open_two(session)?;
     holds(closes(session)? && prints(rt, session, None, b"#b\nchr1\t10\t40\n")?)
 }
 
 #[test]
 fn views_that_are_current(rt: HostRuntime) -> Result<(), Fail> {
-    let mut session = with_views(&rt)?;
-    close_one_of_two(&rt, &mut session)
+    in_session(&rt, alone(THREE, 9), |session| close_one_of_two(&rt, session))
 }
 
 /// The numbers of faults in the table of faults.

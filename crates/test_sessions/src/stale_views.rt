@@ -1,7 +1,7 @@
 //! Open views, while each growth of memory is refused in turn.
 use crate::around::{Around, all_texts};
 use crate::fixtures::{Edit, Files, alone, answer};
-use crate::refusals::begun_again;
+use crate::refusals::in_refusing;
 use crate::refused_prints::{is_print_refused, is_print_refused_once};
 use iv_track::EditFault;
 use iv_view::ViewFault;
@@ -146,6 +146,16 @@ fn refused_edits(session: &mut Session<&RefusesNth<Global>>) -> Result<(u32, u32
     Ok((refused, most))
 }
 
+/// Prints all views at once, with a growth refused. Whether the print met the refusal.
+fn is_refused_at_once(
+    rt: &HostRuntime,
+    alloc: &RefusesNth<Global>,
+    session: &mut Session<&RefusesNth<Global>>,
+) -> Result<bool, Fail> {
+    let all = all_texts(rt, &VIEWS, true)?;
+    is_print_refused_once(rt, alloc, session, None, 1, all.as_slice())
+}
+
 /// Prints all views at once, if that is asked for, and then each by itself, with a growth of each print refused. How many
 /// prints met the refusal.
 fn refused_prints(
@@ -156,8 +166,7 @@ fn refused_prints(
 ) -> Result<u32, Fail> {
     let mut refused = 0u32;
     if at_once {
-        let all = all_texts(rt, &VIEWS, true)?;
-        refused = u32::from(is_print_refused_once(rt, alloc, session, None, 1, all.as_slice())?);
+        refused = u32::from(is_refused_at_once(rt, alloc, session)?);
     }
     for (name, _, _, text) in VIEWS {
         let met = is_print_refused_once(rt, alloc, session, Some(name), 1, text)?;
@@ -207,8 +216,10 @@ fn refused_calls(rt: &HostRuntime, alloc: &RefusesNth<Global>, at_once: bool) ->
         second: Some(SECOND),
         ..alone(FIRST, LIMIT)
     };
-    let (mut session, begun) = begun_again(alloc, files)?;
-    let met = refused_work(rt, alloc, &mut session, at_once)?;
+    let (met, begun) = in_refusing(alloc, files, |session| {
+        refused_work(rt, alloc, session, at_once)
+    })?;
+    let met = met?;
     Ok(Met {
         calls: begun.saturating_add(met.calls),
         ..met
