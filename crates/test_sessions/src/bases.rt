@@ -91,7 +91,10 @@ where
 /// Rows before edits of the track and after them; the FASTA file lacks the second sequence.
 #[test]
 fn bases_around_edits(rt: HostRuntime) -> Result<(), Fail> {
-    in_session(&rt, |session| print_around_edits(&rt, session, &VIEWS, &EDITS))
+    in_session(
+        &rt,
+        |session| print_around_edits(&rt, session, &VIEWS, &EDITS),
+    )
 }
 
 /// Opens a view, and adds a record that passes the end of its sequence, which is refused. The view prints what it printed

@@ -33,8 +33,7 @@ fn corrects(session: &mut Session) -> bool {
 /// Opens a view, does all that, and prints the view.
 fn check_corrections(rt: &HostRuntime, session: &mut Session) -> Result<(), Fail> {
     session.open_view(b"c", &[b"complement"])?;
-    let is_so = corrects(session)
-        && prints(rt, session, Some(b"c"), b"chr1\t0\t10\nchr3\t0\t5\n")?;
+    let is_so = corrects(session) && prints(rt, session, Some(b"c"), b"chr1\t0\t10\nchr3\t0\t5\n")?;
     holds(is_so)
 }
 

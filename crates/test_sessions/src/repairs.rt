@@ -92,7 +92,11 @@ fn removal_that_splits_a_block(rt: HostRuntime) -> Result<(), Fail> {
         (b"c", b"big\t0\t10\nbig\t20\t60\nbig\t70\t1000000\n"),
         (b"g", b"big\t10\t20\t1\nbig\t60\t70\t1\n"),
     ];
-    in_session(&rt, files, |session| repair_to(&rt, session, &edits, most_steps(3), &texts))
+    in_session(
+        &rt,
+        files,
+        |session| repair_to(&rt, session, &edits, most_steps(3), &texts),
+    )
 }
 
 /// Puts the line of a record of ten bases at the end of a text.
@@ -129,7 +133,11 @@ where
 #[test]
 fn edits_of_a_thousand_records(rt: HostRuntime) -> Result<(), Fail> {
     let edits = [Edit::Add(b"big\t500\t510"), Edit::Remove(b"big\t0\t10")];
-    in_a_thousand(&rt, 1000, |session| repair_within(session, &edits, most_steps(1)))
+    in_a_thousand(
+        &rt,
+        1000,
+        |session| repair_within(session, &edits, most_steps(1)),
+    )
 }
 
 /// A thousand copies of one record; one more, and two less: the blocks stay, the depth changes.
@@ -207,5 +215,9 @@ fn close_in_turn(rt: &HostRuntime, session: &mut Session) -> Result<(), Fail> {
 /// Those that are left keep what they need.
 #[test]
 fn views_that_are_closed(rt: HostRuntime) -> Result<(), Fail> {
-    in_session(&rt, files_of(b"big\t0\t100\n"), |session| close_in_turn(&rt, session))
+    in_session(
+        &rt,
+        files_of(b"big\t0\t100\n"),
+        |session| close_in_turn(&rt, session),
+    )
 }

@@ -68,7 +68,11 @@ fn reads(plain: &Session, named: &Session) -> bool {
 
 /// Reads them beside a session of four columns.
 fn check_reads(rt: &HostRuntime, plain: &Session) -> Result<(), Fail> {
-    in_session(rt, alone(b"chr1\t1\t2\tn\n", 2), |named| holds(reads(plain, named)))
+    in_session(
+        rt,
+        alone(b"chr1\t1\t2\tn\n", 2),
+        |named| holds(reads(plain, named)),
+    )
 }
 
 #[test]
@@ -97,7 +101,11 @@ fn session_of_a_file(rt: HostRuntime) -> Result<(), Fail> {
 
 /// The fault of an opening in a session without views.
 fn fault_of_opening(rt: &HostRuntime, name: &[u8], word: &[u8]) -> Result<Option<ViewFault>, Fail> {
-    in_session(rt, alone(b"", 2), |session| Ok(session.open_view(name, &[word]).err()))
+    in_session(
+        rt,
+        alone(b"", 2),
+        |session| Ok(session.open_view(name, &[word]).err()),
+    )
 }
 
 #[test]
@@ -169,7 +177,11 @@ fn close_one_of_two(rt: &HostRuntime, session: &mut Session) -> Result<(), Fail>
 
 #[test]
 fn views_that_are_current(rt: HostRuntime) -> Result<(), Fail> {
-    in_session(&rt, alone(THREE, 9), |session| close_one_of_two(&rt, session))
+    in_session(
+        &rt,
+        alone(THREE, 9),
+        |session| close_one_of_two(&rt, session),
+    )
 }
 
 /// The numbers of faults in the table of faults.
