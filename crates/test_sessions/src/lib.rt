@@ -10,6 +10,8 @@ mod bases;
 #[cfg(test)]
 mod fixtures;
 #[cfg(test)]
+mod kept_kinds;
+#[cfg(test)]
 mod lengths;
 #[cfg(test)]
 mod refusals;
@@ -27,3 +29,7 @@ mod second_edits;
 mod sessions;
 #[cfg(test)]
 mod stale_views;
+#[cfg(test)]
+mod state_refusals;
+#[cfg(test)]
+mod states;

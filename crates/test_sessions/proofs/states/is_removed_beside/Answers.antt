@@ -1,0 +1,23 @@
+use Rattle.std.proofs.Common.{◌≡◌, ◌∙◌, ℕ, List, ap, sym, subst}
+use Rattle.iv_text.specs.Named.{names_of}
+use Rattle.iv_text.specs.Ordered.{AreInOrder, added}
+use Rattle.iv_text.specs.Row.{Row}
+use Rattle.iv_track.specs.Tracked.{Tracked, removed}
+use Rattle.iv_track.proofs.Edits.{added-removed}
+use Rattle.iv_view.specs.KeptStates.{IsRight}
+use Rattle.iv_workspace.specs.States.{State}
+use Rattle.test_sessions.proofs.states.is_removed_beside.Goals as goal
+
+-- the records before are those after and the one that was taken out
+pub is_removed-requires-clause-right : goal.is_removed-requires-clause-right
+is_removed-requires-clause-right c =
+    let old = c.args.session.now in
+    let r = c.in_ok-row.row in
+    let after = c.remove.new.self in
+    let is = c.in_ok-remove.ensures.ok.0 in
+    let order : AreInOrder old.track.rows = subst (λ (t : Tracked). AreInOrder t.rows) c.track.ensures.value c.len-count.ensures.ordered in
+    let rows : old.track.rows ≡ added after.track.rows r =
+    added-removed old.track.rows r order c.in_ok-remove.ensures.there ∙ ap (λ (s : State). added s.track.rows r) (sym is) in
+    let names : names_of after.genome ≡ names_of old.genome = ap (λ (s : State). names_of s.genome) is in
+    subst (λ (n : List (List ℕ)). IsRight c.args.state.now n (added after.track.rows r)) (sym names)
+    (subst (λ (l : List Row). IsRight c.args.state.now (names_of old.genome) l) rows c.requires.right)
