@@ -2,7 +2,7 @@
 use Rattle.std.proofs.Common.{ℕ, ◌+◌, ◌<◌, ◌≤◌, ◌≡◌, inl, inr, Bool, true, false, ◌==◌, List, [], length, All, Option, Some, None, refl, sym, ap, subst, ◌∙◌, arith, eqb-true}
 use Rattle.std.specs.List.Sorted.{IsStrictlySortedBy}
 use Rattle.std.specs.Option.{option_map, option_or}
-use Rattle.std.proofs.lemmas.Bool.{cases_eq, cases_lt, and_parts, and_from, and_right, false_from_ne_true}
+use Rattle.std.proofs.lemmas.Bool.{cases_eq, cases_lt, and_parts, and_from, false_from_ne_true}
 use Rattle.iv_text.specs.Genome.{Sequences, sequence_length}
 use Rattle.iv_text.specs.Named.{names_of}
 use Rattle.iv_text.specs.Read.{Fits}
@@ -70,13 +70,6 @@ module _ (genome : Sequences) (width : ℕ) (rows : List Row) (fit : All (Fits g
   kept-whole o rank minus x =
       ap (λ (l : List Row). option_map (kept_block (name_of (names_of genome) rank) (listed o.summaries)) (block_at start_of stop_of o.distance l x)) (group-whole o.stranded rank minus)
 
-  -- without strands there is nothing on the other side
-  pub kept-one_side : (o : Options) (rank x : ℕ) → o.stranded ≡ false → kept_at o (names_of genome) rows (rank, true, x) ≡ None
-  kept-one_side o rank x one =
-      ap (λ (s : Bool). option_map (kept_block (name_of (names_of genome) rank) (listed o.summaries)) (block_at start_of stop_of o.distance (group s rank true rows) x)) one
-      ∙ ap (λ (l : List Row). option_map (kept_block (name_of (names_of genome) rank) (listed o.summaries)) (block_at start_of stop_of o.distance l x))
-      (filter-none (is_in_group false rank true) rows (λ q m. and_right (q.seq == rank) false refl))
-
   -- nor past the last sequence
   pub kept-past : (o : Options) (k : Key) → length genome ≤ k.0 → kept_at o (names_of genome) rows k ≡ None
   kept-past o k past =
@@ -97,24 +90,7 @@ module _ (genome : Sequences) (width : ℕ) (rows : List Row) (fit : All (Fits g
         ∙ ap (λ (n : ℕ). option_or (kept_at old.options (names_of genome) (between 0 n rows) (rank, minus, x)) (value_at key_cmp now.entries (rank, minus, x))) is
         ∙ ap (λ o. option_or o (value_at key_cmp now.entries (rank, minus, x))) (kept-whole old.options rank minus x)
 
-    -- without strands one side is all
-    pub put-one : (new : KeptBlocks) → old.options.stranded ≡ false
-        → ArePut (record { rank = rank; stranded = old.options.stranded; minus = false }) (names_of genome) (between 0 end rows) old new
-        → ArePutOn rank (names_of genome) rows old new
-    put-one new one put = record {
-      options = put.options;
-      ordered = put.ordered;
-      here = both;
-      others = λ k other. put.others k (inl other);
-    }
-      where
-        both : (minus : Bool) (x : ℕ) → value_at key_cmp new.entries (rank, minus, x) ≡ option_or (kept_at old.options (names_of genome) rows (rank, minus, x)) (value_at key_cmp old.entries (rank, minus, x))
-        both false x = put-whole false old new refl put x
-        both true x =
-            put.others (rank, true, x) (inr (λ same. cc))
-            ∙ sym (ap (λ o. option_or o (value_at key_cmp old.entries (rank, true, x))) (kept-one_side old.options rank x one))
-
-    -- with strands both sides are all
+    -- both sides are all
     pub put-both : (now new : KeptBlocks)
         → ArePut (record { rank = rank; stranded = old.options.stranded; minus = false }) (names_of genome) (between 0 end rows) old now
         → ArePut (record { rank = rank; stranded = old.options.stranded; minus = true }) (names_of genome) (between 0 end rows) now new

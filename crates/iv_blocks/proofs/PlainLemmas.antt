@@ -1,22 +1,28 @@
--- Blocks without summaries, as they are kept.
-use Rattle.std.proofs.Common.{◌≡◌, ℕ, Bool, true, false, List, [], ◌∷◌, ◌++◌, map, length, ◌==◌, ◌&&◌, refl, sym, ◌∙◌, ap, subst, append-nil, All}
+-- The blocks of a walk with strands together, as they are kept.
+use Rattle.std.proofs.Common.{◌≡◌, ℕ, ◌+◌, max, Bool, true, false, List, [], ◌∷◌, ◌++◌, map, length, ◌==◌, ◌&&◌, nat_le, Some, None, refl, sym, ◌∙◌, ap, subst, append-nil, append_assoc, All}
 use Rattle.std.specs.Iterator.{Drains}
 use Rattle.std.specs.List.{flat_map, range_with_len}
 use Rattle.std.proofs.lemmas.Iterator.{items_from_drains}
+use Rattle.std.proofs.lemmas.Iterator.Adapters.{YieldsList-from_vec}
 use Rattle.std.proofs.lemmas.Iterator.Consumers.{YieldsList-from_shown}
 use Rattle.std.proofs.lemmas.List.Elements.{All-weaker}
-use Rattle.iv_text.specs.Genome.{Sequences, seq_count, sequence_name, sequence_length}
+use Rattle.iv_text.specs.Genome.{Sequences, seq_count, sequence_length}
 use Rattle.iv_text.specs.Named.{names_of}
 use Rattle.iv_text.specs.Read.{Fits, IsOnGenome}
 use Rattle.iv_text.specs.Row.{Row}
 use Rattle.iv_cover.specs.Blocks.{blocks_below}
-use Rattle.iv_cover.specs.TrackBlocks.{Group, on, start_of, stop_of, block_on, blocks_on, blocks_of}
+use Rattle.iv_cover.specs.TrackBlocks.{Group, on, start_of, stop_of, block_on, blocks_on, blocks_of, with_members}
 use Rattle.iv_cover.proofs.Tests.{filter-agree}
 use Rattle.iv_track.specs.Entries.{IsLedger, value_at}
-use Rattle.iv_cover.specs.Columns.{results_over}
+use Rattle.std.specs.Vec.Iter.{into_iter_items, into_iter_len, into_iter_steps}
+use Rattle.std.specs.declared.vec.IntoIter.{IntoIter}
+use Rattle.iv_cover.specs.Coming.{coming, is_joined}
+use Rattle.iv_cover.specs.declared.block.Block.{Block}
+use Rattle.iv_cover.specs.declared.column.ColumnSummary.{ColumnSummary}
+use Rattle.iv_cover.proofs.Comings.{coming-begun, coming-joined, coming-split_up}
 use Rattle.iv_blocks.specs.Groups.{is_in_group, group, sides, listed}
-use Rattle.iv_blocks.specs.KeptBlocks.{Key, Entries, key_cmp, kept_at}
-use Rattle.iv_blocks.specs.Plain.{plain_entry, GivesKept}
+use Rattle.iv_blocks.specs.KeptBlocks.{Key, Kept, Entries, key_cmp, kept_at}
+use Rattle.iv_blocks.specs.Plain.{kept_entry, entries_with, plain_entry, GivesKept}
 use Rattle.iv_blocks.specs.declared.options.Options.{Options}
 use Rattle.iv_blocks.proofs.EntryLemmas.{rank_entries, all_entries}
 use Rattle.iv_blocks.proofs.InOrderLemmas.{all-ordered, all-look}
@@ -43,7 +49,7 @@ pub drained : (bs : List Group) (es : Entries) → Drains GivesKept bs es → es
 drained bs es run = sym (map-same es)
     ∙ items_from_drains es (run.1.0, run.1.1, λ _. (run.0, run.1.2)) (YieldsList-from_shown GivesKept (λ e. e) (map plain_entry) (λ s t h. ap length h.0) (λ s x t h. h) bs)
 
-module _ (o : Options) (g : Sequences) (width : ℕ) (rows : List Row) (fit : All (Fits g width) rows) (together : o.stranded ≡ false) (none : listed o.summaries ≡ []) where
+module _ (o : Options) (g : Sequences) (width : ℕ) (rows : List Row) (fit : All (Fits g width) rows) (together : o.stranded ≡ false) where
   -- the records of a sequence are its one group
   group-on : (s : ℕ) → group o.stranded s false rows ≡ on s rows
   group-on s = ap (λ b. group b s false rows) together
@@ -53,29 +59,82 @@ module _ (o : Options) (g : Sequences) (width : ℕ) (rows : List Row) (fit : Al
       and-true true = refl
       and-true false = refl
 
-  plain-block : (s : ℕ) (bs : List (ℕ × (ℕ × List Row))) → map plain_entry (map (block_on s) bs) ≡ map (entry_of o g s false) bs
-  plain-block s [] = refl
-  plain-block s (b ∷ bs) =
-      ap (λ (l : Entries). ((s, false, b.0), record { stop = b.1.0; results = [] }) ∷ l) (plain-block s bs)
-      ∙ ap (λ l. ((s, false, b.0), record { stop = b.1.0; results = results_over (sequence_name g s) l b.1.1 }) ∷ map (entry_of o g s false) bs) (sym none)
+  kept-block : (s : ℕ) (bs : List (ℕ × (ℕ × List Row))) → map (kept_entry g (listed o.summaries)) (map (block_on s) bs) ≡ map (entry_of o g s false) bs
+  kept-block s [] = refl
+  kept-block s (b ∷ bs) = ap (λ (l : Entries). entry_of o g s false b ∷ l) (kept-block s bs)
 
-  plain-on : (s : ℕ) → map plain_entry (blocks_on o.distance g rows s) ≡ rank_entries (kept_at o (names_of g) rows) (sequence_length g) s
-  plain-on s =
-      plain-block s (blocks_below start_of stop_of o.distance (on s rows) (sequence_length g s))
+  kept-on : (s : ℕ) → map (kept_entry g (listed o.summaries)) (blocks_on o.distance g rows s) ≡ rank_entries (kept_at o (names_of g) rows) (sequence_length g) s
+  kept-on s =
+      kept-block s (blocks_below start_of stop_of o.distance (on s rows) (sequence_length g s))
       ∙ ap (λ l. map (entry_of o g s false) (blocks_below start_of stop_of o.distance l (sequence_length g s))) (sym (group-on s))
       ∙ sym (append-nil (map (entry_of o g s false) (side_blocks o g rows s false)))
       ∙ ap (λ b. flat_map (λ t. map (entry_of o g s t) (side_blocks o g rows s t)) (sides b)) (sym together)
       ∙ sym (sides-are o g rows s)
 
-  plain-all : map plain_entry (blocks_of o.distance g rows) ≡ all_entries (kept_at o (names_of g) rows) (sequence_length g) (seq_count g)
-  plain-all =
-      map-flat_map plain_entry (blocks_on o.distance g rows) (range_with_len 0 (seq_count g))
-      ∙ flat_map-agree (λ s. map plain_entry (blocks_on o.distance g rows s)) (rank_entries (kept_at o (names_of g) rows) (sequence_length g)) (range_with_len 0 (seq_count g)) plain-on
+  kept-all : map (kept_entry g (listed o.summaries)) (blocks_of o.distance g rows) ≡ all_entries (kept_at o (names_of g) rows) (sequence_length g) (seq_count g)
+  kept-all =
+      map-flat_map (kept_entry g (listed o.summaries)) (blocks_on o.distance g rows) (range_with_len 0 (seq_count g))
+      ∙ flat_map-agree (λ s. map (kept_entry g (listed o.summaries)) (blocks_on o.distance g rows s)) (rank_entries (kept_at o (names_of g) rows) (sequence_length g)) (range_with_len 0 (seq_count g)) kept-on
 
   -- they are in order, and all that is to be kept
-  pub plain-ordered : IsLedger key_cmp (map plain_entry (blocks_of o.distance g rows))
-  plain-ordered = subst (IsLedger key_cmp) (sym plain-all) (all-ordered (kept_at o (names_of g) rows) (sequence_length g) (seq_count g))
+  pub kept-ordered : IsLedger key_cmp (map (kept_entry g (listed o.summaries)) (blocks_of o.distance g rows))
+  kept-ordered = subst (IsLedger key_cmp) (sym kept-all) (all-ordered (kept_at o (names_of g) rows) (sequence_length g) (seq_count g))
 
-  pub plain-found : (k : Key) → value_at key_cmp (map plain_entry (blocks_of o.distance g rows)) k ≡ kept_at o (names_of g) rows k
-  plain-found k = ap (λ (l : Entries). value_at key_cmp l k) plain-all
+  pub kept-found : (k : Key) → value_at key_cmp (map (kept_entry g (listed o.summaries)) (blocks_of o.distance g rows)) k ≡ kept_at o (names_of g) rows k
+  kept-found k = ap (λ (l : Entries). value_at key_cmp l k) kept-all
       ∙ all-look (kept_at o (names_of g) rows) (sequence_length g) (seq_count g) (none-past o g width rows fit) (none-later o g width rows fit) k
+
+  -- so are the entries without summaries, where there are none
+  module _ (none : listed o.summaries ≡ []) where
+    plain-kept : (bs : List Group) → map plain_entry bs ≡ map (kept_entry g (listed o.summaries)) bs
+    plain-kept [] = refl
+    plain-kept (b ∷ bs) =
+        ap (λ (l : Entries). plain_entry b ∷ l) (plain-kept bs)
+        ∙ ap (λ l. kept_entry g l b ∷ map (kept_entry g (listed o.summaries)) bs) (sym none)
+
+    pub plain-ordered : IsLedger key_cmp (map plain_entry (blocks_of o.distance g rows))
+    plain-ordered = subst (IsLedger key_cmp) (sym (plain-kept (blocks_of o.distance g rows))) kept-ordered
+
+    pub plain-found : (k : Key) → value_at key_cmp (map plain_entry (blocks_of o.distance g rows)) k ≡ kept_at o (names_of g) rows k
+    plain-found k = ap (λ (l : Entries). value_at key_cmp l k) (plain-kept (blocks_of o.distance g rows)) ∙ kept-found k
+
+-- ---- entries that are made in one walk
+
+module _ (g : Sequences) (summaries : List ColumnSummary) (d : ℕ) where
+  -- the first record opens a block
+  pub entries-begun : (r : Row) (rows : List Row) (block : Block) → block ≡ record { sequence = r.seq; start = r.start; stop = r.stop }
+      → entries_with g summaries d [] block (r ∷ []) rows ≡ map (kept_entry g summaries) (coming d None (r ∷ rows))
+  entries-begun r rows block is = ap (map (kept_entry g summaries)) (sym (coming-begun d r rows block is))
+
+  pub entries-alike : (es fs : Entries) (b c : Block) (ms ns rows : List Row) → es ≡ fs → b ≡ c → ms ≡ ns → entries_with g summaries d es b ms rows ≡ entries_with g summaries d fs c ns rows
+  entries-alike es fs b c ms ns rows p q r = λ i. entries_with g summaries d (p i) (q i) (r i) rows
+
+  module _ (entries : Entries) (block : Block) (members : List Row) (r : Row) (rows : List Row) (next : Block)
+      (next_is : next ≡ record { sequence = r.seq; start = r.start; stop = r.stop }) (test : Bool) (test_is : test ≡ ((next.sequence == block.sequence) && nat_le next.start (block.stop + d))) where
+    is_test : is_joined d (with_members block members) r ≡ test
+    is_test = sym (test_is ∙ ap (λ (n : Block). (n.sequence == block.sequence) && nat_le n.start (block.stop + d)) next_is)
+
+    -- a record that joins the open block
+    pub entries-joined : (after : Block) → after ≡ record { sequence = block.sequence; start = block.start; stop = max block.stop next.stop } → test ≡ true
+        → entries_with g summaries d entries after (members ++ r ∷ []) rows ≡ entries_with g summaries d entries block members (r ∷ rows)
+    entries-joined after after_is yes_test =
+        let whole : after ≡ record { sequence = block.sequence; start = block.start; stop = max block.stop r.stop }
+        = after_is ∙ ap (λ (n : Block). record { sequence = block.sequence; start = block.start; stop = max block.stop n.stop }) next_is in
+        ap (λ (b : Block). entries_with g summaries d entries b (members ++ r ∷ []) rows) whole
+        ∙ ap (λ (bs : List Group). entries ++ map (kept_entry g summaries) bs) (sym (coming-joined d (with_members block members) r rows (is_test ∙ yes_test)))
+
+    -- a record that closes it
+    pub entries-split_up : (more : Entries) → more ≡ entries ++ kept_entry g summaries (with_members block members) ∷ [] → test ≡ false
+        → entries_with g summaries d more next (r ∷ []) rows ≡ entries_with g summaries d entries block members (r ∷ rows)
+    entries-split_up more more_is no_test =
+        let b : Group = with_members block members in
+        ap (λ (l : Entries). entries_with g summaries d l next (r ∷ []) rows) more_is
+        ∙ append_assoc entries (kept_entry g summaries b ∷ []) (map (kept_entry g summaries) (coming d (Some (with_members next (r ∷ []))) rows))
+        ∙ ap (λ (bs : List Group). entries ++ kept_entry g summaries b ∷ map (kept_entry g summaries) bs) (sym (coming-begun d r rows next next_is))
+        ∙ ap (λ (bs : List Group). entries ++ map (kept_entry g summaries) bs) (sym (coming-split_up d b r rows (is_test ∙ no_test)))
+
+-- entries of a vector are given one by one
+pub drained-items : {Z : Type 0} (it : IntoIter (Key × Kept) Z) (items es : Entries) → into_iter_items it ≡ items → into_iter_len it ≡ length items
+    → Drains into_iter_steps it es → es ≡ items
+drained-items it items es items_are len run = sym (map-same es)
+    ∙ items_from_drains es (run.1.0, run.1.1, λ _. (run.0, run.1.2)) (YieldsList-from_vec items items_are len)

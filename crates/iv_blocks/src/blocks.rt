@@ -2,6 +2,7 @@
 ghost use Rattle.std.specs.Prelude.{◌≡◌};
 ghost use Rattle.iv_blocks.specs.KeptBlocks.{AreBlocksOf, block_steps};
 
+use crate::entries::entries_of;
 use crate::group::Group;
 use crate::options::Options;
 use crate::plain::PlainBlocks;
@@ -58,8 +59,8 @@ impl<A: Allocator + Copy> Kept<A> for Blocks<A> {
 
     ghost repair_steps = { block_steps };
 
-    /// Nothing grows but the ledger, and the results that are kept. Where the options are plain, the ledger is built at once
-    /// from one walk over the track; else the blocks are put one by one.
+    /// Nothing grows but the ledger, the results that are kept, and, while it is built, its entries and the members of a block.
+    /// Where strands are together, the ledger is built at once from one walk over the track; else the blocks are put one by one.
     fn build(
         alloc: A,
         options: Options,
@@ -73,6 +74,14 @@ impl<A: Allocator + Copy> Kept<A> for Blocks<A> {
                 options,
                 alloc,
                 ledger: Ledger::from_entries(alloc, PlainBlocks::of(sweep, meter))?,
+            });
+        }
+        if !options.stranded {
+            let entries = entries_of(alloc, &options, track, genome, meter)?;
+            return Ok(Blocks {
+                options,
+                alloc,
+                ledger: Ledger::from_entries(alloc, entries.into_iter())?,
             });
         }
         let mut blocks = Blocks {

@@ -6,6 +6,7 @@ mod block_cursor;
 mod blocks;
 mod cluster;
 mod complement;
+mod entries;
 mod gaps;
 mod group;
 mod laws;

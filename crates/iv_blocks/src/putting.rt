@@ -31,16 +31,12 @@ impl<A: Allocator + Copy> Blocks<A> {
         ensures { OnOk result (ArePutOn rank (names_of genome.now) track.now.rows self.old self.new) }
     {
         let length = genome.short_length(rank).unwrap_or(0);
-        let stranded = self.options.stranded;
         let first = Group {
             rank,
-            stranded,
+            stranded: self.options.stranded,
             minus: false,
         };
         self.put_blocks(track, genome, first, 0, length, meter)?;
-        if !stranded {
-            return Ok(());
-        }
         let other = Group {
             minus: true,
             ..first

@@ -1,12 +1,11 @@
 -- The records' depth, and what their changes say of it.
-use Rattle.std.proofs.Common.{◌≡◌, ℕ, ◌+◌, ◌*◌, ◌<◌, ◌≤◌, ◌^◌, ◌++◌, List, [], ◌∷◌, refl, sym, ◌∙◌, ap, subst, arith, leb, true, false, Bool, ◌&&◌, cond, rules, get_or, length, length-append, append_assoc, append-nil, inl, inr}
+use Rattle.std.proofs.Common.{◌≡◌, ℕ, ◌+◌, ◌*◌, ◌<◌, ◌≤◌, ◌^◌, List, [], ◌∷◌, refl, sym, ◌∙◌, ap, subst, arith, leb, true, false, Bool, ◌&&◌, cond, get_or, length, inl, inr}
 use Rattle.std.specs.Prelude.{pos, All}
 use lib.IntN.{nat_abs}
 use Rattle.std.proofs.lemmas.Bool.{le-ltb}
 use Rattle.std.proofs.lemmas.Bool.Decides.{eqb_tells}
 use Rattle.std.proofs.lemmas.List.Elements.{All-head, All-tail}
-use Rattle.std.proofs.lemmas.List.Sums.{count_by-le-length, sum_by-append}
-use Rattle.std.specs.List.Sorted.{IsStrictlySortedBy}
+use Rattle.std.proofs.lemmas.List.Sums.{count_by-le-length}
 use Rattle.std.specs.Ordering.{is_le}
 use Rattle.iv_text.specs.Genome.{Sequences, seq_count, sequence_length}
 use Rattle.iv_text.specs.Ordered.{added}
@@ -58,17 +57,6 @@ AreChangesOf-placed rows r entries h = AreChangesOf-same (r ∷ rows) (added row
 
 pub AreChangesOf-in_front : (rows : List Row) (r : Row) (entries : Entries) → AreChangesOf (added rows r) entries → AreChangesOf (r ∷ rows) entries
 AreChangesOf-in_front rows r entries h = AreChangesOf-same (added rows r) (r ∷ rows) entries (λ rank p. sym (depth-with rows r rank p)) h
-
--- or after
-pub AreChangesOf-others : (rows : List Row) (r : Row) (entries : Entries) → AreChangesOf (r ∷ rows) entries → AreChangesOf (rows ++ r ∷ []) entries
-AreChangesOf-others rows r entries h = AreChangesOf-same (r ∷ rows) (rows ++ r ∷ []) entries (λ rank p.
-    let back : depth (rows ++ r ∷ []) rank p ≡ depth rows rank p + depth (r ∷ []) rank p = sum_by-append (λ x. cond (covers rank p x) 1 0) rows (r ∷ []) in
-    omega (arith, back, depth-cons r rows rank p, depth-cons r [] rank p)) h
-
--- no record, no change
-AreChangesOf-none : AreChangesOf [] []
-unfolding IsStrictlySortedBy
-AreChangesOf-none = record { ordered = search rules; changes = search rules; depths = λ rank p. refl }
 
 -- ---- the depth of records on a genome
 
@@ -130,37 +118,6 @@ module _ (g : Sequences) (width : ℕ) (rows : List Row) (entries : Entries) (fi
       (Follows-on rank (depth rows rank) entries (h.depths rank)) none in
       let empty : length (covered_runs (depth rows rank) 0 0) ≡ 0 = rw (runs-none (depth rows rank) 0 0 (omega arith)) refl in
       omega (arith, few, empty))
-
--- ---- the changes of a list of records, one after another
-
--- these changes are those of the records up to the ones that are left
-pub record IsBuilt (rows left : List Row) (entries : Entries) : Type 0 where
-  pub done : List Row
-  pub all : rows ≡ done ++ left
-  pub right : AreChangesOf done entries
-
-pub IsBuilt-begin : (rows left : List Row) (entries : Entries) → entries ≡ [] → left ≡ rows → IsBuilt rows left entries
-IsBuilt-begin rows left entries none all = record { done = []; all = sym all; right = rw none AreChangesOf-none }
-
-pub IsBuilt-known : (rows left : List Row) (entries : Entries) → length rows < 2 ^ 32 → IsBuilt rows left entries → AreChanges entries
-IsBuilt-known rows left entries few b = record {
-  rows = b.done;
-  right = b.right;
-  few = omega (arith, few, ap (λ (l : List Row). length l) b.all, length-append b.done left);
-}
-
-pub IsBuilt-next : (rows left after : List Row) (r : Row) (entries new : Entries) → IsBuilt rows left entries → left ≡ r ∷ after
-    → ((xs : List Row) → AreChangesOf xs entries → AreChangesOf (r ∷ xs) new) → IsBuilt rows after new
-IsBuilt-next rows left after r entries new b is step = record {
-  done = b.done ++ r ∷ [];
-  all = b.all ∙ ap (λ (l : List Row). b.done ++ l) is ∙ sym (append_assoc b.done (r ∷ []) after);
-  right = AreChangesOf-others b.done r new (step b.done b.right);
-}
-
-pub IsBuilt-end : (rows left : List Row) (entries : Entries) → left ≡ [] → IsBuilt rows left entries → AreChangesOf rows entries
-IsBuilt-end rows left entries none b =
-    let all : rows ≡ b.done = b.all ∙ ap (λ (l : List Row). b.done ++ l) none ∙ append-nil b.done in
-    subst (λ (l : List Row). AreChangesOf l entries) (sym all) b.right
 
 -- ---- before an edit
 

@@ -1,9 +1,9 @@
 -- Numbers in order, and how many are up to a position.
-use Rattle.std.proofs.Common.{◌≡◌, ◌≢◌, ℕ, suc, ◌+◌, ◌<◌, ◌≤◌, ◌^◌, ◌⊎◌, inl, inr, List, [], ◌∷◌, ◌==◌, All, length, filter, map, refl, sym, ap, ◌∙◌, subst, arith, true, false, nat_le, le-leb}
+use Rattle.std.proofs.Common.{◌≡◌, ◌≢◌, ℕ, suc, ◌+◌, ◌<◌, ◌≤◌, ◌^◌, ◌⊎◌, inl, inr, List, [], ◌∷◌, ◌==◌, All, length, filter, map, refl, sym, ap, ◌∙◌, subst, arith, Bool, true, false, cond, if◌then◌else◌, count_by, nat_le, le-leb}
 use Rattle.std.proofs.lemmas.Bool.{cases_lt, cases_Bool, lt-ltb, le-ltb, lt-leb, eqb-true}
 use Rattle.std.proofs.lemmas.List.Elements.{All-head, All-tail}
 use Rattle.std.proofs.lemmas.List.{length-map}
-use Rattle.std.proofs.lemmas.List.Sums.{length-filter, count_by-le-length}
+use Rattle.std.proofs.lemmas.List.Sums.{length-filter, count_by-le-length, sum_by-cons}
 use Rattle.std.proofs.lemmas.Simd.{map-map}
 use Rattle.std.specs.Ordering.{is_le}
 use Rattle.iv_text.specs.Genome.{Sequences, sequence_length}
@@ -23,6 +23,7 @@ use Rattle.std.specs.Prelude.{ℤ, pos, ◌+ℤ◌}
 use Rattle.iv_depth.specs.DepthChanges.{IsChange}
 use Rattle.iv_depth.specs.Edges.{up_to, Rise, AreWithin, AreStopsOf, IsEdge, IsPassing, PassesEdge, IsAhead, starts_of, stops_of}
 use Rattle.iv_depth.proofs.DepthLemmas.{depth-ends}
+use Rattle.iv_depth.proofs.OrderLemmas.{up_to-sum}
 
 pub rise-low : (low from : ℕ) (ns : List ℕ) → low ≤ from → Rise from ns → Rise low ns
 rise-low low from [] le h = tt
@@ -58,22 +59,45 @@ up_to-length p (n ∷ ns) = go (cases_lt p n) (up_to-length p ns)
     go (inl past) rest = let is : nat_le n p ≡ false = lt-leb n p past in rw is (omega (arith, rest))
     go (inr here) rest = let is : nat_le n p ≡ true = le-leb n p here in rw is (omega (arith, rest))
 
+-- none is passed yet
+pub IsPassing-begin : (position : ℕ) (ns : List ℕ) → Rise position ns → IsPassing position 0 ns ns
+IsPassing-begin position ns rise = record { sums = λ passes. none (passes position) (count_by passes ns); rise = rise; within = λ limit w. w }
+  where
+    none : (here : Bool) (n : ℕ) → n ≡ (if here then 0 else 0) + n
+    none true n = omega arith
+    none false n = omega arith
+
 -- one more at the position is passed
 pub IsPassing-next : (position count n : ℕ) (old left rest : List ℕ) → IsPassing position count old left → left ≡ n ∷ rest → n ≡ position
     → IsPassing position (count + 1) old rest
 IsPassing-next position count n old left rest h first here =
     let rise : Rise position (n ∷ rest) = subst (Rise position) first h.rise in
     record {
-      sums = λ p low. omega (arith, h.sums p low, ap (up_to p) first, up_to-here p n rest (omega arith));
+      sums = λ passes.
+          let one : count_by passes left ≡ (if passes position then 1 else 0) + count_by passes rest
+          = ap (λ (l : List ℕ). count_by passes l) first ∙ sum_by-cons (λ x. cond (passes x) 1 0) n rest
+          ∙ ap {B = ℕ} (λ (k : ℕ). (if passes k then 1 else 0) + count_by passes rest) here in
+          more (passes position) _ _ _ (h.sums passes) one;
       rise = rise-low position n rest (omega arith) rise.1;
       within = λ limit w. let both : AreWithin limit (n ∷ rest) = subst (AreWithin limit) first (h.within limit w) in both.1;
     }
+  where
+    more : (at : Bool) (a b c : ℕ) → a ≡ (if at then count else 0) + b → b ≡ (if at then 1 else 0) + c → a ≡ (if at then count + 1 else 0) + c
+    more true a b c e f = omega arith
+    more false a b c e f = omega arith
 
 -- the next one is past the position
 pub PassesEdge-stop : (position count n : ℕ) (old left rest : List ℕ) → IsPassing position count old left → left ≡ n ∷ rest → n ≢ position → PassesEdge position count old left
 PassesEdge-stop position count n old left rest h first other =
     let rise : Rise position (n ∷ rest) = subst (Rise position) first h.rise in
     record { sums = h.sums; later = rw first (omega (arith, rise.0, other), rise.1); within = h.within }
+
+-- so many are up to a position from there on
+passed : (position count : ℕ) (old new : List ℕ) → PassesEdge position count old new → (p : ℕ) → position ≤ p → up_to p old ≡ count + up_to p new
+passed position count old new h p low =
+    up_to-sum p old ∙ h.sums (λ n. nat_le n p)
+    ∙ ap {B = ℕ} (λ (b : Bool). (if b then count else 0) + count_by (λ n. nat_le n p) new) (le-leb position p low)
+    ∙ ap (λ (n : ℕ). count + n) (sym (up_to-sum p new))
 
 -- ---- one edge after another
 
@@ -95,6 +119,12 @@ module _ (f : ℕ → ℕ) (from limit depth : ℕ) (starts stops : List ℕ) (a
           up_to-before edge q stops (is.stops_rise from ahead.stops_rise) high,
         )
 
+    begins-up_to : (p : ℕ) → edge ≤ p → up_to p starts ≡ begun + up_to p starts_after
+    begins-up_to = passed edge begun starts starts_after begins
+
+    ends-up_to : (p : ℕ) → edge ≤ p → up_to p stops ≡ ended + up_to p stops_after
+    ends-up_to = passed edge ended stops stops_after ends
+
     none_starts : up_to edge starts_after ≡ 0
     none_starts = up_to-before (edge + 1) edge starts_after begins.later (omega arith)
 
@@ -104,7 +134,7 @@ module _ (f : ℕ → ℕ) (from limit depth : ℕ) (starts stops : List ℕ) (a
     -- the depth at the edge
     pub edge-depth : depth + begun ≡ f edge + ended
     edge-depth =
-        omega (arith, edge-low, ahead.depths edge edge-low, begins.sums edge (omega arith), ends.sums edge (omega arith), none_starts, none_stops)
+        omega (arith, edge-low, ahead.depths edge edge-low, begins-up_to edge (omega arith), ends-up_to edge (omega arith), none_starts, none_stops)
 
     pub edge-bound : depth + begun ≤ length stops
     edge-bound =
@@ -114,7 +144,7 @@ module _ (f : ℕ → ℕ) (from limit depth : ℕ) (starts stops : List ℕ) (a
           edge-high,
           ahead.depths limit (omega (arith, edge-low, edge-high)),
           ahead.ends limit (omega arith),
-          begins.sums limit edge-high,
+          begins-up_to limit edge-high,
           up_to-length limit stops,
         )
 
@@ -137,7 +167,7 @@ module _ (f : ℕ → ℕ) (from limit depth : ℕ) (starts stops : List ℕ) (a
       starts_rise = rise-low edge (edge + 1) starts_after (omega arith) begins.later;
       stops_rise = rise-low edge (edge + 1) stops_after (omega arith) ends.later;
       within = ends.within limit ahead.within;
-      depths = λ p low. omega (arith, edge-low, edge-depth, here, ahead.depths p (omega (arith, edge-low)), begins.sums p low, ends.sums p low);
+      depths = λ p low. omega (arith, edge-low, edge-depth, here, ahead.depths p (omega (arith, edge-low)), begins-up_to p low, ends-up_to p low);
       ends = ahead.ends;
     }
 
@@ -159,7 +189,7 @@ module _ (f : ℕ → ℕ) (from limit depth : ℕ) (starts stops : List ℕ) (a
               up_to-before (edge + 1) p starts_after begins.later (omega arith),
               up_to-before (edge + 1) p stops_after ends.later (omega arith),
             )
-        go p low (inr past) = omega (arith, same, ahead.depths p low, begins.sums p past, ends.sums p past)
+        go p low (inr past) = omega (arith, same, ahead.depths p low, begins-up_to p past, ends-up_to p past)
 
   -- past the last stop the depth stays
   pub IsAhead-end : stops ≡ [] → (q : ℕ) → from ≤ q → f q ≡ depth

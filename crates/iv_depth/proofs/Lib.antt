@@ -10,3 +10,4 @@ pub mod DepthLemmas
 pub mod Covered
 pub mod OrderLemmas
 pub mod EdgeLemmas
+pub mod NetChangesLemmas

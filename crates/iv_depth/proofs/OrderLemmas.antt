@@ -10,12 +10,12 @@ use Rattle.std.proofs.lemmas.List.Elements.{All-head, All-tail}
 use Rattle.iv_index.specs.declared.place.Place.{Place}
 use Rattle.iv_depth.specs.Edges.{Rise, AreWithin, AreStopsOf, up_to, stops_of}
 
-up_to-sum : (p : ℕ) (ns : List ℕ) → up_to p ns ≡ sum_by (λ n. if nat_le n p then 1 else 0) ns
+pub up_to-sum : (p : ℕ) (ns : List ℕ) → up_to p ns ≡ sum_by (λ n. if nat_le n p then 1 else 0) ns
 up_to-sum p [] = refl
 up_to-sum p (n ∷ ns) =
     ap (λ (k : ℕ). (if nat_le n p then 1 else 0) + k) (up_to-sum p ns) ∙ sym (sum_by-cons (λ n. if nat_le n p then 1 else 0) n ns)
 
-rise-sorted : (ns : List ℕ) → IsNonDecreasing ns → Rise 0 ns
+pub rise-sorted : (ns : List ℕ) → IsNonDecreasing ns → Rise 0 ns
 rise-sorted [] h = tt
 rise-sorted (n ∷ []) h = (omega arith, tt)
 rise-sorted (n ∷ m ∷ ns) h =

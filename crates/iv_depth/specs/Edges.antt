@@ -1,5 +1,5 @@
 -- Starts and stops of records, as numbers in order. This is what a sweep knows, and no part of what is promised.
-use Rattle.std.specs.Prelude.{◌≡◌, ◌≢◌, ℕ, ◌+◌, ◌≤◌, nat_le, List, [], ◌∷◌, map, if◌then◌else◌}
+use Rattle.std.specs.Prelude.{◌≡◌, ◌≢◌, ℕ, ◌+◌, ◌≤◌, nat_le, Bool, List, [], ◌∷◌, map, count_by, if◌then◌else◌}
 use Rattle.std.specs.List.{AllByRecursion}
 use Rattle.iv_index.specs.declared.place.Place.{Place}
 
@@ -46,13 +46,13 @@ pub record IsEdge (starts stops : List ℕ) (position : ℕ) : Type 0 where
 
 -- the new numbers are the old ones without those at the position, of which there are so many
 pub record PassesEdge (position count : ℕ) (old new : List ℕ) : Type 0 where
-  pub sums : (p : ℕ) → position ≤ p → up_to p old ≡ count + up_to p new
+  pub sums : (passes : ℕ → Bool) → count_by passes old ≡ (if passes position then count else 0) + count_by passes new
   pub later : Rise (position + 1) new
   pub within : (limit : ℕ) → AreWithin limit old → AreWithin limit new
 
 -- a loop is past so many of the old numbers, all at the position, and these are left
 pub record IsPassing (position count : ℕ) (old left : List ℕ) : Type 0 where
-  pub sums : (p : ℕ) → position ≤ p → up_to p old ≡ count + up_to p left
+  pub sums : (passes : ℕ → Bool) → count_by passes old ≡ (if passes position then count else 0) + count_by passes left
   pub rise : Rise position left
   pub within : (limit : ℕ) → AreWithin limit old → AreWithin limit left
 

@@ -3,3 +3,4 @@ pub mod Changes
 pub mod DepthChanges
 pub mod Walks
 pub mod Edges
+pub mod NetChanges

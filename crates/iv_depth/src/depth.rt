@@ -1,5 +1,5 @@
 //! What is kept of rows of depth.
-ghost use Rattle.std.specs.Prelude.{◌≡◌, ◌+◌, ◌*◌, [], All, length, OnOk};
+ghost use Rattle.std.specs.Prelude.{◌+◌, ◌*◌, All, length};
 ghost use Rattle.iv_bytes.specs.Sinks.{Puts};
 ghost use Rattle.iv_text.specs.Read.{Fits};
 ghost use Rattle.iv_track.specs.Steps.{TakesUpTo};
@@ -8,6 +8,7 @@ ghost use Rattle.iv_depth.specs.DepthRows.{depth_text, all_covered_runs};
 
 use crate::changing::{Changes, add_record, take_record};
 use crate::depth_rows::DepthRows;
+use crate::net_changes::{NetChanges, edges_of};
 use crate::printing::put_genome;
 use iv_bytes::{Sink, WriteFault};
 use iv_cover::Kept;
@@ -41,7 +42,8 @@ impl<A: Allocator + Copy> Kept<A> for Depth<A> {
 
     ghost repair_steps = { λ _ _ _. 8 };
 
-    /// One entry for each place where the depth changes. Nothing grows but the ledger.
+    /// One entry for each place where the depth changes, all put at once. Nothing grows but the ledger, and while it is built
+    /// 16 bytes for each record: where it starts and where it stops.
     fn build(
         alloc: A,
         _settings: (),
@@ -49,9 +51,14 @@ impl<A: Allocator + Copy> Kept<A> for Depth<A> {
         _genome: &Genome<A>,
         meter: &mut Meter,
     ) -> Result<Depth<A>, AllocError> {
-        let mut changes = Ledger::new(alloc);
-        add_records(&mut changes, track, meter)?;
-        Ok(Depth { changes })
+        let (starts, stops) = edges_of(alloc, track, meter)?;
+        let changes = NetChanges {
+            starts: starts.as_slice(),
+            stops: stops.as_slice(),
+        };
+        Ok(Depth {
+            changes: Ledger::from_entries(alloc, changes)?,
+        })
     }
 
     fn added(
@@ -102,21 +109,4 @@ impl<A: Allocator + Copy> Depth<A> {
         let _few = track.len();
         put_genome(shown, &self.changes, genome, meter, sink)
     }
-}
-
-/// Adds the changes of a track's records, where there are none.
-fn add_records<A: Allocator + Copy>(
-    changes: &mut Changes<A>,
-    track: &Track<A>,
-    meter: &mut Meter,
-) -> Result<(), AllocError>
-    requires { changes.old ≡ [] }
-    ensures { OnOk result (AreChangesOf track.now.rows changes.new) }
-{
-    let _few = track.len();
-    let mut rows = track.walk(0, 0, meter);
-    while let Some(row) = rows.next(meter) {
-        add_record(changes, &row.as_ref(), meter)?;
-    }
-    Ok(())
 }

@@ -29,8 +29,8 @@ impl<'a> DepthChanges for Edges<'a> {
 
     fn next_on(&mut self, _rank: u32, _meter: &mut ()) -> Option<(u32, i64)> {
         while let Some(position) = next_edge(self.starts, self.stops) {
-            let (begun, starts) = pass(self.starts, position);
-            let (ended, stops) = pass(self.stops, position);
+            let (begun, starts) = pass(self.starts, position as u64);
+            let (ended, stops) = pass(self.stops, position as u64);
             self.starts = starts;
             self.stops = stops;
             if begun != ended {
@@ -52,32 +52,40 @@ fn next_edge(starts: &[Place], stops: &[u32]) -> Option<u32>
     }
 }
 
-/// What is at a position: a place is at its start, and a stop where it is.
-trait Positioned {
+/// What is at a position: a place is at its start, and a number where it is.
+pub(crate) trait Positioned {
     ghost at: { Self → ℕ };
 
-    fn position(&self) -> u32
+    fn position(&self) -> u64
         ensures { result ≡ at self.now };
 }
 
 impl Positioned for Place {
     ghost at = { λ place. place.start };
 
-    fn position(&self) -> u32 {
-        self.start
+    fn position(&self) -> u64 {
+        self.start as u64
     }
 }
 
 impl Positioned for u32 {
     ghost at = { λ stop. stop };
 
-    fn position(&self) -> u32 {
+    fn position(&self) -> u64 {
+        *self as u64
+    }
+}
+
+impl Positioned for u64 {
+    ghost at = { λ key. key };
+
+    fn position(&self) -> u64 {
         *self
     }
 }
 
 /// How many are at the position, where it is the least, and those after it.
-fn pass<T: Positioned>(items: &[T], position: u32) -> (usize, &[T])
+pub(crate) fn pass<T: Positioned>(items: &[T], position: u64) -> (usize, &[T])
     ensures passed { Rise position (map T.at items.now) → PassesEdge position result.0 (map T.at items.now) (map T.at result.1.now) }
     ensures none { result.0 ≡ 0 → BeginsElse position (map T.at items.now) }
     ensures len { result.0 + length result.1.now ≡ length items.now }

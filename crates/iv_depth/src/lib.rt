@@ -9,6 +9,7 @@ mod depth_rows;
 mod depth_sweep;
 mod edges;
 mod laws;
+mod net_changes;
 mod printing;
 mod sweep_rows;
 

@@ -1,7 +1,14 @@
-use Rattle.std.proofs.Common.{arith, ap, map, sym, subst, ◌∙◌}
+use Rattle.std.proofs.Common.{arith, ap, map, refl, sym, subst, ◌∙◌}
 use Rattle.iv_depth.specs.Edges.{BeginsElse}
-use Rattle.iv_depth.proofs.EdgeLemmas.{IsPassing-next, PassesEdge-stop}
+use Rattle.iv_depth.proofs.EdgeLemmas.{IsPassing-begin, IsPassing-next, PassesEdge-stop}
 use Rattle.iv_depth.proofs.edges.pass.Goals as goal
+
+pub loop-item-init : goal.loop-item-init
+loop-item-init g c = record {
+  passing = λ rise. IsPassing-begin c.args.position (map g.T.Positioned.at c.args.items.now) rise;
+  first = λ none. refl;
+  len = omega arith;
+}
 
 pub loop-item-preserved : goal.loop-item-preserved
 loop-item-preserved g c =

@@ -1,18 +1,21 @@
-use Rattle.std.proofs.Common.{◌≡◌, ◌∙◌, List, map, sym, ap, subst, arith}
+use Rattle.std.proofs.Common.{◌≡◌, ◌∙◌, List, map, length, sym, ap, subst, arith, rules}
 use Rattle.std.specs.Prelude.{All}
 use Rattle.iv_text.specs.Named.{names_of}
 use Rattle.iv_text.specs.Ordered.{AreInOrder}
 use Rattle.iv_text.specs.Read.{IsOnGenome}
 use Rattle.iv_text.specs.Row.{Row}
+use Rattle.std.specs.Vec.Iter.{into_iter_len}
 use Rattle.iv_cover.specs.TrackBlocks.{blocks_of}
+use Rattle.iv_cover.proofs.Merging.{merge-all}
 use Rattle.iv_track.specs.Entries.{IsLedger, value_at}
 use Rattle.iv_track.proofs.WalkLemmas.{filter-from_first}
 use Rattle.iv_blocks.specs.KeptBlocks.{AreBlocksOf, Entries, key_cmp}
-use Rattle.iv_blocks.specs.Plain.{plain_entry}
+use Rattle.iv_blocks.specs.Groups.{listed}
+use Rattle.iv_blocks.specs.Plain.{kept_entry, plain_entry}
 use Rattle.iv_blocks.specs.PlainOptions.{IsPlain}
 use Rattle.iv_blocks.specs.declared.options.Options.{Options}
 use Rattle.iv_blocks.proofs.Builds.{built-none, built-next, built-all}
-use Rattle.iv_blocks.proofs.PlainLemmas.{all-lie, drained, plain-ordered, plain-found}
+use Rattle.iv_blocks.proofs.PlainLemmas.{all-lie, drained, drained-items, kept-ordered, kept-found, plain-ordered, plain-found}
 use Rattle.iv_blocks.proofs.blocks.BlocksKept.build.Goals as goal
 
 -- ---- where the options are plain
@@ -49,7 +52,37 @@ returns-then-is_plain-clause-right g c =
           ∙ plain-found c.args.options s c.args.track.now.width rows c.requires.fit plain.together plain.nothing k;
     }
 
--- ---- where they are not
+-- ---- where strands are together
+
+pub from_entries-requires-then-not-options-clause-ascend : goal.from_entries-requires-then-not-options-clause-ascend
+from_entries-requires-then-not-options-clause-ascend g c es run =
+    let o = c.args.options in
+    let s = c.args.genome.now in
+    let rows = c.args.track.now.rows in
+    let made : c.in_ok-entries.entries.items ≡ map (kept_entry s (listed o.summaries)) (blocks_of o.distance s rows) =
+    c.in_ok-entries.ensures.entries ∙ ap (map (kept_entry s (listed o.summaries))) (merge-all o.distance s rows c.in_ok-entries.ensures.order (all-lie s c.args.track.now.width rows c.requires.fit)) in
+    let len : into_iter_len c.into_iter.result ≡ length c.in_ok-entries.entries.items = search rules in
+    subst (IsLedger key_cmp) (sym (drained-items c.into_iter.result c.in_ok-entries.entries.items es c.into_iter.ensures.rest len run ∙ made))
+    (kept-ordered o s c.args.track.now.width rows c.requires.fit c.if-not-options.true)
+
+pub returns-then-not-options-clause-right : goal.returns-then-not-options-clause-right
+returns-then-not-options-clause-right g c =
+    let o = c.args.options in
+    let s = c.args.genome.now in
+    let rows = c.args.track.now.rows in
+    let e = c.in_ok-from_entries-2.ensures in
+    let made : c.in_ok-entries.entries.items ≡ map (kept_entry s (listed o.summaries)) (blocks_of o.distance s rows) =
+    c.in_ok-entries.ensures.entries ∙ ap (map (kept_entry s (listed o.summaries))) (merge-all o.distance s rows c.in_ok-entries.ensures.order (all-lie s c.args.track.now.width rows c.requires.fit)) in
+    let len : into_iter_len c.into_iter.result ≡ length c.in_ok-entries.entries.items = search rules in
+    record {
+      ordered = e.ordered;
+      blocks = λ k.
+          e.values.2 k
+          ∙ ap (λ (l : Entries). value_at key_cmp l k) (drained-items c.into_iter.result c.in_ok-entries.entries.items e.values.0 c.into_iter.ensures.rest len e.values.1 ∙ made)
+          ∙ kept-found o s c.args.track.now.width rows c.requires.fit c.if-not-options.true k;
+    }
+
+-- ---- where they are apart
 
 pub loop-rank-init : goal.loop-rank-init
 loop-rank-init g c = built-none c.args.genome.now c.args.track.now.rows (record { options = c.args.options; entries = c.new.result }) c.new.ensures

@@ -1,0 +1,17 @@
+use Rattle.std.proofs.Common.{◌≡◌, ◌∙◌, ℕ, ◌++◌, ◌∷◌, [], List, false, map, refl, ap}
+use Rattle.iv_text.specs.Genome.{sequence_name}
+use Rattle.iv_cover.specs.Columns.{results_over}
+use Rattle.iv_blocks.specs.Groups.{listed}
+use Rattle.iv_blocks.proofs.NameLemmas.{name-lent}
+use Rattle.iv_blocks.proofs.entries.put_entry.Goals as goal
+
+pub returns : goal.returns
+returns g c =
+    let a = c.args in
+    let b = c.args.block in
+    let name : c.unwrap_or-name.result.now ≡ sequence_name a.genome.now b.sequence =
+    name-lent a.genome.now b.sequence c.name.result _ c.unwrap_or-name.result c.unwrap_or-name.ensures refl c.name.ensures.value in
+    let texts : c.in_ok-new.field-0.value.items ≡ results_over (sequence_name a.genome.now b.sequence) (listed a.options.now.summaries) (map (λ row. row.now) a.members.now)
+    = ap (λ v. v.items) c.in_ok-new.ensures.ok ∙ (rw (name, c.as_slice.ensures) at c.in_ok-texts.ensures) in
+    c.in_ok-push.ensures.items
+    ∙ ap (λ (t : List ℕ). a.entries.now.items ++ ((b.sequence, false, b.start), record { stop = b.stop; results = t }) ∷ []) texts

@@ -1,0 +1,79 @@
+//! The blocks of a track with their results, made in one walk over its records.
+ghost use Rattle.std.specs.Prelude.{◌≡◌, ◌++◌, ◌∷◌, [], None, map, IfOk, OnOk};
+ghost use Rattle.iv_text.specs.Ordered.{AreInOrder};
+ghost use Rattle.iv_cover.specs.Coming.{coming};
+ghost use Rattle.iv_cover.specs.TrackBlocks.{with_members};
+ghost use Rattle.iv_blocks.specs.Groups.{listed};
+ghost use Rattle.iv_blocks.specs.Plain.{kept_entry};
+
+use crate::blocks::{KeptBlock, Key};
+use crate::options::Options;
+use iv_cover::{Block, results};
+use iv_text::{Genome, Record};
+use iv_track::{Meter, Track};
+use std::alloc::{AllocError, Allocator};
+
+/// The blocks of all records, strands together, each as it is kept, by key.
+///
+/// # Errors
+///
+/// Memory was refused.
+pub(crate) fn entries_of<A: Allocator + Copy>(
+    alloc: A,
+    options: &Options,
+    track: &Track<A>,
+    genome: &Genome<A>,
+    meter: &mut Meter,
+) -> Result<Vec<(Key, KeptBlock<A>), A>, AllocError>
+    ensures entries { IfOk result (λ entries. entries.items ≡ map (kept_entry genome.now (listed options.now.summaries)) (coming options.now.distance None track.now.rows)) }
+    ensures order { OnOk result (AreInOrder track.now.rows) }
+{
+    let mut entries = Vec::new(alloc);
+    let mut rows = track.walk(0, 0, meter);
+    let Some(first) = rows.next(meter) else {
+        return Ok(entries);
+    };
+    first.law_of_place();
+    let mut block = Block::of(first);
+    let mut members = Vec::new(alloc);
+    members.push(first)?;
+    while let Some(record) = rows.next(meter) {
+        record.law_of_place();
+        let next = Block::of(record);
+        if block.is_joined_by(next, options.distance) {
+            block = block.with(next);
+        } else {
+            put_entry(alloc, options, genome, block, &members, &mut entries)?;
+            members.clear();
+            block = next;
+        }
+        members.push(record)?;
+    }
+    put_entry(alloc, options, genome, block, &members, &mut entries)?;
+    Ok(entries)
+}
+
+/// Makes the results of a block over its members, and puts it at the end of the entries.
+///
+/// # Errors
+///
+/// Memory was refused.
+fn put_entry<A: Allocator + Copy>(
+    alloc: A,
+    options: &Options,
+    genome: &Genome<A>,
+    block: Block,
+    members: &[&Record<A>],
+    entries: &mut Vec<(Key, KeptBlock<A>), A>,
+) -> Result<(), AllocError>
+    ensures { OnOk result (entries.new.items ≡ entries.old.items ++ kept_entry genome.now (listed options.now.summaries) (with_members block (map (λ row. row.now) members.now)) ∷ []) }
+{
+    let name = genome.name(block.sequence).unwrap_or(b"");
+    let texts = results(alloc, options.summaries.as_slice(), name, members)?;
+    let kept = KeptBlock {
+        stop: block.stop,
+        results: Some(Box::new(alloc, texts)?),
+    };
+    entries.push(((block.sequence, false, block.start), kept))?;
+    Ok(())
+}

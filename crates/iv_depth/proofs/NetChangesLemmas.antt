@@ -1,0 +1,292 @@
+-- Net changes of depth, from starts and stops in order.
+use Rattle.std.proofs.Common.{◌≡◌, ◌≢◌, sym, ap, subst, ◌∙◌, ℕ, ◌+◌, ◌/◌, ◌%◌, ◌^◌, ◌<◌, ◌≤◌, ◌⊎◌, inl, inr, List, [], ◌∷◌, ◌++◌, length, map, refl, arith, true, false, Bool, ◌&&◌, eqb, leb, ltb, cond, Some, None, count_by, append_assoc, append-nil}
+use Rattle.std.specs.Prelude.{ℤ, pos, ◌+ℤ◌, ◌-ℤ◌, if◌then◌else◌}
+use Rattle.std.specs.Iterator.{Yields, Drains}
+use Rattle.std.specs.List.{AllByRecursion}
+use Rattle.std.specs.List.Sorted.{IsPermutation, IsSorted, IsStrictlySortedBy}
+use Rattle.std.specs.declared.cmp.Ordering.{Ordering}
+use Rattle.std.specs.declared.cmp.Ordering.TheVariants.{Less, Equal, Greater}
+use Rattle.std.specs.Ordering.{is_eq, nat_cmp, ordering_reverse, ordering_then}
+use Rattle.std.specs.BTreeMap.{is_at}
+use Rattle.std.specs.Cmp.{ranked, nat_cmp_is, tied_itself, eq_by_cmp_equiv}
+use Rattle.std.specs.Map.{keys_of, values_of}
+use Rattle.std.proofs.lemmas.Bool.{cases_Bool, cases_lt, lt-leb, le-leb, lt-ltb, le-ltb}
+use Rattle.std.proofs.lemmas.Int.{ints}
+use Rattle.std.proofs.lemmas.List.{map-id}
+use Rattle.std.proofs.lemmas.List.Elements.{All-from_recursion}
+use Rattle.std.proofs.lemmas.List.Sorted.{IsNonDecreasingBy-from_sort, sum_by-IsPermutation}
+use Rattle.std.proofs.lemmas.List.Sums.{sum_by_push}
+use Rattle.std.proofs.lemmas.Map.{lookup-none}
+use Rattle.std.proofs.lemmas.Map.Entries.{lookup_head, lookup_tail, none_below_head, none_past_head}
+use Rattle.std.proofs.lemmas.Map.Keys.{IsDistinct-from_sorted, sorted_tail}
+use Rattle.iv_text.specs.Row.{Row, IsPlaced}
+use Rattle.iv_cover.specs.Depth.{covers, depth}
+use Rattle.iv_track.proofs.NumberOrder.{pair_total, pair_exact}
+use Rattle.iv_track.specs.Entries.{IsLedger, value_at, pair_cmp}
+use Rattle.iv_depth.specs.Changes.{Place, Entries, total, reaches, AreChangesOf}
+use Rattle.iv_depth.specs.Edges.{Rise, BeginsElse, PassesEdge}
+use Rattle.iv_depth.specs.NetChanges.{key_of, place_of, reached, AreEdgesOf, Keys, RiseFrom, net, IsLeast, SkipsKeys, TakesChange, GivesChange}
+use Rattle.iv_depth.proofs.OrderLemmas.{rise-sorted}
+
+-- ---- keys
+
+-- keys ascend as places do
+key-order : (a b : ℕ) → a < b → pair_cmp (place_of a) (place_of b) ≡ Less
+key-order a b h = go (nat_cmp (a / 2 ^ 32) (b / 2 ^ 32)) refl
+  where
+    go : (o : Ordering) → o ≡ nat_cmp (a / 2 ^ 32) (b / 2 ^ 32) → pair_cmp (place_of a) (place_of b) ≡ Less
+    go Less is = subst (λ (o : Ordering). ordering_then o (nat_cmp (a % 2 ^ 32) (b % 2 ^ 32)) ≡ Less) is refl
+    go Equal is =
+        let same : a / 2 ^ 32 ≡ b / 2 ^ 32 = ranked (a / 2 ^ 32) (b / 2 ^ 32) Equal is in
+        let low : a % 2 ^ 32 < b % 2 ^ 32 = omega (arith, h, same) in
+        subst (λ (o : Ordering). ordering_then o (nat_cmp (a % 2 ^ 32) (b % 2 ^ 32)) ≡ Less) is (sym (nat_cmp_is (a % 2 ^ 32) (b % 2 ^ 32) Less low))
+    go Greater is =
+        let more : b / 2 ^ 32 < a / 2 ^ 32 = ranked (a / 2 ^ 32) (b / 2 ^ 32) Greater is in
+        absurd (omega (arith, h, more))
+
+place-key : (rank p : ℕ) → p < 2 ^ 32 → place_of (key_of rank p) ≡ (rank, p)
+place-key rank p low =
+    let first : key_of rank p / 2 ^ 32 ≡ rank = omega (arith, low) in
+    let second : key_of rank p % 2 ^ 32 ≡ p = omega (arith, low) in
+    λ i. (first i, second i)
+
+-- ---- the starts and stops of a list of records, one after another
+
+-- a record covers from its start up to its stop
+record-reaches : (r : Row) (rank p : ℕ) → r.start < r.stop
+    → cond {A = ℕ} (covers rank p r) 1 0 + cond {A = ℕ} (reaches rank p (r.seq, r.stop)) 1 0 ≡ cond {A = ℕ} (reaches rank p (r.seq, r.start)) 1 0
+record-reaches r rank p h = go (eqb r.seq rank) (cases_lt p r.start) (cases_lt p r.stop)
+  where
+    go : (on_it : Bool) → (p < r.start) ⊎ (r.start ≤ p) → (p < r.stop) ⊎ (r.stop ≤ p)
+        → cond {A = ℕ} (on_it && (leb r.start p && ltb p r.stop)) 1 0 + cond {A = ℕ} (on_it && leb r.stop p) 1 0 ≡ cond {A = ℕ} (on_it && leb r.start p) 1 0
+    go false a b = refl
+    go true (inl before) (inl within) = rw (lt-leb r.start p before, lt-leb r.stop p within) refl
+    go true (inl before) (inr past) = absurd (omega (arith, h, before, past))
+    go true (inr since) (inl within) = rw (le-leb r.start p since, lt-leb r.stop p within, lt-ltb p r.stop within) refl
+    go true (inr since) (inr past) = rw (le-leb r.start p since, le-leb r.stop p past, le-ltb p r.stop past) refl
+
+-- the keys are those of the records in front of the ones that are left
+pub record IsGathered (rows left : List Row) (starts stops : List ℕ) : Type 0 where
+  pub done : List Row
+  pub all : rows ≡ done ++ left
+  pub depths : (rank p : ℕ) → depth done rank p + reached rank p stops ≡ reached rank p starts
+
+pub gathered-begin : (rows left : List Row) (starts stops : List ℕ) → left ≡ rows → starts ≡ [] → stops ≡ [] → IsGathered rows left starts stops
+gathered-begin rows left starts stops all no_starts no_stops = record { done = []; all = sym all; depths = λ rank p. rw (no_starts, no_stops) refl }
+
+pub gathered-next : (rows left after : List Row) (r : Row) (starts stops more_starts more_stops : List ℕ) (start stop : ℕ) → IsPlaced r → left ≡ r ∷ after
+    → start ≡ key_of r.seq r.start → stop ≡ key_of r.seq r.stop → more_starts ≡ starts ++ start ∷ [] → more_stops ≡ stops ++ stop ∷ []
+    → IsGathered rows left starts stops → IsGathered rows after more_starts more_stops
+gathered-next rows left after r starts stops more_starts more_stops start stop placed is start_is stop_is starts_are stops_are g = record {
+  done = g.done ++ r ∷ [];
+  all = g.all ∙ ap (λ (l : List Row). g.done ++ l) is ∙ sym (append_assoc g.done (r ∷ []) after);
+  depths = λ rank p.
+      let one : ℕ → ℕ = λ key. cond {A = ℕ} (reaches rank p (place_of key)) 1 0 in
+      let records : depth (g.done ++ r ∷ []) rank p ≡ depth g.done rank p + cond {A = ℕ} (covers rank p r) 1 0
+      = sum_by_push (λ x. cond {A = ℕ} (covers rank p x) 1 0) g.done r in
+      let begun : reached rank p more_starts ≡ reached rank p starts + cond {A = ℕ} (reaches rank p (r.seq, r.start)) 1 0
+      = ap (λ (l : List ℕ). reached rank p l) starts_are ∙ sum_by_push one starts start
+      ∙ ap (λ (k : Place). reached rank p starts + cond {A = ℕ} (reaches rank p k) 1 0) (ap place_of start_is ∙ place-key r.seq r.start (omega (arith, placed.some, placed.stop))) in
+      let ended : reached rank p more_stops ≡ reached rank p stops + cond {A = ℕ} (reaches rank p (r.seq, r.stop)) 1 0
+      = ap (λ (l : List ℕ). reached rank p l) stops_are ∙ sum_by_push one stops stop
+      ∙ ap (λ (k : Place). reached rank p stops + cond {A = ℕ} (reaches rank p k) 1 0) (ap place_of stop_is ∙ place-key r.seq r.stop placed.stop) in
+      sum _ _ _ _ _ _ _ _ _ (g.depths rank p) records begun ended (record-reaches r rank p placed.some);
+}
+  where
+    sum : (d s t d' s' t' c a b : ℕ) → d + t ≡ s → d' ≡ d + c → s' ≡ s + a → t' ≡ t + b → c + b ≡ a → d' + t' ≡ s'
+    sum d s t d' s' t' c a b e f g h i = omega arith
+
+-- all of them, sorted
+pub gathered-all : (rows left : List Row) (some_starts some_stops starts stops : List ℕ) → left ≡ [] → IsGathered rows left some_starts some_stops
+    → IsPermutation some_starts starts → IsSorted nat_cmp starts → IsPermutation some_stops stops → IsSorted nat_cmp stops → AreEdgesOf rows starts stops
+gathered-all rows left some_starts some_stops starts stops none g starts_moved starts_sorted stops_moved stops_sorted = record {
+  starts_rise = rise-sorted starts (IsNonDecreasingBy-from_sort (λ x. x) starts starts_sorted);
+  stops_rise = rise-sorted stops (IsNonDecreasingBy-from_sort (λ x. x) stops stops_sorted);
+  depths = λ rank p.
+      let all : rows ≡ g.done = g.all ∙ ap (λ (l : List Row). g.done ++ l) none ∙ append-nil g.done in
+      let records : depth rows rank p ≡ depth g.done rank p = ap (λ (l : List Row). depth l rank p) all in
+      let one : ℕ → ℕ = λ key. cond {A = ℕ} (reaches rank p (place_of key)) 1 0 in
+      let begun : reached rank p starts ≡ reached rank p some_starts = sum_by-IsPermutation one some_starts starts starts_moved in
+      let ended : reached rank p stops ≡ reached rank p some_stops = sum_by-IsPermutation one some_stops stops stops_moved in
+      sum _ _ _ _ _ _ (g.depths rank p) records begun ended;
+}
+  where
+    sum : (d s t d' s' t' : ℕ) → d + t ≡ s → d' ≡ d → s' ≡ s → t' ≡ t → d' + t' ≡ s'
+    sum d s t d' s' t' e f g h = omega arith
+
+-- ---- one key after another
+
+-- keys are at themselves
+pub of-keys : (key count : ℕ) (old new : List ℕ) → (Rise key (map (λ k. k) old) → PassesEdge key count (map (λ k. k) old) (map (λ k. k) new))
+    → Rise key old → PassesEdge key count old new
+of-keys key count old new = rw (map-id old, map-id new) (λ h. h)
+
+pub skips-begin : (from : ℕ) (keys : Keys) → RiseFrom from keys → SkipsKeys from keys keys
+skips-begin from keys rise = record { sums = λ passes. refl; rise = rise }
+
+rise-lower : (low from : ℕ) (ns : List ℕ) → low ≤ from → Rise from ns → Rise low ns
+rise-lower low from [] le h = tt
+rise-lower low from (n ∷ ns) le h = (omega (arith, le, h.0), h.1)
+
+module _ (from key begun ended : ℕ) (old : Keys) (starts stops starts_after stops_after : List ℕ) (skips : SkipsKeys from old (record { starts = starts; stops = stops }))
+    (is : IsLeast starts stops key) (begins : Rise key starts → PassesEdge key begun starts starts_after) (ends : Rise key stops → PassesEdge key ended stops stops_after) where
+  starts-passed : PassesEdge key begun starts starts_after
+  starts-passed = begins (is.starts_rise from skips.rise.starts)
+
+  stops-passed : PassesEdge key ended stops stops_after
+  stops-passed = ends (is.stops_rise from skips.rise.stops)
+
+  key-low : from ≤ key
+  key-low = is.least from skips.rise.starts skips.rise.stops
+
+  -- what is passed at the key is the change there
+  net-passed : (z : ℤ) → pos ended +ℤ z ≡ pos begun → (passes : ℕ → Bool)
+      → net passes old ≡ (if passes key then z else pos 0) +ℤ net passes (record { starts = starts_after; stops = stops_after })
+  net-passed z sum passes = skips.sums passes ∙ go (passes key) _ _ _ _ (starts-passed.sums passes) (stops-passed.sums passes)
+    where
+      go : (here : Bool) (a b c d : ℕ) → a ≡ (if here then begun else 0) + b → c ≡ (if here then ended else 0) + d
+          → pos a -ℤ pos c ≡ (if here then z else pos 0) +ℤ (pos b -ℤ pos d)
+      go true a b c d e f = omega (arith, ints, sum, e, f)
+      go false a b c d e f = omega (arith, ints, e, f)
+
+  pub takes-change : (place : Place) (z : ℤ) → place ≡ place_of key → pos ended +ℤ z ≡ pos begun → begun ≢ ended
+      → TakesChange from old place z (record { starts = starts_after; stops = stops_after })
+  takes-change place z place_is sum other = record {
+    key = key;
+    is = place_is;
+    low = key-low;
+    other = λ none. other (omega (arith, ints, sum, none));
+    sums = net-passed z sum;
+    later = record { starts = starts-passed.later; stops = stops-passed.later };
+  }
+
+  pub skips-next : begun ≡ ended → SkipsKeys from old (record { starts = starts_after; stops = stops_after })
+  skips-next same = record {
+    sums = λ passes. net-passed (pos 0) (omega (arith, ints, same)) passes ∙ none (passes key) _;
+    rise = record {
+      starts = rise-lower from (key + 1) starts_after (omega (arith, key-low)) starts-passed.later;
+      stops = rise-lower from (key + 1) stops_after (omega (arith, key-low)) stops-passed.later;
+    };
+  }
+    where
+      none : (here : Bool) (z : ℤ) → (if here then pos 0 else pos 0) +ℤ z ≡ z
+      none true z = omega (arith, ints)
+      none false z = omega (arith, ints)
+
+-- something is passed
+pub fewer-left : (key begun ended : ℕ) (starts stops starts_after stops_after : List ℕ) → IsLeast starts stops key
+    → (begun ≡ 0 → BeginsElse key starts) → (ended ≡ 0 → BeginsElse key stops)
+    → begun + length starts_after ≡ length starts → ended + length stops_after ≡ length stops
+    → length starts_after + length stops_after < length starts + length stops
+fewer-left key begun ended starts stops starts_after stops_after is no_start no_stop starts_len stops_len = go (cases_lt 0 begun) (cases_lt 0 ended)
+  where
+    go : (0 < begun) ⊎ (begun ≤ 0) → (0 < ended) ⊎ (ended ≤ 0) → length starts_after + length stops_after < length starts + length stops
+    go (inl some) b = omega (arith, some, starts_len, stops_len)
+    go (inr none) (inl some) = omega (arith, some, starts_len, stops_len)
+    go (inr none) (inr nothing) = absurd (is.first (no_start (omega (arith, none))) (no_stop (omega (arith, nothing))))
+
+-- no key is left
+pub nothing-left : (from : ℕ) (old : Keys) (starts stops : List ℕ) → starts ≡ [] → stops ≡ [] → SkipsKeys from old (record { starts = starts; stops = stops })
+    → (passes : ℕ → Bool) → net passes old ≡ pos 0
+nothing-left from old starts stops no_starts no_stops skips passes =
+    skips.sums passes
+    ∙ ap (λ (l : List ℕ). pos (count_by passes l) -ℤ pos (count_by passes stops)) no_starts
+    ∙ ap (λ (l : List ℕ). pos 0 -ℤ pos (count_by passes l)) no_stops
+
+-- ---- all changes that keys give
+
+-- they are past a key that is below
+given-past : (keys : Keys) (from k : ℕ) (es : Entries) (last : Keys) → k < from → RiseFrom from keys → Yields GivesChange keys es last
+    → AllByRecursion (λ y. pair_cmp (place_of k) y ≡ Less) (keys_of es)
+given-past keys from k [] last low rise y = tt
+given-past keys from k (e ∷ es) last low rise y =
+    let t : TakesChange from keys e.0 e.1 y.0 = y.1 from rise in (
+      subst (λ (p : Place). pair_cmp (place_of k) p ≡ Less) (sym t.is) (key-order k t.key (omega (arith, low, t.low))),
+      given-past y.0 (t.key + 1) k es last (omega (arith, low, t.low)) t.later y.2,
+    )
+
+pub given-ledger : (keys : Keys) (from : ℕ) (es : Entries) (last : Keys) → RiseFrom from keys → Yields GivesChange keys es last → IsLedger pair_cmp es
+unfolding IsStrictlySortedBy
+given-ledger keys from [] last rise y = tt
+given-ledger keys from (e ∷ es) last rise y =
+    let t : TakesChange from keys e.0 e.1 y.0 = y.1 from rise in (
+      subst (λ (p : Place). AllByRecursion (λ q. pair_cmp p q ≡ Less) (keys_of es)) (sym t.is) (given-past y.0 (t.key + 1) t.key es last (omega arith) t.later y.2),
+      given-ledger y.0 (t.key + 1) es last t.later y.2,
+    )
+
+given-others : (keys : Keys) (from : ℕ) (es : Entries) (last : Keys) → RiseFrom from keys → Yields GivesChange keys es last → AllByRecursion (λ z. z ≢ pos 0) (values_of es)
+given-others keys from [] last rise y = tt
+given-others keys from (e ∷ es) last rise y =
+    let t : TakesChange from keys e.0 e.1 y.0 = y.1 from rise in
+    (t.other, given-others y.0 (t.key + 1) es last t.later y.2)
+
+module _ (passes : Place → Bool) where
+  abbrev at_key : ℕ → Bool
+  at_key key = passes (place_of key)
+
+  given-sums : (keys : Keys) (from : ℕ) (es : Entries) (last : Keys) → RiseFrom from keys → Yields GivesChange keys es last
+      → ((low : ℕ) → RiseFrom low last → net at_key last ≡ pos 0) → total passes es ≡ net at_key keys
+  given-sums keys from [] last rise y none = sym (none from (subst (RiseFrom from) y rise)) ∙ ap (net at_key) (sym y)
+  given-sums keys from (e ∷ es) last rise y none =
+      let t : TakesChange from keys e.0 e.1 y.0 = y.1 from rise in
+      let rest : total passes es ≡ net at_key y.0 = given-sums y.0 (t.key + 1) es last t.later y.2 none in
+      ap (λ (z : ℤ). (if passes e.0 then e.1 else pos 0) +ℤ z) rest
+      ∙ ap (λ (p : Place). (if passes p then e.1 else pos 0) +ℤ net at_key y.0) t.is
+      ∙ sym (t.sums at_key)
+
+-- ledgers with the same values are one
+at-head : (e : Place × ℤ) (es : Entries) → value_at pair_cmp (e ∷ es) e.0 ≡ Some e.1
+at-head e es = lookup_head (is_at (pair_cmp e.0)) e es (ap is_eq (tied_itself pair_total e.0))
+
+none-below : (k : Place) (e : Place × ℤ) (es : Entries) → IsLedger pair_cmp (e ∷ es) → pair_cmp k e.0 ≡ Less → value_at pair_cmp (e ∷ es) k ≡ None
+none-below k e es s less = lookup-none (is_at (pair_cmp k)) (e ∷ es) (none_below_head pair_total k e es s less)
+
+none-past : (k : Place) (e : Place × ℤ) (es : Entries) → IsLedger pair_cmp (e ∷ es) → is_at (pair_cmp k) e.0 ≡ true → value_at pair_cmp es k ≡ None
+none-past k e es s tie = lookup-none (is_at (pair_cmp k)) es (none_past_head (eq_by_cmp_equiv pair_total) k e es (IsDistinct-from_sorted pair_cmp (keys_of (e ∷ es)) s) tie)
+
+one-ledger : (es fs : Entries) → IsLedger pair_cmp es → IsLedger pair_cmp fs → ((k : Place) → value_at pair_cmp es k ≡ value_at pair_cmp fs k) → es ≡ fs
+one-ledger [] [] s t same = refl
+one-ledger [] (f ∷ fs) s t same = let none : None ≡ Some f.1 = same f.0 ∙ at-head f fs in cc
+one-ledger (e ∷ es) [] s t same = let none : Some e.1 ≡ None = sym (at-head e es) ∙ same e.0 in cc
+one-ledger (e ∷ es) (f ∷ fs) s t same =
+    go (λ tails. one-ledger es fs (sorted_tail pair_cmp e.0 (keys_of es) s) (sorted_tail pair_cmp f.0 (keys_of fs) t) tails) (pair_cmp e.0 f.0) refl
+  where
+    go : (((k : Place) → value_at pair_cmp es k ≡ value_at pair_cmp fs k) → es ≡ fs) → (o : Ordering) → pair_cmp e.0 f.0 ≡ o → e ∷ es ≡ f ∷ fs
+    go further Less is = let none : Some e.1 ≡ None = sym (at-head e es) ∙ same e.0 ∙ none-below e.0 f fs t is in cc
+    go further Greater is =
+        let less : pair_cmp f.0 e.0 ≡ Less = pair_total.antisymm f.0 e.0 ∙ ap ordering_reverse is in
+        let none : None ≡ Some f.1 = sym (none-below f.0 e es s less) ∙ same f.0 ∙ at-head f fs in
+        cc
+    go further Equal is =
+        let keys : e.0 ≡ f.0 = pair_exact e.0 f.0 is in
+        let found : Some e.1 ≡ Some f.1 = sym (at-head e es) ∙ same e.0 ∙ ap (value_at pair_cmp (f ∷ fs)) keys ∙ at-head f fs in
+        let values : e.1 ≡ f.1 = cc in
+        let rest : es ≡ fs = further (λ k. tail k keys (cases_Bool (is_at (pair_cmp k) e.0))) in
+        λ i. (keys i, values i) ∷ rest i
+      where
+        tail : (k : Place) → e.0 ≡ f.0 → (is_at (pair_cmp k) e.0 ≡ true) ⊎ (is_at (pair_cmp k) e.0 ≡ false) → value_at pair_cmp es k ≡ value_at pair_cmp fs k
+        tail k keys (inl tie) = none-past k e es s tie ∙ sym (none-past k f fs t (ap (is_at (pair_cmp k)) (sym keys) ∙ tie))
+        tail k keys (inr apart) =
+            sym (lookup_tail (is_at (pair_cmp k)) e es apart) ∙ same k ∙ lookup_tail (is_at (pair_cmp k)) f fs (ap (is_at (pair_cmp k)) (sym keys) ∙ apart)
+
+pub edges-rise : (rows : List Row) (starts stops : List ℕ) → AreEdgesOf rows starts stops → RiseFrom 0 (record { starts = starts; stops = stops })
+edges-rise rows starts stops h = record { starts = h.starts_rise; stops = h.stops_rise }
+
+-- the changes that the edges of records give are those of the records
+pub edges-changes : (rows : List Row) (starts stops : List ℕ) (es entries : Entries) → AreEdgesOf rows starts stops
+    → Drains GivesChange (record { starts = starts; stops = stops }) es → IsLedger pair_cmp entries
+    → ((k : Place) → value_at pair_cmp entries k ≡ value_at pair_cmp es k) → AreChangesOf rows entries
+edges-changes rows starts stops es entries h run ordered same =
+    let keys : Keys = record { starts = starts; stops = stops } in
+    let rise : RiseFrom 0 keys = edges-rise rows starts stops h in
+    let up : IsLedger pair_cmp es = given-ledger keys 0 es run.1.0 rise run.1.1 in
+    subst (AreChangesOf rows) (sym (one-ledger entries es ordered up same)) (record {
+      ordered = up;
+      changes = All-from_recursion (λ z. z ≢ pos 0) (values_of es) (given-others keys 0 es run.1.0 rise run.1.1);
+      depths = λ rank p.
+          given-sums (reaches rank p) keys 0 es run.1.0 rise run.1.1 (λ low past. run.1.2 low past (λ key. reaches rank p (place_of key)))
+          ∙ difference _ _ _ (h.depths rank p);
+    })
+  where
+    difference : (d t s : ℕ) → d + t ≡ s → pos s -ℤ pos t ≡ pos d
+    difference d t s e = omega (arith, ints, e)

@@ -1,0 +1,20 @@
+use Rattle.iv_depth.specs.NetChanges.{AreEdgesOf}
+use Rattle.iv_depth.proofs.NetChangesLemmas.{edges-rise, edges-changes, given-ledger}
+use Rattle.iv_depth.proofs.depth.DepthKept.build.Goals as goal
+
+pub from_entries-requires-clause-ascend : goal.from_entries-requires-clause-ascend
+from_entries-requires-clause-ascend g c es run =
+    let rows = c.args.track.now.rows in
+    let starts = c.as_slice.result.now in
+    let stops = c.as_slice-2.result.now in
+    let edges : AreEdgesOf rows starts stops = rw (c.as_slice.ensures.value, c.as_slice-2.ensures.value) c.in_ok-starts.ensures in
+    given-ledger (record { starts = starts; stops = stops }) 0 es run.1.0 (edges-rise rows starts stops edges) run.1.1
+
+pub returns-clause-right : goal.returns-clause-right
+returns-clause-right g c =
+    let rows = c.args.track.now.rows in
+    let starts = c.as_slice.result.now in
+    let stops = c.as_slice-2.result.now in
+    let edges : AreEdgesOf rows starts stops = rw (c.as_slice.ensures.value, c.as_slice-2.ensures.value) c.in_ok-starts.ensures in
+    let e = c.in_ok-from_entries.ensures in
+    edges-changes rows starts stops e.values.0 c.in_ok-from_entries.field-0 edges e.values.1 e.ordered e.values.2

@@ -1,0 +1,65 @@
+-- Where records start and stop, as numbers in order, and the net changes of depth there. This is what a build knows, and no part of
+-- what is promised.
+use Rattle.std.specs.Prelude.{◌≡◌, ◌≢◌, ℕ, ◌+◌, ◌*◌, ◌/◌, ◌%◌, ◌^◌, ◌≤◌, Bool, if◌then◌else◌, List, Option, Some, None, count_by, ℤ, pos, ◌+ℤ◌, ◌-ℤ◌}
+use Rattle.iv_text.specs.Row.{Row}
+use Rattle.iv_cover.specs.Depth.{depth}
+use Rattle.iv_depth.specs.Changes.{Place, reaches}
+use Rattle.iv_depth.specs.Edges.{Rise, BeginsElse}
+
+-- a place as one number, its key: keys ascend as places do
+abbrev pub key_of : ℕ → ℕ → ℕ
+key_of rank position = rank * 2 ^ 32 + position
+
+-- the place of a key
+abbrev pub place_of : ℕ → Place
+place_of key = (key / 2 ^ 32, key % 2 ^ 32)
+
+-- how many of the keys are on the sequence of this rank, at p or before
+abbrev pub reached : ℕ → ℕ → List ℕ → ℕ
+reached rank p keys = count_by (λ key. reaches rank p (place_of key)) keys
+
+-- at these keys the records start and stop, and there are no others; both rise
+pub record AreEdgesOf (rows : List Row) (starts stops : List ℕ) : Type 0 where
+  pub starts_rise : Rise 0 starts
+  pub stops_rise : Rise 0 stops
+  pub depths : (rank p : ℕ) → depth rows rank p + reached rank p stops ≡ reached rank p starts
+
+-- the keys of starts and of stops that are to come
+pub record Keys : Type 0 where
+  pub starts : List ℕ
+  pub stops : List ℕ
+
+-- both rise from this number on
+pub record RiseFrom (from : ℕ) (keys : Keys) : Type 0 where
+  pub starts : Rise from keys.starts
+  pub stops : Rise from keys.stops
+
+-- how many starts there are more than stops, at the keys that pass
+abbrev pub net : (ℕ → Bool) → Keys → ℤ
+net passes keys = pos (count_by passes keys.starts) -ℤ pos (count_by passes keys.stops)
+
+-- the key is the least of these numbers
+pub record IsLeast (starts stops : List ℕ) (key : ℕ) : Type 0 where
+  pub least : (from : ℕ) → Rise from starts → Rise from stops → from ≤ key
+  pub starts_rise : (from : ℕ) → Rise from starts → Rise key starts
+  pub stops_rise : (from : ℕ) → Rise from stops → Rise key stops
+  pub first : BeginsElse key starts → BeginsElse key stops → ⊥
+
+-- the new keys are left of the old ones, and at the others there are as many starts as stops
+pub record SkipsKeys (from : ℕ) (old new : Keys) : Type 0 where
+  pub sums : (passes : ℕ → Bool) → net passes old ≡ net passes new
+  pub rise : RiseFrom from new
+
+-- the first of the old keys with a change that is not 0 is at this place, and the new keys are those after it
+pub record TakesChange (from : ℕ) (old : Keys) (place : Place) (change : ℤ) (new : Keys) : Type 0 where
+  pub key : ℕ
+  pub is : place ≡ place_of key
+  pub low : from ≤ key
+  pub other : change ≢ pos 0
+  pub sums : (passes : ℕ → Bool) → net passes old ≡ (if passes key then change else pos 0) +ℤ net passes new
+  pub later : RiseFrom (key + 1) new
+
+-- a call gave the next change that is not 0, or there is none
+abbrev pub GivesChange : Keys → Option (Place × ℤ) → Keys → Type 0
+GivesChange old (Some c) new = (from : ℕ) → RiseFrom from old → TakesChange from old c.0 c.1 new
+GivesChange old None new = (from : ℕ) → RiseFrom from old → (passes : ℕ → Bool) → net passes old ≡ pos 0

@@ -1,0 +1,102 @@
+//! Net changes of depth, from where the records of a track start and stop.
+ghost use Rattle.std.specs.Prelude.{◌≡◌, [], IfOk, MatchOption};
+ghost use Rattle.std.specs.Iterator.{at_most};
+ghost use Rattle.iv_depth.specs.NetChanges.{AreEdgesOf, GivesChange, IsLeast, key_of, place_of};
+
+use crate::edges::pass;
+use iv_track::{Meter, Track};
+use std::alloc::{AllocError, Allocator};
+use std::marker::Model;
+
+/// How many positions a rank has among the keys.
+const POSITIONS: u64 = 1 << 32;
+
+/// Where the records of a track start and where they stop, as keys from the least to the greatest.
+///
+/// Starts come in the track's order, which their sort only looks at.
+pub(crate) fn edges_of<A: Allocator + Copy>(
+    alloc: A,
+    track: &Track<A>,
+    meter: &mut Meter,
+) -> Result<(Vec<u64, A>, Vec<u64, A>), AllocError>
+    ensures { IfOk result (λ edges. AreEdgesOf track.now.rows edges.0.items edges.1.items) }
+{
+    let len = track.len() as usize;
+    let mut starts = Vec::with_capacity(alloc, len)?;
+    let mut stops = Vec::with_capacity(alloc, len)?;
+    let mut rows = track.walk(0, 0, meter);
+    while let Some(row) = rows.next(meter) {
+        let row = row.as_ref();
+        row.law_of_place();
+        starts.push(packed(row.seq(), row.start() as u32))?;
+        stops.push(packed(row.seq(), row.stop() as u32))?;
+    }
+    starts.sort_unstable();
+    stops.sort_unstable();
+    Ok((starts, stops))
+}
+
+/// A place as one number: keys ascend as places do, and sort faster.
+fn packed(rank: u32, position: u32) -> u64
+    ensures { result ≡ key_of rank position }
+{
+    rank as u64 * POSITIONS + position as u64
+}
+
+/// The place of a key.
+fn unpacked(key: u64) -> (u32, u32)
+    ensures { result ≡ place_of key }
+{
+    ((key / POSITIONS) as u32, (key % POSITIONS) as u32)
+}
+
+/// An iterator over the net changes at keys of starts and stops, by place. None is 0.
+///
+/// Its model is the keys that are left.
+#[derive(Drop)]
+pub(crate) struct NetChanges<'a> {
+    pub(crate) starts: &'a [u64],
+    pub(crate) stops: &'a [u64],
+}
+
+impl<'a> Model for NetChanges<'a> {
+    ghost use Rattle.iv_depth.specs.NetChanges.{Keys};
+
+    ghost Value = { Keys };
+
+    ghost view = { λ n. record { starts = n.starts.now; stops = n.stops.now } };
+}
+
+impl<'a> Iterator for NetChanges<'a> {
+    ghost use Rattle.std.specs.Prelude.{◌+◌, length};
+
+    type Item = ((u32, u32), i64);
+
+    ghost next_gives = { GivesChange };
+
+    ghost remaining = { λ keys. at_most (length keys.starts + length keys.stops) };
+
+    fn next(&mut self) -> Option<((u32, u32), i64)> {
+        while let Some(key) = least(self.starts, self.stops) {
+            let (begun, starts) = pass(self.starts, key);
+            let (ended, stops) = pass(self.stops, key);
+            self.starts = starts;
+            self.stops = stops;
+            if begun != ended {
+                return Some((unpacked(key), begun as i64 - ended as i64));
+            }
+        }
+        None
+    }
+}
+
+/// The least key at which a record starts or stops.
+fn least(starts: &[u64], stops: &[u64]) -> Option<u64>
+    ensures { MatchOption result ((starts.now ≡ []) × (stops.now ≡ [])) (λ key. IsLeast starts.now stops.now key) }
+{
+    match (starts.first(), stops.first()) {
+        (Some(start), Some(stop)) => Some((*start).min(*stop)),
+        (Some(start), None) => Some(*start),
+        (None, stop) => stop.copied(),
+    }
+}
