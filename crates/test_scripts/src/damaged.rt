@@ -16,7 +16,7 @@ pub(crate) struct Memory<'a> {
 }
 
 /// A line, or a part of one, and the text of its fault.
-pub(crate) type Told<'a> = (&'a [u8], &'a [u8]);
+pub(crate) type Refusal<'a> = (&'a [u8], &'a [u8]);
 
 /// What is before a record in a line, and after it.
 pub(crate) type Around<'a> = (&'a [u8], &'a [u8]);
@@ -65,7 +65,7 @@ pub(crate) fn are_reported<'a>(
     rt: &HostRuntime,
     memory: Memory<'a>,
     session: &mut Session<&'a RefusesNth<Global>>,
-    lines: &[Told<'_>],
+    lines: &[Refusal<'_>],
     around: Around<'_>,
 ) -> Result<bool, Fail> {
     let (front, later) = around;
@@ -80,7 +80,7 @@ pub(crate) fn are_reported<'a>(
 }
 
 /// Damaged records of six columns, and the fault of each.
-const DAMAGED: [Told<'static>; 21] = [
+const DAMAGED: [Refusal<'static>; 21] = [
     (b"", b"wrong number of columns"),
     (b"chr1\t10\t20\tn\t0", b"wrong number of columns"),
     (b"chr1\t10\t20\tn\t0\t+\t", b"wrong number of columns"),

@@ -16,20 +16,25 @@ const BIG: Beside<'static> = Beside {
 
 /// What the row of a record has after its three columns.
 #[derive(Clone, Copy)]
-enum Behind {
+enum LastColumns {
     Text(&'static str),
     /// The number of the record, counted from 1.
     Number,
 }
 
 /// Adds a row of the record of a number, counted from 0.
-fn push_row(rt: &HostRuntime, text: &mut String, number: u32, later: Behind) -> Result<(), Fail> {
+fn push_row(
+    rt: &HostRuntime,
+    text: &mut String,
+    number: u32,
+    later: LastColumns,
+) -> Result<(), Fail> {
     let start = 100_000u32.saturating_add(number.saturating_mul(100));
     let stop = start.saturating_add(10);
     text.push_str(format!(in rt.alloc(); "big\t{start}\t{stop}")?.as_str())?;
     match later {
-        Behind::Text(later) => text.push_str(later)?,
-        Behind::Number => {
+        LastColumns::Text(later) => text.push_str(later)?,
+        LastColumns::Number => {
             let count = number.saturating_add(1);
             text.push_str(format!(in rt.alloc(); "\t{count}")?.as_str())?;
         }
@@ -38,7 +43,7 @@ fn push_row(rt: &HostRuntime, text: &mut String, number: u32, later: Behind) -> 
 }
 
 /// A heading and a row of each record.
-fn rows(rt: &HostRuntime, heading: &str, later: Behind) -> Result<String, Fail> {
+fn rows(rt: &HostRuntime, heading: &str, later: LastColumns) -> Result<String, Fail> {
     let mut text = String::new(rt.alloc());
     text.push_str(heading)?;
     for number in 0..COUNT {
@@ -49,7 +54,7 @@ fn rows(rt: &HostRuntime, heading: &str, later: Behind) -> Result<String, Fail> 
 
 /// The session of the records, after a script that opens views.
 fn begun(rt: &HostRuntime, script: &[u8]) -> Result<Session, Fail> {
-    let first = rows(rt, "", Behind::Text(""))?;
+    let first = rows(rt, "", LastColumns::Text(""))?;
     let mut session = session_beside(rt, 3, first.as_bytes(), BIG, COUNT)?;
     run(rt, &mut session, script, 99, 0)?.done?;
     Ok(session)
@@ -118,13 +123,21 @@ fn prints_view(rt: &HostRuntime, script: &[u8], text: &[u8], piece: usize) -> Re
 #[test]
 fn long_views(rt: HostRuntime) -> Result<(), Fail> {
     for (script, later, piece) in [
-        (b"open\tv\tmerge\n".as_slice(), Behind::Text(""), 1),
-        (b"open\tv\tmerge\n", Behind::Text(""), 65_536),
-        (b"open\tv\tmerge -c 1 -o count\n", Behind::Text("\t1"), 1000),
-        (b"open\tv\tgenomecov -bg\n", Behind::Text("\t1"), 65_536),
-        (b"open\tv\tcluster\n", Behind::Number, 8_192),
-        (b"open\tv\tintersect -c\n", Behind::Text("\t0"), 65_536),
-        (b"open\tv\tsubtract\n", Behind::Text(""), 8_193),
+        (b"open\tv\tmerge\n".as_slice(), LastColumns::Text(""), 1),
+        (b"open\tv\tmerge\n", LastColumns::Text(""), 65_536),
+        (
+            b"open\tv\tmerge -c 1 -o count\n",
+            LastColumns::Text("\t1"),
+            1000,
+        ),
+        (
+            b"open\tv\tgenomecov -bg\n",
+            LastColumns::Text("\t1"),
+            65_536,
+        ),
+        (b"open\tv\tcluster\n", LastColumns::Number, 8_192),
+        (b"open\tv\tintersect -c\n", LastColumns::Text("\t0"), 65_536),
+        (b"open\tv\tsubtract\n", LastColumns::Text(""), 8_193),
     ] {
         let text = rows(&rt, "", later)?;
         assert!(rt; prints_view(&rt, script, text.as_bytes(), piece)?);
@@ -134,8 +147,8 @@ fn long_views(rt: HostRuntime) -> Result<(), Fail> {
 
 /// What a print of two views writes, each with its heading.
 fn both(rt: &HostRuntime) -> Result<String, Fail> {
-    let mut text = rows(rt, "#v\n", Behind::Number)?;
-    let second = rows(rt, "#w\n", Behind::Text("\t1"))?;
+    let mut text = rows(rt, "#v\n", LastColumns::Number)?;
+    let second = rows(rt, "#w\n", LastColumns::Text("\t1"))?;
     text.push_str(second.as_str())?;
     Ok(text)
 }

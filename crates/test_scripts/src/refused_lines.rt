@@ -1,6 +1,6 @@
 //! Lines that are refused for other reasons than a damaged record, while the session's next growth is refused: each is answered by
 //! its own fault, and asks for no growth.
-use crate::damaged::{Memory, Told, are_reported, written};
+use crate::damaged::{Memory, Refusal, are_reported, written};
 use crate::fixtures::{ALONE, Beside, session_in};
 use crate::many_views::open_all;
 use iv_workspace::Session;
@@ -24,7 +24,7 @@ fn are_lines_reported<'a>(
     memory: Memory<'a>,
     session: &mut Session<&'a RefusesNth<Global>>,
     script: &[u8],
-    lines: &[Told<'_>],
+    lines: &[Refusal<'_>],
 ) -> Result<bool, Fail> {
     let (_, messages) = written(rt, memory, session, script)?;
     let reported = are_reported(rt, memory, session, lines, (b"", b""))?;
@@ -35,7 +35,7 @@ fn are_lines_reported<'a>(
 fn holds_of_lines(
     rt: &HostRuntime,
     setting: &Setting<'_>,
-    lines: &[Told<'_>],
+    lines: &[Refusal<'_>],
 ) -> Result<bool, Fail> {
     let (of_session, of_lines) = (
         RefusesNth::new(rt.alloc(), u64::MAX),
@@ -63,7 +63,7 @@ const BESIDE: Setting<'static> = Setting {
 };
 
 /// Lines that are refused then, and the fault of each. Records of three columns take no memory of their own.
-const REFUSED: [Told<'static>; 28] = [
+const REFUSED: [Refusal<'static>; 28] = [
     (b"paint\tm", b"no such command or wrong fields"),
     (b"open\tb", b"no such command or wrong fields"),
     (b"print", b"no such command or wrong fields"),
