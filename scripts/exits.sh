@@ -120,6 +120,19 @@ ends 'a strand that the records lack' 2 'bedkeep: strand needs six columns\n'
 shot merge -g sizes -i past_end.bed -c 5
 ends 'a damaged file comes before a column that it lacks' 3 "bedkeep: past_end.bed: line 2: end past the sequence's end\n"
 prints 'a damaged file comes before a column that it lacks' ''
+shot merge -g sizes -i past_end.bed
+ends 'a damaged file of merge' 3 "bedkeep: past_end.bed: line 2: end past the sequence's end\n"
+prints 'a damaged file of merge' ''
+shot complement -g bad_sizes -i past_end.bed
+ends 'a damaged genome file of complement comes first' 3 'bedkeep: bad_sizes: line 1: bad length\n'
+shot merge -g bad_sizes -i none
+ends 'a file of merge that is not there comes before a damaged one' 4 'bedkeep: none: cannot be read\n'
+shot genomecov -bg -g none -i nowhere
+ends 'a genome file of genomecov that is not there comes first' 4 'bedkeep: none: cannot be read\n'
+shot merge -g sizes -i directory
+ends 'a directory for merge' 4 'bedkeep: directory: cannot be read\n'
+shot complement -g sizes -i ''
+ends 'a file of complement without a name' 4 'bedkeep: : cannot be read\n'
 shot intersect -g sizes -a records.bed -b no_base.bed
 ends 'a damaged second file of intersect' 3 'bedkeep: no_base.bed: line 3: start not below end\n'
 shot getfasta -g sizes -bed records.bed -fi short.fa
@@ -168,6 +181,13 @@ ends 'a closed pipe' 4 'bedkeep: output cannot be written\n'
 
 (ulimit -v 40000 && head -c 200000000 /dev/zero | "$program" session -g sizes -i /dev/stdin > out 2> err)
 ends 'out of memory' 5 'bedkeep: no memory\n'
+# Of a line that isn't ended all bytes are kept, and of lines before it none.
+(ulimit -v 40000 && head -c 200000000 /dev/zero | "$program" merge -g sizes -i /dev/stdin > out 2> err)
+ends 'a line for which there is no memory' 5 'bedkeep: no memory\n'
+prints 'a line for which there is no memory' ''
+(ulimit -v 40000 && { cat records.bed; yes '# a line that says no record, as long as one of a file' | head -n 2000000; } | "$program" merge -g sizes -i /dev/stdin > out 2> err)
+ends 'a file for which there is no memory' 0 ''
+prints 'a file for which there is no memory' 'chr1\t10\t20\n'
 
 "$program" --version > out 2> err
 ends 'the version' 0 ''

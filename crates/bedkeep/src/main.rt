@@ -6,11 +6,14 @@
 
 ghost use Rattle.std.specs.Prelude.{◌<◌, ◌^◌, IfOk, IfSome, length};
 ghost use Rattle.std.specs.Option.{option_copied};
+ghost use Rattle.iv_run.specs.PlacesViews.{ShowPlacesAlone};
 
 use iv_args::{Notice, Plan, Slot};
 use iv_bytes::{StdSink, StdSource, put_all};
 use iv_cli::Ending;
-use iv_run::{CliFault, FileFault, Inputs, ParsedFiles, read_all, shot};
+use iv_run::{
+    CliFault, FileFault, Inputs, ParsedFiles, read_all, shot, shot_in_pieces, shows_places_alone,
+};
 use iv_session::{ScriptLimits, run_script};
 use iv_workspace::Session;
 use std::fs::File;
@@ -48,16 +51,22 @@ fn names_of<'a>(rt: &impl AllocGlobal, words: &'a [String]) -> Result<Vec<&'a [u
     )
 }
 
+/// The file of this name.
+fn open_file<R: Files>(rt: &R, name: &[u8]) -> Result<R::File, FileFault> {
+    let Ok(path) = from_utf8(name) else {
+        return Err(FileFault::Input);
+    };
+    match File::open(rt, path) {
+        Ok(file) => Ok(file),
+        Err(_) => Err(FileFault::Input),
+    }
+}
+
 /// The bytes of the file of this name.
 fn read_file(rt: &(impl Files + AllocGlobal), name: &[u8]) -> Result<Vec<u8>, FileFault>
     ensures { IfOk result (λ bytes. length bytes.items < 2 ^ 32) }
 {
-    let Ok(path) = from_utf8(name) else {
-        return Err(FileFault::Input);
-    };
-    let Ok(file) = File::open(rt, path) else {
-        return Err(FileFault::Input);
-    };
+    let file = open_file(rt, name)?;
     read_all(rt.alloc(), &mut StdSource::new(file), MOST_FILE_BYTES)
 }
 
@@ -153,8 +162,45 @@ fn run_session(rt: &HostRuntime, plan: &Plan<'_>) -> Ending {
     Ending::of_run(&done)
 }
 
+/// Prints the view that the plan asks for, of whose records no text is kept.
+fn run_in_pieces(rt: &HostRuntime, plan: &Plan<'_>) -> Result<(), Ending>
+    requires { ShowPlacesAlone plan.now.view }
+{
+    let sizes = read_slot(rt, plan, Slot::Sizes)?;
+    let name = plan.file(Slot::First).unwrap_or(b"");
+    match shot_of_file(rt, plan, sizes.as_deref().unwrap_or(b""), name) {
+        Ok(shown) => Ok(shown?),
+        Err(fault) => Err(Ending::from((Slot::First, fault))),
+    }
+}
+
+/// Prints the view that the plan asks for, of a genome file's bytes and the BED file of this name.
+fn shot_of_file(
+    rt: &HostRuntime,
+    plan: &Plan<'_>,
+    sizes: &[u8],
+    name: &[u8],
+) -> Result<Result<(), CliFault>, FileFault>
+    requires { ShowPlacesAlone plan.now.view }
+{
+    let mut file = StdSource::new(open_file(rt, name)?);
+    let mut output = StdSink::new(rt.stdout());
+    shot_in_pieces(
+        rt.alloc(),
+        plan,
+        sizes,
+        &mut file,
+        MOST_FILE_BYTES,
+        MOST_RECORDS,
+        &mut output,
+    )
+}
+
 /// Prints the view that the plan asks for.
 fn run_shot(rt: &HostRuntime, plan: &Plan<'_>) -> Result<(), Ending> {
+    if shows_places_alone(plan) {
+        return run_in_pieces(rt, plan);
+    }
     let texts = FileTexts::read(rt, plan)?;
     let bases = read_slot(rt, plan, Slot::Bases)?;
     let mut output = StdSink::new(rt.stdout());

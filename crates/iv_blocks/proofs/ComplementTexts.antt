@@ -2,7 +2,6 @@
 use Rattle.std.proofs.Common.{◌≡◌, ℕ, Bool, false, not, List, [], ◌∷◌, map, Option, Some, None, refl, sym, ◌∙◌, ap, inl, inr, All}
 use Rattle.std.specs.List.{range_with_len}
 use Rattle.std.specs.Option.{option_map}
-use Rattle.std.specs.Prelude.{slice_get}
 use Rattle.std.proofs.lemmas.Bool.{cases_Bool}
 use Rattle.iv_text.specs.Genome.{Sequences, seq_count, sequence_length}
 use Rattle.iv_text.specs.Read.{IsOnGenome}
@@ -24,17 +23,16 @@ use Rattle.iv_blocks.specs.BlockSweeps.{interval_of, next_start}
 -- ---- the next block
 
 -- a block that is open starts where it did
-open-start : (d : ℕ) (rows : List Row) (b : Group) → next_start (coming d (Some b) rows) ≡ Some (b.sequence, b.start)
+open-start : (d : ℕ) (rows : List Row) (b : Group) → next_start (map interval_of (coming d (Some b) rows)) ≡ Some (b.sequence, b.start)
 open-start d [] b = refl
 open-start d (r ∷ rows) b = elim (cases_Bool (is_joined d b r)) [
-  | inl e ↦ ap next_start (coming-joined d b r rows e) ∙ open-start d rows (joined b r)
-  | inr e ↦ ap next_start (coming-split_up d b r rows e)
+  | inl e ↦ ap (λ (l : List Group). next_start (map interval_of l)) (coming-joined d b r rows e) ∙ open-start d rows (joined b r)
+  | inr e ↦ ap (λ (l : List Group). next_start (map interval_of l)) (coming-split_up d b r rows e)
 ]
 
 -- the next block starts with the first record
-pub coming-start : (d : ℕ) (rows : List Row) (first : Option Row) → first ≡ slice_get rows 0 → next_start (coming d None rows) ≡ option_map (λ r. (r.seq, r.start)) first
-coming-start d [] first is = ap (option_map (λ (r : Row). (r.seq, r.start))) (sym is)
-coming-start d (r ∷ rows) first is = open-start d rows (block_of r) ∙ ap (option_map (λ (r : Row). (r.seq, r.start))) (sym is)
+pub coming-start : (d : ℕ) (r : Row) (rows : List Row) → next_start (map interval_of (coming d None (r ∷ rows))) ≡ Some (r.seq, r.start)
+coming-start d r rows = open-start d rows (block_of r)
 
 -- ---- where the blocks are
 

@@ -13,7 +13,7 @@ abbrev pub interval_of : Group → Block
 interval_of b = record { sequence = b.sequence; start = b.start; stop = b.stop }
 
 -- where the first of the blocks starts: the rank of its sequence, and the position
-abbrev pub next_start : List Group → Option (ℕ × ℕ)
+abbrev pub next_start : List Block → Option (ℕ × ℕ)
 next_start [] = None
 next_start (b ∷ blocks) = Some (b.sequence, b.start)
 

@@ -21,6 +21,7 @@ mod repair;
 mod side_blocks;
 mod side_records;
 mod side_rows;
+mod span_blocks;
 mod sweeps;
 
 pub use blocks::Blocks;

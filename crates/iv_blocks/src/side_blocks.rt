@@ -7,10 +7,8 @@ ghost use Rattle.iv_text.specs.Read.{IsOnGenome};
 ghost use Rattle.iv_text.specs.Row.{Row};
 ghost use Rattle.iv_cover.specs.Coming.{coming};
 ghost use Rattle.iv_cover.specs.TrackBlocks.{blocks_of, with_members};
-ghost use Rattle.iv_blocks.specs.BlockSweeps.{interval_of, next_start};
 ghost use Rattle.iv_blocks.specs.Sides.{is_on};
 
-use crate::gaps::BlocksAhead;
 use crate::side_records::{Side, SideRecords};
 use iv_cover::Block;
 use iv_index::{TextRecord, TextRecords};
@@ -75,15 +73,6 @@ impl<'t> SideBlocks<'t> {
     {
         SideBlocks::of(records, Side::Both, distance)
     }
-
-    /// Where the next block starts: the rank of its sequence, and the position. `None` where no block is left.
-    pub(crate) fn next_start(&self) -> Option<(u32, u64)>
-        ensures { result ≡ next_start self.now }
-    {
-        let ahead = ahead_on(self.side, &self.rest);
-        let first = ahead.first()?;
-        Some((first.seq(), first.start()))
-    }
 }
 
 impl<'t> Iterator for SideBlocks<'t> {
@@ -106,24 +95,6 @@ impl<'t> Iterator for SideBlocks<'t> {
             block,
             members: SideRecords::of(members, self.side),
         })
-    }
-}
-
-impl<'t> BlocksAhead for SideBlocks<'t> {
-    /// A sweep counts no steps.
-    type Meter = ();
-
-    ghost left = { λ blocks. map interval_of blocks };
-
-    ghost steps = { λ _. 0 };
-
-    fn next_until(&mut self, rank: u32, position: u64, _counter: &mut ()) -> Option<Block> {
-        let (sequence, start) = self.next_start()?;
-        if sequence > rank || (sequence == rank && start > position) {
-            return None;
-        }
-        let found = self.next()?;
-        Some(found.block)
     }
 }
 

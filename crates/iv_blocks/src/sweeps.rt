@@ -1,9 +1,10 @@
-//! The rows of a merge, a cluster and a complement, each in one sweep over sorted records of a text.
+//! The rows of a merge and a complement in one sweep over sorted places, and those of a cluster over sorted records of a text.
 ghost use Rattle.std.specs.Prelude.{All};
 ghost use Rattle.std.specs.List.{flat_map};
 ghost use Rattle.iv_bytes.specs.Sinks.{Puts};
 ghost use Rattle.iv_text.specs.Ordered.{AreInOrder};
 ghost use Rattle.iv_text.specs.Read.{IsOnGenome};
+ghost use Rattle.iv_index.specs.Spans.{span_rows};
 ghost use Rattle.iv_blocks.specs.BlockSweeps.{interval_row, numbered_row};
 ghost use Rattle.iv_blocks.specs.ClusterRows.{cluster_text};
 ghost use Rattle.iv_blocks.specs.ComplementRows.{complement_text};
@@ -14,28 +15,29 @@ ghost use Rattle.iv_blocks.specs.declared.options.Options.{Options};
 use crate::gaps::put_gaps;
 use crate::side_blocks::SideBlocks;
 use crate::side_records::SideRecords;
+use crate::span_blocks::SpanBlocks;
 use iv_bytes::{Sink, WriteFault};
 use iv_cover::Block;
-use iv_index::TextRecords;
+use iv_index::{Span, TextRecords};
 use iv_text::{Genome, put_interval, put_numbered};
 use std::alloc::Allocator;
 
 /// Puts a row for each block of records at most `distance` bases apart: its sequence's name, start and stop.
 ///
-/// The records are in the order of a track and are on the genome. One sweep over them, and no memory. On a
+/// The places of the records are in the order of a track and are on the genome. One sweep over them, and no memory. On a
 /// fault the sink has taken a prefix of the text.
 pub fn put_merge<A: Allocator + Copy, S: Sink>(
     distance: u32,
-    records: &TextRecords<'_>,
+    spans: &[Span],
     genome: &Genome<A>,
     sink: &mut S,
 ) -> Result<(), WriteFault>
-    requires order { AreInOrder records.now }
-    requires on_genome { All (IsOnGenome genome.now) records.now }
-    ensures { (o : Options) → IsPlain distance o → Puts (S.state sink.old) (S.state sink.new) result (merge_text o genome.now records.now) }
+    requires order { AreInOrder (span_rows spans.now) }
+    requires on_genome { All (IsOnGenome genome.now) (span_rows spans.now) }
+    ensures { (o : Options) → IsPlain distance o → Puts (S.state sink.old) (S.state sink.new) result (merge_text o genome.now (span_rows spans.now)) }
 {
-    for found in SideBlocks::of_all(records, distance) {
-        put_block(found.block, genome, sink)?;
+    for block in SpanBlocks::of(spans, distance) {
+        put_block(block, genome, sink)?;
     }
     Ok(())
 }
@@ -93,18 +95,18 @@ fn put_members<A: Allocator + Copy, S: Sink>(
 
 /// Puts a row for each maximal interval that no record covers, of all sequences, or where `limited`, of those with a record.
 ///
-/// The records are in the order of a track and are on the genome. One sweep over them, and no memory. On a
+/// The places of the records are in the order of a track and are on the genome. One sweep over them, and no memory. On a
 /// fault the sink has taken a prefix of the text.
 pub fn put_complement<A: Allocator + Copy, S: Sink>(
     limited: bool,
-    records: &TextRecords<'_>,
+    spans: &[Span],
     genome: &Genome<A>,
     sink: &mut S,
 ) -> Result<(), WriteFault>
-    requires order { AreInOrder records.now }
-    requires on_genome { All (IsOnGenome genome.now) records.now }
-    ensures { Puts (S.state sink.old) (S.state sink.new) result (complement_text limited genome.now records.now) }
+    requires order { AreInOrder (span_rows spans.now) }
+    requires on_genome { All (IsOnGenome genome.now) (span_rows spans.now) }
+    ensures { Puts (S.state sink.old) (S.state sink.new) result (complement_text limited genome.now (span_rows spans.now)) }
 {
-    let mut blocks = SideBlocks::of_all(records, 0);
+    let mut blocks = SpanBlocks::of(spans, 0);
     put_gaps(limited, genome, &mut blocks, &mut (), sink)
 }

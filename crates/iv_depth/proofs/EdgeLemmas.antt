@@ -17,8 +17,8 @@ use Rattle.iv_cover.proofs.InOrder.{all-recursion}
 use Rattle.iv_cover.proofs.Merging.{Precedes, precedes-from}
 use Rattle.iv_cover.proofs.Tests.{Mem}
 use Rattle.iv_index.proofs.SequenceLemmas.{is_from, from-here}
-use Rattle.iv_index.specs.Places.{Spot, spot_of_place, spot_of_row}
-use Rattle.iv_index.specs.declared.place.Place.{Place}
+use Rattle.iv_index.specs.Spans.{row_of_span, span_rows}
+use Rattle.iv_index.specs.declared.span.Span.{Span}
 use Rattle.std.specs.Prelude.{ℤ, pos, ◌+ℤ◌}
 use Rattle.iv_depth.specs.DepthChanges.{IsChange}
 use Rattle.iv_depth.specs.Edges.{up_to, Rise, AreWithin, AreStopsOf, IsEdge, IsPassing, PassesEdge, IsAhead, starts_of, stops_of}
@@ -208,13 +208,11 @@ module _ (f : ℕ → ℕ) (from limit depth : ℕ) (starts stops : List ℕ) (a
 -- ---- the records of one sequence
 
 -- places start and stop where their records do
-starts-are : (places : List Place) (rows : List Row) → map spot_of_place places ≡ map spot_of_row rows → starts_of places ≡ map start_of rows
-starts-are places rows same =
-    sym (map-map (λ (s : Spot). s.start) spot_of_place places) ∙ ap (map (λ (s : Spot). s.start)) same ∙ map-map (λ (s : Spot). s.start) spot_of_row rows
+starts-are : (places : List Span) (rows : List Row) → span_rows places ≡ rows → starts_of places ≡ map start_of rows
+starts-are places rows same = sym (map-map start_of row_of_span places) ∙ ap (map start_of) same
 
-stops-are : (places : List Place) (rows : List Row) → map spot_of_place places ≡ map spot_of_row rows → stops_of places ≡ map stop_of rows
-stops-are places rows same =
-    sym (map-map (λ (s : Spot). s.stop) spot_of_place places) ∙ ap (map (λ (s : Spot). s.stop)) same ∙ map-map (λ (s : Spot). s.stop) spot_of_row rows
+stops-are : (places : List Span) (rows : List Row) → span_rows places ≡ rows → stops_of places ≡ map stop_of rows
+stops-are places rows same = sym (map-map stop_of row_of_span places) ∙ ap (map stop_of) same
 
 module _ (g : Sequences) (rank : ℕ) where
   -- as many records cover p as start up to it, less those that stop up to it
@@ -265,15 +263,14 @@ module _ (g : Sequences) (rank : ℕ) where
       after q at on_it (inl lower) = absurd (omega (arith, at, on_it))
       after q at on_it (inr same) = same.1
 
-  module _ (rows left here : List Row) (places : List Place) (left_is : left ≡ filter (is_from rank) rows) (here_is : here ≡ on rank left)
-      (same : map spot_of_place places ≡ map spot_of_row here) where
+  module _ (rows left here : List Row) (places : List Span) (left_is : left ≡ filter (is_from rank) rows) (here_is : here ≡ on rank left)
+      (same : span_rows places ≡ here) where
     pub places-few : length places ≤ length rows
     places-few =
         omega (
           arith,
-          length-map places spot_of_place,
-          length-map here spot_of_row,
-          ap (λ (l : List Spot). length l) same,
+          length-map places row_of_span,
+          ap (λ (l : List Row). length l) same,
           ap (λ (l : List Row). length l) here_is,
           length-filter (λ (r : Row). r.seq == rank) left,
           count_by-le-length (λ (r : Row). r.seq == rank) left,

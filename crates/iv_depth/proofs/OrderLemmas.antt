@@ -7,7 +7,7 @@ use Rattle.std.proofs.lemmas.List.Sums.{sum_by-cons}
 use Rattle.std.specs.Prelude.{sum_by, nat_le, if◌then◌else◌}
 use Rattle.std.proofs.lemmas.List.{take_all, length-map}
 use Rattle.std.proofs.lemmas.List.Elements.{All-head, All-tail}
-use Rattle.iv_index.specs.declared.place.Place.{Place}
+use Rattle.iv_index.specs.declared.span.Span.{Span}
 use Rattle.iv_depth.specs.Edges.{Rise, AreWithin, AreStopsOf, up_to, stops_of}
 
 pub up_to-sum : (p : ℕ) (ns : List ℕ) → up_to p ns ≡ sum_by (λ n. if nat_le n p then 1 else 0) ns
@@ -31,7 +31,7 @@ all-within : (limit : ℕ) (ns : List ℕ) → All (λ n. n ≤ limit) ns → Ar
 all-within limit [] h = tt
 all-within limit (n ∷ ns) h = (All-head (λ n. n ≤ limit) n ns h, all-within limit ns (All-tail (λ n. n ≤ limit) n ns h))
 
-pub AreStopsOf-sorted : (places : List Place) (stops : List ℕ) → IsPermutation (stops_of places) stops → IsSorted nat_cmp stops → AreStopsOf places stops
+pub AreStopsOf-sorted : (places : List Span) (stops : List ℕ) → IsPermutation (stops_of places) stops → IsSorted nat_cmp stops → AreStopsOf places stops
 AreStopsOf-sorted places stops same sorted = record {
   rise = rise-sorted stops (IsNonDecreasingBy-from_sort (λ x. x) stops sorted);
   within = λ limit w. all-within limit stops (All-permutation (λ n. n ≤ limit) (stops_of places) stops same (within-all limit (stops_of places) w));
@@ -39,7 +39,7 @@ AreStopsOf-sorted places stops same sorted = record {
 }
 
 -- all are written
-pub written-all : (index : ℕ) (places : List Place) (stops : List ℕ) → take index stops ≡ take index (stops_of places) → length stops ≡ length places → length places ≤ index
+pub written-all : (index : ℕ) (places : List Span) (stops : List ℕ) → take index stops ≡ take index (stops_of places) → length stops ≡ length places → length places ≤ index
     → stops ≡ stops_of places
 written-all index places stops written len all =
-    sym (take_all index stops (omega (arith, len))) ∙ written ∙ take_all index (stops_of places) (omega (arith, length-map places (λ (place : Place). place.stop)))
+    sym (take_all index stops (omega (arith, len))) ∙ written ∙ take_all index (stops_of places) (omega (arith, length-map places (λ (span : Span). span.stop)))

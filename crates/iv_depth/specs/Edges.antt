@@ -1,15 +1,15 @@
 -- Starts and stops of records, as numbers in order. This is what a sweep knows, and no part of what is promised.
 use Rattle.std.specs.Prelude.{◌≡◌, ◌≢◌, ℕ, ◌+◌, ◌≤◌, nat_le, Bool, List, [], ◌∷◌, map, count_by, if◌then◌else◌}
 use Rattle.std.specs.List.{AllByRecursion}
-use Rattle.iv_index.specs.declared.place.Place.{Place}
+use Rattle.iv_index.specs.declared.span.Span.{Span}
 
 -- where the places start
-abbrev pub starts_of : List Place → List ℕ
-starts_of places = map (λ (place : Place). place.start) places
+abbrev pub starts_of : List Span → List ℕ
+starts_of spans = map (λ (span : Span). span.start) spans
 
 -- where they stop
-abbrev pub stops_of : List Place → List ℕ
-stops_of places = map (λ (place : Place). place.stop) places
+abbrev pub stops_of : List Span → List ℕ
+stops_of spans = map (λ (span : Span). span.stop) spans
 
 -- how many of the numbers are p or less
 abbrev pub up_to : ℕ → List ℕ → ℕ
@@ -31,7 +31,7 @@ abbrev pub AreWithin : ℕ → List ℕ → Type 0
 AreWithin limit ns = AllByRecursion (λ n. n ≤ limit) ns
 
 -- these are the stops of the places, from the least to the greatest
-pub record AreStopsOf (places : List Place) (stops : List ℕ) : Type 0 where
+pub record AreStopsOf (places : List Span) (stops : List ℕ) : Type 0 where
   pub rise : Rise 0 stops
   pub within : (limit : ℕ) → AreWithin limit (stops_of places) → AreWithin limit stops
   pub sums : (p : ℕ) → up_to p stops ≡ up_to p (stops_of places)

@@ -3,12 +3,12 @@ ghost use Rattle.std.specs.Prelude.{◌≡◌, ◌+◌, ℕ, [], MatchOption, le
 ghost use Rattle.iv_depth.specs.Edges.{BeginsElse, IsEdge, PassesEdge, Rise, starts_of};
 
 use crate::depth_changes::DepthChanges;
-use iv_index::Place;
+use iv_index::Span;
 
 /// Records of one sequence by their starts and, beside these, by their stops: those that are to come.
 #[derive(Drop)]
 pub(crate) struct Edges<'a> {
-    pub(crate) starts: &'a [Place],
+    pub(crate) starts: &'a [Span],
     pub(crate) stops: &'a [u32],
 }
 
@@ -42,12 +42,12 @@ impl<'a> DepthChanges for Edges<'a> {
 }
 
 /// The least position at which a record starts or stops, if a stop is left.
-fn next_edge(starts: &[Place], stops: &[u32]) -> Option<u32>
+fn next_edge(starts: &[Span], stops: &[u32]) -> Option<u32>
     ensures { MatchOption result (stops.now ≡ []) (λ position. IsEdge (starts_of starts.now) stops.now position) }
 {
     let stop = *stops.first()?;
     match starts.first() {
-        Some(place) => Some(stop.min(place.start)),
+        Some(span) => Some(stop.min(span.start)),
         None => Some(stop),
     }
 }
@@ -60,8 +60,8 @@ pub(crate) trait Positioned {
         ensures { result ≡ at self.now };
 }
 
-impl Positioned for Place {
-    ghost at = { λ place. place.start };
+impl Positioned for Span {
+    ghost at = { λ span. span.start };
 
     fn position(&self) -> u64 {
         self.start as u64

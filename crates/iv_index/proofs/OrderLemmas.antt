@@ -20,15 +20,13 @@ use Rattle.iv_text.proofs.OrderedLemmas.{ordered-sorted}
 use Rattle.iv_text.specs.Ordered.{ordered}
 use Rattle.iv_text.specs.Row.{Row, beside_cmp, row_cmp, rows_total, strand_cmp}
 use Rattle.iv_text.specs.declared.strand.Strand.{Strand}
-use Rattle.iv_index.specs.Places.{row_at, rows_at}
-use Rattle.iv_index.specs.declared.place.Place.{Place}
 
-then_equal : (o : Ordering) → ordering_then o Equal ≡ o
+pub then_equal : (o : Ordering) → ordering_then o Equal ≡ o
 then_equal Less = refl
 then_equal Equal = refl
 then_equal Greater = refl
 
-nat_tied : (x y : ℕ) → x ≡ y → nat_cmp x y ≡ Equal
+pub nat_tied : (x y : ℕ) → x ≡ y → nat_cmp x y ≡ Equal
 nat_tied x y e = subst (λ (z : ℕ). nat_cmp x z ≡ Equal) e (tied_itself nat_cmp_total x)
 
 -- of two records of one place the other columns decide
@@ -56,28 +54,27 @@ sorted-map cmp key e xs up = λ k d from to.
     let within : k + 1 < length xs = omega (arith, length-map xs key) in
     rw (get_or-map key xs (k + 1) e d within, get_or-map key xs k e d (omega arith)) (up k e from within)
 
--- places that a sort by their records has moved
-pub sorted-rows : (w : ℕ) (text : List ℕ) (old new : List Place) → IsPermutation old new
-    → IsSortedBy (λ x y. is_lt (row_cmp (row_at w text x) (row_at w text y))) new → rows_at w text new ≡ ordered (rows_at w text old)
-sorted-rows w text old new moved up =
-    ordered-sorted (rows_at w text old) (rows_at w text new) (IsPermutation-map (row_at w text) old new moved)
-    (sorted-map row_cmp (row_at w text) (record { seq = 0; start = 0; stop = 0; line = 0 }) new up)
+-- things that a sort by their records has moved
+pub sorted-rows : {X : Type 0} (row : X → Row) (e : X) (old new : List X) → IsPermutation old new
+    → IsSortedBy (λ x y. is_lt (row_cmp (row x) (row y))) new → map row new ≡ ordered (map row old)
+sorted-rows row e old new moved up =
+    ordered-sorted (map row old) (map row new) (IsPermutation-map row old new moved) (sorted-map row_cmp row e new up)
 
--- what a sort by records says of its closure, where each call compares the records of two places
-pub sorted-by-rows : {F : Type 0} {g : Mut F (Bor Place × (Bor Place × Unit {0})) Ordering} {f : F} (w : ℕ) (text : List ℕ) (ps : List Place)
-    → ((lt : Place → Place → Bool) → IsStrictWeakOrder lt → ComparesAs g lt f → IsSortedBy lt ps)
-    → ((a : Bor Place × (Bor Place × Unit {0})) (r : Ordering) (f' : F) → Called g f a r f' → (r ≡ row_cmp (row_at w text a.0.now) (row_at w text a.1.0.now)) × (f' ≡ f))
-    → IsSortedBy (λ x y. is_lt (row_cmp (row_at w text x) (row_at w text y))) ps
-sorted-by-rows {g = g} {f = f} w text ps up h =
-    up (λ x y. is_lt (row_cmp (row_at w text x) (row_at w text y))) (ranks_by rows_total (row_at w text))
-    (always_returns_same g (λ a r. is_lt r ≡ is_lt (row_cmp (row_at w text a.0.now) (row_at w text a.1.0.now))) f (λ a r f' k. (ap is_lt (h a r f' k).0, (h a r f' k).1)))
+-- what a sort by records says of its closure, where each call compares the records of two things
+pub sorted-by-rows : {X F : Type 0} {g : Mut F (Bor X × (Bor X × Unit {0})) Ordering} {f : F} (row : X → Row) (ps : List X)
+    → ((lt : X → X → Bool) → IsStrictWeakOrder lt → ComparesAs g lt f → IsSortedBy lt ps)
+    → ((a : Bor X × (Bor X × Unit {0})) (r : Ordering) (f' : F) → Called g f a r f' → (r ≡ row_cmp (row a.0.now) (row a.1.0.now)) × (f' ≡ f))
+    → IsSortedBy (λ x y. is_lt (row_cmp (row x) (row y))) ps
+sorted-by-rows {g = g} {f = f} row ps up h =
+    up (λ x y. is_lt (row_cmp (row x) (row y))) (ranks_by rows_total row)
+    (always_returns_same g (λ a r. is_lt r ≡ is_lt (row_cmp (row a.0.now) (row a.1.0.now))) f (λ a r f' k. (ap is_lt (h a r f' k).0, (h a r f' k).1)))
 
--- what `is_sorted_by` says of its closure, where each call tells that the second place doesn't belong in front of the first
-pub in-order : {F : Type 0} {g : Mut F (Bor Place × (Bor Place × Unit {0})) Bool} {f : F} (lt : Place → Place → Bool) (ps : List Place) (r : Bool)
-    → ((e : Place → Place → Bool) → ComputesOnPairs g e f → IsAllAdjacentAnswer (λ x y b. b ≡ e x y) ps r)
-    → ((a : Bor Place × (Bor Place × Unit {0})) (s : Bool) (f' : F) → Called g f a s f' → (s ≡ not (lt a.1.0.now a.0.now)) × (f' ≡ f))
+-- what `is_sorted_by` says of its closure, where each call tells that the second doesn't belong in front of the first
+pub in-order : {X F : Type 0} {g : Mut F (Bor X × (Bor X × Unit {0})) Bool} {f : F} (d : X) (lt : X → X → Bool) (ps : List X) (r : Bool)
+    → ((e : X → X → Bool) → ComputesOnPairs g e f → IsAllAdjacentAnswer (λ x y b. b ≡ e x y) ps r)
+    → ((a : Bor X × (Bor X × Unit {0})) (s : Bool) (f' : F) → Called g f a s f' → (s ≡ not (lt a.1.0.now a.0.now)) × (f' ≡ f))
     → IsTrue r ↔ IsSortedBy lt ps
-in-order {g = g} {f = f} lt ps r cases h = by r (cases (λ x y. not (lt y x)) (always_returns_same g (λ a s. s ≡ not (lt a.1.0.now a.0.now)) f h))
+in-order {g = g} {f = f} d lt ps r cases h = by r (cases (λ x y. not (lt y x)) (always_returns_same g (λ a s. s ≡ not (lt a.1.0.now a.0.now)) f h))
   where
     turned : (t s : Bool) → s ≡ not t → t ≡ not s
     turned true s e = ap not (sym e)
@@ -87,7 +84,5 @@ in-order {g = g} {f = f} lt ps r cases h = by r (cases (λ x y. not (lt y x)) (a
     by true all = (λ _ k d from to. turned (lt _ _) true (all k d to), λ _. refl)
     by false some = (
       λ is. absurd (false≢true is),
-      λ up.
-          let d : Place = record { seq = 0; start = 0; stop = 0; line = 0 } in
-          absurd (false≢true (some.2 d ∙ ap not (up some.0 d (omega arith) some.1))),
+      λ up. absurd (false≢true (some.2 d ∙ ap not (up some.0 d (omega arith) some.1))),
     )

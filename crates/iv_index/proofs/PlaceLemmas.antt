@@ -9,7 +9,7 @@ pub line-past : (text : List ℕ) (at : ℕ) → length text ≤ at → line_at 
 unfolding line_at
 line-past text at past = rw (drop_all at text past) refl
 
-rest-whole : (text : List ℕ) (at : ℕ) → take (length text - at) (drop at text) ≡ drop at text
+pub rest-whole : (text : List ℕ) (at : ℕ) → take (length text - at) (drop at text) ≡ drop at text
 rest-whole text at = grind (arith, common_steps)
 
 pub line-found : (text : List ℕ) (at size : ℕ) (line : List ℕ) → lines (take (length text - at) (drop at text)) ≡ line ∷ lines (drop size (take (length text - at) (drop at text))) → lines (drop at text) ≡ line ∷ lines (drop (at + size) text)

@@ -74,7 +74,7 @@ place-row g w line r p says rank start stop =
 
 -- ---- one more line
 
-abbrev turned : Sequences → ℕ → ℕ → List (List ℕ) → Result Draft LoadCause → Result Draft LoadFault
+abbrev pub turned : Sequences → ℕ → ℕ → List (List ℕ) → Result Draft LoadCause → Result Draft LoadFault
 turned g limit n rest (Ok more) = after_rows g limit (n + 1) more rest
 turned g limit n rest (Err c) = Err (record { line = n; cause = c })
 
@@ -92,7 +92,7 @@ pub step-err : (g : Sequences) (limit n : ℕ) (c : Cursor) (line : List ℕ) (s
 step-err g limit n c line size f on h =
     ap (after_rows g limit n (known c)) (line-found c.text c.at size line on) ∙ ap (turned g limit n (lines (drop (c.at + size) c.text))) h
 
-full-row : (limit : ℕ) (rows : List Row) (r : Row) → limit ≤ length rows → with_row limit rows (Ok r) ≡ Err cause.TooMany
+pub full-row : (limit : ℕ) (rows : List Row) (r : Row) → limit ≤ length rows → with_row limit rows (Ok r) ≡ Err cause.TooMany
 full-row limit rows r full = cond-true _ _ _ (le-leb limit (length rows) full)
 
 -- a record that is one too many
@@ -103,7 +103,7 @@ too-many g limit c line w p unread is low high says full =
     let many : limit ≤ length (known c).rows = omega (arith, full, length-map c.places (row_at (unwrap_or c.width 0) c.text)) in
     row-taken g limit (known c) line w (Err cause.TooMany) unread is low high (ap (with_row limit (known c).rows) says ∙ full-row limit (known c).rows (row_of w line p) many)
 
-free-row : (limit : ℕ) (rows : List Row) (r : Row) → length rows < limit → with_row limit rows (Ok r) ≡ Ok (rows ++ r ∷ [])
+pub free-row : (limit : ℕ) (rows : List Row) (r : Row) → length rows < limit → with_row limit rows (Ok r) ≡ Ok (rows ++ r ∷ [])
 free-row limit rows r free = by (nat_le limit (length rows)) refl
   where
     by : (t : Bool) → nat_le limit (length rows) ≡ t → cond t (Err cause.TooMany) (Ok (rows ++ r ∷ [])) ≡ Ok (rows ++ r ∷ [])

@@ -1,5 +1,5 @@
 -- The records of one sequence, in front of those of later ones.
-use Rattle.std.proofs.Common.{ℕ, zero, suc, ◌+◌, ◌<◌, ◌≤◌, ◌≡◌, ◌==◌, nat_le, nat_lt, inl, inr, Bool, true, false, List, [], ◌∷◌, refl, sym, ap, ◌∙◌, subst, All, get_or, length, take, drop, filter, arith, eq-eqb, eqb-true, lt-ltb, ltb-true, le-leb, leb-true}
+use Rattle.std.proofs.Common.{ℕ, zero, suc, ◌+◌, ◌<◌, ◌≤◌, ◌≡◌, ◌==◌, nat_le, nat_lt, inl, inr, Bool, true, false, List, [], ◌∷◌, refl, sym, ap, ◌∙◌, subst, All, get_or, length, map, take, drop, filter, arith, eq-eqb, eqb-true, lt-ltb, ltb-true, le-leb, leb-true}
 use Rattle.std.specs.List.{AllByRecursion}
 use Rattle.std.specs.List.Sorted.{IsPartitionedBy, IsPartitionPoint}
 use Rattle.std.proofs.lemmas.Bool.{and_parts, and_from, le-ltb, ne_eqb, leb-false}
@@ -12,58 +12,56 @@ use Rattle.iv_cover.proofs.Cover.{same_tests}
 use Rattle.iv_cover.proofs.InOrder.{in_order-filter}
 use Rattle.iv_cover.proofs.Merging.{precedes-from}
 use Rattle.iv_cover.proofs.Tests.{mem-all, mem-filter, filter-filter, filter-agree, filter-all}
-use Rattle.iv_index.specs.declared.place.Place.{Place}
-use Rattle.iv_index.specs.Places.{rows_at, row_at}
 
-module _ (width : ℕ) (text : List ℕ) (rank : ℕ) where
+module _ {X : Type 0} (row : X → Row) (rank : ℕ) where
   -- each of these records is on this sequence or a later one
-  low-at : (r : Row) (places : List Place) → AllByRecursion (λ y. is_le (row_cmp r y) ≡ true) (rows_at width text places)
-      → (j : ℕ) (d : Place) → j < length places → r.seq ≤ (get_or places j d).seq
+  low-at : (r : Row) (places : List X) → AllByRecursion (λ y. is_le (row_cmp r y) ≡ true) (map row places)
+      → (j : ℕ) (d : X) → j < length places → r.seq ≤ (row (get_or places j d)).seq
   low-at r [] all j d lt = absurd (omega arith)
-  low-at r (p ∷ places) all zero d lt = elim (precedes-from r (row_at width text p) all.0) [
+  low-at r (p ∷ places) all zero d lt = elim (precedes-from r (row p) all.0) [
     | inl less ↦ omega arith
     | inr same ↦ omega (arith, same.0)
   ]
   low-at r (p ∷ places) all (suc j) d lt = low-at r places all.1 j d (omega arith)
 
   -- those up to a rank come first
-  parted : (places : List Place) → AreInOrder (rows_at width text places) → IsPartitionedBy (λ place. nat_le place.seq rank) places
+  parted : (places : List X) → AreInOrder (map row places) → IsPartitionedBy (λ place. nat_le (row place).seq rank) places
   parted [] order i j d le lt e = absurd (omega arith)
   parted (p ∷ places) order zero zero d le lt e = e
   parted (p ∷ places) order zero (suc j) d le lt e =
-      let low : p.seq ≤ (get_or places j d).seq = low-at (row_at width text p) places order.0 j d (omega arith) in
-      le-leb p.seq rank (omega (arith, leb-true (get_or places j d).seq rank e))
+      let low : (row p).seq ≤ (row (get_or places j d)).seq = low-at (row p) places order.0 j d (omega arith) in
+      le-leb (row p).seq rank (omega (arith, leb-true (row (get_or places j d)).seq rank e))
   parted (p ∷ places) order (suc i) zero d le lt e = absurd (omega arith)
   parted (p ∷ places) order (suc i) (suc j) d le lt e = parted places order.1 i j d (omega arith) (omega arith) e
 
   -- where none is below the rank, they are the records on it, and those after them are on later ones
-  split-here : (places : List Place) (n : ℕ) → n ≤ length places
-      → IsPartitionPoint (λ place. nat_le place.seq rank ≡ true) (λ place. nat_le place.seq rank ≡ false) places n
-      → All (λ r. rank ≤ r.seq) (rows_at width text places)
-      → (take n (rows_at width text places) ≡ on rank (rows_at width text places))
-      × (drop n (rows_at width text places) ≡ filter (λ r. nat_lt rank r.seq) (rows_at width text places))
+  split-here : (places : List X) (n : ℕ) → n ≤ length places
+      → IsPartitionPoint (λ place. nat_le (row place).seq rank ≡ true) (λ place. nat_le (row place).seq rank ≡ false) places n
+      → All (λ r. rank ≤ r.seq) (map row places)
+      → (take n (map row places) ≡ on rank (map row places))
+      × (drop n (map row places) ≡ filter (λ r. nat_lt rank r.seq) (map row places))
   split-here [] zero within point from = (refl, refl)
   split-here [] (suc n) within point from = absurd (omega arith)
   split-here (p ∷ places) zero within point from =
       let rest = split-here places zero (omega arith) ((λ k d low high. absurd (omega arith)), (λ k d low high. point.1 (suc k) d (omega arith) (omega arith)))
-      (All-tail (λ (r : Row). rank ≤ r.seq) (row_at width text p) (rows_at width text places) from) in
-      let past : rank < p.seq = leb-false p.seq rank (point.1 0 p (omega arith) (omega arith)) in
-      let off : (p.seq == rank) ≡ false = ne_eqb p.seq rank (λ at. omega (arith, past, at)) in
-      let later : nat_lt rank p.seq ≡ true = lt-ltb rank p.seq past in
-      (rw off rest.0, rw later (ap (λ (l : List Row). row_at width text p ∷ l) rest.1))
+      (All-tail (λ (r : Row). rank ≤ r.seq) (row p) (map row places) from) in
+      let past : rank < (row p).seq = leb-false (row p).seq rank (point.1 0 p (omega arith) (omega arith)) in
+      let off : ((row p).seq == rank) ≡ false = ne_eqb (row p).seq rank (λ at. omega (arith, past, at)) in
+      let later : nat_lt rank (row p).seq ≡ true = lt-ltb rank (row p).seq past in
+      (rw off rest.0, rw later (ap (λ (l : List Row). row p ∷ l) rest.1))
   split-here (p ∷ places) (suc n) within point from =
       let rest = split-here places n (omega arith) ((λ k d low high. point.0 (suc k) d (omega arith) (omega arith)), (λ k d low high. point.1 (suc k) d (omega arith) (omega arith)))
-      (All-tail (λ (r : Row). rank ≤ r.seq) (row_at width text p) (rows_at width text places) from) in
-      let first : rank ≤ p.seq = All-head (λ (r : Row). rank ≤ r.seq) (row_at width text p) (rows_at width text places) from in
-      let low : p.seq ≤ rank = leb-true p.seq rank (point.0 0 p (omega arith) (omega arith)) in
-      let on_it : (p.seq == rank) ≡ true = eq-eqb p.seq rank (omega (arith, first, low)) in
-      let not_later : nat_lt rank p.seq ≡ false = le-ltb rank p.seq low in
-      (rw on_it (ap (λ (l : List Row). row_at width text p ∷ l) rest.0), rw not_later rest.1)
+      (All-tail (λ (r : Row). rank ≤ r.seq) (row p) (map row places) from) in
+      let first : rank ≤ (row p).seq = All-head (λ (r : Row). rank ≤ r.seq) (row p) (map row places) from in
+      let low : (row p).seq ≤ rank = leb-true (row p).seq rank (point.0 0 p (omega arith) (omega arith)) in
+      let on_it : ((row p).seq == rank) ≡ true = eq-eqb (row p).seq rank (omega (arith, first, low)) in
+      let not_later : nat_lt rank (row p).seq ≡ false = le-ltb rank (row p).seq low in
+      (rw on_it (ap (λ (l : List Row). row p ∷ l) rest.0), rw not_later rest.1)
 
   -- so a search among the places of records in order finds how many there are
-  pub split-rows : (places : List Place) (rows : List Row) (n : ℕ) → rows_at width text places ≡ rows → AreInOrder rows → All (λ r. rank ≤ r.seq) rows
+  pub split-rows : (places : List X) (rows : List Row) (n : ℕ) → map row places ≡ rows → AreInOrder rows → All (λ r. rank ≤ r.seq) rows
       → n ≤ length places
-      → (IsPartitionedBy (λ place. nat_le place.seq rank) places → IsPartitionPoint (λ place. nat_le place.seq rank ≡ true) (λ place. nat_le place.seq rank ≡ false) places n)
+      → (IsPartitionedBy (λ place. nat_le (row place).seq rank) places → IsPartitionPoint (λ place. nat_le (row place).seq rank ≡ true) (λ place. nat_le (row place).seq rank ≡ false) places n)
       → (take n rows ≡ on rank rows) × (drop n rows ≡ filter (λ r. nat_lt rank r.seq) rows)
   split-rows places rows n is order from within found =
       subst (λ (l : List Row). (take n l ≡ on rank l) × (drop n l ≡ filter (λ r. nat_lt rank r.seq) l)) is

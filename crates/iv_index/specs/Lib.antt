@@ -2,3 +2,5 @@ pub mod Places
 pub mod Drafts
 pub mod Cover
 pub mod Joins
+pub mod Spans
+pub mod SpanDrafts

@@ -1,4 +1,4 @@
-//! The records of a BED file as places in its text.
+//! The records of a BED file as places in its text, or as places alone.
 #![tactic(auto)]
 
 mod bed_text;
@@ -7,11 +7,21 @@ mod join;
 mod optional_columns;
 mod order;
 mod place;
+mod span;
+mod span_draft;
+mod span_lines;
+mod span_order;
+mod span_sequence;
+mod spans;
 mod text_draft;
 mod text_record;
 mod text_records;
 
 pub use bed_text::BedText;
 pub use place::Place;
+pub use span::Span;
+pub use span_draft::SpanDraft;
+pub use span_sequence::split_sequence;
+pub use spans::Spans;
 pub use text_record::TextRecord;
 pub use text_records::TextRecords;

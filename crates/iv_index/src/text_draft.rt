@@ -32,7 +32,7 @@ impl<'t, A: Allocator> Model for TextDraft<'t, A> {
 }
 
 /// The place of the record that a line means at a width, or its first fault.
-fn read_place<'t, A: Allocator + Copy>(
+pub(crate) fn read_place<'t, A: Allocator + Copy>(
     reader: &mut RecordReader<'_, 't, A>,
     width: u8,
     line: &'t [u8],
@@ -55,19 +55,19 @@ fn read_place<'t, A: Allocator + Copy>(
     })
 }
 
-/// Adds a place at the end.
-fn push_place<A: Allocator>(places: &mut Vec<Place, A>, place: Place) -> Result<(), AllocError>
+/// Adds one at the end.
+fn push_place<P: Copy, A: Allocator>(places: &mut Vec<P, A>, place: P) -> Result<(), AllocError>
     ensures { OnOk result (places.new.items ≡ places.old.items ++ place ∷ []) }
 {
     places.push(place)?;
     Ok(())
 }
 
-/// Takes one more place, unless there are as many as the limit.
-fn take_place<A: Allocator>(
-    places: &mut Vec<Place, A>,
+/// Takes one more, unless there are as many as the limit.
+pub(crate) fn take_place<P: Copy, A: Allocator>(
+    places: &mut Vec<P, A>,
     limit: u32,
-    place: Place,
+    place: P,
 ) -> Result<(), LoadCause>
     ensures ok { OnOk result (places.new.items ≡ places.old.items ++ place ∷ []) }
     ensures free { OnOk result (length places.old.items < limit) }

@@ -2,3 +2,5 @@ pub mod ReadingLemmas
 pub mod LoadLemmas
 pub mod ShotLemmas
 mod PlacesAlone
+pub mod SpanLemmas
+pub mod PlacesLemmas

@@ -1,5 +1,5 @@
 -- Damaged files.
-use Rattle.std.proofs.Common.{◌≡◌, ℕ, List, Option, Result, Ok, Err, refl, sym, ap, ◌∙◌, ◌⊎◌, inl, inr}
+use Rattle.std.proofs.Common.{◌≡◌, ℕ, List, Option, Result, Ok, Err, refl, sym, ap, subst, ◌∙◌, ◌⊎◌, inl, inr}
 use Rattle.iv_text.specs.Genome.{Sequences}
 use Rattle.iv_text.specs.GenomeFile.{genome_of}
 use Rattle.iv_text.specs.BedFile.{Bed, bed_of}
@@ -29,18 +29,22 @@ reported cause.TooMany damaged = inr refl
 abbrev pub IsWhy : {T : Type 0} → LoadFault → Result T LoadFault → Type 0
 IsWhy f said = (f ≡ record { line = 0; cause = cause.Memory }) ⊎ (said ≡ Err f)
 
--- a fault of one file is out of memory, or what the whole is reported as where the file's damage is that
-reported-by : {S T : Type 0} (slot : Slot) (f : LoadFault) (said : Result S LoadFault) (whole : Result T CliFault)
-    → (said ≡ Err f → whole ≡ Err (Damaged slot f)) → IsWhy f said → (damage_of slot f ≡ Memory) ⊎ (whole ≡ Err (damage_of slot f))
-reported-by slot f said whole leads (inl memory) = inl (ap (damage_of slot) memory)
-reported-by slot f said whole leads (inr is) = elim (reported f.cause (Damaged slot f)) [
+-- a fault of one file is out of memory, or what holds of the damage that the text shows, where that is the reason, holds of it
+pub reported-by : {W : Type 0} (slot : Slot) (f : LoadFault) (P : CliFault → Type 0)
+    → (W → P (Damaged slot f)) → (f ≡ record { line = 0; cause = cause.Memory }) ⊎ W → (damage_of slot f ≡ Memory) ⊎ P (damage_of slot f)
+reported-by slot f P leads (inl memory) = inl (ap (damage_of slot) memory)
+reported-by slot f P leads (inr is) = elim (reported f.cause (Damaged slot f)) [
   | inl memory ↦ inl (ap (λ c. fault_of c (Damaged slot f)) memory)
-  | inr same ↦ inr (leads is ∙ ap Err (sym same))
+  | inr same ↦ inr (subst P (sym same) (leads is))
 ]
 
 module _ (width : ℕ) (sizes first : List ℕ) (other bases : Option (List ℕ)) (limit : ℕ) where
+  -- this is the first fault of the files
+  abbrev IsFault : CliFault → Type 0
+  IsFault k = parsed width sizes first other bases limit ≡ Err k
+
   pub genome-damaged : (f : LoadFault) → IsWhy f (genome_of sizes) → (damage_of Sizes f ≡ Memory) ⊎ (parsed width sizes first other bases limit ≡ Err (damage_of Sizes f))
-  genome-damaged f why = reported-by Sizes f (genome_of sizes) (parsed width sizes first other bases limit) (ap (with_genome width first other bases limit)) why
+  genome-damaged f why = reported-by Sizes f IsFault (ap (with_genome width first other bases limit)) why
 
   -- the genome file is sound
   module _ (g : Sequences) (genome : genome_of sizes ≡ Ok g) where
@@ -49,21 +53,33 @@ module _ (width : ℕ) (sizes first : List ℕ) (other bases : Option (List ℕ)
 
     pub first-damaged : (f : LoadFault) → IsWhy f (bed_of g width limit first) → (damage_of First f ≡ Memory) ⊎ (parsed width sizes first other bases limit ≡ Err (damage_of First f))
     first-damaged f why =
-        reported-by First f (bed_of g width limit first) (parsed width sizes first other bases limit) (λ is. past-genome ∙ ap (with_first g width other bases limit) is) why
+        reported-by First f IsFault (λ is. past-genome ∙ ap (with_first g width other bases limit) is) why
 
     -- the first BED file is sound
     module _ (bed : Bed) (sound : bed_of g width limit first ≡ Ok bed) where
-      past-first : parsed width sizes first other bases limit ≡ with_second g bed bases limit (second_of g width limit other)
+      pub past-first : parsed width sizes first other bases limit ≡ with_second g bed bases limit (second_of g width limit other)
       past-first = past-genome ∙ ap (with_first g width other bases limit) sound
 
       pub second-damaged : (f : LoadFault) → IsWhy f (second_of g width limit other) → (damage_of Other f ≡ Memory) ⊎ (parsed width sizes first other bases limit ≡ Err (damage_of Other f))
       second-damaged f why =
-          reported-by Other f (second_of g width limit other) (parsed width sizes first other bases limit) (λ is. past-first ∙ ap (with_second g bed bases limit) is) why
+          reported-by Other f IsFault (λ is. past-first ∙ ap (with_second g bed bases limit) is) why
 
       -- the second BED file is sound, or there is none
       module _ (second : Option Bed) (whole : second_of g width limit other ≡ Ok second) where
-        past-second : parsed width sizes first other bases limit ≡ with_bases g bed second limit (bases_said g bases)
+        pub past-second : parsed width sizes first other bases limit ≡ with_bases g bed second limit (bases_said g bases)
         past-second = past-first ∙ ap (with_second g bed bases limit) whole
 
         pub bases-damaged : (f : LoadFault) → IsWhy f (bases_said g bases) → (damage_of Bases f ≡ Memory) ⊎ (parsed width sizes first other bases limit ≡ Err (damage_of Bases f))
-        bases-damaged f why = reported-by Bases f (bases_said g bases) (parsed width sizes first other bases limit) (λ is. past-second ∙ ap (with_bases g bed second limit) is) why
+        bases-damaged f why = reported-by Bases f IsFault (λ is. past-second ∙ ap (with_bases g bed second limit) is) why
+
+-- the genome file and the first BED file are sound, whatever that says: the fault of the others
+module _ (g : Sequences) (width : ℕ) (other bases : Option (List ℕ)) (limit : ℕ) where
+  abbrev IsLater : CliFault → Type 0
+  IsLater k = (first : Bed) → with_second g first bases limit (second_of g width limit other) ≡ Err k
+
+  pub second-damaged_later : (f : LoadFault) → IsWhy f (second_of g width limit other) → (damage_of Other f ≡ Memory) ⊎ IsLater (damage_of Other f)
+  second-damaged_later f why = reported-by Other f IsLater (λ is first. ap (with_second g first bases limit) is) why
+
+  pub bases-damaged_later : (second : Option Bed) → second_of g width limit other ≡ Ok second → (f : LoadFault) → IsWhy f (bases_said g bases) → (damage_of Bases f ≡ Memory) ⊎ IsLater (damage_of Bases f)
+  bases-damaged_later second whole f why =
+      reported-by Bases f IsLater (λ is first. ap (with_second g first bases limit) whole ∙ ap (with_bases g first second limit) is) why

@@ -1,24 +1,14 @@
 -- A run by one sweep.
-use Rattle.std.proofs.Common.{◌≡◌, ◌⊎◌, inl, inr, ℕ, false, List, [], map, Option, Result, Ok, Err, refl, sym, ap, ◌∙◌, subst}
-use Rattle.std.specs.Prelude.{All}
-use Rattle.std.specs.Option.{is_some}
-use Rattle.iv_bytes.specs.Sinks.{SinkState, Takes}
+use Rattle.std.proofs.Common.{◌≡◌, ◌⊎◌, inl, inr, ℕ, List, Option, Result, Ok, Err, refl, ap, ◌∙◌}
+use Rattle.iv_bytes.specs.Sinks.{SinkState}
 use Rattle.iv_text.specs.BedFile.{Bed, bed_of}
 use Rattle.iv_text.specs.Genome.{Sequences}
 use Rattle.iv_text.specs.GenomeFile.{genome_of}
-use Rattle.iv_text.specs.Ordered.{ordered}
-use Rattle.iv_text.specs.Read.{IsOnGenome}
 use Rattle.iv_text.specs.declared.fault.LoadFault.{LoadFault}
-use Rattle.iv_index.specs.Places.{bare}
-use Rattle.iv_index.proofs.BareLemmas.{on_genome-bare, ordered-bare}
-use Rattle.iv_index.proofs.SortedLemmas.{on_genome-sorted}
 use Rattle.iv_fasta.specs.Fasta.{Bases}
-use Rattle.iv_view.specs.Views.{kept_text, read_words, view_text}
 use Rattle.iv_view.specs.declared.fault.ViewFault.{ViewFault}
 use Rattle.iv_view.specs.declared.fault.ViewFault.TheVariants as viewing
-use Rattle.iv_view.specs.declared.view.KeptView.{KeptView}
 use Rattle.iv_view.specs.declared.view.View.{View}
-use Rattle.iv_run.specs.Places.{NeedsPlacesAlone}
 use Rattle.iv_run.specs.Prints.{Prints}
 use Rattle.iv_run.specs.declared.fault.CliFault.{CliFault}
 use Rattle.iv_run.specs.declared.fault.CliFault.TheVariants as fault
@@ -82,22 +72,3 @@ module _ (said : Result Parsed CliFault) (files : Parsed) (is : said ≡ Ok file
   shows-text view asked old new (Err fault.Memory) same = same
   shows-text view asked old new (Err (fault.Words code)) prints = absurd prints
   shows-text view asked old new (Err (fault.Damaged slot damage)) prints = absurd prints
-
--- ---- records that are sorted for a view
-
--- the records that are sorted: those of the file, or where the view needs no more of them, their places
-abbrev pub AreEnough : KeptView → Bed → Bed → Type 0
-AreEnough view file left = (left ≡ file) ⊎ (NeedsPlacesAlone view × (left ≡ record file { width = 3; rows = map bare file.rows }))
-
-module _ (view : KeptView) (file left sorted : Bed) (is : sorted ≡ record left { rows = ordered left.rows }) (g : Sequences) where
-  -- they have the text of all the file's records in track order
-  pub text-sorted_for : AreEnough view file left → kept_text view g sorted.rows ≡ kept_text view g (ordered file.rows)
-  text-sorted_for (inl same) = ap (λ (b : Bed). kept_text view g b.rows) is ∙ ap (λ (b : Bed). kept_text view g (ordered b.rows)) same
-  text-sorted_for (inr (needs, same)) =
-      ap (λ (b : Bed). kept_text view g b.rows) is ∙ ap (λ (b : Bed). kept_text view g (ordered b.rows)) same
-      ∙ ap (kept_text view g) (ordered-bare file.rows) ∙ needs g (ordered file.rows)
-
-  -- and lie where those do
-  pub on_genome-sorted_for : AreEnough view file left → All (IsOnGenome g) file.rows → All (IsOnGenome g) sorted.rows
-  on_genome-sorted_for (inl same) lie = on_genome-sorted g left sorted (subst (λ (b : Bed). All (IsOnGenome g) b.rows) (sym same) lie) is
-  on_genome-sorted_for (inr (needs, same)) lie = on_genome-sorted g left sorted (subst (λ (b : Bed). All (IsOnGenome g) b.rows) (sym same) (on_genome-bare g file.rows lie)) is

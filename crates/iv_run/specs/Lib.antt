@@ -3,3 +3,5 @@ pub mod Loading
 pub mod Shots
 pub mod Prints
 pub mod Places
+pub mod PlacesViews
+pub mod SpanFiles

@@ -1,36 +1,23 @@
-//! The views of the records of one text: merge, cluster, complement and genomecov.
-ghost use Rattle.std.specs.Prelude.{◌≡◌, All, Err, IsTrue};
+//! The views of the records of one text that need their columns: cluster, and a merge of each strand or with summaries.
+ghost use Rattle.std.specs.Prelude.{◌≡◌, All, Err};
 ghost use Rattle.iv_text.specs.Ordered.{AreInOrder};
 ghost use Rattle.iv_text.specs.Read.{IsOnGenome};
-ghost use Rattle.iv_run.specs.Places.{NeedsPlacesAlone};
+ghost use Rattle.iv_run.specs.PlacesViews.{NeedsColumns};
 ghost use Rattle.iv_run.specs.Prints.{Prints};
 ghost use Rattle.iv_view.specs.Views.{kept_text};
 
 use crate::fault::CliFault;
-use iv_blocks::{MergeSweep, put_cluster, put_complement, put_merge};
+use iv_blocks::{MergeSweep, put_cluster};
 use iv_bytes::{Buffered, Sink};
-use iv_depth::DepthSweep;
 use iv_index::TextRecords;
 use iv_text::Genome;
 use iv_view::KeptView;
 use std::alloc::Allocator;
 
-/// Whether the rows of a view depend on nothing of a record but its place, as those of `complement`, of `genomecov`, and of a
-/// `merge` that joins both strands and prints no summary.
-pub(crate) fn needs_places_alone(view: &KeptView) -> bool
-    ensures { IsTrue result → NeedsPlacesAlone view.now }
-{
-    match view {
-        KeptView::Merge(options) => options.is_plain(),
-        KeptView::Cluster(_) => false,
-        KeptView::Complement(_) | KeptView::Genomecov(_) => true,
-    }
-}
-
 /// Prints the text of a view, for records in the order of a track that are on the genome, through one buffer.
 ///
-/// All memory is had before the first byte is printed: room for a stop of each record for `genomecov`, and for a value of each
-/// where a merge asks for `distinct`. The other views take none.
+/// All memory is had before the first byte is printed: room for a value of each record where a merge asks for `distinct`. Else it
+/// takes none.
 ///
 /// # Errors
 ///
@@ -42,6 +29,7 @@ pub(crate) fn print_kept<'t, A: Allocator + Copy, S: Sink>(
     genome: &'t Genome<A>,
     sink: &mut S,
 ) -> Result<(), CliFault>
+    requires columns { NeedsColumns view }
     requires order { AreInOrder records }
     requires on_genome { All (IsOnGenome genome.now) records }
     ensures { Prints (S.state sink.old) (S.state sink.new) result (kept_text view genome.now records.entry) }
@@ -60,6 +48,7 @@ fn put_kept<'t, A: Allocator + Copy, S: Sink>(
     genome: &'t Genome<A>,
     sink: &mut S,
 ) -> Result<(), CliFault>
+    requires columns { NeedsColumns view }
     requires order { AreInOrder records }
     requires on_genome { All (IsOnGenome genome.now) records }
     ensures text { Prints (S.state sink.old) (S.state sink.new) result (kept_text view genome.now records.entry) }
@@ -67,17 +56,10 @@ fn put_kept<'t, A: Allocator + Copy, S: Sink>(
 {
     match view {
         KeptView::Merge(options) => {
-            if options.is_plain() {
-                put_merge(options.distance, &records, genome, sink)?;
-            } else {
-                MergeSweep::new(alloc, options, records)?.print(genome, sink)?;
-            }
+            MergeSweep::new(alloc, options, records)?.print(genome, sink)?;
         }
         KeptView::Cluster(distance) => put_cluster(distance, &records, genome, sink)?,
-        KeptView::Complement(limited) => put_complement(limited, &records, genome, sink)?,
-        KeptView::Genomecov(shown) => {
-            DepthSweep::new(alloc, records)?.print(shown, genome, sink)?;
-        }
+        KeptView::Complement(_) | KeptView::Genomecov(_) => unreachable!(),
     }
     Ok(())
 }

@@ -8,7 +8,10 @@ mod kept_rows;
 mod laws;
 mod one_shot;
 mod pair_rows;
+mod places_view;
 mod reading;
+mod span_files;
+mod span_shot;
 mod text_files;
 
 pub use fault::{CliFault, FileFault};
@@ -16,3 +19,4 @@ pub use inputs::{Inputs, ParsedFiles, load};
 pub use laws::too_long_above_the_limit;
 pub use one_shot::shot;
 pub use reading::read_all;
+pub use span_shot::{shot_in_pieces, shows_places_alone};

@@ -6,6 +6,8 @@ ghost use Rattle.iv_run.specs.Shots.{Shows, shown};
 
 use crate::fault::CliFault;
 use crate::inputs::Inputs;
+use crate::places_view::PlacesView;
+use crate::span_shot::shot_of_places;
 use crate::text_files::TextFiles;
 use iv_args::Plan;
 use iv_bytes::Sink;
@@ -35,6 +37,9 @@ pub fn shot<A: Allocator + Copy, S: Sink>(
     ensures { Shows (S.state sink.old) (S.state sink.new) result
         (shown plan.now inputs.now.sizes.now inputs.now.first.now (option_copied inputs.now.other) (option_map (λ text. text.items) bases) limit) }
 {
+    if let Some(view) = PlacesView::of_plan(plan) {
+        return shot_of_places(alloc, plan, view, inputs, bases, limit, sink);
+    }
     let files = TextFiles::read(alloc, plan, inputs, bases, limit)?;
     let view = plan.view_beside(files.width(), files.has_second(), files.has_bases())?;
     match view {

@@ -8,6 +8,7 @@ ghost use Rattle.iv_text.specs.Row.{Row};
 ghost use Rattle.iv_text.specs.declared.fault.LoadCause.TheVariants as cause;
 ghost use Rattle.iv_fasta.specs.FastaRows.{fasta_text};
 ghost use Rattle.iv_pair.specs.PairRows.{pair_text};
+ghost use Rattle.iv_run.specs.PlacesViews.{NeedsColumns};
 ghost use Rattle.iv_run.specs.Prints.{Prints};
 ghost use Rattle.iv_pair.specs.CoverAlone.{DependsOnCoverAlone, HaveBases};
 ghost use Rattle.iv_view.specs.Views.{kept_text};
@@ -17,7 +18,7 @@ ghost use Rattle.iv_run.specs.Shots.{ordered_other};
 use crate::fasta_rows::print_fasta;
 use crate::fault::CliFault;
 use crate::inputs::{Inputs, parse_fasta};
-use crate::kept_rows::{needs_places_alone, print_kept};
+use crate::kept_rows::print_kept;
 use crate::pair_rows::print_pairs;
 use iv_args::{Plan, Slot};
 use iv_bytes::Sink;
@@ -53,7 +54,7 @@ impl<'t, A: Allocator + Copy> Model for TextFiles<'t, A> {
 }
 
 /// What the second BED file says, where there is one, or its first fault.
-fn parse_second_text<'t, A: Allocator + Copy>(
+pub(crate) fn parse_second_text<'t, A: Allocator + Copy>(
     alloc: A,
     genome: &Genome<A>,
     width: u8,
@@ -70,24 +71,6 @@ fn parse_second_text<'t, A: Allocator + Copy>(
         None => Ok(None),
         Some(text) => Ok(Some(BedText::parse(alloc, genome, width, limit, text)?)),
     }
-}
-
-/// Sorts the records of a file in the order of a track, for one print of a view. Columns on which no row of the view depends
-/// are let go first, so that places alone are compared.
-fn sort_for<'t, A: Allocator + Copy>(
-    alloc: A,
-    view: &KeptView,
-    file: &mut BedText<'t, A>,
-) -> Result<(), AllocError>
-    ensures text { OnOk result ((genome : Sequences) → kept_text view.now genome file.new.rows ≡ kept_text view.now genome (ordered file.old.rows)) }
-    ensures order { OnOk result (AreInOrder file.new.rows) }
-    ensures on_genome { OnOk result ((genome : Sequences) → All (IsOnGenome genome) file.old.rows → All (IsOnGenome genome) file.new.rows) }
-{
-    if needs_places_alone(view) {
-        file.drop_columns();
-    }
-    file.sort(alloc)?;
-    Ok(())
 }
 
 /// Sorts the records of a second file in the order of a track, for one print of these rows. Where the rows depend only on the
@@ -194,17 +177,18 @@ impl<'t, A: Allocator + Copy> TextFiles<'t, A> {
         view: KeptView,
         sink: &mut S,
     ) -> Result<(), CliFault>
+        requires { NeedsColumns view }
         ensures { Prints (S.state sink.old) (S.state sink.new) result (kept_text view self.entry.genome (ordered self.entry.first.rows)) }
     {
         let TextFiles {
             genome,
-            mut first,
+            first: mut file,
             second: _,
             fasta: _,
             limit: _,
         } = self;
-        sort_for(alloc, &view, &mut first)?;
-        print_kept(alloc, view, first.records(), &genome, sink)
+        file.sort(alloc)?;
+        print_kept(alloc, view, file.records(), &genome, sink)
     }
 
     /// Prints these rows of both files, for their records in the order of a track. There is a second file.

@@ -10,6 +10,14 @@ mod pairs;
 #[cfg(test)]
 mod patterns;
 #[cfg(test)]
+mod piece_faults;
+#[cfg(test)]
+mod piece_fixtures;
+#[cfg(test)]
+mod piece_refusals;
+#[cfg(test)]
+mod piece_runs;
+#[cfg(test)]
 mod read_refusals;
 #[cfg(test)]
 mod run_reading;

@@ -147,6 +147,32 @@ pub(crate) fn cases() -> [Case<'static>; 10] {
     ]
 }
 
+/// A run of each subcommand of which places alone are kept, over the same records.
+pub(crate) fn place_cases() -> [Case<'static>; 5] {
+    let plain = places(0, 5, "", false);
+    let named = places(0, 5, "\tn", true);
+    let with_strand = places(0, 5, "\tn\t0\t-", false);
+    let gaps = places(5, 10, "", false);
+    [
+        alone(b"merge -g g -i a", plain, plain),
+        Case {
+            printed: None,
+            last: "chr1\t0\t295\n",
+            ..alone(b"merge -d 5 -g g -i a", named, plain)
+        },
+        Case {
+            last: "chr2\t0\t50\n",
+            ..alone(b"complement -g g -i a", plain, gaps)
+        },
+        alone(b"complement -L -g g -i a", with_strand, gaps),
+        alone(
+            b"genomecov -bg -g g -i a",
+            named,
+            places(0, 5, "\t1", false),
+        ),
+    ]
+}
+
 /// The texts of a run.
 #[derive(Drop)]
 pub(crate) struct Texts {

@@ -8,7 +8,7 @@ use iv_run::{CliFault, Inputs, shot};
 use std::test::Fail;
 use test_faults::words_of;
 
-const GENOME: &[u8] = b"chr1\t100\nchr2\t50\nchr3\t0\n";
+pub(crate) const GENOME: &[u8] = b"chr1\t100\nchr2\t50\nchr3\t0\n";
 
 /// How many records a file may have.
 const MOST: u32 = 100;

@@ -2,6 +2,7 @@
 //!
 //! What is left of a sound file says the entries of its whole lines. Where it ends within a line, that line says one entry more,
 //! or none, or it has a fault, which is reported with its number. No earlier line can have a fault.
+use crate::span_pieces::spans_of;
 use iv_index::BedText;
 use iv_text::{BedFile, Genome, LoadCause, LoadFault, RecordFault};
 use std::test::Fail;
@@ -17,7 +18,12 @@ enum Kind {
     Records,
     /// As the places of a BED file's records.
     Places,
+    /// As those places alone, of a file that comes in pieces of three bytes.
+    Pieces,
 }
+
+/// The ways to read a BED file.
+const BED_KINDS: [Kind; 3] = [Kind::Records, Kind::Places, Kind::Pieces];
 
 /// How many records a BED file has as places in its text, or its fault.
 fn places_of(rt: &HostRuntime, genome: &Genome, text: &[u8]) -> Result<usize, LoadFault> {
@@ -26,6 +32,12 @@ fn places_of(rt: &HostRuntime, genome: &Genome, text: &[u8]) -> Result<usize, Lo
     }
     let file = BedText::parse(rt.alloc(), genome, 5, 1_000, text)?;
     Ok(file.records().len())
+}
+
+/// How many places a BED file that comes in pieces has, or its fault.
+fn pieces_of(rt: &HostRuntime, genome: &Genome, text: &[u8]) -> Result<usize, LoadFault> {
+    let file = spans_of(rt.alloc(), genome, 1_000, text, 3)?;
+    Ok(file.as_slice().len())
 }
 
 /// How many records a BED file has, or its fault.
@@ -45,6 +57,7 @@ fn entries_of(
         Kind::Sizes => Ok(Genome::parse(rt.alloc(), text)?.count() as usize),
         Kind::Records => records_of(rt, genome, text),
         Kind::Places => places_of(rt, genome, text),
+        Kind::Pieces => pieces_of(rt, genome, text),
     }
 }
 
@@ -146,8 +159,9 @@ fn cut_bed_files(rt: HostRuntime) -> Result<(), Fail> {
         (b"track name=x\nbrowser\n\n#c", b"----"),
         (b"", b""),
     ] {
-        assert!(rt; is_sound(&rt, &genome, Kind::Records, text, marks));
-        assert!(rt; is_sound(&rt, &genome, Kind::Places, text, marks));
+        for kind in BED_KINDS {
+            assert!(rt; is_sound(&rt, &genome, kind, text, marks));
+        }
     }
     Ok(())
 }
@@ -215,8 +229,9 @@ fn cuts_of_one_bed_file(rt: HostRuntime) -> Result<(), Fail> {
         ((20, 20), no_record(2, RecordFault::Order)),
         ((21, 22), Ok(2)),
     ] {
-        assert!(rt; reads_up_to(&rt, &genome, Kind::Records, text, sizes, want));
-        assert!(rt; reads_up_to(&rt, &genome, Kind::Places, text, sizes, want));
+        for kind in BED_KINDS {
+            assert!(rt; reads_up_to(&rt, &genome, kind, text, sizes, want));
+        }
     }
     Ok(())
 }

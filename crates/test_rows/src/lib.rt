@@ -34,6 +34,8 @@ mod sorted_places;
 #[cfg(test)]
 mod sources;
 #[cfg(test)]
+mod span_pieces;
+#[cfg(test)]
 mod std_files;
 #[cfg(test)]
 mod summaries;

@@ -1,4 +1,6 @@
 //! Each growth of reading a genome file and a BED file, refused in turn.
+use crate::span_pieces::spans_of;
+use iv_index::Spans;
 use iv_text::{BedFile, Genome, LoadCause, LoadFault, Record, RecordFault, Strand};
 use std::alloc::{Allocator, Global};
 use std::test::Fail;
@@ -206,5 +208,107 @@ fn damaged_bed_files_without_memory(rt: HostRuntime) -> Result<(), Fail> {
         |alloc| refused_records(&rt, alloc, text, 6, damage),
     )?;
     assert!(rt; COUNT < met);
+    Ok(())
+}
+
+/// Whether the places of a file are just those of the records in that file.
+fn has_places<A: Allocator + Copy>(file: &Spans<A>, width: u8) -> bool {
+    let mut start = 0u32;
+    for span in file.as_slice() {
+        if (span.seq, span.start, span.stop) != (0, start, start.saturating_add(10)) {
+            return false;
+        }
+        start = start.saturating_add(1);
+    }
+    start == COUNT && file.width() == width
+}
+
+/// Reads a BED file in pieces of so many bytes over a genome, and says how often memory was refused, once or never.
+fn refused_spans<'a>(
+    alloc: &'a RefusesNth<Global>,
+    genome: &Genome<&'a RefusesNth<Global>>,
+    text: &[u8],
+    size: usize,
+    width: u8,
+    damage: Option<LoadFault>,
+) -> Result<u32, Fail> {
+    match spans_of(alloc, genome, 1_000, text, size) {
+        Ok(file) if damage.is_none() && has_places(&file, width) => Ok(0),
+        Ok(_) => Err(Fail::new("other places")),
+        Err(fault) => memory_of(fault, damage),
+    }
+}
+
+/// The same over a genome whose growths are all granted.
+fn refused_pieces(
+    rt: &HostRuntime,
+    alloc: &RefusesNth<Global>,
+    text: &[u8],
+    size: usize,
+    width: u8,
+    damage: Option<LoadFault>,
+) -> Result<u32, Fail> {
+    let granting = RefusesNth::new(rt.alloc(), u64::MAX);
+    let genome = Genome::parse(&granting, b"chr1\t100\n")?;
+    refused_spans(alloc, &genome, text, size, width, damage)
+}
+
+/// How often memory was refused, each growth in turn, where a file comes in pieces of so many bytes.
+fn growths_of_pieces(
+    rt: &HostRuntime,
+    text: &[u8],
+    size: usize,
+    width: u8,
+    damage: Option<LoadFault>,
+) -> Result<u32, Fail> {
+    refuse_each(
+        rt.alloc(),
+        |alloc| refused_pieces(rt, alloc, text, size, width, damage),
+    )
+}
+
+/// Whether a file takes a growth at once, and more in pieces of a few bytes.
+fn pieces_take_more(rt: &HostRuntime, text: &[u8], width: u8) -> Result<bool, Fail> {
+    let whole = growths_of_pieces(rt, text, 10_000, width, None)?;
+    for size in [1, 2, 3, 25] {
+        if growths_of_pieces(rt, text, size, width, None)? <= whole {
+            return Ok(false);
+        }
+    }
+    Ok(0 < whole)
+}
+
+/// Places take growths of one vector, and what has come of a line that isn't ended yet some of another.
+#[test]
+fn each_growth_of_pieces_refused(rt: HostRuntime) -> Result<(), Fail> {
+    for width in [3, 6] {
+        let text = bed_file(&rt, width)?;
+        assert!(rt; pieces_take_more(&rt, text.as_bytes(), width)?);
+    }
+    Ok(())
+}
+
+/// Whether a damaged file is reported, or that memory ran out, in pieces of a few bytes and at once.
+fn are_reported(rt: &HostRuntime, text: &[u8], damage: LoadFault) -> Result<bool, Fail> {
+    for size in [1, 3, 10_000] {
+        if growths_of_pieces(rt, text, size, 6, Some(damage))? == 0 {
+            return Ok(false);
+        }
+    }
+    Ok(true)
+}
+
+/// The damage of the last line, with LF and without.
+#[test]
+fn damaged_pieces_without_memory(rt: HostRuntime) -> Result<(), Fail> {
+    for end in ["\nchr1\t1\t2\n", "\nchr1\t1\t2"] {
+        let mut text = bed_file(&rt, 6)?;
+        text.push_str(end)?;
+        let damage = LoadFault {
+            line: 42,
+            cause: LoadCause::Record(RecordFault::Columns),
+        };
+        assert!(rt; are_reported(&rt, text.as_bytes(), damage)?);
+    }
     Ok(())
 }

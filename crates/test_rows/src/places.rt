@@ -202,3 +202,8 @@ fn ways_to_the_records(rt: HostRuntime) -> Result<(), Fail> {
 fn a_place_takes_16_bytes(rt: HostRuntime) {
     assert_eq!(rt; size_of::<iv_index::Place>(), 16);
 }
+
+#[test]
+fn a_place_alone_takes_12_bytes(rt: HostRuntime) {
+    assert_eq!(rt; size_of::<iv_index::Span>(), 12);
+}

@@ -1,6 +1,6 @@
 //! The places of a BED file in the order of a track, and each growth of reading and sorting them, refused in turn.
 use crate::places::{SIZES, bed_text, has_cells};
-use iv_index::TextRecords;
+use iv_index::{Span, Spans, TextRecords};
 use iv_text::{BedFile, Genome, LoadCause, LoadFault, Record};
 use std::alloc::Global;
 use std::test::Fail;
@@ -50,10 +50,41 @@ fn sorts_as_its_file(rt: &HostRuntime, genome: &Genome, text: &[u8]) -> Result<b
     Ok(unsorted && are_same(bed.records(), records.as_slice()))
 }
 
+/// Whether places are those of these records, in order.
+fn are_places_of(spans: &[Span], records: &[Record]) -> bool {
+    if spans.len() != records.len() {
+        return false;
+    }
+    let mut wanted = records.iter();
+    for span in spans {
+        let place = (span.seq, u64::from(span.start), u64::from(span.stop));
+        match wanted.next() {
+            Some(record) if place == (record.seq(), record.start(), record.stop()) => {}
+            _ => return false,
+        }
+    }
+    true
+}
+
+/// Whether the places alone of a text are those of its parsed file, in the order of the file and sorted.
+fn places_sort_as_their_file(rt: &HostRuntime, genome: &Genome, text: &[u8]) -> Result<bool, Fail> {
+    let mut records = BedFile::parse(rt.alloc(), genome, 5, 999, text)?.into_records();
+    let mut places = Spans::parse(rt.alloc(), genome, 5, 999, text)?;
+    let unsorted = are_places_of(places.as_slice(), records.as_slice());
+    records.sort()?;
+    places.sort();
+    Ok(unsorted && are_places_of(places.as_slice(), records.as_slice()))
+}
+
+/// Whether the records of a text and their places alone are sorted as the records of its parsed file.
+fn both_sort_as_their_file(rt: &HostRuntime, genome: &Genome, text: &[u8]) -> Result<bool, Fail> {
+    Ok(sorts_as_its_file(rt, genome, text)? && places_sort_as_their_file(rt, genome, text)?)
+}
+
 #[test]
 fn records_in_the_order_of_a_track(rt: HostRuntime) -> Result<(), Fail> {
     let genome = Genome::parse(rt.alloc(), SIZES)?;
-    assert!(rt; sorts_as_its_file(&rt, &genome, SHUFFLED)?);
+    assert!(rt; both_sort_as_their_file(&rt, &genome, SHUFFLED)?);
     Ok(())
 }
 
@@ -76,7 +107,7 @@ fn records_of_one_start(rt: HostRuntime) -> Result<(), Fail> {
     let genome = Genome::parse(rt.alloc(), SIZES)?;
     for count in [2, 3, 16, 17, 18, 40] {
         let text = tied_lines(&rt, count)?;
-        assert!(rt; sorts_as_its_file(&rt, &genome, text.as_bytes())?);
+        assert!(rt; both_sort_as_their_file(&rt, &genome, text.as_bytes())?);
     }
     Ok(())
 }
@@ -101,7 +132,7 @@ fn records_of_one_place(rt: HostRuntime) -> Result<(), Fail> {
     let genome = Genome::parse(rt.alloc(), SIZES)?;
     for count in [3, 17, 300] {
         let text = named_lines(&rt, count)?;
-        assert!(rt; sorts_as_its_file(&rt, &genome, text.as_bytes())?);
+        assert!(rt; both_sort_as_their_file(&rt, &genome, text.as_bytes())?);
     }
     Ok(())
 }
@@ -139,6 +170,28 @@ fn many_records_of_a_text(rt: HostRuntime) -> Result<(), Fail> {
     let mut bed = bed_text(rt.alloc(), &genome, MANY, text.as_bytes())?;
     bed.sort(rt.alloc())?;
     assert!(rt; are_many(bed.records()));
+    Ok(())
+}
+
+/// Whether places alone are one at each tenth start.
+fn are_many_places(spans: &[Span]) -> bool {
+    let mut start = 0u32;
+    for span in spans {
+        if span.start != start || span.stop != start.wrapping_add(5) {
+            return false;
+        }
+        start = start.wrapping_add(10);
+    }
+    spans.len() == MANY as usize
+}
+
+#[test]
+fn many_places_of_a_text(rt: HostRuntime) -> Result<(), Fail> {
+    let genome = Genome::parse(rt.alloc(), SIZES)?;
+    let text = many_lines(&rt)?;
+    let mut places = Spans::parse(rt.alloc(), &genome, 5, MANY, text.as_bytes())?;
+    places.sort();
+    assert!(rt; are_many_places(places.as_slice()));
     Ok(())
 }
 

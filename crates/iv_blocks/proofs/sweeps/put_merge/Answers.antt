@@ -1,25 +1,36 @@
-use Rattle.std.proofs.Common.{◌∙◌, ◌∷◌, ap, sym}
+use Rattle.std.proofs.Common.{◌≡◌, ◌∙◌, ℕ, List, map}
+use Rattle.std.specs.List.{flat_map}
+use Rattle.std.proofs.lemmas.List.Folds.{flat_map-map}
 use Rattle.iv_bytes.proofs.Putting.{Underway-begin, Underway-more, Underway-fails, Underway-ends, Puts-err}
-use Rattle.iv_cover.specs.TrackBlocks.{Group}
+use Rattle.iv_text.specs.Genome.{Sequences}
+use Rattle.iv_index.specs.Spans.{span_rows}
+use Rattle.iv_index.specs.declared.span.Span.{Span}
+use Rattle.iv_cover.specs.TrackBlocks.{blocks_of}
+use Rattle.iv_blocks.specs.BlockSweeps.{interval_of, interval_row}
+use Rattle.iv_blocks.specs.MergeRows.{merge_text}
+use Rattle.iv_blocks.specs.PlainOptions.{IsPlain}
+use Rattle.iv_blocks.specs.declared.options.Options.{Options}
 use Rattle.iv_blocks.proofs.MergeTexts.{text-blocks}
 use Rattle.iv_blocks.proofs.sweeps.put_merge.Goals as goal
 
-pub loop-found-init : goal.loop-found-init
-loop-found-init g c =
-    let all = c.of_all-found-items.ensures c.args.genome.now c.requires.on_genome in
-    rw (c.into_iter-found-iterator.ensures.into_iter_gives ∙ all) (Underway-begin _ _)
+-- the rows of all blocks are the text
+text-is : (d : ℕ) (g : Sequences) (spans : List Span) (o : Options) → IsPlain d o
+    → flat_map (interval_row g) (map interval_of (blocks_of d g (span_rows spans))) ≡ merge_text o g (span_rows spans)
+text-is d g spans o plain = flat_map-map (interval_row g) interval_of (blocks_of d g (span_rows spans)) ∙ text-blocks d g (span_rows spans) o plain
 
-pub loop-found-preserved : goal.loop-found-preserved
-loop-found-preserved g c =
-    Underway-more _ _ _ _ _ _ (rw (c.in-Some.ensures.steps ∙ ap (λ (b : Group). b ∷ c.next.new.self) (sym c.found.view_is)) at c.loop-found.invariant) c.in_ok-put_block.ensures
+pub loop-block-init : goal.loop-block-init
+loop-block-init g c = rw (c.into_iter-block-iterator.ensures.into_iter_gives ∙ c.of-block-items.ensures c.args.genome.now c.requires.on_genome) (Underway-begin _ _)
+
+pub loop-block-preserved : goal.loop-block-preserved
+loop-block-preserved g c = Underway-more _ _ _ _ _ _ (rw c.in-Some.ensures.steps at c.loop-block.invariant) c.in_ok-put_block.ensures
 
 pub returns-in_err-put_block : goal.returns-in_err-put_block
 returns-in_err-put_block g c = λ o plain.
-    rw (← text-blocks c.args.distance c.args.genome.now c.args.records.now o plain)
+    rw (← text-is c.args.distance c.args.genome.now c.args.spans.now o plain)
     (Puts-err _ _ c.from_residual.result _ c.from_residual.ensures.0
-    (Underway-fails _ _ _ _ _ _ (rw (c.in-Some.ensures.steps ∙ ap (λ (b : Group). b ∷ c.next.new.self) (sym c.found.view_is)) at c.loop-found.invariant) c.in_err-put_block.ensures))
+    (Underway-fails _ _ _ _ _ _ (rw c.in-Some.ensures.steps at c.loop-block.invariant) c.in_err-put_block.ensures))
 
 pub returns : goal.returns
 returns g c = λ o plain.
-    rw (← text-blocks c.args.distance c.args.genome.now c.args.records.now o plain)
-    (Underway-ends _ _ _ (rw c.in-None.ensures.steps.0 at c.loop-found.invariant))
+    rw (← text-is c.args.distance c.args.genome.now c.args.spans.now o plain)
+    (Underway-ends _ _ _ (rw c.in-None.ensures.steps.0 at c.loop-block.invariant))

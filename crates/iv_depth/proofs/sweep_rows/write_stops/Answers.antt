@@ -6,5 +6,5 @@ use Rattle.iv_depth.proofs.sweep_rows.write_stops.Goals as goal
 pub returns-clause-stops : goal.returns-clause-stops
 returns-clause-stops c =
     let i = c.loop-index.invariant in
-    let same : c.loop-index.stops ≡ stops_of c.args.places.now = written-all c.loop-index.index c.args.places.now c.loop-index.stops i.written i.len (omega (arith, c.loop-index-test.false)) in
-    AreStopsOf-sorted c.args.places.now c.sort_unstable.new.self (rw same at c.sort_unstable.ensures.permutation) c.sort_unstable.ensures.sorted
+    let same : c.loop-index.stops ≡ stops_of c.args.spans.now = written-all c.loop-index.index c.args.spans.now c.loop-index.stops i.written i.len (omega (arith, c.loop-index-test.false)) in
+    AreStopsOf-sorted c.args.spans.now c.sort_unstable.new.self (rw same at c.sort_unstable.ensures.permutation) c.sort_unstable.ensures.sorted

@@ -5,6 +5,12 @@ use Rattle.iv_view.specs.declared.view.View.TheVariants as view
 use Rattle.iv_view.specs.declared.written_view.WrittenView.TheVariants as written
 use Rattle.iv_run.proofs.one_shot.shot.Goals as goal
 
+pub print_kept-requires : goal.print_kept-requires
+print_kept-requires g c =
+    let asked = sym (rw (c.width.ensures, c.has_second.ensures, c.has_bases.ensures) at c.in_ok-view.ensures) in
+    let files = c.in_ok-files.files in
+    c.of_plan.ensures.none c.in_default.is c.in-Kept.view files.first.width (is_some files.second) (is_some files.bases) (asked ∙ ap Ok c.in-Kept.is)
+
 pub print_pairs-requires : goal.print_pairs-requires
 print_pairs-requires g c =
     let one = c.in-Written-Paired.is in

@@ -4,9 +4,13 @@ use Rattle.iv_text.specs.Row.{Row}
 use Rattle.iv_text.specs.Ordered.{ordered}
 use Rattle.iv_text.specs.BedFile.{Bed}
 use Rattle.iv_index.specs.Drafts.{AreInOrder}
-use Rattle.iv_index.specs.Places.{HasBase}
+use Rattle.iv_index.specs.Places.{HasBase, row_at}
+use Rattle.iv_index.specs.declared.place.Place.{Place}
 use Rattle.iv_index.proofs.OrderLemmas.{sorted-rows, sorted-by-rows}
 use Rattle.iv_index.proofs.bed_text.BedText.sort.Goals as goal
+
+none : Place
+none = record { seq = 0; start = 0; stop = 0; line = 0 }
 
 pub invariant_of-self : goal.invariant_of-self
 invariant_of-self g c =
@@ -35,7 +39,7 @@ returns-then-are_in_order g c =
     let up : AreInOrder w text places = subst (AreInOrder w text) c.deref.ensures.value (c.are_in_order.ensures.0 c.if-are_in_order.true) in
     let with_rows : List Row → Bed = λ rows. record { width = w; rows = rows } in
     let in_order : Bed → Bed = λ b. record { width = b.width; rows = ordered b.rows } in
-    sym c.self.view_is ∙ ap with_rows (sorted-rows w text places places (IsPermutation-refl places) up) ∙ ap in_order c.self.view_is
+    sym c.self.view_is ∙ ap with_rows (sorted-rows (row_at w text) none places places (IsPermutation-refl places) up) ∙ ap in_order c.self.view_is
 
 pub returns : goal.returns
 returns g c =
@@ -44,6 +48,6 @@ returns g c =
     let moved = IsPermutation-trans c.self.inside.places.items c.order_nearly.new.places.items c.sort_unstable_by.new.self.items c.order_nearly.ensures c.sort_unstable_by.ensures.permutation in
     let with_rows : List Row → Bed = λ rows. record { width = w; rows = rows } in
     let in_order : Bed → Bed = λ b. record { width = b.width; rows = ordered b.rows } in
-    ap with_rows (sorted-rows w text c.self.inside.places.items c.sort_unstable_by.new.self.items moved
-    (sorted-by-rows w text c.sort_unstable_by.new.self.items c.sort_unstable_by.ensures.sorted (λ a r f' k. search rules)))
+    ap with_rows (sorted-rows (row_at w text) none c.self.inside.places.items c.sort_unstable_by.new.self.items moved
+    (sorted-by-rows (row_at w text) c.sort_unstable_by.new.self.items c.sort_unstable_by.ensures.sorted (λ a r f' k. search rules)))
     ∙ ap in_order c.self.view_is

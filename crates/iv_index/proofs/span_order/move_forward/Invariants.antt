@@ -1,0 +1,13 @@
+use Rattle.std.proofs.Common.{◌≡◌, ◌≤◌, length}
+use Rattle.std.specs.List.Sorted.{IsPermutation}
+use Rattle.iv_index.proofs.span_order.move_forward.Given as goal
+
+abbrev pub invariant-loop-at : goal.invariant-loop-at
+invariant-loop-at g l = record {
+  permutation : IsPermutation l.fn.spans.items l.spans.items;
+  len : length l.spans.items ≡ length l.fn.spans.items;
+  within : l.at ≤ l.index;
+}
+
+abbrev pub decreases-loop-at : goal.decreases-loop-at
+decreases-loop-at g l = l.at

@@ -1,0 +1,209 @@
+-- A run whose rows depend on nothing of a record but its place.
+use Rattle.std.proofs.Common.{◌≡◌, ◌⊎◌, inl, inr, ◌↔◌, ℕ, Bool, true, false, true≢false, not, ◌&&◌, List, Option, None, Some, Result, Ok, Err, IfSome, if◌then◌else◌, refl, sym, ap, ◌∙◌, subst}
+use Rattle.std.specs.Prelude.{IsOk, nat_lt}
+use Rattle.std.specs.Bool.{then_some}
+use Rattle.std.specs.Option.{is_some}
+use Rattle.iv_bytes.specs.Sinks.{SinkState}
+use Rattle.iv_text.specs.BedFile.{Bed}
+use Rattle.iv_text.specs.Ordered.{ordered}
+use Rattle.iv_index.specs.Spans.{bare_bed}
+use Rattle.iv_index.proofs.BareLemmas.{ordered-bare}
+use Rattle.iv_blocks.specs.Groups.{listed}
+use Rattle.iv_blocks.specs.PlainOptions.{IsPlain}
+use Rattle.iv_blocks.specs.declared.options.Options.{Options}
+use Rattle.iv_view.specs.Narrowing.{narrowed, has_columns}
+use Rattle.iv_view.specs.Views.{as_merge, beside_second, kept_text, read_words}
+use Rattle.iv_view.proofs.NarrowingLemmas.{fault-narrowed, view-narrowed}
+use Rattle.iv_view.specs.declared.view.View.{View}
+use Rattle.iv_view.specs.declared.view.View.TheVariants as view
+use Rattle.iv_view.specs.declared.view.KeptView.{KeptView}
+use Rattle.iv_view.specs.declared.view.KeptView.TheVariants as kept
+use Rattle.iv_view.specs.declared.fault.ViewFault.{ViewFault}
+use Rattle.iv_view.specs.declared.fault.ViewFault.TheVariants as viewing
+use Rattle.iv_view.specs.declared.written_view.WrittenView.TheVariants as written
+use Rattle.iv_depth.specs.declared.depth_rows.DepthRows.{DepthRows}
+use Rattle.iv_pair.specs.declared.pair_rows.PairRows.{PairRows}
+use Rattle.iv_fasta.specs.declared.rows.FastaRows.{FastaRows}
+use Rattle.iv_args.specs.Words.{RunPlan}
+use Rattle.iv_run.specs.Loading.{Parsed, parsed, bases_said, second_of, with_bases, with_second}
+use Rattle.iv_run.specs.Places.{NeedsPlacesAlone}
+use Rattle.iv_run.specs.PlacesViews.{AskForColumns, AskForPlaces, IsViewOf, NeedsColumns, ShowPlacesAlone}
+use Rattle.iv_run.specs.Prints.{Prints}
+use Rattle.iv_run.specs.Shots.{Shows, shown}
+use Rattle.iv_run.specs.SpanFiles.{PlacesSaid, places_said}
+use Rattle.iv_run.specs.declared.fault.CliFault.{CliFault}
+use Rattle.iv_run.specs.declared.fault.CliFault.TheVariants as fault
+use Rattle.iv_run.specs.declared.places_view.PlacesView.{PlacesView}
+use Rattle.iv_run.specs.declared.places_view.PlacesView.TheVariants as places
+use Rattle.iv_run.proofs.LoadLemmas.{past-first, past-second}
+use Rattle.iv_run.proofs.PlacesAlone.{complement-bare, genomecov-bare, merge-bare}
+use Rattle.iv_run.proofs.ShotLemmas.{shows-damage, shows-text}
+use Rattle.iv_run.proofs.SpanLemmas.{damage-parsed, sound-said}
+
+-- ---- views
+
+-- what holds of each view that a view of places can be holds of the one that it is
+pub of-merge : (distance : ℕ) (P : KeptView → Type 0) → ((o : Options) → IsPlain distance o → P (kept.Merge o)) → (asked : KeptView) → IsViewOf (places.Merge distance) asked → P asked
+of-merge distance P each (kept.Merge options) is = each options is
+of-merge distance P each (kept.Cluster d) is = absurd is
+of-merge distance P each (kept.Complement limited) is = absurd is
+of-merge distance P each (kept.Genomecov rows) is = absurd is
+
+pub of-complement : (limited : Bool) (P : KeptView → Type 0) → P (kept.Complement limited) → (asked : KeptView) → IsViewOf (places.Complement limited) asked → P asked
+of-complement limited P one (kept.Merge options) is = absurd is
+of-complement limited P one (kept.Cluster d) is = absurd is
+of-complement limited P one (kept.Complement asked) is = subst (λ (b : Bool). P (kept.Complement b)) (sym is) one
+of-complement limited P one (kept.Genomecov rows) is = absurd is
+
+pub of-genomecov : (rows : DepthRows) (P : KeptView → Type 0) → P (kept.Genomecov rows) → (asked : KeptView) → IsViewOf (places.Genomecov rows) asked → P asked
+of-genomecov rows P one (kept.Merge options) is = absurd is
+of-genomecov rows P one (kept.Cluster d) is = absurd is
+of-genomecov rows P one (kept.Complement limited) is = absurd is
+of-genomecov rows P one (kept.Genomecov asked) is = subst (λ (d : DepthRows). P (kept.Genomecov d)) (sym is) one
+
+-- nothing but the places of records counts
+needs-places : (v : PlacesView) (asked : KeptView) → IsViewOf v asked → NeedsPlacesAlone asked
+needs-places (places.Merge distance) = of-merge distance NeedsPlacesAlone (λ o plain g rows. merge-bare distance o g rows plain)
+needs-places (places.Complement limited) = of-complement limited NeedsPlacesAlone (λ g rows. complement-bare limited g rows)
+needs-places (places.Genomecov asked) = of-genomecov asked NeedsPlacesAlone (λ g rows. genomecov-bare asked g rows)
+
+-- a merge is a view of places where it is plain
+module _ (b : Bool) (o : Options) (plain : (b ≡ true) ↔ IsPlain o.distance o) where
+  pub merge-places : IfSome (then_some b (places.Merge o.distance)) (λ v. IsViewOf v (kept.Merge o))
+  merge-places = by b plain.0
+    where
+      by : (b : Bool) → (b ≡ true → IsPlain o.distance o) → IfSome (then_some b (places.Merge o.distance)) (λ v. IsViewOf v (kept.Merge o))
+      by true is = is refl
+      by false is = tt
+
+  pub merge-columns : then_some b (places.Merge o.distance) ≡ None → NeedsColumns (kept.Merge o)
+  merge-columns none (places.Merge distance) is = by b (plain.1 (record { far = refl; together = is.together; nothing = is.nothing })) none
+    where
+      by : (b : Bool) → b ≡ true → then_some b (places.Merge o.distance) ≡ None → ⊥
+      by true t e = cc
+      by false t e = true≢false (sym t)
+  merge-columns none (places.Complement limited) is = is
+  merge-columns none (places.Genomecov rows) is = is
+
+-- a cluster is none
+pub cluster-columns : (distance : ℕ) → NeedsColumns (kept.Cluster distance)
+cluster-columns distance (places.Merge d) is = is
+cluster-columns distance (places.Complement limited) is = is
+cluster-columns distance (places.Genomecov rows) is = is
+
+-- ---- the words of a view
+
+-- a view of places is the same on fewer columns and without files
+narrowed-same : (width : ℕ) (b c : Bool) (v : PlacesView) (asked : KeptView) → IsViewOf v asked → narrowed width b c (view.Kept asked) ≡ Ok (view.Kept asked)
+narrowed-same width b c (places.Merge distance) = of-merge distance (λ (k : KeptView). narrowed width b c (view.Kept k) ≡ Ok (view.Kept k))
+    (λ o plain i. as_merge (if not (has_columns width (plain.nothing i)) then Err viewing.Column else if plain.together i && nat_lt width 6 then Err viewing.NoStrand else Ok o))
+narrowed-same width b c (places.Complement limited) = of-complement limited (λ (k : KeptView). narrowed width b c (view.Kept k) ≡ Ok (view.Kept k)) refl
+narrowed-same width b c (places.Genomecov rows) = of-genomecov rows (λ (k : KeptView). narrowed width b c (view.Kept k) ≡ Ok (view.Kept k)) refl
+
+merge-kept : (t u : Bool) (o : Options) (asked : KeptView) → as_merge (if t then Err viewing.Column else if u then Err viewing.NoStrand else Ok o) ≡ Ok (view.Kept asked) → view.Kept (kept.Merge o) ≡ view.Kept asked
+merge-kept true u o asked is = cc
+merge-kept false true o asked is = cc
+merge-kept false false o asked is = cc
+
+second-never : (t : Bool) (rows : PairRows) (asked : KeptView) → beside_second t (Some rows) ≡ Ok (view.Kept asked) → ⊥
+second-never true rows asked is = cc
+second-never false rows asked is = cc
+
+fasta-never : (t u : Bool) (rows : FastaRows) (asked : KeptView)
+    → (if t then Err viewing.NoStrand else if u then Ok (view.Written (written.Getfasta rows)) else Err viewing.NoFasta) ≡ Ok (view.Kept asked) → ⊥
+fasta-never true u rows asked is = cc
+fasta-never false true rows asked is = cc
+fasta-never false false rows asked is = cc
+
+-- a view of which a state is kept is what it was on six columns and beside both files
+narrowed-kept : (width : ℕ) (b c : Bool) (v : View) (asked : KeptView) → narrowed width b c v ≡ Ok (view.Kept asked) → v ≡ view.Kept asked
+narrowed-kept width b c (view.Kept (kept.Merge o)) asked is = merge-kept (not (has_columns width (listed o.summaries))) (o.stranded && nat_lt width 6) o asked is
+narrowed-kept width b c (view.Kept (kept.Cluster distance)) asked is = cc
+narrowed-kept width b c (view.Kept (kept.Complement limited)) asked is = cc
+narrowed-kept width b c (view.Kept (kept.Genomecov rows)) asked is = cc
+narrowed-kept width b c (view.Written (written.Paired rows)) asked is = absurd (second-never b rows asked is)
+narrowed-kept width b c (view.Written (written.Getfasta rows)) asked is = absurd (fasta-never (rows.stranded && nat_lt width 6) c rows asked is)
+
+module _ (words : List (List ℕ)) where
+  -- where no view of places is asked for on six columns, none is on fewer
+  asks-none : ((k : KeptView) → read_words 6 true true words ≡ Ok (view.Kept k) → NeedsColumns k) → AskForColumns words
+  asks-none none asked width b c is = by (read_words 6 true true words) refl
+    where
+      never : (why : ViewFault) → Err why ≡ Ok (view.Kept asked) → NeedsColumns asked
+      never why e = cc
+
+      by : (r : Result View ViewFault) → read_words 6 true true words ≡ r → NeedsColumns asked
+      by (Ok v) e = none asked (e ∙ ap Ok (narrowed-kept width b c v asked (view-narrowed width b c words v e ∙ is)))
+      by (Err why) e = never why (sym (fault-narrowed width b c words why e) ∙ is)
+
+  -- a view of which no state is kept, or a fault
+  pub asks-other : (r : Result View ViewFault) → read_words 6 true true words ≡ r → ((k : KeptView) → r ≡ Ok (view.Kept k) → ⊥) → AskForColumns words
+  asks-other r is other = asks-none (λ k e. absurd (other k (sym is ∙ e)))
+
+  -- a view of which a state is kept
+  module _ (asked : KeptView) (is : read_words 6 true true words ≡ Ok (view.Kept asked)) where
+    pub asks-places : (o : Option PlacesView) → IfSome o (λ v. IsViewOf v asked) → IfSome o (λ v. AskForPlaces words v)
+    asks-places None some = tt
+    asks-places (Some v) some = record {
+      asked = asked;
+      is_view = some;
+      reads = λ width b c. sym (view-narrowed width b c words (view.Kept asked) is) ∙ narrowed-same width b c v asked some;
+    }
+
+    pub asks-columns : NeedsColumns asked → AskForColumns words
+    asks-columns needs = asks-none (λ k e. let same : asked ≡ k = cc (sym is ∙ e) in subst NeedsColumns same needs)
+
+  -- no words ask for both
+  pub asks-never : AskForColumns words → ShowPlacesAlone words → ⊥
+  asks-never columns alone = columns alone.1.asked 6 true true (alone.1.reads 6 true true) alone.0 alone.1.is_view
+
+  pub asks-decides : (o : Option PlacesView) → IfSome o (λ v. AskForPlaces words v) → (o ≡ None → AskForColumns words) → (is_some o ≡ true) ↔ ShowPlacesAlone words
+  asks-decides None some none = (λ e. absurd (true≢false (sym e)), λ alone. absurd (asks-never (none refl) alone))
+  asks-decides (Some v) some none = (λ _. (v, some), λ _. refl)
+
+-- ---- what is shown
+
+sound : {T E : Type 0} (r : Result T E) → IsOk r → (x : T) × (r ≡ Ok x)
+sound (Ok x) is = (x, refl)
+sound (Err e) is = absurd (true≢false (sym is))
+
+module _ (plan : RunPlan) (sizes text : List ℕ) (other bases : Option (List ℕ)) (limit : ℕ) where
+  -- the genome file or the first BED file is damaged
+  pub shows-first-damage : (k : CliFault) (old : SinkState) → (k ≡ fault.Memory) ⊎ (places_said plan.width sizes text limit ≡ Err k) → Shows old old (Err k) (shown plan sizes text other bases limit)
+  shows-first-damage k old why = shows-damage plan.width sizes text other bases limit plan.view k old (by why)
+    where
+      by : (k ≡ fault.Memory) ⊎ (places_said plan.width sizes text limit ≡ Err k) → (k ≡ fault.Memory) ⊎ (parsed plan.width sizes text other bases limit ≡ Err k)
+      by (inl memory) = inl memory
+      by (inr is) = inr (damage-parsed plan.width sizes text limit other bases k is)
+
+  -- both are sound
+  module _ (files : PlacesSaid) (said : places_said plan.width sizes text limit ≡ Ok files) where
+    -- one of the others is damaged
+    pub shows-other-damage : (k : CliFault) (old : SinkState)
+        → (k ≡ fault.Memory) ⊎ ((first : Bed) → with_second files.genome first bases limit (second_of files.genome plan.width limit other) ≡ Err k)
+        → Shows old old (Err k) (shown plan sizes text other bases limit)
+    shows-other-damage k old why = shows-damage plan.width sizes text other bases limit plan.view k old (by why)
+      where
+        by : (k ≡ fault.Memory) ⊎ ((first : Bed) → with_second files.genome first bases limit (second_of files.genome plan.width limit other) ≡ Err k)
+            → (k ≡ fault.Memory) ⊎ (parsed plan.width sizes text other bases limit ≡ Err k)
+        by (inl memory) = inl memory
+        by (inr damaged) =
+            let first = sound-said plan.width sizes text limit files said in
+            inr (past-first plan.width sizes text other bases limit files.genome first.1 first.0 first.2 ∙ damaged first.0)
+
+    -- all are: the text of the view is printed of the places, and so of the records
+    pub shows-places : IsOk (second_of files.genome plan.width limit other) → IsOk (bases_said files.genome bases)
+        → (v : PlacesView) (ask : AskForPlaces plan.view v) (old new : SinkState) (result : Result (Unit {0}) CliFault)
+        → Prints old new result (kept_text ask.asked files.genome (ordered files.first.rows)) → Shows old new result (shown plan sizes text other bases limit)
+    shows-places second_sound bases_sound v ask old new result prints =
+        let first = sound-said plan.width sizes text limit files said in
+        let second = sound (second_of files.genome plan.width limit other) second_sound in
+        let fasta = sound (bases_said files.genome bases) bases_sound in
+        let all : Parsed = record { genome = files.genome; first = first.0; second = second.0; bases = fasta.0; limit = limit } in
+        let is : parsed plan.width sizes text other bases limit ≡ Ok all =
+        past-second plan.width sizes text other bases limit files.genome first.1 first.0 first.2 second.0 second.1 ∙ ap (with_bases files.genome first.0 second.0 limit) fasta.1 in
+        let text_is : kept_text ask.asked files.genome (ordered files.first.rows) ≡ kept_text ask.asked files.genome (ordered first.0.rows) =
+        ap (λ (b : Bed). kept_text ask.asked files.genome (ordered b.rows)) (sym first.3) ∙ ap (kept_text ask.asked files.genome) (ordered-bare first.0.rows)
+        ∙ needs-places v ask.asked ask.is_view files.genome (ordered first.0.rows) in
+        shows-text (parsed plan.width sizes text other bases limit) all is plan.view (view.Kept ask.asked) (ask.reads first.0.width (is_some second.0) (is_some fasta.0)) old new result
+        (subst (Prints old new result) text_is prints)

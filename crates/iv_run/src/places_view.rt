@@ -1,0 +1,105 @@
+//! The views whose rows depend on nothing of a record but its place.
+ghost use Rattle.std.specs.Prelude.{◌≡◌, All, Err, None, IfSome};
+ghost use Rattle.iv_text.specs.Ordered.{AreInOrder};
+ghost use Rattle.iv_text.specs.Read.{IsOnGenome};
+ghost use Rattle.iv_index.specs.Spans.{span_rows};
+ghost use Rattle.iv_run.specs.PlacesViews.{AskForColumns, AskForPlaces, IsViewOf, NeedsColumns};
+ghost use Rattle.iv_run.specs.Prints.{Prints};
+ghost use Rattle.iv_view.specs.Views.{kept_text};
+ghost use Rattle.iv_view.specs.declared.view.KeptView.{KeptView};
+
+use crate::fault::CliFault;
+use iv_args::Plan;
+use iv_blocks::{put_complement, put_merge};
+use iv_bytes::{Buffered, Sink};
+use iv_depth::{DepthRows, DepthSweep};
+use iv_index::Span;
+use iv_text::Genome;
+use iv_view::{KeptView, View};
+use std::alloc::Allocator;
+
+/// A view whose rows depend on nothing of a record but its place.
+#[derive(Clone, Copy, Debug, PartialEq, Eq)]
+pub(crate) enum PlacesView {
+    /// `merge` of both strands together, without summaries: records at most this many bases apart are in one block.
+    Merge(u32),
+    /// `complement`; where this is true, only of sequences with a record.
+    Complement(bool),
+    /// `genomecov`.
+    Genomecov(DepthRows),
+}
+
+impl PlacesView {
+    /// The view of a plan, where it is such a one.
+    pub(crate) fn of_plan<A: Allocator + Copy>(plan: &Plan<'_, A>) -> Option<PlacesView>
+        ensures some { IfSome result (λ shown. AskForPlaces plan.now.view shown) }
+        ensures none { result ≡ None → AskForColumns plan.now.view }
+    {
+        match plan.view_beside(6, true, true) {
+            Ok(View::Kept(view)) => PlacesView::of_view(&view),
+            Ok(View::Written(_)) | Err(_) => None,
+        }
+    }
+
+    /// A view of which a state is kept, where it is such a one.
+    fn of_view(view: &KeptView) -> Option<PlacesView>
+        ensures some { IfSome result (λ shown. IsViewOf shown view.now) }
+        ensures none { result ≡ None → NeedsColumns view.now }
+    {
+        match view {
+            KeptView::Merge(options) => {
+                let merge = PlacesView::Merge(options.distance);
+                options.is_plain().then_some(merge)
+            }
+            KeptView::Cluster(_) => None,
+            KeptView::Complement(limited) => Some(PlacesView::Complement(*limited)),
+            KeptView::Genomecov(shown) => Some(PlacesView::Genomecov(*shown)),
+        }
+    }
+
+    /// Prints the text of the view, for places in the order of a track that are on the genome, through one buffer.
+    ///
+    /// All memory is had before the first byte is printed: room for a stop of each record for `genomecov`, and none for the others.
+    ///
+    /// # Errors
+    ///
+    /// `Memory`, and then nothing was printed. `Output`, and then the sink has taken a prefix of the text. There is no other.
+    pub(crate) fn print<A: Allocator + Copy, S: Sink>(
+        self,
+        alloc: A,
+        spans: &[Span],
+        genome: &Genome<A>,
+        sink: &mut S,
+    ) -> Result<(), CliFault>
+        requires order { AreInOrder (span_rows spans.now) }
+        requires on_genome { All (IsOnGenome genome.now) (span_rows spans.now) }
+        ensures { (view : KeptView) → IsViewOf self view → Prints (S.state sink.old) (S.state sink.new) result (kept_text view genome.now (span_rows spans.now)) }
+    {
+        let mut buffer = Buffered::new(sink);
+        self.put(alloc, spans, genome, &mut buffer)?;
+        buffer.finish()?;
+        Ok(())
+    }
+
+    /// Puts the text of the view straight into the sink. Where memory is refused the sink is not touched.
+    fn put<A: Allocator + Copy, S: Sink>(
+        self,
+        alloc: A,
+        spans: &[Span],
+        genome: &Genome<A>,
+        sink: &mut S,
+    ) -> Result<(), CliFault>
+        requires order { AreInOrder (span_rows spans.now) }
+        requires on_genome { All (IsOnGenome genome.now) (span_rows spans.now) }
+        ensures text { (view : KeptView) → IsViewOf self view → Prints (S.state sink.old) (S.state sink.new) result (kept_text view genome.now (span_rows spans.now)) }
+        ensures alone { result ≡ Err CliFault.Memory → sink.new ≡ sink.old }
+    {
+        match self {
+            PlacesView::Merge(distance) => Ok(put_merge(distance, spans, genome, sink)?),
+            PlacesView::Complement(limited) => Ok(put_complement(limited, spans, genome, sink)?),
+            PlacesView::Genomecov(shown) => {
+                Ok(DepthSweep::new(alloc, spans)?.print(shown, genome, sink)?)
+            }
+        }
+    }
+}

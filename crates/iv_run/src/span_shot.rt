@@ -1,0 +1,136 @@
+//! A run of one subcommand whose rows depend on nothing of a record but its place.
+ghost use Rattle.std.specs.Prelude.{◌≡◌, ◌<◌, ◌^◌, ◌⊎◌, ◌↔◌, ℕ, List, None, Err, IsTrue, IsOk, IfSome, IfOk, IfErr, OnOk, length};
+ghost use Rattle.std.specs.Option.{option_copied, option_map};
+ghost use Rattle.iv_text.specs.BedFile.{Bed};
+ghost use Rattle.iv_text.specs.Ordered.{ordered};
+ghost use Rattle.iv_index.specs.SpanDrafts.{size_of};
+ghost use Rattle.iv_run.specs.Files.{ReadsWhole, StopsReading};
+ghost use Rattle.iv_run.specs.Loading.{bases_said, second_of, with_second};
+ghost use Rattle.iv_run.specs.PlacesViews.{AskForPlaces, IsViewOf, ShowPlacesAlone};
+ghost use Rattle.iv_run.specs.Prints.{Prints};
+ghost use Rattle.iv_run.specs.Shots.{Shows, shown};
+ghost use Rattle.iv_run.specs.SpanFiles.{SaysSoFar};
+ghost use Rattle.iv_view.specs.Views.{kept_text};
+ghost use Rattle.iv_view.specs.declared.view.KeptView.{KeptView};
+
+use crate::fault::{CliFault, FileFault};
+use crate::inputs::{Inputs, parse_fasta};
+use crate::places_view::PlacesView;
+use crate::span_files::{SpanFiles, SpanReading, read_pieces};
+use crate::text_files::parse_second_text;
+use iv_args::{Plan, Slot};
+use iv_bytes::{Sink, Source};
+use iv_text::Genome;
+use std::alloc::Allocator;
+
+/// Prints a view of places, given the bytes of the files.
+pub(crate) fn shot_of_places<A: Allocator + Copy, S: Sink>(
+    alloc: A,
+    plan: &Plan<'_, A>,
+    view: PlacesView,
+    inputs: &Inputs<'_>,
+    bases: Option<Vec<u8, A>>,
+    limit: u32,
+    sink: &mut S,
+) -> Result<(), CliFault>
+    requires asked { AskForPlaces plan.now.view view }
+    requires other { IfSome (option_copied inputs.now.other) (λ text. length text < 2 ^ 32) }
+    ensures { Shows (S.state sink.old) (S.state sink.new) result
+        (shown plan.now inputs.now.sizes.now inputs.now.first.now (option_copied inputs.now.other) (option_map (λ text. text.items) bases) limit) }
+{
+    let files = SpanFiles::parse(alloc, inputs.sizes, inputs.first, plan.width(), limit)?;
+    check_others(alloc, plan, &files.genome, inputs.other, bases, limit)?;
+    print_files(alloc, view, files, sink)
+}
+
+/// The fault of the second BED file or of the FASTA file, where one is there and is damaged. No row is shown of them.
+fn check_others<A: Allocator + Copy>(
+    alloc: A,
+    plan: &Plan<'_, A>,
+    genome: &Genome<A>,
+    other: Option<&[u8]>,
+    bases: Option<Vec<u8, A>>,
+    limit: u32,
+) -> Result<(), CliFault>
+    requires { IfSome (option_copied other) (λ text. length text < 2 ^ 32) }
+    ensures second { OnOk result (IsOk (second_of genome.now plan.now.width limit (option_copied other.entry))) }
+    ensures bases { OnOk result (IsOk (bases_said genome.now (option_map (λ text. text.items) bases))) }
+    ensures err { IfErr result (λ fault. (fault ≡ CliFault.Memory) ⊎
+        ((first : Bed) → with_second genome.now first (option_map (λ text. text.items) bases) limit (second_of genome.now plan.now.width limit (option_copied other.entry)) ≡ Err fault)) }
+{
+    if let Err(fault) = parse_second_text(alloc, genome, plan.width(), limit, other) {
+        return Err(CliFault::from((Slot::Other, fault)));
+    }
+    if let Err(fault) = parse_fasta(alloc, genome, bases) {
+        return Err(CliFault::from((Slot::Bases, fault)));
+    }
+    Ok(())
+}
+
+/// Sorts the places of the files, and prints a view of them.
+fn print_files<A: Allocator + Copy, S: Sink>(
+    alloc: A,
+    view: PlacesView,
+    files: SpanFiles<A>,
+    sink: &mut S,
+) -> Result<(), CliFault>
+    ensures { (asked : KeptView) → IsViewOf view asked → Prints (S.state sink.old) (S.state sink.new) result (kept_text asked files.genome (ordered files.first.rows)) }
+{
+    let SpanFiles { genome, mut first } = files;
+    first.sort();
+    view.print(alloc, first.as_slice(), &genome, sink)
+}
+
+/// Whether a run of the plan can be done by [`shot_in_pieces`]: whether its rows depend on nothing of a record but its place, as
+/// those of `complement`, of `genomecov`, and of a `merge` without `-s` and `-c` do.
+pub fn shows_places_alone<A: Allocator + Copy>(plan: &Plan<'_, A>) -> bool
+    ensures { IsTrue result ↔ ShowPlacesAlone plan.now.view }
+{
+    PlacesView::of_plan(plan).is_some()
+}
+
+/// Prints what the plan's subcommand shows of a genome file, given its bytes, and of a BED file, which is read from a source to its
+/// end, at most `most` bytes: all of it, and nothing else. No text of the BED file is kept.
+///
+/// The rows of the plan's view depend on nothing of a record but its place: [`shows_places_alone`].
+///
+/// # Errors
+///
+/// A fault of the source: then nothing was printed. Once the source is at its end, in the inner result: the fault of the first
+/// damaged file, or `Memory`, and for these nothing was printed. `Output`, and then a prefix was.
+pub fn shot_in_pieces<A: Allocator + Copy, R: Source, S: Sink>(
+    alloc: A,
+    plan: &Plan<'_, A>,
+    sizes: &[u8],
+    source: &mut R,
+    most: u64,
+    limit: u32,
+    sink: &mut S,
+) -> Result<Result<(), CliFault>, FileFault>
+    requires small { most < 2 ^ 63 }
+    requires alone { ShowPlacesAlone plan.now.view }
+    ensures ok { IfOk result (λ done. (text : List ℕ) × ReadsWhole (R.state source.old) (R.state source.new) most text
+        × Shows (S.state sink.old) (S.state sink.new) done (shown plan.now sizes.now text None None limit)) }
+    ensures err { IfErr result (λ fault. StopsReading (R.state source.old) (R.state source.new) most fault × (sink.new ≡ sink.old)) }
+{
+    let said = read_pieces(alloc, sizes, source, most, limit)?;
+    Ok(print_said(alloc, plan, said, sink))
+}
+
+/// Prints what the plan's subcommand shows of files that are read, unless one is damaged.
+fn print_said<A: Allocator + Copy, S: Sink>(
+    alloc: A,
+    plan: &Plan<'_, A>,
+    said: Result<SpanReading<A>, CliFault>,
+    sink: &mut S,
+) -> Result<(), CliFault>
+    requires alone { ShowPlacesAlone plan.now.view }
+    requires few { IfOk said (λ r. size_of r.reading < 2 ^ 64) }
+    ensures { (sizes text : List ℕ) (limit : ℕ) → SaysSoFar sizes limit text said → Shows (S.state sink.old) (S.state sink.new) result (shown plan.now sizes text None None limit) }
+{
+    let Some(view) = PlacesView::of_plan(plan) else {
+        unreachable!()
+    };
+    let files = said?.finish(plan.width())?;
+    print_files(alloc, view, files, sink)
+}

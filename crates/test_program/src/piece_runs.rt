@@ -1,0 +1,294 @@
+//! Runs that read their BED file in pieces, and print what a run prints that has its bytes.
+use crate::piece_fixtures::{DONE, SHORT, Setting, damage, ends, plan_of};
+use crate::shot_fixtures::{alone, beside, ends as ends_at_once, prints};
+use iv_args::{Plan, Slot};
+use iv_run::{Inputs, shows_places_alone};
+use iv_text::{LoadCause, RecordFault};
+use std::test::Fail;
+
+/// Whether a run of these words, separated by spaces, reads its BED file in pieces.
+fn is_in_pieces(rt: &HostRuntime, words: &[u8]) -> Result<bool, Fail> {
+    let plan = plan_of(rt, words)?;
+    Ok(shows_places_alone(&plan))
+}
+
+/// Those that print no column of a record after the third, and don't part records by one.
+#[test]
+fn runs_that_read_in_pieces(rt: HostRuntime) -> Result<(), Fail> {
+    for (words, want) in [
+        (b"merge -g g -i a".as_slice(), true),
+        (b"merge -g g -d 0 -i a", true),
+        (b"merge -width 6 -d 1000000000 -g g -i a", true),
+        (b"complement -g g -i a", true),
+        (b"complement -g g -i a -L", true),
+        (b"genomecov -bg -g g -i a", true),
+        (b"genomecov -bga -g g -i a", true),
+        (b"genomecov -g g -i a -d", true),
+        (b"merge -s -g g -i a", false),
+        (b"merge -s -d 3 -g g -i a", false),
+        (b"merge -c 1 -o count -g g -i a", false),
+        (b"merge -d 3 -c 4 -o collapse -g g -i a", false),
+        (b"merge -c 2 -g g -i a", false),
+        (b"cluster -g g -i a", false),
+        (b"intersect -u -g g -a a -b b", false),
+        (b"subtract -g g -a a -b b", false),
+        (b"getfasta -g g -bed a -fi f", false),
+        (b"session -g g -i a", false),
+        (b"session -g g -i a -b b -fi f", false),
+    ] {
+        assert!(rt; is_in_pieces(&rt, words)? == want);
+    }
+    Ok(())
+}
+
+/// Whether a run of a plan prints these rows of a file, in whatever pieces it comes.
+fn prints_each(
+    rt: &HostRuntime,
+    plan: &Plan<'_>,
+    setting: Setting<'_>,
+    text: &[u8],
+    rows: &[u8],
+) -> Result<bool, Fail> {
+    for piece in [1, 2, 3, 7, 1_000] {
+        if !ends(rt, plan, setting, text, piece, (DONE, rows))? {
+            return Ok(false);
+        }
+    }
+    Ok(true)
+}
+
+/// Whether a run of these words prints these rows of a file, in pieces and at once.
+fn prints_both(
+    rt: &HostRuntime,
+    words: &[u8],
+    setting: Setting<'_>,
+    text: &[u8],
+    rows: &[u8],
+) -> Result<bool, Fail> {
+    let inputs = Inputs {
+        sizes: setting.sizes,
+        ..alone(text)
+    };
+    let plan = plan_of(rt, words)?;
+    let in_pieces = prints_each(rt, &plan, setting, text, rows)?;
+    Ok(in_pieces && prints(rt, words, &inputs, rows)?)
+}
+
+/// Records of two sequences, out of order, with a header and an empty line and without a last LF: two share some bases, and one
+/// begins where two others end.
+const UNSORTED: &[u8] =
+    b"track x\r\nchr2\t5\t9\tn\r\nchr1\t40\t50\tm\r\n\r\nchr1\t30\t40\tl\r\nchr1\t10\t40\tk";
+
+/// Two records that are book-ended, and one that is a base away.
+const THREE: &[u8] = b"chr1\t10\t20\nchr1\t20\t30\nchr1\t31\t40\n";
+
+/// Two copies of a record and one within it, of six columns.
+const COPIES: &[u8] = b"chr1\t10\t20\tn\t0\t+\nchr1\t12\t15\tm\t1\t-\nchr1\t10\t20\tn\t0\t+\n#";
+
+#[test]
+fn rows_of_merges(rt: HostRuntime) -> Result<(), Fail> {
+    for (words, text, rows) in [
+        (
+            b"merge -g g -i a".as_slice(),
+            UNSORTED,
+            b"chr1\t10\t50\nchr2\t5\t9\n".as_slice(),
+        ),
+        (b"merge -g g -i a", THREE, b"chr1\t10\t30\nchr1\t31\t40\n"),
+        (b"merge -d 1 -g g -i a", THREE, b"chr1\t10\t40\n"),
+        (b"merge -d 0 -g g -i a", COPIES, b"chr1\t10\t20\n"),
+        (
+            b"merge -d 99 -g g -i a",
+            UNSORTED,
+            b"chr1\t10\t50\nchr2\t5\t9\n",
+        ),
+        (b"merge -g g -i a", b"", b""),
+        (b"merge -width 6 -g g -i a", b"#\n\n", b""),
+    ] {
+        assert!(rt; prints_both(&rt, words, SHORT, text, rows)?);
+    }
+    Ok(())
+}
+
+#[test]
+fn rows_of_complements(rt: HostRuntime) -> Result<(), Fail> {
+    let whole = b"chr1\t0\t100\nchr2\t0\t50\n".as_slice();
+    for (words, text, rows) in [
+        (
+            b"complement -g g -i a".as_slice(),
+            UNSORTED,
+            b"chr1\t0\t10\nchr1\t50\t100\nchr2\t0\t5\nchr2\t9\t50\n".as_slice(),
+        ),
+        (
+            b"complement -g g -i a",
+            THREE,
+            b"chr1\t0\t10\nchr1\t30\t31\nchr1\t40\t100\nchr2\t0\t50\n",
+        ),
+        (
+            b"complement -L -g g -i a",
+            THREE,
+            b"chr1\t0\t10\nchr1\t30\t31\nchr1\t40\t100\n",
+        ),
+        (
+            b"complement -L -g g -i a",
+            COPIES,
+            b"chr1\t0\t10\nchr1\t20\t100\n",
+        ),
+        (b"complement -g g -i a", b"chr1\t0\t100\nchr2\t0\t50", b""),
+        (b"complement -g g -i a", b"", whole),
+        (b"complement -g g -i a", b"track", whole),
+        (b"complement -L -g g -i a", b"", b""),
+    ] {
+        assert!(rt; prints_both(&rt, words, SHORT, text, rows)?);
+    }
+    Ok(())
+}
+
+#[test]
+fn rows_of_depths(rt: HostRuntime) -> Result<(), Fail> {
+    for (words, text, rows) in [
+        (
+            b"genomecov -bg -g g -i a".as_slice(),
+            UNSORTED,
+            b"chr1\t10\t30\t1\nchr1\t30\t40\t2\nchr1\t40\t50\t1\nchr2\t5\t9\t1\n".as_slice(),
+        ),
+        (
+            b"genomecov -bga -g g -i a",
+            UNSORTED,
+            b"chr1\t0\t10\t0\nchr1\t10\t30\t1\nchr1\t30\t40\t2\nchr1\t40\t50\t1\nchr1\t50\t100\t0\nchr2\t0\t5\t0\nchr2\t5\t9\t1\nchr2\t9\t50\t0\n",
+        ),
+        (
+            b"genomecov -bg -g g -i a",
+            COPIES,
+            b"chr1\t10\t12\t2\nchr1\t12\t15\t3\nchr1\t15\t20\t2\n",
+        ),
+        (
+            b"genomecov -bga -g g -i a",
+            THREE,
+            b"chr1\t0\t10\t0\nchr1\t10\t30\t1\nchr1\t30\t31\t0\nchr1\t31\t40\t1\nchr1\t40\t100\t0\nchr2\t0\t50\t0\n",
+        ),
+        (b"genomecov -bg -g g -i a", b"", b""),
+        (
+            b"genomecov -bga -g g -i a",
+            b"\n",
+            b"chr1\t0\t100\t0\nchr2\t0\t50\t0\n",
+        ),
+    ] {
+        assert!(rt; prints_both(&rt, words, SHORT, text, rows)?);
+    }
+    Ok(())
+}
+
+#[test]
+fn rows_of_each_position(rt: HostRuntime) -> Result<(), Fail> {
+    let small = Setting {
+        sizes: b"t\t4\nempty\t0\nu\t1\n",
+        ..SHORT
+    };
+    for (text, rows) in [
+        (
+            b"t\t2\t3\tx\nt\t1\t3\ty\n".as_slice(),
+            b"t\t1\t0\nt\t2\t1\nt\t3\t2\nt\t4\t0\nu\t1\t0\n".as_slice(),
+        ),
+        (
+            b"u\t0\t1\r\nt\t0\t4",
+            b"t\t1\t1\nt\t2\t1\nt\t3\t1\nt\t4\t1\nu\t1\t1\n",
+        ),
+    ] {
+        assert!(rt; prints_both(&rt, b"genomecov -d -g g -i a", small, text, rows)?);
+    }
+    Ok(())
+}
+
+/// A run that has the bytes of files which its view doesn't look at tells their faults all the same, in the order of the files.
+#[test]
+fn files_that_no_row_needs(rt: HostRuntime) -> Result<(), Fail> {
+    let sound = b"chr1\t1\t2\n".as_slice();
+    let past_end = b"chr1\t1\t200\n".as_slice();
+    let no_bases = b">chr9\nAC GT\n".as_slice();
+    let bases = b">chr9\nACGT\n".as_slice();
+    let end = LoadCause::Record(RecordFault::PastEnd);
+    for (first, second, fasta, fault, rows) in [
+        (sound, sound, bases, None, sound),
+        (
+            past_end,
+            past_end,
+            no_bases,
+            Some(damage(Slot::First, 1, end)),
+            b"",
+        ),
+        (
+            sound,
+            past_end,
+            no_bases,
+            Some(damage(Slot::Other, 1, end)),
+            b"",
+        ),
+        (
+            sound,
+            sound,
+            no_bases,
+            Some(damage(Slot::Bases, 2, LoadCause::Base)),
+            b"",
+        ),
+    ] {
+        let inputs = beside(first, second);
+        assert!(rt; ends_at_once(&rt, b"merge -g g -i a", &inputs, Some(fasta), fault, rows)?);
+    }
+    Ok(())
+}
+
+/// The lines of so many records of five bases, each ten bases after the one before.
+fn lines(rt: &HostRuntime, count: u32) -> Result<String, Fail> {
+    let mut text = String::new(rt.alloc());
+    for index in 0..count {
+        let start = 10 * u64::from(index);
+        let stop = start + 5;
+        text.push_str(format!(in rt.alloc(); "s\t{start}\t{stop}\n")?.as_str())?;
+    }
+    Ok(text)
+}
+
+/// Whether a merge of a file of a million bases prints these rows, in pieces that are less than is asked for at once and in
+/// pieces that are more.
+fn merges_long(rt: &HostRuntime, plan: &Plan<'_>, text: &[u8], rows: &[u8]) -> Result<bool, Fail> {
+    let setting = Setting {
+        sizes: b"s\t1000000\n",
+        bytes: 1_000_000,
+        records: 40_000,
+    };
+    for piece in [100_003, 1_000_000] {
+        if !ends(rt, plan, setting, text, piece, (DONE, rows))? {
+            return Ok(false);
+        }
+    }
+    Ok(true)
+}
+
+/// A file of more than 512 KiB: each of its records is a block.
+#[test]
+fn a_long_file(rt: HostRuntime) -> Result<(), Fail> {
+    let plan = plan_of(&rt, b"merge -g g -i a")?;
+    let text = lines(&rt, 40_000)?;
+    let text = text.as_bytes();
+    assert!(rt; 600_000 < text.len() && merges_long(&rt, &plan, text, text)?);
+    Ok(())
+}
+
+/// A header of more than 512 KiB, and a record whose name has more than 256 KiB.
+fn long_lines(rt: &HostRuntime) -> Result<String, Fail> {
+    let mut text = String::new(rt.alloc());
+    text.push_str("#")?;
+    text.push_str("c".repeat(rt.alloc(), 600_000)?.as_str())?;
+    text.push_str("\r\ns\t1\t2\t")?;
+    text.push_str("n".repeat(rt.alloc(), 300_000)?.as_str())?;
+    text.push_str("\ns\t5\t9\tm")?;
+    Ok(text)
+}
+
+#[test]
+fn a_file_of_long_lines(rt: HostRuntime) -> Result<(), Fail> {
+    let plan = plan_of(&rt, b"merge -g g -i a")?;
+    let text = long_lines(&rt)?;
+    assert!(rt; merges_long(&rt, &plan, text.as_bytes(), b"s\t1\t2\ns\t5\t9\n")?);
+    Ok(())
+}

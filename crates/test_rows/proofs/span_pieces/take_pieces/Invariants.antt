@@ -1,0 +1,12 @@
+use Rattle.std.proofs.Common.{◌+◌, ◌≤◌, length}
+use Rattle.iv_index.specs.SpanDrafts.{AreSound, size_of}
+use Rattle.test_rows.proofs.span_pieces.take_pieces.Given as goal
+
+abbrev pub invariant-pieces : goal.invariant-pieces
+invariant-pieces g l = record {
+  sound : AreSound l.genome l.limit l.draft.read;
+  few : size_of l.draft + length l.left ≤ size_of l.fn.draft + length l.fn.text;
+}
+
+abbrev pub decreases-pieces : goal.decreases-pieces
+decreases-pieces g l = length l.left
