@@ -15,6 +15,11 @@ pub(crate) struct Memory<'a> {
     pub(crate) lines: &'a RefusesNth<Global>,
 }
 
+/// An allocator that grants all growths.
+pub(crate) fn granting(rt: &HostRuntime) -> RefusesNth<Global> {
+    RefusesNth::new(rt.alloc(), u64::MAX)
+}
+
 /// A line, or a part of one, and the text of its fault.
 pub(crate) type Refusal<'a> = (&'a [u8], &'a [u8]);
 
@@ -146,15 +151,7 @@ fn are_edits_reported<'a>(
 }
 
 /// The same over a session of one record in either file.
-fn holds_of_edits(rt: &HostRuntime) -> Result<bool, Fail> {
-    let (of_session, of_lines) = (
-        RefusesNth::new(rt.alloc(), u64::MAX),
-        RefusesNth::new(rt.alloc(), u64::MAX),
-    );
-    let memory = Memory {
-        session: &of_session,
-        lines: &of_lines,
-    };
+fn holds_of_edits(rt: &HostRuntime, memory: Memory<'_>) -> Result<bool, Fail> {
     let record = b"chr1\t10\t20\tn\t0\t+\n".as_slice();
     let beside = Beside {
         second: Some(record),
@@ -166,6 +163,11 @@ fn holds_of_edits(rt: &HostRuntime) -> Result<bool, Fail> {
 
 #[test]
 fn damaged_records(rt: HostRuntime) -> Result<(), Fail> {
-    assert!(rt; holds_of_edits(&rt)?);
+    let (of_session, of_lines) = (granting(&rt), granting(&rt));
+    let memory = Memory {
+        session: &of_session,
+        lines: &of_lines,
+    };
+    assert!(rt; holds_of_edits(&rt, memory)?);
     Ok(())
 }

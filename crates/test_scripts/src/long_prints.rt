@@ -52,14 +52,6 @@ fn rows(rt: &HostRuntime, heading: &str, later: LastColumns) -> Result<String, F
     Ok(text)
 }
 
-/// The session of the records, after a script that opens views.
-fn begun(rt: &HostRuntime, script: &[u8]) -> Result<Session, Fail> {
-    let first = rows(rt, "", LastColumns::Text(""))?;
-    let mut session = session_beside(rt, 3, first.as_bytes(), BIG, COUNT)?;
-    run(rt, &mut session, script, 99, 0)?.done?;
-    Ok(session)
-}
-
 /// Whether a run of one line wrote this beginning of a text and no more.
 fn is_cut(ran: &Ran, front: &[u8]) -> bool {
     let (line, cause) = (1, RunCause::Output);
@@ -114,10 +106,48 @@ fn prints(
     prints_whole(rt, session, line, text, piece)
 }
 
-/// Whether a view, opened over the records, prints what it is to, to an output that takes so many bytes at a time.
-fn prints_view(rt: &HostRuntime, script: &[u8], text: &[u8], piece: usize) -> Result<bool, Fail> {
-    let mut session = begun(rt, script)?;
-    prints(rt, &mut session, b"print\tv\n", text, piece)
+/// A script that opens views, a line that prints, its text, and how many bytes the output takes at a time.
+#[derive(Clone, Copy)]
+struct Printed<'a> {
+    script: &'a [u8],
+    line: &'a [u8],
+    text: &'a [u8],
+    piece: usize,
+}
+
+/// Whether the script is done over a session, and then the line prints what it is to.
+fn opens_and_prints(
+    rt: &HostRuntime,
+    session: &mut Session,
+    printed: Printed<'_>,
+) -> Result<bool, Fail> {
+    let opened = run(rt, session, printed.script, 99, 0)?;
+    let is_open = opened.done.is_ok();
+    Ok(is_open && prints(rt, session, printed.line, printed.text, printed.piece)?)
+}
+
+/// Whether that is so over the session of the records, whose BED file is handed in.
+fn prints_over(rt: &HostRuntime, first: &[u8], printed: Printed<'_>) -> Result<bool, Fail> {
+    let mut session = session_beside(rt, 3, first, BIG, COUNT)?;
+    opens_and_prints(rt, &mut session, printed)
+}
+
+/// Whether a view, opened over the records, prints a row of each.
+fn prints_rows(
+    rt: &HostRuntime,
+    script: &[u8],
+    later: LastColumns,
+    piece: usize,
+) -> Result<bool, Fail> {
+    let first = rows(rt, "", LastColumns::Text(""))?;
+    let text = rows(rt, "", later)?;
+    let printed = Printed {
+        script,
+        line: b"print\tv\n",
+        text: text.as_bytes(),
+        piece,
+    };
+    prints_over(rt, first.as_bytes(), printed)
 }
 
 #[test]
@@ -139,8 +169,7 @@ fn long_views(rt: HostRuntime) -> Result<(), Fail> {
         (b"open\tv\tintersect -c\n", LastColumns::Text("\t0"), 65_536),
         (b"open\tv\tsubtract\n", LastColumns::Text(""), 8_193),
     ] {
-        let text = rows(&rt, "", later)?;
-        assert!(rt; prints_view(&rt, script, text.as_bytes(), piece)?);
+        assert!(rt; prints_rows(&rt, script, later, piece)?);
     }
     Ok(())
 }
@@ -155,8 +184,14 @@ fn both(rt: &HostRuntime) -> Result<String, Fail> {
 
 /// Whether views, opened over the records, print this together.
 fn prints_all(rt: &HostRuntime, script: &[u8], text: &[u8]) -> Result<bool, Fail> {
-    let mut session = begun(rt, script)?;
-    prints(rt, &mut session, b"printall\n", text, 65_536)
+    let first = rows(rt, "", LastColumns::Text(""))?;
+    let printed = Printed {
+        script,
+        line: b"printall\n",
+        text,
+        piece: 65_536,
+    };
+    prints_over(rt, first.as_bytes(), printed)
 }
 
 #[test]
@@ -177,23 +212,35 @@ fn repeated(rt: &HostRuntime, front: &[u8], text: &[u8]) -> Result<Vec<u8>, Fail
     Ok(all)
 }
 
-/// A session of one record over all 20,000 bases of a sequence, on its other strand, after a script that opens a view.
-fn begun_beside_bases(rt: &HostRuntime, script: &[u8]) -> Result<Session, Fail> {
-    let bases = repeated(rt, b">s\n", b"AACG")?;
+/// Whether a view of one record over all 20,000 bases of a sequence, on its other strand, prints what it is to. The FASTA file is
+/// handed in.
+fn prints_beside(rt: &HostRuntime, bases: &[u8], printed: Printed<'_>) -> Result<bool, Fail> {
     let beside = Beside {
         sizes: b"s\t20000\n",
-        bases: Some(bases.as_slice()),
+        bases: Some(bases),
         ..ALONE
     };
     let mut session = session_beside(rt, 6, b"s\t0\t20000\tn\t0\t-\n", beside, 9)?;
-    run(rt, &mut session, script, 99, 0)?.done?;
-    Ok(session)
+    opens_and_prints(rt, &mut session, printed)
 }
 
-/// Whether a view prints its one row.
-fn prints_row(rt: &HostRuntime, script: &[u8], text: &[u8], piece: usize) -> Result<bool, Fail> {
-    let mut session = begun_beside_bases(rt, script)?;
-    prints(rt, &mut session, b"print\tv\n", text, piece)
+/// Whether a view prints its one row: a head, and these four bases 5,000 times.
+fn prints_row(
+    rt: &HostRuntime,
+    script: &[u8],
+    head: &[u8],
+    four: &[u8],
+    piece: usize,
+) -> Result<bool, Fail> {
+    let bases = repeated(rt, b">s\n", b"AACG")?;
+    let text = repeated(rt, head, four)?;
+    let printed = Printed {
+        script,
+        line: b"print\tv\n",
+        text: text.as_slice(),
+        piece,
+    };
+    prints_beside(rt, bases.as_slice(), printed)
 }
 
 #[test]
@@ -214,8 +261,7 @@ fn long_rows(rt: HostRuntime) -> Result<(), Fail> {
             65_536,
         ),
     ] {
-        let text = repeated(&rt, head, bases)?;
-        assert!(rt; prints_row(&rt, script, text.as_slice(), piece)?);
+        assert!(rt; prints_row(&rt, script, head, bases, piece)?);
     }
     Ok(())
 }

@@ -82,12 +82,23 @@ fn ends_at_line<'a>(
     Ok(line > 0)
 }
 
-/// The same over a session of its own, whose growths are all granted.
+/// The same over a session in memory of an allocator of its own.
+fn refused_beside(
+    rt: &HostRuntime,
+    alloc: &RefusesNth<Global>,
+    granting: &RefusesNth<Global>,
+    script: &[u8],
+) -> Result<u32, Fail> {
+    match session_in(granting) {
+        Some(mut session) => Ok(u32::from(ends_at_line(rt, alloc, &mut session, script)?)),
+        None => Err(Fail::new("no session")),
+    }
+}
+
+/// The same, where that allocator grants all growths.
 fn refused_line(rt: &HostRuntime, alloc: &RefusesNth<Global>, script: &[u8]) -> Result<u32, Fail> {
     let granting = RefusesNth::new(rt.alloc(), u64::MAX);
-    let mut session = session_in(&granting).ok_or("no session")?;
-    let refused = ends_at_line(rt, alloc, &mut session, script)?;
-    Ok(u32::from(refused))
+    refused_beside(rt, alloc, &granting, script)
 }
 
 #[test]
@@ -143,12 +154,21 @@ fn refused_in<'a>(
 }
 
 /// The same from the session's making on.
-fn refused_session(rt: &HostRuntime, alloc: &RefusesNth<Global>) -> Result<u32, Fail> {
-    let granting = RefusesNth::new(rt.alloc(), u64::MAX);
+fn refused_making(
+    rt: &HostRuntime,
+    alloc: &RefusesNth<Global>,
+    granting: &RefusesNth<Global>,
+) -> Result<u32, Fail> {
     match session_in(alloc) {
-        Some(mut session) => refused_in(rt, &mut session, &granting),
+        Some(mut session) => refused_in(rt, &mut session, granting),
         None => Ok(1),
     }
+}
+
+/// The same, where the memory of the lines is granted.
+fn refused_session(rt: &HostRuntime, alloc: &RefusesNth<Global>) -> Result<u32, Fail> {
+    let granting = RefusesNth::new(rt.alloc(), u64::MAX);
+    refused_making(rt, alloc, &granting)
 }
 
 #[test]

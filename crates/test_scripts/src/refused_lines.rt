@@ -1,6 +1,6 @@
 //! Lines that are refused for other reasons than a damaged record, while the session's next growth is refused: each is answered by
 //! its own fault, and asks for no growth.
-use crate::damaged::{Memory, Refusal, are_reported, written};
+use crate::damaged::{Memory, Refusal, are_reported, granting, written};
 use crate::fixtures::{ALONE, Beside, session_in};
 use crate::many_views::open_all;
 use iv_workspace::Session;
@@ -32,22 +32,29 @@ fn are_lines_reported<'a>(
 }
 
 /// The same over a session of its own, with a limit of one record.
+fn holds_beside<'a>(
+    rt: &HostRuntime,
+    memory: Memory<'a>,
+    setting: &Setting<'_>,
+    lines: &[Refusal<'_>],
+) -> Result<bool, Fail> {
+    let (width, beside) = (setting.width, setting.beside);
+    let mut session = session_in(memory.session, width, setting.first, beside, 1)?;
+    are_lines_reported(rt, memory, &mut session, setting.script, lines)
+}
+
+/// The same in memory of its own.
 fn holds_of_lines(
     rt: &HostRuntime,
     setting: &Setting<'_>,
     lines: &[Refusal<'_>],
 ) -> Result<bool, Fail> {
-    let (of_session, of_lines) = (
-        RefusesNth::new(rt.alloc(), u64::MAX),
-        RefusesNth::new(rt.alloc(), u64::MAX),
-    );
+    let (of_session, of_lines) = (granting(rt), granting(rt));
     let memory = Memory {
         session: &of_session,
         lines: &of_lines,
     };
-    let (width, beside) = (setting.width, setting.beside);
-    let mut session = session_in(memory.session, width, setting.first, beside, 1)?;
-    are_lines_reported(rt, memory, &mut session, setting.script, lines)
+    holds_beside(rt, memory, setting, lines)
 }
 
 /// One record of three columns in either file, and two open views.

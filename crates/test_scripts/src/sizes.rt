@@ -146,40 +146,49 @@ fn many_records_at_one_place(rt: HostRuntime) -> Result<(), Fail> {
     Ok(())
 }
 
-/// A session of a genome file and a BED file, each in parts.
-fn session_of_parts(rt: &HostRuntime, sizes: &[&[u8]], first: &[&[u8]]) -> Result<Session, Fail> {
-    let sizes = joined(rt, sizes)?;
-    let first = joined(rt, first)?;
-    session_of(rt, sizes.as_slice(), 3, first.as_slice(), 2)
+/// A genome file, a BED file, a script over their session, and the rows that it writes.
+#[derive(Drop)]
+struct Texts {
+    sizes: Vec<u8>,
+    first: Vec<u8>,
+    script: Vec<u8>,
+    rows: Vec<u8>,
 }
 
-/// Whether a script in parts has no refused line, and writes these rows.
-fn prints_parts(
-    rt: &HostRuntime,
-    session: &mut Session,
-    script: &[&[u8]],
-    rows: &[&[u8]],
-) -> Result<bool, Fail> {
-    let script = joined(rt, script)?;
-    let rows = joined(rt, rows)?;
-    prints(rt, session, script.as_slice(), rows.as_slice())
+/// Texts in which a sequence has a name, and a record another one and a score of the same letters.
+fn texts_of_names(rt: &HostRuntime, seq: &[u8], name: &[u8]) -> Result<Texts, Fail> {
+    let record = b"\t10\t20\t".as_slice();
+    let later = b"\t20\t30\t".as_slice();
+    let views = b"x\t+\nopen\tm\tmerge\nprint\tm\n";
+    Ok(Texts {
+        sizes: joined(rt, &[seq, b"\t100\n"])?,
+        first: joined(rt, &[seq, record, name, b"\t", name, b"\t+\n"])?,
+        script: joined(rt, &[b"add\t", seq, later, name, b"x\t", name, views])?,
+        rows: joined(rt, &[seq, b"\t10\t30\n"])?,
+    })
+}
+
+/// Whether the script writes its rows.
+fn runs_over_texts(rt: &HostRuntime, texts: &Texts) -> Result<bool, Fail> {
+    let (sizes, first) = (texts.sizes.as_slice(), texts.first.as_slice());
+    let mut session = session_of(rt, sizes, 3, first, 2)?;
+    prints(
+        rt,
+        &mut session,
+        texts.script.as_slice(),
+        texts.rows.as_slice(),
+    )
+}
+
+/// A name of so many letters.
+fn letters(rt: &HostRuntime, count: usize) -> Result<Vec<u8>, Fail> {
+    Ok(vec![in rt.alloc(); b'n'; count]?)
 }
 
 #[test]
 fn long_names(rt: HostRuntime) -> Result<(), Fail> {
-    let (seq, name) = ([b'n'; 300], [b'n'; 100]);
-    let (seq, name) = (seq.as_slice(), name.as_slice());
-    let first = [seq, b"\t10\t20\t", name, b"\t", name, b"\t+\n"];
-    let mut session = session_of_parts(&rt, &[seq, b"\t100\n"], &first)?;
-    let script = [
-        b"add\t",
-        seq,
-        b"\t20\t30\t",
-        name,
-        b"x\t",
-        name,
-        b"x\t+\nopen\tm\tmerge\nprint\tm\n",
-    ];
-    assert!(rt; prints_parts(&rt, &mut session, &script, &[seq, b"\t10\t30\n"])?);
+    let (seq, name) = (letters(&rt, 300)?, letters(&rt, 100)?);
+    let texts = texts_of_names(&rt, seq.as_slice(), name.as_slice())?;
+    assert!(rt; runs_over_texts(&rt, &texts)?);
     Ok(())
 }
