@@ -3,8 +3,7 @@
 #
 # Where the program was proved here before, by `rt run` or `rt check` in crates/bedkeep, only what changed since then is
 # proved again, one crate after another. Else `rt ci` proves a copy of its crates, side by side, without the tests and the
-# wrong bodies. It keeps what it proved beside the toolchain, so that a later build begins with the crates that are as
-# they were.
+# wrong bodies.
 #
 #   scripts/build.sh
 set -eu
@@ -21,31 +20,9 @@ if [ -d crates/bedkeep/out/incremental ]; then
     exit
 fi
 
-# The program's crate and those below it, from crates.txt, which has a line "NAME: LIBRARY .." for each.
-crates=' bedkeep '
-below() { # below CRATE: adds the crates that it uses to the list
-    local library
-    for library in $(sed -n "s/^$1://p" crates.txt); do
-        if grep -q "^$library:" crates.txt && [[ $crates != *" $library "* ]]; then
-            crates+="$library "
-            below "$library"
-        fi
-    done
-}
-below bedkeep
-
 copy=$(mktemp -d)
 trap 'rm -rf "$copy"' EXIT
-# `rt ci` runs at the top of a repository
-mkdir "$copy/.git" "$copy/crates"
-cp HANDLES "$copy"
-for crate in $crates; do
-    grep "^$crate:" crates.txt >> "$copy/crates.txt"
-    mkdir "$copy/crates/$crate"
-    for part in src specs proofs args stdin stdout data; do
-        [ ! -e "crates/$crate/$part" ] || cp -R "crates/$crate/$part" "$copy/crates/$crate"
-    done
-done
+scripts/copy_crates.sh "$copy" bedkeep
 (cd "$copy" && "$rt" ci)
 mkdir -p crates/bedkeep/out
 cp "$copy/crates/bedkeep/out/bedkeep" "$copy/crates/bedkeep/out/bedkeep.o" crates/bedkeep/out

@@ -14,9 +14,11 @@ if readelf --program-headers "$program" | grep -q INTERP || readelf --dynamic "$
     echo "$program needs a shared library" >&2
     exit 1
 fi
-kit=$("${RT:-rt}" version)
-if ! "$program" --version | grep -qxF "proved with $kit" || ! grep -qF "$kit" README.md; then
-    echo '--version or the README names another toolchain than rt version' >&2
+# Releases of the toolchain have names of their own; what a proof rests on is their logic.
+toolchain=$("${RT:-rt}" version)
+logic="logic ${toolchain##* logic }"
+if ! "$program" --version | grep -q "^proved with .* $logic\$" || ! grep -qF "$logic" README.md; then
+    echo '--version or the README names another logic than rt version' >&2
     exit 1
 fi
 scripts/answers_at_once.sh "$program"

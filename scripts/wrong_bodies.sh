@@ -4,20 +4,27 @@
 #     scripts/wrong_bodies.sh              those of all crates, which takes an hour or more
 #     scripts/wrong_bodies.sh iv_text ..   those of these crates
 #
-# RT names Rattle's command where it isn't on the path. Nothing is changed here: it works on a copy.
+# `rt ci` proves a copy of the crates, side by side, and tries the wrong bodies of each once it is proved. Nothing is changed here.
+# RT names Rattle's command where it isn't on the path.
 set -eu
-top=$(cd "$(dirname "$0")/.." && pwd)
-room=$(mktemp -d)
-trap 'rm -rf "$room"' EXIT
-mkdir "$room/crates"
-cp "$top/crates.txt" "$top/HANDLES" "$room"
-for crate in "$top"/crates/*/; do
-  to=$room/crates/$(basename "$crate")
-  mkdir "$to"
-  for part in src specs proofs; do
-    [ ! -d "$crate$part" ] || cp -r "$crate$part" "$to/$part"
-  done
-  [ ! -d "${crate}wrong-bodies" ] || cp -r "${crate}wrong-bodies" "$to/must-fail"
+cd "$(dirname "$0")/.."
+if ! rt=$(command -v "${RT:-rt}"); then
+    echo "${RT:-rt}, the command of the Rattle toolchain, is not there" >&2
+    exit 1
+fi
+rt=$(realpath "$rt")
+if [ $# = 0 ]; then
+    cd crates
+    set -- */wrong-bodies
+    set -- "${@%/wrong-bodies}"
+    cd ..
+fi
+
+copy=$(mktemp -d)
+trap 'rm -rf "$copy"' EXIT
+scripts/copy_crates.sh "$copy" "$@"
+for crate; do
+    cp -R "crates/$crate/wrong-bodies" "$copy/crates/$crate/must-fail"
 done
-cd "$room"
-"${RT:-rt}" must-fail "$@"
+cd "$copy"
+"$rt" ci
