@@ -63,7 +63,7 @@ dist: build
 test:
 	python3 scripts/searches.py --try
 	python3 scripts/searches.py
-	$(RT) ci
+	RT=$(RT) scripts/ci.sh
 	mkdir -p build && cp crates/bedkeep/out/bedkeep $(PROGRAM)
 	scripts/answers_at_once.sh $(PROGRAM)
 	scripts/exits.sh $(PROGRAM)

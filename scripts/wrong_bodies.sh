@@ -26,5 +26,4 @@ scripts/copy_crates.sh "$copy" "$@"
 for crate; do
     cp -R "crates/$crate/wrong-bodies" "$copy/crates/$crate/must-fail"
 done
-cd "$copy"
-"$rt" ci
+RT="$rt" scripts/ci.sh "$copy"
