@@ -29,23 +29,31 @@ fn strands(rt: HostRuntime) {
     }
 }
 
-/// Whether the fields of a text are these three, and no more.
-fn are_fields(mut fields: Fields<'_>, first: &[u8], second: &[u8], third: &[u8]) -> bool {
-    let given = (fields.next(), fields.next(), fields.next());
-    given == (Some(first), Some(second), Some(third))
-        && fields.next().is_none()
-        && fields.next().is_none()
-}
-
-/// Whether these texts are cut into their fields, at tabs and at spaces.
-fn are_cut() -> bool {
-    are_fields(columns(b"chr1\t\t20"), b"chr1", b"", b"20")
-        && are_fields(Fields::of(b"merge  -s", b' '), b"merge", b"", b"-s")
+/// Whether the fields of a text are these, and no more.
+fn are_fields(mut fields: Fields<'_>, wanted: &[&[u8]]) -> bool {
+    for want in wanted {
+        if fields.next() != Some(*want) {
+            return false;
+        }
+    }
+    fields.next().is_none() && fields.next().is_none()
 }
 
 #[test]
 fn fields_of_texts(rt: HostRuntime) {
-    assert!(rt; are_cut());
+    let at_tabs = are_fields(columns(b"chr1\t\t20"), &[b"chr1", b"", b"20"]);
+    let at_spaces = are_fields(Fields::of(b"merge  -s", b' '), &[b"merge", b"", b"-s"]);
+    assert!(rt; at_tabs && at_spaces);
+}
+
+/// Whether a line has this first column, and this after it.
+fn is_split(line: &[u8], first: &[u8], rest: Option<&[u8]>) -> bool {
+    let (column, after) = split_first_column(line);
+    column == first && after == rest
+}
+
+#[test]
+fn first_columns_of_lines(rt: HostRuntime) {
     for (line, first, rest) in [
         (
             b"add\tchr1\t1".as_slice(),
@@ -55,6 +63,6 @@ fn fields_of_texts(rt: HostRuntime) {
         (b"add\t", b"add", Some(b"")),
         (b"printall", b"printall", None),
     ] {
-        assert!(rt; split_first_column(line) == (first, rest));
+        assert!(rt; is_split(line, first, rest));
     }
 }

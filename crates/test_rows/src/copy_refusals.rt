@@ -1,26 +1,57 @@
 //! Each growth of copying a record and of making a sink, refused in turn.
 use crate::fixtures::genome;
+use crate::growths::{Run, growths};
 use iv_bytes::{MemSink, Sink};
-use iv_text::{Genome, RecordRef, read_record};
-use std::alloc::Global;
+use iv_text::{Genome, Record, RecordRef, read_record};
+use std::alloc::{Allocator, Global};
 use std::test::Fail;
-use test_faults::{RefusesNth, refuse_each};
+use test_faults::RefusesNth;
+
+/// Gives 0 where a record has this name and this score.
+fn check_texts<A: Allocator>(record: &Record<A>, texts: (&[u8], &[u8])) -> Result<u32, Fail> {
+    if (record.name(), record.score()) == texts {
+        Ok(0)
+    } else {
+        Err(Fail::new("other texts"))
+    }
+}
 
 /// Copies a record with these texts, and says how often memory was refused, once or never.
-fn refused_copy(
+pub(crate) fn refused_copy(
     alloc: &RefusesNth<Global>,
     row: &RecordRef<'_>,
     texts: (&[u8], &[u8]),
 ) -> Result<u32, Fail> {
-    let copy = row.to_record(alloc);
-    match &copy {
-        Ok(record) if (record.name(), record.score()) == texts => Ok(0),
-        Ok(_) => Err(Fail::new("other texts")),
+    match row.to_record(alloc) {
+        Ok(record) => check_texts(&record, texts),
         Err(_) => Ok(1),
     }
 }
 
-/// How many growths the copy of a record takes that has a name of so many letters and a score of so many digits.
+/// How many growths the copy of the record of a line of five columns takes, which has these texts.
+fn growths_of_line(
+    rt: &HostRuntime,
+    genome: &Genome,
+    line: &[u8],
+    texts: (&[u8], &[u8]),
+) -> Result<u32, Fail> {
+    let row = read_record(genome, 5, line)?;
+    growths(rt, Run::Copy(&row, texts))
+}
+
+/// The same of a record that has this name and this score.
+fn growths_of_texts(
+    rt: &HostRuntime,
+    genome: &Genome,
+    name: &str,
+    score: &str,
+) -> Result<u32, Fail> {
+    let line = format!(in rt.alloc(); "chr1\t10\t20\t{name}\t{score}")?;
+    let texts = (name.as_bytes(), score.as_bytes());
+    growths_of_line(rt, genome, line.as_bytes(), texts)
+}
+
+/// The same of a record that has a name of so many letters and a score of so many digits.
 fn growths_of_copy(
     rt: &HostRuntime,
     genome: &Genome,
@@ -29,16 +60,11 @@ fn growths_of_copy(
 ) -> Result<u32, Fail> {
     let name = "n".repeat(rt.alloc(), letters)?;
     let score = "5".repeat(rt.alloc(), digits)?;
-    let line = format!(in rt.alloc(); "chr1\t10\t20\t{name}\t{score}")?;
-    let row = read_record(genome, 5, line.as_bytes())?;
-    let texts = (name.as_bytes(), score.as_bytes());
-    refuse_each(rt.alloc(), |alloc| refused_copy(alloc, &row, texts))
+    growths_of_texts(rt, genome, &name, &score)
 }
 
-/// One growth for a block of 24 bytes, which holds 22 bytes of texts, or of 40 bytes, which holds 38; two above that.
-#[test]
-fn each_growth_of_a_copy_refused(rt: HostRuntime) -> Result<(), Fail> {
-    let genome = genome(&rt)?;
+/// Whether copies take as many growths as they are to.
+fn take_growths(rt: &HostRuntime, genome: &Genome) -> Result<bool, Fail> {
     for (letters, digits, growths) in [
         (1, 1, 1),
         (20, 2, 1),
@@ -50,18 +76,32 @@ fn each_growth_of_a_copy_refused(rt: HostRuntime) -> Result<(), Fail> {
         (37, 2, 2),
         (300, 40, 2),
     ] {
-        assert!(rt; growths_of_copy(&rt, &genome, letters, digits)? == growths);
+        if growths_of_copy(rt, genome, letters, digits)? != growths {
+            return Ok(false);
+        }
     }
+    Ok(true)
+}
+
+/// One growth for a block of 24 bytes, which holds 22 bytes of texts, or of 40 bytes, which holds 38; two above that.
+#[test]
+fn each_growth_of_a_copy_refused(rt: HostRuntime) -> Result<(), Fail> {
+    let genome = genome(&rt)?;
+    assert!(rt; take_growths(&rt, &genome)?);
     Ok(())
+}
+
+/// How many growths the copy of a record of three columns takes.
+fn growths_without_texts(rt: &HostRuntime, genome: &Genome) -> Result<u32, Fail> {
+    let row = read_record(genome, 3, b"chr1\t10\t20")?;
+    growths(rt, Run::Copy(&row, (b"", b"")))
 }
 
 /// A record of three columns takes no memory.
 #[test]
 fn a_copy_without_texts(rt: HostRuntime) -> Result<(), Fail> {
     let genome = genome(&rt)?;
-    let row = read_record(&genome, 3, b"chr1\t10\t20")?;
-    let none = b"".as_slice();
-    assert!(rt; refuse_each(rt.alloc(), |alloc| refused_copy(alloc, &row, (none, none)))? == 0);
+    assert!(rt; growths_without_texts(&rt, &genome)? == 0);
     Ok(())
 }
 
@@ -75,16 +115,19 @@ fn takes_just<S: Sink>(sink: &mut S, room: usize) -> bool {
     sink.push(b"x").is_err()
 }
 
+/// Gives 0 where a sink has just this room.
+fn check_room<S: Sink>(sink: &mut S, room: usize) -> Result<u32, Fail> {
+    if takes_just(sink, room) {
+        Ok(0)
+    } else {
+        Err(Fail::new("another room"))
+    }
+}
+
 /// Makes a sink, and says how often memory was refused, once or never.
-fn refused_sink(alloc: &RefusesNth<Global>, room: usize) -> Result<u32, Fail> {
+pub(crate) fn refused_sink(alloc: &RefusesNth<Global>, room: usize) -> Result<u32, Fail> {
     match MemSink::new(alloc, room, 7) {
-        Ok(mut sink) => {
-            if takes_just(&mut sink, room) {
-                Ok(0)
-            } else {
-                Err(Fail::new("another room"))
-            }
-        }
+        Ok(mut sink) => check_room(&mut sink, room),
         Err(_) => Ok(1),
     }
 }
@@ -93,7 +136,7 @@ fn refused_sink(alloc: &RefusesNth<Global>, room: usize) -> Result<u32, Fail> {
 #[test]
 fn the_growth_of_a_sink_refused(rt: HostRuntime) -> Result<(), Fail> {
     for room in [1, 9, 20_000] {
-        assert!(rt; refuse_each(rt.alloc(), |alloc| refused_sink(alloc, room))? == 1);
+        assert!(rt; growths(&rt, Run::Sink(room))? == 1);
     }
     Ok(())
 }

@@ -112,10 +112,9 @@ fn is_sound(rt: &HostRuntime, genome: &Genome, kind: Kind, text: &[u8], marks: &
     entries_of(rt, genome, kind, text) == Ok(all) && wrong_cuts(rt, genome, kind, text, marks) == 0
 }
 
-/// Beside each file a mark for each of its lines: `e` where it says an entry, `-` where it says none.
-#[test]
-fn cut_genome_files(rt: HostRuntime) -> Result<(), Fail> {
-    let genome = Genome::parse(rt.alloc(), SIZES)?;
+/// Whether that is so of genome files. Beside each file is a mark for each of its lines: `e` where it says an entry, `-` where it
+/// says none.
+fn are_genomes_sound(rt: &HostRuntime, genome: &Genome) -> bool {
     for (text, marks) in [
         (SIZES, b"eee".as_slice()),
         (b"chr1\t100\t6\t60\t61\n", b"e"),
@@ -130,15 +129,22 @@ fn cut_genome_files(rt: HostRuntime) -> Result<(), Fail> {
         ),
         (b"h\t4000000000\n", b"e"),
     ] {
-        assert!(rt; is_sound(&rt, &genome, Kind::Sizes, text, marks));
+        if !is_sound(rt, genome, Kind::Sizes, text, marks) {
+            return false;
+        }
     }
+    true
+}
+
+#[test]
+fn cut_genome_files(rt: HostRuntime) -> Result<(), Fail> {
+    let genome = Genome::parse(rt.alloc(), SIZES)?;
+    assert!(rt; are_genomes_sound(&rt, &genome));
     Ok(())
 }
 
-/// BED files of each width, with headers, comments, empty lines, CR LF and last lines without LF.
-#[test]
-fn cut_bed_files(rt: HostRuntime) -> Result<(), Fail> {
-    let genome = Genome::parse(rt.alloc(), SIZES)?;
+/// Whether that is so of BED files of each width, with headers, comments, empty lines, CR LF and last lines without LF.
+fn are_files_sound(rt: &HostRuntime, genome: &Genome, kind: Kind) -> bool {
     for (text, marks) in [
         (b"chr1\t1\t2\nchr2\t3\t50\n".as_slice(), b"ee".as_slice()),
         (b"#c\nchr2\t5\t9\ta\nchr1\t30\t40\tb\n", b"-ee"),
@@ -159,10 +165,27 @@ fn cut_bed_files(rt: HostRuntime) -> Result<(), Fail> {
         (b"track name=x\nbrowser\n\n#c", b"----"),
         (b"", b""),
     ] {
-        for kind in BED_KINDS {
-            assert!(rt; is_sound(&rt, &genome, kind, text, marks));
+        if !is_sound(rt, genome, kind, text, marks) {
+            return false;
         }
     }
+    true
+}
+
+/// Whether that is so in each way to read them.
+fn are_sound_in_each_way(rt: &HostRuntime, genome: &Genome) -> bool {
+    for kind in BED_KINDS {
+        if !are_files_sound(rt, genome, kind) {
+            return false;
+        }
+    }
+    true
+}
+
+#[test]
+fn cut_bed_files(rt: HostRuntime) -> Result<(), Fail> {
+    let genome = Genome::parse(rt.alloc(), SIZES)?;
+    assert!(rt; are_sound_in_each_way(&rt, &genome));
     Ok(())
 }
 
@@ -190,10 +213,8 @@ fn damage(line: u64, cause: LoadCause) -> Result<usize, LoadFault> {
     Err(LoadFault { line, cause })
 }
 
-/// One file worked out by hand, cut after each number of bytes.
-#[test]
-fn cuts_of_one_genome_file(rt: HostRuntime) -> Result<(), Fail> {
-    let genome = Genome::parse(rt.alloc(), SIZES)?;
+/// Whether one genome file, worked out by hand, is read as it is to be after each cut.
+fn is_genome_cut(rt: &HostRuntime, genome: &Genome) -> bool {
     let text = b"chr1\t100\nchr2\t50\n".as_slice();
     for (sizes, want) in [
         ((0, 0), Ok(0)),
@@ -204,8 +225,17 @@ fn cuts_of_one_genome_file(rt: HostRuntime) -> Result<(), Fail> {
         ((14, 14), damage(2, LoadCause::Length)),
         ((15, 17), Ok(2)),
     ] {
-        assert!(rt; reads_up_to(&rt, &genome, Kind::Sizes, text, sizes, want));
+        if !reads_up_to(rt, genome, Kind::Sizes, text, sizes, want) {
+            return false;
+        }
     }
+    true
+}
+
+#[test]
+fn cuts_of_one_genome_file(rt: HostRuntime) -> Result<(), Fail> {
+    let genome = Genome::parse(rt.alloc(), SIZES)?;
+    assert!(rt; is_genome_cut(&rt, &genome));
     Ok(())
 }
 
@@ -214,9 +244,8 @@ fn no_record(line: u64, fault: RecordFault) -> Result<usize, LoadFault> {
     damage(line, LoadCause::Record(fault))
 }
 
-#[test]
-fn cuts_of_one_bed_file(rt: HostRuntime) -> Result<(), Fail> {
-    let genome = Genome::parse(rt.alloc(), SIZES)?;
+/// The same of one BED file.
+fn is_file_cut(rt: &HostRuntime, genome: &Genome, kind: Kind) -> bool {
     let text = b"chr1\t10\t20\nchr1\t30\t40\n".as_slice();
     for (sizes, want) in [
         ((0, 0), Ok(0)),
@@ -229,9 +258,26 @@ fn cuts_of_one_bed_file(rt: HostRuntime) -> Result<(), Fail> {
         ((20, 20), no_record(2, RecordFault::Order)),
         ((21, 22), Ok(2)),
     ] {
-        for kind in BED_KINDS {
-            assert!(rt; reads_up_to(&rt, &genome, kind, text, sizes, want));
+        if !reads_up_to(rt, genome, kind, text, sizes, want) {
+            return false;
         }
     }
+    true
+}
+
+/// The same in each way to read it.
+fn is_cut_in_each_way(rt: &HostRuntime, genome: &Genome) -> bool {
+    for kind in BED_KINDS {
+        if !is_file_cut(rt, genome, kind) {
+            return false;
+        }
+    }
+    true
+}
+
+#[test]
+fn cuts_of_one_bed_file(rt: HostRuntime) -> Result<(), Fail> {
+    let genome = Genome::parse(rt.alloc(), SIZES)?;
+    assert!(rt; is_cut_in_each_way(&rt, &genome));
     Ok(())
 }

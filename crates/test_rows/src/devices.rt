@@ -6,15 +6,23 @@ use std::io::Write;
 use std::test::Fail;
 use test_faults::{Bad, Device, FAILURES};
 
+/// Whether a sink takes a text, fails at the next one, and stays failed.
+fn fails_at_second<S: Sink>(sink: &mut S) -> bool {
+    let first = (sink.push(b"abc"), sink.failed());
+    let second = (sink.push(b"abc"), sink.failed());
+    let third = (sink.push(b"abc"), sink.failed());
+    let whole = (put_all(sink, b"abc"), sink.failed());
+    first == (Ok(3), false)
+        && second == (Err(WriteFault), true)
+        && third == (Err(WriteFault), true)
+        && whole == (Err(WriteFault), true)
+}
+
 /// Whether a sink over a writer is failed from the bad call on, which is the last that reaches the writer.
 fn sink_stays_failed(bad: Bad) -> bool {
     let mut device = Device::new(b"", 2, bad);
-    let mut sink = StdSink::new(&mut device);
-    let before = sink.push(b"abc") == Ok(3) && !sink.failed();
-    let fails = sink.push(b"abc") == Err(WriteFault) && sink.failed();
-    let stays = sink.push(b"abc") == Err(WriteFault)
-        && put_all(&mut sink, b"abc") == Err(WriteFault);
-    before && fails && stays && sink.failed() && device.calls() == 2
+    let fails = fails_at_second(&mut StdSink::new(&mut device));
+    fails && device.calls() == 2
 }
 
 /// Pulls at most eight bytes.
@@ -22,14 +30,19 @@ fn pull<S: Source>(source: &mut S) -> Result<usize, ReadFault> {
     source.pull(&mut [0; 8])
 }
 
+/// Whether a source gives three bytes, fails at the next pull, and stays failed.
+fn gives_once<S: Source>(source: &mut S) -> bool {
+    let first = (pull(source), source.failed());
+    let second = (pull(source), source.failed());
+    let third = (pull(source), source.failed());
+    first == (Ok(3), false) && second == (Err(ReadFault), true) && third == (Err(ReadFault), true)
+}
+
 /// Whether a source over a reader is failed from the bad call on, which is the last that reaches the reader.
 fn source_stays_failed(bad: Bad) -> bool {
     let mut device = Device::new(b"abcdefghi", 2, bad);
-    let mut source = StdSource::new(&mut device);
-    let before = pull(&mut source) == Ok(3) && !source.failed();
-    let fails = pull(&mut source) == Err(ReadFault) && source.failed();
-    let stays = pull(&mut source) == Err(ReadFault);
-    before && fails && stays && source.failed() && device.calls() == 2
+    let fails = gives_once(&mut StdSource::new(&mut device));
+    fails && device.calls() == 2
 }
 
 #[test]

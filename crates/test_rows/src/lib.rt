@@ -14,7 +14,13 @@ mod files;
 #[cfg(test)]
 mod fixtures;
 #[cfg(test)]
+mod genome_refusals;
+#[cfg(test)]
+mod growths;
+#[cfg(test)]
 mod ledgers;
+#[cfg(test)]
+mod many_places;
 #[cfg(test)]
 mod parse_refusals;
 #[cfg(test)]
@@ -41,5 +47,7 @@ mod std_files;
 mod summaries;
 #[cfg(test)]
 mod texts;
+#[cfg(test)]
+mod track_refusals;
 #[cfg(test)]
 mod tracks;

@@ -36,9 +36,8 @@ fn file_of(
     }
 }
 
-#[test]
-fn texts_of_bed_files(rt: HostRuntime) -> Result<(), Fail> {
-    let genome = Genome::parse(rt.alloc(), SIZES)?;
+/// Whether these texts are read as they are to be.
+fn are_read(rt: &HostRuntime, genome: &Genome) -> bool {
     for (text, want) in [
         (b"chr1\t1\t2\nchr2\t3\t50\n".as_slice(), (3, 2, 1, 3)),
         (b"#c\nchr2\t5\t9\ta\nchr1\t30\t40\tb\n", (4, 2, 0, 30)),
@@ -46,8 +45,15 @@ fn texts_of_bed_files(rt: HostRuntime) -> Result<(), Fail> {
         (b"", (5, 0, 0, 0)),
         (b"browser position\n\n", (5, 0, 0, 0)),
     ] {
-        assert!(rt; file_of(&rt, &genome, text) == Ok(want));
+        if file_of(rt, genome, text) != Ok(want) {
+            return false;
+        }
     }
+    true
+}
+
+/// Whether these texts are reported as damaged.
+fn are_damaged(rt: &HostRuntime, genome: &Genome) -> bool {
     for (text, line, cause) in [
         (
             b"track name=x\n#c\n\nchr1\t1\t2\nchr1\t1\t2\ta\n".as_slice(),
@@ -66,8 +72,17 @@ fn texts_of_bed_files(rt: HostRuntime) -> Result<(), Fail> {
             LoadCause::Record(RecordFault::PastEnd),
         ),
     ] {
-        assert!(rt; file_of(&rt, &genome, text) == Err(LoadFault { line, cause }));
+        if file_of(rt, genome, text) != Err(LoadFault { line, cause }) {
+            return false;
+        }
     }
+    true
+}
+
+#[test]
+fn texts_of_bed_files(rt: HostRuntime) -> Result<(), Fail> {
+    let genome = Genome::parse(rt.alloc(), SIZES)?;
+    assert!(rt; are_read(&rt, &genome) && are_damaged(&rt, &genome));
     Ok(())
 }
 

@@ -25,13 +25,6 @@ fn is_printed(rt: &HostRuntime, genome: &Genome, line: &str) -> Result<bool, Fai
     Ok(sink.bytes() == want.as_bytes())
 }
 
-/// The line of a record whose name and score have so many letters.
-fn line_of(rt: &HostRuntime, sequence: &str, name: usize, score: usize) -> Result<String, Fail> {
-    let name = "n".repeat(rt.alloc(), name)?;
-    let score = "5".repeat(rt.alloc(), score)?;
-    Ok(format!(in rt.alloc(); "{sequence}\t7\t19\t{name}\t{score}\t-")?)
-}
-
 /// A genome with this sequence after another one.
 fn genome_with(rt: &HostRuntime, sequence: &str) -> Result<Genome, Fail> {
     let sizes = format!(in rt.alloc(); "chr1\t9\n{sequence}\t100\n")?;
@@ -44,7 +37,18 @@ fn is_printed_on(rt: &HostRuntime, sequence: &str, line: &str) -> Result<bool, F
     is_printed(rt, &genome, line)
 }
 
-/// Whether a record is printed whose sequence, name and score have so many letters.
+/// Whether a record with this sequence, this name and this score is printed.
+fn is_record_printed(
+    rt: &HostRuntime,
+    sequence: &str,
+    name: &str,
+    score: &str,
+) -> Result<bool, Fail> {
+    let line = format!(in rt.alloc(); "{sequence}\t7\t19\t{name}\t{score}\t-")?;
+    is_printed_on(rt, sequence, &line)
+}
+
+/// The same where each of them has so many letters.
 fn is_row_printed(
     rt: &HostRuntime,
     sequence: usize,
@@ -52,8 +56,9 @@ fn is_row_printed(
     score: usize,
 ) -> Result<bool, Fail> {
     let sequence = "c".repeat(rt.alloc(), sequence)?;
-    let line = line_of(rt, &sequence, name, score)?;
-    is_printed_on(rt, &sequence, &line)
+    let name = "n".repeat(rt.alloc(), name)?;
+    let score = "5".repeat(rt.alloc(), score)?;
+    is_record_printed(rt, &sequence, &name, &score)
 }
 
 #[test]

@@ -1,6 +1,6 @@
 //! Records of lines.
 use crate::fixtures::genome;
-use iv_text::{Genome, Record, RecordFault, RecordReader, Strand, read_record};
+use iv_text::{Genome, Record, RecordFault, RecordReader, RecordRef, Strand, read_record};
 use std::cmp::Ordering;
 use std::mem::size_of;
 use std::test::Fail;
@@ -47,6 +47,24 @@ fn faults_of_lines(rt: HostRuntime) -> Result<(), Fail> {
 /// Width, rank, start and stop, name and score, strand.
 type Cells<'a> = (u8, (u32, u64, u64), (&'a [u8], &'a [u8]), Option<Strand>);
 
+/// Whether a borrowed record has these columns.
+fn is_row(row: &RecordRef<'_>, cells: Cells<'_>) -> bool {
+    let (width, place, texts, strand) = cells;
+    row.width() == width
+        && (row.seq(), row.start(), row.stop()) == place
+        && (row.name(), row.score()) == texts
+        && row.strand() == strand
+}
+
+/// Whether an owned record has these columns.
+fn is_record(record: &Record, cells: Cells<'_>) -> bool {
+    let (width, place, texts, strand) = cells;
+    record.width() == width
+        && (record.seq(), record.start(), record.stop()) == place
+        && (record.name(), record.score()) == texts
+        && record.strand() == strand
+}
+
 /// Whether the record of a line has these columns, borrowed and owned.
 fn has_cells(
     rt: &HostRuntime,
@@ -54,21 +72,13 @@ fn has_cells(
     line: &[u8],
     cells: Cells<'_>,
 ) -> Result<bool, Fail> {
-    let (width, place, texts, strand) = cells;
+    let (width, _, _, _) = cells;
     if width < 3 || width > 6 {
         return Err(Fail::new("no width"));
     }
     let row = read_record(genome, width, line)?;
     let record = row.to_record(rt.alloc())?;
-    let borrowed = row.width() == width
-        && (row.seq(), row.start(), row.stop()) == place
-        && (row.name(), row.score()) == texts
-        && row.strand() == strand;
-    let owned = record.width() == width
-        && (record.seq(), record.start(), record.stop()) == place
-        && (record.name(), record.score()) == texts
-        && record.strand() == strand;
-    Ok(borrowed && owned)
+    Ok(is_row(&row, cells) && is_record(&record, cells))
 }
 
 /// Whether the records of these lines have the columns that they are to have.
@@ -256,13 +266,20 @@ fn keeps_name(rt: &HostRuntime, genome: &Genome, letters: usize) -> Result<bool,
     has_cells(rt, genome, line.as_bytes(), cells)
 }
 
-/// Both sides of each size of a block, and far beyond.
+/// Whether that is so on both sides of each size of a block, and far beyond.
+fn keeps_names(rt: &HostRuntime, genome: &Genome) -> Result<bool, Fail> {
+    for letters in [1, 21, 22, 37, 38, 300] {
+        if !keeps_name(rt, genome, letters)? {
+            return Ok(false);
+        }
+    }
+    Ok(true)
+}
+
 #[test]
 fn texts_of_each_size(rt: HostRuntime) -> Result<(), Fail> {
     let genome = genome(&rt)?;
-    for letters in [1, 21, 22, 37, 38, 300] {
-        assert!(rt; keeps_name(&rt, &genome, letters)?);
-    }
+    assert!(rt; keeps_names(&rt, &genome)?);
     Ok(())
 }
 

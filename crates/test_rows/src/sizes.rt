@@ -79,10 +79,16 @@ fn bed_file(rt: &HostRuntime, count: u32) -> Result<String, Fail> {
     Ok(text)
 }
 
-/// The track of a BED file on one sequence.
-fn track_of_text(rt: &HostRuntime, text: &[u8]) -> Result<Track, Fail> {
+/// Whether the track of that file holds its records.
+fn holds_records(rt: &HostRuntime, genome: &Genome, text: &[u8]) -> Result<bool, Fail> {
+    let track = track_of(rt.alloc(), genome, text)??;
+    Ok(track_holds(&track, MANY))
+}
+
+/// The same on a genome of one sequence.
+fn holds_on_genome(rt: &HostRuntime, text: &[u8]) -> Result<bool, Fail> {
     let genome = Genome::parse(rt.alloc(), b"big\t1000000\n")?;
-    Ok(track_of(rt.alloc(), &genome, text)??)
+    holds_records(rt, &genome, text)
 }
 
 #[test]
@@ -94,7 +100,6 @@ fn entries(rt: HostRuntime) -> Result<(), Fail> {
 #[test]
 fn records(rt: HostRuntime) -> Result<(), Fail> {
     let text = bed_file(&rt, MANY)?;
-    let track = track_of_text(&rt, text.as_bytes())?;
-    assert!(rt; track_holds(&track, MANY));
+    assert!(rt; holds_on_genome(&rt, text.as_bytes())?);
     Ok(())
 }

@@ -169,7 +169,7 @@ fn record(fault: RecordFault) -> LoadCause {
 }
 
 /// Whether each of these files is answered with its first fault, in whatever pieces it comes. Each may say two records.
-fn faults_are_told(rt: &HostRuntime, genome: &Genome) -> bool {
+fn faults_are_reported(rt: &HostRuntime, genome: &Genome) -> bool {
     for (text, line, cause) in [
         // A damaged last line, with LF and without.
         (
@@ -246,7 +246,7 @@ fn faults_are_told(rt: &HostRuntime, genome: &Genome) -> bool {
 #[test]
 fn damaged_files_in_pieces(rt: HostRuntime) -> Result<(), Fail> {
     let genome = Genome::parse(rt.alloc(), SIZES)?;
-    assert!(rt; faults_are_told(&rt, &genome));
+    assert!(rt; faults_are_reported(&rt, &genome));
     Ok(())
 }
 

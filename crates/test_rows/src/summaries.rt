@@ -1,9 +1,10 @@
 //! What operations give for values, and results over records.
+use crate::growths::{Run, growths};
 use iv_cover::{Column, ColumnSummary, Op, results, summary};
 use iv_text::{Genome, Record, read_record};
 use std::alloc::Global;
 use std::test::Fail;
-use test_faults::{RefusesNth, refuse_each};
+use test_faults::RefusesNth;
 
 /// Whether an operation gives this for values.
 fn gives(rt: &HostRuntime, op: Op, values: &[&[u8]], want: &[u8]) -> Result<bool, Fail> {
@@ -129,33 +130,46 @@ fn record<'a>(
     read_record(genome, 6, line).ok()?.to_record(alloc).ok()
 }
 
-/// Every column once.
-const EACH_COLUMN: [Column; 6] = [
-    Column::Sequence,
-    Column::Start,
-    Column::Stop,
-    Column::Name,
-    Column::Score,
-    Column::Strand,
-];
+/// The results of an operation over every column.
+fn asked(op: Op) -> [ColumnSummary; 6] {
+    [
+        Column::Sequence,
+        Column::Start,
+        Column::Stop,
+        Column::Name,
+        Column::Score,
+        Column::Strand,
+    ]
+    .map(|column| ColumnSummary { column, op })
+}
 
-/// The results of an operation over every column of two records, `None` where memory is refused.
-fn results_beside<'a>(
+/// Whether the results of an operation over every column of records are these, `None` where memory is refused.
+fn are_results<'a>(
+    alloc: &'a RefusesNth<Global>,
+    records: &[&Record<&'a RefusesNth<Global>>],
+    op: Op,
+    want: &[u8],
+) -> Option<bool> {
+    let text = results(alloc, &asked(op), b"chr1", records).ok()?;
+    Some(text.as_slice() == want)
+}
+
+/// The same of two records over a genome.
+fn are_results_over<'a>(
     alloc: &'a RefusesNth<Global>,
     genome: &Genome<&'a RefusesNth<Global>>,
     op: Op,
-) -> Option<Vec<u8, &'a RefusesNth<Global>>> {
+    want: &[u8],
+) -> Option<bool> {
     let first = record(alloc, genome, b"chr1\t100\t250\tb\t0.5\t-")?;
     let second = record(alloc, genome, b"chr1\t9\t1000\ta\t7\t.")?;
-    let asked = EACH_COLUMN.map(|column| ColumnSummary { column, op });
-    results(alloc, &asked, b"chr1", &[&first, &second]).ok()
+    are_results(alloc, &[&first, &second], op, want)
 }
 
-/// Whether the results of an operation over every column of the two records are these, `None` where memory is refused.
-fn are_results(alloc: &RefusesNth<Global>, op: Op, want: &[u8]) -> Option<bool> {
+/// The same where the genome is read too.
+fn are_results_in(alloc: &RefusesNth<Global>, op: Op, want: &[u8]) -> Option<bool> {
     let genome = Genome::parse(alloc, b"chr1\t1000\n").ok()?;
-    let text = results_beside(alloc, &genome, op)?;
-    Some(text.as_slice() == want)
+    are_results_over(alloc, &genome, op, want)
 }
 
 /// What each operation gives over every column of the two records.
@@ -172,8 +186,12 @@ const WANTED: [(Op, &[u8]); 6] = [
 ];
 
 /// How often there were no results, once where a growth was refused and else never; then they are to be these.
-fn refused_results(alloc: &RefusesNth<Global>, op: Op, want: &[u8]) -> Result<u32, Fail> {
-    match are_results(alloc, op, want) {
+pub(crate) fn refused_results(
+    alloc: &RefusesNth<Global>,
+    op: Op,
+    want: &[u8],
+) -> Result<u32, Fail> {
+    match are_results_in(alloc, op, want) {
         Some(true) if !alloc.has_refused() => Ok(0),
         None if alloc.has_refused() => Ok(1),
         _ => Err(Fail::new("other results")),
@@ -183,8 +201,7 @@ fn refused_results(alloc: &RefusesNth<Global>, op: Op, want: &[u8]) -> Result<u3
 #[test]
 fn results_over_records(rt: HostRuntime) -> Result<(), Fail> {
     for (op, want) in WANTED {
-        let refused = refuse_each(rt.alloc(), |alloc| refused_results(alloc, op, want))?;
-        assert!(rt; refused > 0);
+        assert!(rt; growths(&rt, Run::Results(op, want))? > 0);
     }
     Ok(())
 }

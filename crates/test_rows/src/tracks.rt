@@ -1,5 +1,5 @@
 //! Tracks of records of four columns.
-ghost use Rattle.std.specs.Prelude.{◌≡◌, IfOk};
+ghost use Rattle.std.specs.Prelude.{◌≡◌, ◌≤◌, IfOk, length};
 
 use crate::fixtures::{add, genome, replace, stage};
 use iv_text::{Genome, Record, read_record};
@@ -30,6 +30,50 @@ fn remove(track: &mut Track, row: &Record) -> u8 {
     }
 }
 
+/// Adds the record of a line. The number of the fault, 0 where there is none.
+fn add_line(rt: &HostRuntime, genome: &Genome, track: &mut Track, line: &[u8]) -> Result<u8, Fail>
+    requires { track.old.width ≡ 4 }
+{
+    let row = record(rt, genome, line)?;
+    Ok(add(track, row))
+}
+
+/// Stages the record of a line. The number of the fault, 0 where there is none.
+fn stage_line(rt: &HostRuntime, genome: &Genome, track: &mut Track, line: &[u8]) -> Result<u8, Fail>
+    requires room { length track.old.rows ≤ track.old.limit }
+    requires width { track.old.width ≡ 4 }
+{
+    let row = record(rt, genome, line)?;
+    Ok(stage(track, row))
+}
+
+/// Replaces the record of a line by that of another one. The number of the fault, 0 where there is none.
+fn replace_line(
+    rt: &HostRuntime,
+    genome: &Genome,
+    track: &mut Track,
+    line: &[u8],
+    other: &[u8],
+) -> Result<u8, Fail>
+    requires room { length track.old.rows ≤ track.old.limit }
+    requires width { track.old.width ≡ 4 }
+{
+    let old = record(rt, genome, line)?;
+    let new = record(rt, genome, other)?;
+    Ok(replace(track, &old, new))
+}
+
+/// Removes the record of a line. The number of the fault, 0 where there is none.
+fn remove_line(
+    rt: &HostRuntime,
+    genome: &Genome,
+    track: &mut Track,
+    line: &[u8],
+) -> Result<u8, Fail> {
+    let row = record(rt, genome, line)?;
+    Ok(remove(track, &row))
+}
+
 /// The number of an edit's fault, 0 where there is none.
 fn fault_of(
     rt: &HostRuntime,
@@ -42,13 +86,10 @@ fn fault_of(
     }
     let has_room = track.len() <= track.limit();
     match edit {
-        Edit::Add(line) => Ok(add(track, record(rt, genome, line)?)),
-        Edit::Remove(line) => Ok(remove(track, &record(rt, genome, line)?)),
-        Edit::Stage(line) if has_room => Ok(stage(track, record(rt, genome, line)?)),
-        Edit::Replace(old, new) if has_room => {
-            let old = record(rt, genome, old)?;
-            Ok(replace(track, &old, record(rt, genome, new)?))
-        }
+        Edit::Add(line) => add_line(rt, genome, track, line),
+        Edit::Remove(line) => remove_line(rt, genome, track, line),
+        Edit::Stage(line) if has_room => stage_line(rt, genome, track, line),
+        Edit::Replace(old, new) if has_room => replace_line(rt, genome, track, old, new),
         Edit::Stage(_) | Edit::Replace(_, _) => Err(Fail::new("more records than the limit")),
     }
 }
