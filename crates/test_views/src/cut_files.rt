@@ -86,10 +86,9 @@ fn reads(
     Ok(says(&fasta, want))
 }
 
-/// Several sequences, in lines of different widths, with descriptions, CR LF, empty lines and last lines without LF.
-#[test]
-fn cut_fasta_files(rt: HostRuntime) -> Result<(), Fail> {
-    let genome = genome(&rt)?;
+/// Whether files are read as they are to be wherever they are cut: several sequences, in lines of different widths, with
+/// descriptions, CR LF, empty lines and last lines without LF.
+fn are_sound(rt: &HostRuntime, genome: &Genome) -> Result<bool, LoadFault> {
     let all: [Option<&[u8]>; 3] = [Some(b"ACGTNacgtR"), Some(b"TTTTA"), Some(b"")];
     for text in [
         b">u\nTTTTA\n>x only here\nCC\nC\n>s\nACGTN\nacgtR\n>z".as_slice(),
@@ -97,8 +96,17 @@ fn cut_fasta_files(rt: HostRuntime) -> Result<(), Fail> {
         b"\n\r\n>z\n>s\nACGTNacg\n\n\ntR\n>name of none\nAC>GT\n>u\nTTTTA",
         b">zu\nAC\n>z\n>u a > and a CR: \r.\nTTTT\nA\n>s\nA\nC\nG\nT\nN\nacgt\nR\n>us\nA\n",
     ] {
-        assert!(rt; reads(&rt, &genome, text, all)? && wrong_cuts(&rt, &genome, text) == 0);
+        if !reads(rt, genome, text, all)? || wrong_cuts(rt, genome, text) != 0 {
+            return Ok(false);
+        }
     }
+    Ok(true)
+}
+
+#[test]
+fn cut_fasta_files(rt: HostRuntime) -> Result<(), Fail> {
+    let genome = genome(&rt)?;
+    assert!(rt; are_sound(&rt, &genome)?);
     Ok(())
 }
 
@@ -125,10 +133,8 @@ fn has_fault_up_to(
     true
 }
 
-/// One file worked out by hand, cut after each number of bytes.
-#[test]
-fn cuts_of_one_file(rt: HostRuntime) -> Result<(), Fail> {
-    let genome = genome(&rt)?;
+/// Whether one file of 39 bytes, worked out by hand, is read as it is to be after each cut.
+fn is_cut_file(rt: &HostRuntime, genome: &Genome) -> bool {
     let text = b">u 5\r\nTTT\r\nTA\r\n>ux\nAC\n>z\n>s\nACGTNacgtR\n".as_slice();
     for (sizes, want) in [
         // No byte, and a header without a name.
@@ -153,8 +159,16 @@ fn cuts_of_one_file(rt: HostRuntime) -> Result<(), Fail> {
         ((27, 37), damage(7, LoadCause::WrongLength)),
         ((38, 39), None),
     ] {
-        assert!(rt; has_fault_up_to(&rt, &genome, text, sizes, want));
+        if !has_fault_up_to(rt, genome, text, sizes, want) {
+            return false;
+        }
     }
-    assert!(rt; text.len() == 39);
+    text.len() == 39
+}
+
+#[test]
+fn cuts_of_one_file(rt: HostRuntime) -> Result<(), Fail> {
+    let genome = genome(&rt)?;
+    assert!(rt; is_cut_file(&rt, &genome));
     Ok(())
 }

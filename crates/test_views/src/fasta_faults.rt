@@ -8,16 +8,26 @@ fn fault_of(rt: &HostRuntime, genome: &Genome, text: &[u8]) -> Option<LoadFault>
     fasta_of(rt.alloc(), genome, text).err()
 }
 
-/// Each of these files has a fault of this cause at its line.
-fn check(rt: &HostRuntime, cause: LoadCause, texts: &[(&[u8], u64)]) -> Result<(), Fail> {
-    let genome = genome(rt)?;
+/// Each of these files has a fault of this cause at its line, over a genome.
+fn check_over(
+    rt: &HostRuntime,
+    genome: &Genome,
+    cause: LoadCause,
+    texts: &[(&[u8], u64)],
+) -> Result<(), Fail> {
     for (text, line) in texts {
         let line = *line;
-        if fault_of(rt, &genome, text) != Some(LoadFault { line, cause }) {
+        if fault_of(rt, genome, text) != Some(LoadFault { line, cause }) {
             return Err(Fail::new("another fault"));
         }
     }
     Ok(())
+}
+
+/// The same over the genome of three.
+fn check(rt: &HostRuntime, cause: LoadCause, texts: &[(&[u8], u64)]) -> Result<(), Fail> {
+    let genome = genome(rt)?;
+    check_over(rt, &genome, cause, texts)
 }
 
 #[test]

@@ -45,29 +45,9 @@ pub(crate) fn says<A: Allocator + Copy>(fasta: &Fasta<A>, want: [Option<&[u8]>; 
     true
 }
 
-/// The bases and the records of a run.
-#[derive(Drop)]
-pub(crate) struct Files {
-    pub(crate) genome: Genome,
-    pub(crate) fasta: Fasta,
-    pub(crate) track: Track,
-}
-
-/// What a genome file, a FASTA file and a BED file say.
-pub(crate) fn read_files(
-    rt: &HostRuntime,
-    sizes: &[u8],
-    bases: &[u8],
-    records: &[u8],
-) -> Result<Files, Fail> {
-    let genome = Genome::parse(rt.alloc(), sizes)?;
-    let fasta = fasta_of(rt.alloc(), &genome, bases)?;
-    let file = BedFile::parse(rt.alloc(), &genome, 3, LIMIT, records)?;
+/// The track of the records of a BED file.
+pub(crate) fn track_of(rt: &HostRuntime, genome: &Genome, text: &[u8]) -> Result<Track, Fail> {
+    let file = BedFile::parse(rt.alloc(), genome, 3, LIMIT, text)?;
     let width = file.width();
-    let track = Track::from_records(rt.alloc(), width, LIMIT, file.into_records())?;
-    Ok(Files {
-        genome,
-        fasta,
-        track,
-    })
+    Ok(Track::from_records(rt.alloc(), width, LIMIT, file.into_records())?)
 }

@@ -1,9 +1,10 @@
 //! Each growth of a FASTA file's memory, refused in turn.
 use crate::fasta_fixtures::{SIZES, fasta_of, says};
+use crate::growths::{Run, growths};
 use iv_text::{Genome, LoadCause, LoadFault};
 use std::alloc::Global;
 use std::test::Fail;
-use test_faults::{RefusesNth, refuse_each};
+use test_faults::RefusesNth;
 
 /// So many sequences that the tables of names grow.
 const COUNT: u32 = 40;
@@ -32,11 +33,24 @@ fn refused_beside<'a>(
     }
 }
 
-/// The same over a genome whose growths are all granted.
-fn refused(rt: &HostRuntime, alloc: &RefusesNth<Global>, text: &[u8]) -> Result<u32, Fail> {
-    let granting = RefusesNth::new(rt.alloc(), u64::MAX);
-    let genome = Genome::parse(&granting, SIZES)?;
+/// The same where a genome is read too.
+fn refused_over<'a>(
+    granting: &'a RefusesNth<Global>,
+    alloc: &'a RefusesNth<Global>,
+    text: &[u8],
+) -> Result<u32, Fail> {
+    let genome = Genome::parse(granting, SIZES)?;
     refused_beside(alloc, &genome, text)
+}
+
+/// The same, where all growths of the genome are granted.
+pub(crate) fn refused_bases(
+    rt: &HostRuntime,
+    alloc: &RefusesNth<Global>,
+    text: &[u8],
+) -> Result<u32, Fail> {
+    let granting = RefusesNth::new(rt.alloc(), u64::MAX);
+    refused_over(&granting, alloc, text)
 }
 
 /// How often memory was refused, by the fault of a sound file: once, since it can have no other, and that at no line.
@@ -55,8 +69,7 @@ fn memory_of(fault: LoadFault) -> Result<u32, Fail> {
 #[test]
 fn each_growth_refused_in_turn(rt: HostRuntime) -> Result<(), Fail> {
     let text = lines(&rt)?;
-    let text = text.as_bytes();
-    assert!(rt; COUNT < refuse_each(rt.alloc(), |alloc| refused(&rt, alloc, text))?);
+    assert!(rt; COUNT < growths(&rt, Run::Bases(text.as_bytes()))?);
     Ok(())
 }
 
@@ -81,18 +94,26 @@ fn refusal_of(fault: LoadFault) -> Result<u32, Fail> {
     }
 }
 
-/// Reads that file, and says how often it met the refusal, once or never.
-fn refused_beside_damage(rt: &HostRuntime, alloc: &RefusesNth<Global>) -> Result<u32, Fail> {
-    let granting = RefusesNth::new(rt.alloc(), u64::MAX);
-    let genome = Genome::parse(&granting, SIZES)?;
+/// Reads that file over a genome, and says how often it met the refusal, once or never.
+fn refused_damage_over<'a>(
+    granting: &'a RefusesNth<Global>,
+    alloc: &'a RefusesNth<Global>,
+) -> Result<u32, Fail> {
+    let genome = Genome::parse(granting, SIZES)?;
     match fault_beside(alloc, &genome) {
         Some(fault) => refusal_of(fault),
         None => Err(Fail::new("no fault")),
     }
 }
 
+/// The same, where all growths of the genome are granted.
+pub(crate) fn refused_damage(rt: &HostRuntime, alloc: &RefusesNth<Global>) -> Result<u32, Fail> {
+    let granting = RefusesNth::new(rt.alloc(), u64::MAX);
+    refused_damage_over(&granting, alloc)
+}
+
 #[test]
 fn damaged_files_without_memory(rt: HostRuntime) -> Result<(), Fail> {
-    assert!(rt; 0 < refuse_each(rt.alloc(), |alloc| refused_beside_damage(&rt, alloc))?);
+    assert!(rt; 0 < growths(&rt, Run::Damage)?);
     Ok(())
 }

@@ -1,71 +1,7 @@
 //! The rows of getfasta, worked out by hand.
-use crate::fasta_fixtures::{Files, SIZES, read_files};
-use iv_bytes::MemSink;
-use iv_fasta::{FastaRows, print_fasta};
-use iv_track::Meter;
+use crate::fasta_fixtures::SIZES;
+use crate::fasta_prints::{PLAIN, Prints, STRANDED, STRANDED_TAB, TAB, Texts, check};
 use std::test::Fail;
-
-/// The four ways of getfasta, without options first.
-const PLAIN: FastaRows = FastaRows {
-    stranded: false,
-    tab: false,
-};
-
-const TAB: FastaRows = FastaRows {
-    stranded: false,
-    tab: true,
-};
-
-const STRANDED: FastaRows = FastaRows {
-    stranded: true,
-    tab: false,
-};
-
-const STRANDED_TAB: FastaRows = FastaRows {
-    stranded: true,
-    tab: true,
-};
-
-/// What is printed into an output with room for this number of bytes, and whether that is all.
-fn printed(
-    rt: &HostRuntime,
-    shown: FastaRows,
-    files: &Files,
-    room: usize,
-) -> Result<(MemSink, bool), Fail> {
-    let mut sink = MemSink::new(rt.alloc(), room, 7)?;
-    let (track, fasta, genome) = (&files.track, &files.fasta, &files.genome);
-    let done = print_fasta(shown, track, fasta, genome, &mut Meter::new(), &mut sink);
-    Ok((sink, done.is_ok()))
-}
-
-/// Whether this is printed.
-fn prints(rt: &HostRuntime, shown: FastaRows, files: &Files, want: &[u8]) -> Result<bool, Fail> {
-    let (sink, done) = printed(rt, shown, files, 10_000)?;
-    Ok(done && sink.bytes() == want)
-}
-
-/// Prints records in ways of getfasta, which must give these texts.
-fn check(
-    rt: &HostRuntime,
-    sizes: &[u8],
-    bases: &[u8],
-    records: &[u8],
-    texts: &[(FastaRows, &[u8])],
-) -> Result<(), Fail> {
-    let files = read_files(rt, sizes, bases, records)?;
-    check_prints(rt, &files, texts)
-}
-
-/// Prints files in ways of getfasta, which must give these texts.
-fn check_prints(rt: &HostRuntime, files: &Files, texts: &[(FastaRows, &[u8])]) -> Result<(), Fail> {
-    for (shown, want) in texts {
-        if !prints(rt, *shown, files, want)? {
-            return Err(Fail::new("other rows"));
-        }
-    }
-    Ok(())
-}
 
 /// Ten bases, in lines of unequal length.
 const BASES: &[u8] = b">s test\nACGT\nNacg\ntR\n";
@@ -76,15 +12,17 @@ fn four_ways_of_getfasta(rt: HostRuntime) -> Result<(), Fail> {
     let records = b"s\t2\t6\tn\t0\t-\ns\t9\t10\tn\t0\t-\nu\t0\t5\tn\t0\t+\n";
     check(
         &rt,
-        SIZES,
-        BASES,
-        records,
-        &[
+        Texts {
+            sizes: SIZES,
+            bases: BASES,
+            records,
+        },
+        Prints::Each(&[
             (PLAIN, b">s:2-6\nGTNa\n>s:9-10\nR\n"),
             (TAB, b"s:2-6\tGTNa\ns:9-10\tR\n"),
             (STRANDED, b">s:2-6(-)\ntNAC\n>s:9-10(-)\nY\n"),
             (STRANDED_TAB, b"s:2-6(-)\ttNAC\ns:9-10(-)\tY\n"),
-        ],
+        ]),
     )
 }
 
@@ -94,10 +32,12 @@ fn three_strands(rt: HostRuntime) -> Result<(), Fail> {
     let records = b"s\t2\t6\tc\t0\t.\ns\t2\t6\ta\t0\t+\ns\t2\t6\tb\t0\t-\n";
     check(
         &rt,
-        SIZES,
-        BASES,
-        records,
-        &[
+        Texts {
+            sizes: SIZES,
+            bases: BASES,
+            records,
+        },
+        Prints::Each(&[
             (PLAIN, b">s:2-6\nGTNa\n>s:2-6\nGTNa\n>s:2-6\nGTNa\n"),
             (TAB, b"s:2-6\tGTNa\ns:2-6\tGTNa\ns:2-6\tGTNa\n"),
             (
@@ -108,7 +48,7 @@ fn three_strands(rt: HostRuntime) -> Result<(), Fail> {
                 STRANDED_TAB,
                 b"s:2-6(+)\tGTNa\ns:2-6(-)\ttNAC\ns:2-6(.)\tGTNa\n",
             ),
-        ],
+        ]),
     )
 }
 
@@ -118,15 +58,17 @@ fn records_of_three_columns(rt: HostRuntime) -> Result<(), Fail> {
     for records in [b"s\t2\t6\n".as_slice(), b"s\t2\t6\tn\n", b"s\t2\t6\tn\t0\n"] {
         check(
             &rt,
-            SIZES,
-            BASES,
-            records,
-            &[
+            Texts {
+                sizes: SIZES,
+                bases: BASES,
+                records,
+            },
+            Prints::Each(&[
                 (PLAIN, b">s:2-6\nGTNa\n"),
                 (TAB, b"s:2-6\tGTNa\n"),
                 (STRANDED, b">s:2-6\nGTNa\n"),
                 (STRANDED_TAB, b"s:2-6\tGTNa\n"),
-            ],
+            ]),
         )?;
     }
     Ok(())
@@ -137,14 +79,16 @@ fn records_of_three_columns(rt: HostRuntime) -> Result<(), Fail> {
 fn bases_without_a_complement(rt: HostRuntime) -> Result<(), Fail> {
     check(
         &rt,
-        b"s\t4\n",
-        b">s\naU*n\n",
-        b"s\t0\t4\tn\t0\t-\n",
-        &[
+        Texts {
+            sizes: b"s\t4\n",
+            bases: b">s\naU*n\n",
+            records: b"s\t0\t4\tn\t0\t-\n",
+        },
+        Prints::Each(&[
             (PLAIN, b">s:0-4\naU*n\n"),
             (STRANDED, b">s:0-4(-)\nn*At\n"),
             (STRANDED_TAB, b"s:0-4(-)\tn*At\n"),
-        ],
+        ]),
     )
 }
 
@@ -155,10 +99,12 @@ fn letters_of_bases(rt: HostRuntime) -> Result<(), Fail> {
     let want = b">s:0-32(-)\nnwsdhbvkmryaacgtNWSDHBVKMRYAACGT\n";
     check(
         &rt,
-        b"s\t32\n",
-        bases,
-        b"s\t0\t32\tn\t0\t-\n",
-        &[(STRANDED, want)],
+        Texts {
+            sizes: b"s\t32\n",
+            bases,
+            records: b"s\t0\t32\tn\t0\t-\n",
+        },
+        Prints::Each(&[(STRANDED, want)]),
     )
 }
 
@@ -170,10 +116,12 @@ fn examples_of_the_manual(rt: HostRuntime) -> Result<(), Fail> {
         b"chr1\t5\t10\tmyseq\t1\t+\nchr1\t20\t25\tforward\t1\t+\nchr1\t20\t25\treverse\t1\t-\n";
     check(
         &rt,
-        b"chr1\t45\n",
-        bases,
-        records,
-        &[
+        Texts {
+            sizes: b"chr1\t45\n",
+            bases,
+            records,
+        },
+        Prints::Each(&[
             (
                 PLAIN,
                 b">chr1:5-10\nAAACC\n>chr1:20-25\nCGCTA\n>chr1:20-25\nCGCTA\n",
@@ -186,7 +134,7 @@ fn examples_of_the_manual(rt: HostRuntime) -> Result<(), Fail> {
                 STRANDED,
                 b">chr1:5-10(+)\nAAACC\n>chr1:20-25(+)\nCGCTA\n>chr1:20-25(-)\nTAGCG\n",
             ),
-        ],
+        ]),
     )
 }
 
@@ -197,13 +145,15 @@ fn order_of_rows(rt: HostRuntime) -> Result<(), Fail> {
     let records = b"u\t4\t5\ns\t0\t10\nu\t0\t5\ns\t0\t1\nu\t4\t5\n";
     check(
         &rt,
-        SIZES,
-        bases,
-        records,
-        &[(
+        Texts {
+            sizes: SIZES,
+            bases,
+            records,
+        },
+        Prints::Each(&[(
             TAB,
             b"s:0-1\tA\ns:0-10\tACGTNacgtR\nu:0-5\tTTTTA\nu:4-5\tA\nu:4-5\tA\n",
-        )],
+        )]),
     )
 }
 
@@ -217,39 +167,24 @@ fn files_without_rows(rt: HostRuntime) -> Result<(), Fail> {
     ] {
         check(
             &rt,
-            SIZES,
-            bases,
-            records,
-            &[(PLAIN, b""), (STRANDED_TAB, b"")],
+            Texts {
+                sizes: SIZES,
+                bases,
+                records,
+            },
+            Prints::Each(&[(PLAIN, b""), (STRANDED_TAB, b"")]),
         )?;
     }
     Ok(())
 }
 
 /// What an output takes before it fails is the front of the text.
-const TEXT: &[u8] = b">s:2-6(-)\ntNAC\n>s:9-10(+)\nR\n";
-
-/// Whether a print into an output with this room fails, and has put the front of the text.
-fn is_cut(rt: &HostRuntime, files: &Files, room: usize) -> Result<bool, Fail> {
-    let (sink, done) = printed(rt, STRANDED, files, room)?;
-    Ok(!done && sink.bytes().len() == room && TEXT.starts_with(sink.bytes()))
-}
-
-/// Whether a print fails in an output of each size that is too small, and not in one that is large enough.
-fn fails_where_cut(rt: &HostRuntime, files: &Files) -> Result<bool, Fail> {
-    for room in 0..TEXT.len() {
-        if !is_cut(rt, files, room)? {
-            return Ok(false);
-        }
-    }
-    let (sink, done) = printed(rt, STRANDED, files, TEXT.len())?;
-    Ok(done && sink.bytes() == TEXT)
-}
-
 #[test]
 fn outputs_that_fail_in_the_middle(rt: HostRuntime) -> Result<(), Fail> {
-    let records = b"s\t2\t6\tn\t0\t-\ns\t9\t10\tn\t0\t+\nu\t0\t5\tn\t0\t+\n";
-    let files = read_files(&rt, SIZES, BASES, records)?;
-    assert!(rt; fails_where_cut(&rt, &files)?);
-    Ok(())
+    let texts = Texts {
+        sizes: SIZES,
+        bases: BASES,
+        records: b"s\t2\t6\tn\t0\t-\ns\t9\t10\tn\t0\t+\nu\t0\t5\tn\t0\t+\n",
+    };
+    check(&rt, texts, Prints::Cut(b">s:2-6(-)\ntNAC\n>s:9-10(+)\nR\n"))
 }

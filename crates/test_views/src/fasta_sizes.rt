@@ -1,9 +1,8 @@
 //! FASTA files of real sizes, and long rows: a body that gives up above some size is seen here alone.
-use crate::fasta_fixtures::{Files, fasta_of, has, read_files};
-use iv_bytes::MemSink;
-use iv_fasta::{Fasta, FastaRows, print_fasta};
+use crate::fasta_fixtures::{fasta_of, has};
+use crate::fasta_prints::{Prints, Texts, print};
+use iv_fasta::Fasta;
 use iv_text::Genome;
-use iv_track::Meter;
 use std::test::Fail;
 
 /// A text, this number of times.
@@ -27,11 +26,27 @@ fn joined(rt: &HostRuntime, texts: &[&[u8]]) -> Result<Vec<u8>, Fail> {
 /// Sixty bases.
 const LINE: &[u8] = b"ACGTNacgtRACGTNacgtRACGTNacgtRACGTNacgtRACGTNacgtRACGTNacgtR\n";
 
-/// Whether a FASTA file says these bases of its one sequence of this genome.
+/// Whether a FASTA file says these bases of the one sequence of a genome.
+fn reads_over(rt: &HostRuntime, genome: &Genome, text: &[u8], want: &[u8]) -> Result<bool, Fail> {
+    let fasta = fasta_of(rt.alloc(), genome, text)?;
+    Ok(has(&fasta, 0, Some(want)))
+}
+
+/// The same of a genome that is not read.
 fn reads(rt: &HostRuntime, sizes: &[u8], text: &[u8], want: &[u8]) -> Result<bool, Fail> {
     let genome = Genome::parse(rt.alloc(), sizes)?;
-    let fasta = fasta_of(rt.alloc(), &genome, text)?;
-    Ok(has(&fasta, 0, Some(want)))
+    reads_over(rt, &genome, text, want)
+}
+
+/// Whether a FASTA file of these lines says these bases of one long sequence.
+fn reads_long(rt: &HostRuntime, lines: &[u8], want: &[u8]) -> Result<bool, Fail> {
+    let text = joined(rt, &[b">big a chromosome\n", lines])?;
+    reads(rt, b"big\t2400000\n", text.as_slice(), want)
+}
+
+/// Whether bases are read from one line, and from others.
+fn reads_both(rt: &HostRuntime, bases: &[u8], lines: &[u8]) -> Result<bool, Fail> {
+    Ok(reads_long(rt, bases, bases)? && reads_long(rt, lines, bases)?)
 }
 
 /// The same bases in one line and in forty thousand.
@@ -39,11 +54,7 @@ fn reads(rt: &HostRuntime, sizes: &[u8], text: &[u8], want: &[u8]) -> Result<boo
 fn bases_of_megabytes(rt: HostRuntime) -> Result<(), Fail> {
     let bases = repeated(&rt, b"ACGTNacgtR", 240_000)?;
     let lines = repeated(&rt, LINE, 40_000)?;
-    let header = b">big a chromosome\n".as_slice();
-    for later in [bases.as_slice(), lines.as_slice()] {
-        let text = joined(&rt, &[header, later])?;
-        assert!(rt; reads(&rt, b"big\t2400000\n", text.as_slice(), bases.as_slice())?);
-    }
+    assert!(rt; reads_both(&rt, bases.as_slice(), lines.as_slice())?);
     Ok(())
 }
 
@@ -66,14 +77,21 @@ fn many_sizes(rt: &HostRuntime) -> Result<String, Fail> {
     Ok(sizes)
 }
 
-/// The FASTA file, with a line for each base.
+/// Puts the sequence of a number at the end of a FASTA file, with a line for each base.
+fn push_sequence(rt: &HostRuntime, bases: &mut String, number: u32) -> Result<(), Fail> {
+    let header = format!(in rt.alloc(); ">contig_{number} of many\n")?;
+    bases.push_str(header.as_str())?;
+    for _ in 0..size(number) {
+        bases.push_str("A\n")?;
+    }
+    Ok(())
+}
+
+/// The FASTA file.
 fn many_bases(rt: &HostRuntime) -> Result<String, Fail> {
     let mut bases = String::new(rt.alloc());
     for number in 0..MANY {
-        bases.push_str(format!(in rt.alloc(); ">contig_{number} of many\n")?.as_str())?;
-        for _ in 0..size(number) {
-            bases.push_str("A\n")?;
-        }
+        push_sequence(rt, &mut bases, number)?;
     }
     Ok(bases)
 }
@@ -88,42 +106,42 @@ fn has_many(fasta: &Fasta) -> bool {
     !fasta.covers(MANY / 2)
 }
 
-/// Whether a FASTA file of many sequences is read, of which the genome has every second one.
-fn reads_many(rt: &HostRuntime, genome: &Genome) -> Result<bool, Fail> {
-    let bases = many_bases(rt)?;
-    Ok(has_many(&fasta_of(rt.alloc(), genome, bases.as_bytes())?))
+/// Whether a FASTA file is read of whose sequences the genome has every second one.
+fn reads_many(rt: &HostRuntime, genome: &Genome, bases: &[u8]) -> Result<bool, Fail> {
+    let fasta = fasta_of(rt.alloc(), genome, bases)?;
+    Ok(has_many(&fasta))
 }
 
-/// The genome of every second sequence.
-fn many_in_genome(rt: &HostRuntime) -> Result<Genome, Fail> {
-    let sizes = many_sizes(rt)?;
-    Ok(Genome::parse(rt.alloc(), sizes.as_bytes())?)
+/// The same of a genome that is not read.
+fn reads_many_of(rt: &HostRuntime, sizes: &[u8], bases: &[u8]) -> Result<bool, Fail> {
+    let genome = Genome::parse(rt.alloc(), sizes)?;
+    reads_many(rt, &genome, bases)
 }
 
 #[test]
 fn many_sequences(rt: HostRuntime) -> Result<(), Fail> {
-    let genome = many_in_genome(&rt)?;
-    assert!(rt; reads_many(&rt, &genome)?);
+    let sizes = many_sizes(&rt)?;
+    let bases = many_bases(&rt)?;
+    assert!(rt; reads_many_of(&rt, sizes.as_bytes(), bases.as_bytes())?);
     Ok(())
 }
 
-/// A name that the genome lacks, one that it has, and a description, each of a hundred thousand bytes.
+/// Whether a FASTA file is read of two sequences whose names begin with these letters: one that the genome lacks, and one that it
+/// has, with a description.
+fn reads_named(rt: &HostRuntime, name: &[u8]) -> Result<bool, Fail> {
+    let sizes = joined(rt, &[name, b"a\t4\n"])?;
+    let text = joined(
+        rt,
+        &[b">", name, b"b\nTT\n>", name, b"a ", name, b"\nACGT\n"],
+    )?;
+    reads(rt, sizes.as_slice(), text.as_slice(), b"ACGT")
+}
+
+/// Names and a description, each of a hundred thousand bytes.
 #[test]
 fn long_headers(rt: HostRuntime) -> Result<(), Fail> {
     let letters = repeated(&rt, b"0123456789", 10_000)?;
-    let name = letters.as_slice();
-    let sizes = joined(&rt, &[name, b"a\t4\n"])?;
-    let texts = [
-        b">".as_slice(),
-        name,
-        b"b\nTT\n>",
-        name,
-        b"a ",
-        name,
-        b"\nACGT\n",
-    ];
-    let text = joined(&rt, &texts)?;
-    assert!(rt; reads(&rt, sizes.as_slice(), text.as_slice(), b"ACGT")?);
+    assert!(rt; reads_named(&rt, letters.as_slice())?);
     Ok(())
 }
 
@@ -133,68 +151,52 @@ fn long_bases(rt: &HostRuntime) -> Result<Vec<u8>, Fail> {
     joined(rt, &[b">s\n", bases.as_slice(), b"\n"])
 }
 
-/// A record of each strand between two places.
-fn records(rt: &HostRuntime, start: u32, stop: u32) -> Result<Vec<u8>, Fail> {
-    let place = format!(in rt.alloc(); "s\t{start}\t{stop}\tn\t0\t")?;
-    let front = place.as_bytes();
-    joined(rt, &[front, b"-\n", front, b"+\n"])
+/// A record of each strand at a place.
+fn records(rt: &HostRuntime, place: &[u8]) -> Result<Vec<u8>, Fail> {
+    joined(rt, &[place, b"\tn\t0\t-\n", place, b"\tn\t0\t+\n"])
 }
 
-/// These records on those bases.
-fn long(rt: &HostRuntime, start: u32, stop: u32) -> Result<Files, Fail> {
-    let bases = long_bases(rt)?;
-    let records = records(rt, start, stop)?;
-    read_files(rt, b"s\t5000\n", bases.as_slice(), records.as_slice())
-}
-
-/// What is printed of files with strands.
-fn printed(rt: &HostRuntime, files: &Files) -> Result<MemSink, Fail> {
-    let shown = FastaRows {
-        stranded: true,
-        tab: false,
-    };
-    let (track, fasta, genome) = (&files.track, &files.fasta, &files.genome);
-    let mut sink = MemSink::new(rt.alloc(), 20_000, 1_000)?;
-    print_fasta(shown, track, fasta, genome, &mut Meter::new(), &mut sink)?;
-    Ok(sink)
-}
-
-/// The rows of these two records, where the places are multiples of ten.
-fn rows(rt: &HostRuntime, start: u32, stop: u32) -> Result<Vec<u8>, Fail> {
-    let count = stop.saturating_sub(start) / 10;
+/// The rows of these two records, with these heads and this many times ten bases.
+fn rows(rt: &HostRuntime, head: &[u8], count: u32) -> Result<Vec<u8>, Fail> {
     let forward = repeated(rt, b"AACCGTNacR", count)?;
     let backward = repeated(rt, b"YgtNACGGTT", count)?;
-    let place = format!(in rt.alloc(); ">s:{start}-{stop}")?;
-    let head = place.as_bytes();
+    let (forward, backward) = (forward.as_slice(), backward.as_slice());
     joined(
         rt,
         &[
-            head,
-            b"(+)\n",
-            forward.as_slice(),
-            b"\n",
-            head,
-            b"(-)\n",
-            backward.as_slice(),
-            b"\n",
+            head, b"(+)\n", forward, b"\n", head, b"(-)\n", backward, b"\n",
         ],
     )
 }
 
-/// Whether files print these rows.
-fn print_as(rt: &HostRuntime, files: &Files, want: &[u8]) -> Result<bool, Fail> {
-    Ok(printed(rt, files)?.bytes() == want)
+/// Whether the records at a place print rows with this head.
+fn print_as(
+    rt: &HostRuntime,
+    bases: &[u8],
+    place: &[u8],
+    head: &[u8],
+    count: u32,
+) -> Result<bool, Fail> {
+    let want = rows(rt, head, count)?;
+    let records = records(rt, place)?;
+    let texts = Texts {
+        sizes: b"s\t5000\n",
+        bases,
+        records: records.as_slice(),
+    };
+    print(rt, texts, Prints::Long(want.as_slice()))
+}
+
+/// Whether records between these places, which are multiples of ten, print their rows.
+fn prints(rt: &HostRuntime, bases: &[u8], start: u32, stop: u32) -> Result<bool, Fail> {
+    let place = format!(in rt.alloc(); "s\t{start}\t{stop}")?;
+    let head = format!(in rt.alloc(); ">s:{start}-{stop}")?;
+    let count = stop.saturating_sub(start) / 10;
+    print_as(rt, bases, place.as_bytes(), head.as_bytes(), count)
 }
 
 /// Whether records between these places print their rows.
-fn prints(rt: &HostRuntime, start: u32, stop: u32) -> Result<bool, Fail> {
-    let want = rows(rt, start, stop)?;
-    let files = long(rt, start, stop)?;
-    print_as(rt, &files, want.as_slice())
-}
-
-#[test]
-fn long_rows(rt: HostRuntime) -> Result<(), Fail> {
+fn are_printed(rt: &HostRuntime, bases: &[u8]) -> Result<bool, Fail> {
     for (start, stop) in [
         (0, 5_000),
         (10, 260),
@@ -205,7 +207,16 @@ fn long_rows(rt: HostRuntime) -> Result<(), Fail> {
         (2_560, 4_990),
         (4_990, 5_000),
     ] {
-        assert!(rt; prints(&rt, start, stop)?);
+        if !prints(rt, bases, start, stop)? {
+            return Ok(false);
+        }
     }
+    Ok(true)
+}
+
+#[test]
+fn long_rows(rt: HostRuntime) -> Result<(), Fail> {
+    let bases = long_bases(&rt)?;
+    assert!(rt; are_printed(&rt, bases.as_slice())?);
     Ok(())
 }

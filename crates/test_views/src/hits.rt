@@ -1,6 +1,7 @@
 //! The hits of intervals.
 use crate::second_fixtures::{genome, second_of};
 use iv_pair::Second;
+use iv_text::Genome;
 use std::alloc::Allocator;
 use std::test::Fail;
 
@@ -40,10 +41,27 @@ fn all_hits_are(second: &Second, wanted: &[Hits<'_>]) -> bool {
     true
 }
 
-/// The second file of the records of a BED file.
-fn second(rt: &HostRuntime, text: &[u8]) -> Result<Second, Fail> {
+/// Whether the second file of a text has so many records of three columns, and its intervals these hits.
+fn has_hits(
+    rt: &HostRuntime,
+    genome: &Genome,
+    text: &[u8],
+    count: u32,
+    wanted: &[Hits<'_>],
+) -> Result<bool, Fail> {
+    let second = second_of(rt.alloc(), genome, text)??;
+    let numbers = (second.len(), second.width(), second.limit());
+    Ok(numbers == (count, 3, 1_000_000) && all_hits_are(&second, wanted))
+}
+
+/// Makes that second file over the genome of two, which must have them.
+fn check(rt: &HostRuntime, text: &[u8], count: u32, wanted: &[Hits<'_>]) -> Result<(), Fail> {
     let genome = genome(rt)?;
-    Ok(second_of(rt.alloc(), &genome, text)??)
+    if has_hits(rt, &genome, text, count, wanted)? {
+        Ok(())
+    } else {
+        Err(Fail::new("other hits"))
+    }
 }
 
 #[test]
@@ -61,10 +79,8 @@ fn records_that_share_a_position(rt: HostRuntime) -> Result<(), Fail> {
         (0, 4_294_967_294, 4_294_967_295, &[]),
         (0, u64::MAX - 1, u64::MAX, &[]),
     ];
-    let second = second(&rt, b"chr1\t20\t30\nchr1\t15\t18\nchr1\t15\t18\n")?;
-    let numbers = (second.len(), second.width(), second.limit());
-    assert!(rt; numbers == (3, 3, 1_000_000) && all_hits_are(&second, &wanted));
-    Ok(())
+    let text = b"chr1\t20\t30\nchr1\t15\t18\nchr1\t15\t18\n";
+    check(&rt, text, 3, &wanted)
 }
 
 #[test]
@@ -78,16 +94,12 @@ fn record_that_begins_long_before(rt: HostRuntime) -> Result<(), Fail> {
     ];
     let text =
         b"chr1\t0\t90\nchr1\t1\t2\nchr1\t50\t52\nchr1\t80\t82\nchr2\t0\t50\nchr2\t10\t11\nchr2\t30\t31\n";
-    let second = second(&rt, text)?;
-    assert!(rt; all_hits_are(&second, &wanted));
-    Ok(())
+    check(&rt, text, 7, &wanted)
 }
 
 #[test]
 fn second_file_without_records(rt: HostRuntime) -> Result<(), Fail> {
-    let second = second(&rt, b"# nothing\n")?;
-    assert!(rt; second.len() == 0 && hits_are(&second, 0, 0, 100, &[]));
-    Ok(())
+    check(&rt, b"# nothing\n", 0, &[(0, 0, 100, &[])])
 }
 
 /// How many records are many.
@@ -109,7 +121,5 @@ fn many_lines(rt: &HostRuntime) -> Result<String, Fail> {
 #[test]
 fn second_file_of_many_records(rt: HostRuntime) -> Result<(), Fail> {
     let text = many_lines(&rt)?;
-    let second = second(&rt, text.as_bytes())?;
-    assert!(rt; second.len() == MANY && hits_are(&second, 0, 99, 100, &[(98, 100)]));
-    Ok(())
+    check(&rt, text.as_bytes(), MANY, &[(0, 99, 100, &[(98, 100)])])
 }

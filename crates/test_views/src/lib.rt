@@ -12,17 +12,23 @@ mod fasta_files;
 #[cfg(test)]
 mod fasta_fixtures;
 #[cfg(test)]
+mod fasta_prints;
+#[cfg(test)]
 mod fasta_refusals;
 #[cfg(test)]
 mod fasta_rows;
 #[cfg(test)]
 mod fasta_sizes;
 #[cfg(test)]
+mod growths;
+#[cfg(test)]
 mod hits;
 #[cfg(test)]
 mod long_records;
 #[cfg(test)]
 mod opposites;
+#[cfg(test)]
+mod refused_edits;
 #[cfg(test)]
 mod second_edits;
 #[cfg(test)]

@@ -27,7 +27,16 @@ fn below(state: &mut u64, most: u64) -> u64 {
     next_number(state).checked_rem(most).unwrap_or(0)
 }
 
-/// Intervals in the order of a track, of which one in `long` may have up to 700 bases, and the others up to `short`.
+/// An interval, of which one in `long` may have up to 700 bases, and the others up to `short`.
+fn interval(state: &mut u64, long: u64, short: u64) -> Interval {
+    let seq = below(state, 3);
+    let start = below(state, 700);
+    let most = if below(state, long) == 0 { 700 } else { short };
+    let more = below(state, most);
+    (seq, start, start.saturating_add(1).saturating_add(more))
+}
+
+/// So many of them in the order of a track.
 fn intervals(
     rt: &HostRuntime,
     seed: u64,
@@ -38,15 +47,7 @@ fn intervals(
     let mut state = seed;
     let mut intervals = Vec::new(rt.alloc());
     for _ in 0..count {
-        let seq = below(&mut state, 3);
-        let start = below(&mut state, 700);
-        let most = if below(&mut state, long) == 0 {
-            700
-        } else {
-            short
-        };
-        let more = below(&mut state, most);
-        intervals.push((seq, start, start.saturating_add(1).saturating_add(more)))?;
+        intervals.push(interval(&mut state, long, short))?;
     }
     intervals.sort()?;
     Ok(intervals)
@@ -61,6 +62,25 @@ fn lines(rt: &HostRuntime, intervals: &[Interval]) -> Result<String, Fail> {
     Ok(text)
 }
 
+/// Puts the rows of an interval at the end of a text: with each of the second that overlaps it.
+fn push_pairs(
+    rt: &HostRuntime,
+    text: &mut String,
+    first: Interval,
+    second: &[Interval],
+) -> Result<(), Fail> {
+    let (seq, start, stop) = first;
+    for (rank, from, to) in second {
+        if seq == *rank && start < *to && *from < stop {
+            let row = format!(in rt.alloc();
+                "chr{seq}\t{start}\t{stop}\tchr{rank}\t{from}\t{to}\n"
+            )?;
+            text.push_str(row.as_str())?;
+        }
+    }
+    Ok(())
+}
+
 /// For each of the first and each of the second that overlaps it, both.
 fn pairs_by_looking(
     rt: &HostRuntime,
@@ -68,19 +88,13 @@ fn pairs_by_looking(
     second: &[Interval],
 ) -> Result<String, Fail> {
     let mut text = String::new(rt.alloc());
-    for (seq, start, stop) in first {
-        for (rank, from, to) in second {
-            if seq == rank && start < to && from < stop {
-                let row = format!(in rt.alloc();
-                    "chr{seq}\t{start}\t{stop}\tchr{rank}\t{from}\t{to}\n"
-                )?;
-                text.push_str(row.as_str())?;
-            }
-        }
+    for interval in first {
+        push_pairs(rt, &mut text, *interval, second)?;
     }
     Ok(text)
 }
 
+/// The track of the records of a BED file.
 fn track_of(rt: &HostRuntime, genome: &Genome, text: &[u8]) -> Result<Track, Fail> {
     let file = BedFile::parse(rt.alloc(), genome, 3, 1_000_000, text)?;
     let width = file.width();

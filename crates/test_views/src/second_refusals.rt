@@ -1,11 +1,12 @@
 //! Each growth of a second file's memory, refused in turn.
+use crate::growths::{Run, growths};
 use crate::hits::hits_are;
 use crate::second_fixtures::{SIZES, second_of};
 use iv_pair::Second;
 use iv_text::{Genome, LoadCause};
 use std::alloc::Global;
 use std::test::Fail;
-use test_faults::{RefusesNth, refuse_each};
+use test_faults::RefusesNth;
 
 /// So many records, of so many lengths, that the trees split.
 const COUNT: u64 = 30;
@@ -40,7 +41,7 @@ fn refused_beside<'a>(
 }
 
 /// The same of a genome and the second file. Where the genome met the refusal the second file did not.
-fn refused(alloc: &RefusesNth<Global>, text: &[u8]) -> Result<u32, Fail> {
+pub(crate) fn refused_second(alloc: &RefusesNth<Global>, text: &[u8]) -> Result<u32, Fail> {
     match Genome::parse(alloc, SIZES) {
         Ok(genome) => refused_beside(alloc, &genome, text),
         Err(_) => Ok(0),
@@ -50,6 +51,6 @@ fn refused(alloc: &RefusesNth<Global>, text: &[u8]) -> Result<u32, Fail> {
 #[test]
 fn each_growth_refused_in_turn(rt: HostRuntime) -> Result<(), Fail> {
     let text = lines(&rt)?;
-    assert!(rt; 2 < refuse_each(rt.alloc(), |alloc| refused(alloc, text.as_bytes()))?);
+    assert!(rt; 2 < growths(&rt, Run::Second(text.as_bytes()))?);
     Ok(())
 }
