@@ -2,7 +2,7 @@
 //!
 //! What is left of a sound file is sound too, or it has a fault that only its end can show: one of its last line, which is cut,
 //! or the wrong length of its last sequence, reported with the line of that sequence's header. Nothing before can have a fault.
-use crate::fasta_fixtures::{fasta_of, genome, says};
+use crate::fasta_fixtures::{fasta_of, genome, holds, says};
 use iv_fasta::Fasta;
 use iv_text::{Genome, LoadCause, LoadFault};
 use std::test::Fail;
@@ -88,7 +88,7 @@ fn reads(
 
 /// Whether files are read as they are to be wherever they are cut: several sequences, in lines of different widths, with
 /// descriptions, CR LF, empty lines and last lines without LF.
-fn are_sound(rt: &HostRuntime, genome: &Genome) -> Result<bool, LoadFault> {
+fn are_sound(rt: &HostRuntime, genome: &Genome) -> Result<bool, Fail> {
     let all: [Option<&[u8]>; 3] = [Some(b"ACGTNacgtR"), Some(b"TTTTA"), Some(b"")];
     for text in [
         b">u\nTTTTA\n>x only here\nCC\nC\n>s\nACGTN\nacgtR\n>z".as_slice(),
@@ -106,8 +106,7 @@ fn are_sound(rt: &HostRuntime, genome: &Genome) -> Result<bool, LoadFault> {
 #[test]
 fn cut_fasta_files(rt: HostRuntime) -> Result<(), Fail> {
     let genome = genome(&rt)?;
-    assert!(rt; are_sound(&rt, &genome)?);
-    Ok(())
+    holds(are_sound(&rt, &genome))
 }
 
 /// A fault of a line.

@@ -8,10 +8,19 @@ use std::test::Fail;
 /// A genome of three sequences, of 10 bases, of 5 and of none.
 pub(crate) const SIZES: &[u8] = b"s\t10\nu\t5\nz\t0\n";
 
-const LIMIT: u32 = 1_000;
+const LIMIT: u32 = 1_000_000;
 
 pub(crate) fn genome(rt: &HostRuntime) -> Result<Genome, LoadFault> {
     Genome::parse(rt.alloc(), SIZES)
+}
+
+/// No failure where something is so.
+pub(crate) fn holds(is_so: Result<bool, Fail>) -> Result<(), Fail> {
+    if is_so? {
+        Ok(())
+    } else {
+        Err(Fail::new("it is not so"))
+    }
 }
 
 /// What a FASTA file of these bytes says.

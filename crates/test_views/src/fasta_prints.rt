@@ -1,5 +1,5 @@
 //! What getfasta prints of files.
-use crate::fasta_fixtures::{fasta_of, track_of};
+use crate::fasta_fixtures::{fasta_of, holds, track_of};
 use iv_bytes::MemSink;
 use iv_fasta::{Fasta, FastaRows, print_fasta};
 use iv_text::Genome;
@@ -156,9 +156,5 @@ pub(crate) fn print(rt: &HostRuntime, texts: Texts<'_>, prints: Prints<'_>) -> R
 
 /// Prints texts, which must give what they are to.
 pub(crate) fn check(rt: &HostRuntime, texts: Texts<'_>, prints: Prints<'_>) -> Result<(), Fail> {
-    if print(rt, texts, prints)? {
-        Ok(())
-    } else {
-        Err(Fail::new("other rows"))
-    }
+    holds(print(rt, texts, prints))
 }

@@ -1,5 +1,5 @@
 //! FASTA files of real sizes, and long rows: a body that gives up above some size is seen here alone.
-use crate::fasta_fixtures::{fasta_of, has};
+use crate::fasta_fixtures::{fasta_of, has, holds};
 use crate::fasta_prints::{Prints, Texts, print};
 use iv_fasta::Fasta;
 use iv_text::Genome;
@@ -54,8 +54,7 @@ fn reads_both(rt: &HostRuntime, bases: &[u8], lines: &[u8]) -> Result<bool, Fail
 fn bases_of_megabytes(rt: HostRuntime) -> Result<(), Fail> {
     let bases = repeated(&rt, b"ACGTNacgtR", 240_000)?;
     let lines = repeated(&rt, LINE, 40_000)?;
-    assert!(rt; reads_both(&rt, bases.as_slice(), lines.as_slice())?);
-    Ok(())
+    holds(reads_both(&rt, bases.as_slice(), lines.as_slice()))
 }
 
 /// How many sequences are many.
@@ -122,8 +121,7 @@ fn reads_many_of(rt: &HostRuntime, sizes: &[u8], bases: &[u8]) -> Result<bool, F
 fn many_sequences(rt: HostRuntime) -> Result<(), Fail> {
     let sizes = many_sizes(&rt)?;
     let bases = many_bases(&rt)?;
-    assert!(rt; reads_many_of(&rt, sizes.as_bytes(), bases.as_bytes())?);
-    Ok(())
+    holds(reads_many_of(&rt, sizes.as_bytes(), bases.as_bytes()))
 }
 
 /// Whether a FASTA file is read of two sequences whose names begin with these letters: one that the genome lacks, and one that it
@@ -141,8 +139,7 @@ fn reads_named(rt: &HostRuntime, name: &[u8]) -> Result<bool, Fail> {
 #[test]
 fn long_headers(rt: HostRuntime) -> Result<(), Fail> {
     let letters = repeated(&rt, b"0123456789", 10_000)?;
-    assert!(rt; reads_named(&rt, letters.as_slice())?);
-    Ok(())
+    holds(reads_named(&rt, letters.as_slice()))
 }
 
 /// A FASTA file of five thousand bases, which are ten bases again and again.
@@ -217,6 +214,5 @@ fn are_printed(rt: &HostRuntime, bases: &[u8]) -> Result<bool, Fail> {
 #[test]
 fn long_rows(rt: HostRuntime) -> Result<(), Fail> {
     let bases = long_bases(&rt)?;
-    assert!(rt; are_printed(&rt, bases.as_slice())?);
-    Ok(())
+    holds(are_printed(&rt, bases.as_slice()))
 }

@@ -1,4 +1,5 @@
 //! The hits of intervals.
+use crate::fasta_fixtures::holds;
 use crate::second_fixtures::{genome, second_of};
 use iv_pair::Second;
 use iv_text::Genome;
@@ -57,11 +58,7 @@ fn has_hits(
 /// Makes that second file over the genome of two, which must have them.
 fn check(rt: &HostRuntime, text: &[u8], count: u32, wanted: &[Hits<'_>]) -> Result<(), Fail> {
     let genome = genome(rt)?;
-    if has_hits(rt, &genome, text, count, wanted)? {
-        Ok(())
-    } else {
-        Err(Fail::new("other hits"))
-    }
+    holds(has_hits(rt, &genome, text, count, wanted))
 }
 
 #[test]

@@ -1,8 +1,9 @@
 //! Prints beside many long records, and beside copies, against a look at each pair of records.
+use crate::fasta_fixtures::track_of;
 use crate::second_fixtures::second_of;
 use iv_bytes::MemSink;
 use iv_pair::{IntersectRows, PairRows, Second, print_pairs};
-use iv_text::{BedFile, Genome};
+use iv_text::Genome;
 use iv_track::{Meter, Track};
 use std::test::Fail;
 
@@ -92,13 +93,6 @@ fn pairs_by_looking(
         push_pairs(rt, &mut text, *interval, second)?;
     }
     Ok(text)
-}
-
-/// The track of the records of a BED file.
-fn track_of(rt: &HostRuntime, genome: &Genome, text: &[u8]) -> Result<Track, Fail> {
-    let file = BedFile::parse(rt.alloc(), genome, 3, 1_000_000, text)?;
-    let width = file.width();
-    Ok(Track::from_records(rt.alloc(), width, 1_000_000, file.into_records())?)
 }
 
 /// Whether `intersect -wa -wb` prints this.

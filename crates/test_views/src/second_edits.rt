@@ -1,4 +1,5 @@
 //! Edits of a second file, called directly.
+use crate::fasta_fixtures::holds;
 use crate::hits::hits_are;
 use crate::second_fixtures::{genome, second_within};
 use iv_pair::Second;
@@ -27,24 +28,18 @@ fn record<A: Allocator + Copy>(
     Ok(read_record(genome, 3, line)?.to_record(alloc)?)
 }
 
-/// Adds a record, and gives the answer.
-fn add<A: Allocator + Copy>(second: &mut Second<A>, row: Record<A>) -> Result<Answer, Fail> {
+/// Adds the record of a line, and gives the answer.
+fn add_line<A: Allocator + Copy>(
+    alloc: A,
+    genome: &Genome<A>,
+    second: &mut Second<A>,
+    line: &[u8],
+) -> Result<Answer, Fail> {
+    let row = record(alloc, genome, line)?;
     if row.width() != second.width() {
         return Err(Fail::new("another width"));
     }
     Ok(second.add(row, &mut Meter::new()))
-}
-
-/// Replaces a record, and gives the answer.
-fn replace<A: Allocator + Copy>(
-    second: &mut Second<A>,
-    old: &Record<A>,
-    new: Record<A>,
-) -> Result<Answer, Fail> {
-    if new.width() != second.width() {
-        return Err(Fail::new("another width"));
-    }
-    Ok(second.replace(old, new, &mut Meter::new()))
 }
 
 /// Removes the record of a line, and gives the answer.
@@ -58,6 +53,21 @@ fn remove_line<A: Allocator + Copy>(
     Ok(second.remove(&row, &mut Meter::new()))
 }
 
+/// Replaces a record by that of a line, and gives the answer.
+fn replace_by<A: Allocator + Copy>(
+    alloc: A,
+    genome: &Genome<A>,
+    second: &mut Second<A>,
+    old: &Record<A>,
+    line: &[u8],
+) -> Result<Answer, Fail> {
+    let new = record(alloc, genome, line)?;
+    if new.width() != second.width() {
+        return Err(Fail::new("another width"));
+    }
+    Ok(second.replace(old, new, &mut Meter::new()))
+}
+
 /// Replaces the record of a line by that of another one, and gives the answer.
 fn replace_line<A: Allocator + Copy>(
     alloc: A,
@@ -67,7 +77,7 @@ fn replace_line<A: Allocator + Copy>(
     other: &[u8],
 ) -> Result<Answer, Fail> {
     let old = record(alloc, genome, line)?;
-    replace(second, &old, record(alloc, genome, other)?)
+    replace_by(alloc, genome, second, &old, other)
 }
 
 /// Does an edit, and gives its answer.
@@ -78,7 +88,7 @@ pub(crate) fn answer_to<A: Allocator + Copy>(
     edit: Edit<'_>,
 ) -> Result<Answer, Fail> {
     match edit {
-        Edit::Add(line) => add(second, record(alloc, genome, line)?),
+        Edit::Add(line) => add_line(alloc, genome, second, line),
         Edit::Remove(line) => remove_line(alloc, genome, second, line),
         Edit::Replace(old, new) => replace_line(alloc, genome, second, old, new),
     }
@@ -99,7 +109,8 @@ fn all_answer(
     Ok(true)
 }
 
-/// Whether edits of a second file of two records, which is as many as it may have, answer what they are to.
+/// Whether edits of a second file of two records, which is as many as it may have, answer what they are to, and which records there
+/// are then.
 fn answer_at_limit(rt: &HostRuntime, genome: &Genome, second: &mut Second) -> Result<bool, Fail> {
     let wanted = [
         (Edit::Add(b"chr1\t1\t2"), Err(EditFault::Full), 2),
@@ -113,19 +124,18 @@ fn answer_at_limit(rt: &HostRuntime, genome: &Genome, second: &mut Second) -> Re
         (Edit::Remove(b"chr1\t30\t40"), Ok(()), 1),
         (Edit::Add(b"chr1\t45\t46"), Ok(()), 2),
     ];
-    all_answer(rt, genome, second, &wanted)
+    let answers = all_answer(rt, genome, second, &wanted)?;
+    Ok(answers && hits_are(second, 0, 45, 46, &[(0, 50), (45, 46)]))
 }
 
-/// Whether that is so of the records of a text, and which records there are then.
+/// Whether that is so of the records of a text.
 fn is_limited(rt: &HostRuntime, genome: &Genome) -> Result<bool, Fail> {
     let mut second = second_within(rt.alloc(), genome, 2, b"chr1\t10\t20\nchr1\t30\t40\n")??;
-    let answers = answer_at_limit(rt, genome, &mut second)?;
-    Ok(answers && hits_are(&second, 0, 45, 46, &[(0, 50), (45, 46)]))
+    answer_at_limit(rt, genome, &mut second)
 }
 
 #[test]
 fn edits_at_the_limit(rt: HostRuntime) -> Result<(), Fail> {
     let genome = genome(&rt)?;
-    assert!(rt; is_limited(&rt, &genome)?);
-    Ok(())
+    holds(is_limited(&rt, &genome))
 }

@@ -4,7 +4,7 @@ use crate::hits::hits_are;
 use crate::second_fixtures::{SIZES, second_of};
 use iv_pair::Second;
 use iv_text::{Genome, LoadCause};
-use std::alloc::Global;
+use std::alloc::{AllocError, Global};
 use std::test::Fail;
 use test_faults::RefusesNth;
 
@@ -21,9 +21,21 @@ fn lines(rt: &HostRuntime) -> Result<String, Fail> {
     Ok(text)
 }
 
-/// Whether the second file is that of the lines.
-fn is_right(second: &Second<&RefusesNth<Global>>) -> bool {
-    second.len() == 30 && hits_are(second, 0, 2, 3, &[(1, 40), (2, 40)])
+/// How often memory was refused for a second file, which is to be that of the lines: never, where it is made.
+fn memory_of(made: Result<Second<&RefusesNth<Global>>, AllocError>) -> Result<u32, Fail> {
+    match made {
+        Ok(second) => check_second(&second),
+        Err(_) => Ok(1),
+    }
+}
+
+/// Gives 0 where the second file is that of the lines.
+fn check_second(second: &Second<&RefusesNth<Global>>) -> Result<u32, Fail> {
+    if second.len() == 30 && hits_are(second, 0, 2, 3, &[(1, 40), (2, 40)]) {
+        Ok(0)
+    } else {
+        Err(Fail::new("another second file"))
+    }
 }
 
 /// Makes the second file, and says how often it met the refusal, once or never; not where its lines did.
@@ -33,10 +45,9 @@ fn refused_beside<'a>(
     text: &[u8],
 ) -> Result<u32, Fail> {
     match second_of(alloc, genome, text) {
-        Ok(Ok(second)) if is_right(&second) => Ok(0),
-        Ok(Err(_)) => Ok(1),
+        Ok(made) => memory_of(made),
         Err(fault) if fault.cause == LoadCause::Memory => Ok(0),
-        _ => Err(Fail::new("another second file")),
+        Err(_) => Err(Fail::new("another fault")),
     }
 }
 
