@@ -1,5 +1,5 @@
 //! Each growth of copying a record and of making a sink, refused in turn.
-use crate::fixtures::genome;
+use crate::fixtures::{genome, holds};
 use crate::growths::{Run, growths};
 use iv_bytes::{MemSink, Sink};
 use iv_text::{Genome, Record, RecordRef, read_record};
@@ -87,22 +87,20 @@ fn take_growths(rt: &HostRuntime, genome: &Genome) -> Result<bool, Fail> {
 #[test]
 fn each_growth_of_a_copy_refused(rt: HostRuntime) -> Result<(), Fail> {
     let genome = genome(&rt)?;
-    assert!(rt; take_growths(&rt, &genome)?);
-    Ok(())
+    holds(take_growths(&rt, &genome))
 }
 
-/// How many growths the copy of a record of three columns takes.
-fn growths_without_texts(rt: &HostRuntime, genome: &Genome) -> Result<u32, Fail> {
+/// Whether the copy of a record of three columns takes no growth.
+fn takes_no_growth(rt: &HostRuntime, genome: &Genome) -> Result<bool, Fail> {
     let row = read_record(genome, 3, b"chr1\t10\t20")?;
-    growths(rt, Run::Copy(&row, (b"", b"")))
+    Ok(growths(rt, Run::Copy(&row, (b"", b"")))? == 0)
 }
 
 /// A record of three columns takes no memory.
 #[test]
 fn a_copy_without_texts(rt: HostRuntime) -> Result<(), Fail> {
     let genome = genome(&rt)?;
-    assert!(rt; growths_without_texts(&rt, &genome)? == 0);
-    Ok(())
+    holds(takes_no_growth(&rt, &genome))
 }
 
 /// Whether a sink takes so many bytes one by one, and no more.

@@ -4,12 +4,22 @@ ghost use Rattle.std.specs.Prelude.{◌≡◌, ◌≤◌, length};
 use iv_text::{BedFile, Genome, LoadFault, Record};
 use iv_track::{Meter, Track};
 use std::alloc::{AllocError, Allocator};
+use std::test::Fail;
 
 /// A genome of three sequences, of 100 bases, of 50 and of none.
 pub(crate) const SIZES: &[u8] = b"chr1\t100\nchr2\t50\nchr3\t0\n";
 
 pub(crate) fn genome(rt: &HostRuntime) -> Result<Genome, LoadFault> {
     Genome::parse(rt.alloc(), SIZES)
+}
+
+/// No failure where something is so.
+pub(crate) fn holds(is_so: Result<bool, Fail>) -> Result<(), Fail> {
+    if is_so? {
+        Ok(())
+    } else {
+        Err(Fail::new("it is not so"))
+    }
 }
 
 /// The track of the records of a BED file, which holds at most a limit of them.

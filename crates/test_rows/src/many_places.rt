@@ -1,4 +1,5 @@
 //! Many places of a BED file, and each growth of reading some of them, refused in turn.
+use crate::fixtures::holds;
 use crate::growths::{Reading, Run, growths, memory_of};
 use crate::places::{SIZES, bed_text};
 use iv_index::{Span, Spans, TextRecords};
@@ -69,8 +70,7 @@ fn is_sorted(rt: &HostRuntime, genome: &Genome) -> Result<bool, Fail> {
 #[test]
 fn many_records_and_places_of_a_text(rt: HostRuntime) -> Result<(), Fail> {
     let genome = Genome::parse(rt.alloc(), SIZES)?;
-    assert!(rt; is_sorted(&rt, &genome)?);
-    Ok(())
+    holds(is_sorted(&rt, &genome))
 }
 
 /// How many records a text has, and where the last one starts, or its fault.

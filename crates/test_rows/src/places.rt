@@ -1,4 +1,5 @@
 //! BED files as places in their text.
+use crate::fixtures::holds;
 use iv_index::{BedText, TextRecord, TextRecords};
 use iv_text::{Genome, LoadCause, LoadFault, RecordFault, Strand};
 use std::alloc::Allocator;
@@ -149,8 +150,7 @@ fn have_columns(rt: &HostRuntime, genome: &Genome) -> Result<bool, Fail> {
 #[test]
 fn columns_of_text_records(rt: HostRuntime) -> Result<(), Fail> {
     let genome = Genome::parse(rt.alloc(), SIZES)?;
-    assert!(rt; have_columns(&rt, &genome)?);
-    Ok(())
+    holds(have_columns(&rt, &genome))
 }
 
 /// The starts of records, as a number with two digits for each.
@@ -209,8 +209,7 @@ fn is_found(rt: &HostRuntime, genome: &Genome, text: &[u8]) -> Result<bool, Fail
 fn ways_to_the_records(rt: HostRuntime) -> Result<(), Fail> {
     let genome = Genome::parse(rt.alloc(), SIZES)?;
     let text = b"chr1\t11\t12\nchr1\t22\t23\n\nchr2\t33\t34\n";
-    assert!(rt; is_found(&rt, &genome, text)?);
-    Ok(())
+    holds(is_found(&rt, &genome, text))
 }
 
 #[test]

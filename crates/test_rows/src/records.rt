@@ -1,5 +1,5 @@
 //! Records of lines.
-use crate::fixtures::genome;
+use crate::fixtures::{genome, holds};
 use iv_text::{Genome, Record, RecordFault, RecordReader, RecordRef, Strand, read_record};
 use std::cmp::Ordering;
 use std::mem::size_of;
@@ -107,8 +107,7 @@ fn have_columns(rt: &HostRuntime, genome: &Genome) -> Result<bool, Fail> {
 #[test]
 fn columns_of_records(rt: HostRuntime) -> Result<(), Fail> {
     let genome = genome(&rt)?;
-    assert!(rt; have_columns(&rt, &genome)?);
-    Ok(())
+    holds(have_columns(&rt, &genome))
 }
 
 /// Whether the record of a line of four columns fits a genome, borrowed and owned.
@@ -128,11 +127,16 @@ fn check_fits(rt: &HostRuntime, genome: &Genome, small: &Genome) -> Result<(), F
     Ok(())
 }
 
+/// The same, where the smaller one is not read yet.
+fn check_beside_small(rt: &HostRuntime, genome: &Genome) -> Result<(), Fail> {
+    let small = Genome::parse(rt.alloc(), b"chr1\t19\n")?;
+    check_fits(rt, genome, &small)
+}
+
 #[test]
 fn records_that_fit(rt: HostRuntime) -> Result<(), Fail> {
     let genome = genome(&rt)?;
-    let small = Genome::parse(rt.alloc(), b"chr1\t19\n")?;
-    check_fits(&rt, &genome, &small)
+    check_beside_small(&rt, &genome)
 }
 
 /// What a text begins with, where it is known as a line of this width after one of `chr2`: rank, start, stop and how many bytes.
@@ -253,8 +257,7 @@ fn are_in_order(rt: &HostRuntime, genome: &Genome) -> Result<bool, Fail> {
 #[test]
 fn order_of_records(rt: HostRuntime) -> Result<(), Fail> {
     let genome = genome(&rt)?;
-    assert!(rt; are_in_order(&rt, &genome)?);
-    Ok(())
+    holds(are_in_order(&rt, &genome))
 }
 
 /// Whether a record keeps a name of this number of letters, and a score of one.
@@ -279,8 +282,7 @@ fn keeps_names(rt: &HostRuntime, genome: &Genome) -> Result<bool, Fail> {
 #[test]
 fn texts_of_each_size(rt: HostRuntime) -> Result<(), Fail> {
     let genome = genome(&rt)?;
-    assert!(rt; keeps_names(&rt, &genome)?);
-    Ok(())
+    holds(keeps_names(&rt, &genome))
 }
 
 #[test]

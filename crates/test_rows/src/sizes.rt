@@ -1,5 +1,5 @@
 //! Calls at real sizes: a body that gives up above some size and says that memory ran out is seen here alone.
-use crate::fixtures::track_of;
+use crate::fixtures::{holds, track_of};
 use iv_text::{Genome, LoadCause, LoadFault};
 use iv_track::{Ledger, Meter, Track};
 use std::test::Fail;
@@ -100,6 +100,5 @@ fn entries(rt: HostRuntime) -> Result<(), Fail> {
 #[test]
 fn records(rt: HostRuntime) -> Result<(), Fail> {
     let text = bed_file(&rt, MANY)?;
-    assert!(rt; holds_on_genome(&rt, text.as_bytes())?);
-    Ok(())
+    holds(holds_on_genome(&rt, text.as_bytes()))
 }

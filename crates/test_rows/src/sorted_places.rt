@@ -1,4 +1,5 @@
 //! The places of a BED file in the order of a track, and each growth of reading and sorting them, refused in turn.
+use crate::fixtures::holds;
 use crate::growths::{Reading, Run, growths};
 use crate::places::{SIZES, bed_text, has_cells};
 use iv_index::{Span, Spans, TextRecords};
@@ -155,8 +156,7 @@ fn do_all_ties_sort(rt: &HostRuntime, genome: &Genome) -> Result<bool, Fail> {
 #[test]
 fn records_of_one_start(rt: HostRuntime) -> Result<(), Fail> {
     let genome = Genome::parse(rt.alloc(), SIZES)?;
-    assert!(rt; do_all_ties_sort(&rt, &genome)?);
-    Ok(())
+    holds(do_all_ties_sort(&rt, &genome))
 }
 
 /// The lines of so many records of one place, the columns after the third in no order: names of one to nine bytes after a
@@ -192,8 +192,7 @@ fn do_shuffled_sort(rt: &HostRuntime, genome: &Genome) -> Result<bool, Fail> {
 #[test]
 fn records_in_the_order_of_a_track(rt: HostRuntime) -> Result<(), Fail> {
     let genome = Genome::parse(rt.alloc(), SIZES)?;
-    assert!(rt; do_shuffled_sort(&rt, &genome)?);
-    Ok(())
+    holds(do_shuffled_sort(&rt, &genome))
 }
 
 /// Sorts the records of a text, and says how often memory was refused, once or never.

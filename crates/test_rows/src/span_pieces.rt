@@ -163,78 +163,92 @@ fn files_in_pieces(rt: HostRuntime) -> Result<(), Fail> {
     Ok(())
 }
 
-/// The cause of a line that is no record.
-fn record(fault: RecordFault) -> LoadCause {
-    LoadCause::Record(fault)
-}
+/// Files with damaged lines, the number of the first of these, and its fault. Each may say two records.
+const FAULTS: [(&[u8], u64, LoadCause); 18] = [
+    // A damaged last line, with LF and without.
+    (
+        b"chr1\t1\t2\nchr1\t3\t101\n",
+        2,
+        LoadCause::Record(RecordFault::PastEnd),
+    ),
+    (
+        b"chr1\t1\t2\nchr1\t3\tx",
+        2,
+        LoadCause::Record(RecordFault::StopNumber),
+    ),
+    (
+        b"chr1\t1\t2\r\n\r\nchr1\t3\t3\r\n",
+        3,
+        LoadCause::Record(RecordFault::Order),
+    ),
+    (
+        b"chr1\t1\t2\ta\t1\t*",
+        1,
+        LoadCause::Record(RecordFault::Strand),
+    ),
+    // A CR that no LF follows is a byte like others.
+    (
+        b"chr1\t1\t2\r",
+        1,
+        LoadCause::Record(RecordFault::StopNumber),
+    ),
+    (b"chr1\t1\t2\ta\r", 1, LoadCause::Record(RecordFault::Name)),
+    (
+        b"chr1\t1\t2\ta\t\r\r\n",
+        1,
+        LoadCause::Record(RecordFault::Score),
+    ),
+    (b"\r", 1, LoadCause::Columns),
+    (
+        b"chr1\t1\t2\n\r",
+        2,
+        LoadCause::Record(RecordFault::Columns),
+    ),
+    // Other columns than the first record has, or none that a record may have.
+    (
+        b"track name=x\n#c\n\nchr1\t1\t2\nchr1\t1\t2\ta\n",
+        5,
+        LoadCause::Record(RecordFault::Columns),
+    ),
+    (b"chr1\t1\t2\ta\t5\t+\tx\n", 1, LoadCause::Columns),
+    (b"#\n\nchr1\t1\n", 3, LoadCause::Columns),
+    // The first of two.
+    (
+        b"chr9\t1\t2\nchr1\tx\t2\n",
+        1,
+        LoadCause::Record(RecordFault::UnknownSeq),
+    ),
+    (
+        b"chr1\t1\t2\nchr1\t1x\t2\nchr9\t1\t2",
+        2,
+        LoadCause::Record(RecordFault::StartNumber),
+    ),
+    // One record too many; where it is damaged, its own fault.
+    (
+        b"chr1\t1\t2\nchr1\t1\t2\nchr1\t3\t4\n",
+        3,
+        LoadCause::TooMany,
+    ),
+    (
+        b"chr1\t1\t2\n#\nchr1\t1\t2\r\nchr1\t3\t4",
+        4,
+        LoadCause::TooMany,
+    ),
+    (
+        b"chr1\t1\t2\nchr1\t1\t2\nchr1\t4\t4\n",
+        3,
+        LoadCause::Record(RecordFault::Order),
+    ),
+    (
+        b"chr1\t1\t2\nchr1\t1\t2\nchr1\t4\t4",
+        3,
+        LoadCause::Record(RecordFault::Order),
+    ),
+];
 
-/// Whether each of these files is answered with its first fault, in whatever pieces it comes. Each may say two records.
+/// Whether each of these files is answered with its first fault, in whatever pieces it comes.
 fn faults_are_reported(rt: &HostRuntime, genome: &Genome) -> bool {
-    for (text, line, cause) in [
-        // A damaged last line, with LF and without.
-        (
-            b"chr1\t1\t2\nchr1\t3\t101\n".as_slice(),
-            2,
-            record(RecordFault::PastEnd),
-        ),
-        (
-            b"chr1\t1\t2\nchr1\t3\tx",
-            2,
-            record(RecordFault::StopNumber),
-        ),
-        (
-            b"chr1\t1\t2\r\n\r\nchr1\t3\t3\r\n",
-            3,
-            record(RecordFault::Order),
-        ),
-        (b"chr1\t1\t2\ta\t1\t*", 1, record(RecordFault::Strand)),
-        // A CR that no LF follows is a byte like others.
-        (b"chr1\t1\t2\r", 1, record(RecordFault::StopNumber)),
-        (b"chr1\t1\t2\ta\r", 1, record(RecordFault::Name)),
-        (b"chr1\t1\t2\ta\t\r\r\n", 1, record(RecordFault::Score)),
-        (b"\r", 1, LoadCause::Columns),
-        (b"chr1\t1\t2\n\r", 2, record(RecordFault::Columns)),
-        // Other columns than the first record has, or none that a record may have.
-        (
-            b"track name=x\n#c\n\nchr1\t1\t2\nchr1\t1\t2\ta\n",
-            5,
-            record(RecordFault::Columns),
-        ),
-        (b"chr1\t1\t2\ta\t5\t+\tx\n", 1, LoadCause::Columns),
-        (b"#\n\nchr1\t1\n", 3, LoadCause::Columns),
-        // The first of two.
-        (
-            b"chr9\t1\t2\nchr1\tx\t2\n",
-            1,
-            record(RecordFault::UnknownSeq),
-        ),
-        (
-            b"chr1\t1\t2\nchr1\t1x\t2\nchr9\t1\t2",
-            2,
-            record(RecordFault::StartNumber),
-        ),
-        // One record too many; where it is damaged, its own fault.
-        (
-            b"chr1\t1\t2\nchr1\t1\t2\nchr1\t3\t4\n",
-            3,
-            LoadCause::TooMany,
-        ),
-        (
-            b"chr1\t1\t2\n#\nchr1\t1\t2\r\nchr1\t3\t4",
-            4,
-            LoadCause::TooMany,
-        ),
-        (
-            b"chr1\t1\t2\nchr1\t1\t2\nchr1\t4\t4\n",
-            3,
-            record(RecordFault::Order),
-        ),
-        (
-            b"chr1\t1\t2\nchr1\t1\t2\nchr1\t4\t4",
-            3,
-            record(RecordFault::Order),
-        ),
-    ] {
+    for (text, line, cause) in FAULTS {
         let fault = LoadFault { line, cause };
         if !is_answered(rt, genome, 2, text, (3, &[]), Err(fault)) {
             return false;

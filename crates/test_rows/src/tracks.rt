@@ -1,7 +1,7 @@
 //! Tracks of records of four columns.
 ghost use Rattle.std.specs.Prelude.{◌≡◌, ◌≤◌, IfOk, length};
 
-use crate::fixtures::{add, genome, replace, stage};
+use crate::fixtures::{add, genome, holds, replace, stage};
 use iv_text::{Genome, Record, read_record};
 use iv_track::{Meter, Track};
 use std::test::Fail;
@@ -120,16 +120,14 @@ fn check_limit(rt: &HostRuntime, genome: &Genome, track: &mut Track) -> Result<(
             return Err(Fail::new("another outcome"));
         }
     }
-    Ok(())
+    holds(Ok(track.limit() == 2 && track.width() == 4))
 }
 
 #[test]
 fn limit_of_a_track(rt: HostRuntime) -> Result<(), Fail> {
     let genome = genome(&rt)?;
     let mut track = Track::new(rt.alloc(), 4, 2);
-    check_limit(&rt, &genome, &mut track)?;
-    assert!(rt; track.limit() == 2 && track.width() == 4);
-    Ok(())
+    check_limit(&rt, &genome, &mut track)
 }
 
 /// Edits a track that takes no record.
@@ -201,16 +199,14 @@ fn check_copies(rt: &HostRuntime, genome: &Genome, track: &mut Track) -> Result<
             return Err(Fail::new("another record"));
         }
     }
-    Ok(())
+    holds(Ok(track.len() == 3))
 }
 
 #[test]
 fn copies_in_order(rt: HostRuntime) -> Result<(), Fail> {
     let genome = genome(&rt)?;
     let mut track = Track::new(rt.alloc(), 4, 9);
-    check_copies(&rt, &genome, &mut track)?;
-    assert!(rt; track.len() == 3);
-    Ok(())
+    check_copies(&rt, &genome, &mut track)
 }
 
 /// The rank of the first record at or after a start on a sequence.
@@ -239,15 +235,16 @@ fn check_starts(track: &Track) -> Result<(), Fail> {
     Ok(())
 }
 
+/// The same of a track to which two records come.
+fn check_last_starts(rt: &HostRuntime, genome: &Genome, track: &mut Track) -> Result<(), Fail> {
+    let lines = [b"chr1\t99\t100\ta".as_slice(), b"chr2\t0\t1\ta"];
+    add_all(rt, genome, track, &lines)?;
+    check_starts(track)
+}
+
 #[test]
 fn starts_past_each_record(rt: HostRuntime) -> Result<(), Fail> {
     let genome = genome(&rt)?;
     let mut track = Track::new(rt.alloc(), 4, 9);
-    add_all(
-        &rt,
-        &genome,
-        &mut track,
-        &[b"chr1\t99\t100\ta", b"chr2\t0\t1\ta"],
-    )?;
-    check_starts(&track)
+    check_last_starts(&rt, &genome, &mut track)
 }
