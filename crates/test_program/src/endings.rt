@@ -5,6 +5,11 @@ use iv_run::CliFault;
 use iv_session::{RunCause, RunFault, Summary};
 use iv_text::{LoadCause, LoadFault};
 
+/// Whether a fault has this status.
+fn has_status(fault: &CliFault, want: u8) -> bool {
+    status(fault) == want
+}
+
 #[test]
 fn statuses_of_faults(rt: HostRuntime) {
     let damage = LoadFault {
@@ -19,16 +24,32 @@ fn statuses_of_faults(rt: HostRuntime) {
         (CliFault::Output, 4),
         (CliFault::Memory, 5),
     ] {
-        assert!(rt; status(&fault) == want);
+        assert!(rt; has_status(&fault, want));
     }
+}
+
+#[test]
+fn status_of_wrong_words(rt: HostRuntime) {
     assert!(rt; Ending::from(PlanFault::Words).status() == 2);
+}
+
+/// The status of a script of which so many lines are refused.
+fn status_of_lines(refused: u64) -> u8 {
+    run_status(&Ok(Summary { lines: 5, refused }))
+}
+
+/// The status of a script that ends early.
+fn status_of_end(cause: RunCause) -> u8 {
+    run_status(&Err(RunFault { line: 1, cause }))
 }
 
 #[test]
 fn statuses_of_scripts(rt: HostRuntime) {
-    for (refused, want) in [(0, 0), (2, 1)] {
-        assert!(rt; run_status(&Ok(Summary { lines: 5, refused })) == want);
-    }
+    assert!(rt; status_of_lines(0) == 0 && status_of_lines(2) == 1);
+}
+
+#[test]
+fn statuses_of_scripts_that_end_early(rt: HostRuntime) {
     for (cause, want) in [
         (RunCause::Input, 4),
         (RunCause::TooLong, 4),
@@ -36,6 +57,6 @@ fn statuses_of_scripts(rt: HostRuntime) {
         (RunCause::Messages, 4),
         (RunCause::Memory, 5),
     ] {
-        assert!(rt; run_status(&Err(RunFault { line: 1, cause })) == want);
+        assert!(rt; status_of_end(cause) == want);
     }
 }

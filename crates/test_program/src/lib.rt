@@ -14,6 +14,8 @@ mod piece_faults;
 #[cfg(test)]
 mod piece_fixtures;
 #[cfg(test)]
+mod piece_lengths;
+#[cfg(test)]
 mod piece_refusals;
 #[cfg(test)]
 mod piece_runs;

@@ -54,29 +54,32 @@ fn damage(line: u64, cause: LoadCause) -> Result<usize, LoadFault> {
     Err(LoadFault { line, cause })
 }
 
+/// Whether that is what is read over a genome of one sequence.
+fn reads(
+    rt: &HostRuntime,
+    text: &[u8],
+    limit: u32,
+    want: Result<usize, LoadFault>,
+) -> Result<bool, Fail> {
+    let genome = Genome::parse(rt.alloc(), b"chr1\t100\n")?;
+    Ok(records(rt, &genome, text, limit) == want)
+}
+
 /// The first record above the limit is the fault, unless it has one of its own.
 #[test]
 fn files_of_as_many_records_as_the_limit(rt: HostRuntime) -> Result<(), Fail> {
-    let genome = Genome::parse(rt.alloc(), b"chr1\t100\n")?;
     let no_end = LoadCause::Record(RecordFault::StopNumber);
+    let many = LoadCause::TooMany;
     for (text, limit, want) in [
         (b"chr1\t1\t2\n".as_slice(), 1, Ok(1)),
-        (
-            b"chr1\t1\t2\nchr1\t1\t2\n",
-            1,
-            damage(2, LoadCause::TooMany),
-        ),
-        (
-            b"#\nchr1\t1\t2\n\nchr1\t3\t4",
-            1,
-            damage(4, LoadCause::TooMany),
-        ),
+        (b"chr1\t1\t2\nchr1\t1\t2\n", 1, damage(2, many)),
+        (b"#\nchr1\t1\t2\n\nchr1\t3\t4", 1, damage(4, many)),
         (b"chr1\t1\t2\n#\n\ntrack\n", 1, Ok(1)),
         (b"chr1\t1\t2\nchr1\t1\tx\n", 1, damage(2, no_end)),
-        (b"chr1\t1\t2\n", 0, damage(1, LoadCause::TooMany)),
+        (b"chr1\t1\t2\n", 0, damage(1, many)),
         (b"#\n", 0, Ok(0)),
     ] {
-        assert!(rt; records(&rt, &genome, text, limit) == want);
+        assert!(rt; reads(&rt, text, limit, want)?);
     }
     Ok(())
 }

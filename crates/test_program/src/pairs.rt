@@ -1,5 +1,5 @@
 //! Runs of intersect and subtract on the bytes of their files.
-use crate::shot_fixtures::{beside, prints};
+use crate::shot_fixtures::{beside, prints, prints_each};
 use std::test::Fail;
 
 #[test]
@@ -8,11 +8,8 @@ fn intersect(rt: HostRuntime) -> Result<(), Fail> {
         b"chr1\t30\t40\nchr1\t10\t20\n",
         b"chr1\t20\t30\nchr1\t15\t18\nchr1\t15\t18\n",
     );
-    for (words, rows) in [
-        (
-            b"intersect -g g -a a -b b".as_slice(),
-            b"chr1\t15\t18\nchr1\t15\t18\n".as_slice(),
-        ),
+    let runs: [(&[u8], &[u8]); 7] = [
+        (b"intersect -g g -a a -b b", b"chr1\t15\t18\nchr1\t15\t18\n"),
         (
             b"intersect -g g -a a -b b -wa",
             b"chr1\t10\t20\nchr1\t10\t20\n",
@@ -31,9 +28,8 @@ fn intersect(rt: HostRuntime) -> Result<(), Fail> {
             b"intersect -c -wa -g g -a a -b b",
             b"chr1\t10\t20\t2\nchr1\t30\t40\t0\n",
         ),
-    ] {
-        assert!(rt; prints(&rt, words, &inputs, rows)?);
-    }
+    ];
+    assert!(rt; prints_each(&rt, &inputs, &runs)?);
     Ok(())
 }
 
@@ -43,10 +39,10 @@ fn intersect_of_two_widths(rt: HostRuntime) -> Result<(), Fail> {
         b"chr1\t10\t20\tx\t7\t-\n",
         b"chr1\t15\t30\ty\nchr1\t0\t12\tz\n",
     );
-    for (words, rows) in [
+    let runs: [(&[u8], &[u8]); 4] = [
         (
-            b"intersect -g g -a a -b b".as_slice(),
-            b"chr1\t10\t12\tx\t7\t-\nchr1\t15\t20\tx\t7\t-\n".as_slice(),
+            b"intersect -g g -a a -b b",
+            b"chr1\t10\t12\tx\t7\t-\nchr1\t15\t20\tx\t7\t-\n",
         ),
         (
             b"intersect -g g -a a -b b -wb",
@@ -60,9 +56,8 @@ fn intersect_of_two_widths(rt: HostRuntime) -> Result<(), Fail> {
             b"intersect -c -g g -a a -b b",
             b"chr1\t10\t20\tx\t7\t-\t2\n",
         ),
-    ] {
-        assert!(rt; prints(&rt, words, &inputs, rows)?);
-    }
+    ];
+    assert!(rt; prints_each(&rt, &inputs, &runs)?);
     Ok(())
 }
 
@@ -73,10 +68,10 @@ fn intersect_with_a_long_record(rt: HostRuntime) -> Result<(), Fail> {
         b"chr1\t5\t6\nchr1\t31\t33\nchr1\t80\t90\nchr2\t0\t40\nchr2\t44\t50\n",
         b"chr1\t0\t100\nchr1\t11\t12\nchr1\t13\t14\nchr1\t15\t16\nchr1\t17\t18\nchr1\t19\t20\nchr1\t21\t22\nchr1\t23\t24\nchr1\t25\t26\nchr1\t27\t28\nchr1\t29\t30\nchr1\t31\t32\nchr2\t40\t45\n",
     );
-    for (words, rows) in [
+    let runs: [(&[u8], &[u8]); 4] = [
         (
-            b"intersect -g g -a a -b b".as_slice(),
-            b"chr1\t5\t6\nchr1\t31\t33\nchr1\t31\t32\nchr1\t80\t90\nchr2\t44\t45\n".as_slice(),
+            b"intersect -g g -a a -b b",
+            b"chr1\t5\t6\nchr1\t31\t33\nchr1\t31\t32\nchr1\t80\t90\nchr2\t44\t45\n",
         ),
         (
             b"intersect -c -g g -a a -b b",
@@ -84,34 +79,34 @@ fn intersect_with_a_long_record(rt: HostRuntime) -> Result<(), Fail> {
         ),
         (b"subtract -g g -a a -b b", b"chr2\t0\t40\nchr2\t45\t50\n"),
         (b"subtract -g g -a a -b b -A", b"chr2\t0\t40\n"),
-    ] {
-        assert!(rt; prints(&rt, words, &inputs, rows)?);
-    }
+    ];
+    assert!(rt; prints_each(&rt, &inputs, &runs)?);
     Ok(())
 }
 
-/// Long, nested and equal records on two sequences, and others that only touch. Each file is counted beside the other.
+/// Long, nested and equal records on two sequences.
+const SOME: &[u8] =
+    b"chr1\t0\t1\nchr1\t0\t100\nchr1\t0\t100\nchr1\t9\t10\nchr1\t13\t21\nchr1\t14\t15\nchr1\t20\t21\nchr1\t30\t40\nchr1\t50\t60\nchr2\t0\t5\nchr2\t10\t11\nchr2\t20\t50\n";
+
+/// Others, some of which only touch.
+const OTHERS: &[u8] =
+    b"chr1\t0\t100\nchr1\t10\t20\nchr1\t10\t20\nchr1\t12\t15\nchr1\t13\t14\nchr1\t20\t30\nchr1\t21\t22\nchr1\t23\t24\nchr1\t25\t26\nchr1\t27\t28\nchr1\t40\t50\nchr2\t0\t10\nchr2\t5\t50\nchr2\t10\t11\nchr2\t10\t20\n";
+
+/// Each of the first beside the others, with the number of its hits.
+const COUNTS: &[u8] =
+    b"chr1\t0\t1\t1\nchr1\t0\t100\t11\nchr1\t0\t100\t11\nchr1\t9\t10\t1\nchr1\t13\t21\t6\nchr1\t14\t15\t4\nchr1\t20\t21\t2\nchr1\t30\t40\t1\nchr1\t50\t60\t1\nchr2\t0\t5\t1\nchr2\t10\t11\t3\nchr2\t20\t50\t1\n";
+
+/// Each of the others beside the first.
+const COUNTS_OF_OTHERS: &[u8] =
+    b"chr1\t0\t100\t9\nchr1\t10\t20\t4\nchr1\t10\t20\t4\nchr1\t12\t15\t4\nchr1\t13\t14\t3\nchr1\t20\t30\t4\nchr1\t21\t22\t2\nchr1\t23\t24\t2\nchr1\t25\t26\t2\nchr1\t27\t28\t2\nchr1\t40\t50\t2\nchr2\t0\t10\t1\nchr2\t5\t50\t2\nchr2\t10\t11\t1\nchr2\t10\t20\t1\n";
+
+/// Each file is counted beside the other.
 #[test]
 fn counts_of_hits(rt: HostRuntime) -> Result<(), Fail> {
-    let some =
-        b"chr1\t0\t1\nchr1\t0\t100\nchr1\t0\t100\nchr1\t9\t10\nchr1\t13\t21\nchr1\t14\t15\nchr1\t20\t21\nchr1\t30\t40\nchr1\t50\t60\nchr2\t0\t5\nchr2\t10\t11\nchr2\t20\t50\n".as_slice();
-    let others =
-        b"chr1\t0\t100\nchr1\t10\t20\nchr1\t10\t20\nchr1\t12\t15\nchr1\t13\t14\nchr1\t20\t30\nchr1\t21\t22\nchr1\t23\t24\nchr1\t25\t26\nchr1\t27\t28\nchr1\t40\t50\nchr2\t0\t10\nchr2\t5\t50\nchr2\t10\t11\nchr2\t10\t20\n".as_slice();
-    for (first, second, rows) in [
-        (
-            some,
-            others,
-            b"chr1\t0\t1\t1\nchr1\t0\t100\t11\nchr1\t0\t100\t11\nchr1\t9\t10\t1\nchr1\t13\t21\t6\nchr1\t14\t15\t4\nchr1\t20\t21\t2\nchr1\t30\t40\t1\nchr1\t50\t60\t1\nchr2\t0\t5\t1\nchr2\t10\t11\t3\nchr2\t20\t50\t1\n".as_slice(),
-        ),
-        (
-            others,
-            some,
-            b"chr1\t0\t100\t9\nchr1\t10\t20\t4\nchr1\t10\t20\t4\nchr1\t12\t15\t4\nchr1\t13\t14\t3\nchr1\t20\t30\t4\nchr1\t21\t22\t2\nchr1\t23\t24\t2\nchr1\t25\t26\t2\nchr1\t27\t28\t2\nchr1\t40\t50\t2\nchr2\t0\t10\t1\nchr2\t5\t50\t2\nchr2\t10\t11\t1\nchr2\t10\t20\t1\n",
-        ),
-    ] {
-        let inputs = beside(first, second);
-        assert!(rt; prints(&rt, b"intersect -c -g g -a a -b b", &inputs, rows)?);
-    }
+    let words = b"intersect -c -g g -a a -b b";
+    let is_so = prints(&rt, words, &beside(SOME, OTHERS), COUNTS)?
+        && prints(&rt, words, &beside(OTHERS, SOME), COUNTS_OF_OTHERS)?;
+    assert!(rt; is_so);
     Ok(())
 }
 
@@ -141,9 +136,11 @@ fn subtract(rt: HostRuntime) -> Result<(), Fail> {
         (b"chr1\t0\t19\nchr1\t19\t20\n", b"", b""),
         (b"", first, first),
     ] {
-        let inputs = beside(first, second);
-        assert!(rt; prints(&rt, b"subtract -g g -a a -b b", &inputs, parts)?);
-        assert!(rt; prints(&rt, b"subtract -A -g g -a a -b b", &inputs, whole)?);
+        let runs: [(&[u8], &[u8]); 2] = [
+            (b"subtract -g g -a a -b b", parts),
+            (b"subtract -A -g g -a a -b b", whole),
+        ];
+        assert!(rt; prints_each(&rt, &beside(first, second), &runs)?);
     }
     Ok(())
 }

@@ -23,36 +23,34 @@ pub(crate) struct Pattern<'a> {
     numbered: bool,
 }
 
+/// Puts a number at the end of a text.
+fn push_number(rt: &HostRuntime, text: &mut String, number: u64) -> Result<(), Fail> {
+    let digits = format!(in rt.alloc(); "{number}")?;
+    Ok(text.push_str(digits.as_str())?)
+}
+
 impl Pattern<'_> {
-    /// The row that has so many before it.
-    fn row(&self, rt: &HostRuntime, before: u64) -> Result<String, Fail> {
-        let (front, between, tail) = (self.front, self.between, self.tail);
+    /// Puts the row that has so many before it at the end of a text.
+    fn push_row(&self, rt: &HostRuntime, text: &mut String, before: u64) -> Result<(), Fail> {
         let on = before.saturating_mul(10);
-        let start = self.place.0.saturating_add(on);
-        let stop = self.place.1.saturating_add(on);
+        text.push_str(self.front)?;
+        push_number(rt, text, self.place.0.saturating_add(on))?;
+        text.push_str(self.between)?;
+        push_number(rt, text, self.place.1.saturating_add(on))?;
+        text.push_str(self.tail)?;
         if self.numbered {
-            let number = before.saturating_add(1);
-            return Ok(format!(in rt.alloc(); "{front}{start}{between}{stop}{tail}{number}\n")?);
+            push_number(rt, text, before.saturating_add(1))?;
         }
-        Ok(format!(in rt.alloc(); "{front}{start}{between}{stop}{tail}\n")?)
+        Ok(text.push_str("\n")?)
     }
 
-    /// All rows, in order.
-    fn rows(&self, rt: &HostRuntime) -> Result<String, Fail> {
-        let mut text = String::new(rt.alloc());
-        for before in 0..ROWS {
-            text.push_str(self.row(rt, before)?.as_str())?;
+    /// Puts all rows at the end of a text, in order or the last one first.
+    fn push_rows(&self, rt: &HostRuntime, text: &mut String, is_back: bool) -> Result<(), Fail> {
+        for number in 0..ROWS {
+            let before = if is_back { ROWS - 1 - number } else { number };
+            self.push_row(rt, text, before)?;
         }
-        Ok(text)
-    }
-
-    /// All rows, the last one first.
-    fn rows_back(&self, rt: &HostRuntime) -> Result<String, Fail> {
-        let mut text = String::new(rt.alloc());
-        for after in 0..ROWS {
-            text.push_str(self.row(rt, ROWS - 1 - after)?.as_str())?;
-        }
-        Ok(text)
+        Ok(())
     }
 }
 
@@ -212,37 +210,58 @@ fn some_of(text: &[u8]) -> Option<&[u8]> {
     (!text.is_empty()).then_some(text)
 }
 
-/// The rows of a pattern in order, and a text after them; the text alone where there is no pattern.
-fn rows_of(rt: &HostRuntime, rows: Option<Pattern<'_>>, last: &str) -> Result<String, Fail> {
-    let mut text = match rows {
-        Some(pattern) => pattern.rows(rt)?,
-        None => String::new(rt.alloc()),
-    };
-    text.push_str(last)?;
+/// The rows of a pattern, the last one first.
+fn rows_back(rt: &HostRuntime, pattern: Pattern<'_>) -> Result<String, Fail> {
+    let mut text = String::new(rt.alloc());
+    pattern.push_rows(rt, &mut text, true)?;
     Ok(text)
 }
 
-/// A FASTA file whose first sequence has five bases of each record, and five after them.
-fn fasta_of(rt: &HostRuntime) -> Result<String, Fail> {
+/// Puts the rows of a pattern in order at the end of a text, and another text after them, which is alone where there is no
+/// pattern.
+fn push_rows_of(
+    rt: &HostRuntime,
+    text: &mut String,
+    rows: Option<Pattern<'_>>,
+    last: &str,
+) -> Result<(), Fail> {
+    if let Some(pattern) = rows {
+        pattern.push_rows(rt, text, false)?;
+    }
+    Ok(text.push_str(last)?)
+}
+
+/// The same alone.
+fn rows_of(rt: &HostRuntime, rows: Option<Pattern<'_>>, last: &str) -> Result<String, Fail> {
     let mut text = String::new(rt.alloc());
+    push_rows_of(rt, &mut text, rows, last)?;
+    Ok(text)
+}
+
+/// Puts the lines of a FASTA file at the end of a text, whose first sequence has five bases of each record, and five after them.
+fn push_bases(text: &mut String) -> Result<(), Fail> {
     text.push_str(">chr1 of the genome\n")?;
     for _ in 0..ROWS {
         text.push_str("ACGTNacgtR\n")?;
     }
-    text.push_str(">chr9 of none\nAC\n")?;
+    Ok(text.push_str(">chr9 of none\nAC\n")?)
+}
+
+/// Those lines, or none.
+fn bases_of(rt: &HostRuntime, has_bases: bool) -> Result<String, Fail> {
+    let mut text = String::new(rt.alloc());
+    if has_bases {
+        push_bases(&mut text)?;
+    }
     Ok(text)
 }
 
 /// The texts of a run.
 pub(crate) fn texts_of(rt: &HostRuntime, case: &Case<'_>) -> Result<Texts, Fail> {
     Ok(Texts {
-        first: case.first.rows_back(rt)?,
+        first: rows_back(rt, case.first)?,
         second: rows_of(rt, case.second, "")?,
-        bases: if case.has_bases {
-            fasta_of(rt)?
-        } else {
-            String::new(rt.alloc())
-        },
+        bases: bases_of(rt, case.has_bases)?,
         printed: rows_of(rt, case.printed, case.last)?,
     })
 }

@@ -1,15 +1,18 @@
 //! Runs that read their BED file in pieces, where it is damaged or too long, or can't be read, or their output fails.
 use crate::patterns::{Case, Texts, place_cases, texts_of};
 use crate::piece_fixtures::{
-    DONE, Ended, SHORT, Setting, TOO_LONG, UNREAD, damaged, ends, ends_over, plan_of,
+    DONE, Ended, SHORT, Setting, TOO_LONG, UNREAD, damaged, ends, ends_over,
 };
-use iv_args::{Plan, Slot};
+use iv_args::Slot;
 use iv_bytes::{MemSource, StdSource};
 use iv_run::CliFault;
 use iv_text::{LoadCause, RecordFault};
 use std::io::ErrorKind;
 use std::test::Fail;
 use test_faults::{Bad, Device, FAILURES};
+
+/// The words of a merge.
+const MERGE: &[u8] = b"merge -g g -i a";
 
 /// Two records that are one block, in 22 bytes: these come in eight reads, and the ninth one says that the file ends.
 const SOUND: &[u8] = b"chr1\t10\t20\nchr1\t15\t30\n";
@@ -26,10 +29,9 @@ fn first_line() -> Ended {
     damaged(Slot::First, 1, LoadCause::Record(RecordFault::StopNumber))
 }
 
-/// Whether a run of a plan over a file whose read of this number is bad ends so and prints this, and the file is read so often.
+/// Whether a merge of a file whose read of this number is bad ends so and prints this, and the file is read so often.
 fn ends_after(
     rt: &HostRuntime,
-    plan: &Plan<'_>,
     sizes: &[u8],
     file: (&[u8], u32, Bad),
     want: (Ended, &[u8]),
@@ -38,29 +40,17 @@ fn ends_after(
     let (text, number, bad) = file;
     let setting = Setting { sizes, ..SHORT };
     let mut device = Device::new(text, number, bad);
-    let is_so = ends_over(
-        rt,
-        plan,
-        setting,
-        &mut StdSource::new(&mut device),
-        100,
-        want,
-    )?;
+    let mut source = StdSource::new(&mut device);
+    let is_so = ends_over(rt, MERGE, setting, &mut source, 100, want)?;
     Ok(is_so && device.calls() == reads)
 }
 
-/// Whether a run ends at a read that fails, whichever of so many that is, and prints nothing.
-fn stops_at_each(
-    rt: &HostRuntime,
-    plan: &Plan<'_>,
-    sizes: &[u8],
-    text: &[u8],
-    reads: u32,
-) -> Result<bool, Fail> {
+/// Whether a merge ends at a read that fails, whichever of so many that is, and prints nothing.
+fn stops_at_each(rt: &HostRuntime, sizes: &[u8], text: &[u8], reads: u32) -> Result<bool, Fail> {
     for number in 1..=reads {
         for bad in FAILURES {
             let file = (text, number, bad);
-            if !ends_after(rt, plan, sizes, file, (UNREAD, b""), number)? {
+            if !ends_after(rt, sizes, file, (UNREAD, b""), number)? {
                 return Ok(false);
             }
         }
@@ -71,8 +61,9 @@ fn stops_at_each(
 /// A genome file whose only line is damaged.
 const NO_GENOME: &[u8] = b"chr1\tx\n";
 
-/// Whether a run of a plan stops so over sound files and over damaged ones.
-fn stops_over_each(rt: &HostRuntime, plan: &Plan<'_>) -> Result<bool, Fail> {
+/// A read that fails or is interrupted is reported also where damage has come before it, of either file.
+#[test]
+fn each_read_fails(rt: HostRuntime) -> Result<(), Fail> {
     for (sizes, text, reads) in [
         (SHORT.sizes, SOUND, 9),
         (SHORT.sizes, DAMAGED, 8),
@@ -80,18 +71,8 @@ fn stops_over_each(rt: &HostRuntime, plan: &Plan<'_>) -> Result<bool, Fail> {
         (NO_GENOME, DAMAGED, 8),
         (SHORT.sizes, b"", 1),
     ] {
-        if !stops_at_each(rt, plan, sizes, text, reads)? {
-            return Ok(false);
-        }
+        assert!(rt; stops_at_each(&rt, sizes, text, reads)?);
     }
-    Ok(true)
-}
-
-/// A read that fails or is interrupted is told also where damage has come before it, of either file.
-#[test]
-fn each_read_fails(rt: HostRuntime) -> Result<(), Fail> {
-    let plan = plan_of(&rt, b"merge -g g -i a")?;
-    assert!(rt; stops_over_each(&rt, &plan)?);
     Ok(())
 }
 
@@ -100,8 +81,9 @@ fn no_record(line: u64, fault: RecordFault) -> Ended {
     damaged(Slot::First, line, LoadCause::Record(fault))
 }
 
-/// Whether a run of a plan takes a read of no byte as the file's end, wherever it comes: what came before is what the file says.
-fn ends_at_each(rt: &HostRuntime, plan: &Plan<'_>) -> Result<bool, Fail> {
+/// A read of no byte is the file's end, wherever it comes: what came before is what the file says.
+#[test]
+fn each_read_gives_nothing(rt: HostRuntime) -> Result<(), Fail> {
     let no_columns = damaged(Slot::First, 1, LoadCause::Columns);
     for (text, number, ended, rows) in [
         (SOUND, 1, DONE, b"".as_slice()),
@@ -118,23 +100,15 @@ fn ends_at_each(rt: &HostRuntime, plan: &Plan<'_>) -> Result<bool, Fail> {
         (DAMAGED, 8, first_line(), b""),
     ] {
         let file = (text, number, Bad::Nothing);
-        if !ends_after(rt, plan, SHORT.sizes, file, (ended, rows), number)? {
-            return Ok(false);
-        }
+        assert!(rt; ends_after(&rt, SHORT.sizes, file, (ended, rows), number)?);
     }
-    Ok(true)
-}
-
-#[test]
-fn each_read_gives_nothing(rt: HostRuntime) -> Result<(), Fail> {
-    let plan = plan_of(&rt, b"merge -g g -i a")?;
-    assert!(rt; ends_at_each(&rt, &plan)?);
     Ok(())
 }
 
-/// Whether a run of a plan reads its file to the end, also where damage has come, and no further. Of two damaged files the genome
-/// file is told.
-fn reads_through(rt: &HostRuntime, plan: &Plan<'_>) -> Result<bool, Fail> {
+/// A merge reads its file to the end, also where damage has come, and no further. Of two damaged files the genome file is
+/// reported.
+#[test]
+fn no_read_fails(rt: HostRuntime) -> Result<(), Fail> {
     let genome = damaged(Slot::Sizes, 1, LoadCause::Length);
     for (sizes, text, reads, ended, rows) in [
         (SHORT.sizes, SOUND, 9, DONE, ROWS),
@@ -143,25 +117,15 @@ fn reads_through(rt: &HostRuntime, plan: &Plan<'_>) -> Result<bool, Fail> {
         (NO_GENOME, DAMAGED, 8, genome, b""),
     ] {
         let file = (text, 10, Bad::Fails(ErrorKind::BrokenPipe));
-        if !ends_after(rt, plan, sizes, file, (ended, rows), reads)? {
-            return Ok(false);
-        }
+        assert!(rt; ends_after(&rt, sizes, file, (ended, rows), reads)?);
     }
-    Ok(true)
-}
-
-#[test]
-fn no_read_fails(rt: HostRuntime) -> Result<(), Fail> {
-    let plan = plan_of(&rt, b"merge -g g -i a")?;
-    assert!(rt; reads_through(&rt, &plan)?);
     Ok(())
 }
 
-/// Whether a run of a plan, over a text of which so many bytes come in pieces of whichever size before the source fails, and with a
+/// Whether a merge of a text of which so many bytes come in pieces of whichever size before the source fails, with a
 /// limit of bytes, ends so and prints this.
 fn is_limited(
     rt: &HostRuntime,
-    plan: &Plan<'_>,
     text: &[u8],
     good: usize,
     bytes: u32,
@@ -170,16 +134,17 @@ fn is_limited(
     let setting = Setting { bytes, ..SHORT };
     for piece in [1, 3, 100] {
         let mut source = MemSource::new(text, good, piece.max(1));
-        if !ends_over(rt, plan, setting, &mut source, 100, want)? {
+        if !ends_over(rt, MERGE, setting, &mut source, 100, want)? {
             return Ok(false);
         }
     }
     Ok(true)
 }
 
-/// Whether a run of a plan reads a file of just as many bytes as the limit, and calls one of one more too long, also where damage
-/// has come or the source fails after that. A source that fails before, or at the end, can't be read.
-fn keeps_to_bytes(rt: &HostRuntime, plan: &Plan<'_>) -> Result<bool, Fail> {
+/// A file of just as many bytes as the limit is read, and one of one more is too long, also where damage has come or the source
+/// fails after that. A source that fails before, or at the end, can't be read.
+#[test]
+fn as_many_bytes_as_the_limit(rt: HostRuntime) -> Result<(), Fail> {
     let all = usize::MAX;
     for (text, good, bytes, ended, rows) in [
         (SOUND, all, 22, DONE, ROWS),
@@ -194,22 +159,14 @@ fn keeps_to_bytes(rt: &HostRuntime, plan: &Plan<'_>) -> Result<bool, Fail> {
         (SOUND, 23, 22, DONE, ROWS),
         (DAMAGED, 20, 21, UNREAD, b""),
     ] {
-        if !is_limited(rt, plan, text, good, bytes, (ended, rows))? {
-            return Ok(false);
-        }
+        assert!(rt; is_limited(&rt, text, good, bytes, (ended, rows))?);
     }
-    Ok(true)
-}
-
-#[test]
-fn as_many_bytes_as_the_limit(rt: HostRuntime) -> Result<(), Fail> {
-    let plan = plan_of(&rt, b"merge -g g -i a")?;
-    assert!(rt; keeps_to_bytes(&rt, &plan)?);
     Ok(())
 }
 
-/// Whether a run of a plan takes as many records as the limit, and reports the first one above it.
-fn keeps_to_records(rt: &HostRuntime, plan: &Plan<'_>) -> Result<bool, Fail> {
+/// As many records as the limit are taken, and the first one above it is reported.
+#[test]
+fn as_many_records_as_the_limit(rt: HostRuntime) -> Result<(), Fail> {
     let too_many = damaged(Slot::First, 2, LoadCause::TooMany);
     for (text, records, ended, rows) in [
         (SOUND, 2, DONE, ROWS),
@@ -219,24 +176,16 @@ fn keeps_to_records(rt: &HostRuntime, plan: &Plan<'_>) -> Result<bool, Fail> {
         (b"#\n", 0, DONE, b""),
     ] {
         let setting = Setting { records, ..SHORT };
-        if !ends(rt, plan, setting, text, 3, (ended, rows))? {
-            return Ok(false);
-        }
+        assert!(rt; ends(&rt, MERGE, setting, text, 3, (ended, rows))?);
     }
-    Ok(true)
-}
-
-#[test]
-fn as_many_records_as_the_limit(rt: HostRuntime) -> Result<(), Fail> {
-    let plan = plan_of(&rt, b"merge -g g -i a")?;
-    assert!(rt; keeps_to_records(&rt, &plan)?);
     Ok(())
 }
 
-/// Whether a run of a plan into room for so many bytes prints just what has room of these rows, and reports where that is not all.
+/// Whether a run of these words into room for so many bytes prints just what has room of these rows, and reports where that is
+/// not all.
 fn fills(
     rt: &HostRuntime,
-    plan: &Plan<'_>,
+    words: &[u8],
     setting: Setting<'_>,
     text: &[u8],
     rows: &[u8],
@@ -249,11 +198,11 @@ fn fills(
     } else {
         DONE
     };
-    ends_over(rt, plan, setting, &mut source, room, (ended, fitting))
+    ends_over(rt, words, setting, &mut source, room, (ended, fitting))
 }
 
 /// For how many numbers of bytes, up to that of all rows, a run does otherwise.
-fn wrong_rooms(rt: &HostRuntime, plan: &Plan<'_>, texts: &Texts) -> Result<u32, Fail> {
+fn wrong_rooms(rt: &HostRuntime, words: &[u8], texts: &Texts) -> Result<u32, Fail> {
     let inputs = texts.inputs();
     let setting = Setting {
         sizes: inputs.sizes,
@@ -261,7 +210,7 @@ fn wrong_rooms(rt: &HostRuntime, plan: &Plan<'_>, texts: &Texts) -> Result<u32, 
     };
     let mut wrong = 0u32;
     for room in 0..=texts.printed().len() {
-        if !fills(rt, plan, setting, inputs.first, texts.printed(), room)? {
+        if !fills(rt, words, setting, inputs.first, texts.printed(), room)? {
             wrong = wrong.saturating_add(1);
         }
     }
@@ -271,8 +220,7 @@ fn wrong_rooms(rt: &HostRuntime, plan: &Plan<'_>, texts: &Texts) -> Result<u32, 
 /// The same of a case.
 fn wrong_rooms_of(rt: &HostRuntime, case: &Case<'_>) -> Result<u32, Fail> {
     let texts = texts_of(rt, case)?;
-    let plan = plan_of(rt, case.words)?;
-    wrong_rooms(rt, &plan, &texts)
+    wrong_rooms(rt, case.words, &texts)
 }
 
 #[test]

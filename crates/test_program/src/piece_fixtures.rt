@@ -75,7 +75,7 @@ pub(crate) fn run_over<A: Allocator + Copy, S: Source>(
 }
 
 /// Whether a run of a plan over a source ends so and has printed just this, into room for so many bytes.
-pub(crate) fn ends_over<S: Source>(
+fn ends_by<S: Source>(
     rt: &HostRuntime,
     plan: &Plan<'_>,
     setting: Setting<'_>,
@@ -88,10 +88,23 @@ pub(crate) fn ends_over<S: Source>(
     Ok(ended == want.0 && sink.bytes() == want.1)
 }
 
+/// The same of words that are separated by spaces.
+pub(crate) fn ends_over<S: Source>(
+    rt: &HostRuntime,
+    words: &[u8],
+    setting: Setting<'_>,
+    source: &mut S,
+    room: usize,
+    want: (Ended, &[u8]),
+) -> Result<bool, Fail> {
+    let plan = plan_of(rt, words)?;
+    ends_by(rt, &plan, setting, source, room, want)
+}
+
 /// The same of a text in pieces of so many bytes, with more room than it is to print.
 pub(crate) fn ends(
     rt: &HostRuntime,
-    plan: &Plan<'_>,
+    words: &[u8],
     setting: Setting<'_>,
     text: &[u8],
     piece: usize,
@@ -99,5 +112,5 @@ pub(crate) fn ends(
 ) -> Result<bool, Fail> {
     let mut source = MemSource::new(text, usize::MAX, piece.max(1));
     let room = want.1.len().saturating_add(100);
-    ends_over(rt, plan, setting, &mut source, room, want)
+    ends_over(rt, words, setting, &mut source, room, want)
 }

@@ -1,9 +1,10 @@
 //! Each growth of a run that reads its BED file in pieces, refused in turn.
 use crate::patterns::{Case, Texts, place_cases, texts_of};
-use crate::piece_fixtures::{Ended, SHORT, Setting, run_over};
+use crate::piece_fixtures::{Ended, SHORT, Setting, UNREAD, run_over};
+use crate::shot_fixtures::times_refused;
 use iv_args::{Plan, PlanFault};
 use iv_bytes::{MemSink, MemSource, StdSource};
-use iv_run::{CliFault, FileFault};
+use iv_run::CliFault;
 use std::alloc::Global;
 use std::test::Fail;
 use test_faults::{Bad, Device, FAILURES, RefusesNth, refuse_each, words_of};
@@ -41,8 +42,7 @@ fn run(
     }
 }
 
-/// Runs it, and says how often that was out of memory with nothing printed, once or never. Else its rows are printed, though a
-/// growth was refused: it may have been tried again at another size.
+/// Runs it, and says how often that was out of memory, once or never.
 fn refused_run(
     rt: &HostRuntime,
     alloc: &RefusesNth<Global>,
@@ -56,12 +56,8 @@ fn refused_run(
         ..SHORT
     };
     let mut sink = MemSink::new(rt.alloc(), 1_000, 9)?;
-    match run(alloc, words, setting, inputs.first, piece, &mut sink)? {
-        true if sink.bytes().is_empty() => Ok(1),
-        true => Err(Fail::new("a row too many")),
-        false if sink.bytes() == texts.printed() => Ok(0),
-        false => Err(Fail::new("other rows")),
-    }
+    let is_refused = run(alloc, words, setting, inputs.first, piece, &mut sink)?;
+    times_refused(is_refused, sink.bytes(), texts.printed())
 }
 
 /// How many runs of a case ended so, each of their growths refused in turn.
@@ -110,19 +106,30 @@ fn ended<'a>(
     run_over(alloc, plan, SHORT, &mut StdSource::new(&mut device), sink)
 }
 
-/// Runs a merge whose BED file fails at its end, in memory that is not refused to its words. It says 0: that memory was refused
-/// is never told.
-fn lost_run(rt: &HostRuntime, alloc: &RefusesNth<Global>, bad: Bad) -> Result<u32, Fail> {
-    let granting = RefusesNth::new(rt.alloc(), u64::MAX);
-    let plan = Plan::read(&granting, &[b"merge", b"-g", b"g", b"-i", b"a"])?;
+/// Runs such a merge, and says 0: that memory was refused is never reported.
+fn lost_by<'a>(
+    rt: &HostRuntime,
+    alloc: &'a RefusesNth<Global>,
+    plan: &Plan<'_, &'a RefusesNth<Global>>,
+    bad: Bad,
+) -> Result<u32, Fail> {
     let mut sink = MemSink::new(rt.alloc(), 100, 9)?;
-    match ended(alloc, &plan, bad, &mut sink)? {
-        Err(FileFault::Input) if sink.bytes().is_empty() => Ok(0),
-        _ => Err(Fail::new("another end")),
+    let ended = ended(alloc, plan, bad, &mut sink)?;
+    if (ended == UNREAD) & sink.bytes().is_empty() {
+        Ok(0)
+    } else {
+        Err(Fail::new("another end"))
     }
 }
 
-/// A file that can't be read is told, also where memory was refused before.
+/// The same from its words on, whose memory is not refused.
+fn lost_run(rt: &HostRuntime, alloc: &RefusesNth<Global>, bad: Bad) -> Result<u32, Fail> {
+    let granting = RefusesNth::new(rt.alloc(), u64::MAX);
+    let plan = Plan::read(&granting, &[b"merge", b"-g", b"g", b"-i", b"a"])?;
+    lost_by(rt, alloc, &plan, bad)
+}
+
+/// A file that can't be read is reported, also where memory was refused before.
 #[test]
 fn reads_that_fail_without_memory(rt: HostRuntime) -> Result<(), Fail> {
     for bad in FAILURES {

@@ -1,7 +1,7 @@
 //! Runs that read their BED file in pieces, and print what a run prints that has its bytes.
 use crate::piece_fixtures::{DONE, SHORT, Setting, damage, ends, plan_of};
 use crate::shot_fixtures::{alone, beside, ends as ends_at_once, prints};
-use iv_args::{Plan, Slot};
+use iv_args::Slot;
 use iv_run::{Inputs, shows_places_alone};
 use iv_text::{LoadCause, RecordFault};
 use std::test::Fail;
@@ -12,7 +12,7 @@ fn is_in_pieces(rt: &HostRuntime, words: &[u8]) -> Result<bool, Fail> {
     Ok(shows_places_alone(&plan))
 }
 
-/// Those that print no column of a record after the third, and don't part records by one.
+/// Those that print no column of a record after the third, and don't set records apart by one.
 #[test]
 fn runs_that_read_in_pieces(rt: HostRuntime) -> Result<(), Fail> {
     for (words, want) in [
@@ -41,16 +41,16 @@ fn runs_that_read_in_pieces(rt: HostRuntime) -> Result<(), Fail> {
     Ok(())
 }
 
-/// Whether a run of a plan prints these rows of a file, in whatever pieces it comes.
+/// Whether a run of these words prints these rows of a file, in whatever pieces it comes.
 fn prints_each(
     rt: &HostRuntime,
-    plan: &Plan<'_>,
+    words: &[u8],
     setting: Setting<'_>,
     text: &[u8],
     rows: &[u8],
 ) -> Result<bool, Fail> {
     for piece in [1, 2, 3, 7, 1_000] {
-        if !ends(rt, plan, setting, text, piece, (DONE, rows))? {
+        if !ends(rt, words, setting, text, piece, (DONE, rows))? {
             return Ok(false);
         }
     }
@@ -69,8 +69,7 @@ fn prints_both(
         sizes: setting.sizes,
         ..alone(text)
     };
-    let plan = plan_of(rt, words)?;
-    let in_pieces = prints_each(rt, &plan, setting, text, rows)?;
+    let in_pieces = prints_each(rt, words, setting, text, rows)?;
     Ok(in_pieces && prints(rt, words, &inputs, rows)?)
 }
 
@@ -199,7 +198,7 @@ fn rows_of_each_position(rt: HostRuntime) -> Result<(), Fail> {
     Ok(())
 }
 
-/// A run that has the bytes of files which its view doesn't look at tells their faults all the same, in the order of the files.
+/// A run that has the bytes of files which its view doesn't look at reports their faults all the same, in the order of the files.
 #[test]
 fn files_that_no_row_needs(rt: HostRuntime) -> Result<(), Fail> {
     let sound = b"chr1\t1\t2\n".as_slice();
@@ -234,61 +233,5 @@ fn files_that_no_row_needs(rt: HostRuntime) -> Result<(), Fail> {
         let inputs = beside(first, second);
         assert!(rt; ends_at_once(&rt, b"merge -g g -i a", &inputs, Some(fasta), fault, rows)?);
     }
-    Ok(())
-}
-
-/// The lines of so many records of five bases, each ten bases after the one before.
-fn lines(rt: &HostRuntime, count: u32) -> Result<String, Fail> {
-    let mut text = String::new(rt.alloc());
-    for index in 0..count {
-        let start = 10 * u64::from(index);
-        let stop = start + 5;
-        text.push_str(format!(in rt.alloc(); "s\t{start}\t{stop}\n")?.as_str())?;
-    }
-    Ok(text)
-}
-
-/// Whether a merge of a file of a million bases prints these rows, in pieces that are less than is asked for at once and in
-/// pieces that are more.
-fn merges_long(rt: &HostRuntime, plan: &Plan<'_>, text: &[u8], rows: &[u8]) -> Result<bool, Fail> {
-    let setting = Setting {
-        sizes: b"s\t1000000\n",
-        bytes: 1_000_000,
-        records: 40_000,
-    };
-    for piece in [100_003, 1_000_000] {
-        if !ends(rt, plan, setting, text, piece, (DONE, rows))? {
-            return Ok(false);
-        }
-    }
-    Ok(true)
-}
-
-/// A file of more than 512 KiB: each of its records is a block.
-#[test]
-fn a_long_file(rt: HostRuntime) -> Result<(), Fail> {
-    let plan = plan_of(&rt, b"merge -g g -i a")?;
-    let text = lines(&rt, 40_000)?;
-    let text = text.as_bytes();
-    assert!(rt; 600_000 < text.len() && merges_long(&rt, &plan, text, text)?);
-    Ok(())
-}
-
-/// A header of more than 512 KiB, and a record whose name has more than 256 KiB.
-fn long_lines(rt: &HostRuntime) -> Result<String, Fail> {
-    let mut text = String::new(rt.alloc());
-    text.push_str("#")?;
-    text.push_str("c".repeat(rt.alloc(), 600_000)?.as_str())?;
-    text.push_str("\r\ns\t1\t2\t")?;
-    text.push_str("n".repeat(rt.alloc(), 300_000)?.as_str())?;
-    text.push_str("\ns\t5\t9\tm")?;
-    Ok(text)
-}
-
-#[test]
-fn a_file_of_long_lines(rt: HostRuntime) -> Result<(), Fail> {
-    let plan = plan_of(&rt, b"merge -g g -i a")?;
-    let text = long_lines(&rt)?;
-    assert!(rt; merges_long(&rt, &plan, text.as_bytes(), b"s\t1\t2\ns\t5\t9\n")?);
     Ok(())
 }

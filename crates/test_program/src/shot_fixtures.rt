@@ -2,11 +2,12 @@
 ghost use Rattle.std.specs.Prelude.{◌<◌, ◌^◌, IfSome, IsTrue, length};
 ghost use Rattle.std.specs.Option.{option_copied};
 
+use crate::piece_fixtures::plan_of;
 use iv_args::Plan;
 use iv_bytes::MemSink;
 use iv_run::{CliFault, Inputs, shot};
+use std::alloc::{AllocError, Allocator};
 use std::test::Fail;
-use test_faults::words_of;
 
 pub(crate) const GENOME: &[u8] = b"chr1\t100\nchr2\t50\nchr3\t0\n";
 
@@ -45,24 +46,44 @@ fn is_short(text: &[u8]) -> bool
     text.len() <= u32::MAX as usize
 }
 
-/// What a run of the plan answers, and what it has printed, into a sink that takes so many bytes.
-pub(crate) fn run(
+/// The bytes of a FASTA file, where there is one.
+pub(crate) fn copied<A: Allocator + Copy>(
+    alloc: A,
+    bases: Option<&[u8]>,
+) -> Result<Option<Vec<u8, A>>, AllocError> {
+    match bases {
+        Some(text) => Ok(Some(text.to_vec(alloc)?)),
+        None => Ok(None),
+    }
+}
+
+/// The fault of a run of a plan, if it has one.
+fn fault_of(
+    rt: &HostRuntime,
+    plan: &Plan<'_>,
+    inputs: &Inputs<'_>,
+    bases: Option<&[u8]>,
+    sink: &mut MemSink,
+) -> Result<Option<CliFault>, Fail> {
+    if !are_short(inputs) {
+        return Err(Fail::new("a long text"));
+    }
+    let bases = copied(rt.alloc(), bases)?;
+    Ok(shot(rt.alloc(), plan, inputs, bases, MOST, sink).err())
+}
+
+/// Whether a run of a plan into room for so many bytes ends so and has printed just this.
+pub(crate) fn ends_within(
     rt: &HostRuntime,
     plan: &Plan<'_>,
     inputs: &Inputs<'_>,
     bases: Option<&[u8]>,
     room: usize,
-) -> Result<(Option<CliFault>, MemSink), Fail> {
+    want: (Option<CliFault>, &[u8]),
+) -> Result<bool, Fail> {
     let mut sink = MemSink::new(rt.alloc(), room, 9)?;
-    let bases = match bases {
-        Some(text) => Some(text.to_vec(rt.alloc())?),
-        None => None,
-    };
-    if !are_short(inputs) {
-        return Err(Fail::new("a long text"));
-    }
-    let fault = shot(rt.alloc(), plan, inputs, bases, MOST, &mut sink).err();
-    Ok((fault, sink))
+    let fault = fault_of(rt, plan, inputs, bases, &mut sink)?;
+    Ok(fault == want.0 && sink.bytes() == want.1)
 }
 
 /// Whether a run of these words, separated by spaces, ends so and has printed just this.
@@ -74,10 +95,8 @@ pub(crate) fn ends(
     fault: Option<CliFault>,
     printed: &[u8],
 ) -> Result<bool, Fail> {
-    let words = words_of(rt.alloc(), text)?;
-    let plan = Plan::read(rt.alloc(), words.as_slice())?;
-    let (found, sink) = run(rt, &plan, inputs, bases, 1000)?;
-    Ok(found == fault && sink.bytes() == printed)
+    let plan = plan_of(rt, text)?;
+    ends_within(rt, &plan, inputs, bases, 1000, (fault, printed))
 }
 
 /// Whether it prints this and is done.
@@ -90,6 +109,20 @@ pub(crate) fn prints(
     ends(rt, text, inputs, None, None, printed)
 }
 
+/// Whether each run of these words prints these rows of the same files, and is done.
+pub(crate) fn prints_each(
+    rt: &HostRuntime,
+    inputs: &Inputs<'_>,
+    runs: &[(&[u8], &[u8])],
+) -> Result<bool, Fail> {
+    for (words, rows) in runs {
+        if !prints(rt, words, inputs, rows)? {
+            return Ok(false);
+        }
+    }
+    Ok(true)
+}
+
 /// Whether it ends with the fault, and prints nothing.
 pub(crate) fn is_reported(
     rt: &HostRuntime,
@@ -98,4 +131,15 @@ pub(crate) fn is_reported(
     fault: CliFault,
 ) -> Result<bool, Fail> {
     ends(rt, text, inputs, None, Some(fault), b"")
+}
+
+/// How often a run was refused memory that has printed these bytes, once or never. It has printed nothing then, and else these
+/// rows, though a growth was refused: it may have been tried again at another size.
+pub(crate) fn times_refused(is_refused: bool, bytes: &[u8], rows: &[u8]) -> Result<u32, Fail> {
+    match is_refused {
+        true if bytes.is_empty() => Ok(1),
+        true => Err(Fail::new("a row too many")),
+        false if bytes == rows => Ok(0),
+        false => Err(Fail::new("other rows")),
+    }
 }

@@ -1,6 +1,6 @@
 //! Each growth of a run of one subcommand, refused in turn.
 use crate::patterns::{Case, cases, texts_of};
-use crate::shot_fixtures::are_short;
+use crate::shot_fixtures::{are_short, copied, times_refused};
 use iv_args::{Plan, PlanFault};
 use iv_bytes::MemSink;
 use iv_run::{CliFault, Inputs, shot};
@@ -8,15 +8,12 @@ use std::alloc::Global;
 use std::test::Fail;
 use test_faults::{RefusesNth, refuse_each, words_of};
 
-/// The bytes of a FASTA file, where there is one, in memory that is not refused.
-fn copied<'a>(
-    granting: &'a RefusesNth<Global>,
-    bases: Option<&[u8]>,
-) -> Result<Option<Vec<u8, &'a RefusesNth<Global>>>, Fail> {
-    match bases {
-        Some(text) => Ok(Some(text.to_vec(granting)?)),
-        None => Ok(None),
-    }
+/// The files of a run, and what it prints of them.
+#[derive(Clone, Copy)]
+struct Shot<'a> {
+    inputs: Inputs<'a>,
+    bases: Option<&'a [u8]>,
+    rows: &'a [u8],
 }
 
 /// Whether a run of a plan is refused memory.
@@ -38,16 +35,13 @@ fn is_refused<'a>(
 }
 
 /// Whether a run is refused memory, from its words on.
-fn run(
-    rt: &HostRuntime,
-    alloc: &RefusesNth<Global>,
+fn run<'a>(
+    alloc: &'a RefusesNth<Global>,
     words: &[&[u8]],
     inputs: &Inputs<'_>,
-    bases: Option<&[u8]>,
+    bases: Option<Vec<u8, &'a RefusesNth<Global>>>,
     sink: &mut MemSink,
 ) -> Result<bool, Fail> {
-    let granting = RefusesNth::new(rt.alloc(), u64::MAX);
-    let bases = copied(&granting, bases)?;
     match Plan::read(alloc, words) {
         Ok(plan) => is_refused(alloc, &plan, inputs, bases, sink),
         Err(PlanFault::Memory) => Ok(true),
@@ -55,50 +49,44 @@ fn run(
     }
 }
 
-/// Runs it, and says how often that was out of memory with nothing printed, once or never. Else these rows are printed, though
-/// a growth was refused: it may have been tried again at another size.
-fn refused_run(
+/// The same, and what it prints. The FASTA file is in memory that is not refused.
+fn refused_run<'a>(
     rt: &HostRuntime,
-    alloc: &RefusesNth<Global>,
+    alloc: &'a RefusesNth<Global>,
+    granting: &'a RefusesNth<Global>,
     words: &[&[u8]],
-    inputs: &Inputs<'_>,
-    bases: Option<&[u8]>,
-    rows: &[u8],
+    run_of: Shot<'_>,
 ) -> Result<u32, Fail> {
     let mut sink = MemSink::new(rt.alloc(), 1000, 9)?;
-    match run(rt, alloc, words, inputs, bases, &mut sink)? {
-        true if sink.bytes().is_empty() => Ok(1),
-        true => Err(Fail::new("a row too many")),
-        false if sink.bytes() == rows => Ok(0),
-        false => Err(Fail::new("other rows")),
-    }
+    let bases = copied(granting, run_of.bases)?;
+    let is_refused = run(alloc, words, &run_of.inputs, bases, &mut sink)?;
+    times_refused(is_refused, sink.bytes(), run_of.rows)
 }
 
 /// How many runs ended so, each of their growths refused in turn.
-fn refused_runs(
-    rt: &HostRuntime,
-    words: &[&[u8]],
-    inputs: &Inputs<'_>,
-    bases: Option<&[u8]>,
-    rows: &[u8],
-) -> Result<u32, Fail> {
+fn refused_runs_by(rt: &HostRuntime, words: &[&[u8]], run_of: Shot<'_>) -> Result<u32, Fail> {
+    let granting = RefusesNth::new(rt.alloc(), u64::MAX);
     refuse_each(
         rt.alloc(),
-        |alloc| refused_run(rt, alloc, words, inputs, bases, rows),
+        |alloc| refused_run(rt, alloc, &granting, words, run_of),
     )
+}
+
+/// The same of words that are separated by spaces.
+fn refused_runs(rt: &HostRuntime, text: &[u8], run_of: Shot<'_>) -> Result<u32, Fail> {
+    let words = words_of(rt.alloc(), text)?;
+    refused_runs_by(rt, words.as_slice(), run_of)
 }
 
 /// The same of a case.
 fn refused_case(rt: &HostRuntime, case: &Case<'_>) -> Result<u32, Fail> {
     let texts = texts_of(rt, case)?;
-    let words = words_of(rt.alloc(), case.words)?;
-    refused_runs(
-        rt,
-        words.as_slice(),
-        &texts.inputs(),
-        texts.bases(),
-        texts.printed(),
-    )
+    let run_of = Shot {
+        inputs: texts.inputs(),
+        bases: texts.bases(),
+        rows: texts.printed(),
+    };
+    refused_runs(rt, case.words, run_of)
 }
 
 #[test]
@@ -109,51 +97,43 @@ fn each_growth_of_each_subcommand_refused(rt: HostRuntime) -> Result<(), Fail> {
     Ok(())
 }
 
-#[test]
-fn each_growth_of_a_merge_refused(rt: HostRuntime) -> Result<(), Fail> {
-    let inputs = Inputs {
-        sizes: b"chr1\t100\n",
-        first: b"chr1\t30\t40\tb\nchr1\t10\t35\ta\nchr1\t50\t60\tc\n",
-        other: None,
-    };
-    let words: [&[u8]; 9] = [
-        b"merge",
-        b"-c",
-        b"4",
-        b"-o",
-        b"distinct",
-        b"-g",
-        b"g",
-        b"-i",
-        b"a",
-    ];
-    let rows = b"chr1\t10\t40\ta,b\nchr1\t50\t60\tc\n";
-    assert!(rt; 3 < refused_runs(&rt, &words, &inputs, None, rows)?);
-    Ok(())
-}
+/// Words of runs, the first file and the second one, and the rows.
+const FEW: [(&[u8], &[u8], Option<&[u8]>, &[u8]); 3] = [
+    (
+        b"merge -c 4 -o distinct -g g -i a",
+        b"chr1\t30\t40\tb\nchr1\t10\t35\ta\nchr1\t50\t60\tc\n",
+        None,
+        b"chr1\t10\t40\ta,b\nchr1\t50\t60\tc\n",
+    ),
+    (
+        b"intersect -g g -a a -b b",
+        b"chr1\t30\t40\nchr1\t10\t35\n",
+        Some(b"chr1\t20\t32\n"),
+        b"chr1\t20\t32\nchr1\t30\t32\n",
+    ),
+    (
+        b"genomecov -bg -g g -i a",
+        b"chr1\t30\t40\nchr1\t10\t35\n",
+        None,
+        b"chr1\t10\t30\t1\nchr1\t30\t35\t2\nchr1\t35\t40\t1\n",
+    ),
+];
 
+/// Two or three records on one sequence.
 #[test]
-fn each_growth_of_an_intersect_refused(rt: HostRuntime) -> Result<(), Fail> {
-    let inputs = Inputs {
-        sizes: b"chr1\t100\n",
-        first: b"chr1\t30\t40\nchr1\t10\t35\n",
-        other: Some(b"chr1\t20\t32\n"),
-    };
-    let words: [&[u8]; 7] = [b"intersect", b"-g", b"g", b"-a", b"a", b"-b", b"b"];
-    let rows = b"chr1\t20\t32\nchr1\t30\t32\n";
-    assert!(rt; 3 < refused_runs(&rt, &words, &inputs, None, rows)?);
-    Ok(())
-}
-
-#[test]
-fn each_growth_of_a_genomecov_refused(rt: HostRuntime) -> Result<(), Fail> {
-    let inputs = Inputs {
-        sizes: b"chr1\t100\n",
-        first: b"chr1\t30\t40\nchr1\t10\t35\n",
-        other: None,
-    };
-    let words: [&[u8]; 6] = [b"genomecov", b"-bg", b"-g", b"g", b"-i", b"a"];
-    let rows = b"chr1\t10\t30\t1\nchr1\t30\t35\t2\nchr1\t35\t40\t1\n";
-    assert!(rt; 3 < refused_runs(&rt, &words, &inputs, None, rows)?);
+fn each_growth_of_few_records_refused(rt: HostRuntime) -> Result<(), Fail> {
+    for (words, first, other, rows) in FEW {
+        let inputs = Inputs {
+            sizes: b"chr1\t100\n",
+            first,
+            other,
+        };
+        let run_of = Shot {
+            inputs,
+            bases: None,
+            rows,
+        };
+        assert!(rt; 3 < refused_runs(&rt, words, run_of)?);
+    }
     Ok(())
 }

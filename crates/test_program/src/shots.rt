@@ -1,8 +1,9 @@
 //! Runs of one subcommand on the bytes of their files.
-use crate::shot_fixtures::{alone, beside, ends, is_reported, prints};
+use crate::piece_fixtures::damage;
+use crate::shot_fixtures::{alone, beside, ends, is_reported, prints, prints_each};
 use iv_args::Slot;
 use iv_run::{CliFault, Inputs};
-use iv_text::{LoadCause, LoadFault, RecordFault};
+use iv_text::{LoadCause, RecordFault};
 use std::test::Fail;
 
 #[test]
@@ -44,10 +45,10 @@ fn merge_with_summaries(rt: HostRuntime) -> Result<(), Fail> {
     let inputs = alone(
         b"chr1\t13\t20\tc\t007\nchr1\t10\t20\ta\t5\nchr1\t11\t20\tb\t.\nchr1\t12\t20\ta\t-7\n",
     );
-    for (words, rows) in [
+    let runs: [(&[u8], &[u8]); 4] = [
         (
-            b"merge -c 5,5,5,4,4 -o sum,min,max,distinct,collapse -g g -i a".as_slice(),
-            b"chr1\t10\t20\t5\t-7\t7\ta,b,c\ta,b,a,c\n".as_slice(),
+            b"merge -c 5,5,5,4,4 -o sum,min,max,distinct,collapse -g g -i a",
+            b"chr1\t10\t20\t5\t-7\t7\ta,b,c\ta,b,a,c\n",
         ),
         (
             b"merge -c 5 -o distinct -g g -i a",
@@ -55,9 +56,14 @@ fn merge_with_summaries(rt: HostRuntime) -> Result<(), Fail> {
         ),
         (b"merge -c 5 -g g -i a", b"chr1\t10\t20\t5\n"),
         (b"merge -c 4 -o count -g g -i a", b"chr1\t10\t20\t4\n"),
-    ] {
-        assert!(rt; prints(&rt, words, &inputs, rows)?);
-    }
+    ];
+    assert!(rt; prints_each(&rt, &inputs, &runs)?);
+    Ok(())
+}
+
+/// A value that is no number, and a column that the records lack.
+#[test]
+fn merge_without_values(rt: HostRuntime) -> Result<(), Fail> {
     let inputs = alone(b"chr1\t10\t20\ta\t5\nchr1\t14\t20\td\t2.5\n");
     let rows = b"chr1\t10\t20\t.\t.\t.\n";
     assert!(rt; prints(&rt, b"merge -c 5 -o sum,min,max -g g -i a", &inputs, rows)?);
@@ -151,8 +157,11 @@ fn genomecov(rt: HostRuntime) -> Result<(), Fail> {
         ),
         (b"", b"", b"chr1\t0\t100\t0\nchr2\t0\t50\t0\n"),
     ] {
-        assert!(rt; prints(&rt, b"genomecov -g g -i a -bg", &alone(first), covered)?);
-        assert!(rt; prints(&rt, b"genomecov -g g -bga -i a", &alone(first), all)?);
+        let runs: [(&[u8], &[u8]); 2] = [
+            (b"genomecov -g g -i a -bg", covered),
+            (b"genomecov -g g -bga -i a", all),
+        ];
+        assert!(rt; prints_each(&rt, &alone(first), &runs)?);
     }
     Ok(())
 }
@@ -186,26 +195,24 @@ fn complement(rt: HostRuntime) -> Result<(), Fail> {
 /// A file without a record has the width that the words say.
 #[test]
 fn files_without_a_record(rt: HostRuntime) -> Result<(), Fail> {
-    let inputs = alone(b"");
-    assert!(rt;
-        prints(
-            &rt,
-            b"complement -g g -i a",
-            &inputs,
-            b"chr1\t0\t100\nchr2\t0\t50\n"
-        )?
-    );
-    assert!(rt; prints(&rt, b"complement -g g -i a -L", &inputs, b"")?);
-    assert!(rt; is_reported(&rt, b"merge -g g -i a -s", &inputs, CliFault::Words(18))?);
-    assert!(rt; prints(&rt, b"merge -g g -i a -s -width 6", &inputs, b"")?);
-    assert!(rt;
-        is_reported(
-            &rt,
-            b"merge -g g -i a -c 5 -width 4",
-            &inputs,
-            CliFault::Words(17)
-        )?
-    );
+    let runs: [(&[u8], &[u8]); 3] = [
+        (b"complement -g g -i a", b"chr1\t0\t100\nchr2\t0\t50\n"),
+        (b"complement -g g -i a -L", b""),
+        (b"merge -g g -i a -s -width 6", b""),
+    ];
+    assert!(rt; prints_each(&rt, &alone(b""), &runs)?);
+    Ok(())
+}
+
+/// The same of columns that it lacks.
+#[test]
+fn columns_without_a_record(rt: HostRuntime) -> Result<(), Fail> {
+    for (words, code) in [
+        (b"merge -g g -i a -s".as_slice(), 18),
+        (b"merge -g g -i a -c 5 -width 4", 17),
+    ] {
+        assert!(rt; is_reported(&rt, words, &alone(b""), CliFault::Words(code))?);
+    }
     Ok(())
 }
 
@@ -250,44 +257,34 @@ fn getfasta(rt: HostRuntime) -> Result<(), Fail> {
     Ok(())
 }
 
-/// Damage of this file at this line.
-fn damage(slot: Slot, line: u64, cause: LoadCause) -> CliFault {
-    CliFault::Damaged(slot, LoadFault { line, cause })
-}
-
-/// Damage is reported before a column that the records lack.
+/// Damage is reported before a column that the records lack, and that of the first file before that of the second one.
 #[test]
 fn files_that_are_damaged(rt: HostRuntime) -> Result<(), Fail> {
     let past_end = LoadCause::Record(RecordFault::PastEnd);
-    let first = b"chr1\t1\t2\nchr1\t1\t200\n".as_slice();
-    let fault = damage(Slot::First, 2, past_end);
-    assert!(rt; is_reported(&rt, b"merge -g g -i a", &alone(first), fault)?);
-    assert!(rt; is_reported(&rt, b"merge -g g -i a -c 5", &alone(first), fault)?);
-    // The first file is damaged too, or alone the second.
-    let inputs = beside(b"chr1\t1\t2\n", first);
-    assert!(rt;
-        is_reported(
-            &rt,
-            b"intersect -g g -a a -b b",
-            &beside(first, first),
-            fault
-        )?
-    );
-    let fault = damage(Slot::Other, 2, past_end);
-    assert!(rt; is_reported(&rt, b"intersect -g g -a a -b b", &inputs, fault)?);
-    assert!(rt; is_reported(&rt, b"subtract -g g -a a -b b", &inputs, fault)?);
-    let inputs = alone(b"chr1\t1\t2\n");
+    let damaged = b"chr1\t1\t2\nchr1\t1\t200\n".as_slice();
+    let sound = b"chr1\t1\t2\n".as_slice();
+    let pair = b"intersect -g g -a a -b b".as_slice();
+    for (words, inputs, slot) in [
+        (b"merge -g g -i a".as_slice(), alone(damaged), Slot::First),
+        (b"merge -g g -i a -c 5", alone(damaged), Slot::First),
+        (pair, beside(damaged, damaged), Slot::First),
+        (pair, beside(sound, damaged), Slot::Other),
+        (
+            b"subtract -g g -a a -b b",
+            beside(sound, damaged),
+            Slot::Other,
+        ),
+    ] {
+        assert!(rt; is_reported(&rt, words, &inputs, damage(slot, 2, past_end))?);
+    }
+    Ok(())
+}
+
+#[test]
+fn fasta_files_that_are_damaged(rt: HostRuntime) -> Result<(), Fail> {
+    let words = b"getfasta -g g -bed a -fi f -s";
     let bases = Some(b">chr9\nAC GT\n".as_slice());
     let fault = Some(damage(Slot::Bases, 2, LoadCause::Base));
-    assert!(rt;
-        ends(
-            &rt,
-            b"getfasta -g g -bed a -fi f -s",
-            &inputs,
-            bases,
-            fault,
-            b""
-        )?
-    );
+    assert!(rt; ends(&rt, words, &alone(b"chr1\t1\t2\n"), bases, fault, b"")?);
     Ok(())
 }

@@ -1,13 +1,13 @@
 //! Words that ask for help or for the version.
-use iv_args::{Notice, Plan, PlanFault, Run};
+use crate::words_subcommands::is_no_plan;
+use iv_args::{Notice, Run};
 use std::test::Fail;
 use test_faults::words_of;
 
 /// Whether the words, separated by spaces, ask for this notice, and are no plan.
 fn asks(rt: &HostRuntime, text: &[u8], notice: Option<Notice>) -> Result<bool, Fail> {
     let words = words_of(rt.alloc(), text)?;
-    let read = Plan::read(rt.alloc(), words.as_slice());
-    Ok(Notice::of(words.as_slice()) == notice && read.err() == Some(PlanFault::Words))
+    Ok((Notice::of(words.as_slice()) == notice) & is_no_plan(rt, words.as_slice()))
 }
 
 #[test]
