@@ -5,27 +5,35 @@ use iv_run::CliFault;
 use iv_session::{RunCause, RunFault, Summary};
 use iv_text::{LoadCause, LoadFault};
 
-/// Whether a fault has this status.
-fn has_status(fault: &CliFault, want: u8) -> bool {
-    status(fault) == want
-}
-
-#[test]
-fn statuses_of_faults(rt: HostRuntime) {
+/// The status of damage of a file.
+fn status_of_damage(slot: Slot) -> u8 {
     let damage = LoadFault {
         line: 1,
         cause: LoadCause::Name,
     };
-    for (fault, want) in [
-        (CliFault::Words(16), 2),
-        (CliFault::Damaged(Slot::First, damage), 3),
-        (CliFault::Damaged(Slot::Other, damage), 3),
-        (CliFault::Damaged(Slot::Bases, damage), 3),
-        (CliFault::Output, 4),
-        (CliFault::Memory, 5),
-    ] {
-        assert!(rt; has_status(&fault, want));
+    status(&CliFault::Damaged(slot, damage))
+}
+
+#[test]
+fn statuses_of_damage(rt: HostRuntime) {
+    for slot in [Slot::First, Slot::Other, Slot::Bases] {
+        assert!(rt; status_of_damage(slot) == 3);
     }
+}
+
+/// The statuses of words that are refused, of an output that fails, and where there is no memory.
+fn other_statuses() -> [u8; 3] {
+    [
+        status(&CliFault::Words(16)),
+        status(&CliFault::Output),
+        status(&CliFault::Memory),
+    ]
+}
+
+#[test]
+fn statuses_of_faults(rt: HostRuntime) {
+    let [words, output, memory] = other_statuses();
+    assert!(rt; (words == 2) & (output == 4) & (memory == 5));
 }
 
 #[test]

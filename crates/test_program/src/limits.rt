@@ -49,11 +49,6 @@ fn records(rt: &HostRuntime, genome: &Genome, text: &[u8], limit: u32) -> Result
     Ok(file.records().len())
 }
 
-/// The fault of a line.
-fn damage(line: u64, cause: LoadCause) -> Result<usize, LoadFault> {
-    Err(LoadFault { line, cause })
-}
-
 /// Whether that is what is read over a genome of one sequence.
 fn reads(
     rt: &HostRuntime,
@@ -65,21 +60,57 @@ fn reads(
     Ok(records(rt, &genome, text, limit) == want)
 }
 
-/// The first record above the limit is the fault, unless it has one of its own.
+/// The first line has a record too many.
+const MANY_1: LoadFault = LoadFault {
+    line: 1,
+    cause: LoadCause::TooMany,
+};
+
+/// The second line has a record too many.
+const MANY_2: LoadFault = LoadFault {
+    line: 2,
+    cause: LoadCause::TooMany,
+};
+
+/// The fourth line has a record too many.
+const MANY_4: LoadFault = LoadFault {
+    line: 4,
+    cause: LoadCause::TooMany,
+};
+
+/// Damage of the second line, whose record has no end.
+const NO_END: LoadFault = LoadFault {
+    line: 2,
+    cause: LoadCause::Record(RecordFault::StopNumber),
+};
+
+/// Files, how many records each may have, and what is read. The first record above the limit is the fault, unless it has one of
+/// its own.
+const FILES: [(&[u8], u32, Result<usize, LoadFault>); 7] = [
+    (b"chr1\t1\t2\n", 1, Ok(1)),
+    (b"chr1\t1\t2\nchr1\t1\t2\n", 1, Err(MANY_2)),
+    (b"#\nchr1\t1\t2\n\nchr1\t3\t4", 1, Err(MANY_4)),
+    (b"chr1\t1\t2\n#\n\ntrack\n", 1, Ok(1)),
+    (b"chr1\t1\t2\nchr1\t1\tx\n", 1, Err(NO_END)),
+    (b"chr1\t1\t2\n", 0, Err(MANY_1)),
+    (b"#\n", 0, Ok(0)),
+];
+
+/// Whether each of these is read so.
+fn are_read(
+    rt: &HostRuntime,
+    files: &[(&[u8], u32, Result<usize, LoadFault>)],
+) -> Result<bool, Fail> {
+    for (text, limit, want) in files {
+        if !reads(rt, text, *limit, *want)? {
+            return Ok(false);
+        }
+    }
+    Ok(true)
+}
+
 #[test]
 fn files_of_as_many_records_as_the_limit(rt: HostRuntime) -> Result<(), Fail> {
-    let no_end = LoadCause::Record(RecordFault::StopNumber);
-    let many = LoadCause::TooMany;
-    for (text, limit, want) in [
-        (b"chr1\t1\t2\n".as_slice(), 1, Ok(1)),
-        (b"chr1\t1\t2\nchr1\t1\t2\n", 1, damage(2, many)),
-        (b"#\nchr1\t1\t2\n\nchr1\t3\t4", 1, damage(4, many)),
-        (b"chr1\t1\t2\n#\n\ntrack\n", 1, Ok(1)),
-        (b"chr1\t1\t2\nchr1\t1\tx\n", 1, damage(2, no_end)),
-        (b"chr1\t1\t2\n", 0, damage(1, many)),
-        (b"#\n", 0, Ok(0)),
-    ] {
-        assert!(rt; reads(&rt, text, limit, want)?);
-    }
+    assert!(rt; are_read(&rt, &FILES)?);
     Ok(())
 }

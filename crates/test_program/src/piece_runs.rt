@@ -12,32 +12,46 @@ fn is_in_pieces(rt: &HostRuntime, words: &[u8]) -> Result<bool, Fail> {
     Ok(shows_places_alone(&plan))
 }
 
-/// Those that print no column of a record after the third, and don't set records apart by one.
+/// Whether each run of these words does, or none.
+fn are_in_pieces(rt: &HostRuntime, runs: &[&[u8]], want: bool) -> Result<bool, Fail> {
+    for words in runs {
+        if is_in_pieces(rt, words)? != want {
+            return Ok(false);
+        }
+    }
+    Ok(true)
+}
+
+/// Runs that print no column of a record after the third, and don't set records apart by one.
+const IN_PIECES: [&[u8]; 8] = [
+    b"merge -g g -i a",
+    b"merge -g g -d 0 -i a",
+    b"merge -width 6 -d 1000000000 -g g -i a",
+    b"complement -g g -i a",
+    b"complement -g g -i a -L",
+    b"genomecov -bg -g g -i a",
+    b"genomecov -bga -g g -i a",
+    b"genomecov -g g -i a -d",
+];
+
+/// Other runs.
+const AT_ONCE: [&[u8]; 11] = [
+    b"merge -s -g g -i a",
+    b"merge -s -d 3 -g g -i a",
+    b"merge -c 1 -o count -g g -i a",
+    b"merge -d 3 -c 4 -o collapse -g g -i a",
+    b"merge -c 2 -g g -i a",
+    b"cluster -g g -i a",
+    b"intersect -u -g g -a a -b b",
+    b"subtract -g g -a a -b b",
+    b"getfasta -g g -bed a -fi f",
+    b"session -g g -i a",
+    b"session -g g -i a -b b -fi f",
+];
+
 #[test]
 fn runs_that_read_in_pieces(rt: HostRuntime) -> Result<(), Fail> {
-    for (words, want) in [
-        (b"merge -g g -i a".as_slice(), true),
-        (b"merge -g g -d 0 -i a", true),
-        (b"merge -width 6 -d 1000000000 -g g -i a", true),
-        (b"complement -g g -i a", true),
-        (b"complement -g g -i a -L", true),
-        (b"genomecov -bg -g g -i a", true),
-        (b"genomecov -bga -g g -i a", true),
-        (b"genomecov -g g -i a -d", true),
-        (b"merge -s -g g -i a", false),
-        (b"merge -s -d 3 -g g -i a", false),
-        (b"merge -c 1 -o count -g g -i a", false),
-        (b"merge -d 3 -c 4 -o collapse -g g -i a", false),
-        (b"merge -c 2 -g g -i a", false),
-        (b"cluster -g g -i a", false),
-        (b"intersect -u -g g -a a -b b", false),
-        (b"subtract -g g -a a -b b", false),
-        (b"getfasta -g g -bed a -fi f", false),
-        (b"session -g g -i a", false),
-        (b"session -g g -i a -b b -fi f", false),
-    ] {
-        assert!(rt; is_in_pieces(&rt, words)? == want);
-    }
+    assert!(rt; are_in_pieces(&rt, &IN_PIECES, true)? && are_in_pieces(&rt, &AT_ONCE, false)?);
     Ok(())
 }
 
@@ -84,96 +98,107 @@ const THREE: &[u8] = b"chr1\t10\t20\nchr1\t20\t30\nchr1\t31\t40\n";
 /// Two copies of a record and one within it, of six columns.
 const COPIES: &[u8] = b"chr1\t10\t20\tn\t0\t+\nchr1\t12\t15\tm\t1\t-\nchr1\t10\t20\tn\t0\t+\n#";
 
+/// Whether each run of these words prints these rows of this file, in pieces and at once.
+fn print_both(rt: &HostRuntime, runs: &[(&[u8], &[u8], &[u8])]) -> Result<bool, Fail> {
+    for (words, text, rows) in runs {
+        if !prints_both(rt, words, SHORT, text, rows)? {
+            return Ok(false);
+        }
+    }
+    Ok(true)
+}
+
+/// The words of merges, their files, and what they print.
+const MERGES: [(&[u8], &[u8], &[u8]); 7] = [
+    (b"merge -g g -i a", UNSORTED, b"chr1\t10\t50\nchr2\t5\t9\n"),
+    (b"merge -g g -i a", THREE, b"chr1\t10\t30\nchr1\t31\t40\n"),
+    (b"merge -d 1 -g g -i a", THREE, b"chr1\t10\t40\n"),
+    (b"merge -d 0 -g g -i a", COPIES, b"chr1\t10\t20\n"),
+    (
+        b"merge -d 99 -g g -i a",
+        UNSORTED,
+        b"chr1\t10\t50\nchr2\t5\t9\n",
+    ),
+    (b"merge -g g -i a", b"", b""),
+    (b"merge -width 6 -g g -i a", b"#\n\n", b""),
+];
+
 #[test]
 fn rows_of_merges(rt: HostRuntime) -> Result<(), Fail> {
-    for (words, text, rows) in [
-        (
-            b"merge -g g -i a".as_slice(),
-            UNSORTED,
-            b"chr1\t10\t50\nchr2\t5\t9\n".as_slice(),
-        ),
-        (b"merge -g g -i a", THREE, b"chr1\t10\t30\nchr1\t31\t40\n"),
-        (b"merge -d 1 -g g -i a", THREE, b"chr1\t10\t40\n"),
-        (b"merge -d 0 -g g -i a", COPIES, b"chr1\t10\t20\n"),
-        (
-            b"merge -d 99 -g g -i a",
-            UNSORTED,
-            b"chr1\t10\t50\nchr2\t5\t9\n",
-        ),
-        (b"merge -g g -i a", b"", b""),
-        (b"merge -width 6 -g g -i a", b"#\n\n", b""),
-    ] {
-        assert!(rt; prints_both(&rt, words, SHORT, text, rows)?);
-    }
+    assert!(rt; print_both(&rt, &MERGES)?);
     Ok(())
 }
+
+/// What a complement prints where no record is.
+const WHOLE: &[u8] = b"chr1\t0\t100\nchr2\t0\t50\n";
+
+/// The same of complements.
+const COMPLEMENTS: [(&[u8], &[u8], &[u8]); 8] = [
+    (
+        b"complement -g g -i a",
+        UNSORTED,
+        b"chr1\t0\t10\nchr1\t50\t100\nchr2\t0\t5\nchr2\t9\t50\n",
+    ),
+    (
+        b"complement -g g -i a",
+        THREE,
+        b"chr1\t0\t10\nchr1\t30\t31\nchr1\t40\t100\nchr2\t0\t50\n",
+    ),
+    (
+        b"complement -L -g g -i a",
+        THREE,
+        b"chr1\t0\t10\nchr1\t30\t31\nchr1\t40\t100\n",
+    ),
+    (
+        b"complement -L -g g -i a",
+        COPIES,
+        b"chr1\t0\t10\nchr1\t20\t100\n",
+    ),
+    (b"complement -g g -i a", b"chr1\t0\t100\nchr2\t0\t50", b""),
+    (b"complement -g g -i a", b"", WHOLE),
+    (b"complement -g g -i a", b"track", WHOLE),
+    (b"complement -L -g g -i a", b"", b""),
+];
 
 #[test]
 fn rows_of_complements(rt: HostRuntime) -> Result<(), Fail> {
-    let whole = b"chr1\t0\t100\nchr2\t0\t50\n".as_slice();
-    for (words, text, rows) in [
-        (
-            b"complement -g g -i a".as_slice(),
-            UNSORTED,
-            b"chr1\t0\t10\nchr1\t50\t100\nchr2\t0\t5\nchr2\t9\t50\n".as_slice(),
-        ),
-        (
-            b"complement -g g -i a",
-            THREE,
-            b"chr1\t0\t10\nchr1\t30\t31\nchr1\t40\t100\nchr2\t0\t50\n",
-        ),
-        (
-            b"complement -L -g g -i a",
-            THREE,
-            b"chr1\t0\t10\nchr1\t30\t31\nchr1\t40\t100\n",
-        ),
-        (
-            b"complement -L -g g -i a",
-            COPIES,
-            b"chr1\t0\t10\nchr1\t20\t100\n",
-        ),
-        (b"complement -g g -i a", b"chr1\t0\t100\nchr2\t0\t50", b""),
-        (b"complement -g g -i a", b"", whole),
-        (b"complement -g g -i a", b"track", whole),
-        (b"complement -L -g g -i a", b"", b""),
-    ] {
-        assert!(rt; prints_both(&rt, words, SHORT, text, rows)?);
-    }
+    assert!(rt; print_both(&rt, &COMPLEMENTS)?);
     Ok(())
 }
 
+/// The same of depths.
+const DEPTHS: [(&[u8], &[u8], &[u8]); 6] = [
+    (
+        b"genomecov -bg -g g -i a",
+        UNSORTED,
+        b"chr1\t10\t30\t1\nchr1\t30\t40\t2\nchr1\t40\t50\t1\nchr2\t5\t9\t1\n",
+    ),
+    (
+        b"genomecov -bga -g g -i a",
+        UNSORTED,
+        b"chr1\t0\t10\t0\nchr1\t10\t30\t1\nchr1\t30\t40\t2\nchr1\t40\t50\t1\nchr1\t50\t100\t0\nchr2\t0\t5\t0\nchr2\t5\t9\t1\nchr2\t9\t50\t0\n",
+    ),
+    (
+        b"genomecov -bg -g g -i a",
+        COPIES,
+        b"chr1\t10\t12\t2\nchr1\t12\t15\t3\nchr1\t15\t20\t2\n",
+    ),
+    (
+        b"genomecov -bga -g g -i a",
+        THREE,
+        b"chr1\t0\t10\t0\nchr1\t10\t30\t1\nchr1\t30\t31\t0\nchr1\t31\t40\t1\nchr1\t40\t100\t0\nchr2\t0\t50\t0\n",
+    ),
+    (b"genomecov -bg -g g -i a", b"", b""),
+    (
+        b"genomecov -bga -g g -i a",
+        b"\n",
+        b"chr1\t0\t100\t0\nchr2\t0\t50\t0\n",
+    ),
+];
+
 #[test]
 fn rows_of_depths(rt: HostRuntime) -> Result<(), Fail> {
-    for (words, text, rows) in [
-        (
-            b"genomecov -bg -g g -i a".as_slice(),
-            UNSORTED,
-            b"chr1\t10\t30\t1\nchr1\t30\t40\t2\nchr1\t40\t50\t1\nchr2\t5\t9\t1\n".as_slice(),
-        ),
-        (
-            b"genomecov -bga -g g -i a",
-            UNSORTED,
-            b"chr1\t0\t10\t0\nchr1\t10\t30\t1\nchr1\t30\t40\t2\nchr1\t40\t50\t1\nchr1\t50\t100\t0\nchr2\t0\t5\t0\nchr2\t5\t9\t1\nchr2\t9\t50\t0\n",
-        ),
-        (
-            b"genomecov -bg -g g -i a",
-            COPIES,
-            b"chr1\t10\t12\t2\nchr1\t12\t15\t3\nchr1\t15\t20\t2\n",
-        ),
-        (
-            b"genomecov -bga -g g -i a",
-            THREE,
-            b"chr1\t0\t10\t0\nchr1\t10\t30\t1\nchr1\t30\t31\t0\nchr1\t31\t40\t1\nchr1\t40\t100\t0\nchr2\t0\t50\t0\n",
-        ),
-        (b"genomecov -bg -g g -i a", b"", b""),
-        (
-            b"genomecov -bga -g g -i a",
-            b"\n",
-            b"chr1\t0\t100\t0\nchr2\t0\t50\t0\n",
-        ),
-    ] {
-        assert!(rt; prints_both(&rt, words, SHORT, text, rows)?);
-    }
+    assert!(rt; print_both(&rt, &DEPTHS)?);
     Ok(())
 }
 

@@ -121,48 +121,57 @@ fn merge_with_strands_apart(rt: HostRuntime) -> Result<(), Fail> {
     Ok(())
 }
 
+/// Records, their depth where they cover, and everywhere.
+const DEPTHS: [(&[u8], &[u8], &[u8]); 6] = [
+    (
+        b"chr1\t10\t20\nchr1\t20\t30\n",
+        b"chr1\t10\t30\t1\n",
+        b"chr1\t0\t10\t0\nchr1\t10\t30\t1\nchr1\t30\t100\t0\nchr2\t0\t50\t0\n",
+    ),
+    (
+        b"chr1\t20\t30\n",
+        b"chr1\t20\t30\t1\n",
+        b"chr1\t0\t20\t0\nchr1\t20\t30\t1\nchr1\t30\t100\t0\nchr2\t0\t50\t0\n",
+    ),
+    (
+        b"chr1\t0\t100\nchr1\t50\t100\n",
+        b"chr1\t0\t50\t1\nchr1\t50\t100\t2\n",
+        b"chr1\t0\t50\t1\nchr1\t50\t100\t2\nchr2\t0\t50\t0\n",
+    ),
+    (
+        b"chr1\t10\t20\nchr1\t10\t20\n",
+        b"chr1\t10\t20\t2\n",
+        b"chr1\t0\t10\t0\nchr1\t10\t20\t2\nchr1\t20\t100\t0\nchr2\t0\t50\t0\n",
+    ),
+    // Records of two sequences, out of order: two share some bases, and one begins where two others end.
+    (
+        b"chr2\t5\t9\nchr1\t40\t50\nchr1\t30\t40\nchr1\t10\t40\n",
+        b"chr1\t10\t30\t1\nchr1\t30\t40\t2\nchr1\t40\t50\t1\nchr2\t5\t9\t1\n",
+        b"chr1\t0\t10\t0\nchr1\t10\t30\t1\nchr1\t30\t40\t2\nchr1\t40\t50\t1\nchr1\t50\t100\t0\nchr2\t0\t5\t0\nchr2\t5\t9\t1\nchr2\t9\t50\t0\n",
+    ),
+    (b"", b"", b"chr1\t0\t100\t0\nchr2\t0\t50\t0\n"),
+];
+
+/// Whether records have these depths.
+fn has_depths(rt: &HostRuntime, first: &[u8], covered: &[u8], all: &[u8]) -> Result<bool, Fail> {
+    let inputs = alone(first);
+    let is_covered = prints(rt, b"genomecov -g g -i a -bg", &inputs, covered)?;
+    Ok(is_covered && prints(rt, b"genomecov -g g -bga -i a", &inputs, all)?)
+}
+
+/// Whether each of these files does.
+fn have_depths(rt: &HostRuntime, files: &[(&[u8], &[u8], &[u8])]) -> Result<bool, Fail> {
+    for (first, covered, all) in files {
+        if !has_depths(rt, first, covered, all)? {
+            return Ok(false);
+        }
+    }
+    Ok(true)
+}
+
 #[test]
 fn genomecov(rt: HostRuntime) -> Result<(), Fail> {
-    let both = b"chr1\t10\t20\nchr1\t20\t30\n".as_slice();
-    let one = b"chr1\t20\t30\n".as_slice();
-    let ends = b"chr1\t0\t100\nchr1\t50\t100\n".as_slice();
-    let copies = b"chr1\t10\t20\nchr1\t10\t20\n".as_slice();
-    // Records of two sequences, out of order: two share some bases, and one begins where two others end.
-    let unsorted = b"chr2\t5\t9\nchr1\t40\t50\nchr1\t30\t40\nchr1\t10\t40\n".as_slice();
-    for (first, covered, all) in [
-        (
-            both,
-            b"chr1\t10\t30\t1\n".as_slice(),
-            b"chr1\t0\t10\t0\nchr1\t10\t30\t1\nchr1\t30\t100\t0\nchr2\t0\t50\t0\n".as_slice(),
-        ),
-        (
-            one,
-            b"chr1\t20\t30\t1\n",
-            b"chr1\t0\t20\t0\nchr1\t20\t30\t1\nchr1\t30\t100\t0\nchr2\t0\t50\t0\n",
-        ),
-        (
-            ends,
-            b"chr1\t0\t50\t1\nchr1\t50\t100\t2\n",
-            b"chr1\t0\t50\t1\nchr1\t50\t100\t2\nchr2\t0\t50\t0\n",
-        ),
-        (
-            copies,
-            b"chr1\t10\t20\t2\n",
-            b"chr1\t0\t10\t0\nchr1\t10\t20\t2\nchr1\t20\t100\t0\nchr2\t0\t50\t0\n",
-        ),
-        (
-            unsorted,
-            b"chr1\t10\t30\t1\nchr1\t30\t40\t2\nchr1\t40\t50\t1\nchr2\t5\t9\t1\n",
-            b"chr1\t0\t10\t0\nchr1\t10\t30\t1\nchr1\t30\t40\t2\nchr1\t40\t50\t1\nchr1\t50\t100\t0\nchr2\t0\t5\t0\nchr2\t5\t9\t1\nchr2\t9\t50\t0\n",
-        ),
-        (b"", b"", b"chr1\t0\t100\t0\nchr2\t0\t50\t0\n"),
-    ] {
-        let runs: [(&[u8], &[u8]); 2] = [
-            (b"genomecov -g g -i a -bg", covered),
-            (b"genomecov -g g -bga -i a", all),
-        ];
-        assert!(rt; prints_each(&rt, &alone(first), &runs)?);
-    }
+    assert!(rt; have_depths(&rt, &DEPTHS)?);
     Ok(())
 }
 

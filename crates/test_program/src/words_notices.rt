@@ -10,54 +10,76 @@ fn asks(rt: &HostRuntime, text: &[u8], notice: Option<Notice>) -> Result<bool, F
     Ok((Notice::of(words.as_slice()) == notice) & is_no_plan(rt, words.as_slice()))
 }
 
+/// Whether each of these words ask for this notice.
+fn ask(rt: &HostRuntime, notices: &[(&[u8], Notice)]) -> Result<bool, Fail> {
+    for (words, notice) in notices {
+        if !asks(rt, words, Some(*notice))? {
+            return Ok(false);
+        }
+    }
+    Ok(true)
+}
+
+/// Words, and the notice that they ask for.
+const NOTICES: [(&[u8], Notice); 16] = [
+    (b"--help", Notice::Help),
+    (b"-h", Notice::Help),
+    (b"help", Notice::Help),
+    (b"--version", Notice::Version),
+    (b"--help session", Notice::HelpOf(Run::Session)),
+    (b"help session", Notice::HelpOf(Run::Session)),
+    (b"session --help", Notice::HelpOf(Run::Session)),
+    (b"session -h", Notice::HelpOf(Run::Session)),
+    (b"--help merge", Notice::HelpOf(Run::Merge)),
+    (b"merge --help", Notice::HelpOf(Run::Merge)),
+    (b"cluster -h", Notice::HelpOf(Run::Cluster)),
+    (b"help complement", Notice::HelpOf(Run::Complement)),
+    (b"genomecov --help", Notice::HelpOf(Run::Genomecov)),
+    (b"intersect -h", Notice::HelpOf(Run::Intersect)),
+    (b"help subtract", Notice::HelpOf(Run::Subtract)),
+    (b"getfasta --help", Notice::HelpOf(Run::Getfasta)),
+];
+
 #[test]
 fn words_of_notices(rt: HostRuntime) -> Result<(), Fail> {
-    for (words, notice) in [
-        (b"--help".as_slice(), Notice::Help),
-        (b"-h", Notice::Help),
-        (b"help", Notice::Help),
-        (b"--version", Notice::Version),
-        (b"--help session", Notice::HelpOf(Run::Session)),
-        (b"help session", Notice::HelpOf(Run::Session)),
-        (b"session --help", Notice::HelpOf(Run::Session)),
-        (b"session -h", Notice::HelpOf(Run::Session)),
-        (b"--help merge", Notice::HelpOf(Run::Merge)),
-        (b"merge --help", Notice::HelpOf(Run::Merge)),
-        (b"cluster -h", Notice::HelpOf(Run::Cluster)),
-        (b"help complement", Notice::HelpOf(Run::Complement)),
-        (b"genomecov --help", Notice::HelpOf(Run::Genomecov)),
-        (b"intersect -h", Notice::HelpOf(Run::Intersect)),
-        (b"help subtract", Notice::HelpOf(Run::Subtract)),
-        (b"getfasta --help", Notice::HelpOf(Run::Getfasta)),
-    ] {
-        assert!(rt; asks(&rt, words, Some(notice))?);
-    }
+    assert!(rt; ask(&rt, &NOTICES)?);
     Ok(())
 }
 
+/// Whether none of these words ask for a notice.
+fn ask_for_none(rt: &HostRuntime, texts: &[&[u8]]) -> Result<bool, Fail> {
+    for words in texts {
+        if !asks(rt, words, None)? {
+            return Ok(false);
+        }
+    }
+    Ok(true)
+}
+
+/// Words that ask for none.
+const NO_NOTICE: [&[u8]; 18] = [
+    b"",
+    b"-help",
+    b"--Help",
+    b"version",
+    b"-h merge",
+    b"help help",
+    b"--help --help",
+    b"help --help",
+    b"-h -h",
+    b"--version --help",
+    b"--help --version",
+    b"help sort",
+    b"sort --help",
+    b"merge help",
+    b"merge --version",
+    b"merge --help extra",
+    b"help merge cluster",
+    b"merge cluster --help",
+];
+
 #[test]
 fn words_that_are_no_notice(rt: HostRuntime) -> Result<(), Fail> {
-    for words in [
-        b"".as_slice(),
-        b"-help",
-        b"--Help",
-        b"version",
-        b"-h merge",
-        b"help help",
-        b"--help --help",
-        b"help --help",
-        b"-h -h",
-        b"--version --help",
-        b"--help --version",
-        b"help sort",
-        b"sort --help",
-        b"merge help",
-        b"merge --version",
-        b"merge --help extra",
-        b"help merge cluster",
-        b"merge cluster --help",
-    ] {
-        assert!(rt; asks(&rt, words, None)?);
-    }
+    assert!(rt; ask_for_none(&rt, &NO_NOTICE)?);
     Ok(())
 }

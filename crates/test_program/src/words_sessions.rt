@@ -1,72 +1,48 @@
 //! Words of a run.
 use crate::piece_fixtures::plan_of;
-use crate::words_subcommands::{Files, are_refused, has_files, is_no_plan};
+use crate::words_subcommands::{are_refused, has_files, is_no_plan};
 use std::test::Fail;
 
-/// Whether these words, separated by spaces, are those of a plan whose files are named so, with this width.
-fn reads(rt: &HostRuntime, text: &[u8], files: Files<'_>, width: u8) -> Result<bool, Fail> {
+/// Whether these words, separated by spaces, are those of a plan with files of these names and with this width.
+fn reads(rt: &HostRuntime, text: &[u8], files: &[u8], width: u8) -> Result<bool, Fail> {
     let plan = plan_of(rt, text)?;
-    Ok(has_files(&plan, files) & (plan.width() == width))
+    Ok((plan.width() == width) & has_files(rt, &plan, files)?)
 }
 
-/// Words, the files that they name, and the width.
-const SESSIONS: [(&[u8], Files<'static>, u8); 17] = [
-    (b"session -g g -i -g", (b"g", b"-g", None, None), 3),
-    (b"session -i -g -g g", (b"g", b"-g", None, None), 3),
-    (b"session -g  -i a", (b"", b"a", None, None), 3),
-    (b"session -width 3 -g g -i a", (b"g", b"a", None, None), 3),
-    (b"session -g g -i a -width 6", (b"g", b"a", None, None), 6),
-    (b"session -g g -i a -b b", (b"g", b"a", Some(b"b"), None), 3),
-    (b"session -b b -i a -g g", (b"g", b"a", Some(b"b"), None), 3),
-    (
-        b"session -i a -width 6 -b -i -g g",
-        (b"g", b"a", Some(b"-i"), None),
-        6,
-    ),
-    (
-        b"session -b -b -g -b -i -b",
-        (b"-b", b"-b", Some(b"-b"), None),
-        3,
-    ),
-    (b"session -g g -b  -i a", (b"g", b"a", Some(b""), None), 3),
-    (
-        b"session -b -width -g g -i a",
-        (b"g", b"a", Some(b"-width"), None),
-        3,
-    ),
-    (
-        b"session -g g -i a -fi f",
-        (b"g", b"a", None, Some(b"f")),
-        3,
-    ),
-    (
-        b"session -fi f -i a -b b -g g",
-        (b"g", b"a", Some(b"b"), Some(b"f")),
-        3,
-    ),
-    (
-        b"session -b b -g g -fi -b -width 6 -i a",
-        (b"g", b"a", Some(b"b"), Some(b"-b")),
-        6,
-    ),
-    (
-        b"session -i a -b -fi -g g -fi f",
-        (b"g", b"a", Some(b"-fi"), Some(b"f")),
-        3,
-    ),
-    (b"session -fi  -g g -i a", (b"g", b"a", None, Some(b"")), 3),
-    (
-        b"session -g g -fi -fi -i a",
-        (b"g", b"a", None, Some(b"-fi")),
-        3,
-    ),
+/// Words, the names of their files, with `none` where there is none, and the width.
+const SESSIONS: [(&[u8], &[u8], u8); 17] = [
+    (b"session -g g -i -g", b"g -g none none", 3),
+    (b"session -i -g -g g", b"g -g none none", 3),
+    (b"session -g  -i a", b" a none none", 3),
+    (b"session -width 3 -g g -i a", b"g a none none", 3),
+    (b"session -g g -i a -width 6", b"g a none none", 6),
+    (b"session -g g -i a -b b", b"g a b none", 3),
+    (b"session -b b -i a -g g", b"g a b none", 3),
+    (b"session -i a -width 6 -b -i -g g", b"g a -i none", 6),
+    (b"session -b -b -g -b -i -b", b"-b -b -b none", 3),
+    (b"session -g g -b  -i a", b"g a  none", 3),
+    (b"session -b -width -g g -i a", b"g a -width none", 3),
+    (b"session -g g -i a -fi f", b"g a none f", 3),
+    (b"session -fi f -i a -b b -g g", b"g a b f", 3),
+    (b"session -b b -g g -fi -b -width 6 -i a", b"g a b -b", 6),
+    (b"session -i a -b -fi -g g -fi f", b"g a -fi f", 3),
+    (b"session -fi  -g g -i a", b"g a none ", 3),
+    (b"session -g g -fi -fi -i a", b"g a none -fi", 3),
 ];
+
+/// Whether each of these words are read so.
+fn are_read(rt: &HostRuntime, sessions: &[(&[u8], &[u8], u8)]) -> Result<bool, Fail> {
+    for (words, files, width) in sessions {
+        if !reads(rt, words, files, *width)? {
+            return Ok(false);
+        }
+    }
+    Ok(true)
+}
 
 #[test]
 fn words_of_sessions(rt: HostRuntime) -> Result<(), Fail> {
-    for (words, files, width) in SESSIONS {
-        assert!(rt; reads(&rt, words, files, width)?);
-    }
+    assert!(rt; are_read(&rt, &SESSIONS)?);
     Ok(())
 }
 

@@ -4,16 +4,26 @@ use iv_args::{Plan, PlanFault, Run, Slot};
 use std::test::Fail;
 use test_faults::words_of;
 
-/// The files of a run: the genome file, the records, the second file, the FASTA file.
-pub(crate) type Files<'a> = (&'a [u8], &'a [u8], Option<&'a [u8]>, Option<&'a [u8]>);
+/// The name of a file of a plan.
+fn name_of<'a>(plan: &Plan<'a>, slot: Slot) -> &'a [u8] {
+    plan.file(slot).unwrap_or(b"none")
+}
 
-/// Whether a plan names its files so.
-pub(crate) fn has_files(plan: &Plan<'_>, files: Files<'_>) -> bool {
-    let (sizes, first, other, bases) = files;
-    let has_first = (plan.file(Slot::Sizes) == Some(sizes))
-        & (plan.file(Slot::First) == Some(first));
-    let has_other = (plan.file(Slot::Other) == other) & (plan.file(Slot::Bases) == bases);
-    has_first & has_other
+/// Whether these are the names of a plan's files.
+fn are_names(plan: &Plan<'_>, names: &[&[u8]]) -> bool {
+    let found = [
+        name_of(plan, Slot::Sizes),
+        name_of(plan, Slot::First),
+        name_of(plan, Slot::Other),
+        name_of(plan, Slot::Bases),
+    ];
+    found.as_slice() == names
+}
+
+/// Whether a plan has files of these names, separated by spaces: the genome file, the records, the second file, the FASTA file.
+pub(crate) fn has_files(rt: &HostRuntime, plan: &Plan<'_>, names: &[u8]) -> Result<bool, Fail> {
+    let names = words_of(rt.alloc(), names)?;
+    Ok(are_names(plan, names.as_slice()))
 }
 
 /// Whether a plan is that of this run, and these are the words of its view.
@@ -28,32 +38,26 @@ fn is_run_of(rt: &HostRuntime, plan: &Plan<'_>, run: Run, view: &[u8]) -> Result
 }
 
 /// Whether words, separated by spaces, are read as a plan of this run over these files, whose view has these words.
-fn reads(
-    rt: &HostRuntime,
-    text: &[u8],
-    run: Run,
-    files: Files<'_>,
-    view: &[u8],
-) -> Result<bool, Fail> {
+fn reads(rt: &HostRuntime, text: &[u8], run: Run, files: &[u8], view: &[u8]) -> Result<bool, Fail> {
     let plan = plan_of(rt, text)?;
-    Ok(has_files(&plan, files) && is_run_of(rt, &plan, run, view)?)
+    Ok(has_files(rt, &plan, files)? && is_run_of(rt, &plan, run, view)?)
 }
 
 /// The files of a run over one BED file.
-const ONE: Files<'static> = (b"g", b"a", None, None);
+const ONE: &[u8] = b"g a none none";
 
 /// Those of a run over two.
-const BOTH: Files<'static> = (b"g", b"a", Some(b"b"), None);
+const BOTH: &[u8] = b"g a b none";
 
 /// Those of a run over a BED file and a FASTA file.
-const BASES: Files<'static> = (b"g", b"a", None, Some(b"f"));
+const BASES: &[u8] = b"g a none f";
 
 /// Files whose names look like options: the word after an option that takes a value is its value, whatever it is.
-const OPTIONS: Files<'static> = (b"-i", b"-d", None, None);
+const OPTIONS: &[u8] = b"-i -d none none";
 
 /// Words, their run and its files, and the words of its view. That the records may lack a column or a strand is no fault of the
 /// words.
-const RUNS: [(&[u8], Run, Files<'static>, &[u8]); 15] = [
+const RUNS: [(&[u8], Run, &[u8], &[u8]); 15] = [
     (b"merge -g g -i a", Run::Merge, ONE, b"merge"),
     (
         b"merge -i a -s -g g -d 5",
@@ -121,11 +125,19 @@ const RUNS: [(&[u8], Run, Files<'static>, &[u8]); 15] = [
     ),
 ];
 
+/// Whether each of these words are read so.
+fn are_read(rt: &HostRuntime, runs: &[(&[u8], Run, &[u8], &[u8])]) -> Result<bool, Fail> {
+    for (words, run, files, view) in runs {
+        if !reads(rt, words, *run, files, view)? {
+            return Ok(false);
+        }
+    }
+    Ok(true)
+}
+
 #[test]
 fn words_of_subcommands(rt: HostRuntime) -> Result<(), Fail> {
-    for (words, run, files, view) in RUNS {
-        assert!(rt; reads(&rt, words, run, files, view)?);
-    }
+    assert!(rt; are_read(&rt, &RUNS)?);
     Ok(())
 }
 
