@@ -1,5 +1,5 @@
 -- Blocks as they are kept. This is the state of the views over blocks, as seen by proofs; their rows are defined without it.
-use Rattle.std.specs.Prelude.{◌≡◌, ℕ, ◌+◌, ◌*◌, ◌==◌, ◌&&◌, nat_le, nat_lt, Bool, Box, Vec, true, false, List, [], filter, length, Option, None, Some, slice_get, if◌then◌else◌}
+use Rattle.std.specs.Prelude.{◌≡◌, ℕ, ◌+◌, ◌*◌, ◌==◌, ◌&&◌, nat_le, nat_lt, Bool, true, false, List, [], filter, length, Option, None, Some, slice_get, if◌then◌else◌}
 use Rattle.std.specs.Option.{option_map, unwrap_or}
 use Rattle.std.specs.declared.cmp.Ordering.{Ordering}
 use Rattle.std.specs.Ordering.{nat_cmp, bool_cmp, ordering_then}
@@ -24,11 +24,6 @@ key_cmp a b = ordering_then (ordering_then (nat_cmp a.0 b.0) (bool_cmp a.1 b.1))
 pub record Kept : Type 0 where
   pub stop : ℕ
   pub results : List ℕ
-
--- the results that are kept, of which there may be none
-abbrev pub results_of : {A : Type 0} → Option (Box (Vec ℕ A) A) → List ℕ
-results_of None = []
-results_of (Some results) = results.value.items
 
 -- blocks, by key
 abbrev pub Entries : Type 0

@@ -1,6 +1,7 @@
 pub mod Groups
 pub mod Plain
 pub mod MembersLeft
+pub mod BoxedTexts
 pub mod KeptBlocks
 pub mod Putting
 pub mod Lookups

@@ -2,6 +2,7 @@
 ghost use Rattle.std.specs.Prelude.{◌≡◌};
 ghost use Rattle.iv_blocks.specs.KeptBlocks.{AreBlocksOf, block_steps};
 
+use crate::boxed_text::BoxedText;
 use crate::entries::entries_of;
 use crate::group::Group;
 use crate::options::Options;
@@ -17,16 +18,16 @@ use std::marker::Model;
 pub(crate) struct KeptBlock<A: Allocator> {
     /// Where it stops, from 0, not included.
     pub(crate) stop: u32,
-    /// Its results, each with a TAB in front of it; `None` where there are no summaries.
-    pub(crate) results: Option<Box<Vec<u8, A>, A>>,
+    /// Its results, each with a TAB in front of it; empty where there are no summaries.
+    pub(crate) results: BoxedText<A>,
 }
 
 impl<A: Allocator> Model for KeptBlock<A> {
-    ghost use Rattle.iv_blocks.specs.KeptBlocks.{Kept, results_of};
+    ghost use Rattle.iv_blocks.specs.KeptBlocks.{Kept};
 
     ghost Value = { Kept };
 
-    ghost view = { λ b. record { stop = b.stop; results = results_of b.results } };
+    ghost view = { λ b. record { stop = b.stop; results = b.results } };
 }
 
 /// Where a block is kept: the rank of its sequence, whether its records are those on `-` where strands are apart, and its start.

@@ -7,8 +7,9 @@ ghost use Rattle.iv_blocks.specs.Groups.{listed};
 ghost use Rattle.iv_blocks.specs.Plain.{kept_entry};
 
 use crate::blocks::{KeptBlock, Key};
+use crate::boxed_text::BoxedText;
 use crate::options::Options;
-use iv_cover::{Block, results};
+use iv_cover::{Block, results_in};
 use iv_text::{Genome, Record};
 use iv_track::{Meter, Track};
 use std::alloc::{AllocError, Allocator};
@@ -36,6 +37,7 @@ pub(crate) fn entries_of<A: Allocator + Copy>(
     first.law_of_place();
     let mut block = Block::of(first);
     let mut members = Vec::new(alloc);
+    let mut memory = Vec::new(alloc);
     members.push(first)?;
     while let Some(record) = rows.next(meter) {
         record.law_of_place();
@@ -43,17 +45,34 @@ pub(crate) fn entries_of<A: Allocator + Copy>(
         if block.is_joined_by(next, options.distance) {
             block = block.with(next);
         } else {
-            put_entry(alloc, options, genome, block, &members, &mut entries)?;
+            memory = put_entry(
+                alloc,
+                options,
+                genome,
+                block,
+                &members,
+                memory,
+                &mut entries,
+            )?;
             members.clear();
             block = next;
         }
         members.push(record)?;
     }
-    put_entry(alloc, options, genome, block, &members, &mut entries)?;
+    put_entry(
+        alloc,
+        options,
+        genome,
+        block,
+        &members,
+        memory,
+        &mut entries,
+    )?;
     Ok(entries)
 }
 
-/// Makes the results of a block over its members, and puts it at the end of the entries.
+/// Makes the results of a block over its members, and puts it at the end of the entries. The results are written in the memory of a
+/// text that is no longer needed, and copied from there. It is given back.
 ///
 /// # Errors
 ///
@@ -64,16 +83,17 @@ fn put_entry<A: Allocator + Copy>(
     genome: &Genome<A>,
     block: Block,
     members: &[&Record<A>],
+    memory: Vec<u8, A>,
     entries: &mut Vec<(Key, KeptBlock<A>), A>,
-) -> Result<(), AllocError>
+) -> Result<Vec<u8, A>, AllocError>
     ensures { OnOk result (entries.new.items ≡ entries.old.items ++ kept_entry genome.now (listed options.now.summaries) (with_members block (map (λ row. row.now) members.now)) ∷ []) }
 {
     let name = genome.name(block.sequence).unwrap_or(b"");
-    let texts = results(alloc, options.summaries.as_slice(), name, members)?;
+    let results = results_in(alloc, options.summaries.as_slice(), name, members, memory)?;
     let kept = KeptBlock {
         stop: block.stop,
-        results: Some(Box::new(alloc, texts)?),
+        results: BoxedText::copy_of(alloc, results.as_slice())?,
     };
     entries.push(((block.sequence, false, block.start), kept))?;
-    Ok(())
+    Ok(results)
 }

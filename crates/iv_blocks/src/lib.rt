@@ -4,6 +4,7 @@
 
 mod block_cursor;
 mod blocks;
+mod boxed_text;
 mod cluster;
 mod complement;
 mod entries;

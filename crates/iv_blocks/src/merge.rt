@@ -50,7 +50,7 @@ fn put_block<A: Allocator, S: Sink>(
 ) -> Result<(), WriteFault>
     ensures { Puts (S.state sink.old) (S.state sink.new) result (name.now ++ codes "\t" ++ decimal start ++ codes "\t" ++ decimal block.now.stop ++ block.now.results ++ codes "\n") }
 {
-    let results = results(block);
+    let results = block.results.as_slice();
     if results.is_empty() {
         return put_interval(name, u64::from(start), u64::from(block.stop), sink);
     }
@@ -68,14 +68,4 @@ fn put_block<A: Allocator, S: Sink>(
             b"\n",
         ],
     )
-}
-
-/// The results of a block, each with a TAB in front of it.
-fn results<A: Allocator>(block: &KeptBlock<A>) -> &[u8]
-    ensures { result.now ≡ block.now.results }
-{
-    match &block.results {
-        Some(results) => results.as_slice(),
-        None => b"",
-    }
 }

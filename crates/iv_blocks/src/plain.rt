@@ -4,6 +4,7 @@ ghost use Rattle.std.specs.Iterator.{item_count};
 ghost use Rattle.iv_blocks.specs.Plain.{GivesKept};
 
 use crate::blocks::{KeptBlock, Key};
+use crate::boxed_text::BoxedText;
 use iv_cover::BlockWalk;
 use iv_track::Meter;
 use std::alloc::Allocator;
@@ -46,7 +47,7 @@ impl<'a, 'm, A: Allocator + Copy> Iterator for PlainBlocks<'a, 'm, A> {
         let block = self.sweep.next(self.meter)?;
         let kept = KeptBlock {
             stop: block.stop,
-            results: None,
+            results: BoxedText::empty(),
         };
         Some(((block.sequence, false, block.start), kept))
     }

@@ -7,10 +7,11 @@ ghost use Rattle.iv_track.specs.Entries.{IsLedger};
 ghost use Rattle.iv_track.specs.Steps.{TakesUpTo};
 ghost use Rattle.iv_cover.specs.Columns.{results_over};
 ghost use Rattle.iv_blocks.specs.Groups.{between, between_on, members_between, listed};
-ghost use Rattle.iv_blocks.specs.KeptBlocks.{key_cmp, results_of};
+ghost use Rattle.iv_blocks.specs.KeptBlocks.{key_cmp};
 ghost use Rattle.iv_blocks.specs.Putting.{ArePut, ArePutOn, with_block};
 
 use crate::blocks::{Blocks, KeptBlock, place};
+use crate::boxed_text::BoxedText;
 use crate::group::Group;
 use crate::members::Members;
 use iv_cover::results;
@@ -115,7 +116,7 @@ impl<A: Allocator + Copy> Blocks<A> {
         Ok(())
     }
 
-    /// The results of a block, `None` where there are no summaries.
+    /// The results of a block, empty where there are no summaries.
     ///
     /// At most 2 steps, and one for each record, of any strand, that starts in the block.
     fn results(
@@ -126,19 +127,19 @@ impl<A: Allocator + Copy> Blocks<A> {
         start: u32,
         stop: u32,
         meter: &mut Meter,
-    ) -> Result<Option<Box<Vec<u8, A>, A>>, AllocError>
-        ensures value { IfOk result (λ r. results_of r ≡ results_over (sequence_name genome.now group.rank) (listed self.now.options.summaries) (members_between group start stop track.now.rows)) }
+    ) -> Result<BoxedText<A>, AllocError>
+        ensures value { IfOk result (λ r. r ≡ results_over (sequence_name genome.now group.rank) (listed self.now.options.summaries) (members_between group start stop track.now.rows)) }
         ensures steps { TakesUpTo meter.old meter.new (2 + length (between_on group.rank start stop track.now.rows)) }
     {
         let summaries = self.options.summaries.as_slice();
         if summaries.is_empty() {
-            return Ok(None);
+            return Ok(BoxedText::empty());
         }
         let members = Members::of(track, group, start, stop, meter);
         let rows = gather(self.alloc, members, meter)?;
         let name = genome.name(group.rank).unwrap_or(b"");
         let results = results(self.alloc, summaries, name, rows.as_slice())?;
-        Ok(Some(Box::new(self.alloc, results)?))
+        Ok(BoxedText::copy_of(self.alloc, results.as_slice())?)
     }
 }
 

@@ -4,7 +4,7 @@ ghost use Rattle.std.specs.Iterator.{YieldsFirst, item_count};
 ghost use Rattle.iv_cover.specs.Columns.{column_value};
 ghost use Rattle.iv_blocks.specs.Sides.{is_on};
 
-use iv_cover::{Column, Value, Values};
+use iv_cover::{Column, Spelled, Value, Values};
 use iv_index::{TextRecord, TextRecords};
 use iv_text::Strand;
 use std::marker::Model;
@@ -101,6 +101,11 @@ impl<'t> Values<'t> for SideRecords<'t> {
     fn next_value(&mut self, name: &'t [u8], column: Column) -> Option<Value<'t>> {
         let member = self.next()?;
         Some(Value::of(column, name, &member.to_ref()))
+    }
+
+    fn next_number(&mut self, name: &'t [u8], column: Column) -> Option<Spelled> {
+        let member = self.next()?;
+        Some(Spelled::of_column(column, name, &member.to_ref()))
     }
 
     fn law_of_size(&self) {

@@ -18,3 +18,4 @@ pub mod EmptyMeanings
 pub mod DifferentLemmas
 pub mod FirstLemmas
 pub mod DistinctLemmas
+pub mod SpelledLemmas

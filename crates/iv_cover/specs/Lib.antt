@@ -6,6 +6,7 @@ pub mod Runs
 pub mod Depth
 pub mod Kept
 pub mod Summaries
+pub mod Spelled
 pub mod NumberFolds
 pub mod Columns
 pub mod Values

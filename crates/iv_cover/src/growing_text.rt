@@ -15,12 +15,14 @@ pub(crate) struct GrowingText<A: Allocator> {
 }
 
 impl<A: Allocator> GrowingText<A> {
-    /// An empty text.
-    pub(crate) fn new(alloc: A) -> GrowingText<A>
+    /// An empty text, in the memory of one that is no longer needed.
+    pub(crate) fn over(memory: Vec<u8, A>) -> GrowingText<A>
         ensures { (result.text.items ≡ []) × (result.refused ≡ None) }
     {
+        let mut text = memory;
+        text.clear();
         GrowingText {
-            text: Vec::new(alloc),
+            text,
             refused: None,
         }
     }

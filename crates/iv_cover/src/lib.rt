@@ -26,8 +26,9 @@ pub use laws::{
     blocks_start_after_gaps, blocks_stop_with_their_last_record, different_values_ascend,
     gaps_separate_blocks, records_belong_to_one_block, runs_are_the_tiling,
 };
+pub use number::Spelled;
 pub use op::Op;
 pub use putting::put_results;
-pub use result_texts::{results, summary};
+pub use result_texts::{results, results_in, summary};
 pub use value::Value;
 pub use values::Values;

@@ -1,8 +1,12 @@
 //! Numbers among the values of a column.
-ghost use Rattle.std.specs.Prelude.{◌≡◌, ◌<◌, ◌^◌, unsigned_abs, IfSome};
+ghost use Rattle.std.specs.Prelude.{◌≡◌, ◌<◌, ◌^◌, unsigned_abs, IfSome, decimal};
+ghost use Rattle.iv_cover.specs.Columns.{column_value};
+ghost use Rattle.iv_cover.specs.Spelled.{IsShort, spelled};
 ghost use Rattle.iv_cover.specs.Summaries.{number_of};
 
-use iv_text::read_digits;
+use crate::column::Column;
+use crate::value::Value;
+use iv_text::{RecordRef, read_digits};
 
 /// The most digits of a number.
 const MOST_DIGITS: usize = 15;
@@ -15,5 +19,54 @@ pub(crate) fn read_number(value: &[u8]) -> Option<i128>
     match value {
         [b'-', digits @ ..] => Some(-i128::from(read_digits(digits, MOST_DIGITS)?)),
         digits => Some(i128::from(read_digits(digits, MOST_DIGITS)?)),
+    }
+}
+
+/// What a value is to an operation on numbers.
+#[derive(Clone, Copy, Debug, PartialEq, Eq)]
+pub enum Spelled {
+    /// A full stop, which is left out.
+    Missing,
+    /// An optional minus sign, and 1 to 15 digits.
+    Number(i128),
+    /// Anything else.
+    Other,
+}
+
+impl Spelled {
+    /// What a value spells.
+    pub(crate) fn of(value: &[u8]) -> Spelled
+        ensures value { result ≡ spelled value.now }
+        ensures short { IsShort result }
+    {
+        if value == b".".as_slice() {
+            return Spelled::Missing;
+        }
+        match read_number(value) {
+            Some(number) => Spelled::Number(number),
+            None => Spelled::Other,
+        }
+    }
+
+    /// What the value of a record's column spells, where its sequence has this name. A position isn't written first.
+    pub fn of_column<'a>(column: Column, sequence: &'a [u8], row: &RecordRef<'a>) -> Spelled
+        ensures value { result ≡ spelled (column_value sequence.now column row.now) }
+        ensures short { IsShort result }
+    {
+        row.law_of_place();
+        match column {
+            Column::Start => Spelled::of_position(row.start()),
+            Column::Stop => Spelled::of_position(row.stop()),
+            _ => Spelled::of(Value::of(column, sequence, row).as_slice()),
+        }
+    }
+
+    /// What a position spells, in decimal.
+    fn of_position(position: u64) -> Spelled
+        requires { position < 2 ^ 32 }
+        ensures value { result ≡ spelled (decimal position) }
+        ensures short { IsShort result }
+    {
+        Spelled::Number(i128::from(position))
     }
 }

@@ -5,7 +5,7 @@ ghost use Rattle.iv_cover.specs.Summaries.{numbers_of, taken_together};
 ghost use Rattle.iv_cover.specs.NumberFolds.{both_of, with_number, size, going};
 
 use crate::column::Column;
-use crate::number::read_number;
+use crate::number::Spelled;
 use crate::values::Values;
 
 /// How two numbers are taken together.
@@ -15,10 +15,6 @@ pub(crate) enum NumberFold {
     Least,
     Greatest,
 }
-
-/// A value that is neither a number nor a full stop.
-#[derive(Clone, Copy, Debug, PartialEq, Eq, Drop)]
-pub(crate) struct NotANumber;
 
 impl NumberFold {
     /// The numbers of a column taken together, where the records' sequence has this name; `None` where there is no number,
@@ -34,33 +30,14 @@ impl NumberFold {
         values.law_of_size();
         let mut left = values.again();
         let mut taken = None;
-        while let Some(value) = left.next_value(name, column) {
-            let Ok(more) = self.with_value(taken, value.as_slice()) else {
-                return None;
-            };
-            taken = more;
+        while let Some(spelled) = left.next_number(name, column) {
+            match spelled {
+                Spelled::Missing => {}
+                Spelled::Number(number) => taken = Some(self.with_number(taken, number)),
+                Spelled::Other => return None,
+            }
         }
         taken
-    }
-
-    /// What was taken together before, if anything was, with one value more. A full stop changes nothing.
-    ///
-    /// # Errors
-    ///
-    /// The value is neither a number nor a full stop.
-    fn with_value(self, before: Option<i128>, value: &[u8]) -> Result<Option<i128>, NotANumber>
-        requires { size before + 10 ^ 15 ≤ 2 ^ 127 }
-        ensures value { IfOk result (λ taken. (values : List (List ℕ)) → going (both_of self) before (value.now ∷ values) ≡ going (both_of self) taken values) }
-        ensures small { IfOk result (λ taken. size taken ≤ size before + 10 ^ 15) }
-        ensures none { OnErr result ((values : List (List ℕ)) → going (both_of self) before (value.now ∷ values) ≡ None) }
-    {
-        if value == b".".as_slice() {
-            return Ok(before);
-        }
-        match read_number(value) {
-            Some(number) => Ok(Some(self.with_number(before, number))),
-            None => Err(NotANumber),
-        }
     }
 
     /// What was taken together before, if anything was, with one number more.

@@ -23,7 +23,7 @@ pub fn summary<A: Allocator + Copy>(
         op,
     };
     let mut room = Vec::with_capacity(alloc, if op == Op::Distinct { values.len() } else { 0 })?;
-    let mut text = GrowingText::new(alloc);
+    let mut text = GrowingText::over(Vec::new(alloc));
     let _ = put_result(asked, b"", &values, &mut room, &mut text);
     text.finish()
 }
@@ -37,6 +37,20 @@ pub fn results<A: Allocator + Copy>(
 ) -> Result<Vec<u8, A>, AllocError>
     ensures { IfOk result (λ text. text.items ≡ results_over sequence.now summaries.now (map (λ row. row.now) rows.now)) }
 {
+    results_in(alloc, summaries, sequence, rows, Vec::new(alloc))
+}
+
+/// All results over records on a sequence of this name, each with a TAB in front of it, in the memory of a text that is no longer
+/// needed.
+pub fn results_in<A: Allocator + Copy>(
+    alloc: A,
+    summaries: &[ColumnSummary],
+    sequence: &[u8],
+    rows: &[&Record<A>],
+    memory: Vec<u8, A>,
+) -> Result<Vec<u8, A>, AllocError>
+    ensures { IfOk result (λ text. text.items ≡ results_over sequence.now summaries.now (map (λ row. row.now) rows.now)) }
+{
     let mut room = Vec::with_capacity(
         alloc,
         if asks_distinct(summaries) {
@@ -45,7 +59,7 @@ pub fn results<A: Allocator + Copy>(
             0
         },
     )?;
-    let mut text = GrowingText::new(alloc);
+    let mut text = GrowingText::over(memory);
     let _ = put_results(summaries, sequence, &rows, &mut room, &mut text);
     text.finish()
 }

@@ -1,10 +1,12 @@
 //! What the values of columns are read from.
-ghost use Rattle.std.specs.Prelude.{◌≡◌, ◌<◌, ◌^◌, ℕ, List, length, map};
+ghost use Rattle.std.specs.Prelude.{◌≡◌, ◌<◌, ◌^◌, ℕ, List, length, map, IfSome};
 ghost use Rattle.std.specs.Iterator.{YieldsFirst};
 ghost use Rattle.iv_cover.specs.Columns.{column_value};
+ghost use Rattle.iv_cover.specs.Spelled.{IsShort, SpellsFirst};
 ghost use Rattle.iv_cover.specs.declared.column.Column.{Column};
 
 use crate::column::Column;
+use crate::number::Spelled;
 use crate::value::Value;
 use iv_text::Record;
 use std::alloc::Allocator;
@@ -29,6 +31,11 @@ pub trait Values<'t>: Drop {
     /// The next value of a column, where the records' sequence has this name; `None` after the last.
     fn next_value(&mut self, name: &'t [u8], column: Column) -> Option<Value<'t>>
         ensures { YieldsFirst (left name.now column) self.old result self.new };
+
+    /// What the next value of a column spells, where the records' sequence has this name; `None` after the last.
+    fn next_number(&mut self, name: &'t [u8], column: Column) -> Option<Spelled>
+        ensures value { SpellsFirst (left name.now column) self.old result self.new }
+        ensures short { IfSome result IsShort };
 
     /// A law for callers' proofs: 64 bits count the values of a column. The call does nothing.
     fn law_of_size(&self)
@@ -56,6 +63,13 @@ impl<'t, A: Allocator> Values<'t> for &'t [&'t Record<A>] {
         Some(Value::of(column, name, &first.as_ref()))
     }
 
+    fn next_number(&mut self, name: &'t [u8], column: Column) -> Option<Spelled> {
+        let rows = *self;
+        let first = rows.first()?;
+        *self = &rows[1..];
+        Some(Spelled::of_column(column, name, &first.as_ref()))
+    }
+
     fn law_of_size(&self) {
         let _few = self.len();
     }
@@ -79,6 +93,13 @@ impl<'t> Values<'t> for &'t [&'t [u8]] {
         let first = texts.first()?;
         *self = &texts[1..];
         Some(Value::text(first))
+    }
+
+    fn next_number(&mut self, _name: &'t [u8], _column: Column) -> Option<Spelled> {
+        let texts = *self;
+        let first = texts.first()?;
+        *self = &texts[1..];
+        Some(Spelled::of(first))
     }
 
     fn law_of_size(&self) {

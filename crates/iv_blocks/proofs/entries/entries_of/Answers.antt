@@ -7,7 +7,7 @@ use Rattle.iv_track.proofs.WalkLemmas.{filter-from_first}
 use Rattle.iv_blocks.specs.Groups.{listed}
 use Rattle.iv_blocks.specs.Plain.{kept_entry, entries_with}
 use Rattle.iv_blocks.proofs.PlainLemmas.{entries-alike, entries-begun, entries-joined, entries-split_up}
-use Rattle.iv_blocks.proofs.entries.entries_of.Goals.{then-is_joined_by, else-is_joined_by+in_ok-put_entry}
+use Rattle.iv_blocks.proofs.entries.entries_of.Goals.{then-is_joined_by, else-is_joined_by+in_ok-memory}
 use Rattle.iv_blocks.proofs.entries.entries_of.Goals as goal
 
 pub returns-in_default-clause-entries : goal.returns-in_default-clause-entries
@@ -54,12 +54,12 @@ loop-record-preserved g c =
           (ap (λ v. v.items) w.entries-is) w.block-is (pushed ∙ ap (λ v. map now v.items ++ r ∷ []) w.members-is)
           ∙ entries-joined s sums d l.entries.items l.block (map now l.members.items) r rest next c.of-next.ensures test c.is_joined_by.ensures w.with-block.result w.with-block.ensures w.if-is_joined_by.true
           ∙ before
-      | else-is_joined_by+in_ok-put_entry w ↦
+      | else-is_joined_by+in_ok-memory w ↦
           entries-alike s sums d j.entries.items w.put_entry.new.entries.items j.block next (map now c.push-in-Some-next.new.self.items) (r ∷ []) rest
           (ap (λ v. v.items) w.entries-is) w.block-is
           (pushed ∙ ap (λ v. map now v.items ++ r ∷ []) w.members-is ∙ ap (λ (m : List (Bor Row)). map now m ++ r ∷ []) w.clear.ensures.items)
           ∙ entries-split_up s sums d l.entries.items l.block (map now l.members.items) r rest next c.of-next.ensures test c.is_joined_by.ensures w.put_entry.new.entries.items
-          (w.in_ok-put_entry.ensures
+          (w.in_ok-memory.ensures
           ∙ ap (λ (m : List (Bor Row)). l.entries.items ++ kept_entry s sums (with_members l.block (map now m)) ∷ []) w.deref.ensures.value)
           w.if-is_joined_by.false
           ∙ before
@@ -72,7 +72,7 @@ returns-clause-entries g c =
     let d = c.args.options.now.distance in
     let now : Bor Row → Row = λ (row : Bor Row). row.now in
     let l = c.loop-record in
-    c.in_ok-put_entry-2.ensures
+    c.in_ok-put_entry.ensures
     ∙ ap (λ (m : List (Bor Row)). l.entries.items ++ kept_entry s sums (with_members l.block (map now m)) ∷ []) c.deref-2.ensures.value
     ∙ ap (entries_with s sums d l.entries.items l.block (map now l.members.items)) (sym c.in_default-next.ensures.row.0)
     ∙ l.invariant

@@ -11,7 +11,7 @@ returns g c =
     let b = c.args.block in
     let name : c.unwrap_or-name.result.now ≡ sequence_name a.genome.now b.sequence =
     name-lent a.genome.now b.sequence c.name.result _ c.unwrap_or-name.result c.unwrap_or-name.ensures refl c.name.ensures.value in
-    let texts : c.in_ok-new.field-0.value.items ≡ results_over (sequence_name a.genome.now b.sequence) (listed a.options.now.summaries) (map (λ row. row.now) a.members.now)
-    = ap (λ v. v.items) c.in_ok-new.ensures.ok ∙ (rw (name, c.as_slice.ensures) at c.in_ok-texts.ensures) in
+    let texts : c.in_ok-copy_of.field-0 ≡ results_over (sequence_name a.genome.now b.sequence) (listed a.options.now.summaries) (map (λ row. row.now) a.members.now)
+    = c.in_ok-copy_of.ensures ∙ c.as_slice-2.ensures.value ∙ (rw (name, c.as_slice.ensures) at c.in_ok-results.ensures) in
     c.in_ok-push.ensures.items
     ∙ ap (λ (t : List ℕ). a.entries.now.items ++ ((b.sequence, false, b.start), record { stop = b.stop; results = t }) ∷ []) texts

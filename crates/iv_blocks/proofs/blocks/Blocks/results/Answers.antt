@@ -13,4 +13,4 @@ returns-clause-value g c =
     let summaries : c.as_slice-summaries.result.now ≡ listed c.args.self.now.options.summaries =
     c.as_slice-summaries.ensures ∙ ap (λ (k : KeptBlocks). listed k.options.summaries) c.self.view_is in
     let rows : c.of-members.result.members ≡ members_between c.args.group c.args.start c.args.stop c.args.track.now.rows = ap (λ (m : MembersLeft). m.members) c.of-members.ensures.members in
-    ap (λ v. v.items) c.in_ok-new.ensures.ok ∙ (rw (name, summaries, c.as_slice.ensures.value, c.in_ok-rows.ensures.rows, rows) at c.in_ok-results.ensures)
+    c.in_ok-copy_of.ensures ∙ c.as_slice-2.ensures.value ∙ (rw (name, summaries, c.as_slice.ensures.value, c.in_ok-rows.ensures.rows, rows) at c.in_ok-results.ensures)
