@@ -10,8 +10,7 @@ use Rattle.iv_text.specs.Row.{Row}
 use Rattle.iv_track.specs.Entries.{IsLedger, value_at}
 use Rattle.iv_cover.specs.Blocks.{block_at}
 use Rattle.iv_cover.specs.TrackBlocks.{start_of, stop_of}
-use Rattle.iv_cover.proofs.Tests.{Mem, filter-agree, filter-filter, filter-none, all-mem, mem-all}
-use Rattle.iv_cover.proofs.Cover.{same_tests}
+use Rattle.iv_text.proofs.ListLemmas.{Mem, filter-agree, filter-filter, filter-none, all-mem, mem-all, same_tests}
 use Rattle.iv_blocks.specs.Groups.{is_in_group, is_on_side, group, starts_between, between, members_between, listed}
 use Rattle.iv_blocks.specs.KeptBlocks.{Key, key_cmp, Kept, Entries, KeptBlocks, kept_block, kept_at, name_of, AreBlocksOf}
 use Rattle.iv_blocks.specs.Putting.{ArePut, ArePutOn}

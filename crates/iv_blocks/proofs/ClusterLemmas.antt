@@ -18,11 +18,12 @@ use Rattle.iv_text.specs.Read.{Fits}
 use Rattle.iv_text.specs.RecordText.{record_text}
 use Rattle.iv_text.specs.Row.{Row, row_cmp}
 use Rattle.iv_cover.specs.Blocks.{blocks_below, block_at}
-use Rattle.iv_cover.specs.TrackBlocks.{start_of, stop_of, on}
+use Rattle.iv_cover.specs.TrackBlocks.{start_of, stop_of}
+use Rattle.iv_text.specs.Covering.{on}
 use Rattle.iv_cover.specs.declared.block.Block.{Block}
 use Rattle.iv_cover.proofs.Groups.{mem-append}
-use Rattle.iv_cover.proofs.Merging.{Precedes, precedes-from}
-use Rattle.iv_cover.proofs.Tests.{Mem, filter-agree, mem-filter}
+use Rattle.iv_text.proofs.PrecedesLemmas.{Precedes, precedes-from}
+use Rattle.iv_text.proofs.ListLemmas.{Mem, filter-agree, mem-filter}
 use Rattle.iv_blocks.specs.BlockCursor.{interval_of, starts_until, drop_while, BeginsElse}
 use Rattle.iv_blocks.specs.ClusterRows.{blocks_before, cluster_row}
 use Rattle.iv_blocks.specs.Groups.{is_in_group, group, listed}

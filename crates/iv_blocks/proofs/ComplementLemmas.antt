@@ -10,14 +10,15 @@ use Rattle.iv_text.specs.Named.{names_of}
 use Rattle.iv_text.specs.Read.{Fits, IsOnGenome}
 use Rattle.iv_text.specs.Row.{Row}
 use Rattle.iv_cover.specs.Blocks.{block_stop, block_at, blocks_below}
-use Rattle.iv_cover.specs.Depth.{covers, depth}
+use Rattle.iv_text.specs.Covering.{covers}
+use Rattle.iv_cover.specs.Depth.{depth}
 use Rattle.iv_cover.specs.Runs.{empty_runs}
 use Rattle.iv_cover.specs.TrackBlocks.{start_of, stop_of}
 use Rattle.iv_cover.specs.declared.block.Block.{Block}
 use Rattle.iv_cover.proofs.Cover.{Free, Covered, some_start, block_at_start, block_at-some}
 use Rattle.iv_cover.proofs.Groups.{mem-left, mem-right, mem-append}
 use Rattle.iv_cover.proofs.Positions.{values, values-none, values-some, values-agree, values-none_from}
-use Rattle.iv_cover.proofs.Tests.{Mem, mem-filter_from, all-mem, filter-none, any-found, any-none, mem-place}
+use Rattle.iv_text.proofs.ListLemmas.{Mem, mem-filter_from, all-mem, filter-none, any-found, any-none, mem-place}
 use Rattle.iv_blocks.specs.BlockCursor.{interval_of, gap_between, gaps_between, starts_until, drop_while, BeginsElse, sequence_text, texts}
 use Rattle.iv_blocks.specs.ComplementRows.{gap_row, gap_rows, is_shown, complement_text}
 use Rattle.iv_blocks.specs.Groups.{is_in_group, group, sides}

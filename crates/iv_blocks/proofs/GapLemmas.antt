@@ -11,7 +11,7 @@ use Rattle.iv_cover.specs.declared.block.Block.{Block}
 use Rattle.iv_cover.proofs.BlockLemmas.{covered-in_block}
 use Rattle.iv_cover.proofs.Cover.{Free, Covered, Lasting, IsBlock, cases_covered, block_at_start, block-test, block_at-some, block_at-none, block_unique, none_within}
 use Rattle.iv_cover.proofs.EmptyLemmas.{empty_runs-none, empty_runs-run, empty_runs-skip}
-use Rattle.iv_cover.proofs.Tests.{Mem}
+use Rattle.iv_text.proofs.ListLemmas.{Mem}
 use Rattle.iv_blocks.specs.BlockCursor.{gap_between, gaps_between}
 
 -- positions of value 0, up to one of another value or the end, are a gap

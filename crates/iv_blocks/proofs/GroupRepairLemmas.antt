@@ -14,10 +14,10 @@ use Rattle.iv_track.specs.Entries.{IsLedger, value_at}
 use Rattle.iv_track.specs.Steps.{TakesUpTo}
 use Rattle.iv_cover.specs.TrackBlocks.{start_of, stop_of}
 use Rattle.iv_cover.specs.Blocks.{block_at}
-use Rattle.iv_cover.proofs.Tests.{Mem, mem-filter, mem-filter_from, all-mem, mem-all, filter-agree, filter-filter, filter-weaker}
+use Rattle.iv_text.proofs.ListLemmas.{Mem, mem-filter, mem-filter_from, all-mem, mem-all, filter-agree, filter-filter, filter-weaker, same_tests}
 use Rattle.iv_cover.proofs.Groups.{HasOneMore, one_more}
 use Rattle.iv_cover.proofs.BlockLemmas.{one_more-filter}
-use Rattle.iv_cover.proofs.Cover.{Lasting, IsBlock, same_tests, starts_in, starts_in-true, stops_within}
+use Rattle.iv_cover.proofs.Cover.{Lasting, IsBlock, starts_in, starts_in-true, stops_within}
 use Rattle.iv_blocks.specs.Groups.{is_strand, is_on_side, is_in_group, group, between, between_on, members_between, starts_between, listed}
 use Rattle.iv_blocks.specs.KeptBlocks.{Key, key_cmp, Kept, Entries, KeptBlocks, AreBlocksOf, kept_at, kept_block, name_of, around, within_block, block_steps}
 use Rattle.iv_blocks.specs.Lookups.{kept_in, IsLastBlock}

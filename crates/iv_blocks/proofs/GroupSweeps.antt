@@ -11,9 +11,9 @@ use Rattle.iv_text.specs.Row.{Row, row_cmp}
 use Rattle.iv_track.specs.Entries.{IsLedger, value_at}
 use Rattle.iv_cover.specs.Blocks.{block_at}
 use Rattle.iv_cover.specs.TrackBlocks.{start_of, stop_of}
-use Rattle.iv_cover.proofs.Tests.{Mem, mem-filter, mem-filter_from, filter-agree, filter-filter, filter-none, all-mem}
+use Rattle.iv_text.proofs.ListLemmas.{Mem, mem-filter, mem-filter_from, filter-agree, filter-filter, filter-none, all-mem, same_tests}
 use Rattle.iv_cover.proofs.Groups.{mem-left, mem-right, mem-append}
-use Rattle.iv_cover.proofs.Cover.{same_tests, Lasting, starts_in}
+use Rattle.iv_cover.proofs.Cover.{Lasting, starts_in}
 use Rattle.iv_blocks.specs.Groups.{is_in_group, group, starts_between, between, between_on, members_between, listed}
 use Rattle.iv_blocks.specs.KeptBlocks.{Key, key_cmp, Kept, Entries, KeptBlocks, kept_block, kept_at}
 use Rattle.iv_blocks.specs.Putting.{key_of, IsOfOther, with_block, ArePut}
@@ -22,7 +22,7 @@ use Rattle.iv_blocks.specs.declared.options.Options.{Options}
 use Rattle.iv_blocks.proofs.Keys.{look-put, look-put_other}
 use Rattle.iv_blocks.proofs.NameLemmas.{name-same}
 use Rattle.iv_blocks.proofs.Sweeping.{shown, IsPut, put-first, put-join, put-open, put-all}
-use Rattle.iv_cover.proofs.InOrder.{in_order-filter}
+use Rattle.iv_text.proofs.InOrderLemmas.{in_order-filter}
 use Rattle.iv_blocks.proofs.MembersLemmas.{between-true, between-from, in_group-on, in_order-parts}
 
 -- ---- records of a range

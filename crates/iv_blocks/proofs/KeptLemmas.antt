@@ -14,7 +14,7 @@ use Rattle.iv_cover.specs.TrackBlocks.{start_of, stop_of}
 use Rattle.iv_cover.proofs.Cover.{no_start-test, block_at-none}
 use Rattle.iv_cover.proofs.Merging.{blocks-none}
 use Rattle.iv_cover.proofs.Positions.{values-agree}
-use Rattle.iv_cover.proofs.Tests.{Mem, mem-filter, all-mem, filter-none}
+use Rattle.iv_text.proofs.ListLemmas.{Mem, mem-filter, all-mem, filter-none}
 use Rattle.iv_blocks.specs.Groups.{is_in_group, is_on_side, group, sides, listed}
 use Rattle.iv_blocks.specs.KeptBlocks.{Key, Kept, Entries, AreBlocksOf, kept_at, kept_block, name_of}
 use Rattle.iv_blocks.specs.declared.options.Options.{Options}

@@ -8,10 +8,9 @@ use Rattle.iv_text.specs.Ordered.{AreInOrder}
 use Rattle.iv_text.specs.Row.{Row, row_cmp}
 use Rattle.iv_track.specs.Tracked.{is_from}
 use Rattle.iv_track.proofs.NumberOrder.{le-cmp}
-use Rattle.iv_cover.proofs.InOrder.{all-recursion, recursion-all, in_order-filter}
-use Rattle.iv_cover.proofs.Tests.{Mem, mem-filter, filter-agree, filter-filter, filter-none}
-use Rattle.iv_cover.proofs.Cover.{same_tests}
-use Rattle.iv_cover.proofs.Merging.{Precedes, precedes-from}
+use Rattle.iv_text.proofs.InOrderLemmas.{all-recursion, recursion-all, in_order-filter}
+use Rattle.iv_text.proofs.ListLemmas.{Mem, mem-filter, filter-agree, filter-filter, filter-none, same_tests}
+use Rattle.iv_text.proofs.PrecedesLemmas.{Precedes, precedes-from}
 use Rattle.iv_blocks.specs.MembersLeft.{MembersLeft, IsAhead}
 use Rattle.iv_blocks.specs.Groups.{is_in_group, is_on_side, starts_between, between_on, members_between}
 use Rattle.iv_blocks.specs.declared.group.Group.{Group}

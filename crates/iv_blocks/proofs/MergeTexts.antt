@@ -6,7 +6,8 @@ use Rattle.std.proofs.lemmas.List.Folds.{flat_map-map}
 use Rattle.iv_text.specs.Genome.{Sequences, seq_count, sequence_name, sequence_length}
 use Rattle.iv_text.specs.Row.{Row}
 use Rattle.iv_cover.specs.Blocks.{blocks_below}
-use Rattle.iv_cover.specs.TrackBlocks.{start_of, stop_of, on, block_on, blocks_on, blocks_of}
+use Rattle.iv_cover.specs.TrackBlocks.{start_of, stop_of, block_on, blocks_on, blocks_of}
+use Rattle.iv_text.specs.Covering.{on}
 use Rattle.iv_cover.specs.declared.column.ColumnSummary.{ColumnSummary}
 use Rattle.iv_blocks.specs.Groups.{group, sides, listed}
 use Rattle.iv_blocks.specs.MergeRows.{block_row, side_rows, merge_text}

@@ -11,8 +11,9 @@ use Rattle.iv_text.specs.Named.{names_of}
 use Rattle.iv_text.specs.Read.{Fits, IsOnGenome}
 use Rattle.iv_text.specs.Row.{Row}
 use Rattle.iv_cover.specs.Blocks.{blocks_below}
-use Rattle.iv_cover.specs.TrackBlocks.{Group, on, start_of, stop_of, block_on, blocks_on, blocks_of, with_members}
-use Rattle.iv_cover.proofs.Tests.{filter-agree}
+use Rattle.iv_cover.specs.TrackBlocks.{Group, start_of, stop_of, block_on, blocks_on, blocks_of, with_members}
+use Rattle.iv_text.specs.Covering.{on}
+use Rattle.iv_text.proofs.ListLemmas.{filter-agree}
 use Rattle.iv_track.specs.Entries.{IsLedger, value_at}
 use Rattle.std.specs.Vec.Iter.{into_iter_items, into_iter_len, into_iter_steps}
 use Rattle.std.specs.declared.vec.IntoIter.{IntoIter}

@@ -5,7 +5,7 @@ use Rattle.std.proofs.lemmas.Bool.{cond-true, cond-false, cases_Bool, cases_lt, 
 use Rattle.iv_text.specs.Row.{Row}
 use Rattle.iv_cover.specs.Blocks.{is_block_start, block_stop, block_at}
 use Rattle.iv_cover.specs.TrackBlocks.{start_of, stop_of}
-use Rattle.iv_cover.proofs.Tests.{Mem, mem-filter, filter-weaker}
+use Rattle.iv_text.proofs.ListLemmas.{Mem, mem-filter, filter-weaker}
 use Rattle.iv_cover.proofs.Groups.{HasOneMore}
 use Rattle.iv_cover.proofs.Cover.{Lasting, lasting-fewer, IsBlock, IsRun, Free, run-alone, run-first, run-all, covered-more, block_unique, block_at_start, block-test, block-stop, block_at-some, block_at-none, no_start-test, none_within, stops_within, same_outside, removed_within, starts_in, starts_in-true, starts_in-from, home, home-starts, home-le, home-last, home-in, stops, free-past_last, free-none}
 use Rattle.iv_cover.specs.declared.column.ColumnSummary.{ColumnSummary}

@@ -10,7 +10,7 @@ use Rattle.iv_cover.specs.declared.block.Block.{Block}
 use Rattle.iv_cover.specs.TrackBlocks.{Group, with_members}
 use Rattle.iv_cover.specs.Coming.{is_joined, coming}
 use Rattle.iv_cover.proofs.Comings.{coming-joined, coming-split_up}
-use Rattle.iv_cover.proofs.Tests.{filter-weaker, filter-all}
+use Rattle.iv_text.proofs.ListLemmas.{filter-weaker, filter-all}
 use Rattle.iv_blocks.proofs.ComingLemmas.{drop-next}
 
 pub few : {X : Type 0} (p : X → Bool) (xs : List X) → length (filter p xs) ≤ length xs

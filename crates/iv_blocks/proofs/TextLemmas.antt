@@ -8,10 +8,11 @@ use Rattle.iv_text.specs.Read.{IsOnGenome}
 use Rattle.iv_text.specs.Row.{Row, row_cmp}
 use Rattle.iv_cover.specs.Blocks.{blocks_below}
 use Rattle.iv_cover.specs.Coming.{coming}
-use Rattle.iv_cover.specs.TrackBlocks.{Group, start_of, stop_of, on, block_on, blocks_on}
-use Rattle.iv_cover.proofs.InOrder.{in_order-filter}
+use Rattle.iv_cover.specs.TrackBlocks.{Group, start_of, stop_of, block_on, blocks_on}
+use Rattle.iv_text.specs.Covering.{on}
+use Rattle.iv_text.proofs.InOrderLemmas.{in_order-filter}
 use Rattle.iv_cover.proofs.Merging.{gathered-more, gathered-none_from, merge-all, on-none, blocks-none}
-use Rattle.iv_cover.proofs.Tests.{all-mem, mem-all, filter-filter, filter-all}
+use Rattle.iv_text.proofs.ListLemmas.{all-mem, mem-all, filter-filter, filter-all}
 use Rattle.iv_blocks.specs.Groups.{group, is_in_group, is_on_side, listed, sides}
 use Rattle.iv_blocks.specs.MergeRows.{side_rows}
 use Rattle.iv_blocks.specs.declared.options.Options.{Options}

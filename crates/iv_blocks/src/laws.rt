@@ -6,7 +6,7 @@ ghost use Rattle.iv_text.specs.Row.{Row};
 ghost use Rattle.iv_cover.specs.BlockLaws.{BelongsTo};
 ghost use Rattle.iv_cover.specs.Depth.{depth};
 ghost use Rattle.iv_cover.specs.Runs.{Run, empty_runs};
-ghost use Rattle.iv_cover.specs.TrackBlocks.{on};
+ghost use Rattle.iv_text.specs.Covering.{on};
 ghost use Rattle.iv_blocks.specs.ClusterRows.{block_number};
 
 /// The gaps of a sequence are exactly the maximal intervals on which the records' depth is 0.

@@ -92,14 +92,25 @@ impl<'s> BlocksAhead for SpanBlocks<'s> {
     }
 }
 
+/// A block of one record alone.
+fn block_of(span: Span) -> Block
+    ensures { result ≡ record { sequence = span.seq; start = span.start; stop = span.stop } }
+{
+    Block {
+        sequence: span.seq,
+        start: span.start,
+        stop: span.stop,
+    }
+}
+
 /// The block that a place begins, with those of the others that join it, and the places after it.
 fn block_from(first: Span, others: &[Span], distance: u32) -> (Block, &[Span])
     ensures { GivesFirst (coming distance None (row_of_span first ∷ span_rows others.now)) (Some result.0) (coming distance None (span_rows result.1.now)) }
 {
-    let mut block = first.as_block();
+    let mut block = block_of(first);
     let mut rest = others;
     while let Some((span, later)) = rest.split_first() {
-        let next = span.as_block();
+        let next = block_of(*span);
         if !block.is_joined_by(next, distance) {
             return (block, rest);
         }

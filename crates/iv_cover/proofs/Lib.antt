@@ -1,7 +1,6 @@
 pub mod Last
-pub mod Tests
+pub mod Greatest
 pub mod Groups
-pub mod InOrder
 pub mod Cover
 pub mod Positions
 pub mod Swept

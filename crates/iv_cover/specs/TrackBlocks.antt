@@ -1,6 +1,7 @@
 -- The blocks of a track's records, with the records that are in them, sequence by sequence.
-use Rattle.std.specs.Prelude.{◌≡◌, ℕ, ◌==◌, List, [], ◌∷◌, map, filter, Option, None, Some}
+use Rattle.std.specs.Prelude.{◌≡◌, ℕ, List, [], ◌∷◌, map, Option, None, Some}
 use Rattle.std.specs.List.{flat_map, range_with_len}
+use Rattle.iv_text.specs.Covering.{on}
 use Rattle.iv_text.specs.Genome.{Sequences, sequence_length, seq_count}
 use Rattle.iv_text.specs.Row.{Row}
 use Rattle.iv_cover.specs.declared.block.Block.{Block}
@@ -20,10 +21,6 @@ start_of r = r.start
 -- where a record stops
 abbrev pub stop_of : Row → ℕ
 stop_of r = r.stop
-
--- the records on the sequence of this rank
-abbrev pub on : ℕ → List Row → List Row
-on sequence rows = filter (λ r. r.seq == sequence) rows
 
 -- a block that starts at b.0, stops at b.1.0 and has the records b.1.1, on the sequence of this rank
 abbrev pub block_on : ℕ → ℕ × (ℕ × List Row) → Group

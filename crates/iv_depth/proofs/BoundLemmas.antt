@@ -11,7 +11,8 @@ use Rattle.std.proofs.lemmas.Bool.{cases_lt, lt-leb, le-leb, eq-eqb, false≢tru
 use Rattle.std.proofs.lemmas.Bool.Decides.{eqb_tells}
 use Rattle.std.proofs.lemmas.List.Sums.{count_by-le-length}
 use Rattle.iv_text.specs.Row.{Row}
-use Rattle.iv_cover.specs.Depth.{covers, depth}
+use Rattle.iv_text.specs.Covering.{covers}
+use Rattle.iv_cover.specs.Depth.{depth}
 use Rattle.iv_depth.specs.Changes.{Place, Entries, total, reaches, AreChangesOf, Bumps}
 use Rattle.iv_track.specs.Entries.{pair_cmp}
 use Rattle.iv_track.proofs.NumberOrder.{pair_same}

@@ -13,7 +13,8 @@ use Rattle.std.specs.List.{AllByRecursion}
 use Rattle.iv_text.specs.Read.{Fits, IsOnGenome}
 use Rattle.iv_text.specs.Row.{Row, row_cmp}
 use Rattle.iv_text.proofs.OrderedLemmas.{length-added}
-use Rattle.iv_cover.specs.Depth.{covers, depth}
+use Rattle.iv_text.specs.Covering.{covers}
+use Rattle.iv_cover.specs.Depth.{depth}
 use Rattle.iv_depth.specs.Changes.{Entries, AreChanges, AreChangesOf}
 use Rattle.iv_depth.specs.DepthRows.{covered_runs, all_covered_runs, text_by, depth_text}
 use Rattle.iv_depth.specs.declared.depth_rows.DepthRows.{DepthRows}

@@ -11,11 +11,12 @@ use Rattle.iv_text.specs.Ordered.{AreInOrder}
 use Rattle.iv_text.specs.Read.{IsOnGenome}
 use Rattle.iv_text.specs.Row.{Row, row_cmp}
 use Rattle.iv_cover.specs.Depth.{depth}
-use Rattle.iv_cover.specs.TrackBlocks.{on, start_of, stop_of}
+use Rattle.iv_text.specs.Covering.{on}
+use Rattle.iv_cover.specs.TrackBlocks.{start_of, stop_of}
 use Rattle.iv_cover.proofs.DepthLemmas.{depth-cons}
-use Rattle.iv_cover.proofs.InOrder.{all-recursion}
-use Rattle.iv_cover.proofs.Merging.{Precedes, precedes-from}
-use Rattle.iv_cover.proofs.Tests.{Mem}
+use Rattle.iv_text.proofs.InOrderLemmas.{all-recursion}
+use Rattle.iv_text.proofs.PrecedesLemmas.{Precedes, precedes-from}
+use Rattle.iv_text.proofs.ListLemmas.{Mem}
 use Rattle.iv_index.proofs.SequenceLemmas.{is_from, from-here}
 use Rattle.iv_index.specs.Spans.{row_of_span, span_rows}
 use Rattle.iv_index.specs.declared.span.Span.{Span}

@@ -3,7 +3,8 @@ use Rattle.std.specs.Prelude.{◌≡◌, ◌≢◌, ℕ, ◌<◌, ◌^◌, ◌==
 use Rattle.std.specs.Map.{values_of}
 use Rattle.iv_text.specs.Row.{Row}
 use Rattle.iv_track.specs.Entries.{IsLedger, pair_cmp}
-use Rattle.iv_cover.specs.Depth.{covers, depth}
+use Rattle.iv_text.specs.Covering.{covers}
+use Rattle.iv_cover.specs.Depth.{depth}
 
 -- a place: the rank of a sequence and a position on it, from 0
 abbrev pub Place : Type 0

@@ -10,7 +10,7 @@ use Rattle.std.proofs.lemmas.List.Elements.{All-from_recursion, recursion_from_A
 use Rattle.std.proofs.lemmas.List.Kept.{AllPairs-cons}
 use Rattle.iv_text.specs.Ordered.{AreInOrder}
 use Rattle.iv_text.specs.Row.{Row, row_cmp}
-use Rattle.iv_cover.proofs.Merging.{precedes-from}
+use Rattle.iv_text.proofs.PrecedesLemmas.{precedes-from}
 use Rattle.iv_index.specs.Cover.{is_covered, AreApart}
 use Rattle.iv_index.specs.Joins.{touches, grown, joined, joined_from}
 use Rattle.iv_index.specs.Places.{HasBase, bare, row_at, rows_at}

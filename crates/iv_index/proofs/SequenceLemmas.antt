@@ -7,11 +7,10 @@ use Rattle.std.proofs.lemmas.List.Elements.{All-head, All-tail}
 use Rattle.iv_text.specs.Ordered.{AreInOrder}
 use Rattle.iv_text.specs.Row.{Row, row_cmp}
 use Rattle.std.specs.Ordering.{is_le}
-use Rattle.iv_cover.specs.TrackBlocks.{on}
-use Rattle.iv_cover.proofs.Cover.{same_tests}
-use Rattle.iv_cover.proofs.InOrder.{in_order-filter}
-use Rattle.iv_cover.proofs.Merging.{precedes-from}
-use Rattle.iv_cover.proofs.Tests.{mem-all, mem-filter, filter-filter, filter-agree, filter-all}
+use Rattle.iv_text.specs.Covering.{on}
+use Rattle.iv_text.proofs.ListLemmas.{same_tests, mem-all, mem-filter, filter-filter, filter-agree, filter-all}
+use Rattle.iv_text.proofs.InOrderLemmas.{in_order-filter}
+use Rattle.iv_text.proofs.PrecedesLemmas.{precedes-from}
 
 module _ {X : Type 0} (row : X → Row) (rank : ℕ) where
   -- each of these records is on this sequence or a later one

@@ -2,7 +2,7 @@
 use Rattle.std.specs.Prelude.{◌≡◌, ◌<◌, ℕ, Bool, List}
 use Rattle.std.specs.List.{AllPairs, list_any}
 use Rattle.iv_text.specs.Row.{Row}
-use Rattle.iv_cover.specs.Depth.{covers}
+use Rattle.iv_text.specs.Covering.{covers}
 
 -- whether some record covers position p, from 0, of the sequence of this rank
 abbrev pub is_covered : List Row → ℕ → ℕ → Bool

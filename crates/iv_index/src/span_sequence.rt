@@ -1,7 +1,7 @@
 //! The places of one sequence.
 ghost use Rattle.std.specs.Prelude.{◌≡◌, ◌≤◌, nat_lt, All, filter};
 ghost use Rattle.iv_text.specs.Ordered.{AreInOrder};
-ghost use Rattle.iv_cover.specs.TrackBlocks.{on};
+ghost use Rattle.iv_text.specs.Covering.{on};
 ghost use Rattle.iv_index.specs.Spans.{span_rows};
 
 use crate::span::Span;

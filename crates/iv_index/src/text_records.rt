@@ -2,7 +2,7 @@
 ghost use Rattle.std.specs.Prelude.{◌≡◌, ◌≤◌, ◌==◌, nat_lt, [], ◌∷◌, All, MatchOption, filter, length, map, slice_get, take, drop};
 ghost use Rattle.std.specs.Iterator.{YieldsFirst, item_count};
 ghost use Rattle.iv_text.specs.Ordered.{AreInOrder};
-ghost use Rattle.iv_cover.specs.TrackBlocks.{on};
+ghost use Rattle.iv_text.specs.Covering.{on};
 ghost use Rattle.iv_index.specs.Places.{HasBase, rows_at, spot_of_place, spot_of_row};
 
 use crate::place::Place;

@@ -6,10 +6,10 @@ use Rattle.std.proofs.lemmas.Bool.{cases_lt, false_from_ne_true}
 use Rattle.std.proofs.lemmas.List.Elements.{All-nil, All-weaker, filter-append, filter_passes}
 use Rattle.iv_text.specs.Row.{Row, row_cmp}
 use Rattle.iv_text.specs.Ordered.{AreInOrder}
-use Rattle.iv_cover.proofs.InOrder.{in_order-filter}
+use Rattle.iv_text.proofs.InOrderLemmas.{in_order-filter}
 use Rattle.iv_track.specs.Tracked.{is_from}
-use Rattle.iv_cover.specs.Depth.{covers}
-use Rattle.iv_cover.proofs.Tests.{all-mem, filter-all}
+use Rattle.iv_text.specs.Covering.{covers}
+use Rattle.iv_text.proofs.ListLemmas.{all-mem, filter-all}
 use Rattle.iv_pair.specs.Hits.{overlaps, hits}
 use Rattle.iv_pair.specs.Lengths.{AreUpTo}
 use Rattle.iv_pair.specs.HitFinder.{held, keeps, IsOnward, HitAlike, AllCover, AllBegun, IsPlaced}

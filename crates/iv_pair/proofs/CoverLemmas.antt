@@ -5,10 +5,11 @@ use Rattle.std.proofs.lemmas.Bool.{false≢true, ne_eqb}
 use Rattle.std.proofs.lemmas.List.Elements.{All-head, All-tail}
 use Rattle.iv_text.specs.Genome.{Sequences}
 use Rattle.iv_text.specs.Row.{Row, part}
-use Rattle.iv_cover.specs.Depth.{covers, depth}
+use Rattle.iv_text.specs.Covering.{covers}
+use Rattle.iv_cover.specs.Depth.{depth}
 use Rattle.iv_cover.specs.Runs.{Run}
 use Rattle.iv_cover.proofs.DepthLemmas.{depth-cons}
-use Rattle.iv_cover.proofs.Tests.{all-mem, any-found, any-at}
+use Rattle.iv_text.proofs.ListLemmas.{all-mem, any-found, any-at}
 use Rattle.iv_index.specs.Cover.{is_covered}
 use Rattle.iv_pair.specs.Hits.{overlaps, hits_of}
 use Rattle.iv_pair.specs.IntersectRows.{record_line, any_line, none_line}

@@ -7,8 +7,8 @@ use Rattle.std.proofs.lemmas.Map.Views.{exact_unsigned_eq}
 use Rattle.iv_text.specs.Ordered.{AreInOrder}
 use Rattle.iv_text.specs.Row.{Row}
 use Rattle.iv_track.specs.Tracked.{is_from}
-use Rattle.iv_cover.specs.Depth.{covers}
-use Rattle.iv_cover.proofs.Tests.{Mem, all-mem}
+use Rattle.iv_text.specs.Covering.{covers}
+use Rattle.iv_text.proofs.ListLemmas.{Mem, all-mem}
 use Rattle.iv_pair.specs.Hits.{overlaps, hits, hits_of}
 use Rattle.iv_pair.specs.Lengths.{AreUpTo}
 use Rattle.iv_pair.specs.Putting.{AllOverlap}

@@ -11,8 +11,8 @@ use Rattle.iv_text.specs.Ordered.{AreInOrder}
 use Rattle.iv_text.specs.Row.{Row, row_cmp}
 use Rattle.iv_track.specs.Tracked.{is_from}
 use Rattle.iv_track.proofs.NumberOrder.{le-cmp, ge-cmp}
-use Rattle.iv_cover.proofs.Merging.{precedes-from}
-use Rattle.iv_cover.proofs.Tests.{Mem, all-mem, filter-agree, filter-all, filter-filter}
+use Rattle.iv_text.proofs.PrecedesLemmas.{precedes-from}
+use Rattle.iv_text.proofs.ListLemmas.{Mem, all-mem, filter-agree, filter-all, filter-filter}
 
 pub le_pair : (a b c d : ℕ) → is_le (ordering_then (nat_cmp a b) (nat_cmp c d)) ≡ true → (a ≤ b) × (a ≡ b → c ≤ d)
 le_pair a b c d h = go (nat_cmp a b) refl h

@@ -3,7 +3,7 @@ use Rattle.std.proofs.Common.{◌≡◌, ◌<◌, ◌≤◌, ◌&&◌, ◌==◌,
 use Rattle.std.specs.Ordering.{is_le}
 use Rattle.std.proofs.lemmas.Bool.{and_parts, and_from, and_cases, or_parts, ltb-true, ltb-false, eqb-true, eqb-false, lt-ltb, false_from_ne_true}
 use Rattle.iv_text.specs.Row.{Row, row_cmp}
-use Rattle.iv_cover.proofs.Merging.{precedes-from}
+use Rattle.iv_text.proofs.PrecedesLemmas.{precedes-from}
 use Rattle.iv_pair.specs.Hits.{overlaps}
 use Rattle.iv_pair.proofs.HitsLemmas.{overlaps_parts, overlaps_from}
 use Rattle.iv_pair.specs.PairSweeps.{reaches, is_past, Precedes, Covers}

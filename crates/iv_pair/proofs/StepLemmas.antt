@@ -5,7 +5,7 @@ use Rattle.std.specs.Ordering.{is_le}
 use Rattle.std.proofs.lemmas.List.Elements.{All-from_recursion, All-weaker, All-filter, All-head, All-tail, filter-append, filter_passes}
 use Rattle.iv_text.specs.Row.{Row, row_cmp}
 use Rattle.iv_text.specs.Ordered.{AreInOrder}
-use Rattle.iv_cover.proofs.Tests.{all-mem, filter-all}
+use Rattle.iv_text.proofs.ListLemmas.{all-mem, filter-all}
 use Rattle.iv_pair.specs.Hits.{overlaps, hits_of}
 use Rattle.iv_pair.proofs.PlaceLemmas.{filter-implied}
 use Rattle.iv_pair.specs.PairSweeps.{reaches, Precedes, Covers, HitAlike}

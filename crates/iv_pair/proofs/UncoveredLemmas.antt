@@ -9,11 +9,12 @@ use Rattle.iv_bytes.specs.Sinks.{SinkState, Takes, FailsIn}
 use Rattle.iv_bytes.proofs.Putting.{Underway, Underway-begin, Underway-ends, Underway-fails, Underway-more}
 use Rattle.iv_text.specs.Ordered.{AreInOrder}
 use Rattle.iv_text.specs.Row.{Row, row_cmp}
-use Rattle.iv_cover.specs.Depth.{covers, depth}
+use Rattle.iv_text.specs.Covering.{covers}
+use Rattle.iv_cover.specs.Depth.{depth}
 use Rattle.iv_cover.specs.Runs.{Run, empty_runs}
 use Rattle.iv_cover.proofs.DepthLemmas.{depth-cons}
 use Rattle.iv_cover.proofs.EmptyLemmas.{empty_runs-none, empty_runs-skip, empty_runs-run}
-use Rattle.iv_cover.proofs.Merging.{precedes-from}
+use Rattle.iv_text.proofs.PrecedesLemmas.{precedes-from}
 use Rattle.iv_pair.specs.Hits.{overlaps, hits}
 use Rattle.iv_pair.proofs.HitsLemmas.{overlaps_parts, overlaps_from, covers_parts, covers_from}
 

@@ -1,6 +1,6 @@
 //! Records that a search has passed and that reach past the place where it is.
 ghost use Rattle.std.specs.Prelude.{◌≡◌, ◌∷◌, [], ◌++◌, ◌≤◌, filter, length, true, false};
-ghost use Rattle.iv_cover.specs.Depth.{covers};
+ghost use Rattle.iv_text.specs.Covering.{covers};
 ghost use Rattle.iv_pair.specs.HitFinder.{held, keeps};
 
 use arrayvec::ArrayVec;

@@ -1,7 +1,8 @@
 //! Laws of the definitions: functions that do nothing, whose contracts are the laws.
 ghost use Rattle.std.specs.Prelude.{◌≡◌, ◌↔◌, ◌<◌, ◌≤◌, ℕ, List, Contains, IsTrue};
 ghost use Rattle.iv_text.specs.Row.{Row};
-ghost use Rattle.iv_cover.specs.Depth.{covers, depth};
+ghost use Rattle.iv_text.specs.Covering.{covers};
+ghost use Rattle.iv_cover.specs.Depth.{depth};
 ghost use Rattle.iv_cover.specs.Runs.{Run, empty_runs};
 ghost use Rattle.iv_pair.specs.Hits.{overlaps};
 

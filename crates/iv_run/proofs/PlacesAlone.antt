@@ -6,7 +6,8 @@ use Rattle.std.specs.Option.{option_map}
 use Rattle.iv_text.specs.Genome.{Sequences, seq_count, sequence_length, sequence_name}
 use Rattle.iv_text.specs.Row.{Row}
 use Rattle.iv_cover.specs.Blocks.{block_at, block_stop, blocks_below, greatest, is_block_start, last_passing, members, reaches}
-use Rattle.iv_cover.specs.Depth.{covers, depth}
+use Rattle.iv_text.specs.Covering.{covers}
+use Rattle.iv_cover.specs.Depth.{depth}
 use Rattle.iv_cover.specs.Runs.{empty_runs}
 use Rattle.iv_cover.specs.TrackBlocks.{start_of, stop_of}
 use Rattle.iv_cover.specs.declared.column.ColumnSummary.{ColumnSummary}

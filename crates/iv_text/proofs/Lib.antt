@@ -12,4 +12,7 @@ pub mod BedLemmas
 pub mod BedLawLemmas
 pub mod RowLemmas
 pub mod OrderedLemmas
+pub mod ListLemmas
+pub mod InOrderLemmas
+pub mod PrecedesLemmas
 pub mod Examples

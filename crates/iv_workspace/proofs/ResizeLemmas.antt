@@ -13,7 +13,7 @@ use Rattle.iv_text.specs.Read.{IsWithin, Fits}
 use Rattle.iv_text.specs.Row.{Row}
 use Rattle.iv_text.proofs.LengthLemmas.{length-with_length, length_at-with_length, length_at-other, rank-within}
 use Rattle.iv_track.specs.Tracked.{Tracked, is_from}
-use Rattle.iv_cover.proofs.Tests.{Mem, all-mem, mem-all, any-found, any-at, any-none, any-from_none, mem-filter, mem-filter_from}
+use Rattle.iv_text.proofs.ListLemmas.{Mem, all-mem, mem-all, any-found, any-at, any-none, any-from_none, mem-filter, mem-filter_from}
 use Rattle.iv_fasta.specs.Fasta.{Bases, bases_of, HasLengthsOf}
 use Rattle.iv_pair.specs.Hits.{overlaps}
 use Rattle.iv_pair.proofs.PlaceLemmas.{le_pair, pair_le, from_all}

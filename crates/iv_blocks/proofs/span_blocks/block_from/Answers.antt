@@ -12,7 +12,7 @@ pub loop-span-init : goal.loop-span-init
 loop-span-init c =
     let first : Row = row_of_span c.args.first in (
       first ∷ [],
-      coming-begun c.args.distance first (span_rows c.args.others.now) c.as_block-block.result c.as_block-block.ensures,
+      coming-begun c.args.distance first (span_rows c.args.others.now) c.block_of-block.result c.block_of-block.ensures,
     )
 
 pub returns-then-not-is_joined_by : goal.returns-then-not-is_joined_by
@@ -25,7 +25,7 @@ returns-then-not-is_joined_by c =
       i.0,
       i.1 ∙ ap (λ (l : List Span). coming d (Some b) (span_rows l)) c.in-Some.ensures.cases.0
           ∙ coming-split_up d b r rest
-          (sym (c.is_joined_by.ensures ∙ ap (λ (n : Block). (n.sequence == b.sequence) && nat_le n.start (b.stop + d)) c.as_block-next.ensures) ∙ c.if-not-is_joined_by.true)
+          (sym (c.is_joined_by.ensures ∙ ap (λ (n : Block). (n.sequence == b.sequence) && nat_le n.start (b.stop + d)) c.block_of-next.ensures) ∙ c.if-not-is_joined_by.true)
           ∙ ap (λ (l : List Span). b ∷ coming d None (span_rows l)) (sym c.in-Some.ensures.cases.0),
     )
 
@@ -39,9 +39,9 @@ loop-span-preserved c =
       i.0 ++ r ∷ [],
       i.1 ∙ ap (λ (l : List Span). coming d (Some b) (span_rows l)) c.in-Some.ensures.cases.0
           ∙ coming-joined d b r rest
-          (sym (c.is_joined_by.ensures ∙ ap (λ (n : Block). (n.sequence == b.sequence) && nat_le n.start (b.stop + d)) c.as_block-next.ensures) ∙ c.if-not-is_joined_by.false)
+          (sym (c.is_joined_by.ensures ∙ ap (λ (n : Block). (n.sequence == b.sequence) && nat_le n.start (b.stop + d)) c.block_of-next.ensures) ∙ c.if-not-is_joined_by.false)
           ∙ ap (λ (next : Block). coming d (Some (with_members next (i.0 ++ r ∷ []))) rest)
-          (sym (c.with-block.ensures ∙ ap (λ (n : Block). record { sequence = b.sequence; start = b.start; stop = max b.stop n.stop }) c.as_block-next.ensures)),
+          (sym (c.with-block.ensures ∙ ap (λ (n : Block). record { sequence = b.sequence; start = b.start; stop = max b.stop n.stop }) c.block_of-next.ensures)),
     )
 
 none-of : (spans : List Span) → length spans ≡ 0 → spans ≡ []

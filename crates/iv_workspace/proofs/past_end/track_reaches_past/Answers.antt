@@ -3,7 +3,7 @@ use Rattle.std.specs.List.{list_any}
 use Rattle.iv_text.specs.Ordered.{AreInOrder}
 use Rattle.iv_text.specs.Row.{row_cmp}
 use Rattle.iv_track.specs.Tracked.{is_from}
-use Rattle.iv_cover.proofs.InOrder.{in_order-filter}
+use Rattle.iv_text.proofs.InOrderLemmas.{in_order-filter}
 use Rattle.iv_workspace.specs.Resizes.{reaches_past}
 use Rattle.iv_workspace.proofs.ResizeLemmas.{past-from_first, past-found, past-none, past-next}
 use Rattle.iv_workspace.proofs.past_end.track_reaches_past.Goals as goal

@@ -3,7 +3,7 @@ use Rattle.iv_bytes.proofs.Putting.{Underway-begin, Puts-err}
 use Rattle.iv_text.specs.Genome.{seq_count, sequence_name}
 use Rattle.iv_text.specs.Ordered.{AreInOrder}
 use Rattle.iv_text.specs.Row.{Row}
-use Rattle.iv_cover.specs.TrackBlocks.{on}
+use Rattle.iv_text.specs.Covering.{on}
 use Rattle.iv_blocks.specs.Groups.{listed}
 use Rattle.iv_blocks.specs.declared.options.Options.{Options}
 use Rattle.iv_cover.specs.Results.{HasRoom}

@@ -1,7 +1,7 @@
 use Rattle.std.proofs.Common.{◌∙◌, List, sym, ap, subst, arith, length}
 use Rattle.iv_text.specs.Ordered.{AreInOrder}
 use Rattle.iv_text.specs.Row.{row_cmp, Row}
-use Rattle.iv_cover.proofs.InOrder.{in_order-filter}
+use Rattle.iv_text.proofs.InOrderLemmas.{in_order-filter}
 use Rattle.iv_track.specs.Tracked.{is_from}
 use Rattle.iv_pair.specs.Hits.{hits, overlaps}
 use Rattle.iv_pair.proofs.HitsLemmas.{hits_from, length-filter_le}

@@ -4,7 +4,7 @@ use Rattle.std.specs.List.{AllByRecursion}
 use Rattle.std.specs.Ordering.{is_le}
 use Rattle.std.proofs.lemmas.Bool.{cond-true, cond-false, cases_Bool}
 use Rattle.iv_text.specs.Ordered.{InOrder}
-use Rattle.iv_cover.proofs.Tests.{Mem, mem-filter}
+use Rattle.iv_text.proofs.ListLemmas.{Mem, mem-filter}
 
 pub all-recursion : {X : Type 0} (P : X → Type 0) (xs : List X) → AllByRecursion P xs → (q : X) → Mem q xs → P q
 all-recursion P [] all q m = absurd m
