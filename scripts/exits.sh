@@ -144,6 +144,14 @@ session -g none -i past_end.bed < prints
 ends 'a file that is not there comes before a damaged one' 4 'bedkeep: none: cannot be read\n'
 session -g sizes -i past_end.bed -b none < prints
 ends 'a second file that is not there comes before a damaged first one' 4 'bedkeep: none: cannot be read\n'
+session -g bad_sizes -i past_end.bed -b none < prints
+ends 'a second file that is not there comes before a damaged genome file' 4 'bedkeep: none: cannot be read\n'
+session -g bad_sizes -i none -b no_base.bed < prints
+ends 'a first file that is not there comes before a damaged genome file' 4 'bedkeep: none: cannot be read\n'
+session -g bad_sizes -i past_end.bed -b no_base.bed -fi none < prints
+ends 'a FASTA file that is not there comes before damaged files' 4 'bedkeep: none: cannot be read\n'
+session -g bad_sizes -i records.bed -b no_base.bed < prints
+ends 'a damaged genome file comes before a damaged second file' 3 'bedkeep: bad_sizes: line 1: bad length\n'
 session -b nowhere -i none -g sizes < prints
 ends 'a first file that is not there comes before the second' 4 'bedkeep: none: cannot be read\n'
 session -g sizes -i past_end.bed -fi none < prints

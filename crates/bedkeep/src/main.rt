@@ -4,17 +4,20 @@
 //! It opens files, hands over and exits. What the words mean, how a run ends and what is said of it is in `iv_cli`.
 #![tactic(auto)]
 
-ghost use Rattle.std.specs.Prelude.{◌<◌, ◌^◌, IfOk, IfSome, length};
+ghost use Rattle.std.specs.Prelude.{◌≡◌, ◌<◌, ◌^◌, IfOk, IfSome, length};
 ghost use Rattle.std.specs.Option.{option_copied};
+ghost use Rattle.iv_run.specs.Loading.{FitsRun};
 ghost use Rattle.iv_run.specs.PlacesViews.{ShowPlacesAlone};
 
 use iv_args::{Notice, Plan, Slot};
 use iv_bytes::{StdSink, StdSource, put_all};
 use iv_cli::Ending;
 use iv_run::{
-    CliFault, FileFault, Inputs, ParsedFiles, read_all, shot, shot_in_pieces, shows_places_alone,
+    CliFault, FileFault, Inputs, ParsedFiles, RunGenome, read_all, shot, shot_in_pieces,
+    shows_places_alone,
 };
 use iv_session::{ScriptLimits, run_script};
+use iv_text::{BedFile, LoadFault};
 use iv_workspace::Session;
 use std::fs::File;
 use std::io::Write;
@@ -131,14 +134,73 @@ impl FileTexts {
     }
 }
 
-/// What the files of the plan say. Their text is let go.
-fn files_of(rt: &(impl Files + AllocGlobal), plan: &Plan<'_>) -> Result<ParsedFiles, Ending> {
-    let texts = FileTexts::read(rt, plan)?;
-    let bases = read_slot(rt, plan, Slot::Bases)?;
-    Ok(ParsedFiles::parse(rt.alloc(), plan, &texts.inputs(), bases, MOST_RECORDS)?)
+/// What the BED file of this name says on the genome of a run.
+fn read_bed(
+    rt: &(impl Files + AllocGlobal),
+    genome: &RunGenome,
+    name: &[u8],
+) -> Result<Result<BedFile, LoadFault>, FileFault>
+    ensures { IfOk result (λ said. IfOk said (FitsRun genome.now)) }
+{
+    let file = open_file(rt, name)?;
+    genome.read_bed(rt.alloc(), &mut StdSource::new(file), MOST_FILE_BYTES)
 }
 
-/// The session that the plan asks for. The files' text is let go before the track is built from what it says.
+/// What the first BED file of a plan says. A plan names one always.
+fn read_first(
+    rt: &(impl Files + AllocGlobal),
+    plan: &Plan<'_>,
+    genome: &RunGenome,
+) -> Result<Result<BedFile, LoadFault>, Ending>
+    ensures { IfOk result (λ said. IfOk said (FitsRun genome.now)) }
+{
+    match read_bed(rt, genome, plan.file(Slot::First).unwrap_or(b"")) {
+        Ok(said) => Ok(said),
+        Err(fault) => Err(Ending::from((Slot::First, fault))),
+    }
+}
+
+/// What the second BED file of a plan says, where it names one.
+fn read_second(
+    rt: &(impl Files + AllocGlobal),
+    plan: &Plan<'_>,
+    genome: &RunGenome,
+) -> Result<Result<Option<BedFile>, LoadFault>, Ending>
+    ensures { IfOk result (λ said. IfOk said (λ second. IfSome second (FitsRun genome.now))) }
+{
+    let Some(name) = plan.file(Slot::Other) else {
+        return Ok(Ok(None));
+    };
+    match read_bed(rt, genome, name) {
+        Ok(Ok(file)) => Ok(Ok(Some(file))),
+        Ok(Err(damage)) => Ok(Err(damage)),
+        Err(fault) => Err(Ending::from((Slot::Other, fault))),
+    }
+}
+
+/// What the genome file of a plan says, for the run that reads the other files on it.
+fn read_genome(rt: &(impl Files + AllocGlobal), plan: &Plan<'_>) -> Result<RunGenome, Ending>
+    ensures { IfOk result (λ genome. genome.limit ≡ 4000000) }
+{
+    let sizes = read_slot(rt, plan, Slot::Sizes)?;
+    Ok(RunGenome::parse(
+        rt.alloc(),
+        plan,
+        sizes.as_deref().unwrap_or(b""),
+        MOST_RECORDS,
+    ))
+}
+
+/// What the files of the plan say. Of the BED files no text is kept.
+fn files_of(rt: &(impl Files + AllocGlobal), plan: &Plan<'_>) -> Result<ParsedFiles, Ending> {
+    let genome = read_genome(rt, plan)?;
+    let first = read_first(rt, plan, &genome)?;
+    let second = read_second(rt, plan, &genome)?;
+    let bases = read_slot(rt, plan, Slot::Bases)?;
+    Ok(ParsedFiles::of(rt.alloc(), genome, first, second, bases)?)
+}
+
+/// The session that the plan asks for.
 fn session_of(rt: &(impl Files + AllocGlobal), plan: &Plan<'_>) -> Result<Session, Ending> {
     Ok(files_of(rt, plan)?.begin(rt.alloc())?)
 }

@@ -1,5 +1,5 @@
 -- Records without their columns after the third.
-use Rattle.std.proofs.Common.{◌≡◌, ℕ, ◌+◌, Bool, true, false, cond, List, [], ◌∷◌, map, refl, sym, ap, ◌∙◌, arith}
+use Rattle.std.proofs.Common.{◌≡◌, ℕ, ◌+◌, Bool, true, false, cond, List, [], ◌∷◌, map, refl, sym, ap, ◌∙◌, arith, get_or, subst}
 use Rattle.std.specs.Prelude.{All, count_by, fold}
 use Rattle.std.specs.List.{AllByRecursion}
 use Rattle.std.specs.Ordering.{is_eq, is_le, nat_cmp, ordering_then}
@@ -8,6 +8,7 @@ use Rattle.std.specs.declared.cmp.Ordering.TheVariants.{Less, Equal, Greater}
 use Rattle.std.proofs.lemmas.List.Elements.{All-from_recursion, recursion_from_All}
 use Rattle.std.proofs.lemmas.List.Sums.{sum_by-cons}
 use Rattle.iv_text.specs.Genome.{Sequences}
+use Rattle.iv_text.specs.KeptDrafts.{IsKept}
 use Rattle.iv_text.specs.Ordered.{added, ordered, AreInOrder}
 use Rattle.iv_text.specs.Read.{IsOnGenome}
 use Rattle.iv_text.specs.Row.{Row, beside_cmp, row_cmp}
@@ -31,6 +32,12 @@ on_genome-bare g rows lie = All-from_recursion (IsOnGenome g) (map bare rows) (b
     by : (rows : List Row) → AllByRecursion (IsOnGenome g) rows → AllByRecursion (IsOnGenome g) (map bare rows)
     by [] all = tt
     by (r ∷ rows) all = (record { some = all.0.some; within = all.0.within }, by rows all.1)
+
+-- so is what is kept of records that fit it, where only their places are
+pub kept-on_genome : (g : Sequences) (w : ℕ) (rows : List Row) → All (IsKept bare g w) rows → All (IsOnGenome g) rows
+kept-on_genome g w rows kept k e within =
+    let one : IsKept bare g w (get_or rows k e) = kept k e within in
+    subst (IsOnGenome g) (sym one.2) (record { some = one.1.is_placed.some; within = one.1.is_placed.within })
 
 -- ---- their order
 

@@ -6,4 +6,3 @@ pub mod BareLemmas
 pub mod DedupLemmas
 pub mod JoinLemmas
 pub mod SequenceLemmas
-pub mod SpanLemmas

@@ -3,4 +3,3 @@ pub mod Drafts
 pub mod Cover
 pub mod Joins
 pub mod Spans
-pub mod SpanDrafts

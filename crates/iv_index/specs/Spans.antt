@@ -1,8 +1,9 @@
 -- Records of which only their places are kept.
-use Rattle.std.specs.Prelude.{ℕ, Bool, List, [], None, Result, Ok, Err, map}
+use Rattle.std.specs.Prelude.{ℕ, Bool, List, [], None, Result, map}
 use Rattle.std.specs.Ordering.{is_lt}
-use Rattle.iv_text.specs.BedFile.{Bed, bed_of}
+use Rattle.iv_text.specs.BedFile.{Bed}
 use Rattle.iv_text.specs.Genome.{Sequences}
+use Rattle.iv_text.specs.KeptDrafts.{kept_bed_of}
 use Rattle.iv_text.specs.Row.{Row, row_cmp}
 use Rattle.iv_text.specs.declared.fault.LoadFault.{LoadFault}
 use Rattle.iv_index.specs.Places.{bare}
@@ -20,15 +21,6 @@ span_rows spans = map row_of_span spans
 abbrev pub span_lt : Span → Span → Bool
 span_lt x y = is_lt (row_cmp (row_of_span x) (row_of_span y))
 
--- a file's records in three columns; its width stays
-abbrev pub bare_bed : Bed → Bed
-bare_bed b = record { width = b.width; rows = map bare b.rows }
-
--- or the file's fault
-abbrev pub bare_or_fault : Result Bed LoadFault → Result Bed LoadFault
-bare_or_fault (Ok b) = Ok (bare_bed b)
-bare_or_fault (Err f) = Err f
-
 -- the BED file that a text says, with its records in three columns, or its first fault
 abbrev pub bare_bed_of : Sequences → ℕ → ℕ → List ℕ → Result Bed LoadFault
-bare_bed_of g empty limit text = bare_or_fault (bed_of g empty limit text)
+bare_bed_of g empty limit text = kept_bed_of bare g empty limit text

@@ -1,5 +1,11 @@
 //! Where a record is, and nothing beside.
 
+ghost use Rattle.iv_index.specs.Places.{bare};
+ghost use Rattle.iv_index.specs.Spans.{row_of_span};
+
+use iv_text::{FromRecord, RecordRef, ShortLine};
+use std::alloc::{AllocError, Allocator};
+
 /// Where a record is, 0-based and half-open.
 #[derive(Clone, Copy, Debug, PartialEq, Eq)]
 pub struct Span {
@@ -9,4 +15,33 @@ pub struct Span {
     pub start: u32,
     /// Where it stops, not included.
     pub stop: u32,
+}
+
+impl<A: Allocator + Copy> FromRecord<A> for Span {
+    ghost kept = { bare };
+
+    ghost as_row = { row_of_span };
+
+    fn from_record(_alloc: A, record: &RecordRef<'_>) -> Result<Span, AllocError> {
+        record.law_of_place();
+        Ok(Span {
+            seq: record.seq(),
+            start: record.start() as u32,
+            stop: record.stop() as u32,
+        })
+    }
+
+    fn is_place_alone(_width: u8) -> bool {
+        true
+    }
+
+    fn from_place(_alloc: A, _width: u8, line: &ShortLine) -> Option<Span> {
+        Some(Span {
+            seq: line.seq,
+            start: line.start,
+            stop: line.stop,
+        })
+    }
+
+    fn law_of_kept() {}
 }

@@ -6,9 +6,8 @@ ghost use Rattle.iv_text.specs.declared.fault.LoadCause.TheVariants as cause;
 ghost use Rattle.iv_index.specs.Spans.{bare_bed_of, span_rows};
 
 use crate::span::Span;
-use crate::span_draft::SpanDraft;
 use crate::span_order::{are_in_order, compare_spans, order_nearly};
-use iv_text::{Genome, LoadFault};
+use iv_text::{Genome, KeptDraft, LoadFault};
 use std::alloc::{Allocator, Global};
 use std::marker::Model;
 
@@ -33,7 +32,7 @@ impl<A: Allocator> Model for Spans<A> {
 
 impl<A: Allocator + Copy> Spans<A> {
     /// The places of records of so many columns.
-    pub(crate) fn of(width: u8, spans: Vec<Span, A>) -> Spans<A>
+    pub fn of(width: u8, spans: Vec<Span, A>) -> Spans<A>
         ensures { result ≡ record { width = width; rows = span_rows spans.items } }
     {
         Spans { width, spans }
@@ -56,9 +55,10 @@ impl<A: Allocator + Copy> Spans<A> {
         ensures on_genome { IfOk result (λ file. All (IsOnGenome genome.now) file.rows) }
         ensures err { IfErr result (λ f. (f ≡ record { line = 0; cause = cause.Memory }) ⊎ (bare_bed_of genome.now empty_width limit text.now ≡ Err f)) }
     {
-        let mut draft = SpanDraft::new(alloc);
+        let mut draft: KeptDraft<Span, A> = KeptDraft::new(alloc);
         draft.take_piece(genome, limit, text)?;
-        draft.finish(genome, empty_width, limit)
+        let (width, spans) = draft.finish(genome, empty_width, limit)?;
+        Ok(Spans::of(width, spans))
     }
 
     /// The number of columns of each record in the file.

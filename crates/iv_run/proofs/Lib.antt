@@ -2,5 +2,6 @@ pub mod ReadingLemmas
 pub mod LoadLemmas
 pub mod ShotLemmas
 mod PlacesAlone
+pub mod PieceLemmas
 pub mod SpanLemmas
 pub mod PlacesLemmas

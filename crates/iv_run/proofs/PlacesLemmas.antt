@@ -6,7 +6,6 @@ use Rattle.std.specs.Option.{is_some}
 use Rattle.iv_bytes.specs.Sinks.{SinkState}
 use Rattle.iv_text.specs.BedFile.{Bed}
 use Rattle.iv_text.specs.Ordered.{ordered}
-use Rattle.iv_index.specs.Spans.{bare_bed}
 use Rattle.iv_index.proofs.BareLemmas.{ordered-bare}
 use Rattle.iv_blocks.specs.Groups.{listed}
 use Rattle.iv_blocks.specs.PlainOptions.{IsPlain}

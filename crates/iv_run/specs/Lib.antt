@@ -5,3 +5,4 @@ pub mod Prints
 pub mod Places
 pub mod PlacesViews
 pub mod SpanFiles
+pub mod Pieces

@@ -1,5 +1,5 @@
 -- The session that the files of a run begin.
-use Rattle.std.specs.Prelude.{ℕ, ◌≤◌, List, Option, IfSome, All, length, Result, Ok, Err}
+use Rattle.std.specs.Prelude.{◌≡◌, ◌⊎◌, ℕ, ◌≤◌, List, Option, None, Some, IfSome, All, length, Result, Ok, Err}
 use Rattle.std.specs.Option.{option_map, option_transpose}
 use Rattle.iv_text.specs.Read.{Fits}
 use Rattle.iv_text.specs.Genome.{Sequences}
@@ -26,6 +26,37 @@ fault_of other damaged = damaged
 
 abbrev pub damage_of : Slot → LoadFault → CliFault
 damage_of slot f = fault_of f.cause (Damaged slot f)
+
+-- a call answers with what a file says, or with the file's first fault, or out of memory
+abbrev pub IsAnswer : {T : Type 0} → Result T LoadFault → Result T LoadFault → Type 0
+IsAnswer (Ok value) said = said ≡ Ok value
+IsAnswer (Err f) said = (f ≡ record { line = 0; cause = cause.Memory }) ⊎ (said ≡ Err f)
+
+-- a call reports what files say, or the fault of the first damaged one, or out of memory
+abbrev pub IsReport : {T : Type 0} → Result T CliFault → Result T CliFault → Type 0
+IsReport (Ok value) said = said ≡ Ok value
+IsReport (Err fault) said = (fault ≡ Memory) ⊎ (said ≡ Err fault)
+
+-- the genome of a run, or the fault of its file; which width a BED file without a record has, and how many records each may have
+pub record GenomeOfRun : Type 0 where
+  pub genome : Sequences
+  pub damage : Option LoadFault
+  pub width : ℕ
+  pub limit : ℕ
+
+-- the genome or the fault
+abbrev pub genome_or_damage : Sequences → Option LoadFault → Result Sequences LoadFault
+genome_or_damage g None = Ok g
+genome_or_damage g (Some f) = Err f
+
+-- it is what the bytes of a genome file say
+abbrev pub SaysGenome : List ℕ → GenomeOfRun → Type 0
+SaysGenome sizes run = IsAnswer (genome_or_damage run.genome run.damage) (genome_of sizes)
+
+-- the records of a BED file fit the genome of a run at the file's width, and are not more than its limit
+pub record FitsRun (run : GenomeOfRun) (file : Bed) : Type 0 where
+  pub fit : All (Fits run.genome file.width) file.rows
+  pub few : length file.rows ≤ run.limit
 
 -- how a fault of a view's words is reported: by its number, but out of memory as that
 abbrev pub fault_of_view : ViewFault → CliFault

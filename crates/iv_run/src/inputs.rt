@@ -1,13 +1,14 @@
 //! Parsing the files of a run, and the session that they begin.
-ghost use Rattle.std.specs.Prelude.{◌≡◌, ◌≤◌, ◌⊎◌, All, length, Ok, Err, IfSome, IfOk, IfErr};
+ghost use Rattle.std.specs.Prelude.{◌≡◌, ◌≤◌, ◌⊎◌, ℕ, List, Option, Ok, Err, IfSome, IfOk, IfErr};
 ghost use Rattle.std.specs.Option.{option_copied, option_map};
-ghost use Rattle.iv_text.specs.Read.{Fits};
+ghost use Rattle.iv_text.specs.BedFile.{bed_of};
 ghost use Rattle.iv_text.specs.declared.fault.LoadCause.TheVariants as cause;
 ghost use Rattle.iv_track.specs.Tracked.{most_records};
 ghost use Rattle.iv_workspace.specs.States.{begun};
-ghost use Rattle.iv_run.specs.Loading.{second_of, bases_said, parsed, loaded};
+ghost use Rattle.iv_run.specs.Loading.{FitsRun, IsAnswer, IsReport, SaysGenome, second_of, bases_said, parsed, loaded};
 
 use crate::fault::CliFault;
+use crate::run_genome::{RunGenome, in_slot};
 use iv_args::{Plan, Slot};
 use iv_fasta::Fasta;
 use iv_text::{BedFile, Genome, LoadFault};
@@ -46,27 +47,6 @@ impl<A: Allocator + Copy> Model for ParsedFiles<A> {
     ghost invariant = { λ files. FitTogether files.genome files.first files.second files.limit };
 }
 
-/// What the second BED file says, where there is one, or its first fault.
-fn parse_second<A: Allocator + Copy>(
-    alloc: A,
-    genome: &Genome<A>,
-    width: u8,
-    limit: u32,
-    text: Option<&[u8]>,
-) -> Result<Option<BedFile<A>>, LoadFault>
-    requires { (3 ≤ width) × (width ≤ 6) }
-    ensures ok { IfOk result (λ second. second_of genome.now width limit (option_copied text.entry) ≡ Ok second) }
-    ensures fit { IfOk result (λ second. IfSome second (λ file. All (Fits genome.now file.width) file.rows)) }
-    ensures few { IfOk result (λ second. IfSome second (λ file. length file.rows ≤ limit)) }
-    ensures err { IfErr result (λ fault. (fault ≡ record { line = 0; cause = cause.Memory }) ⊎
-        (second_of genome.now width limit (option_copied text.entry) ≡ Err fault)) }
-{
-    match text {
-        None => Ok(None),
-        Some(text) => Ok(Some(BedFile::parse(alloc, genome, width, limit, text)?)),
-    }
-}
-
 /// What the FASTA file says, where there is one, or its first fault.
 pub(crate) fn parse_fasta<A: Allocator + Copy>(
     alloc: A,
@@ -84,40 +64,29 @@ pub(crate) fn parse_fasta<A: Allocator + Copy>(
 }
 
 impl<A: Allocator + Copy> ParsedFiles<A> {
-    /// What the files of a run say, or the fault of the first damaged one.
+    /// What the files of a run say, once they are read, or the fault of the first damaged one.
     ///
-    /// The genome file is read first, then the first BED file, then the second and the FASTA file, where there are any. A
-    /// BED file without a record has the width that the plan says, and each may have at most `limit` records. `bases` are the
-    /// bytes of the FASTA file, where the plan names one. They are taken: the bases stay in their memory.
-    pub fn parse(
+    /// The genome file comes first, then the first BED file, then the second and the FASTA file, where there are any. `bases` are
+    /// the bytes of the FASTA file, where there is one. They are taken: the bases stay in their memory.
+    pub fn of(
         alloc: A,
-        plan: &Plan<'_, A>,
-        inputs: &Inputs<'_>,
+        genome: RunGenome<A>,
+        first: Result<BedFile<A>, LoadFault>,
+        second: Result<Option<BedFile<A>>, LoadFault>,
         bases: Option<Vec<u8, A>>,
-        limit: u32,
     ) -> Result<ParsedFiles<A>, CliFault>
-        requires { limit ≤ most_records }
-        ensures ok { IfOk result (λ files.
-            parsed plan.now.width inputs.now.sizes.now inputs.now.first.now (option_copied inputs.now.other) (option_map (λ text. text.items) bases) limit ≡ Ok files) }
-        ensures err { IfErr result (λ fault. (fault ≡ CliFault.Memory) ⊎
-            (parsed plan.now.width inputs.now.sizes.now inputs.now.first.now (option_copied inputs.now.other) (option_map (λ text. text.items) bases) limit ≡ Err fault)) }
+        requires limit { genome.limit ≤ most_records }
+        requires first { IfOk first (FitsRun genome) }
+        requires second { IfOk second (λ file. IfSome file (FitsRun genome)) }
+        ensures { (sizes text : List ℕ) (other : Option (List ℕ)) → SaysGenome sizes genome → IsAnswer first (bed_of genome.genome genome.width genome.limit text)
+            → IsAnswer second (second_of genome.genome genome.width genome.limit other)
+            → IsReport result (parsed genome.width sizes text other (option_map (λ text. text.items) bases) genome.limit) }
     {
-        let genome = match Genome::parse(alloc, inputs.sizes) {
-            Ok(genome) => genome,
-            Err(fault) => return Err(CliFault::from((Slot::Sizes, fault))),
-        };
-        let first = match BedFile::parse(alloc, &genome, plan.width(), limit, inputs.first) {
-            Ok(first) => first,
-            Err(fault) => return Err(CliFault::from((Slot::First, fault))),
-        };
-        let second = match parse_second(alloc, &genome, plan.width(), limit, inputs.other) {
-            Ok(second) => second,
-            Err(fault) => return Err(CliFault::from((Slot::Other, fault))),
-        };
-        let fasta = match parse_fasta(alloc, &genome, bases) {
-            Ok(fasta) => fasta,
-            Err(fault) => return Err(CliFault::from((Slot::Bases, fault))),
-        };
+        let limit = genome.limit();
+        let genome = genome.sound()?;
+        let first = in_slot(Slot::First, first)?;
+        let second = in_slot(Slot::Other, second)?;
+        let fasta = in_slot(Slot::Bases, parse_fasta(alloc, &genome, bases))?;
         Ok(ParsedFiles {
             genome,
             first,
@@ -147,8 +116,10 @@ impl<A: Allocator + Copy> ParsedFiles<A> {
     }
 }
 
-/// The session that the files of a run begin, with no view open, or the fault of the first damaged file: both steps of
-/// [`ParsedFiles`] in one, for whom the files' text may stay in memory meanwhile.
+/// The session that the files of a run begin, with no view open, or the fault of the first damaged file, given the bytes of the files.
+///
+/// A BED file without a record has the width that the plan says, and each may have at most `limit` records. `bases` are the bytes of
+/// the FASTA file, where the plan names one; they are taken.
 pub fn load<A: Allocator + Copy>(
     alloc: A,
     plan: &Plan<'_, A>,
@@ -162,5 +133,8 @@ pub fn load<A: Allocator + Copy>(
     ensures err { IfErr result (λ fault. (fault ≡ CliFault.Memory) ⊎
         (loaded plan.now.width inputs.now.sizes.now inputs.now.first.now (option_copied inputs.now.other) (option_map (λ text. text.items) bases) limit ≡ Err fault)) }
 {
-    ParsedFiles::parse(alloc, plan, inputs, bases, limit)?.begin(alloc)
+    let genome = RunGenome::parse(alloc, plan, inputs.sizes, limit);
+    let first = genome.parse_bed(alloc, inputs.first);
+    let second = genome.parse_second(alloc, inputs.other);
+    ParsedFiles::of(alloc, genome, first, second, bases)?.begin(alloc)
 }

@@ -1,26 +1,28 @@
 //! A run of one subcommand whose rows depend on nothing of a record but its place.
-ghost use Rattle.std.specs.Prelude.{◌≡◌, ◌<◌, ◌^◌, ◌⊎◌, ◌↔◌, ℕ, List, None, Err, IsTrue, IsOk, IfSome, IfOk, IfErr, OnOk, length};
+ghost use Rattle.std.specs.Prelude.{◌≡◌, ◌<◌, ◌^◌, ◌⊎◌, ◌↔◌, ℕ, List, None, Err, IsTrue, IsOk, All, IfSome, IfOk, IfErr, OnOk, length};
 ghost use Rattle.std.specs.Option.{option_copied, option_map};
 ghost use Rattle.iv_text.specs.BedFile.{Bed};
 ghost use Rattle.iv_text.specs.Ordered.{ordered};
-ghost use Rattle.iv_index.specs.SpanDrafts.{size_of};
+ghost use Rattle.iv_text.specs.Read.{IsOnGenome};
+ghost use Rattle.iv_index.specs.Spans.{bare_bed_of};
 ghost use Rattle.iv_run.specs.Files.{ReadsWhole, StopsReading};
-ghost use Rattle.iv_run.specs.Loading.{bases_said, second_of, with_second};
+ghost use Rattle.iv_run.specs.Loading.{IsAnswer, SaysGenome, bases_said, second_of, with_second};
 ghost use Rattle.iv_run.specs.PlacesViews.{AskForPlaces, IsViewOf, ShowPlacesAlone};
 ghost use Rattle.iv_run.specs.Prints.{Prints};
 ghost use Rattle.iv_run.specs.Shots.{Shows, shown};
-ghost use Rattle.iv_run.specs.SpanFiles.{SaysSoFar};
 ghost use Rattle.iv_view.specs.Views.{kept_text};
 ghost use Rattle.iv_view.specs.declared.view.KeptView.{KeptView};
 
 use crate::fault::{CliFault, FileFault};
 use crate::inputs::{Inputs, parse_fasta};
 use crate::places_view::PlacesView;
-use crate::span_files::{SpanFiles, SpanReading, read_pieces};
+use crate::run_genome::RunGenome;
+use crate::span_files::SpanFiles;
 use crate::text_files::parse_second_text;
 use iv_args::{Plan, Slot};
 use iv_bytes::{Sink, Source};
-use iv_text::Genome;
+use iv_index::Spans;
+use iv_text::{Genome, LoadFault};
 use std::alloc::Allocator;
 
 /// Prints a view of places, given the bytes of the files.
@@ -38,7 +40,9 @@ pub(crate) fn shot_of_places<A: Allocator + Copy, S: Sink>(
     ensures { Shows (S.state sink.old) (S.state sink.new) result
         (shown plan.now inputs.now.sizes.now inputs.now.first.now (option_copied inputs.now.other) (option_map (λ text. text.items) bases) limit) }
 {
-    let files = SpanFiles::parse(alloc, inputs.sizes, inputs.first, plan.width(), limit)?;
+    let genome = RunGenome::parse(alloc, plan, inputs.sizes, limit);
+    let first = genome.parse_spans(alloc, inputs.first);
+    let files = SpanFiles::of(genome, first)?;
     check_others(alloc, plan, &files.genome, inputs.other, bases, limit)?;
     print_files(alloc, view, files, sink)
 }
@@ -113,24 +117,28 @@ pub fn shot_in_pieces<A: Allocator + Copy, R: Source, S: Sink>(
         × Shows (S.state sink.old) (S.state sink.new) done (shown plan.now sizes.now text None None limit)) }
     ensures err { IfErr result (λ fault. StopsReading (R.state source.old) (R.state source.new) most fault × (sink.new ≡ sink.old)) }
 {
-    let said = read_pieces(alloc, sizes, source, most, limit)?;
-    Ok(print_said(alloc, plan, said, sink))
+    let genome = RunGenome::parse(alloc, plan, sizes, limit);
+    let first = genome.read_spans(alloc, source, most)?;
+    Ok(print_said(alloc, plan, genome, first, sink))
 }
 
 /// Prints what the plan's subcommand shows of files that are read, unless one is damaged.
 fn print_said<A: Allocator + Copy, S: Sink>(
     alloc: A,
     plan: &Plan<'_, A>,
-    said: Result<SpanReading<A>, CliFault>,
+    genome: RunGenome<A>,
+    first: Result<Spans<A>, LoadFault>,
     sink: &mut S,
 ) -> Result<(), CliFault>
     requires alone { ShowPlacesAlone plan.now.view }
-    requires few { IfOk said (λ r. size_of r.reading < 2 ^ 64) }
-    ensures { (sizes text : List ℕ) (limit : ℕ) → SaysSoFar sizes limit text said → Shows (S.state sink.old) (S.state sink.new) result (shown plan.now sizes text None None limit) }
+    requires on_genome { IfOk first (λ file. All (IsOnGenome genome.genome) file.rows) }
+    requires width { genome.width ≡ plan.now.width }
+    ensures { (sizes text : List ℕ) → SaysGenome sizes genome → IsAnswer first (bare_bed_of genome.genome genome.width genome.limit text)
+        → Shows (S.state sink.old) (S.state sink.new) result (shown plan.now sizes text None None genome.limit) }
 {
     let Some(view) = PlacesView::of_plan(plan) else {
         unreachable!()
     };
-    let files = said?.finish(plan.width())?;
+    let files = SpanFiles::of(genome, first)?;
     print_files(alloc, view, files, sink)
 }

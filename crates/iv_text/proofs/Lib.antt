@@ -9,6 +9,7 @@ pub mod FileLawLemmas
 pub mod OnePassLemmas
 pub mod ShortLemmas
 pub mod BedLemmas
+pub mod KeptLemmas
 pub mod BedLawLemmas
 pub mod RowLemmas
 pub mod OrderedLemmas

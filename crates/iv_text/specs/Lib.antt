@@ -12,6 +12,7 @@ pub mod GenomeFile
 pub mod BedFile
 pub mod FileLaws
 pub mod ShortLine
+pub mod KeptDrafts
 pub mod Ordered
 pub mod Covering
 pub mod RecordText

@@ -8,8 +8,11 @@ mod bounded_texts;
 mod cells;
 mod fault;
 mod fields;
+mod from_record;
 mod genome;
 mod genome_file;
+mod kept_draft;
+mod kept_lines;
 mod laws;
 mod lines;
 mod long_texts;
@@ -29,12 +32,14 @@ pub use bed_file::{BedFile, is_unread, width_for};
 pub use bed_record::BedRecord;
 pub use fault::{LoadCause, LoadFault, RecordFault, fault_text, load_text};
 pub use fields::{Fields, columns, split_first_column};
+pub use from_record::FromRecord;
 pub use genome::Genome;
 pub use genome_file::is_bad_name;
 pub use iv_bytes::{
     Buffered, ByteQueue, MemSink, MemSource, ReadFault, Sink, Source, StdSink, StdSource,
     WriteFault, put_all, put_pieces,
 };
+pub use kept_draft::KeptDraft;
 pub use laws::{
     bed_or_first_fault, first_line_ends_at_feed, genome_or_first_fault, last_line_ends_at_end,
     one_length_changes, one_ordered_list,

@@ -28,6 +28,8 @@ mod run_refusals;
 #[cfg(test)]
 mod runs;
 #[cfg(test)]
+mod session_pieces;
+#[cfg(test)]
 mod shot_fixtures;
 #[cfg(test)]
 mod shot_outputs;

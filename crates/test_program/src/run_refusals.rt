@@ -1,6 +1,8 @@
-//! Each growth of loading, refused in turn.
+//! Each growth of loading, refused in turn: from the bytes of the BED files, and from files that come in pieces.
+use crate::session_pieces::load_in_pieces;
 use iv_args::Plan;
 use iv_run::{CliFault, Inputs, load};
+use iv_workspace::Session;
 use std::alloc::Global;
 use std::test::Fail;
 use test_faults::{RefusesNth, refuse_each};
@@ -18,18 +20,29 @@ fn bed_text(rt: &HostRuntime) -> Result<String, Fail> {
     Ok(text)
 }
 
-/// How many records the track of a plan's files holds, `None` where memory is refused.
+/// How many records the track of a session holds, `None` where memory is refused.
+fn records_of(loaded: Result<Session<&RefusesNth<Global>>, CliFault>) -> Result<Option<u32>, Fail> {
+    match loaded {
+        Ok(session) => Ok(Some(session.len())),
+        Err(CliFault::Memory) => Ok(None),
+        Err(_) => Err(Fail::new("another fault")),
+    }
+}
+
+/// How many records the track of a plan's files holds, `None` where memory is refused. The BED files come in pieces of so many bytes,
+/// or as they are for 0.
 fn loaded_by<'a>(
     alloc: &'a RefusesNth<Global>,
     plan: &Plan<'_, &'a RefusesNth<Global>>,
     inputs: &Inputs<'_>,
     bases: Option<Vec<u8, &'a RefusesNth<Global>>>,
+    piece: usize,
 ) -> Result<Option<u32>, Fail> {
-    match load(alloc, plan, inputs, bases, COUNT) {
-        Ok(session) => Ok(Some(session.len())),
-        Err(CliFault::Memory) => Ok(None),
-        Err(_) => Err(Fail::new("another fault")),
+    if piece == 0 {
+        return records_of(load(alloc, plan, inputs, bases, COUNT));
     }
+    let whole = usize::MAX;
+    records_of(load_in_pieces(alloc, plan, inputs, bases, COUNT, (whole, piece))?)
 }
 
 /// The bytes of a FASTA file, where there is one, in memory that is not refused.
@@ -49,6 +62,7 @@ fn loaded(
     alloc: &RefusesNth<Global>,
     inputs: &Inputs<'_>,
     bases: Option<&[u8]>,
+    piece: usize,
 ) -> Result<Option<u32>, Fail> {
     let words: [&[u8]; 9] = [
         b"session", b"-g", b"g", b"-i", b"a", b"-b", b"b", b"-fi", b"f",
@@ -56,7 +70,7 @@ fn loaded(
     let granting = RefusesNth::new(rt.alloc(), u64::MAX);
     let bases = copied(&granting, bases)?;
     let plan = Plan::read(&granting, &words)?;
-    loaded_by(alloc, &plan, inputs, bases)
+    loaded_by(alloc, &plan, inputs, bases, piece)
 }
 
 /// Loads the files, and says how often that was out of memory, once or never. Else they are loaded whole, though a growth was
@@ -66,8 +80,9 @@ fn refused_load(
     alloc: &RefusesNth<Global>,
     inputs: &Inputs<'_>,
     bases: Option<&[u8]>,
+    piece: usize,
 ) -> Result<u32, Fail> {
-    match loaded(rt, alloc, inputs, bases)? {
+    match loaded(rt, alloc, inputs, bases, piece)? {
         Some(COUNT) => Ok(0),
         Some(_) => Err(Fail::new("other records")),
         None => Ok(1),
@@ -75,8 +90,16 @@ fn refused_load(
 }
 
 /// How many loads ended so, each of their growths refused in turn.
-fn refused_loads(rt: &HostRuntime, inputs: &Inputs<'_>, bases: Option<&[u8]>) -> Result<u32, Fail> {
-    refuse_each(rt.alloc(), |alloc| refused_load(rt, alloc, inputs, bases))
+fn refused_loads(
+    rt: &HostRuntime,
+    inputs: &Inputs<'_>,
+    bases: Option<&[u8]>,
+    piece: usize,
+) -> Result<u32, Fail> {
+    refuse_each(
+        rt.alloc(),
+        |alloc| refused_load(rt, alloc, inputs, bases, piece),
+    )
 }
 
 #[test]
@@ -92,9 +115,11 @@ fn each_growth_of_loading_refused(rt: HostRuntime) -> Result<(), Fail> {
         ..alone
     };
     let bases = Some(b">x\nAC\n>chr0 none of it\n".as_slice());
-    let few = refused_loads(&rt, &alone, None)?;
-    let more = refused_loads(&rt, &both, None)?;
-    assert!(rt; 0 < few && few < more);
-    assert!(rt; more < refused_loads(&rt, &both, bases)?);
+    for piece in [0, 3] {
+        let few = refused_loads(&rt, &alone, None, piece)?;
+        let more = refused_loads(&rt, &both, None, piece)?;
+        assert!(rt; 0 < few && few < more);
+        assert!(rt; more < refused_loads(&rt, &both, bases, piece)?);
+    }
     Ok(())
 }

@@ -1,5 +1,6 @@
 //! Files of a run: reading them, and the session that they begin.
 use crate::piece_fixtures::{damage, plan_of};
+use crate::session_pieces::load_in_pieces;
 use crate::shot_fixtures::copied;
 use iv_args::{Plan, Slot};
 use iv_bytes::{MemSink, MemSource};
@@ -49,7 +50,21 @@ fn loaded_by(
     }
 }
 
-/// The same of words, separated by spaces, and files alone.
+/// The same of files that come in pieces of three bytes.
+fn loaded_in_pieces(
+    rt: &HostRuntime,
+    plan: &Plan<'_>,
+    inputs: &Inputs<'_>,
+    bases: Option<Vec<u8>>,
+    printed: Option<&[u8]>,
+) -> Result<Loaded, Fail> {
+    match load_in_pieces(rt.alloc(), plan, inputs, bases, 2, (usize::MAX, 3))? {
+        Ok(mut session) => looked_at(rt, &mut session, printed),
+        Err(fault) => Ok(Err(fault)),
+    }
+}
+
+/// What words, separated by spaces, and files alone load, in both ways.
 fn loaded(
     rt: &HostRuntime,
     text: &[u8],
@@ -58,8 +73,13 @@ fn loaded(
     printed: Option<&[u8]>,
 ) -> Result<Loaded, Fail> {
     let plan = plan_of(rt, text)?;
-    let bases = copied(rt.alloc(), bases)?;
-    loaded_by(rt, &plan, inputs, bases, printed)
+    let again = copied(rt.alloc(), bases)?;
+    let whole = loaded_by(rt, &plan, inputs, copied(rt.alloc(), bases)?, printed)?;
+    if loaded_in_pieces(rt, &plan, inputs, again, printed)? == whole {
+        Ok(whole)
+    } else {
+        Err(Fail::new("pieces load something else"))
+    }
 }
 
 /// Words of a session of all files, with the width of a file without a record.

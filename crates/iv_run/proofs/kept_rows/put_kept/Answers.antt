@@ -1,5 +1,4 @@
 use Rattle.std.proofs.Common.{refl, inl, inr}
-use Rattle.iv_run.specs.PlacesViews.{NeedsColumns}
 use Rattle.iv_run.specs.declared.places_view.PlacesView.TheVariants as places
 use Rattle.iv_run.proofs.kept_rows.put_kept.Goals as goal
 

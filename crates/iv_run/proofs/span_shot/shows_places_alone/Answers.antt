@@ -1,4 +1,3 @@
-use Rattle.std.proofs.Common.{sym, subst}
 use Rattle.iv_run.proofs.PlacesLemmas.{asks-decides}
 use Rattle.iv_run.proofs.span_shot.shows_places_alone.Goals as goal
 

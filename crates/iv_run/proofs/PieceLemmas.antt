@@ -1,0 +1,80 @@
+-- A BED file that comes in pieces.
+use Rattle.std.proofs.Common.{◌≡◌, ◌∙◌, ◌⊎◌, inl, inr, ℕ, ◌+◌, ◌<◌, ◌≤◌, ◌++◌, List, [], Result, Ok, Err, IfOk, length, sym, ap, subst, append_assoc, append-nil, length-append, arith}
+use Rattle.std.specs.Prelude.{All}
+use Rattle.iv_text.specs.BedFile.{Bed, Draft, finished}
+use Rattle.iv_text.specs.Genome.{Sequences}
+use Rattle.iv_text.specs.KeptDrafts.{AreSound, IsKept, Reading, begun, coming, kept_bed_of, size_of}
+use Rattle.iv_text.specs.Row.{Row}
+use Rattle.iv_text.specs.declared.fault.LoadFault.{LoadFault}
+use Rattle.iv_text.specs.declared.fault.LoadCause.TheVariants as cause
+use Rattle.iv_text.proofs.KeptLemmas.{begun-sound, whole-file}
+use Rattle.iv_run.specs.Pieces.{KeepsFile, SaysSoFar}
+
+module _ (kept : Row → Row) (g : Sequences) (limit : ℕ) where
+  -- nothing has come
+  pub says-begun : (r : Reading) → r ≡ begun → SaysSoFar kept g limit [] (Ok r)
+  says-begun r is = (
+    subst (λ (s : Reading). AreSound kept g limit s.read) (sym is) (begun-sound kept g limit),
+    omega (arith, ap size_of is),
+    λ more. ap (λ (s : Reading). coming kept g limit s more) (sym is),
+  )
+
+  -- a piece more has come
+  module _ (front piece : List ℕ) where
+    joined : (more : List ℕ) → coming kept g limit begun ((front ++ piece) ++ more) ≡ coming kept g limit begun (front ++ (piece ++ more))
+    joined more = ap (coming kept g limit begun) (append_assoc front piece more)
+
+    pub says-more : (r next : Reading) → SaysSoFar kept g limit front (Ok r) → AreSound kept g limit next.read → size_of next ≤ size_of r + length piece
+        → ((more : List ℕ) → coming kept g limit r (piece ++ more) ≡ coming kept g limit next more) → SaysSoFar kept g limit (front ++ piece) (Ok next)
+    says-more r next says sound few took = (
+      sound,
+      omega (arith, says.1, few, length-append front piece),
+      λ more. joined more ∙ says.2 (piece ++ more) ∙ took more,
+    )
+
+    pub says-fault : (r : Reading) (f : LoadFault) → SaysSoFar kept g limit front (Ok r)
+        → (f ≡ record { line = 0; cause = cause.Memory }) ⊎ ((more : List ℕ) → coming kept g limit r (piece ++ more) ≡ Err f) → SaysSoFar kept g limit (front ++ piece) (Err f)
+    says-fault r f says (inl memory) = inl memory
+    says-fault r f says (inr refused) = inr (λ more. joined more ∙ says.2 (piece ++ more) ∙ refused more)
+
+    -- after a fault it stays
+    pub says-still : (f : LoadFault) → SaysSoFar kept g limit front (Err f) → SaysSoFar kept g limit (front ++ piece) (Err f)
+    says-still f (inl memory) = inl memory
+    says-still f (inr refused) = inr (λ more. joined more ∙ refused (piece ++ more))
+
+  -- what is kept is sound
+  pub says-sound : (front : List ℕ) (r : Result Reading LoadFault) → SaysSoFar kept g limit front r → IfOk r (λ d. AreSound kept g limit d.read)
+  says-sound front (Ok r) says = says.0
+  says-sound front (Err f) says = tt
+
+  -- no more lines have come than bytes, and one
+  pub says-few : (front : List ℕ) (r : Result Reading LoadFault) (n : ℕ) → SaysSoFar kept g limit front r → 1 + length front < n → IfOk r (λ d. size_of d < n)
+  says-few front (Ok r) n says few = omega (arith, says.1, few)
+  says-few front (Err f) n says few = tt
+
+  -- so there is room for a piece more
+  pub says-room : (front piece : List ℕ) (r : Result Reading LoadFault) (n : ℕ) → SaysSoFar kept g limit front r → 1 + length front + length piece < n
+      → IfOk r (λ d. size_of d + length piece < n)
+  says-room front piece (Ok r) n says few = omega (arith, says.1, few)
+  says-room front piece (Err f) n says few = tt
+
+  -- all has come
+  module _ (width : ℕ) (text : List ℕ) where
+    whole : (r : Result Draft LoadFault) → coming kept g limit begun (text ++ []) ≡ r → kept_bed_of kept g width limit text ≡ finished width r
+    whole r is =
+        sym (whole-file kept g limit width text)
+        ∙ ap (λ (t : List ℕ). finished width (coming kept g limit begun t)) (sym (append-nil text))
+        ∙ ap (finished width) is
+
+    pub keeps-file : (r : Reading) (file : Bed) → SaysSoFar kept g limit text (Ok r) → finished width (coming kept g limit r []) ≡ Ok file
+        → All (IsKept kept g file.width) file.rows → length file.rows ≤ limit → KeepsFile kept g width limit text (Ok file)
+    keeps-file r file says is kept_all few = (whole (coming kept g limit r []) (says.2 []) ∙ is, kept_all, few)
+
+    pub keeps-fault : (f : LoadFault) → SaysSoFar kept g limit text (Err f) → KeepsFile kept g width limit text (Err f)
+    keeps-fault f (inl memory) = inl memory
+    keeps-fault f (inr refused) = inr (whole (Err f) (refused []))
+
+    pub keeps-end_fault : (r : Reading) (f : LoadFault) → SaysSoFar kept g limit text (Ok r)
+        → (f ≡ record { line = 0; cause = cause.Memory }) ⊎ (coming kept g limit r [] ≡ Err f) → KeepsFile kept g width limit text (Err f)
+    keeps-end_fault r f says (inl memory) = inl memory
+    keeps-end_fault r f says (inr refused) = inr (whole (Err f) (says.2 [] ∙ refused))

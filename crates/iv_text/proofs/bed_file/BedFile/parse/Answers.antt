@@ -1,0 +1,63 @@
+use Rattle.std.proofs.Common.{◌≡◌, ◌∙◌, ◌++◌, List, ℕ, [], Ok, sym, ap, inl, inr, append-nil}
+use Rattle.iv_text.specs.BedFile.{bed_of, finished}
+use Rattle.iv_text.specs.Row.{Row}
+use Rattle.iv_text.specs.KeptDrafts.{Reading, begun, coming}
+use Rattle.iv_text.proofs.KeptLemmas.{handed-on, kept-all, rows-all, fit-all, whole-file}
+use Rattle.iv_text.proofs.bed_file.BedFile.parse.Goals as goal
+
+pub returns-in_err-take_piece-clause-err : goal.returns-in_err-take_piece-clause-err
+returns-in_err-take_piece-clause-err g c =
+    let genome = c.args.genome.now in
+    let limit = c.args.limit in
+    let empty = c.args.empty_width in
+    let text : List ℕ = c.args.text.now in
+    let same : Row → Row = λ r. r in
+    handed-on c.from_residual.result _ _ c.from_residual.ensures.1
+    (elim c.in_err-take_piece.ensures.err [
+      | inl memory ↦ inl memory
+      | inr refused ↦ inr (
+          sym (kept-all (bed_of genome empty limit text))
+          ∙ sym (whole-file same genome limit empty text)
+          ∙ ap (λ (t : List ℕ). finished empty (coming same genome limit begun t)) (sym (append-nil text))
+          ∙ ap (λ (r : Reading). finished empty (coming same genome limit r (text ++ []))) (sym c.new-draft.ensures)
+          ∙ ap (finished empty) (refused []))
+    ])
+
+pub returns-in_err-width-clause-err : goal.returns-in_err-width-clause-err
+returns-in_err-width-clause-err g c =
+    let genome = c.args.genome.now in
+    let limit = c.args.limit in
+    let empty = c.args.empty_width in
+    let text : List ℕ = c.args.text.now in
+    let same : Row → Row = λ r. r in
+    let whole : bed_of genome empty limit text ≡ finished empty (coming same genome limit c.take_piece.new.self []) =
+    sym (kept-all (bed_of genome empty limit text))
+    ∙ sym (whole-file same genome limit empty text)
+    ∙ ap (λ (t : List ℕ). finished empty (coming same genome limit begun t)) (sym (append-nil text))
+    ∙ ap (λ (r : Reading). finished empty (coming same genome limit r (text ++ []))) (sym c.new-draft.ensures)
+    ∙ ap (finished empty) (c.in_ok-take_piece.ensures.ok []) in
+    handed-on c.from_residual-in_err-width.result _ _ c.from_residual-in_err-width.ensures.1
+    (elim c.in_err-width.ensures.err [
+      | inl memory ↦ inl memory
+      | inr refused ↦ inr (whole ∙ ap (finished empty) refused)
+    ])
+
+pub returns-clause-ok : goal.returns-clause-ok
+returns-clause-ok g c =
+    let genome = c.args.genome.now in
+    let limit = c.args.limit in
+    let empty = c.args.empty_width in
+    let text : List ℕ = c.args.text.now in
+    let same : Row → Row = λ r. r in
+    let whole : bed_of genome empty limit text ≡ finished empty (coming same genome limit c.take_piece.new.self []) =
+    sym (kept-all (bed_of genome empty limit text))
+    ∙ sym (whole-file same genome limit empty text)
+    ∙ ap (λ (t : List ℕ). finished empty (coming same genome limit begun t)) (sym (append-nil text))
+    ∙ ap (λ (r : Reading). finished empty (coming same genome limit r (text ++ []))) (sym c.new-draft.ensures)
+    ∙ ap (finished empty) (c.in_ok-take_piece.ensures.ok []) in
+    whole ∙ c.in_ok-width.ensures.ok ∙ ap (λ (rows : List Row). Ok (record { width = c.in_ok-width.width; rows = rows })) (rows-all c.in_ok-width.records.items)
+
+pub returns-clause-fit : goal.returns-clause-fit
+returns-clause-fit g c =
+    let kept = c.in_ok-width.ensures.kept in
+    fit-all c.args.genome.now c.in_ok-width.width c.in_ok-width.records.items (rw (rows-all c.in_ok-width.records.items) at kept)

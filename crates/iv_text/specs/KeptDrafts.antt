@@ -1,0 +1,95 @@
+-- What the reading of a BED file in pieces keeps, and what the file says in the midst of it.
+use Rattle.std.specs.Prelude.{◌≡◌, ◌≤◌, ◌⊎◌, ℕ, ◌+◌, ◌++◌, All, MatchOption, List, [], ◌∷◌, Option, None, Result, Ok, Err, length, map}
+use Rattle.iv_text.specs.BedFile.{Bed, Draft, after_rows, bed_of}
+use Rattle.iv_text.specs.Genome.{Sequences}
+use Rattle.iv_text.specs.Lines.{lines}
+use Rattle.iv_text.specs.Read.{read, Fits}
+use Rattle.iv_text.specs.Row.{Row}
+use Rattle.iv_text.specs.declared.fault.LoadCause.{LoadCause}
+use Rattle.iv_text.specs.declared.fault.LoadFault.{LoadFault}
+use Rattle.iv_text.specs.declared.record_reader.ShortLine.{ShortLine}
+
+-- the record is what some line of this width says, and it is where the line in one pass says
+pub record IsReadAt (width : ℕ) (l : ShortLine) (r : Row) : Type 0 where
+  pub genome : Sequences
+  pub line : List ℕ
+  pub reads : read genome width line ≡ Ok r
+  pub seq_is : l.seq ≡ r.seq
+  pub start_is : l.start ≡ r.start
+  pub stop_is : l.stop ≡ r.stop
+
+-- a file with its records as they are kept
+abbrev pub kept_bed : (Row → Row) → Bed → Bed
+kept_bed kept b = record { width = b.width; rows = map kept b.rows }
+
+-- or the file's fault
+abbrev pub kept_or_fault : (Row → Row) → Result Bed LoadFault → Result Bed LoadFault
+kept_or_fault kept (Ok b) = Ok (kept_bed kept b)
+kept_or_fault kept (Err f) = Err f
+
+-- the BED file that a text says, with its records as they are kept, or its first fault
+abbrev pub kept_bed_of : (Row → Row) → Sequences → ℕ → ℕ → List ℕ → Result Bed LoadFault
+kept_bed_of kept g empty limit text = kept_or_fault kept (bed_of g empty limit text)
+
+-- lines that were read: the number of the next one, their width, once there is a record, and their records as they are kept
+pub record LinesRead : Type 0 where
+  pub number : ℕ
+  pub width : Option ℕ
+  pub rows : List Row
+
+-- what is known of the file, with its records as they are kept
+abbrev pub known : LinesRead → Draft
+known l = record { width = l.width; rows = l.rows }
+
+-- what is known of a file, with its records as they are kept, or its first fault
+abbrev pub kept_draft : (Row → Row) → Result Draft LoadFault → Result Draft LoadFault
+kept_draft kept (Ok d) = Ok (record { width = d.width; rows = map kept d.rows })
+kept_draft kept (Err f) = Err f
+
+-- what is known after these lines too, with records as they are kept, or the first fault
+abbrev pub after : (Row → Row) → Sequences → ℕ → LinesRead → List (List ℕ) → Result Draft LoadFault
+after kept g limit l rest = kept_draft kept (after_rows g limit l.number (known l) rest)
+
+-- what is kept of a record of this width on the genome
+abbrev pub IsKept : (Row → Row) → Sequences → ℕ → Row → Type 0
+IsKept kept g width k = (r : Row) × Fits g width r × (k ≡ kept r)
+
+-- what was read is sound: a width of three columns to six, once there is a record; what is kept of records of that width on the
+-- genome; and not more than the limit
+pub record AreSound (kept : Row → Row) (g : Sequences) (limit : ℕ) (l : LinesRead) : Type 0 where
+  pub fit : MatchOption l.width (l.rows ≡ []) (λ w. (3 ≤ w) × (w ≤ 6) × All (IsKept kept g w) l.rows)
+  pub few : length l.rows ≤ limit
+
+-- the first of these lines was read, and those others are left: whatever comes after them, and whatever the line's number is
+abbrev pub Takes : (Row → Row) → Sequences → ℕ → LinesRead → LinesRead → List (List ℕ) → List (List ℕ) → Type 0
+Takes kept g limit old new all left =
+    (n : ℕ) (rest : List (List ℕ)) → kept_draft kept (after_rows g limit n (known old) (all ++ rest)) ≡ kept_draft kept (after_rows g limit (n + 1) (known new) (left ++ rest))
+
+-- the first of these lines is the first faulty one, and this is its cause
+abbrev pub Refuses : (Row → Row) → Sequences → ℕ → LinesRead → List (List ℕ) → LoadCause → Type 0
+Refuses kept g limit old all c = (n : ℕ) (rest : List (List ℕ)) → kept_draft kept (after_rows g limit n (known old) (all ++ rest)) ≡ Err (record { line = n; cause = c })
+
+-- a file of which some bytes have come: its lines that were read, and the bytes of a line that isn't ended yet
+pub record Reading : Type 0 where
+  pub read : LinesRead
+  pub tail : List ℕ
+
+-- a file of which nothing has come
+abbrev pub begun : Reading
+begun = record { read = record { number = 1; width = None; rows = [] }; tail = [] }
+
+-- what the file says where these bytes are still to come, with its records as they are kept, or its first fault
+abbrev pub coming : (Row → Row) → Sequences → ℕ → Reading → List ℕ → Result Draft LoadFault
+coming kept g limit r more = after kept g limit r.read (lines (r.tail ++ more))
+
+-- more than the number of lines that have come, and no more than one and the number of bytes
+abbrev pub size_of : Reading → ℕ
+size_of r = r.read.number + length r.tail
+
+-- the bytes end at a line feed
+abbrev pub EndsAtFeed : List ℕ → Type 0
+EndsAtFeed bytes = (front : List ℕ) × (bytes ≡ front ++ 10 ∷ [])
+
+-- the bytes are lines that are ended, each by its line feed, or there are none
+abbrev pub IsEnded : List ℕ → Type 0
+IsEnded bytes = (bytes ≡ []) ⊎ EndsAtFeed bytes

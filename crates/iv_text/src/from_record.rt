@@ -1,0 +1,61 @@
+//! What is kept of a record that was read.
+ghost use Rattle.std.specs.Prelude.{◌≡◌, ◌<◌, IfOk, IfSome};
+ghost use Rattle.iv_text.specs.KeptDrafts.{IsReadAt};
+ghost use Rattle.iv_text.specs.Row.{Row};
+
+use crate::record::Record;
+use crate::record_reader::ShortLine;
+use crate::record_ref::RecordRef;
+use std::alloc::{AllocError, Allocator};
+
+/// What is kept of a record that was read: all its columns, or fewer.
+pub trait FromRecord<A: Allocator + Copy>: Sized + Drop {
+    /// A record as it is kept.
+    ghost kept: { Row → Row };
+    /// The record that this is.
+    ghost as_row: { Self → Row };
+
+    /// What is kept of a record.
+    ///
+    /// # Errors
+    ///
+    /// Memory was refused.
+    fn from_record(alloc: A, read: &RecordRef<'_>) -> Result<Self, AllocError>
+        ensures { IfOk result (λ one. as_row one ≡ kept read.now) };
+
+    /// Whether the place of a record of this width is all that is kept of it.
+    fn is_place_alone(width: u8) -> bool;
+
+    /// What is kept of the record of a line of this width, from its place. `None` says nothing.
+    fn from_place(alloc: A, width: u8, line: &ShortLine) -> Option<Self>
+        requires { line.now.start < line.now.stop }
+        ensures { IfSome result (λ one. (r : Row) → IsReadAt width line.now r → as_row one ≡ kept r) };
+
+    /// A law for callers' proofs: of what is kept, all is kept. The call does nothing.
+    fn law_of_kept()
+        ensures { (r : Row) → kept (kept r) ≡ kept r };
+}
+
+impl<A: Allocator + Copy> FromRecord<A> for Record<A> {
+    ghost kept = { λ r. r };
+
+    ghost as_row = { λ one. one };
+
+    fn from_record(alloc: A, read: &RecordRef<'_>) -> Result<Self, AllocError> {
+        read.to_record(alloc)
+    }
+
+    fn is_place_alone(width: u8) -> bool {
+        width == 3
+    }
+
+    fn from_place(alloc: A, width: u8, line: &ShortLine) -> Option<Self> {
+        if width != 3 {
+            return None;
+        }
+        let record = RecordRef::of_columns(line.seq, line.start, line.stop, b"", b"", None, 3);
+        record.to_record(alloc).ok()
+    }
+
+    fn law_of_kept() {}
+}

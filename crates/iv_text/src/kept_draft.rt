@@ -1,0 +1,180 @@
+//! A BED file that comes in pieces.
+ghost use Rattle.std.specs.Prelude.{◌≡◌, ◌<◌, ◌≤◌, ◌+◌, ◌^◌, ◌⊎◌, ◌++◌, ℕ, List, [], length, drop, take, map, Ok, Err, All, IfOk, IfErr, OnOk};
+ghost use Rattle.iv_text.specs.BedFile.{finished};
+ghost use Rattle.iv_text.specs.declared.fault.LoadCause.TheVariants as cause;
+ghost use Rattle.iv_text.specs.KeptDrafts.{AreSound, IsKept, IsEnded, EndsAtFeed, begun, coming, size_of};
+
+use crate::fault::{LoadCause, LoadFault};
+use crate::from_record::FromRecord;
+use crate::genome::Genome;
+use crate::kept_lines::KeptLines;
+use std::alloc::Allocator;
+use std::marker::Model;
+
+/// A BED file that comes in pieces, and what is kept of its records.
+///
+/// A line may begin in one piece and end in another. What has come of a line that isn't ended yet is kept until its end comes;
+/// of all other lines no text is kept.
+#[derive(Drop)]
+pub struct KeptDraft<K: FromRecord<A>, A: Allocator + Copy> {
+    alloc: A,
+    read: KeptLines<K, A>,
+    // The bytes after the last LF.
+    tail: Vec<u8, A>,
+}
+
+impl<K: FromRecord<A>, A: Allocator + Copy> Model for KeptDraft<K, A> {
+    ghost use Rattle.iv_text.specs.KeptDrafts.{Reading};
+
+    ghost Value = { Reading };
+
+    ghost view = { λ d. record { read = d.read; tail = d.tail.items } };
+}
+
+/// How many bytes there are up to the last LF, with it: 0 without one.
+fn last_end(bytes: &[u8]) -> usize
+    ensures within { result ≤ length bytes.now }
+    ensures ended { 0 < result → EndsAtFeed (take result bytes.now) }
+{
+    for back in 0..bytes.len() {
+        let at = bytes.len() - 1 - back;
+        if bytes[at] == b'\n' {
+            return at + 1;
+        }
+    }
+    0
+}
+
+/// How many bytes there are up to the first LF, with it.
+fn first_end(lines: &[u8]) -> usize
+    requires { EndsAtFeed lines.now }
+    ensures within { result ≤ length lines.now }
+    ensures ended { EndsAtFeed (take result lines.now) }
+{
+    for end in 0..lines.len() {
+        if lines[end] == b'\n' {
+            return end + 1;
+        }
+    }
+    lines.len()
+}
+
+/// Keeps more bytes of a line that isn't ended yet.
+fn keep<A: Allocator>(tail: &mut Vec<u8, A>, bytes: &[u8]) -> Result<(), LoadFault>
+    ensures ok { OnOk result (tail.new.items ≡ tail.old.items ++ bytes.now) }
+    ensures err { IfErr result (λ f. f ≡ record { line = 0; cause = cause.Memory }) }
+{
+    match tail.extend_from_slice(bytes) {
+        Ok(()) => Ok(()),
+        Err(refused) => Err(LoadFault::at(0, LoadCause::from(refused))),
+    }
+}
+
+impl<K: FromRecord<A>, A: Allocator + Copy> KeptDraft<K, A> {
+    /// A file of which nothing has come.
+    pub fn new(alloc: A) -> Self
+        ensures { result ≡ begun }
+    {
+        KeptDraft {
+            alloc,
+            read: KeptLines {
+                number: 1,
+                width: None,
+                kept: Vec::new(alloc),
+            },
+            tail: Vec::new(alloc),
+        }
+    }
+
+    /// Takes the next bytes of the file: all lines that end in them.
+    ///
+    /// # Errors
+    ///
+    /// The file's first fault, or memory was refused. Nothing is said of the draft then.
+    pub fn take_piece(
+        &mut self,
+        genome: &Genome<A>,
+        limit: u32,
+        piece: &[u8],
+    ) -> Result<(), LoadFault>
+        requires sound { AreSound K.kept genome.now limit self.old.read }
+        requires few { size_of self.old + length piece.now < 2 ^ 64 }
+        ensures sound { OnOk result (AreSound K.kept genome.now limit self.new.read) }
+        ensures few { OnOk result (size_of self.new ≤ size_of self.old + length piece.now) }
+        ensures ok { OnOk result ((more : List ℕ) → coming K.kept genome.now limit self.old (piece.now ++ more) ≡ coming K.kept genome.now limit self.new more) }
+        ensures err { IfErr result (λ f. (f ≡ record { line = 0; cause = cause.Memory }) ⊎ ((more : List ℕ) → coming K.kept genome.now limit self.old (piece.now ++ more) ≡ Err f)) }
+    {
+        let end = last_end(piece);
+        if end == 0 {
+            keep(&mut self.tail, piece)?;
+            return Ok(());
+        }
+        let (lines, rest) = piece.split_at(end);
+        let taken = self.end_line(genome, limit, lines)?;
+        self.read
+            .take_lines(self.alloc, genome, limit, &lines[taken..])?;
+        keep(&mut self.tail, rest)?;
+        Ok(())
+    }
+
+    /// Takes the line that isn't ended yet, if there is one, together with the first of more lines, and tells how many bytes of
+    /// these that takes.
+    fn end_line(&mut self, genome: &Genome<A>, limit: u32, lines: &[u8]) -> Result<usize, LoadFault>
+        requires sound { AreSound K.kept genome.now limit self.old.read }
+        requires few { size_of self.old + length lines.now < 2 ^ 64 }
+        requires ended { EndsAtFeed lines.now }
+        ensures sound { OnOk result (AreSound K.kept genome.now limit self.new.read) }
+        ensures within { IfOk result (λ taken. taken ≤ length lines.now) }
+        ensures few { IfOk result (λ taken. self.new.read.number ≤ size_of self.old + taken) }
+        ensures tail { OnOk result (self.new.tail ≡ []) }
+        ensures ended { IfOk result (λ taken. IsEnded (drop taken lines.now)) }
+        ensures ok { IfOk result (λ taken. (more : List ℕ) → coming K.kept genome.now limit self.old (lines.now ++ more) ≡ coming K.kept genome.now limit self.new (drop taken lines.now ++ more)) }
+        ensures err { IfErr result (λ f. (f ≡ record { line = 0; cause = cause.Memory }) ⊎ ((more : List ℕ) → coming K.kept genome.now limit self.old (lines.now ++ more) ≡ Err f)) }
+    {
+        if self.tail.is_empty() {
+            return Ok(0);
+        }
+        let size = first_end(lines);
+        keep(&mut self.tail, &lines[..size])?;
+        self.read
+            .take_lines(self.alloc, genome, limit, self.tail.as_slice())?;
+        self.tail.clear();
+        Ok(size)
+    }
+
+    /// What is kept of the records of the whole file, once all its bytes have come, and how many columns they have. What has come
+    /// of a line that isn't ended yet is the last line. A file without a record has the width that is handed in.
+    ///
+    /// # Errors
+    ///
+    /// The fault of the last line, or memory was refused.
+    pub fn finish(
+        self,
+        genome: &Genome<A>,
+        empty_width: u8,
+        limit: u32,
+    ) -> Result<(u8, Vec<K, A>), LoadFault>
+        requires width { (3 ≤ empty_width) × (empty_width ≤ 6) }
+        requires sound { AreSound K.kept genome.now limit self.read }
+        requires few { size_of self < 2 ^ 64 }
+        ensures ok { IfOk result (λ file. finished empty_width (coming K.kept genome.now limit self []) ≡ Ok (record { width = file.0; rows = map K.as_row file.1.items })) }
+        ensures width { IfOk result (λ file. (3 ≤ file.0) × (file.0 ≤ 6)) }
+        ensures kept { IfOk result (λ file. All (IsKept K.kept genome.now file.0) (map K.as_row file.1.items)) }
+        ensures few { IfOk result (λ file. length file.1.items ≤ limit) }
+        ensures err { IfErr result (λ f. (f ≡ record { line = 0; cause = cause.Memory }) ⊎ (coming K.kept genome.now limit self [] ≡ Err f)) }
+    {
+        let KeptDraft {
+            alloc,
+            mut read,
+            tail,
+        } = self;
+        K::law_of_kept();
+        read.take_lines(alloc, genome, limit, tail.as_slice())?;
+        let KeptLines {
+            number: _,
+            width,
+            kept,
+        } = read;
+        Ok((width.unwrap_or(empty_width), kept))
+    }
+}
