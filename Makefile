@@ -56,7 +56,10 @@ uninstall:
 	rm -f $(addprefix $(DESTDIR)$(docdir)/,FORMAT.md LICENSE $(EXAMPLES))
 	rmdir $(addprefix $(DESTDIR)$(docdir),/examples /) 2> /dev/null || true
 
-dist: build
+# It builds for itself, since a release is linked from the object file of the program.
+dist:
+	RT=$(RT) scripts/build.sh --object
+	mkdir -p build && cp crates/bedkeep/out/bedkeep $(PROGRAM)
 	RT=$(RT) scripts/dist.sh
 
 # rt ci leaves the program that it proved and built beside the crate.

@@ -3,9 +3,10 @@
 #
 # Where the program was proved here before, by `rt run` or `rt check` in crates/bedkeep, only what changed since then is
 # proved again, one crate after another. Else `rt ci` proves a copy of its crates, side by side, without the tests and the
-# wrong bodies.
+# wrong bodies. Some releases of the toolchain take what an earlier `rt ci` on this machine proved, and then leave the program
+# without its object file. With --object that is made too, from which a release is linked: where it is missing, all is proved anew.
 #
-#   scripts/build.sh
+#   scripts/build.sh [--object]
 set -eu
 cd "$(dirname "$0")/.."
 if ! rt=$(command -v "${RT:-rt}"); then
@@ -23,6 +24,12 @@ fi
 copy=$(mktemp -d)
 trap 'rm -rf "$copy"' EXIT
 scripts/copy_crates.sh "$copy" bedkeep
+made=$copy/crates/bedkeep/out
 (cd "$copy" && "$rt" ci)
+if [ "${1:-}" = --object ] && [ ! -f "$made/bedkeep.o" ]; then
+    (cd "$copy" && "$rt" ci --anew)
+fi
 mkdir -p crates/bedkeep/out
-cp "$copy/crates/bedkeep/out/bedkeep" "$copy/crates/bedkeep/out/bedkeep.o" crates/bedkeep/out
+rm -f crates/bedkeep/out/bedkeep.o
+cp "$made/bedkeep" crates/bedkeep/out
+[ ! -f "$made/bedkeep.o" ] || cp "$made/bedkeep.o" crates/bedkeep/out
