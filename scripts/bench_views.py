@@ -34,7 +34,7 @@ import time
 
 TOP = os.path.dirname(os.path.dirname(os.path.abspath(__file__)))
 SEED = 20
-VIEWS = ["merge", "merge -d 100", "complement", "cluster", "merge -c 4 -o collapse", "merge -c 5 -o sum", "genomecov -bg", "genomecov -bga", "genomecov -d",
+VIEWS = ["merge", "merge -d 100", "complement", "cluster", "merge -c 4 -o collapse", "merge -c 5 -o sum", "merge -c 1,2 -o count,max", "genomecov -bg", "genomecov -bga", "genomecov -d",
          "intersect", "intersect -u", "intersect -v", "intersect -c", "intersect -wa", "intersect -wb", "intersect -wa -wb", "subtract", "subtract -A"]
 TWO_FILES = ("intersect", "subtract")
 CHROMOSOMES = [

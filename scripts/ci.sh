@@ -1,18 +1,32 @@
 #!/usr/bin/env bash
-# Runs `rt ci` in a repository, this one where no other is named. Where each processor has 5 GB, as many checks run side by side
-# as there are processors, and else as many as rt itself finds room for: it counts up to 7 GB for a check, and none was seen to
-# take more than 4.2. RT names Rattle's command where it isn't on the path.
+# Runs `rt ci` in this repository, or in a copy of crates of it.
+#
+# All crates above iv_text wait for it, and it takes the longest. So it is proved first and by itself, where it gets as many jobs
+# as there is memory for. That needs a release of the toolchain that keeps what one run proved for the next one.
+#
+# After that, where each processor has 5 GB, as many checks run side by side as there are processors, and else as many as rt
+# itself finds room for: it counts up to 7 GB for a check, and none was seen to take more than 4.2.
 #
 #   scripts/ci.sh [FOLDER]
+#
+# RT names Rattle's command where it isn't on the path.
 set -eu
 if ! rt=$(command -v "${RT:-rt}"); then
     echo "${RT:-rt}, the command of the Rattle toolchain, is not there" >&2
     exit 1
 fi
 rt=$(realpath "$rt")
-cd "${1:-$(dirname "$0")/..}"
+top=$(realpath "$(dirname "$0")/..")
+folder=$(realpath "${1:-$top}")
+if [ -d "$folder/crates/iv_text" ] && "$rt" ci --help 2>&1 | grep -q -e --anew; then
+    first=$(mktemp -d)
+    trap 'rm -rf "$first"' EXIT
+    "$top/scripts/copy_crates.sh" "$first" iv_text
+    (cd "$first" && "$rt" ci)
+fi
 available=$(sed -n 's/^MemAvailable: *\([0-9]*\) kB$/\1/p' /proc/meminfo)
 if [ "$available" -ge $(($(nproc) * 5000000)) ]; then
     export RT_JOBS="${RT_JOBS:-$(nproc)}"
 fi
-exec "$rt" ci
+cd "$folder"
+"$rt" ci
