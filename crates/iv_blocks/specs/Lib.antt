@@ -1,8 +1,8 @@
 pub mod Groups
 pub mod Plain
 pub mod MembersLeft
-pub mod BoxedTexts
 pub mod KeptBlocks
+pub mod BlockStorage
 pub mod Putting
 pub mod Lookups
 pub mod Repairs

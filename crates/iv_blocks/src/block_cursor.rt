@@ -4,8 +4,9 @@ ghost use Rattle.std.specs.Map.Iter.{TakesFirst};
 ghost use Rattle.iv_track.specs.Steps.{TakesUpTo};
 ghost use Rattle.iv_blocks.specs.BlockCursor.{interval_of, starts_until};
 
-use crate::blocks::{Blocks, KeptBlock};
+use crate::blocks::Blocks;
 use crate::gaps::BlocksAhead;
+use crate::kept_block::KeptBlock;
 use iv_cover::Block;
 use iv_track::{Meter, Walk};
 use std::alloc::Allocator;
@@ -83,6 +84,6 @@ fn read<A: Allocator + Copy>(
     Some(Block {
         sequence,
         start,
-        stop: block.stop,
+        stop: block.stop(),
     })
 }

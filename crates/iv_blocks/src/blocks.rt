@@ -2,9 +2,9 @@
 ghost use Rattle.std.specs.Prelude.{◌≡◌};
 ghost use Rattle.iv_blocks.specs.KeptBlocks.{AreBlocksOf, block_steps};
 
-use crate::boxed_text::BoxedText;
 use crate::entries::entries_of;
 use crate::group::Group;
+use crate::kept_block::KeptBlock;
 use crate::options::Options;
 use crate::plain::PlainBlocks;
 use iv_cover::{BlockWalk, Kept};
@@ -12,23 +12,6 @@ use iv_text::{Genome, RecordRef};
 use iv_track::{Ledger, Meter, Track};
 use std::alloc::{AllocError, Allocator, Global};
 use std::marker::Model;
-
-/// What is kept of a block.
-#[derive(Drop)]
-pub(crate) struct KeptBlock<A: Allocator> {
-    /// Where it stops, from 0, not included.
-    pub(crate) stop: u32,
-    /// Its results, each with a TAB in front of it; empty where there are no summaries.
-    pub(crate) results: BoxedText<A>,
-}
-
-impl<A: Allocator> Model for KeptBlock<A> {
-    ghost use Rattle.iv_blocks.specs.KeptBlocks.{Kept};
-
-    ghost Value = { Kept };
-
-    ghost view = { λ b. record { stop = b.stop; results = b.results } };
-}
 
 /// Where a block is kept: the rank of its sequence, whether its records are those on `-` where strands are apart, and its start.
 pub(crate) type Key = (u32, bool, u32);

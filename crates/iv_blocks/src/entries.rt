@@ -6,8 +6,8 @@ ghost use Rattle.iv_cover.specs.TrackBlocks.{with_members};
 ghost use Rattle.iv_blocks.specs.Groups.{listed};
 ghost use Rattle.iv_blocks.specs.Plain.{kept_entry};
 
-use crate::blocks::{KeptBlock, Key};
-use crate::boxed_text::BoxedText;
+use crate::blocks::Key;
+use crate::kept_block::KeptBlock;
 use crate::options::Options;
 use iv_cover::{Block, results_in};
 use iv_text::{Genome, Record};
@@ -90,10 +90,7 @@ fn put_entry<A: Allocator + Copy>(
 {
     let name = genome.name(block.sequence).unwrap_or(b"");
     let results = results_in(alloc, options.summaries.as_slice(), name, members, memory)?;
-    let kept = KeptBlock {
-        stop: block.stop,
-        results: BoxedText::copy_of(alloc, results.as_slice())?,
-    };
+    let kept = KeptBlock::copy_of(alloc, block.stop, results.as_slice())?;
     entries.push(((block.sequence, false, block.start), kept))?;
     Ok(results)
 }

@@ -4,12 +4,12 @@
 
 mod block_cursor;
 mod blocks;
-mod boxed_text;
 mod cluster;
 mod complement;
 mod entries;
 mod gaps;
 mod group;
+mod kept_block;
 mod laws;
 mod lookups;
 mod members;

@@ -3,8 +3,9 @@ ghost use Rattle.std.specs.Prelude.{◌≡◌, ◌≢◌, ◌≤◌, ℕ, None, 
 ghost use Rattle.iv_track.specs.Steps.{TakesUpTo};
 ghost use Rattle.iv_blocks.specs.Lookups.{kept_in, IsLastBlock, IsFirstBlock};
 
-use crate::blocks::{Blocks, KeptBlock};
+use crate::blocks::Blocks;
 use crate::group::Group;
+use crate::kept_block::KeptBlock;
 use iv_track::Meter;
 use std::alloc::Allocator;
 
@@ -52,7 +53,7 @@ fn of_group<A: Allocator>(
 {
     let (rank, minus, start) = key;
     if rank == group.rank && minus == group.minus {
-        Some((start, block.stop))
+        Some((start, block.stop()))
     } else {
         None
     }

@@ -7,7 +7,8 @@ ghost use Rattle.iv_track.specs.Steps.{TakesUpTo};
 ghost use Rattle.iv_blocks.specs.KeptBlocks.{AreBlocksOf};
 ghost use Rattle.iv_blocks.specs.MergeRows.{all_blocks, merge_text};
 
-use crate::blocks::{Blocks, KeptBlock};
+use crate::blocks::Blocks;
+use crate::kept_block::KeptBlock;
 use iv_bytes::{Sink, WriteFault, put_pieces};
 use iv_text::{Genome, put_interval};
 use iv_track::{Meter, Track};
@@ -50,9 +51,9 @@ fn put_block<A: Allocator, S: Sink>(
 ) -> Result<(), WriteFault>
     ensures { Puts (S.state sink.old) (S.state sink.new) result (name.now ++ codes "\t" ++ decimal start ++ codes "\t" ++ decimal block.now.stop ++ block.now.results ++ codes "\n") }
 {
-    let results = block.results.as_slice();
+    let results = block.results();
     if results.is_empty() {
-        return put_interval(name, u64::from(start), u64::from(block.stop), sink);
+        return put_interval(name, u64::from(start), u64::from(block.stop()), sink);
     }
     let mut starts = itoa::Buffer::new();
     let mut stops = itoa::Buffer::new();
@@ -63,7 +64,7 @@ fn put_block<A: Allocator, S: Sink>(
             b"\t",
             starts.format(start).as_bytes(),
             b"\t",
-            stops.format(block.stop).as_bytes(),
+            stops.format(block.stop()).as_bytes(),
             results,
             b"\n",
         ],

@@ -3,8 +3,8 @@ ghost use Rattle.std.specs.Prelude.{◌≡◌};
 ghost use Rattle.std.specs.Iterator.{item_count};
 ghost use Rattle.iv_blocks.specs.Plain.{GivesKept};
 
-use crate::blocks::{KeptBlock, Key};
-use crate::boxed_text::BoxedText;
+use crate::blocks::Key;
+use crate::kept_block::KeptBlock;
 use iv_cover::BlockWalk;
 use iv_track::Meter;
 use std::alloc::Allocator;
@@ -45,10 +45,7 @@ impl<'a, 'm, A: Allocator + Copy> Iterator for PlainBlocks<'a, 'm, A> {
 
     fn next(&mut self) -> Option<(Key, KeptBlock<A>)> {
         let block = self.sweep.next(self.meter)?;
-        let kept = KeptBlock {
-            stop: block.stop,
-            results: BoxedText::empty(),
-        };
-        Some(((block.sequence, false, block.start), kept))
+        let key = (block.sequence, false, block.start);
+        Some((key, KeptBlock::plain(block.stop)))
     }
 }

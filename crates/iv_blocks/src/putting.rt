@@ -10,9 +10,9 @@ ghost use Rattle.iv_blocks.specs.Groups.{between, between_on, members_between, l
 ghost use Rattle.iv_blocks.specs.KeptBlocks.{key_cmp};
 ghost use Rattle.iv_blocks.specs.Putting.{ArePut, ArePutOn, with_block};
 
-use crate::blocks::{Blocks, KeptBlock, place};
-use crate::boxed_text::BoxedText;
+use crate::blocks::{Blocks, place};
 use crate::group::Group;
+use crate::kept_block::KeptBlock;
 use crate::members::Members;
 use iv_cover::results;
 use iv_text::{Genome, Record};
@@ -110,16 +110,16 @@ impl<A: Allocator + Copy> Blocks<A> {
         ensures ordered { OnOk result (IsLedger key_cmp self.new.entries) }
         ensures steps { TakesUpTo meter.old meter.new (3 + length (between_on group.rank start stop track.now.rows)) }
     {
-        let results = self.results(track, genome, group, start, stop, meter)?;
+        let block = self.kept_block(track, genome, group, start, stop, meter)?;
         let key = (group.rank, group.minus, start);
-        self.ledger.put(key, KeptBlock { stop, results }, meter)?;
+        self.ledger.put(key, block, meter)?;
         Ok(())
     }
 
-    /// The results of a block, empty where there are no summaries.
+    /// What is kept of a block.
     ///
     /// At most 2 steps, and one for each record, of any strand, that starts in the block.
-    fn results(
+    fn kept_block(
         &self,
         track: &Track<A>,
         genome: &Genome<A>,
@@ -127,19 +127,19 @@ impl<A: Allocator + Copy> Blocks<A> {
         start: u32,
         stop: u32,
         meter: &mut Meter,
-    ) -> Result<BoxedText<A>, AllocError>
-        ensures value { IfOk result (λ r. r ≡ results_over (sequence_name genome.now group.rank) (listed self.now.options.summaries) (members_between group start stop track.now.rows)) }
+    ) -> Result<KeptBlock<A>, AllocError>
+        ensures value { IfOk result (λ b. b ≡ record { stop = stop; results = results_over (sequence_name genome.now group.rank) (listed self.now.options.summaries) (members_between group start stop track.now.rows) }) }
         ensures steps { TakesUpTo meter.old meter.new (2 + length (between_on group.rank start stop track.now.rows)) }
     {
         let summaries = self.options.summaries.as_slice();
         if summaries.is_empty() {
-            return Ok(BoxedText::empty());
+            return Ok(KeptBlock::plain(stop));
         }
         let members = Members::of(track, group, start, stop, meter);
         let rows = gather(self.alloc, members, meter)?;
         let name = genome.name(group.rank).unwrap_or(b"");
         let results = results(self.alloc, summaries, name, rows.as_slice())?;
-        Ok(BoxedText::copy_of(self.alloc, results.as_slice())?)
+        Ok(KeptBlock::copy_of(self.alloc, stop, results.as_slice())?)
     }
 }
 
