@@ -4,6 +4,9 @@
     make build
     python3 scripts/bench_opening.py [FOLDER] [--view WORDS ..] [--records N] [--columns N] [--block N]
 
+Writes `sizes` and `sorted.bed` into FOLDER (a temporary folder where none is given); a `sorted.bed` that is there
+already is used with its `sizes`, so --records has to be the number of its records.
+
 For each view the session is run twice in turn, with a script that opens it and
 with an empty one. The difference of the two is the time of the opening, and the
 difference of the most memory that both held, over the number of records, the
@@ -58,7 +61,8 @@ def read_words():
 
 def time_openings(wanted, folder):
     genome, track, empty = (os.path.join(folder, name) for name in ("sizes", "sorted.bed", "empty"))
-    write_data(genome, track, "merge", wanted.records, wanted.columns, "sorted")
+    if not os.path.exists(track):
+        write_data(genome, track, "merge", wanted.records, wanted.columns, "sorted")
     open(empty, "w").close()
     words = [wanted.program, "session", "-g", genome, "-i", track]
     for view in wanted.view:
@@ -83,7 +87,7 @@ def time_print(wanted, folder):
 
 
 def time_block(wanted, folder, view):
-    genome = written(folder, "sizes", f"chr1\t{20 * wanted.block + 1000}\n")
+    genome = written(folder, "block.sizes", f"chr1\t{20 * wanted.block + 1000}\n")
     rows = (f"chr1\t{20 * place}\t{20 * place + 25}\tgene_{place}\n" for place in range(wanted.block))
     track = written(folder, "block.bed", "".join(rows))
     edits = [f"chr1\t{20 * place + 7}\t{20 * place + 17}\tedit_{place}\n" for place in range(0, wanted.block, wanted.block // EDITS)]
