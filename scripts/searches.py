@@ -1,5 +1,5 @@
 #!/usr/bin/env python3
-"""Searches in the crates for three things that no contract can say and that only reading shows.
+"""Searches in the crates for two things that no contract can say and that only reading shows.
 
 Memory: a value that says that memory ran out is made only where a refused growth is turned into a fault, in a
 block `impl From<..> for FAULT`; all other code hands it on by `?`. A contract cannot tell a call that met a refusal
@@ -11,9 +11,6 @@ Meter: steps are counted by the meter that is handed in; a call that made a mete
 So a meter is made only in the functions that MAKES_A_METER names, file by file, once in each and in no loop: in the calls of a
 session, one for each, and in iv_pair, which counts no steps there, where a `Second` or its hits are made. No crate of kept
 views makes one, and no repair or print of a view.
-
-Flush: `main` ends a run by what the last flush of standard output says. Standard output holds nothing back in this toolchain,
-so a flush never fails and no run can show that it is looked at. So `after_flush` is called with the flush's own answer alone.
 
 The crates of tests, test_*, may name such faults as values that they expect, and make meters.
 
@@ -30,8 +27,6 @@ TOP = Path(__file__).resolve().parent.parent
 OPENING, CLOSING = "([{", ")]}"
 REFUSED = re.compile(r"\b(NoMemory|Memory|AllocError)\b")
 RENAMED = re.compile(r"\b(NoMemory|Memory|AllocError|Meter)\s+as\b")
-FLUSH = re.compile(r"\bafter_flush\s*\((.*)\)")
-LOOKS_AT_THE_FLUSH = "rt.stdout().flush().is_ok()"
 METER = re.compile(r"\bMeter\s*>?\s*::\s*new\b")
 MAKES_A_METER = {
     "iv_pair/src/hits.rt": {"of"},
@@ -182,14 +177,6 @@ def meters_made(place, code):
         seen.add(start)
 
 
-def flush_passed_over(place, code):
-    """The places where a run ends by something else than what the last flush says."""
-    if crate_of(place) == "bedkeep":
-        for m in FLUSH.finditer(code):
-            if m.group(1) != LOOKS_AT_THE_FLUSH:
-                yield m.start(), "the last flush is not looked at"
-
-
 def renamed(_place, code):
     """The places where a name that is looked for is given another one."""
     for m in [*RENAMED.finditer(code), *METER_CALLED_OTHERWISE.finditer(code)]:
@@ -207,7 +194,7 @@ def search(top):
     for path in sorted(top.glob("crates/*/src/**/*.rt")):
         text = path.read_text()
         place = path.relative_to(top / "crates").as_posix()
-        for look in (memory_made, meters_made, flush_passed_over, renamed):
+        for look in (memory_made, meters_made, renamed):
             for at, why in look(place, code_of(text)):
                 number = text.count("\n", 0, at) + 1
                 line = text.splitlines()[number - 1].strip()
@@ -218,7 +205,6 @@ def search(top):
 MADE = "is made here"
 METERS = "a meter of its own"
 OTHER_NAME = "another name"
-NO_FLUSH = "the last flush is not looked at"
 
 # A crate, what is planted there, and the reason why it is refused, none where it is let through. A function called `may` is one
 # that may make a meter, in a crate that has such functions.
@@ -260,8 +246,6 @@ PLANTED = [
     ("iv_pair", "fn may(n: u8) { for _ in 0..n { g(Meter::new()); } }", METERS),
     ("iv_pair", "fn may<A>(&self) { g(Meter::new()); }", None),
     ("iv_workspace", "fn may(&mut self) { let mut meter = Meter::new(); }", None),
-    ("bedkeep", "fn f(rt: &R, ending: Ending) -> Ending { ending.after_flush(true) }", NO_FLUSH),
-    ("bedkeep", "fn f(rt: &R, ending: Ending) -> Ending { ending.after_flush(rt.stdout().flush().is_ok()) }", None),
     ("test_rows", "fn f() { g(Meter::new()); g(Meter::new()); }", None),
 ]
 

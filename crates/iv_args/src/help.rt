@@ -1,4 +1,7 @@
 //! How the program is used, in words.
+ghost use Rattle.std.specs.Prelude.{◌≡◌};
+ghost use Rattle.iv_args.specs.Texts.{help_text};
+
 use crate::run::Run;
 
 /// How the program is used.
@@ -71,7 +74,9 @@ exit status: 0 all done, 1 lines of the script were refused, 2 wrong words,
 ";
 
 /// How one kind of run is used.
-pub(crate) fn help_of(run: Run) -> &'static [u8] {
+pub(crate) fn help_of(run: Run) -> &'static [u8]
+    ensures { result.now ≡ help_text run }
+{
     match run {
         Run::Session => SESSION,
         Run::Merge => MERGE,

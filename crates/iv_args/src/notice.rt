@@ -1,6 +1,7 @@
 //! What the program says of itself.
 ghost use Rattle.std.specs.Prelude.{◌≡◌, map};
 ghost use Rattle.iv_args.specs.Notices.{notice_of, is_help_command as help_command, is_help_option as help_option};
+ghost use Rattle.iv_args.specs.Texts.{notice_text};
 
 use crate::help::{HELP, help_of};
 use crate::run::Run;
@@ -15,6 +16,11 @@ pub enum Notice {
     /// Its name and version, and what proved it.
     Version,
 }
+
+/// The program's name and version, and what proved it.
+const VERSION: &[u8] = b"bedkeep 0.1.0
+proved with rattle-kit-13f logic dac8208d650f15bf
+";
 
 /// Whether a first word asks for help.
 fn is_help_command(word: &[u8]) -> bool
@@ -48,13 +54,13 @@ impl Notice {
     }
 
     /// Its text.
-    pub fn text(self) -> &'static [u8] {
+    pub fn text(self) -> &'static [u8]
+        ensures { result.now ≡ notice_text self }
+    {
         match self {
             Notice::Help => HELP,
             Notice::HelpOf(run) => help_of(run),
-            Notice::Version => {
-                b"bedkeep 0.1.0\nproved with rattle-kit-13f logic dac8208d650f15bf\n"
-            }
+            Notice::Version => VERSION,
         }
     }
 }

@@ -1,7 +1,7 @@
 //! How a run ends: its exit status, and its line on standard error.
-ghost use Rattle.std.specs.Prelude.{◌≡◌};
+ghost use Rattle.std.specs.Prelude.{◌≡◌, true};
 ghost use Rattle.iv_bytes.specs.Sinks.{Puts};
-ghost use Rattle.iv_cli.specs.Endings.{status_of, ending_of, ending_of_run, ending_after, words_text as text_of_words, name_meant, said, said_of, said_of_line, line_of};
+ghost use Rattle.iv_cli.specs.Endings.{status_of, ending_of, ending_of_run, ending_after, words_text as text_of_words, name_meant, said, said_of, said_of_line, line_of, is_through};
 
 use itoa::Buffer;
 use iv_args::{Plan, PlanFault, Slot};
@@ -166,7 +166,8 @@ impl Ending {
     /// Puts the line that tells of the ending, `bedkeep: TEXT` or `bedkeep: FILE: TEXT`, and nothing where all was
     /// done or the messages name each refused line. The name is that of the file that is meant.
     pub fn put_line<S: Sink>(self, name: &[u8], sink: &mut S) -> Result<(), WriteFault>
-        ensures { Puts (S.state sink.old) (S.state sink.new) result (line_of name.now self) }
+        ensures line { Puts (S.state sink.old) (S.state sink.new) result (line_of name.now self) }
+        ensures quiet { is_through self ≡ true → sink.new ≡ sink.old }
     {
         match self {
             Ending::Done | Ending::Refused => Ok(()),

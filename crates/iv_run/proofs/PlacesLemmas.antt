@@ -26,7 +26,7 @@ use Rattle.iv_fasta.specs.declared.rows.FastaRows.{FastaRows}
 use Rattle.iv_args.specs.Words.{RunPlan}
 use Rattle.iv_run.specs.Loading.{Parsed, parsed, bases_said, second_of, with_bases, with_second}
 use Rattle.iv_run.specs.Places.{NeedsPlacesAlone}
-use Rattle.iv_run.specs.PlacesViews.{AskForColumns, AskForPlaces, IsViewOf, NeedsColumns, ShowPlacesAlone}
+use Rattle.iv_run.specs.PlacesViews.{AskForColumns, AskForPlaces, IsViewOf, NeedsColumns}
 use Rattle.iv_run.specs.Prints.{Prints}
 use Rattle.iv_run.specs.Shots.{Shows, shown}
 use Rattle.iv_run.specs.SpanFiles.{PlacesSaid, places_said}
@@ -151,14 +151,6 @@ module _ (words : List (List ℕ)) where
 
     pub asks-columns : NeedsColumns asked → AskForColumns words
     asks-columns needs = asks-none (λ k e. let same : asked ≡ k = cc (sym is ∙ e) in subst NeedsColumns same needs)
-
-  -- no words ask for both
-  pub asks-never : AskForColumns words → ShowPlacesAlone words → ⊥
-  asks-never columns alone = columns alone.1.asked 6 true true (alone.1.reads 6 true true) alone.0 alone.1.is_view
-
-  pub asks-decides : (o : Option PlacesView) → IfSome o (λ v. AskForPlaces words v) → (o ≡ None → AskForColumns words) → (is_some o ≡ true) ↔ ShowPlacesAlone words
-  asks-decides None some none = (λ e. absurd (true≢false (sym e)), λ alone. absurd (asks-never (none refl) alone))
-  asks-decides (Some v) some none = (λ _. (v, some), λ _. refl)
 
 -- ---- what is shown
 

@@ -20,6 +20,7 @@ pub use fault::{CliFault, FileFault};
 pub use inputs::{Inputs, ParsedFiles, load};
 pub use laws::too_long_above_the_limit;
 pub use one_shot::shot;
+pub use places_view::PlacesView;
 pub use reading::read_all;
 pub use run_genome::RunGenome;
-pub use span_shot::{shot_in_pieces, shows_places_alone};
+pub use span_shot::shot_in_pieces;

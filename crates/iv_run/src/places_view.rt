@@ -20,7 +20,7 @@ use std::alloc::Allocator;
 
 /// A view whose rows depend on nothing of a record but its place.
 #[derive(Clone, Copy, Debug, PartialEq, Eq)]
-pub(crate) enum PlacesView {
+pub enum PlacesView {
     /// `merge` of both strands together, without summaries: records at most this many bases apart are in one block.
     Merge(u32),
     /// `complement`; where this is true, only of sequences with a record.
@@ -31,7 +31,7 @@ pub(crate) enum PlacesView {
 
 impl PlacesView {
     /// The view of a plan, where it is such a one.
-    pub(crate) fn of_plan<A: Allocator + Copy>(plan: &Plan<'_, A>) -> Option<PlacesView>
+    pub fn of_plan<A: Allocator + Copy>(plan: &Plan<'_, A>) -> Option<PlacesView>
         ensures some { IfSome result (λ shown. AskForPlaces plan.now.view shown) }
         ensures none { result ≡ None → AskForColumns plan.now.view }
     {

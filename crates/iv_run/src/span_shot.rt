@@ -1,5 +1,5 @@
 //! A run of one subcommand whose rows depend on nothing of a record but its place.
-ghost use Rattle.std.specs.Prelude.{◌≡◌, ◌<◌, ◌^◌, ◌⊎◌, ◌↔◌, ℕ, List, None, Err, IsTrue, IsOk, All, IfSome, IfOk, IfErr, OnOk, length};
+ghost use Rattle.std.specs.Prelude.{◌≡◌, ◌<◌, ◌^◌, ◌⊎◌, ℕ, List, None, Err, IsOk, All, IfSome, IfOk, IfErr, OnOk, length};
 ghost use Rattle.std.specs.Option.{option_copied, option_map};
 ghost use Rattle.iv_text.specs.BedFile.{Bed};
 ghost use Rattle.iv_text.specs.Ordered.{ordered};
@@ -7,7 +7,7 @@ ghost use Rattle.iv_text.specs.Read.{IsOnGenome};
 ghost use Rattle.iv_index.specs.Spans.{bare_bed_of};
 ghost use Rattle.iv_run.specs.Files.{ReadsWhole, StopsReading};
 ghost use Rattle.iv_run.specs.Loading.{IsAnswer, SaysGenome, bases_said, second_of, with_second};
-ghost use Rattle.iv_run.specs.PlacesViews.{AskForPlaces, IsViewOf, ShowPlacesAlone};
+ghost use Rattle.iv_run.specs.PlacesViews.{AskForPlaces, IsViewOf};
 ghost use Rattle.iv_run.specs.Prints.{Prints};
 ghost use Rattle.iv_run.specs.Shots.{Shows, shown};
 ghost use Rattle.iv_view.specs.Views.{kept_text};
@@ -85,18 +85,10 @@ fn print_files<A: Allocator + Copy, S: Sink>(
     view.print(alloc, first.as_slice(), &genome, sink)
 }
 
-/// Whether a run of the plan can be done by [`shot_in_pieces`]: whether its rows depend on nothing of a record but its place, as
-/// those of `complement`, of `genomecov`, and of a `merge` without `-s` and `-c` do.
-pub fn shows_places_alone<A: Allocator + Copy>(plan: &Plan<'_, A>) -> bool
-    ensures { IsTrue result ↔ ShowPlacesAlone plan.now.view }
-{
-    PlacesView::of_plan(plan).is_some()
-}
-
 /// Prints what the plan's subcommand shows of a genome file, given its bytes, and of a BED file, which is read from a source to its
 /// end, at most `most` bytes: all of it, and nothing else. No text of the BED file is kept.
 ///
-/// The rows of the plan's view depend on nothing of a record but its place: [`shows_places_alone`].
+/// The view is that of the plan, whose rows depend on nothing of a record but its place: [`PlacesView::of_plan`].
 ///
 /// # Errors
 ///
@@ -105,6 +97,7 @@ pub fn shows_places_alone<A: Allocator + Copy>(plan: &Plan<'_, A>) -> bool
 pub fn shot_in_pieces<A: Allocator + Copy, R: Source, S: Sink>(
     alloc: A,
     plan: &Plan<'_, A>,
+    view: PlacesView,
     sizes: &[u8],
     source: &mut R,
     most: u64,
@@ -112,33 +105,31 @@ pub fn shot_in_pieces<A: Allocator + Copy, R: Source, S: Sink>(
     sink: &mut S,
 ) -> Result<Result<(), CliFault>, FileFault>
     requires small { most < 2 ^ 63 }
-    requires alone { ShowPlacesAlone plan.now.view }
+    requires asked { AskForPlaces plan.now.view view }
     ensures ok { IfOk result (λ done. (text : List ℕ) × ReadsWhole (R.state source.old) (R.state source.new) most text
         × Shows (S.state sink.old) (S.state sink.new) done (shown plan.now sizes.now text None None limit)) }
     ensures err { IfErr result (λ fault. StopsReading (R.state source.old) (R.state source.new) most fault × (sink.new ≡ sink.old)) }
 {
     let genome = RunGenome::parse(alloc, plan, sizes, limit);
     let first = genome.read_spans(alloc, source, most)?;
-    Ok(print_said(alloc, plan, genome, first, sink))
+    Ok(print_said(alloc, plan, view, genome, first, sink))
 }
 
 /// Prints what the plan's subcommand shows of files that are read, unless one is damaged.
 fn print_said<A: Allocator + Copy, S: Sink>(
     alloc: A,
     plan: &Plan<'_, A>,
+    view: PlacesView,
     genome: RunGenome<A>,
     first: Result<Spans<A>, LoadFault>,
     sink: &mut S,
 ) -> Result<(), CliFault>
-    requires alone { ShowPlacesAlone plan.now.view }
+    requires asked { AskForPlaces plan.now.view view }
     requires on_genome { IfOk first (λ file. All (IsOnGenome genome.genome) file.rows) }
     requires width { genome.width ≡ plan.now.width }
     ensures { (sizes text : List ℕ) → SaysGenome sizes genome → IsAnswer first (bare_bed_of genome.genome genome.width genome.limit text)
         → Shows (S.state sink.old) (S.state sink.new) result (shown plan.now sizes text None None genome.limit) }
 {
-    let Some(view) = PlacesView::of_plan(plan) else {
-        unreachable!()
-    };
     let files = SpanFiles::of(genome, first)?;
     print_files(alloc, view, files, sink)
 }

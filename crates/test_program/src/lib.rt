@@ -20,6 +20,8 @@ mod piece_refusals;
 #[cfg(test)]
 mod piece_runs;
 #[cfg(test)]
+mod programs;
+#[cfg(test)]
 mod read_refusals;
 #[cfg(test)]
 mod run_reading;

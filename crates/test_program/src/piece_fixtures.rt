@@ -2,7 +2,7 @@
 use crate::shot_fixtures::GENOME;
 use iv_args::{Plan, Slot};
 use iv_bytes::{MemSink, MemSource, Source};
-use iv_run::{CliFault, FileFault, shot_in_pieces, shows_places_alone};
+use iv_run::{CliFault, FileFault, PlacesView, shot_in_pieces};
 use iv_text::{LoadCause, LoadFault};
 use std::alloc::Allocator;
 use std::test::Fail;
@@ -59,13 +59,14 @@ pub(crate) fn run_over<A: Allocator + Copy, S: Source>(
     source: &mut S,
     sink: &mut MemSink,
 ) -> Result<Ended, Fail> {
-    if !shows_places_alone(plan) {
+    let Some(view) = PlacesView::of_plan(plan) else {
         return Err(Fail::new("a view of more than places"));
-    }
+    };
     let most = u64::from(setting.bytes);
     Ok(shot_in_pieces(
         alloc,
         plan,
+        view,
         setting.sizes,
         source,
         most,

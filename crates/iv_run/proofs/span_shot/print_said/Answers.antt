@@ -2,11 +2,8 @@ use Rattle.std.proofs.Common.{◌≡◌, ℕ, None, Ok, refl, subst}
 use Rattle.std.proofs.lemmas.Result.{err_from_is_err_and}
 use Rattle.iv_run.specs.Loading.{IsReport}
 use Rattle.iv_run.specs.SpanFiles.{places_said}
-use Rattle.iv_run.proofs.PlacesLemmas.{asks-never, shows-first-damage, shows-places}
+use Rattle.iv_run.proofs.PlacesLemmas.{shows-first-damage, shows-places}
 use Rattle.iv_run.proofs.span_shot.print_said.Goals as goal
-
-pub unreachable-requires : goal.unreachable-requires
-unreachable-requires g c = asks-never c.args.plan.now.view (c.of_plan.ensures.none c.in_default.is) c.requires.alone
 
 pub returns-in_err-files : goal.returns-in_err-files
 returns-in_err-files g c = λ sizes text says first.
@@ -18,5 +15,5 @@ pub returns : goal.returns
 returns g c = λ sizes text says first.
     let report = subst (λ (w : ℕ). IsReport c.of.result (places_said w sizes text c.args.genome.limit)) c.requires.width (c.of.ensures sizes text says first) in
     let said : places_said c.args.plan.now.width sizes text c.args.genome.limit ≡ Ok c.in_ok-files.files = rw c.in_ok-files.was at report in
-    let ask = c.in-Some.ensures.some in
-    shows-places c.args.plan.now sizes text None None c.args.genome.limit c.in_ok-files.files said refl refl c.in-Some.view ask _ _ c.print_files.result (c.print_files.ensures ask.asked ask.is_view)
+    let ask = c.requires.asked in
+    shows-places c.args.plan.now sizes text None None c.args.genome.limit c.in_ok-files.files said refl refl c.args.view ask _ _ c.print_files.result (c.print_files.ensures ask.asked ask.is_view)

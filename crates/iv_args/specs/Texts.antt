@@ -1,0 +1,25 @@
+-- What the program says of itself.
+use Rattle.std.specs.Prelude.{ℕ, List}
+use Rattle.iv_args.specs.declared.help.TheConstants.{HELP, SESSION, MERGE, CLUSTER, COMPLEMENT, GENOMECOV, INTERSECT, SUBTRACT, GETFASTA}
+use Rattle.iv_args.specs.declared.notice.TheConstants.{VERSION}
+use Rattle.iv_args.specs.declared.notice.Notice.{Notice}
+use Rattle.iv_args.specs.declared.notice.Notice.TheVariants.{Help, HelpOf, Version}
+use Rattle.iv_args.specs.declared.run.Run.{Run}
+use Rattle.iv_args.specs.declared.run.Run.TheVariants as kind
+
+-- how one kind of run is used
+abbrev pub help_text : Run → List ℕ
+help_text kind.Session = SESSION.now
+help_text kind.Merge = MERGE.now
+help_text kind.Cluster = CLUSTER.now
+help_text kind.Complement = COMPLEMENT.now
+help_text kind.Genomecov = GENOMECOV.now
+help_text kind.Intersect = INTERSECT.now
+help_text kind.Subtract = SUBTRACT.now
+help_text kind.Getfasta = GETFASTA.now
+
+-- the text of a notice
+abbrev pub notice_text : Notice → List ℕ
+notice_text Help = HELP.now
+notice_text (HelpOf run) = help_text run
+notice_text Version = VERSION.now

@@ -1,0 +1,223 @@
+-- A run that gives the status 0.
+use Rattle.std.proofs.Common.{◌≡◌, inl, inr, ℕ, Bool, true, false, List, [], ◌∷◌, append-nil, Option, None, Some, Result, Ok, Err, ◌==◌, if◌then◌else◌, refl, sym, ap, ◌∙◌, subst, eqb-true, arith}
+use Rattle.iv_bytes.proofs.Putting.{Takes-append}
+use Rattle.iv_bytes.specs.Sinks.{SinkState, Takes}
+use Rattle.iv_workspace.specs.States.{State}
+use Rattle.iv_session.specs.Endings.{Ran}
+use Rattle.iv_session.specs.Running.{Runs as LineRuns}
+use Rattle.iv_session.specs.Scripts.{Done}
+use Rattle.iv_session.specs.Streams.{Streams}
+use Rattle.iv_session.specs.declared.script.RunCause.{RunCause}
+use Rattle.iv_session.specs.declared.script.RunCause.TheVariants as cause
+use Rattle.iv_session.specs.declared.script.RunFault.{RunFault}
+use Rattle.iv_session.specs.declared.script.Summary.{Summary}
+use Rattle.iv_args.specs.Notices.{notice_of}
+use Rattle.iv_args.specs.Texts.{notice_text}
+use Rattle.iv_args.specs.Words.{RunPlan, IsPlan, is_session, run_of}
+use Rattle.iv_args.specs.declared.run.Run.{Run}
+use Rattle.std.specs.Option.{option_to_list}
+use Rattle.iv_args.specs.declared.fault.PlanFault.{PlanFault}
+use Rattle.iv_args.specs.declared.fault.PlanFault.TheVariants as planning
+use Rattle.iv_args.specs.declared.notice.Notice.{Notice}
+use Rattle.iv_args.specs.declared.plan.Slot.{Slot}
+use Rattle.iv_run.specs.Loading.{IsReport, loaded}
+use Rattle.iv_run.specs.Shots.{Shows, shown}
+use Rattle.iv_run.specs.declared.fault.CliFault.{CliFault}
+use Rattle.iv_run.specs.declared.fault.CliFault.TheVariants as fault
+use Rattle.iv_run.specs.declared.fault.FileFault.{FileFault}
+use Rattle.iv_run.specs.declared.fault.FileFault.TheVariants as file
+use Rattle.iv_cli.specs.Endings.{ending_after, ending_of, ending_of_cause, ending_of_file, ending_of_run, ending_of_words, status_of}
+use Rattle.iv_cli.specs.declared.ending.Ending.{Ending}
+use Rattle.iv_cli.specs.declared.ending.Ending.TheVariants as ending
+use Rattle.iv_program.specs.Limits.{most_records, most_lines, most_line_bytes}
+use Rattle.iv_program.specs.Outcomes.{DoesAll, DoesAllWith, RunsAll}
+use Rattle.iv_program.specs.Program.{Asked, Shown, Planned, Wrong, Ask, Flushes, Gives, Runs, Serves}
+use Rattle.iv_program.specs.Runs.{DoesWith, PrintsView, RunsOver, RunsPlan, RunsScript, World, ending_of_shot}
+use Rattle.iv_program.specs.Texts.{Texts}
+
+-- only a run that is done has the status 0
+done-status : (e : Ending) → 0 ≡ status_of e → e ≡ ending.Done
+done-status ending.Done is = refl
+done-status ending.Refused is = absurd (omega arith)
+done-status (ending.Words code) is = absurd (omega arith)
+done-status (ending.Damaged slot damage) is = absurd (omega arith)
+done-status (ending.Unreadable slot) is = absurd (omega arith)
+done-status (ending.TooLong slot) is = absurd (omega arith)
+done-status ending.InputUnreadable is = absurd (omega arith)
+done-status ending.InputTooLong is = absurd (omega arith)
+done-status ending.Output is = absurd (omega arith)
+done-status ending.Memory is = absurd (omega arith)
+
+-- and only one that was done, and whose output was flushed
+done-flushed : (flushed : Bool) (e : Ending) → ending_after flushed e ≡ ending.Done → (flushed ≡ true) × (e ≡ ending.Done)
+done-flushed true ending.Done is = (refl, refl)
+done-flushed false ending.Done is = absurd (cc is)
+done-flushed true ending.Refused is = absurd (cc is)
+done-flushed false ending.Refused is = absurd (cc is)
+done-flushed flushed (ending.Words code) is = absurd (cc is)
+done-flushed flushed (ending.Damaged slot damage) is = absurd (cc is)
+done-flushed flushed (ending.Unreadable slot) is = absurd (cc is)
+done-flushed flushed (ending.TooLong slot) is = absurd (cc is)
+done-flushed flushed ending.InputUnreadable is = absurd (cc is)
+done-flushed flushed ending.InputTooLong is = absurd (cc is)
+done-flushed flushed ending.Output is = absurd (cc is)
+done-flushed flushed ending.Memory is = absurd (cc is)
+
+-- no fault is done
+no-fault : (k : CliFault) → ending.Done ≡ ending_of k → ⊥
+no-fault (fault.Words code) e = cc e
+no-fault (fault.Damaged slot damage) e = cc e
+no-fault fault.Output e = cc e
+no-fault fault.Memory e = cc e
+
+no-file-fault : (slot : Slot) (why : FileFault) → ending.Done ≡ ending_of_file slot why → ⊥
+no-file-fault slot file.Input e = cc e
+no-file-fault slot file.TooLong e = cc e
+no-file-fault slot file.Memory e = cc e
+
+no-cause : (why : RunCause) → ending.Done ≡ ending_of_cause why → ⊥
+no-cause cause.Input e = cc e
+no-cause cause.TooLong e = cc e
+no-cause cause.Output e = cc e
+no-cause cause.Messages e = cc e
+no-cause cause.Memory e = cc e
+
+no-word-fault : (why : PlanFault) → ending.Done ≡ ending_of_words why → ⊥
+no-word-fault planning.Words e = cc e
+no-word-fault planning.Memory e = cc e
+
+none-refused : (n : ℕ) (b : Bool) → (n == 0) ≡ b → ending.Done ≡ (if b then ending.Done else ending.Refused) → n ≡ 0
+none-refused n true t e = eqb-true n 0 t
+none-refused n false t e = absurd (cc e)
+
+-- a flush adds nothing
+then-flushed : (o0 o1 o2 : SinkState) (text : List ℕ) → Takes o0 o1 text → Takes o1 o2 [] → Takes o0 o2 text
+then-flushed o0 o1 o2 text took flushed = subst (λ (l : List ℕ). Takes o0 o2 l) (append-nil text) (Takes-append o0 o1 o2 text [] took flushed)
+
+-- a view that is done was printed whole
+view-done : (plan : RunPlan) (texts : Texts) (o0 o1 : SinkState) (ended : Ending) → PrintsView plan texts o0 o1 ended → ended ≡ ending.Done
+    → (text : List ℕ) × (shown plan texts.sizes texts.first texts.other texts.bases most_records ≡ Ok text) × Takes o0 o1 text
+view-done plan texts o0 o1 ended prints is = by prints.0 prints.1 (sym is ∙ prints.2)
+  where
+    by : (done : Result (Unit {0}) CliFault) → Shows o0 o1 done (shown plan texts.sizes texts.first texts.other texts.bases most_records)
+        → ending.Done ≡ ending_of_shot done
+        → (text : List ℕ) × (shown plan texts.sizes texts.first texts.other texts.bases most_records ≡ Ok text) × Takes o0 o1 text
+    by (Ok done) shows e = shows
+    by (Err k) shows e = absurd (no-fault k e)
+
+-- a script that is done was run to its end, and no line refused
+script-done : (plan : RunPlan) (texts : Texts) (before reached after : Streams) (ended : Ending) → RunsScript plan texts before reached ended
+    → ended ≡ ending.Done → Takes reached.output after.output [] → RunsAll plan texts before after
+script-done plan texts before reached after ended runs is flushed = by runs.0 runs.1 runs.2
+  where
+    over : (s new : State) (run : Result Summary RunFault) → loaded plan.width texts.sizes texts.first texts.other texts.bases most_records ≡ Ok s
+        → Ran s new before reached most_lines most_line_bytes run → ending.Done ≡ ending_of_run run → RunsAll plan texts before after
+    over s new (Err stopped) begins ran e = absurd (no-cause stopped.cause e)
+    over s new (Ok summary) begins ran e = record {
+      old = s;
+      new = new;
+      begins = begins;
+      reached = reached;
+      count = summary.lines;
+      runs = subst (λ (n : ℕ). Done LineRuns s new before reached most_lines most_line_bytes summary.lines n)
+          (none-refused summary.refused (summary.refused == 0) refl e) ran;
+      flushed = flushed;
+    }
+
+    by : (session : Result State CliFault) → IsReport session (loaded plan.width texts.sizes texts.first texts.other texts.bases most_records)
+        → RunsOver session before reached ended → RunsAll plan texts before after
+    by (Err k) report none = absurd (no-fault k (sym is ∙ none.1))
+    by (Ok s) report ran = over s ran.0 ran.1 report ran.2 (sym is ∙ ran.3)
+
+-- what is done with the texts of a plan is done whole
+does-done : (session : Bool) (plan : RunPlan) (texts : Texts) (before reached after : Streams) (ended : Ending) → DoesWith session plan texts before reached ended
+    → ended ≡ ending.Done → Takes reached.output after.output [] → DoesAllWith session plan texts before after
+does-done true plan texts before reached after ended does is flushed = script-done plan texts before reached after ended does is flushed
+does-done false plan texts before reached after ended does is flushed =
+    let printed = view-done plan texts before.output reached.output ended does.0 is in
+    (printed.0, printed.1, then-flushed before.output reached.output after.output printed.0 printed.2 flushed)
+
+plan-done : (plan : RunPlan) (before reached after : World) (ended : Ending) → RunsPlan plan before reached ended → ended ≡ ending.Done
+    → Takes reached.streams.output after.streams.output [] → DoesAll plan before after
+plan-done plan before reached after ended (inl read) is flushed = record {
+  texts = read.texts;
+  are = read.are;
+  does = does-done (is_session plan.run) plan read.texts before.streams reached.streams after.streams ended read.does is flushed;
+}
+plan-done plan before reached after ended (inr stopped) is flushed = absurd (no-file-fault stopped.slot stopped.fault (sym is ∙ stopped.ended_is))
+
+-- the output of a run with the status 0 was flushed, and what was asked for was done
+finished : (words : List (List ℕ)) (before after : World) (ran : Runs words before after 0)
+    → (ran.ended ≡ ending.Done) × Takes ran.reached.streams.output after.streams.output []
+finished words before after ran =
+    let ends = done-flushed ran.finishes.flushed ran.ended (done-status (ending_after ran.finishes.flushed ran.ended) ran.finishes.status_is) in
+    (ends.1, subst (λ (b : Bool). Flushes b ran.reached.streams.output after.streams.output) ends.0 ran.finishes.flush)
+
+pub notice-done : (words : List (List ℕ)) (before after : World) (notice : Notice) → notice_of words ≡ Some notice → Runs words before after 0
+    → Takes before.streams.output after.streams.output (notice_text notice)
+notice-done words before after notice is ran = by ran.asked ran.ask ran.serves
+  where
+    ends : (ran.ended ≡ ending.Done) × Takes ran.reached.streams.output after.streams.output []
+    ends = finished words before after ran
+
+    by : (asked : Asked) → Ask words asked → Serves asked before ran.reached ran.ended → Takes before.streams.output after.streams.output (notice_text notice)
+    by (Shown said) ask serves =
+        let same : said ≡ notice = cc (sym ask ∙ is) in
+        given said same serves.0
+      where
+        given : (said : Notice) → said ≡ notice → Gives before.streams.output ran.reached.streams.output (notice_text said) ran.ended
+            → Takes before.streams.output after.streams.output (notice_text notice)
+        given said same (inl took) =
+            subst (λ (n : Notice). Takes before.streams.output after.streams.output (notice_text n)) same
+            (then-flushed before.streams.output ran.reached.streams.output after.streams.output (notice_text said) took.1 ends.1)
+        given said same (inr lost) = absurd (cc (sym lost.0 ∙ ends.0))
+    by (Planned plan) ask serves = absurd (cc (sym ask.0 ∙ is))
+    by (Wrong planning.Words) ask serves = absurd (cc (sym ask.0 ∙ is))
+    by (Wrong planning.Memory) ask serves = absurd (cc (sym ask ∙ is))
+
+-- ---- at most one plan fits words
+
+same-option : (a b : Option (List ℕ)) → option_to_list a ≡ option_to_list b → a ≡ b
+same-option None None e = refl
+same-option None (Some y) e = absurd (cc e)
+same-option (Some x) None e = absurd (cc e)
+same-option (Some x) (Some y) e = cc e
+
+plan-with : Run → List ℕ → List ℕ → Option (List ℕ) → Option (List ℕ) → ℕ → List (List ℕ) → RunPlan
+plan-with run sizes first other bases width view = record { run = run; sizes = sizes; first = first; other = other; bases = bases; width = width; view = view }
+
+pub one-plan : (words : List (List ℕ)) (p q : RunPlan) → IsPlan words p → IsPlan words q → p ≡ q
+unfolding plan-with
+one-plan words p q a b =
+    let are : a.word ∷ a.rest ≡ b.word ∷ b.rest = sym a.are ∙ b.are in
+    let word : a.word ≡ b.word = cc are in
+    let rest : a.rest ≡ b.rest = cc are in
+    let some_run : Some p.run ≡ Some q.run = sym a.run ∙ ap run_of word ∙ b.run in
+    let run : p.run ≡ q.run = cc some_run in
+    let some_parts : Some a.parts ≡ Some b.parts = cc (a.splitting, b.splitting, run, rest) in
+    let parts : a.parts ≡ b.parts = cc some_parts in
+    let sizes : p.sizes ≡ q.sizes = cc (a.sizes, b.sizes, parts) in
+    let first : p.first ≡ q.first = cc (a.first, b.first, parts) in
+    let others : option_to_list p.other ≡ option_to_list q.other = cc (a.other, b.other, parts) in
+    let basess : option_to_list p.bases ≡ option_to_list q.bases = cc (a.bases, b.bases, parts) in
+    let other : p.other ≡ q.other = same-option p.other q.other others in
+    let bases : p.bases ≡ q.bases = same-option p.bases q.bases basess in
+    let some_width : Some p.width ≡ Some q.width = cc (a.width, b.width, parts) in
+    let width : p.width ≡ q.width = cc some_width in
+    let view : p.view ≡ q.view = cc (a.view, b.view, run, word, parts) in
+    let same : plan-with p.run p.sizes p.first p.other p.bases p.width p.view ≡ plan-with q.run q.sizes q.first q.other q.bases q.width q.view =
+    cc (run, sizes, first, other, bases, width, view) in
+    same
+
+pub plan-all-done : (words : List (List ℕ)) (before after : World) (plan : RunPlan) → notice_of words ≡ None → IsPlan words plan → Runs words before after 0
+    → DoesAll plan before after
+plan-all-done words before after plan none is ran = by ran.asked ran.ask ran.serves
+  where
+    ends : (ran.ended ≡ ending.Done) × Takes ran.reached.streams.output after.streams.output []
+    ends = finished words before after ran
+
+    by : (asked : Asked) → Ask words asked → Serves asked before ran.reached ran.ended → DoesAll plan before after
+    by (Shown said) ask serves = absurd (cc (sym none ∙ ask))
+    by (Planned other) ask serves =
+        subst (λ (p : RunPlan). DoesAll p before after) (one-plan words other plan ask.1 is) (plan-done other before ran.reached after ran.ended serves ends.0 ends.1)
+    by (Wrong why) ask serves = absurd (no-word-fault why (sym ends.0 ∙ serves.1))

@@ -1,0 +1,247 @@
+-- Files that were read, and what a run does with them.
+use Rattle.std.proofs.Common.{◌≡◌, ◌⊎◌, inl, inr, ◌<◌, ◌≤◌, ◌^◌, ℕ, Bool, true, false, List, [], length, Option, None, Some, Result, Ok, Err, IfOk, IfErr, IfSome, refl, sym, ap, ◌∙◌, subst, arith}
+use Rattle.std.specs.Option.{option_transpose}
+use Rattle.iv_bytes.specs.Sinks.{SinkState}
+use Rattle.iv_bytes.specs.Sources.{SourceState, IsInput}
+use Rattle.iv_text.specs.BedFile.{Bed, bed_of}
+use Rattle.iv_text.specs.Genome.{Sequences}
+use Rattle.iv_text.specs.declared.fault.LoadFault.{LoadFault}
+use Rattle.iv_workspace.specs.States.{State, begun}
+use Rattle.iv_session.specs.Endings.{Ran}
+use Rattle.iv_session.specs.Running.{Runs as LineRuns, RunsLast}
+use Rattle.iv_session.specs.Scripts.{Done}
+use Rattle.iv_session.specs.Stops.{Stopped}
+use Rattle.iv_session.specs.Streams.{Streams, streams}
+use Rattle.iv_session.specs.declared.script.RunFault.{RunFault}
+use Rattle.iv_session.specs.declared.script.Summary.{Summary}
+use Rattle.iv_args.specs.Notices.{notice_of}
+use Rattle.iv_args.specs.Texts.{notice_text}
+use Rattle.iv_args.specs.Words.{RunPlan, IsPlan, is_session}
+use Rattle.iv_args.specs.declared.fault.PlanFault.{PlanFault}
+use Rattle.iv_args.specs.declared.fault.PlanFault.TheVariants as planning
+use Rattle.iv_args.specs.declared.notice.Notice.{Notice}
+use Rattle.iv_args.specs.declared.plan.Slot.{Slot}
+use Rattle.iv_args.specs.declared.plan.Slot.TheVariants.{First, Other, Bases}
+use Rattle.iv_run.specs.Files.{ReadsWhole}
+use Rattle.iv_run.specs.Loading.{IsAnswer, IsReport, Parsed, loaded, parsed, second_of, session_of}
+use Rattle.iv_run.specs.Shots.{Shows, shown}
+use Rattle.iv_run.specs.declared.fault.CliFault.{CliFault}
+use Rattle.iv_run.specs.declared.fault.CliFault.TheVariants as fault
+use Rattle.iv_run.specs.declared.fault.FileFault.{FileFault}
+use Rattle.iv_cli.specs.Endings.{ending_of_file, ending_of_words, name_meant}
+use Rattle.iv_cli.specs.declared.ending.Ending.{Ending}
+use Rattle.iv_program.specs.Files.{FilesState, IsText, StopsFile, opened}
+use Rattle.iv_program.specs.Limits.{most_file_bytes, most_records}
+use Rattle.iv_program.specs.Program.{Shown, Planned, Wrong, Ask, Finishes, Gives, Runs, world}
+use Rattle.iv_program.specs.Runs.{DoesWith, PrintsView, RunsPlan, RunsScript, World, ending_of_shot}
+use Rattle.iv_program.specs.Texts.{Texts, AreTexts, IsTextIfNamed, StopsAt}
+
+-- ---- files that were read
+
+pub text-back : (a b : FilesState) (name text : List ℕ) → b ≡ a → IsText b name text → IsText a name text
+text-back a b name text same is = subst (λ (f : FilesState). IsText f name text) same is
+
+pub named-back : (a b : FilesState) (name text : Option (List ℕ)) → b ≡ a → IsTextIfNamed b name text → IsTextIfNamed a name text
+named-back a b name text same is = subst (λ (f : FilesState). IsTextIfNamed f name text) same is
+
+-- the first BED file was not read to its end
+pub stops-first : (plan : RunPlan) (f0 f1 f2 : FilesState) (sizes : List ℕ) (slot : Slot) (why : FileFault) → IsText f0 plan.sizes sizes → f1 ≡ f0
+    → slot ≡ First → StopsFile f1 plan.first why f2 → StopsAt plan f0 f2 slot why
+stops-first plan f0 f1 f2 sizes slot why read same is stops =
+    subst (λ (s : Slot). StopsAt plan f0 f2 s why) (sym is) (record {
+      name = plan.first;
+      named = refl;
+      before = (Some sizes, read);
+      stops = subst (λ (f : FilesState). StopsFile f plan.first why f2) same stops;
+    })
+
+-- the second was not
+pub stops-other : (plan : RunPlan) (f0 f1 f2 f3 : FilesState) (sizes first : List ℕ) (slot : Slot) (why : FileFault) → IsText f0 plan.sizes sizes → f1 ≡ f0
+    → IsText f1 plan.first first → f2 ≡ f1
+    → (slot ≡ Other) × ((name : List ℕ) × (plan.other ≡ Some name) × StopsFile f2 name why f3) → StopsAt plan f0 f3 slot why
+stops-other plan f0 f1 f2 f3 sizes first slot why read same read_first same_first is =
+    subst (λ (s : Slot). StopsAt plan f0 f3 s why) (sym is.0) (record {
+      name = is.1.0;
+      named = is.1.1;
+      before = ((Some sizes, read), (Some first, text-back f0 f1 plan.first first same read_first));
+      stops = subst (λ (f : FilesState). StopsFile f is.1.0 why f3) (same_first ∙ same) is.1.2;
+    })
+
+-- the FASTA file was not
+pub stops-bases : (plan : RunPlan) (f0 f1 f2 f3 f4 : FilesState) (sizes first : List ℕ) (other : Option (List ℕ)) (slot : Slot) (why : FileFault)
+    → IsText f0 plan.sizes sizes → f1 ≡ f0 → IsText f1 plan.first first → f2 ≡ f1 → IsTextIfNamed f2 plan.other other → f3 ≡ f2
+    → (slot ≡ Bases) × ((name : List ℕ) × (plan.bases ≡ Some name) × StopsFile f3 name why f4) → StopsAt plan f0 f4 slot why
+stops-bases plan f0 f1 f2 f3 f4 sizes first other slot why read same read_first same_first read_other same_other is =
+    subst (λ (s : Slot). StopsAt plan f0 f4 s why) (sym is.0) (record {
+      name = is.1.0;
+      named = is.1.1;
+      before = (
+        (Some sizes, read),
+        (Some first, text-back f0 f1 plan.first first same read_first),
+        (other, named-back f0 f2 plan.other other (same_first ∙ same) read_other),
+      );
+      stops = subst (λ (f : FilesState). StopsFile f is.1.0 why f4) (same_other ∙ same_first ∙ same) is.1.2;
+    })
+
+-- all of them were
+pub all-texts : (plan : RunPlan) (f0 f1 f2 f3 : FilesState) (sizes first : List ℕ) (other bases : Option (List ℕ))
+    → IsText f0 plan.sizes sizes → f1 ≡ f0 → IsText f1 plan.first first → f2 ≡ f1 → IsTextIfNamed f2 plan.other other → f3 ≡ f2
+    → IsTextIfNamed f3 plan.bases bases → AreTexts f0 plan (record { sizes = sizes; first = first; other = other; bases = bases })
+all-texts plan f0 f1 f2 f3 sizes first other bases read same read_first same_first read_other same_other read_bases = record {
+  sizes = read;
+  first = text-back f0 f1 plan.first first same read_first;
+  other = named-back f0 f2 plan.other other (same_first ∙ same) read_other;
+  bases = named-back f0 f3 plan.bases bases (same_other ∙ same_first ∙ same) read_bases;
+}
+
+short : (n : ℕ) → n ≤ most_file_bytes → n < 2 ^ 32
+short n few = omega arith
+
+pub short-first : (files : FilesState) (plan : RunPlan) (texts : Texts) → AreTexts files plan texts → length texts.first < 2 ^ 32
+short-first files plan texts are = short (length texts.first) are.first.1
+
+pub short-other : (files : FilesState) (plan : RunPlan) (texts : Texts) → AreTexts files plan texts → IfSome texts.other (λ text. length text < 2 ^ 32)
+short-other files plan texts are = by plan.other texts.other are.other
+  where
+    by : (name text : Option (List ℕ)) → IsTextIfNamed files name text → IfSome text (λ t. length t < 2 ^ 32)
+    by None None is = tt
+    by None (Some text) is = absurd is
+    by (Some name) None is = absurd is
+    by (Some name) (Some text) is = short (length text) is.1
+
+-- ---- views
+
+-- a file was read in pieces to its end, and this holds of its text
+pub read-pieces : (files : FilesState) (name : List ℕ) (s0 s1 : SourceState) (r : Result (Result (Unit {0}) CliFault) FileFault)
+    (P : Result (Unit {0}) CliFault → List ℕ → Type 0) → s0 ≡ opened files name
+    → IfOk r (λ done. (text : List ℕ) × ReadsWhole s0 s1 most_file_bytes text × P done text)
+    → IfOk r (λ done. (text : List ℕ) × IsText files name text × P done text)
+read-pieces files name s0 s1 (Ok done) P same said = (said.0, (subst (λ (s : SourceState). IsInput s said.0) same said.1.input, said.1.few), said.2)
+read-pieces files name s0 s1 (Err why) P same said = tt
+
+pub printed-pieces : (plan : RunPlan) (f0 f1 : FilesState) (sizes : List ℕ) (done : Result (Unit {0}) CliFault) (old new : SinkState) (ended : Ending)
+    → plan.other ≡ None → plan.bases ≡ None → IsText f0 plan.sizes sizes → f1 ≡ f0
+    → (text : List ℕ) × IsText f1 plan.first text × Shows old new done (shown plan sizes text None None most_records)
+    → ended ≡ ending_of_shot done → (texts : Texts) × AreTexts f0 plan texts × PrintsView plan texts old new ended
+printed-pieces plan f0 f1 sizes done old new ended no_other no_bases read same first is =
+    let texts : Texts = record { sizes = sizes; first = first.0; other = None; bases = None } in
+    let are : AreTexts f0 plan texts = record {
+      sizes = read;
+      first = text-back f0 f1 plan.first first.0 same first.1;
+      other = subst (λ (o : Option (List ℕ)). IsTextIfNamed f0 o None) (sym no_other) tt;
+      bases = subst (λ (o : Option (List ℕ)). IsTextIfNamed f0 o None) (sym no_bases) tt;
+    } in
+    (texts, are, (done, first.2, is))
+
+-- ---- scripts
+
+pub second-says : (g : Sequences) (width limit : ℕ) (text : List ℕ) (said : Result Bed LoadFault) → IsAnswer said (bed_of g width limit text)
+    → IfOk said (λ file. IsAnswer (Ok (Some file)) (second_of g width limit (Some text)))
+second-says g width limit text (Ok file) says = ap (λ (r : Result Bed LoadFault). option_transpose (Some r)) says
+second-says g width limit text (Err f) says = tt
+
+pub second-says_not : (g : Sequences) (width limit : ℕ) (text : List ℕ) (said : Result Bed LoadFault) → IsAnswer said (bed_of g width limit text)
+    → IfErr said (λ f. IsAnswer {T = Option Bed} (Err f) (second_of g width limit (Some text)))
+second-says_not g width limit text (Ok file) says = tt
+second-says_not g width limit text (Err f) (inl memory) = inl memory
+second-says_not g width limit text (Err f) (inr is) = inr (ap (λ (r : Result Bed LoadFault). option_transpose (Some r)) is)
+
+module _ (width : ℕ) (sizes first : List ℕ) (other bases : Option (List ℕ)) (limit : ℕ) where
+  -- a file is damaged, or memory was refused
+  pub loads-not : (k : CliFault) → (k ≡ fault.Memory) ⊎ (parsed width sizes first other bases limit ≡ Err k)
+      → (k ≡ fault.Memory) ⊎ (loaded width sizes first other bases limit ≡ Err k)
+  loads-not k (inl memory) = inl memory
+  loads-not k (inr is) = inr (ap session_of is)
+
+  -- the files are sound
+  pub loads : (files : Parsed) (r : Result State CliFault) → parsed width sizes first other bases limit ≡ Ok files
+      → IfOk r (λ s. s ≡ begun files.genome files.first files.second files.bases files.limit) → IfErr r (λ k. k ≡ fault.Memory)
+      → IsReport r (loaded width sizes first other bases limit)
+  loads files (Ok s) is ok err = ap session_of is ∙ ap Ok (sym ok)
+  loads files (Err k) is ok err = inl err
+
+pub ran-of : (old new : State) (before after : Streams) (lines most : ℕ) (r : Result Summary RunFault)
+    → IfOk r (λ summary. Done LineRuns old new before after lines most summary.lines summary.refused)
+    → IfErr r (λ why. Stopped LineRuns RunsLast old new before after lines most why.line why.cause)
+    → Ran old new before after lines most r
+ran-of old new before after lines most (Ok summary) done stopped = done
+ran-of old new before after lines most (Err why) done stopped = stopped
+
+-- ---- runs of a plan
+
+pub ran-script : (plan : RunPlan) (before after : World) (ended : Ending) → is_session plan.run ≡ true
+    → (texts : Texts) × AreTexts before.files plan texts × RunsScript plan texts before.streams after.streams ended
+    → after.files ≡ before.files → RunsPlan plan before after ended
+ran-script plan before after ended is read same = inl (record {
+  texts = read.0;
+  are = read.1;
+  same = same;
+  does = subst (λ (b : Bool). DoesWith b plan read.0 before.streams after.streams ended) (sym is) read.2;
+})
+
+pub ran-view : (plan : RunPlan) (f0 f1 : FilesState) (input : SourceState) (o0 o1 said : SinkState) (ended : Ending) → is_session plan.run ≡ false
+    → (texts : Texts) × AreTexts f0 plan texts × PrintsView plan texts o0 o1 ended
+    → f1 ≡ f0 → RunsPlan plan (world f0 input o0 said) (world f1 input o1 said) ended
+ran-view plan f0 f1 input o0 o1 said ended is read same = inl (record {
+  texts = read.0;
+  are = read.1;
+  same = same;
+  does = subst (λ (b : Bool). DoesWith b plan read.0 (streams input o0 said) (streams input o1 said) ended) (sym is) (read.2, refl);
+})
+
+pub ran-not : (plan : RunPlan) (before after : World) (ended : Ending) (slot : Slot) (why : FileFault) → StopsAt plan before.files after.files slot why
+    → after.streams ≡ before.streams → ended ≡ ending_of_file slot why → RunsPlan plan before after ended
+ran-not plan before after ended slot why stops same is = inr (record { slot = slot; fault = why; stops = stops; same = same; ended_is = is })
+
+-- ---- the program
+
+module _ (words : List (List ℕ)) (status : ℕ) where
+  pub gave-notice : (notice : Notice) (files : FilesState) (input : SourceState) (o0 o1 o2 s0 s1 : SinkState) (ended : Ending) → notice_of words ≡ Some notice
+      → Gives o0 o1 (notice_text notice) ended → Finishes ended [] o1 o2 s0 s1 status
+      → Runs words (world files input o0 s0) (world files input o2 s1) status
+  gave-notice notice files input o0 o1 o2 s0 s1 ended is gives finishes = record {
+    asked = Shown notice;
+    ask = is;
+    reached = world files input o1 s0;
+    ended = ended;
+    serves = (gives, refl);
+    finishes = finishes;
+    files = refl;
+    input = refl;
+  }
+
+  pub ran-plan : (plan : RunPlan) (f0 f1 : FilesState) (i0 i1 : SourceState) (o0 o1 o2 s0 s1 s2 : SinkState) (ended : Ending) (name : List ℕ) → notice_of words ≡ None
+      → IsPlan words plan → RunsPlan plan (world f0 i0 o0 s0) (world f1 i1 o1 s1) ended → name ≡ name_meant plan ended → Finishes ended name o1 o2 s1 s2 status
+      → Runs words (world f0 i0 o0 s0) (world f1 i1 o2 s2) status
+  ran-plan plan f0 f1 i0 i1 o0 o1 o2 s0 s1 s2 ended name none is runs named finishes = record {
+    asked = Planned plan;
+    ask = (none, is);
+    reached = world f1 i1 o1 s1;
+    ended = ended;
+    serves = runs;
+    finishes = subst (λ (n : List ℕ). Finishes ended n o1 o2 s1 s2 status) named finishes;
+    files = refl;
+    input = refl;
+  }
+
+  pub had-no-plan : (why : PlanFault) (files : FilesState) (input : SourceState) (o0 o1 s0 s1 : SinkState) (ended : Ending) → notice_of words ≡ None
+      → (why ≡ planning.Memory) ⊎ ((why ≡ planning.Words) × ((plan : RunPlan) → ¬ IsPlan words plan)) → ended ≡ ending_of_words why
+      → Finishes ended [] o0 o1 s0 s1 status → Runs words (world files input o0 s0) (world files input o1 s1) status
+  had-no-plan why files input o0 o1 s0 s1 ended none is ended_is finishes = record {
+    asked = Wrong why;
+    ask = by why is;
+    reached = world files input o0 s0;
+    ended = ended;
+    serves = (refl, ended_is);
+    finishes = finishes;
+    files = refl;
+    input = refl;
+  }
+    where
+      by : (why : PlanFault) → (why ≡ planning.Memory) ⊎ ((why ≡ planning.Words) × ((plan : RunPlan) → ¬ IsPlan words plan)) → Ask words (Wrong why)
+      by planning.Memory is = none
+      by planning.Words (inl memory) = absurd (never memory)
+        where
+          never : planning.Words ≡ planning.Memory → ⊥
+          never e = cc
+      by planning.Words (inr is) = (none, is.1)

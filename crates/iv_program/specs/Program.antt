@@ -1,0 +1,79 @@
+-- What the program does.
+use Rattle.std.specs.Prelude.{◌≡◌, ℕ, ◌⊎◌, List, [], Bool, true, false, None, Some}
+use Rattle.iv_bytes.specs.Sinks.{SinkState, Takes, FailsIn}
+use Rattle.iv_bytes.specs.Sources.{SourceState}
+use Rattle.iv_session.specs.Streams.{streams}
+use Rattle.iv_args.specs.Notices.{notice_of}
+use Rattle.iv_args.specs.Texts.{notice_text}
+use Rattle.iv_args.specs.Words.{RunPlan, IsPlan}
+use Rattle.iv_args.specs.declared.fault.PlanFault.{PlanFault}
+use Rattle.iv_args.specs.declared.fault.PlanFault.TheVariants as planning
+use Rattle.iv_args.specs.declared.notice.Notice.{Notice}
+use Rattle.iv_cli.specs.Endings.{ending_after, ending_of_words, is_through, line_of, name_meant, status_of}
+use Rattle.iv_cli.specs.declared.ending.Ending.{Ending}
+use Rattle.iv_cli.specs.declared.ending.Ending.TheVariants as ending
+use Rattle.iv_program.specs.Files.{FilesState}
+use Rattle.iv_program.specs.Runs.{World, RunsPlan}
+
+abbrev pub world : FilesState → SourceState → SinkState → SinkState → World
+world files input output messages = record { files = files; streams = streams input output messages }
+
+-- what words ask for: a notice; a run of a plan; or neither, for wrong words or out of memory
+pub data Asked : Type 0 where
+  Shown : Notice → Asked
+  Planned : RunPlan → Asked
+  Wrong : PlanFault → Asked
+
+-- these words ask for it: words that ask for a notice ask for no plan
+abbrev pub Ask : List (List ℕ) → Asked → Type 0
+Ask words (Shown notice) = notice_of words ≡ Some notice
+Ask words (Planned plan) = (notice_of words ≡ None) × IsPlan words plan
+Ask words (Wrong planning.Words) = (notice_of words ≡ None) × ((plan : RunPlan) → ¬ IsPlan words plan)
+Ask words (Wrong planning.Memory) = notice_of words ≡ None
+
+-- a text was put, or the output failed in it
+abbrev pub Gives : SinkState → SinkState → List ℕ → Ending → Type 0
+Gives old new text ended = ((ended ≡ ending.Done) × Takes old new text) ⊎ ((ended ≡ ending.Output) × FailsIn old new text)
+
+-- what was asked for was done, and ended so
+abbrev pub Serves : Asked → World → World → Ending → Type 0
+Serves (Shown notice) before after ended =
+    Gives before.streams.output after.streams.output (notice_text notice) ended
+    × (after ≡ record before { streams = record before.streams { output = after.streams.output } })
+Serves (Planned plan) before after ended = RunsPlan plan before after ended
+Serves (Wrong fault) before after ended = (after ≡ before) × (ended ≡ ending_of_words fault)
+
+-- the name of the file that an ending speaks of
+abbrev pub name_told : Asked → Ending → List ℕ
+name_told (Shown notice) ended = []
+name_told (Planned plan) ended = name_meant plan ended
+name_told (Wrong fault) ended = []
+
+-- whether what was held could be handed on
+abbrev pub Flushes : Bool → SinkState → SinkState → Type 0
+Flushes true old new = Takes old new []
+Flushes false old new = FailsIn old new []
+
+-- a text was told: all of it, or the messages failed in it
+abbrev pub Tells : SinkState → SinkState → List ℕ → Type 0
+Tells old new text = Takes old new text ⊎ FailsIn old new text
+
+-- the end of a run: the output is flushed, the messages get the line of the ending, and the status is that of the ending
+pub record Finishes (ended : Ending) (name : List ℕ) (out0 out1 said0 said1 : SinkState) (status : ℕ) : Type 0 where
+  pub flushed : Bool
+  pub flush : Flushes flushed out0 out1
+  pub told : Tells said0 said1 (line_of name (ending_after flushed ended))
+  pub quiet : is_through (ending_after flushed ended) ≡ true → said1 ≡ said0
+  pub status_is : status ≡ status_of (ending_after flushed ended)
+
+-- the program was run with these words, and gave this status
+pub record Runs (words : List (List ℕ)) (before after : World) (status : ℕ) : Type 0 where
+  pub asked : Asked
+  pub ask : Ask words asked
+  pub reached : World
+  pub ended : Ending
+  pub serves : Serves asked before reached ended
+  pub finishes : Finishes ended (name_told asked ended) reached.streams.output after.streams.output
+      reached.streams.messages after.streams.messages status
+  pub files : after.files ≡ reached.files
+  pub input : after.streams.input ≡ reached.streams.input

@@ -1,0 +1,90 @@
+-- What a run of a plan does once its files are read.
+use Rattle.std.specs.Prelude.{◌≡◌, ℕ, ◌⊎◌, List, Bool, true, false, Option, IfOk, IfSome, Result, Ok, Err}
+use Rattle.iv_bytes.specs.Sinks.{SinkState}
+use Rattle.iv_text.specs.BedFile.{Bed, bed_of}
+use Rattle.iv_text.specs.declared.fault.LoadFault.{LoadFault}
+use Rattle.iv_workspace.specs.States.{State}
+use Rattle.iv_session.specs.Endings.{Ran}
+use Rattle.iv_session.specs.Streams.{Streams}
+use Rattle.iv_session.specs.declared.script.RunFault.{RunFault}
+use Rattle.iv_session.specs.declared.script.Summary.{Summary}
+use Rattle.iv_args.specs.Words.{RunPlan, is_session}
+use Rattle.iv_args.specs.declared.plan.Slot.{Slot}
+use Rattle.iv_run.specs.Loading.{FitsRun, GenomeOfRun, IsAnswer, IsReport, SaysGenome, loaded, second_of}
+use Rattle.iv_run.specs.Shots.{Shows, shown}
+use Rattle.iv_run.specs.declared.fault.CliFault.{CliFault}
+use Rattle.iv_run.specs.declared.fault.FileFault.{FileFault}
+use Rattle.iv_cli.specs.Endings.{ending_of, ending_of_file, ending_of_run}
+use Rattle.iv_cli.specs.declared.ending.Ending.{Ending}
+use Rattle.iv_cli.specs.declared.ending.Ending.TheVariants as ending
+use Rattle.iv_program.specs.Files.{FilesState}
+use Rattle.iv_program.specs.Limits.{most_records, most_lines, most_line_bytes}
+use Rattle.iv_program.specs.Texts.{Texts, AreTexts, StopsAt}
+
+-- what a run speaks to: its files, its input, its output and its messages
+pub record World : Type 0 where
+  pub files : FilesState
+  pub streams : Streams
+
+-- how a run of one subcommand ends
+abbrev pub ending_of_shot : Result (Unit {0}) CliFault → Ending
+ending_of_shot (Ok done) = ending.Done
+ending_of_shot (Err fault) = ending_of fault
+
+-- a script was run over a session; or there is none, and nothing was read or written
+abbrev pub RunsOver : Result State CliFault → Streams → Streams → Ending → Type 0
+RunsOver (Err fault) before after ended = (after ≡ before) × (ended ≡ ending_of fault)
+RunsOver (Ok session) before after ended =
+    (new : State) × (run : Result Summary RunFault) × Ran session new before after most_lines most_line_bytes run × (ended ≡ ending_of_run run)
+
+-- the script was run over the session that the texts of a plan begin, or the fault of the first damaged file is told, or out of
+-- memory
+abbrev pub RunsScript : RunPlan → Texts → Streams → Streams → Ending → Type 0
+RunsScript plan texts before after ended =
+    (session : Result State CliFault)
+    × IsReport session (loaded plan.width texts.sizes texts.first texts.other texts.bases most_records)
+    × RunsOver session before after ended
+
+-- the view of a plan was printed for its texts, or its first fault is told
+abbrev pub PrintsView : RunPlan → Texts → SinkState → SinkState → Ending → Type 0
+PrintsView plan texts old new ended =
+    (done : Result (Unit {0}) CliFault)
+    × Shows old new done (shown plan texts.sizes texts.first texts.other texts.bases most_records)
+    × (ended ≡ ending_of_shot done)
+
+-- what is done with the texts of a plan: its script is run, or its view is printed
+abbrev pub DoesWith : Bool → RunPlan → Texts → Streams → Streams → Ending → Type 0
+DoesWith true plan texts before after ended = RunsScript plan texts before after ended
+DoesWith false plan texts before after ended =
+    PrintsView plan texts before.output after.output ended × (after ≡ record before { output = after.output })
+
+-- all files of a plan were read, and this was done with their texts
+pub record HasRead (plan : RunPlan) (before after : World) (ended : Ending) : Type 0 where
+  pub texts : Texts
+  pub are : AreTexts before.files plan texts
+  pub same : after.files ≡ before.files
+  pub does : DoesWith (is_session plan.run) plan texts before.streams after.streams ended
+
+-- a file of a plan was not read to its end, and nothing was read or written
+pub record HasNotRead (plan : RunPlan) (before after : World) (ended : Ending) : Type 0 where
+  pub slot : Slot
+  pub fault : FileFault
+  pub stops : StopsAt plan before.files after.files slot fault
+  pub same : after.streams ≡ before.streams
+  pub ended_is : ended ≡ ending_of_file slot fault
+
+-- a run of a plan ended so
+abbrev pub RunsPlan : RunPlan → World → World → Ending → Type 0
+RunsPlan plan before after ended = HasRead plan before after ended ⊎ HasNotRead plan before after ended
+
+-- what was read of the files of a script says what these texts say. No part of what is promised
+pub record Says (plan : RunPlan) (texts : Texts) (run : GenomeOfRun) (first : Result Bed LoadFault)
+    (second : Result (Option Bed) LoadFault) (bases : Option (List ℕ)) : Type 0 where
+  pub width_is : run.width ≡ plan.width
+  pub limit_is : run.limit ≡ most_records
+  pub genome_says : SaysGenome texts.sizes run
+  pub first_says : IsAnswer first (bed_of run.genome run.width run.limit texts.first)
+  pub first_fits : IfOk first (FitsRun run)
+  pub second_says : IsAnswer second (second_of run.genome run.width run.limit texts.other)
+  pub second_fits : IfOk second (λ file. IfSome file (FitsRun run))
+  pub bases_are : bases ≡ texts.bases

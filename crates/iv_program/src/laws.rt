@@ -1,0 +1,22 @@
+//! Laws of the definitions: functions that do nothing, whose contracts are the laws.
+ghost use Rattle.std.specs.Prelude.{◌≡◌, ℕ, List, Some, None};
+ghost use Rattle.iv_bytes.specs.Sinks.{Takes};
+ghost use Rattle.iv_args.specs.Notices.{notice_of};
+ghost use Rattle.iv_args.specs.Texts.{notice_text};
+ghost use Rattle.iv_args.specs.Words.{RunPlan, IsPlan};
+ghost use Rattle.iv_args.specs.declared.notice.Notice.{Notice};
+ghost use Rattle.iv_program.specs.Outcomes.{DoesAll};
+ghost use Rattle.iv_program.specs.Program.{Runs};
+ghost use Rattle.iv_program.specs.Runs.{World};
+
+/// A run that gives the status 0 has done all that its words ask for: the output has taken the whole text of the notice or of the
+/// view, as the files' bytes say it, or every line of the script was run and none refused.
+pub fn done_is_all()
+    ensures notice { (words : List (List ℕ)) (before after : World) (notice : Notice) → notice_of words ≡ Some notice → Runs words before after 0 → Takes before.streams.output after.streams.output (notice_text notice) }
+    ensures plan { (words : List (List ℕ)) (before after : World) (plan : RunPlan) → notice_of words ≡ None → IsPlan words plan → Runs words before after 0 → DoesAll plan before after }
+{}
+
+/// At most one plan fits words: what they say decides all of it.
+pub fn one_plan_at_most()
+    ensures { (words : List (List ℕ)) (one other : RunPlan) → IsPlan words one → IsPlan words other → one ≡ other }
+{}
