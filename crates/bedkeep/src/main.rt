@@ -8,7 +8,7 @@ ghost use Rattle.std.specs.Prelude.{None};
 
 use iv_bytes::{ReadFault, Source, StdSink, StdSource};
 use iv_cli::Ending;
-use iv_program::{InputFiles, StdOutput, run_program, tell};
+use iv_program::{InputFiles, run_program, tell};
 use std::env;
 use std::fs::File;
 use std::process::ExitCode;
@@ -53,7 +53,7 @@ fn run(rt: &HostRuntime) -> Result<u8, Ending> {
         names.as_slice(),
         &mut StdFiles { rt, failed: false },
         &mut StdSource::new(rt.stdin()),
-        &mut StdOutput::new(rt.stdout()),
+        &mut StdSink::new(rt.stdout()),
         &mut StdSink::new(rt.stderr()),
     ))
 }

@@ -11,6 +11,6 @@ mod standard;
 pub use buffered::Buffered;
 pub use byte_queue::ByteQueue;
 pub use memory::{MemSink, MemSource};
-pub use sink::{Sink, WriteFault, put_all, put_pieces};
+pub use sink::{Flush, Sink, WriteFault, put_all, put_pieces};
 pub use source::{ReadFault, Source};
 pub use standard::{StdSink, StdSource};

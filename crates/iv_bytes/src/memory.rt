@@ -4,7 +4,7 @@ ghost use Rattle.std.specs.Io.KnownBytes.{IsAtEnd};
 ghost use Rattle.iv_bytes.specs.Sinks.{Takes, FailsIn, in_memory};
 ghost use Rattle.iv_bytes.specs.Sources.{Gives, from_memory};
 
-use crate::sink::{Sink, WriteFault};
+use crate::sink::{Flush, Sink, WriteFault};
 use crate::source::{ReadFault, Source};
 use std::alloc::{AllocError, Allocator, Global};
 
@@ -68,6 +68,12 @@ impl<A: Allocator> Sink for MemSink<A> {
 
     fn failed(&self) -> bool {
         self.failed
+    }
+}
+
+impl<A: Allocator> Flush for MemSink<A> {
+    fn flush(&mut self) -> Result<(), WriteFault> {
+        Ok(())
     }
 }
 

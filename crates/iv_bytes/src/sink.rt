@@ -28,6 +28,13 @@ pub trait Sink {
         ensures { result ≡ (state self.now).failed };
 }
 
+/// A sink that hands on what it holds when it is asked to.
+pub trait Flush: Sink {
+    /// Hands on all that is held. A fault fails the sink for good.
+    fn flush(&mut self) -> Result<(), WriteFault>
+        ensures { Puts (Self.state self.old) (Self.state self.new) result [] };
+}
+
 /// Puts all the bytes. On a fault the sink has taken a prefix of them.
 pub fn put_all<S: Sink>(sink: &mut S, bytes: &[u8]) -> Result<(), WriteFault>
     ensures { Puts (S.state sink.old) (S.state sink.new) result bytes.now }

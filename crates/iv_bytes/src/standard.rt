@@ -3,11 +3,11 @@ ghost use Rattle.std.specs.Prelude.{◌≡◌, false, []};
 ghost use Rattle.iv_bytes.specs.Sinks.{SinkState};
 ghost use Rattle.iv_bytes.specs.Sources.{SourceState};
 
-use crate::sink::{Sink, WriteFault};
+use crate::sink::{Flush, Sink, WriteFault};
 use crate::source::{ReadFault, Source};
 use std::io::{Read, Write};
 
-/// A sink over a writer. An error of its `write`, an interruption included, and an answer of 0 are failures.
+/// A sink over a writer. An error of its `write` or its `flush`, an interruption included, and an answer of 0 are failures.
 #[derive(Drop)]
 pub struct StdSink<W> {
     writer: W,
@@ -44,6 +44,18 @@ impl<W: Write> Sink for StdSink<W> {
 
     fn failed(&self) -> bool {
         self.failed
+    }
+}
+
+impl<W: Write> Flush for StdSink<W> {
+    fn flush(&mut self) -> Result<(), WriteFault> {
+        match self.writer.flush() {
+            Ok(()) => Ok(()),
+            Err(_) => {
+                self.failed = true;
+                Err(WriteFault)
+            }
+        }
     }
 }
 

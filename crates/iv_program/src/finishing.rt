@@ -3,8 +3,7 @@ ghost use Rattle.std.specs.Prelude.{◌≡◌, true};
 ghost use Rattle.iv_cli.specs.Endings.{is_through, line_of, status_of};
 ghost use Rattle.iv_program.specs.Program.{Finishes, Tells};
 
-use crate::output::Flush;
-use iv_bytes::Sink;
+use iv_bytes::{Flush, Sink};
 use iv_cli::Ending;
 
 /// Tells of an ending, with the name of the file that is meant, and gives its status.

@@ -6,11 +6,10 @@ ghost use Rattle.iv_program.specs.Runs.{RunsPlan};
 
 use crate::files::InputFiles;
 use crate::finishing::finish;
-use crate::output::Flush;
 use crate::script_run::run_session;
 use crate::view_run::print_view;
 use iv_args::{Notice, Plan};
-use iv_bytes::{Sink, Source, put_all};
+use iv_bytes::{Flush, Sink, Source, put_all};
 use iv_cli::Ending;
 use std::alloc::Allocator;
 
