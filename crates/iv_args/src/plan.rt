@@ -123,6 +123,20 @@ impl<'a, A: Allocator + Copy> Plan<'a, A> {
         self.run == Run::Session
     }
 
+    /// The name of the genome file, as the words give it.
+    pub fn sizes_file(&self) -> &'a [u8]
+        ensures { result.now ≡ self.now.sizes }
+    {
+        self.sizes
+    }
+
+    /// The name of the file of the track's records, as the words give it.
+    pub fn first_file(&self) -> &'a [u8]
+        ensures { result.now ≡ self.now.first }
+    {
+        self.first
+    }
+
     /// The name of a file, as the words give it.
     pub fn file(&self, slot: Slot) -> Option<&'a [u8]>
         ensures { option_copied result ≡ file_of self.now slot }

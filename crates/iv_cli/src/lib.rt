@@ -6,4 +6,4 @@ mod ending;
 
 pub use ending::{Ending, run_status, status};
 pub use iv_args::{Notice, Plan, PlanFault, Run, Slot};
-pub use iv_run::{CliFault, FileFault, Inputs, ParsedFiles, load, read_all, shot};
+pub use iv_run::{CliFault, FileFault, Inputs, load, read_all, shot};

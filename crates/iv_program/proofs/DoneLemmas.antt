@@ -91,7 +91,7 @@ none-refused n true t e = eqb-true n 0 t
 none-refused n false t e = absurd (cc e)
 
 -- a flush adds nothing
-then-flushed : (o0 o1 o2 : SinkState) (text : List ℕ) → Takes o0 o1 text → Takes o1 o2 [] → Takes o0 o2 text
+pub then-flushed : (o0 o1 o2 : SinkState) (text : List ℕ) → Takes o0 o1 text → Takes o1 o2 [] → Takes o0 o2 text
 then-flushed o0 o1 o2 text took flushed = subst (λ (l : List ℕ). Takes o0 o2 l) (append-nil text) (Takes-append o0 o1 o2 text [] took flushed)
 
 -- a view that is done was printed whole

@@ -1,2 +1,3 @@
 mod RunLemmas
 mod DoneLemmas
+mod SoundLemmas

@@ -1,12 +1,8 @@
 -- Files that were read, and what a run does with them.
-use Rattle.std.proofs.Common.{◌≡◌, ◌⊎◌, inl, inr, ◌<◌, ◌≤◌, ◌^◌, ℕ, Bool, true, false, List, [], length, Option, None, Some, Result, Ok, Err, IfOk, IfErr, IfSome, refl, sym, ap, ◌∙◌, subst, arith}
-use Rattle.std.specs.Option.{option_transpose}
+use Rattle.std.proofs.Common.{◌≡◌, ◌⊎◌, inl, inr, ◌<◌, ◌≤◌, ◌^◌, ℕ, Bool, true, false, List, [], length, Option, None, Some, Result, Ok, Err, IfOk, IfErr, IfSome, refl, sym, ◌∙◌, subst, arith}
 use Rattle.iv_bytes.specs.Sinks.{SinkState}
-use Rattle.iv_bytes.specs.Sources.{SourceState, IsInput}
-use Rattle.iv_text.specs.BedFile.{Bed, bed_of}
-use Rattle.iv_text.specs.Genome.{Sequences}
-use Rattle.iv_text.specs.declared.fault.LoadFault.{LoadFault}
-use Rattle.iv_workspace.specs.States.{State, begun}
+use Rattle.iv_bytes.specs.Sources.{SourceState}
+use Rattle.iv_workspace.specs.States.{State}
 use Rattle.iv_session.specs.Endings.{Ran}
 use Rattle.iv_session.specs.Running.{Runs as LineRuns, RunsLast}
 use Rattle.iv_session.specs.Scripts.{Done}
@@ -21,19 +17,17 @@ use Rattle.iv_args.specs.declared.fault.PlanFault.{PlanFault}
 use Rattle.iv_args.specs.declared.fault.PlanFault.TheVariants as planning
 use Rattle.iv_args.specs.declared.notice.Notice.{Notice}
 use Rattle.iv_args.specs.declared.plan.Slot.{Slot}
-use Rattle.iv_args.specs.declared.plan.Slot.TheVariants.{First, Other, Bases}
-use Rattle.iv_run.specs.Files.{ReadsWhole}
-use Rattle.iv_run.specs.Loading.{IsAnswer, IsReport, Parsed, loaded, parsed, second_of, session_of}
-use Rattle.iv_run.specs.Shots.{Shows, shown}
+use Rattle.iv_args.specs.declared.plan.Slot.TheVariants.{Sizes, First, Other, Bases}
+use Rattle.iv_run.specs.Loading.{IsReport, loaded}
+use Rattle.iv_run.specs.SoFar.{SaysSecond, SoFar}
 use Rattle.iv_run.specs.declared.fault.CliFault.{CliFault}
-use Rattle.iv_run.specs.declared.fault.CliFault.TheVariants as fault
 use Rattle.iv_run.specs.declared.fault.FileFault.{FileFault}
 use Rattle.iv_cli.specs.Endings.{ending_of_file, ending_of_words, name_meant}
 use Rattle.iv_cli.specs.declared.ending.Ending.{Ending}
-use Rattle.iv_program.specs.Files.{FilesState, IsText, StopsFile, opened}
+use Rattle.iv_program.specs.Files.{FilesState, IsText, StopsFile}
 use Rattle.iv_program.specs.Limits.{most_file_bytes, most_records}
 use Rattle.iv_program.specs.Program.{Shown, Planned, Wrong, Ask, Finishes, Gives, Runs, world}
-use Rattle.iv_program.specs.Runs.{DoesWith, PrintsView, RunsPlan, RunsScript, World, ending_of_shot}
+use Rattle.iv_program.specs.Runs.{DoesWith, PrintsView, RunsPlan, RunsScript, Says, World}
 use Rattle.iv_program.specs.Texts.{Texts, AreTexts, IsTextIfNamed, StopsAt}
 
 -- ---- files that were read
@@ -44,7 +38,12 @@ text-back a b name text same is = subst (λ (f : FilesState). IsText f name text
 pub named-back : (a b : FilesState) (name text : Option (List ℕ)) → b ≡ a → IsTextIfNamed b name text → IsTextIfNamed a name text
 named-back a b name text same is = subst (λ (f : FilesState). IsTextIfNamed f name text) same is
 
--- the first BED file was not read to its end
+-- the genome file was not read to its end
+pub stops-sizes : (plan : RunPlan) (f0 f1 : FilesState) (slot : Slot) (why : FileFault) → (slot ≡ Sizes) × StopsFile f0 plan.sizes why f1 → StopsAt plan f0 f1 slot why
+stops-sizes plan f0 f1 slot why is =
+    subst (λ (s : Slot). StopsAt plan f0 f1 s why) (sym is.0) (record { name = plan.sizes; named = refl; before = tt; stops = is.1 })
+
+-- the first BED file was not
 pub stops-first : (plan : RunPlan) (f0 f1 f2 : FilesState) (sizes : List ℕ) (slot : Slot) (why : FileFault) → IsText f0 plan.sizes sizes → f1 ≡ f0
     → slot ≡ First → StopsFile f1 plan.first why f2 → StopsAt plan f0 f2 slot why
 stops-first plan f0 f1 f2 sizes slot why read same is stops =
@@ -109,56 +108,17 @@ short-other files plan texts are = by plan.other texts.other are.other
     by (Some name) None is = absurd is
     by (Some name) (Some text) is = short (length text) is.1
 
--- ---- views
-
--- a file was read in pieces to its end, and this holds of its text
-pub read-pieces : (files : FilesState) (name : List ℕ) (s0 s1 : SourceState) (r : Result (Result (Unit {0}) CliFault) FileFault)
-    (P : Result (Unit {0}) CliFault → List ℕ → Type 0) → s0 ≡ opened files name
-    → IfOk r (λ done. (text : List ℕ) × ReadsWhole s0 s1 most_file_bytes text × P done text)
-    → IfOk r (λ done. (text : List ℕ) × IsText files name text × P done text)
-read-pieces files name s0 s1 (Ok done) P same said = (said.0, (subst (λ (s : SourceState). IsInput s said.0) same said.1.input, said.1.few), said.2)
-read-pieces files name s0 s1 (Err why) P same said = tt
-
-pub printed-pieces : (plan : RunPlan) (f0 f1 : FilesState) (sizes : List ℕ) (done : Result (Unit {0}) CliFault) (old new : SinkState) (ended : Ending)
-    → plan.other ≡ None → plan.bases ≡ None → IsText f0 plan.sizes sizes → f1 ≡ f0
-    → (text : List ℕ) × IsText f1 plan.first text × Shows old new done (shown plan sizes text None None most_records)
-    → ended ≡ ending_of_shot done → (texts : Texts) × AreTexts f0 plan texts × PrintsView plan texts old new ended
-printed-pieces plan f0 f1 sizes done old new ended no_other no_bases read same first is =
-    let texts : Texts = record { sizes = sizes; first = first.0; other = None; bases = None } in
-    let are : AreTexts f0 plan texts = record {
-      sizes = read;
-      first = text-back f0 f1 plan.first first.0 same first.1;
-      other = subst (λ (o : Option (List ℕ)). IsTextIfNamed f0 o None) (sym no_other) tt;
-      bases = subst (λ (o : Option (List ℕ)). IsTextIfNamed f0 o None) (sym no_bases) tt;
-    } in
-    (texts, are, (done, first.2, is))
-
 -- ---- scripts
 
-pub second-says : (g : Sequences) (width limit : ℕ) (text : List ℕ) (said : Result Bed LoadFault) → IsAnswer said (bed_of g width limit text)
-    → IfOk said (λ file. IsAnswer (Ok (Some file)) (second_of g width limit (Some text)))
-second-says g width limit text (Ok file) says = ap (λ (r : Result Bed LoadFault). option_transpose (Some r)) says
-second-says g width limit text (Err f) says = tt
-
-pub second-says_not : (g : Sequences) (width limit : ℕ) (text : List ℕ) (said : Result Bed LoadFault) → IsAnswer said (bed_of g width limit text)
-    → IfErr said (λ f. IsAnswer {T = Option Bed} (Err f) (second_of g width limit (Some text)))
-second-says_not g width limit text (Ok file) says = tt
-second-says_not g width limit text (Err f) (inl memory) = inl memory
-second-says_not g width limit text (Err f) (inr is) = inr (ap (λ (r : Result Bed LoadFault). option_transpose (Some r)) is)
-
-module _ (width : ℕ) (sizes first : List ℕ) (other bases : Option (List ℕ)) (limit : ℕ) where
-  -- a file is damaged, or memory was refused
-  pub loads-not : (k : CliFault) → (k ≡ fault.Memory) ⊎ (parsed width sizes first other bases limit ≡ Err k)
-      → (k ≡ fault.Memory) ⊎ (loaded width sizes first other bases limit ≡ Err k)
-  loads-not k (inl memory) = inl memory
-  loads-not k (inr is) = inr (ap session_of is)
-
-  -- the files are sound
-  pub loads : (files : Parsed) (r : Result State CliFault) → parsed width sizes first other bases limit ≡ Ok files
-      → IfOk r (λ s. s ≡ begun files.genome files.first files.second files.bases files.limit) → IfErr r (λ k. k ≡ fault.Memory)
-      → IsReport r (loaded width sizes first other bases limit)
-  loads files (Ok s) is ok err = ap session_of is ∙ ap Ok (sym ok)
-  loads files (Err k) is ok err = inl err
+-- the session that the files of a plan begin, once they are read
+pub report-of : (plan : RunPlan) (texts : Texts) (known : SoFar) (bases : Option (List ℕ)) (r : Result State CliFault) → Says (λ r. r) plan texts known bases
+    → ((sizes text : List ℕ) (other : Option (List ℕ)) → SaysSecond (λ r. r) sizes text other known → IsReport r (loaded known.width sizes text other bases known.limit))
+    → IsReport r (loaded plan.width texts.sizes texts.first texts.other texts.bases most_records)
+report-of plan texts known bases r says report =
+    subst (λ (b : Option (List ℕ)). IsReport r (loaded plan.width texts.sizes texts.first texts.other b most_records)) says.bases_are
+    (subst (λ (n : ℕ). IsReport r (loaded plan.width texts.sizes texts.first texts.other bases n)) says.limit_is
+    (subst (λ (w : ℕ). IsReport r (loaded w texts.sizes texts.first texts.other bases known.limit)) says.width_is
+    (report texts.sizes texts.first texts.other says.known_is)))
 
 pub ran-of : (old new : State) (before after : Streams) (lines most : ℕ) (r : Result Summary RunFault)
     → IfOk r (λ summary. Done LineRuns old new before after lines most summary.lines summary.refused)

@@ -1,5 +1,5 @@
--- A run that has done all that its words ask for.
-use Rattle.std.specs.Prelude.{◌≡◌, ℕ, List, [], Bool, true, false, Ok}
+-- A run that has done all that its words ask for, and one that nothing hindered.
+use Rattle.std.specs.Prelude.{◌≡◌, ◌≤◌, ℕ, List, [], Bool, true, false, Option, None, Some, Result, Ok, Err, length}
 use Rattle.iv_bytes.specs.Sinks.{Takes}
 use Rattle.iv_workspace.specs.States.{State}
 use Rattle.iv_session.specs.Running.{Runs as LineRuns}
@@ -8,7 +8,10 @@ use Rattle.iv_session.specs.Streams.{Streams}
 use Rattle.iv_args.specs.Words.{RunPlan, is_session}
 use Rattle.iv_run.specs.Loading.{loaded}
 use Rattle.iv_run.specs.Shots.{shown}
-use Rattle.iv_program.specs.Limits.{most_records, most_lines, most_line_bytes}
+use Rattle.iv_run.specs.declared.fault.CliFault.{CliFault}
+use Rattle.iv_cli.specs.Endings.{ending_of, line_of, name_meant, status_of}
+use Rattle.iv_program.specs.Files.{FilesState}
+use Rattle.iv_program.specs.Limits.{most_file_bytes, most_records, most_lines, most_line_bytes}
 use Rattle.iv_program.specs.Runs.{World}
 use Rattle.iv_program.specs.Texts.{Texts, AreTexts}
 
@@ -37,3 +40,29 @@ pub record DoesAll (plan : RunPlan) (before after : World) : Type 0 where
   pub texts : Texts
   pub are : AreTexts before.files plan texts
   pub does : DoesAllWith (is_session plan.run) plan texts before.streams after.streams
+
+-- the file of a name has these bytes, which are not too many; there is none without a name
+abbrev pub HasBytes : FilesState → Option (List ℕ) → Option (List ℕ) → Type 0
+HasBytes files None bytes = bytes ≡ None
+HasBytes files (Some name) bytes = (known : List ℕ) × (files.contents name ≡ Some known) × (length known ≤ most_file_bytes) × (bytes ≡ Some known)
+
+-- the files that a plan names have these bytes
+pub record Hold (files : FilesState) (plan : RunPlan) (texts : Texts) : Type 0 where
+  pub sizes : HasBytes files (Some plan.sizes) (Some texts.sizes)
+  pub first : HasBytes files (Some plan.first) (Some texts.first)
+  pub other : HasBytes files plan.other texts.other
+  pub bases : HasBytes files plan.bases texts.bases
+
+-- no file failed, nor the output, nor the messages
+pub record AreSound (after : World) : Type 0 where
+  pub files : after.files.failed ≡ false
+  pub output : after.streams.output.failed ≡ false
+  pub messages : after.streams.messages.failed ≡ false
+
+-- this is what a view is to print, and just that was printed; or its fault, and just the line of that was put among the messages
+abbrev pub PrintsJust : RunPlan → Result (List ℕ) CliFault → Streams → Streams → ℕ → Type 0
+PrintsJust plan (Ok text) before after status =
+    Takes before.output after.output text × (after.messages ≡ before.messages) × (status ≡ 0)
+PrintsJust plan (Err k) before after status =
+    Takes before.output after.output []
+    × Takes before.messages after.messages (line_of (name_meant plan (ending_of k)) (ending_of k)) × (status ≡ status_of (ending_of k))

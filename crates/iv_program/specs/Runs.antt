@@ -1,8 +1,7 @@
 -- What a run of a plan does once its files are read.
-use Rattle.std.specs.Prelude.{◌≡◌, ℕ, ◌⊎◌, List, Bool, true, false, Option, IfOk, IfSome, Result, Ok, Err}
+use Rattle.std.specs.Prelude.{◌≡◌, ℕ, ◌⊎◌, List, Bool, true, false, Option, Result, Ok, Err}
 use Rattle.iv_bytes.specs.Sinks.{SinkState}
-use Rattle.iv_text.specs.BedFile.{Bed, bed_of}
-use Rattle.iv_text.specs.declared.fault.LoadFault.{LoadFault}
+use Rattle.iv_text.specs.Row.{Row}
 use Rattle.iv_workspace.specs.States.{State}
 use Rattle.iv_session.specs.Endings.{Ran}
 use Rattle.iv_session.specs.Streams.{Streams}
@@ -10,8 +9,9 @@ use Rattle.iv_session.specs.declared.script.RunFault.{RunFault}
 use Rattle.iv_session.specs.declared.script.Summary.{Summary}
 use Rattle.iv_args.specs.Words.{RunPlan, is_session}
 use Rattle.iv_args.specs.declared.plan.Slot.{Slot}
-use Rattle.iv_run.specs.Loading.{FitsRun, GenomeOfRun, IsAnswer, IsReport, SaysGenome, loaded, second_of}
+use Rattle.iv_run.specs.Loading.{IsReport, loaded}
 use Rattle.iv_run.specs.Shots.{Shows, shown}
+use Rattle.iv_run.specs.SoFar.{SaysSecond, SoFar}
 use Rattle.iv_run.specs.declared.fault.CliFault.{CliFault}
 use Rattle.iv_run.specs.declared.fault.FileFault.{FileFault}
 use Rattle.iv_cli.specs.Endings.{ending_of, ending_of_file, ending_of_run}
@@ -77,14 +77,9 @@ pub record HasNotRead (plan : RunPlan) (before after : World) (ended : Ending) :
 abbrev pub RunsPlan : RunPlan → World → World → Ending → Type 0
 RunsPlan plan before after ended = HasRead plan before after ended ⊎ HasNotRead plan before after ended
 
--- what was read of the files of a script says what these texts say. No part of what is promised
-pub record Says (plan : RunPlan) (texts : Texts) (run : GenomeOfRun) (first : Result Bed LoadFault)
-    (second : Result (Option Bed) LoadFault) (bases : Option (List ℕ)) : Type 0 where
-  pub width_is : run.width ≡ plan.width
-  pub limit_is : run.limit ≡ most_records
-  pub genome_says : SaysGenome texts.sizes run
-  pub first_says : IsAnswer first (bed_of run.genome run.width run.limit texts.first)
-  pub first_fits : IfOk first (FitsRun run)
-  pub second_says : IsAnswer second (second_of run.genome run.width run.limit texts.other)
-  pub second_fits : IfOk second (λ file. IfSome file (FitsRun run))
+-- what is known of the files of a plan, and the bytes of its FASTA file, are what these texts say. No part of what is promised
+pub record Says (kept : Row → Row) (plan : RunPlan) (texts : Texts) (known : SoFar) (bases : Option (List ℕ)) : Type 0 where
+  pub width_is : known.width ≡ plan.width
+  pub limit_is : known.limit ≡ most_records
+  pub known_is : SaysSecond kept texts.sizes texts.first texts.other known
   pub bases_are : bases ≡ texts.bases

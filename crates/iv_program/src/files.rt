@@ -1,8 +1,24 @@
-//! Files that are opened by their names.
-ghost use Rattle.std.specs.Prelude.{◌≡◌, IfOk, OnOk, OnErr, true};
-ghost use Rattle.iv_program.specs.Files.{FilesState, opened, after_closing};
+//! Files that are opened by their names, and reading those of a plan.
+ghost use Rattle.std.specs.Prelude.{◌≡◌, List, ℕ, Option, None, Some, IfOk, IfErr, OnOk, OnErr, true};
+ghost use Rattle.std.specs.Option.{option_copied, option_map};
+ghost use Rattle.iv_args.specs.Words.{file_of};
+ghost use Rattle.iv_run.specs.SoFar.{IsOfOneRun, SaysFirst, SaysSecond, SaysSizes};
+ghost use Rattle.iv_program.specs.Files.{FilesState, IsText, StopsFile, opened, after_closing};
+ghost use Rattle.iv_program.specs.Runs.{Says};
+ghost use Rattle.iv_program.specs.Texts.{Texts, AreTexts, IsTextIfNamed, StopsAt};
 
+use iv_args::{Plan, Slot};
 use iv_bytes::{ReadFault, Source};
+use iv_run::{FileFault, Inputs, Loading, read_all};
+use iv_text::FromRecord;
+use std::alloc::{Allocator, Global};
+use std::marker::Model;
+
+/// How many bytes a file may have.
+const MOST_FILE_BYTES: u64 = 4_294_967_295;
+
+/// How many records a BED file may have.
+pub(crate) const MOST_RECORDS: u32 = 4_000_000;
 
 /// Files that a program opens by their names, one after another.
 pub trait InputFiles {
@@ -21,4 +37,235 @@ pub trait InputFiles {
     /// Takes a file back that is not needed any more. That it failed is kept.
     fn close(&mut self, file: Self::File)
         ensures { state self.new ≡ after_closing (Self.File.state file).failed (state self.old) };
+}
+
+/// Which file of a plan was not read to its end, and why.
+pub(crate) type SlotFault = (Slot, FileFault);
+
+/// The bytes of the file of this name.
+fn read_file<A: Allocator + Copy, F: InputFiles>(
+    alloc: A,
+    files: &mut F,
+    name: &[u8],
+) -> Result<Vec<u8, A>, FileFault>
+    ensures ok { IfOk result (λ bytes. IsText (F.state files.old) name.now bytes.items) }
+    ensures same { OnOk result (F.state files.new ≡ F.state files.old) }
+    ensures err { IfErr result (λ fault. StopsFile (F.state files.old) name.now fault (F.state files.new)) }
+{
+    let mut file = files.open(name)?;
+    let read = read_all(alloc, &mut file, MOST_FILE_BYTES);
+    files.close(file);
+    read
+}
+
+/// The bytes of the file of this name, which is in this slot of a plan.
+fn read_named<A: Allocator + Copy, F: InputFiles>(
+    alloc: A,
+    files: &mut F,
+    slot: Slot,
+    name: &[u8],
+) -> Result<Vec<u8, A>, SlotFault>
+    ensures ok { IfOk result (λ bytes. IsText (F.state files.old) name.now bytes.items) }
+    ensures same { OnOk result (F.state files.new ≡ F.state files.old) }
+    ensures err { IfErr result (λ why. (why.0 ≡ slot) × StopsFile (F.state files.old) name.now why.1 (F.state files.new)) }
+{
+    match read_file(alloc, files, name) {
+        Ok(bytes) => Ok(bytes),
+        Err(fault) => Err((slot, fault)),
+    }
+}
+
+/// The bytes of a file of a plan, where it names one.
+fn read_slot<A: Allocator + Copy, F: InputFiles>(
+    alloc: A,
+    files: &mut F,
+    plan: &Plan<'_, A>,
+    slot: Slot,
+) -> Result<Option<Vec<u8, A>>, SlotFault>
+    ensures ok { IfOk result (λ read. IsTextIfNamed (F.state files.old) (file_of plan.now slot) (option_map (λ bytes. bytes.items) read)) }
+    ensures same { OnOk result (F.state files.new ≡ F.state files.old) }
+    ensures err { IfErr result (λ why. (why.0 ≡ slot)
+        × ((name : List ℕ) × (file_of plan.now slot ≡ Some name) × StopsFile (F.state files.old) name why.1 (F.state files.new))) }
+{
+    let Some(name) = plan.file(slot) else {
+        return Ok(None);
+    };
+    match read_file(alloc, files, name) {
+        Ok(bytes) => Ok(Some(bytes)),
+        Err(fault) => Err((slot, fault)),
+    }
+}
+
+/// The bytes of the files of a plan that are lent to a run, the FASTA file aside.
+#[derive(Drop)]
+pub(crate) struct LentTexts<A: Allocator + Copy = Global> {
+    sizes: Vec<u8, A>,
+    first: Vec<u8, A>,
+    other: Option<Vec<u8, A>>,
+}
+
+impl<A: Allocator + Copy> LentTexts<A> {
+    /// The bytes, lent.
+    pub(crate) fn inputs(&self) -> Inputs<'_>
+        ensures sizes { result.sizes.now ≡ self.now.sizes.items }
+        ensures first { result.first.now ≡ self.now.first.items }
+        ensures other { option_copied result.other ≡ option_map (λ bytes. bytes.items) self.now.other }
+    {
+        let other = match &self.other {
+            Some(bytes) => Some(bytes.as_slice()),
+            None => None,
+        };
+        Inputs {
+            sizes: self.sizes.as_slice(),
+            first: self.first.as_slice(),
+            other,
+        }
+    }
+}
+
+/// The bytes of the files of a plan.
+#[derive(Drop)]
+pub(crate) struct FileTexts<A: Allocator + Copy = Global> {
+    pub(crate) lent: LentTexts<A>,
+    pub(crate) bases: Option<Vec<u8, A>>,
+}
+
+impl<A: Allocator + Copy> Model for FileTexts<A> {
+    ghost use Rattle.std.specs.Option.{option_map};
+    ghost use Rattle.iv_program.specs.Texts.{Texts};
+
+    ghost Value = { Texts };
+
+    ghost view = { λ t. record { sizes = t.lent.sizes.items; first = t.lent.first.items; other = option_map (λ bytes. bytes.items) t.lent.other; bases = option_map (λ bytes. bytes.items) t.bases } };
+}
+
+impl<A: Allocator + Copy> FileTexts<A> {
+    /// Reads all files of a plan, in the order of their slots.
+    pub(crate) fn read<F: InputFiles>(
+        alloc: A,
+        files: &mut F,
+        plan: &Plan<'_, A>,
+    ) -> Result<FileTexts<A>, SlotFault>
+        ensures ok { IfOk result (λ texts. AreTexts (F.state files.old) plan.now texts) }
+        ensures same { OnOk result (F.state files.new ≡ F.state files.old) }
+        ensures err { IfErr result (λ why. StopsAt plan.now (F.state files.old) (F.state files.new) why.0 why.1) }
+    {
+        let sizes = read_named(alloc, files, Slot::Sizes, plan.sizes_file())?;
+        let first = read_named(alloc, files, Slot::First, plan.first_file())?;
+        let other = read_slot(alloc, files, plan, Slot::Other)?;
+        let bases = read_slot(alloc, files, plan, Slot::Bases)?;
+        let lent = LentTexts {
+            sizes,
+            first,
+            other,
+        };
+        Ok(FileTexts { lent, bases })
+    }
+}
+
+/// Reads the BED file of this name as the first one of a run.
+fn load_first<K: FromRecord<A>, A: Allocator + Copy, F: InputFiles>(
+    files: &mut F,
+    name: &[u8],
+    loading: &mut Loading<K, A>,
+) -> Result<(), FileFault>
+    ensures ok { OnOk result ((text : List ℕ) × IsText (F.state files.old) name.now text
+        × ((sizes : List ℕ) → SaysSizes sizes loading.old → SaysFirst K.kept sizes text loading.new)) }
+    ensures run { IsOfOneRun loading.old loading.new }
+    ensures beside { loading.new.second ≡ loading.old.second }
+    ensures same { OnOk result (F.state files.new ≡ F.state files.old) }
+    ensures err { IfErr result (λ fault. StopsFile (F.state files.old) name.now fault (F.state files.new)) }
+{
+    let mut file = files.open(name)?;
+    let read = loading.read_first(&mut file, MOST_FILE_BYTES);
+    files.close(file);
+    read
+}
+
+/// Reads the BED file of this name as the second one of a run.
+fn load_second<K: FromRecord<A>, A: Allocator + Copy, F: InputFiles>(
+    files: &mut F,
+    name: &[u8],
+    loading: &mut Loading<K, A>,
+) -> Result<(), FileFault>
+    ensures ok { OnOk result ((other : List ℕ) × IsText (F.state files.old) name.now other
+        × ((sizes text : List ℕ) → SaysFirst K.kept sizes text loading.old → SaysSecond K.kept sizes text (Some other) loading.new)) }
+    ensures run { IsOfOneRun loading.old loading.new }
+    ensures same { OnOk result (F.state files.new ≡ F.state files.old) }
+    ensures err { IfErr result (λ fault. StopsFile (F.state files.old) name.now fault (F.state files.new)) }
+{
+    let mut file = files.open(name)?;
+    let read = loading.read_second(&mut file, MOST_FILE_BYTES);
+    files.close(file);
+    read
+}
+
+/// Reads the first BED file of a plan.
+fn read_first<K: FromRecord<A>, A: Allocator + Copy, F: InputFiles>(
+    files: &mut F,
+    plan: &Plan<'_, A>,
+    loading: &mut Loading<K, A>,
+) -> Result<(), SlotFault>
+    ensures ok { OnOk result ((text : List ℕ) × IsText (F.state files.old) plan.now.first text
+        × ((sizes : List ℕ) → SaysSizes sizes loading.old → SaysFirst K.kept sizes text loading.new)) }
+    ensures run { IsOfOneRun loading.old loading.new }
+    ensures beside { loading.new.second ≡ loading.old.second }
+    ensures same { OnOk result (F.state files.new ≡ F.state files.old) }
+    ensures err { IfErr result (λ why. (why.0 ≡ Slot.First) × StopsFile (F.state files.old) plan.now.first why.1 (F.state files.new)) }
+{
+    match load_first(files, plan.first_file(), loading) {
+        Ok(()) => Ok(()),
+        Err(fault) => Err((Slot::First, fault)),
+    }
+}
+
+/// Reads the second BED file of a plan, where it names one.
+fn read_second<K: FromRecord<A>, A: Allocator + Copy, F: InputFiles>(
+    files: &mut F,
+    plan: &Plan<'_, A>,
+    loading: &mut Loading<K, A>,
+) -> Result<(), SlotFault>
+    ensures ok { OnOk result ((other : Option (List ℕ)) × IsTextIfNamed (F.state files.old) plan.now.other other
+        × ((sizes text : List ℕ) → SaysFirst K.kept sizes text loading.old → loading.old.second ≡ None → SaysSecond K.kept sizes text other loading.new)) }
+    ensures run { IsOfOneRun loading.old loading.new }
+    ensures same { OnOk result (F.state files.new ≡ F.state files.old) }
+    ensures err { IfErr result (λ why. (why.0 ≡ Slot.Other)
+        × ((name : List ℕ) × (plan.now.other ≡ Some name) × StopsFile (F.state files.old) name why.1 (F.state files.new))) }
+{
+    let Some(name) = plan.file(Slot::Other) else {
+        return Ok(());
+    };
+    match load_second(files, name, loading) {
+        Ok(()) => Ok(()),
+        Err(fault) => Err((Slot::Other, fault)),
+    }
+}
+
+/// The files of a plan, once all are read: what the genome file and the BED files say, of which no text is kept, and the bytes of
+/// the FASTA file.
+#[derive(Drop)]
+pub(crate) struct ReadFiles<K: FromRecord<A>, A: Allocator + Copy = Global> {
+    pub(crate) loading: Loading<K, A>,
+    pub(crate) bases: Option<Vec<u8, A>>,
+}
+
+impl<K: FromRecord<A>, A: Allocator + Copy> ReadFiles<K, A> {
+    /// Reads all files of a plan, in the order of their slots.
+    pub(crate) fn read<F: InputFiles>(
+        alloc: A,
+        files: &mut F,
+        plan: &Plan<'_, A>,
+    ) -> Result<Self, SlotFault>
+        ensures ok { IfOk result (λ read. (texts : Texts) × AreTexts (F.state files.old) plan.now texts
+            × Says K.kept plan.now texts read.loading (option_map (λ bytes. bytes.items) read.bases)) }
+        ensures same { OnOk result (F.state files.new ≡ F.state files.old) }
+        ensures err { IfErr result (λ why. StopsAt plan.now (F.state files.old) (F.state files.new) why.0 why.1) }
+    {
+        let sizes = read_named(alloc, files, Slot::Sizes, plan.sizes_file())?;
+        let mut loading = Loading::begin(alloc, plan, sizes.as_slice(), MOST_RECORDS);
+        read_first(files, plan, &mut loading)?;
+        read_second(files, plan, &mut loading)?;
+        let bases = read_slot(alloc, files, plan, Slot::Bases)?;
+        Ok(ReadFiles { loading, bases })
+    }
 }

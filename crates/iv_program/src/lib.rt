@@ -2,16 +2,12 @@
 #![tactic(auto)]
 
 mod files;
-mod finishing;
 mod laws;
 mod memory;
 mod program;
-mod reading;
 mod script_run;
-mod view_run;
 
 pub use files::InputFiles;
-pub use finishing::tell;
-pub use laws::{done_is_all, one_plan_at_most};
+pub use laws::{done_is_all, one_plan_at_most, views_depend_on_bytes_alone};
 pub use memory::{MemFiles, NamedBytes};
-pub use program::run_program;
+pub use program::{run_program, tell};

@@ -1,16 +1,22 @@
-//! The whole program.
-ghost use Rattle.std.specs.Prelude.{map};
+//! The whole program: what the words ask for, the run of one subcommand, and how each run ends.
+ghost use Rattle.std.specs.Prelude.{◌≡◌, ◌<◌, ◌^◌, IfOk, IfErr, IfSome, OnOk, OnErr, length, map, true};
+ghost use Rattle.std.specs.Option.{option_map};
+ghost use Rattle.iv_index.specs.Places.{bare};
 ghost use Rattle.iv_args.specs.Texts.{notice_text};
-ghost use Rattle.iv_program.specs.Program.{Gives, Runs, world};
-ghost use Rattle.iv_program.specs.Runs.{RunsPlan};
+ghost use Rattle.iv_args.specs.Words.{RunPlan};
+ghost use Rattle.iv_run.specs.PlacesViews.{AskForPlaces};
+ghost use Rattle.iv_cli.specs.Endings.{is_through, line_of, status_of};
+ghost use Rattle.iv_program.specs.Program.{Finishes, Gives, Runs, Tells, world};
+ghost use Rattle.iv_program.specs.Runs.{PrintsView, RunsPlan, Says, ending_of_shot};
+ghost use Rattle.iv_program.specs.Texts.{Texts, AreTexts, StopsAt};
 
-use crate::files::InputFiles;
-use crate::finishing::finish;
+use crate::files::{FileTexts, InputFiles, MOST_RECORDS, ReadFiles, SlotFault};
 use crate::script_run::run_session;
-use crate::view_run::print_view;
 use iv_args::{Notice, Plan};
 use iv_bytes::{Flush, Sink, Source, put_all};
 use iv_cli::Ending;
+use iv_index::Span;
+use iv_run::{CliFault, PlacesView, shot};
 use std::alloc::Allocator;
 
 /// Prints a notice.
@@ -21,6 +27,65 @@ fn print_notice<W: Sink>(notice: Notice, output: &mut W) -> Ending
         Ok(()) => Ending::Done,
         Err(_) => Ending::Output,
     }
+}
+
+/// How a run of one subcommand ends that has read its files.
+fn ending_of(done: Result<(), CliFault>) -> Ending
+    ensures { result ≡ ending_of_shot done }
+{
+    match done {
+        Ok(()) => Ending::Done,
+        Err(fault) => Ending::from(fault),
+    }
+}
+
+/// Prints a view whose rows depend on nothing of a record but its place, of the files that were read.
+fn print_places<A: Allocator + Copy, W: Sink>(
+    view: PlacesView,
+    read: ReadFiles<Span, A>,
+    output: &mut W,
+) -> Ending
+    ensures { (plan : RunPlan) (texts : Texts) → AskForPlaces plan.view view → Says bare plan texts read.loading (option_map (λ bytes. bytes.items) read.bases)
+        → PrintsView plan texts (W.state output.old) (W.state output.new) result }
+{
+    let ReadFiles { loading, bases } = read;
+    ending_of(loading.print(view, bases, output))
+}
+
+/// Prints the view of a plan, given the texts of all its files.
+fn print_texts<A: Allocator + Copy, W: Sink>(
+    alloc: A,
+    plan: &Plan<'_, A>,
+    texts: FileTexts<A>,
+    output: &mut W,
+) -> Ending
+    requires first { length texts.first < 2 ^ 32 }
+    requires other { IfSome texts.other (λ text. length text < 2 ^ 32) }
+    ensures { PrintsView plan.now texts (W.state output.old) (W.state output.new) result }
+{
+    let FileTexts { lent, bases } = texts;
+    ending_of(shot(alloc, plan, &lent.inputs(), bases, MOST_RECORDS, output))
+}
+
+/// Prints the view of a plan.
+fn print_view<A: Allocator + Copy, F: InputFiles, W: Sink>(
+    alloc: A,
+    files: &mut F,
+    plan: &Plan<'_, A>,
+    output: &mut W,
+) -> Result<Ending, SlotFault>
+    ensures ok { IfOk result (λ ended. (texts : Texts) × AreTexts (F.state files.old) plan.now texts
+        × PrintsView plan.now texts (W.state output.old) (W.state output.new) ended) }
+    ensures same { OnOk result (F.state files.new ≡ F.state files.old) }
+    ensures err { IfErr result (λ why. StopsAt plan.now (F.state files.old) (F.state files.new) why.0 why.1) }
+    ensures nothing { OnErr result (W.state output.new ≡ W.state output.old) }
+{
+    if let Some(view) = PlacesView::of_plan(plan) {
+        let read = ReadFiles::read(alloc, files, plan)?;
+        return Ok(print_places(view, read, output));
+    }
+    let texts = FileTexts::read(alloc, files, plan)?;
+    Ok(print_texts(alloc, plan, texts, output))
 }
 
 /// Does what a plan asks for.
@@ -46,6 +111,25 @@ fn run_plan<A: Allocator + Copy, F: InputFiles, R: Source, W: Sink, E: Sink>(
         Ok(ended) => ended,
         Err(why) => Ending::from(why),
     }
+}
+
+/// Tells of an ending, with the name of the file that is meant, and gives its status.
+pub fn tell<E: Sink>(ending: Ending, name: &[u8], messages: &mut E) -> u8
+    ensures told { Tells (E.state messages.old) (E.state messages.new) (line_of name.now ending) }
+    ensures quiet { is_through ending ≡ true → messages.new ≡ messages.old }
+    ensures status { result ≡ status_of ending }
+{
+    // Where the messages take no more, the status alone tells.
+    let _ = ending.put_line(name, messages);
+    ending.status()
+}
+
+/// Ends a run: the output hands on what it holds, and the ending is told.
+fn finish<W: Flush, E: Sink>(ended: Ending, name: &[u8], output: &mut W, messages: &mut E) -> u8
+    ensures { Finishes ended name.now (W.state output.old) (W.state output.new) (E.state messages.old) (E.state messages.new) result }
+{
+    let flushed = output.flush().is_ok();
+    tell(ended.after_flush(flushed), name, messages)
 }
 
 /// Runs the program: does what the words after its name ask for, with these files, this input, output and messages, and gives

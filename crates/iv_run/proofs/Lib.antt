@@ -3,5 +3,4 @@ pub mod LoadLemmas
 pub mod ShotLemmas
 mod PlacesAlone
 pub mod PieceLemmas
-pub mod SpanLemmas
 pub mod PlacesLemmas

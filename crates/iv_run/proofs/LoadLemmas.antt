@@ -1,5 +1,6 @@
 -- Damaged files.
-use Rattle.std.proofs.Common.{◌≡◌, ℕ, List, Option, None, Some, Result, Ok, Err, refl, sym, ap, subst, ◌∙◌, ◌⊎◌, inl, inr, ◌≤◌, IfOk, IfSome, IfErr}
+use Rattle.std.proofs.Common.{◌≡◌, ◌≤◌, ℕ, List, [], ◌∷◌, map, length, IfSome, Option, None, Some, Result, Ok, Err, refl, sym, ap, subst, ◌∙◌, ◌⊎◌, inl, inr, IfOk, IfErr}
+use Rattle.std.specs.Prelude.{All}
 use Rattle.iv_text.specs.Genome.{Sequences}
 use Rattle.iv_text.specs.GenomeFile.{genome_of}
 use Rattle.iv_text.specs.BedFile.{Bed, bed_of}
@@ -11,9 +12,14 @@ use Rattle.iv_run.specs.declared.fault.CliFault.TheVariants.{Damaged, Memory}
 use Rattle.iv_args.specs.declared.plan.Slot.{Slot}
 use Rattle.iv_args.specs.declared.plan.Slot.TheVariants.{Sizes, First, Other, Bases}
 use Rattle.iv_fasta.specs.Fasta as Fasta
-use Rattle.iv_track.specs.Tracked.{most_records}
 use Rattle.iv_workspace.specs.States.{State, begun}
-use Rattle.iv_run.specs.Loading.{FitTogether, FitsRun, GenomeOfRun, IsAnswer, Parsed, loaded, session_of, SaysGenome, genome_or_damage, parsed, bases_said, second_of, with_bases, with_second, with_first, with_genome, fault_of, damage_of}
+use Rattle.iv_run.specs.Loading.{IsAnswer, IsReport, Parsed, loaded, session_of, parsed, bases_said, second_of, with_bases, with_second, with_first, with_genome, fault_of, damage_of}
+use Rattle.std.specs.Option.{option_map, option_transpose}
+use Rattle.iv_text.specs.KeptDrafts.{kept_bed, kept_bed_of, kept_or_fault}
+use Rattle.iv_text.specs.Read.{Fits}
+use Rattle.iv_text.specs.Row.{Row}
+use Rattle.iv_text.proofs.KeptLemmas.{fit-all}
+use Rattle.iv_run.specs.SoFar.{SoFar, AreBoth, AreKept, ReportsKept, SaysFirst, SaysFirstBy, SaysSecond, SaysSecondBy, SaysSizes, SaysSizesBy, kept_files, noted, taken_first, taken_second}
 
 -- a fault is reported as damage, unless it is out of memory
 reported : (c : LoadCause) (damaged : CliFault) → (c ≡ cause.Memory) ⊎ (fault_of c damaged ≡ damaged)
@@ -41,121 +47,235 @@ reported-by slot f P leads (inr is) = elim (reported f.cause (Damaged slot f)) [
   | inr same ↦ inr (subst P (sym same) (leads is))
 ]
 
-module _ (width : ℕ) (sizes first : List ℕ) (other bases : Option (List ℕ)) (limit : ℕ) where
-  -- this is the first fault of the files
-  abbrev IsFault : CliFault → Type 0
-  IsFault k = parsed width sizes first other bases limit ≡ Err k
+-- ---- the first damaged file
 
-  pub genome-damaged : (f : LoadFault) → IsWhy f (genome_of sizes) → (damage_of Sizes f ≡ Memory) ⊎ (parsed width sizes first other bases limit ≡ Err (damage_of Sizes f))
-  genome-damaged f why = reported-by Sizes f IsFault (ap (with_genome width first other bases limit)) why
+module _ (width : ℕ) (sizes text : List ℕ) (limit : ℕ) where
+  -- whatever the other files say, this is the first fault
+  abbrev IsFault : CliFault → Type 0
+  IsFault k = (other bases : Option (List ℕ)) → parsed width sizes text other bases limit ≡ Err k
 
   -- the genome file is sound
   module _ (g : Sequences) (genome : genome_of sizes ≡ Ok g) where
-    past-genome : parsed width sizes first other bases limit ≡ with_first g width other bases limit (bed_of g width limit first)
-    past-genome = ap (with_genome width first other bases limit) genome
+    past-genome : (other bases : Option (List ℕ)) → parsed width sizes text other bases limit ≡ with_first g width other bases limit (bed_of g width limit text)
+    past-genome other bases = ap (with_genome width text other bases limit) genome
 
-    pub first-damaged : (f : LoadFault) → IsWhy f (bed_of g width limit first) → (damage_of First f ≡ Memory) ⊎ (parsed width sizes first other bases limit ≡ Err (damage_of First f))
-    first-damaged f why =
-        reported-by First f IsFault (λ is. past-genome ∙ ap (with_first g width other bases limit) is) why
+    pub first-damaged : (f : LoadFault) → IsWhy f (bed_of g width limit text) → (damage_of First f ≡ Memory) ⊎ IsFault (damage_of First f)
+    first-damaged f why = reported-by First f IsFault (λ is other bases. past-genome other bases ∙ ap (with_first g width other bases limit) is) why
 
     -- the first BED file is sound
-    module _ (bed : Bed) (sound : bed_of g width limit first ≡ Ok bed) where
-      pub past-first : parsed width sizes first other bases limit ≡ with_second g bed bases limit (second_of g width limit other)
-      past-first = past-genome ∙ ap (with_first g width other bases limit) sound
+    module _ (bed : Bed) (sound : bed_of g width limit text ≡ Ok bed) (other : Option (List ℕ)) where
+      past-first : (bases : Option (List ℕ)) → parsed width sizes text other bases limit ≡ with_second g bed bases limit (second_of g width limit other)
+      past-first bases = past-genome other bases ∙ ap (with_first g width other bases limit) sound
 
-      pub second-damaged : (f : LoadFault) → IsWhy f (second_of g width limit other) → (damage_of Other f ≡ Memory) ⊎ (parsed width sizes first other bases limit ≡ Err (damage_of Other f))
-      second-damaged f why =
-          reported-by Other f IsFault (λ is. past-first ∙ ap (with_second g bed bases limit) is) why
+      abbrev IsLaterFault : CliFault → Type 0
+      IsLaterFault k = (bases : Option (List ℕ)) → parsed width sizes text other bases limit ≡ Err k
+
+      pub second-damaged : (f : LoadFault) → IsWhy f (second_of g width limit other) → (damage_of Other f ≡ Memory) ⊎ IsLaterFault (damage_of Other f)
+      second-damaged f why = reported-by Other f IsLaterFault (λ is bases. past-first bases ∙ ap (with_second g bed bases limit) is) why
 
       -- the second BED file is sound, or there is none
-      module _ (second : Option Bed) (whole : second_of g width limit other ≡ Ok second) where
-        pub past-second : parsed width sizes first other bases limit ≡ with_bases g bed second limit (bases_said g bases)
-        past-second = past-first ∙ ap (with_second g bed bases limit) whole
+      module _ (second : Option Bed) (whole : second_of g width limit other ≡ Ok second) (bases : Option (List ℕ)) where
+        pub past-second : parsed width sizes text other bases limit ≡ with_bases g bed second limit (bases_said g bases)
+        past-second = past-first bases ∙ ap (with_second g bed bases limit) whole
 
-        pub bases-damaged : (f : LoadFault) → IsWhy f (bases_said g bases) → (damage_of Bases f ≡ Memory) ⊎ (parsed width sizes first other bases limit ≡ Err (damage_of Bases f))
-        bases-damaged f why = reported-by Bases f IsFault (λ is. past-second ∙ ap (with_bases g bed second limit) is) why
+        abbrev IsLastFault : CliFault → Type 0
+        IsLastFault k = parsed width sizes text other bases limit ≡ Err k
 
--- the genome file and the first BED file are sound, whatever that says: the fault of the others
-module _ (g : Sequences) (width : ℕ) (other bases : Option (List ℕ)) (limit : ℕ) where
-  abbrev IsLater : CliFault → Type 0
-  IsLater k = (first : Bed) → with_second g first bases limit (second_of g width limit other) ≡ Err k
+        pub bases-damaged : (f : LoadFault) → IsWhy f (bases_said g bases) → (damage_of Bases f ≡ Memory) ⊎ IsLastFault (damage_of Bases f)
+        bases-damaged f why = reported-by Bases f IsLastFault (λ is. past-second ∙ ap (with_bases g bed second limit) is) why
 
-  pub second-damaged_later : (f : LoadFault) → IsWhy f (second_of g width limit other) → (damage_of Other f ≡ Memory) ⊎ IsLater (damage_of Other f)
-  second-damaged_later f why = reported-by Other f IsLater (λ is first. ap (with_second g first bases limit) is) why
+-- ---- files that are read at once
 
-  pub bases-damaged_later : (second : Option Bed) → second_of g width limit other ≡ Ok second → (f : LoadFault) → IsWhy f (bases_said g bases) → (damage_of Bases f ≡ Memory) ⊎ IsLater (damage_of Bases f)
-  bases-damaged_later second whole f why =
-      reported-by Bases f IsLater (λ is first. ap (with_second g first bases limit) whole ∙ ap (with_bases g first second limit) is) why
+module _ (width : ℕ) (sizes text : List ℕ) (other bases : Option (List ℕ)) (limit : ℕ) where
+  abbrev Reported : CliFault → Type 0
+  Reported k = (k ≡ Memory) ⊎ (parsed width sizes text other bases limit ≡ Err k)
 
--- ---- files that were read
+  -- one of them is damaged
+  pub no-sizes : (r : Result Sequences LoadFault) → IfErr r (λ f. IsWhy f (genome_of sizes)) → (k : CliFault) → (f : LoadFault) × (r ≡ Err f) × (k ≡ damage_of Sizes f) → Reported k
+  no-sizes r whys k why =
+      let said : IsWhy why.0 (genome_of sizes) = subst (λ (r : Result Sequences LoadFault). IfErr r (λ f. IsWhy f (genome_of sizes))) why.1 whys in
+      subst Reported (sym why.2) (reported-by Sizes why.0 (λ (j : CliFault). parsed width sizes text other bases limit ≡ Err j) (ap (with_genome width text other bases limit)) said)
 
-module _ (run : GenomeOfRun) (sizes : List ℕ) (says : SaysGenome sizes run) where
-  pub sound-genome : run.damage ≡ None → genome_of sizes ≡ Ok run.genome
-  sound-genome sound = subst (λ (d : Option LoadFault). IsAnswer (genome_or_damage run.genome d) (genome_of sizes)) sound says
+  module _ (g : Sequences) (genome : genome_of sizes ≡ Ok g) where
+    pub no-first : (r : Result Bed LoadFault) → IfErr r (λ f. IsWhy f (bed_of g width limit text)) → (k : CliFault) → (f : LoadFault) × (r ≡ Err f) × (k ≡ damage_of First f) → Reported k
+    no-first r whys k why =
+        let said : IsWhy why.0 (bed_of g width limit text) = subst (λ (r : Result Bed LoadFault). IfErr r (λ f. IsWhy f (bed_of g width limit text))) why.1 whys in
+        subst Reported (sym why.2) (by (first-damaged width sizes text limit g genome why.0 said))
+      where
+        by : (damage_of First why.0 ≡ Memory) ⊎ IsFault width sizes text limit (damage_of First why.0) → Reported (damage_of First why.0)
+        by (inl memory) = inl memory
+        by (inr all) = inr (all other bases)
 
-  module _ (text : List ℕ) (other bases : Option (List ℕ)) where
-    abbrev Reports : CliFault → Type 0
-    Reports k = (k ≡ Memory) ⊎ (parsed run.width sizes text other bases run.limit ≡ Err k)
+    module _ (bed : Bed) (sound : bed_of g width limit text ≡ Ok bed) where
+      pub no-second : (r : Result (Option Bed) LoadFault) → IfErr r (λ f. IsWhy f (second_of g width limit other)) → (k : CliFault) → (f : LoadFault) × (r ≡ Err f) × (k ≡ damage_of Other f) → Reported k
+      no-second r whys k why =
+          let said : IsWhy why.0 (second_of g width limit other) = subst (λ (r : Result (Option Bed) LoadFault). IfErr r (λ f. IsWhy f (second_of g width limit other))) why.1 whys in
+          subst Reported (sym why.2) (by (second-damaged width sizes text limit g genome bed sound other why.0 said))
+        where
+          by : (damage_of Other why.0 ≡ Memory) ⊎ IsLaterFault width sizes text limit g genome bed sound other (damage_of Other why.0) → Reported (damage_of Other why.0)
+          by (inl memory) = inl memory
+          by (inr all) = inr (all bases)
 
-    -- the genome file is damaged
-    pub no-genome : (k : CliFault) → (f : LoadFault) × (run.damage ≡ Some f) × (k ≡ damage_of Sizes f) → Reports k
-    no-genome k why =
-        subst Reports (sym why.2)
-        (genome-damaged run.width sizes text other bases run.limit why.0 (subst (λ (d : Option LoadFault). IsAnswer (genome_or_damage run.genome d) (genome_of sizes)) why.1 says))
+      pub no-bases : (second : Option Bed) → second_of g width limit other ≡ Ok second → (r : Result (Option Fasta.Bases) LoadFault) → IfErr r (λ f. IsWhy f (bases_said g bases))
+          → (k : CliFault) → (f : LoadFault) × (r ≡ Err f) × (k ≡ damage_of Bases f) → Reported k
+      no-bases second whole r whys k why =
+          let said : IsWhy why.0 (bases_said g bases) = subst (λ (r : Result (Option Fasta.Bases) LoadFault). IfErr r (λ f. IsWhy f (bases_said g bases))) why.1 whys in
+          subst Reported (sym why.2) (bases-damaged width sizes text limit g genome bed sound other second whole bases why.0 said)
 
-    -- it is sound
-    module _ (sound : run.damage ≡ None) (first : Result Bed LoadFault) (first_says : IsAnswer first (bed_of run.genome run.width run.limit text)) where
-      -- the first BED file is damaged
-      pub no-first : (k : CliFault) → (f : LoadFault) × (first ≡ Err f) × (k ≡ damage_of First f) → Reports k
-      no-first k why =
-          subst Reports (sym why.2)
-          (first-damaged run.width sizes text other bases run.limit run.genome (sound-genome sound) why.0
-          (subst (λ (r : Result Bed LoadFault). IsAnswer r (bed_of run.genome run.width run.limit text)) why.1 first_says))
+-- ---- files of which the records are kept
 
-      -- it is sound too
-      module _ (bed : Bed) (is_first : first ≡ Ok bed) (second : Result (Option Bed) LoadFault) (second_says : IsAnswer second (second_of run.genome run.width run.limit other)) where
-        whole : bed_of run.genome run.width run.limit text ≡ Ok bed
-        whole = subst (λ (r : Result Bed LoadFault). IsAnswer r (bed_of run.genome run.width run.limit text)) is_first first_says
+kept-sound : (kept : Row → Row) (r : Result Bed LoadFault) (file : Bed) → kept_or_fault kept r ≡ Ok file → (bed : Bed) × (r ≡ Ok bed) × (file ≡ kept_bed kept bed)
+kept-sound kept (Ok bed) file is = let same : kept_bed kept bed ≡ file = cc in (bed, refl, sym same)
+kept-sound kept (Err f) file is = cc
 
-        -- the second BED file is damaged
-        pub no-second : (k : CliFault) → (f : LoadFault) × (second ≡ Err f) × (k ≡ damage_of Other f) → Reports k
-        no-second k why =
-            subst Reports (sym why.2)
-            (second-damaged run.width sizes text other bases run.limit run.genome (sound-genome sound) bed whole why.0
-            (subst (λ (r : Result (Option Bed) LoadFault). IsAnswer r (second_of run.genome run.width run.limit other)) why.1 second_says))
+kept-why : (kept : Row → Row) (r : Result Bed LoadFault) (f : LoadFault) → IsAnswer {T = Bed} (Err f) (kept_or_fault kept r) → IsWhy f r
+kept-why kept r f (inl memory) = inl memory
+kept-why kept (Ok bed) f (inr is) = cc
+kept-why kept (Err e) f (inr is) = let same : e ≡ f = cc in inr (ap Err same)
 
-        -- and so is that
-        module _ (beside : Option Bed) (is_second : second ≡ Ok beside) where
-          whole_second : second_of run.genome run.width run.limit other ≡ Ok beside
-          whole_second = subst (λ (r : Result (Option Bed) LoadFault). IsAnswer r (second_of run.genome run.width run.limit other)) is_second second_says
+-- what is kept of whole records is the records
+same-all : (rows : List Row) → map (λ (r : Row). r) rows ≡ rows
+same-all [] = refl
+same-all (r ∷ rows) = ap (λ (l : List Row). r ∷ l) (same-all rows)
 
-          -- the FASTA file is damaged
-          pub no-bases : (g : Sequences) → g ≡ run.genome → (fasta : Result (Option Fasta.Bases) LoadFault) → IfErr fasta (λ f. IsWhy f (bases_said g bases))
-              → (k : CliFault) → (f : LoadFault) × (fasta ≡ Err f) × (k ≡ damage_of Bases f) → Reports k
-          no-bases g is_genome fasta says_why k why =
-              let said : IsWhy why.0 (bases_said g bases) = subst (λ (r : Result (Option Fasta.Bases) LoadFault). IfErr r (λ f. IsWhy f (bases_said g bases))) why.1 says_why in
-              subst Reports (sym why.2)
-              (bases-damaged run.width sizes text other bases run.limit run.genome (sound-genome sound) bed whole beside whole_second why.0
-              (subst (λ (h : Sequences). IsWhy why.0 (bases_said h bases)) is_genome said))
+same-bed : (b : Bed) → kept_bed (λ r. r) b ≡ b
+same-bed b = ap (λ (l : List Row). record { width = b.width; rows = l }) (same-all b.rows)
 
--- records that fit the genome of a run fit together
-pub fits-together : (run : GenomeOfRun) (g : Sequences) (limit : ℕ) (first : Bed) (second : Option Bed) → g ≡ run.genome → limit ≡ run.limit → run.limit ≤ most_records
-    → FitsRun run first → IfSome second (FitsRun run) → FitTogether g first second limit
-fits-together run g limit first second is_genome is_limit bounded fits second_fits =
-    subst (λ (h : Sequences). FitTogether h first second limit) (sym is_genome) (subst (λ (n : ℕ). FitTogether run.genome first second n) (sym is_limit) (by second second_fits))
+same-beside : (o : Option Bed) → option_map (kept_bed (λ r. r)) o ≡ o
+same-beside None = refl
+same-beside (Some b) = ap Some (same-bed b)
+
+same-files : (files : Parsed) → kept_files (λ r. r) files ≡ files
+same-files files = λ i. record files { first = same-bed files.first i; second = same-beside files.second i }
+
+-- ---- files while they are read
+
+-- the genome file was read
+pub says-sizes : (sizes : List ℕ) (known : SoFar) → known.damage ≡ None → genome_of sizes ≡ Ok known.genome → SaysSizes sizes known
+says-sizes sizes known sound is = subst (SaysSizesBy sizes known) (sym sound) is
+
+pub says-no_sizes : (sizes : List ℕ) (known : SoFar) (k : CliFault) → known.damage ≡ Some k → (f : LoadFault) × (k ≡ damage_of Sizes f) × IsWhy f (genome_of sizes) → SaysSizes sizes known
+says-no_sizes sizes known k is why = subst (SaysSizesBy sizes known) (sym is) (subst Reports (sym why.1) (reported-by Sizes why.0 Damages (λ e text other bases. ap (with_genome known.width text other bases known.limit) e) why.2))
   where
-    by : (beside : Option Bed) → IfSome beside (FitsRun run) → FitTogether run.genome first beside run.limit
-    by None none = record { fit = fits.fit; few = fits.few; second_fit = tt; second_few = tt; bounded = bounded }
-    by (Some file) some = record { fit = fits.fit; few = fits.few; second_fit = some.fit; second_few = some.few; bounded = bounded }
+    Damages : CliFault → Type 0
+    Damages j = (text : List ℕ) (other bases : Option (List ℕ)) → parsed known.width sizes text other bases known.limit ≡ Err j
+
+    Reports : CliFault → Type 0
+    Reports j = (j ≡ Memory) ⊎ Damages j
+
+module _ (kept : Row → Row) (sizes text : List ℕ) (old : SoFar) where
+  -- the first BED file was read too
+  pub says-first : (said : Result Bed LoadFault) → SaysSizes sizes old → IsAnswer said (kept_bed_of kept old.genome old.width old.limit text) → SaysFirst kept sizes text (taken_first old said)
+  says-first said says answer = by old.damage refl says said answer
+    where
+      by : (d : Option CliFault) → old.damage ≡ d → SaysSizesBy sizes old d → (said : Result Bed LoadFault) → IsAnswer said (kept_bed_of kept old.genome old.width old.limit text)
+          → SaysFirst kept sizes text (taken_first old said)
+      by None e genome (Ok file) is =
+          let bed = kept-sound kept (bed_of old.genome old.width old.limit text) file is in
+          subst (SaysFirstBy kept sizes text (record old { first = file })) (sym e) (record { genome_is = genome; bed = bed.0; bed_is = bed.1; kept_is = bed.2 })
+      by None e genome (Err f) is =
+          let why = kept-why kept (bed_of old.genome old.width old.limit text) f is in
+          subst (λ (d : Option CliFault). SaysFirstBy kept sizes text (record old { damage = noted old.damage (damage_of First f) }) (noted d (damage_of First f))) (sym e)
+          (first-damaged old.width sizes text old.limit old.genome genome f why)
+      by (Some k) e (inl memory) (Ok file) is = subst (SaysFirstBy kept sizes text (record old { first = file })) (sym e) (inl memory)
+      by (Some k) e (inr all) (Ok file) is = subst (SaysFirstBy kept sizes text (record old { first = file })) (sym e) (inr (all text))
+      by (Some k) e (inl memory) (Err f) is =
+          subst (λ (d : Option CliFault). SaysFirstBy kept sizes text (record old { damage = noted old.damage (damage_of First f) }) (noted d (damage_of First f))) (sym e) (inl memory)
+      by (Some k) e (inr all) (Err f) is =
+          subst (λ (d : Option CliFault). SaysFirstBy kept sizes text (record old { damage = noted old.damage (damage_of First f) }) (noted d (damage_of First f))) (sym e) (inr (all text))
+
+  -- there is no second BED file
+  pub says-no_second : SaysFirst kept sizes text old → old.second ≡ None → SaysSecond kept sizes text None old
+  says-no_second says none = by old.damage says
+    where
+      by : (d : Option CliFault) → SaysFirstBy kept sizes text old d → SaysSecondBy kept sizes text None old d
+      by None first = record { first = first; beside = None; beside_is = refl; kept_is = none }
+      by (Some k) (inl memory) = inl memory
+      by (Some k) (inr all) = inr (all None)
+
+  -- or it was read
+  module _ (other : List ℕ) where
+    pub says-second : (said : Result Bed LoadFault) → SaysFirst kept sizes text old → IsAnswer said (kept_bed_of kept old.genome old.width old.limit other) → SaysSecond kept sizes text (Some other) (taken_second old said)
+    says-second said says answer = by old.damage refl says said answer
+      where
+        by : (d : Option CliFault) → old.damage ≡ d → SaysFirstBy kept sizes text old d → (said : Result Bed LoadFault) → IsAnswer said (kept_bed_of kept old.genome old.width old.limit other)
+            → SaysSecond kept sizes text (Some other) (taken_second old said)
+        by None e first (Ok file) is =
+            let bed = kept-sound kept (bed_of old.genome old.width old.limit other) file is in
+            subst (SaysSecondBy kept sizes text (Some other) (record old { second = Some file })) (sym e) (record {
+              first = record { genome_is = first.genome_is; bed = first.bed; bed_is = first.bed_is; kept_is = first.kept_is };
+              beside = Some bed.0;
+              beside_is = ap (λ (r : Result Bed LoadFault). option_transpose (Some r)) bed.1;
+              kept_is = ap Some bed.2;
+            })
+        by None e first (Err f) is = subst
+            (λ (d : Option CliFault). SaysSecondBy kept sizes text (Some other) (record old { damage = noted old.damage (damage_of Other f) }) (noted d (damage_of Other f))) (sym e)
+            (second-damaged old.width sizes text old.limit old.genome first.genome_is first.bed first.bed_is (Some other) f (transposed (kept-why kept (bed_of old.genome old.width old.limit other) f is)))
+          where
+            transposed : IsWhy f (bed_of old.genome old.width old.limit other) → IsWhy f (second_of old.genome old.width old.limit (Some other))
+            transposed (inl memory) = inl memory
+            transposed (inr e) = inr (ap (λ (r : Result Bed LoadFault). option_transpose (Some r)) e)
+        by (Some k) e (inl memory) (Ok file) is = subst (SaysSecondBy kept sizes text (Some other) (record old { second = Some file })) (sym e) (inl memory)
+        by (Some k) e (inr all) (Ok file) is = subst (SaysSecondBy kept sizes text (Some other) (record old { second = Some file })) (sym e) (inr (all (Some other)))
+        by (Some k) e (inl memory) (Err f) is = subst
+            (λ (d : Option CliFault). SaysSecondBy kept sizes text (Some other) (record old { damage = noted old.damage (damage_of Other f) }) (noted d (damage_of Other f))) (sym e) (inl memory)
+        by (Some k) e (inr all) (Err f) is = subst
+            (λ (d : Option CliFault). SaysSecondBy kept sizes text (Some other) (record old { damage = noted old.damage (damage_of Other f) }) (noted d (damage_of Other f))) (sym e) (inr (all (Some other)))
+
+-- all BED files were read
+module _ (kept : Row → Row) (sizes text : List ℕ) (other bases : Option (List ℕ)) (known : SoFar) (says : SaysSecond kept sizes text other known) where
+  abbrev said : Result Parsed CliFault
+  said = parsed known.width sizes text other bases known.limit
+
+  -- one of them is damaged, or the genome file
+  pub reports-damage : (k : CliFault) → known.damage ≡ Some k → (k ≡ Memory) ⊎ (said ≡ Err k)
+  reports-damage k is = by (subst (SaysSecondBy kept sizes text other known) is says)
+    where
+      by : SaysSecondBy kept sizes text other known (Some k) → (k ≡ Memory) ⊎ (said ≡ Err k)
+      by (inl memory) = inl memory
+      by (inr all) = inr (all bases)
+
+  -- they are sound
+  module _ (sound : known.damage ≡ None) where
+    both : AreBoth kept sizes text other known
+    both = subst (SaysSecondBy kept sizes text other known) sound says
+
+    -- the FASTA file is damaged
+    pub reports-bases : (k : CliFault) → (f : LoadFault) × (k ≡ damage_of Bases f) × IsWhy f (bases_said known.genome bases) → (k ≡ Memory) ⊎ (said ≡ Err k)
+    reports-bases k why = subst (λ (j : CliFault). (j ≡ Memory) ⊎ (said ≡ Err j)) (sym why.1)
+        (bases-damaged known.width sizes text known.limit known.genome both.first.genome_is both.first.bed both.first.bed_is other both.beside both.beside_is bases why.0 why.2)
+
+    -- it is sound too
+    pub reports-all : (fasta : Option Fasta.Bases) → bases_said known.genome bases ≡ Ok fasta
+        → ReportsKept kept (Ok (record { genome = known.genome; first = known.first; second = known.second; bases = fasta; limit = known.limit })) said
+    reports-all fasta is =
+        let whole : Parsed = record { genome = known.genome; first = both.first.bed; second = both.beside; bases = fasta; limit = known.limit } in (
+          whole,
+          past-second known.width sizes text known.limit known.genome both.first.genome_is both.first.bed both.first.bed_is other both.beside both.beside_is bases
+              ∙ ap (with_bases known.genome both.first.bed both.beside known.limit) is,
+          (λ i. record { genome = known.genome; first = both.first.kept_is i; second = both.kept_is i; bases = fasta; limit = known.limit }),
+        )
+
+-- records that fit a genome
+pub fits-beside : (g : Sequences) (limit : ℕ) (o : Option Bed) → IfSome o (AreKept (λ r. r) g limit) → IfSome o (λ file. All (Fits g file.width) file.rows)
+fits-beside g limit None kept = tt
+fits-beside g limit (Some file) kept = fit-all g file.width file.rows kept.kept_all
+
+pub few-beside : (g : Sequences) (limit : ℕ) (o : Option Bed) → IfSome o (AreKept (λ r. r) g limit) → IfSome o (λ file. length file.rows ≤ limit)
+few-beside g limit None kept = tt
+few-beside g limit (Some file) kept = kept.few
 
 -- ---- the session that files begin
 
 module _ (width : ℕ) (sizes text : List ℕ) (other bases : Option (List ℕ)) (limit : ℕ) where
-  pub begins : (files : Parsed) (r : Result State CliFault) → parsed width sizes text other bases limit ≡ Ok files
-      → IfOk r (λ s. s ≡ begun files.genome files.first files.second files.bases files.limit) → IfOk r (λ s. loaded width sizes text other bases limit ≡ Ok s)
-  begins files (Ok s) is ok = ap session_of is ∙ ap Ok (sym ok)
-  begins files (Err k) is ok = tt
+  -- the files are damaged, or memory was refused
+  pub begins-not : (k : CliFault) → (k ≡ Memory) ⊎ (parsed width sizes text other bases limit ≡ Err k) → (k ≡ Memory) ⊎ (loaded width sizes text other bases limit ≡ Err k)
+  begins-not k (inl memory) = inl memory
+  begins-not k (inr is) = inr (ap session_of is)
 
-  pub begins-not : (r : Result State CliFault) → IfErr r (λ k. k ≡ Memory) → IfErr r (λ k. (k ≡ Memory) ⊎ (loaded width sizes text other bases limit ≡ Err k))
-  begins-not (Ok s) memory = tt
-  begins-not (Err k) memory = inl memory
+  -- they are sound, and all of their records is kept
+  pub begins : (files : Parsed) (r : Result State CliFault) → ReportsKept (λ r. r) (Ok files) (parsed width sizes text other bases limit)
+      → IfOk r (λ s. s ≡ begun files.genome files.first files.second files.bases files.limit) → IfErr r (λ k. k ≡ Memory) → IsReport r (loaded width sizes text other bases limit)
+  begins files (Ok s) all ok err =
+      ap session_of (all.1 ∙ ap Ok (sym (all.2 ∙ same-files all.0))) ∙ ap Ok (sym ok)
+  begins files (Err k) all ok err = inl err

@@ -1,12 +1,12 @@
 -- A run whose rows depend on nothing of a record but its place.
-use Rattle.std.proofs.Common.{◌≡◌, ◌⊎◌, inl, inr, ◌↔◌, ℕ, Bool, true, false, true≢false, not, ◌&&◌, List, Option, None, Some, Result, Ok, Err, IfSome, if◌then◌else◌, refl, sym, ap, ◌∙◌, subst}
-use Rattle.std.specs.Prelude.{IsOk, nat_lt}
+use Rattle.std.proofs.Common.{◌≡◌, ◌↔◌, ℕ, Bool, true, false, true≢false, not, ◌&&◌, List, Option, None, Some, Result, Ok, Err, IfSome, if◌then◌else◌, refl, sym, ap, ◌∙◌, subst}
+use Rattle.std.specs.Prelude.{nat_lt}
 use Rattle.std.specs.Bool.{then_some}
 use Rattle.std.specs.Option.{is_some}
 use Rattle.iv_bytes.specs.Sinks.{SinkState}
-use Rattle.iv_text.specs.BedFile.{Bed}
 use Rattle.iv_text.specs.Ordered.{ordered}
 use Rattle.iv_index.proofs.BareLemmas.{ordered-bare}
+use Rattle.iv_index.specs.Places.{bare}
 use Rattle.iv_blocks.specs.Groups.{listed}
 use Rattle.iv_blocks.specs.PlainOptions.{IsPlain}
 use Rattle.iv_blocks.specs.declared.options.Options.{Options}
@@ -24,20 +24,17 @@ use Rattle.iv_depth.specs.declared.depth_rows.DepthRows.{DepthRows}
 use Rattle.iv_pair.specs.declared.pair_rows.PairRows.{PairRows}
 use Rattle.iv_fasta.specs.declared.rows.FastaRows.{FastaRows}
 use Rattle.iv_args.specs.Words.{RunPlan}
-use Rattle.iv_run.specs.Loading.{Parsed, parsed, bases_said, second_of, with_bases, with_second}
+use Rattle.iv_run.specs.Loading.{Parsed, parsed}
 use Rattle.iv_run.specs.Places.{NeedsPlacesAlone}
 use Rattle.iv_run.specs.PlacesViews.{AskForColumns, AskForPlaces, IsViewOf, NeedsColumns}
 use Rattle.iv_run.specs.Prints.{Prints}
 use Rattle.iv_run.specs.Shots.{Shows, shown}
-use Rattle.iv_run.specs.SpanFiles.{PlacesSaid, places_said}
+use Rattle.iv_run.specs.SoFar.{ReportsKept}
 use Rattle.iv_run.specs.declared.fault.CliFault.{CliFault}
-use Rattle.iv_run.specs.declared.fault.CliFault.TheVariants as fault
 use Rattle.iv_run.specs.declared.places_view.PlacesView.{PlacesView}
 use Rattle.iv_run.specs.declared.places_view.PlacesView.TheVariants as places
-use Rattle.iv_run.proofs.LoadLemmas.{past-first, past-second}
 use Rattle.iv_run.proofs.PlacesAlone.{complement-bare, genomecov-bare, merge-bare}
-use Rattle.iv_run.proofs.ShotLemmas.{shows-damage, shows-text}
-use Rattle.iv_run.proofs.SpanLemmas.{damage-parsed, sound-said}
+use Rattle.iv_run.proofs.ShotLemmas.{shows-text}
 
 -- ---- views
 
@@ -154,47 +151,16 @@ module _ (words : List (List ℕ)) where
 
 -- ---- what is shown
 
-sound : {T E : Type 0} (r : Result T E) → IsOk r → (x : T) × (r ≡ Ok x)
-sound (Ok x) is = (x, refl)
-sound (Err e) is = absurd (true≢false (sym is))
-
-module _ (plan : RunPlan) (sizes text : List ℕ) (other bases : Option (List ℕ)) (limit : ℕ) where
-  -- the genome file or the first BED file is damaged
-  pub shows-first-damage : (k : CliFault) (old : SinkState) → (k ≡ fault.Memory) ⊎ (places_said plan.width sizes text limit ≡ Err k) → Shows old old (Err k) (shown plan sizes text other bases limit)
-  shows-first-damage k old why = shows-damage plan.width sizes text other bases limit plan.view k old (by why)
-    where
-      by : (k ≡ fault.Memory) ⊎ (places_said plan.width sizes text limit ≡ Err k) → (k ≡ fault.Memory) ⊎ (parsed plan.width sizes text other bases limit ≡ Err k)
-      by (inl memory) = inl memory
-      by (inr is) = inr (damage-parsed plan.width sizes text limit other bases k is)
-
-  -- both are sound
-  module _ (files : PlacesSaid) (said : places_said plan.width sizes text limit ≡ Ok files) where
-    -- one of the others is damaged
-    pub shows-other-damage : (k : CliFault) (old : SinkState)
-        → (k ≡ fault.Memory) ⊎ ((first : Bed) → with_second files.genome first bases limit (second_of files.genome plan.width limit other) ≡ Err k)
-        → Shows old old (Err k) (shown plan sizes text other bases limit)
-    shows-other-damage k old why = shows-damage plan.width sizes text other bases limit plan.view k old (by why)
-      where
-        by : (k ≡ fault.Memory) ⊎ ((first : Bed) → with_second files.genome first bases limit (second_of files.genome plan.width limit other) ≡ Err k)
-            → (k ≡ fault.Memory) ⊎ (parsed plan.width sizes text other bases limit ≡ Err k)
-        by (inl memory) = inl memory
-        by (inr damaged) =
-            let first = sound-said plan.width sizes text limit files said in
-            inr (past-first plan.width sizes text other bases limit files.genome first.1 first.0 first.2 ∙ damaged first.0)
-
-    -- all are: the text of the view is printed of the places, and so of the records
-    pub shows-places : IsOk (second_of files.genome plan.width limit other) → IsOk (bases_said files.genome bases)
-        → (v : PlacesView) (ask : AskForPlaces plan.view v) (old new : SinkState) (result : Result (Unit {0}) CliFault)
-        → Prints old new result (kept_text ask.asked files.genome (ordered files.first.rows)) → Shows old new result (shown plan sizes text other bases limit)
-    shows-places second_sound bases_sound v ask old new result prints =
-        let first = sound-said plan.width sizes text limit files said in
-        let second = sound (second_of files.genome plan.width limit other) second_sound in
-        let fasta = sound (bases_said files.genome bases) bases_sound in
-        let all : Parsed = record { genome = files.genome; first = first.0; second = second.0; bases = fasta.0; limit = limit } in
-        let is : parsed plan.width sizes text other bases limit ≡ Ok all =
-        past-second plan.width sizes text other bases limit files.genome first.1 first.0 first.2 second.0 second.1 ∙ ap (with_bases files.genome first.0 second.0 limit) fasta.1 in
-        let text_is : kept_text ask.asked files.genome (ordered files.first.rows) ≡ kept_text ask.asked files.genome (ordered first.0.rows) =
-        ap (λ (b : Bed). kept_text ask.asked files.genome (ordered b.rows)) (sym first.3) ∙ ap (kept_text ask.asked files.genome) (ordered-bare first.0.rows)
-        ∙ needs-places v ask.asked ask.is_view files.genome (ordered first.0.rows) in
-        shows-text (parsed plan.width sizes text other bases limit) all is plan.view (view.Kept ask.asked) (ask.reads first.0.width (is_some second.0) (is_some fasta.0)) old new result
-        (subst (Prints old new result) text_is prints)
+-- the text of the view is printed of the places, and so of the records
+pub shows-places : (plan : RunPlan) (sizes text : List ℕ) (other bases : Option (List ℕ)) (limit : ℕ) (files : Parsed)
+    → ReportsKept bare (Ok files) (parsed plan.width sizes text other bases limit)
+    → (v : PlacesView) (ask : AskForPlaces plan.view v) (old new : SinkState) (result : Result (Unit {0}) CliFault)
+    → Prints old new result (kept_text ask.asked files.genome (ordered files.first.rows)) → Shows old new result (shown plan sizes text other bases limit)
+shows-places plan sizes text other bases limit files said v ask old new result prints =
+    let whole = said.0 in
+    let text_is : kept_text ask.asked files.genome (ordered files.first.rows) ≡ kept_text ask.asked whole.genome (ordered whole.first.rows) =
+    ap (λ (f : Parsed). kept_text ask.asked f.genome (ordered f.first.rows)) said.2
+    ∙ ap (kept_text ask.asked whole.genome) (ordered-bare whole.first.rows)
+    ∙ needs-places v ask.asked ask.is_view whole.genome (ordered whole.first.rows) in
+    shows-text (parsed plan.width sizes text other bases limit) whole said.1 plan.view (view.Kept ask.asked) (ask.reads whole.first.width (is_some whole.second) (is_some whole.bases)) old new result
+    (subst (Prints old new result) text_is prints)

@@ -4,5 +4,5 @@ pub mod Shots
 pub mod Prints
 pub mod Places
 pub mod PlacesViews
-pub mod SpanFiles
+pub mod SoFar
 pub mod Pieces

@@ -1,14 +1,12 @@
 -- The session that the files of a run begin.
-use Rattle.std.specs.Prelude.{◌≡◌, ◌⊎◌, ℕ, ◌≤◌, List, Option, None, Some, IfSome, All, length, Result, Ok, Err}
+use Rattle.std.specs.Prelude.{◌≡◌, ◌⊎◌, ℕ, List, Option, Result, Ok, Err}
 use Rattle.std.specs.Option.{option_map, option_transpose}
-use Rattle.iv_text.specs.Read.{Fits}
 use Rattle.iv_text.specs.Genome.{Sequences}
 use Rattle.iv_text.specs.GenomeFile.{genome_of}
 use Rattle.iv_text.specs.BedFile.{Bed, bed_of}
 use Rattle.iv_text.specs.declared.fault.LoadFault.{LoadFault}
 use Rattle.iv_text.specs.declared.fault.LoadCause.{LoadCause}
 use Rattle.iv_text.specs.declared.fault.LoadCause.TheVariants as cause
-use Rattle.iv_track.specs.Tracked.{most_records}
 use Rattle.iv_fasta.specs.Fasta as fasta
 use Rattle.iv_view.specs.Views.{view_code}
 use Rattle.iv_view.specs.declared.fault.ViewFault.{ViewFault}
@@ -37,27 +35,6 @@ abbrev pub IsReport : {T : Type 0} → Result T CliFault → Result T CliFault �
 IsReport (Ok value) said = said ≡ Ok value
 IsReport (Err fault) said = (fault ≡ Memory) ⊎ (said ≡ Err fault)
 
--- the genome of a run, or the fault of its file; which width a BED file without a record has, and how many records each may have
-pub record GenomeOfRun : Type 0 where
-  pub genome : Sequences
-  pub damage : Option LoadFault
-  pub width : ℕ
-  pub limit : ℕ
-
--- the genome or the fault
-abbrev pub genome_or_damage : Sequences → Option LoadFault → Result Sequences LoadFault
-genome_or_damage g None = Ok g
-genome_or_damage g (Some f) = Err f
-
--- it is what the bytes of a genome file say
-abbrev pub SaysGenome : List ℕ → GenomeOfRun → Type 0
-SaysGenome sizes run = IsAnswer (genome_or_damage run.genome run.damage) (genome_of sizes)
-
--- the records of a BED file fit the genome of a run at the file's width, and are not more than its limit
-pub record FitsRun (run : GenomeOfRun) (file : Bed) : Type 0 where
-  pub fit : All (Fits run.genome file.width) file.rows
-  pub few : length file.rows ≤ run.limit
-
 -- how a fault of a view's words is reported: by its number, but out of memory as that
 abbrev pub fault_of_view : ViewFault → CliFault
 fault_of_view viewing.NoMemory = Memory
@@ -70,14 +47,6 @@ pub record Parsed : Type 0 where
   pub second : Option Bed
   pub bases : Option fasta.Bases
   pub limit : ℕ
-
--- the records of each BED file fit the genome at the file's width and are not more than the limit, and that is one of a track
-pub record FitTogether (genome : Sequences) (first : Bed) (second : Option Bed) (limit : ℕ) : Type 0 where
-  pub fit : All (Fits genome first.width) first.rows
-  pub few : length first.rows ≤ limit
-  pub second_fit : IfSome second (λ file. All (Fits genome file.width) file.rows)
-  pub second_few : IfSome second (λ file. length file.rows ≤ limit)
-  pub bounded : limit ≤ most_records
 
 -- what a BED file says that may be left out
 abbrev pub second_of : Sequences → ℕ → ℕ → Option (List ℕ) → Result (Option Bed) LoadFault

@@ -1,18 +1,198 @@
-//! A run of one subcommand, without a script.
-ghost use Rattle.std.specs.Prelude.{◌<◌, ◌≤◌, ◌^◌, IfSome, length};
-ghost use Rattle.std.specs.Option.{option_copied, option_map};
+//! A run of one subcommand, without a script, over the bytes of its files.
+ghost use Rattle.std.specs.Prelude.{◌≡◌, ◌<◌, ◌≤◌, ◌^◌, ◌⊎◌, List, ℕ, [], Ok, Err, IsSome, IfSome, IfOk, IfErr, length};
+ghost use Rattle.std.specs.Option.{option_copied, option_map, unwrap_or};
+ghost use Rattle.iv_text.specs.Ordered.{ordered};
+ghost use Rattle.iv_text.specs.declared.fault.LoadCause.TheVariants as cause;
 ghost use Rattle.iv_track.specs.Tracked.{most_records};
-ghost use Rattle.iv_run.specs.Shots.{Shows, shown};
+ghost use Rattle.iv_fasta.specs.FastaRows.{fasta_text};
+ghost use Rattle.iv_pair.specs.PairRows.{pair_text};
+ghost use Rattle.iv_view.specs.Views.{kept_text};
+ghost use Rattle.iv_run.specs.Loading.{parsed, second_of};
+ghost use Rattle.iv_run.specs.PlacesViews.{AskForColumns, NeedsColumns};
+ghost use Rattle.iv_run.specs.Prints.{Prints};
+ghost use Rattle.iv_run.specs.Shots.{Shows, ordered_other, shown, text_beside, view_beside};
 
 use crate::fault::CliFault;
-use crate::inputs::Inputs;
+use crate::loading::{Inputs, Loading};
 use crate::places_view::PlacesView;
-use crate::span_shot::shot_of_places;
-use crate::text_files::TextFiles;
-use iv_args::Plan;
-use iv_bytes::Sink;
-use iv_view::{View, WrittenView};
-use std::alloc::Allocator;
+use crate::reading::{in_slot, parse_fasta};
+use crate::text_rows::{put_each, put_kept, put_pairs, sort_beside};
+use iv_args::{Plan, Slot};
+use iv_bytes::{Buffered, Sink};
+use iv_fasta::{Fasta, FastaRows};
+use iv_index::{BedText, Span};
+use iv_pair::PairRows;
+use iv_text::{Genome, LoadFault};
+use iv_view::{KeptView, View, ViewFault, WrittenView};
+use std::alloc::{Allocator, Global};
+use std::marker::Model;
+
+/// A genome, the records of one BED file or two, and the bases of a FASTA file or none, as the files say them. The records of
+/// the first are on the genome.
+#[derive(Drop)]
+pub(crate) struct TextFiles<'t, A: Allocator + Copy = Global> {
+    genome: Genome<A>,
+    first: BedText<'t, A>,
+    second: Option<BedText<'t, A>>,
+    fasta: Option<Fasta<A>>,
+    limit: u32,
+}
+
+impl<'t, A: Allocator + Copy> Model for TextFiles<'t, A> {
+    ghost use Rattle.std.specs.Prelude.{All};
+    ghost use Rattle.iv_text.specs.Read.{IsOnGenome};
+    ghost use Rattle.iv_run.specs.Loading.{Parsed};
+
+    ghost Value = { Parsed };
+
+    ghost view = { λ files. record { genome = files.genome; first = files.first; second = files.second; bases = files.fasta; limit = files.limit } };
+
+    ghost invariant = { λ files. All (IsOnGenome files.genome) files.first.rows };
+}
+
+/// What the second BED file says, where there is one, or its first fault.
+fn parse_second<'t, A: Allocator + Copy>(
+    alloc: A,
+    genome: &Genome<A>,
+    width: u8,
+    limit: u32,
+    text: Option<&'t [u8]>,
+) -> Result<Option<BedText<'t, A>>, LoadFault>
+    requires width { (3 ≤ width) × (width ≤ 6) }
+    requires small { IfSome (option_copied text) (λ bytes. length bytes < 2 ^ 32) }
+    ensures ok { IfOk result (λ second. second_of genome.now width limit (option_copied text.entry) ≡ Ok second) }
+    ensures err { IfErr result (λ fault. (fault ≡ record { line = 0; cause = cause.Memory }) ⊎
+        (second_of genome.now width limit (option_copied text.entry) ≡ Err fault)) }
+{
+    match text {
+        None => Ok(None),
+        Some(text) => Ok(Some(BedText::parse(alloc, genome, width, limit, text)?)),
+    }
+}
+
+impl<'t, A: Allocator + Copy> TextFiles<'t, A> {
+    /// What the files say, or the fault of the first damaged one, in the order genome file, first BED file, second BED file,
+    /// FASTA file.
+    pub(crate) fn read(
+        alloc: A,
+        plan: &Plan<'_, A>,
+        inputs: &Inputs<'t>,
+        bases: Option<Vec<u8, A>>,
+        limit: u32,
+    ) -> Result<TextFiles<'t, A>, CliFault>
+        requires first { length inputs.now.first.now < 2 ^ 32 }
+        requires other { IfSome (option_copied inputs.now.other) (λ text. length text < 2 ^ 32) }
+        ensures ok { IfOk result (λ files.
+            parsed plan.now.width inputs.now.sizes.now inputs.now.first.now (option_copied inputs.now.other) (option_map (λ text. text.items) bases) limit ≡ Ok files) }
+        ensures err { IfErr result (λ fault. (fault ≡ CliFault.Memory) ⊎
+            (parsed plan.now.width inputs.now.sizes.now inputs.now.first.now (option_copied inputs.now.other) (option_map (λ text. text.items) bases) limit ≡ Err fault)) }
+    {
+        let width = plan.width();
+        let genome = in_slot(Slot::Sizes, Genome::parse(alloc, inputs.sizes))?;
+        let first = BedText::parse(alloc, &genome, width, limit, inputs.first);
+        let first = in_slot(Slot::First, first)?;
+        let second = parse_second(alloc, &genome, width, limit, inputs.other);
+        let second = in_slot(Slot::Other, second)?;
+        let fasta = in_slot(Slot::Bases, parse_fasta(alloc, &genome, bases))?;
+        Ok(TextFiles {
+            genome,
+            first,
+            second,
+            fasta,
+            limit,
+        })
+    }
+
+    /// The view of a plan, beside these files and at the width of the first one's records.
+    ///
+    /// # Errors
+    ///
+    /// A fault of the view's words, which only the files show.
+    pub(crate) fn view(&self, plan: &Plan<'_, A>) -> Result<View, ViewFault>
+        ensures { result ≡ view_beside self.now plan.now.view }
+    {
+        let (second, fasta) = (self.second.is_some(), self.fasta.is_some());
+        plan.view_beside(self.first.width(), second, fasta)
+    }
+
+    /// Puts the text of a view that words ask for beside these files, and that needs the columns of records.
+    ///
+    /// # Errors
+    ///
+    /// `Memory`, and then nothing was put. `Output`, and then a prefix of the text was.
+    pub(crate) fn put<S: Sink>(self, alloc: A, view: View, sink: &mut S) -> Result<(), CliFault>
+        requires { (words : List (List ℕ)) × AskForColumns words × (view_beside self words ≡ Ok view) }
+        ensures text { Prints (S.state sink.old) (S.state sink.new) result (text_beside self.entry view) }
+        ensures alone { result ≡ Err CliFault.Memory → sink.new ≡ sink.old }
+    {
+        match view {
+            View::Kept(view) => self.put_kept(alloc, view, sink),
+            View::Written(WrittenView::Paired(rows)) => self.put_pairs(alloc, rows, sink),
+            View::Written(WrittenView::Getfasta(shown)) => self.put_fasta(alloc, shown, sink),
+        }
+    }
+
+    /// Puts the text of a view of the first file, for its records in the order of a track.
+    fn put_kept<S: Sink>(self, alloc: A, view: KeptView, sink: &mut S) -> Result<(), CliFault>
+        requires { NeedsColumns view }
+        ensures text { Prints (S.state sink.old) (S.state sink.new) result (kept_text view self.entry.genome (ordered self.entry.first.rows)) }
+        ensures alone { result ≡ Err CliFault.Memory → sink.new ≡ sink.old }
+    {
+        let TextFiles {
+            genome,
+            first: mut file,
+            second: _,
+            fasta: _,
+            limit: _,
+        } = self;
+        file.sort(alloc)?;
+        put_kept(alloc, view, file.records(), &genome, sink)
+    }
+
+    /// Puts these rows of both files, for their records in the order of a track. There is a second file.
+    fn put_pairs<S: Sink>(self, alloc: A, rows: PairRows, sink: &mut S) -> Result<(), CliFault>
+        requires { IsSome self.second }
+        ensures text { Prints (S.state sink.old) (S.state sink.new) result (pair_text rows self.entry.genome (ordered self.entry.first.rows) (ordered_other self.entry.second)) }
+        ensures alone { result ≡ Err CliFault.Memory → sink.new ≡ sink.old }
+    {
+        let TextFiles {
+            genome,
+            mut first,
+            second,
+            fasta: _,
+            limit: _,
+        } = self;
+        let Some(mut second) = second else {
+            return Err(CliFault::from(ViewFault::NoSecond));
+        };
+        first.sort(alloc)?;
+        first.law_of_bases();
+        sort_beside(alloc, rows, &mut second)?;
+        let (first, second) = (first.records(), second.records());
+        put_pairs(alloc, rows, &first, &second, &genome, sink)
+    }
+
+    /// Puts the bases of the records of the first file, in the order of a track. There is a FASTA file.
+    fn put_fasta<S: Sink>(self, alloc: A, shown: FastaRows, sink: &mut S) -> Result<(), CliFault>
+        requires { IsSome self.bases }
+        ensures text { Prints (S.state sink.old) (S.state sink.new) result (fasta_text shown self.entry.genome (unwrap_or self.entry.bases []) (ordered self.entry.first.rows)) }
+        ensures alone { result ≡ Err CliFault.Memory → sink.new ≡ sink.old }
+    {
+        let TextFiles {
+            genome,
+            first: mut records,
+            second: _,
+            fasta,
+            limit: _,
+        } = self;
+        let Some(fasta) = fasta else {
+            return Err(CliFault::from(ViewFault::NoFasta));
+        };
+        records.sort(alloc)?;
+        put_each(shown, &records.records(), &fasta, &genome, sink)?;
+        Ok(())
+    }
+}
 
 /// Prints what the plan's subcommand shows of the files, given their bytes: all of it, and nothing else.
 ///
@@ -38,13 +218,13 @@ pub fn shot<A: Allocator + Copy, S: Sink>(
         (shown plan.now inputs.now.sizes.now inputs.now.first.now (option_copied inputs.now.other) (option_map (λ text. text.items) bases) limit) }
 {
     if let Some(view) = PlacesView::of_plan(plan) {
-        return shot_of_places(alloc, plan, view, inputs, bases, limit, sink);
+        let loading: Loading<Span, A> = Loading::of_inputs(alloc, plan, inputs, limit);
+        return loading.print(view, bases, sink);
     }
     let files = TextFiles::read(alloc, plan, inputs, bases, limit)?;
-    let view = plan.view_beside(files.width(), files.has_second(), files.has_bases())?;
-    match view {
-        View::Kept(view) => files.print_kept(alloc, view, sink),
-        View::Written(WrittenView::Paired(rows)) => files.print_pairs(alloc, rows, sink),
-        View::Written(WrittenView::Getfasta(shown)) => files.print_fasta(alloc, shown, sink),
-    }
+    let view = files.view(plan)?;
+    let mut buffer = Buffered::new(sink);
+    files.put(alloc, view, &mut buffer)?;
+    buffer.finish()?;
+    Ok(())
 }

@@ -1,14 +1,20 @@
-//! The views whose rows depend on nothing of a record but its place.
-ghost use Rattle.std.specs.Prelude.{◌≡◌, All, Err, None, IfSome};
-ghost use Rattle.iv_text.specs.Ordered.{AreInOrder};
+//! The views whose rows depend on nothing of a record but its place, and their print.
+ghost use Rattle.std.specs.Prelude.{◌≡◌, ℕ, All, List, Option, Err, None, IfSome};
+ghost use Rattle.std.specs.Option.{option_map};
+ghost use Rattle.iv_text.specs.Ordered.{AreInOrder, ordered};
 ghost use Rattle.iv_text.specs.Read.{IsOnGenome};
+ghost use Rattle.iv_index.specs.Places.{bare};
 ghost use Rattle.iv_index.specs.Spans.{span_rows};
+ghost use Rattle.iv_args.specs.Words.{RunPlan};
 ghost use Rattle.iv_run.specs.PlacesViews.{AskForColumns, AskForPlaces, IsViewOf, NeedsColumns};
 ghost use Rattle.iv_run.specs.Prints.{Prints};
+ghost use Rattle.iv_run.specs.Shots.{Shows, shown};
+ghost use Rattle.iv_run.specs.SoFar.{SaysSecond};
 ghost use Rattle.iv_view.specs.Views.{kept_text};
 ghost use Rattle.iv_view.specs.declared.view.KeptView.{KeptView};
 
 use crate::fault::CliFault;
+use crate::loading::{LoadedFiles, Loading};
 use iv_args::Plan;
 use iv_blocks::{put_complement, put_merge};
 use iv_bytes::{Buffered, Sink};
@@ -64,7 +70,7 @@ impl PlacesView {
     /// # Errors
     ///
     /// `Memory`, and then nothing was printed. `Output`, and then the sink has taken a prefix of the text. There is no other.
-    pub(crate) fn print<A: Allocator + Copy, S: Sink>(
+    fn print<A: Allocator + Copy, S: Sink>(
         self,
         alloc: A,
         spans: &[Span],
@@ -101,5 +107,47 @@ impl PlacesView {
                 Ok(DepthSweep::new(alloc, spans)?.print(shown, genome, sink)?)
             }
         }
+    }
+}
+
+/// Sorts the places of the first BED file, and prints a view of them.
+fn print_files<A: Allocator + Copy, S: Sink>(
+    view: PlacesView,
+    files: LoadedFiles<Span, A>,
+    sink: &mut S,
+) -> Result<(), CliFault>
+    ensures { (asked : KeptView) → IsViewOf view asked → Prints (S.state sink.old) (S.state sink.new) result (kept_text asked files.genome (ordered files.first.rows)) }
+{
+    let LoadedFiles {
+        alloc,
+        genome,
+        first,
+        second: _,
+        fasta: _,
+        limit: _,
+    } = files;
+    let mut spans = first.into_spans();
+    spans.sort();
+    view.print(alloc, spans.as_slice(), &genome, sink)
+}
+
+impl<A: Allocator + Copy> Loading<Span, A> {
+    /// Prints a view of the first BED file, once the BED files are read: all of its text, and nothing else. `bases` are the bytes of
+    /// the FASTA file, where there is one.
+    ///
+    /// # Errors
+    ///
+    /// The fault of the first damaged file, or `Memory`: then nothing was printed. `Output`, and then a prefix was.
+    pub fn print<S: Sink>(
+        self,
+        view: PlacesView,
+        bases: Option<Vec<u8, A>>,
+        sink: &mut S,
+    ) -> Result<(), CliFault>
+        ensures { (plan : RunPlan) (sizes text : List ℕ) (other : Option (List ℕ)) → AskForPlaces plan.view view → self.width ≡ plan.width → SaysSecond bare sizes text other self
+            → Shows (S.state sink.old) (S.state sink.new) result (shown plan sizes text other (option_map (λ text. text.items) bases) self.limit) }
+    {
+        let files = self.finish(bases)?;
+        print_files(view, files, sink)
     }
 }

@@ -1,10 +1,22 @@
-//! Reading a whole file.
-ghost use Rattle.std.specs.Prelude.{◌≡◌, ◌+◌, ◌++◌, ◌≤◌, length, IfOk, IfErr, OnOk};
+//! Files that are read from a source to their ends: all their bytes, or what is kept of the records of a BED file.
+ghost use Rattle.std.specs.Prelude.{◌≡◌, ◌<◌, ◌+◌, ◌^◌, ◌++◌, ◌≤◌, ◌⊎◌, ℕ, List, [], length, map, Ok, Err, IfOk, IfErr, OnOk};
+ghost use Rattle.std.specs.Option.{option_map};
+ghost use Rattle.iv_text.specs.declared.fault.LoadCause.TheVariants as cause;
+ghost use Rattle.iv_text.specs.declared.fault.LoadFault.{LoadFault};
+ghost use Rattle.iv_text.specs.KeptDrafts.{AreSound, kept_bed_of, size_of};
 ghost use Rattle.iv_run.specs.Files.{ReadsWhole, StopsReading, IsPieceFault};
+ghost use Rattle.iv_run.specs.Loading.{IsAnswer, bases_said, damage_of};
+ghost use Rattle.iv_run.specs.Pieces.{SaysSoFar};
+ghost use Rattle.iv_run.specs.SoFar.{AreKept};
 
-use crate::fault::FileFault;
+use crate::fault::{CliFault, FileFault};
+use iv_args::Slot;
 use iv_bytes::Source;
-use std::alloc::Allocator;
+use iv_fasta::Fasta;
+use iv_index::{Span, Spans};
+use iv_text::{BedFile, FromRecord, Genome, KeptDraft, LoadFault, Record};
+use std::alloc::{Allocator, Global};
+use std::marker::Model;
 
 /// Adds a piece to the bytes. They may come to this limit in all.
 fn take_piece<A: Allocator>(
@@ -43,5 +55,166 @@ pub fn read_all<A: Allocator + Copy, R: Source>(
             return Ok(bytes);
         }
         take_piece(&mut bytes, &piece[..n], limit)?;
+    }
+}
+
+/// What is kept of the records of a BED file, and how many columns each of them has.
+#[derive(Drop)]
+pub(crate) struct KeptFile<K: FromRecord<A>, A: Allocator + Copy = Global> {
+    width: u8,
+    kept: Vec<K, A>,
+}
+
+impl<K: FromRecord<A>, A: Allocator + Copy> Model for KeptFile<K, A> {
+    ghost use Rattle.std.specs.Prelude.{◌≤◌, map};
+    ghost use Rattle.iv_text.specs.BedFile.{Bed};
+
+    ghost Value = { Bed };
+
+    ghost view = { λ f. record { width = f.width; rows = map K.as_row f.kept.items } };
+
+    ghost invariant = { λ f. (3 ≤ f.width) × (f.width ≤ 6) };
+}
+
+impl<K: FromRecord<A>, A: Allocator + Copy> KeptFile<K, A> {
+    /// A file without a record.
+    pub(crate) fn empty(alloc: A, width: u8) -> Self
+        requires { (3 ≤ width) × (width ≤ 6) }
+        ensures { result ≡ record { width = width; rows = [] } }
+    {
+        KeptFile {
+            width,
+            kept: Vec::new(alloc),
+        }
+    }
+}
+
+impl<A: Allocator + Copy> KeptFile<Record<A>, A> {
+    /// The file with its records, of which all is kept.
+    pub(crate) fn into_bed(self) -> BedFile<A>
+        ensures { result ≡ self }
+    {
+        let KeptFile { width, kept } = self;
+        BedFile::of(width, kept)
+    }
+}
+
+impl<A: Allocator + Copy> KeptFile<Span, A> {
+    /// The places of the file's records.
+    pub(crate) fn into_spans(self) -> Spans<A>
+        ensures { result ≡ self }
+    {
+        let KeptFile { width, kept } = self;
+        Spans::of(width, kept)
+    }
+}
+
+/// A BED file of which some bytes have come: what is kept of its lines, or its first fault.
+#[derive(Drop)]
+pub(crate) struct BedDraft<K: FromRecord<A>, A: Allocator + Copy = Global> {
+    said: Result<KeptDraft<K, A>, LoadFault>,
+}
+
+/// Takes the next bytes, unless there was a fault before.
+fn take_next<K: FromRecord<A>, A: Allocator + Copy>(
+    genome: &Genome<A>,
+    limit: u32,
+    so_far: Result<KeptDraft<K, A>, LoadFault>,
+    piece: &[u8],
+) -> Result<KeptDraft<K, A>, LoadFault>
+    requires sound { IfOk so_far (λ d. AreSound K.kept genome.now limit d.read) }
+    requires few { IfOk so_far (λ d. size_of d + length piece.now < 2 ^ 64) }
+    ensures { (front : List ℕ) → SaysSoFar K.kept genome.now limit front so_far → SaysSoFar K.kept genome.now limit (front ++ piece.now) result }
+{
+    let mut draft = so_far?;
+    draft.take_piece(genome, limit, piece)?;
+    Ok(draft)
+}
+
+impl<K: FromRecord<A>, A: Allocator + Copy> BedDraft<K, A> {
+    /// A file of which all bytes are at hand.
+    pub(crate) fn of_text(alloc: A, genome: &Genome<A>, limit: u32, text: &[u8]) -> Self
+        ensures says { SaysSoFar K.kept genome.now limit text.now result.said }
+        ensures sound { IfOk result.said (λ d. AreSound K.kept genome.now limit d.read) }
+        ensures few { IfOk result.said (λ d. size_of d < 2 ^ 64) }
+    {
+        let said = take_next(genome, limit, Ok(KeptDraft::new(alloc)), text);
+        BedDraft { said }
+    }
+
+    /// What is kept of the whole file, or its fault, once all bytes have come. Without a record it has the width that is handed in.
+    pub(crate) fn finish(
+        self,
+        genome: &Genome<A>,
+        empty_width: u8,
+        limit: u32,
+    ) -> Result<KeptFile<K, A>, LoadFault>
+        requires width { (3 ≤ empty_width) × (empty_width ≤ 6) }
+        requires sound { IfOk self.said (λ d. AreSound K.kept genome.now limit d.read) }
+        requires few { IfOk self.said (λ d. size_of d < 2 ^ 64) }
+        ensures says { (text : List ℕ) → SaysSoFar K.kept genome.now limit text self.said → IsAnswer result (kept_bed_of K.kept genome.now empty_width limit text) }
+        ensures kept { IfOk result (AreKept K.kept genome.now limit) }
+    {
+        let (width, kept) = self.said?.finish(genome, empty_width, limit)?;
+        Ok(KeptFile { width, kept })
+    }
+}
+
+/// Reads a BED file from a source to its end, at most `most` bytes, on this genome. It may have at most `limit` records.
+///
+/// After a fault of the file no more of it is looked at, but it is read to its end.
+pub(crate) fn read_bed<K: FromRecord<A>, A: Allocator + Copy, R: Source>(
+    alloc: A,
+    genome: &Genome<A>,
+    limit: u32,
+    source: &mut R,
+    most: u64,
+) -> Result<BedDraft<K, A>, FileFault>
+    requires { most < 2 ^ 63 }
+    ensures ok { IfOk result (λ draft. (text : List ℕ) × ReadsWhole (R.state source.old) (R.state source.new) most text × SaysSoFar K.kept genome.now limit text draft.said) }
+    ensures sound { IfOk result (λ draft. IfOk draft.said (λ d. AreSound K.kept genome.now limit d.read)) }
+    ensures few { IfOk result (λ draft. IfOk draft.said (λ d. size_of d < 2 ^ 64)) }
+    ensures err { IfErr result (λ fault. StopsReading (R.state source.old) (R.state source.new) most fault) }
+{
+    let mut so_far = Ok(KeptDraft::new(alloc));
+    let mut piece = [0u8; 262_144];
+    let mut count: u64 = 0;
+    'pieces: loop {
+        let n = source.pull(&mut piece)?;
+        if n == 0 {
+            return Ok(BedDraft { said: so_far });
+        }
+        if n as u64 > most - count {
+            return Err(FileFault::TooLong);
+        }
+        count += n as u64;
+        so_far = take_next(genome, limit, so_far, &piece[..n]);
+    }
+}
+
+/// What a file says, or its fault with the file that it is of.
+pub(crate) fn in_slot<T: Drop>(slot: Slot, said: Result<T, LoadFault>) -> Result<T, CliFault>
+    ensures ok { IfOk result (λ value. said ≡ Ok value) }
+    ensures err { IfErr result (λ fault. (why : LoadFault) × (said ≡ Err why) × (fault ≡ damage_of slot why)) }
+{
+    match said {
+        Ok(value) => Ok(value),
+        Err(fault) => Err(CliFault::from((slot, fault))),
+    }
+}
+
+/// What the FASTA file says, where there is one, or its first fault.
+pub(crate) fn parse_fasta<A: Allocator + Copy>(
+    alloc: A,
+    genome: &Genome<A>,
+    text: Option<Vec<u8, A>>,
+) -> Result<Option<Fasta<A>>, LoadFault>
+    ensures ok { IfOk result (λ fasta. bases_said genome.now (option_map (λ bytes. bytes.items) text) ≡ Ok fasta) }
+    ensures err { IfErr result (λ fault. (fault ≡ record { line = 0; cause = cause.Memory }) ⊎
+        (bases_said genome.now (option_map (λ bytes. bytes.items) text) ≡ Err fault)) }
+{
+    match text {
+        None => Ok(None),
+        Some(text) => Ok(Some(Fasta::parse(alloc, genome, text)?)),
     }
 }

@@ -2,7 +2,8 @@
 use crate::shot_fixtures::GENOME;
 use iv_args::{Plan, Slot};
 use iv_bytes::{MemSink, MemSource, Source};
-use iv_run::{CliFault, FileFault, PlacesView, shot_in_pieces};
+use iv_index::Span;
+use iv_run::{CliFault, FileFault, Loading, PlacesView};
 use iv_text::{LoadCause, LoadFault};
 use std::alloc::Allocator;
 use std::test::Fail;
@@ -62,17 +63,11 @@ pub(crate) fn run_over<A: Allocator + Copy, S: Source>(
     let Some(view) = PlacesView::of_plan(plan) else {
         return Err(Fail::new("a view of more than places"));
     };
-    let most = u64::from(setting.bytes);
-    Ok(shot_in_pieces(
-        alloc,
-        plan,
-        view,
-        setting.sizes,
-        source,
-        most,
-        setting.records,
-        sink,
-    ))
+    let mut loading: Loading<Span, A> = Loading::begin(alloc, plan, setting.sizes, setting.records);
+    match loading.read_first(source, u64::from(setting.bytes)) {
+        Ok(()) => Ok(Ok(loading.print(view, None, sink))),
+        Err(fault) => Ok(Err(fault)),
+    }
 }
 
 /// Whether a run of a plan over a source ends so and has printed just this, into room for so many bytes.

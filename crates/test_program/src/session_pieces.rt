@@ -1,35 +1,30 @@
 //! Sessions whose BED files come in pieces.
-ghost use Rattle.std.specs.Prelude.{◌≤◌, IfOk, IfSome};
-ghost use Rattle.iv_run.specs.Loading.{FitsRun};
+ghost use Rattle.std.specs.Prelude.{◌≤◌};
+ghost use Rattle.iv_run.specs.SoFar.{IsOfOneRun};
 
 use crate::piece_fixtures::{damage, plan_of};
 use crate::shot_fixtures::GENOME;
 use iv_args::{Plan, Slot};
 use iv_bytes::MemSource;
-use iv_run::{CliFault, FileFault, Inputs, ParsedFiles, RunGenome};
-use iv_text::{BedFile, LoadCause, LoadFault, RecordFault};
+use iv_run::{CliFault, FileFault, Inputs, Loading};
+use iv_text::{LoadCause, Record, RecordFault};
 use iv_workspace::Session;
 use std::alloc::Allocator;
 use std::test::Fail;
 
-/// What the second BED file says, where there is one, which comes up to so many bytes in pieces of so many.
+/// Reads the second BED file, where there is one, which comes up to so many bytes in pieces of so many.
 fn read_second<A: Allocator + Copy>(
-    alloc: A,
-    genome: &RunGenome<A>,
+    loading: &mut Loading<Record<A>, A>,
     text: Option<&[u8]>,
     source: (usize, usize),
-) -> Result<Result<Option<BedFile<A>>, LoadFault>, FileFault>
-    ensures { IfOk result (λ said. IfOk said (λ second. IfSome second (FitsRun genome.now))) }
+) -> Result<(), FileFault>
+    ensures { IsOfOneRun loading.old loading.new }
 {
     let Some(text) = text else {
-        return Ok(Ok(None));
+        return Ok(());
     };
     let mut pieces = MemSource::new(text, source.0, source.1.max(1));
-    match genome.read_bed(alloc, &mut pieces, 10_000) {
-        Ok(Ok(file)) => Ok(Ok(Some(file))),
-        Ok(Err(damage)) => Ok(Err(damage)),
-        Err(fault) => Err(fault),
-    }
+    loading.read_second(&mut pieces, 10_000)
 }
 
 /// The session of a plan's files, of which each BED file comes up to so many bytes in pieces of so many.
@@ -43,14 +38,11 @@ pub(crate) fn load_in_pieces<A: Allocator + Copy>(
 ) -> Result<Result<Session<A>, CliFault>, FileFault>
     requires { limit ≤ 4000000 }
 {
-    let genome = RunGenome::parse(alloc, plan, inputs.sizes, limit);
+    let mut loading: Loading<Record<A>, A> = Loading::begin(alloc, plan, inputs.sizes, limit);
     let mut pieces = MemSource::new(inputs.first, source.0, source.1.max(1));
-    let first = genome.read_bed(alloc, &mut pieces, 10_000)?;
-    let second = read_second(alloc, &genome, inputs.other, source)?;
-    match ParsedFiles::of(alloc, genome, first, second, bases) {
-        Ok(files) => Ok(files.begin(alloc)),
-        Err(fault) => Ok(Err(fault)),
-    }
+    loading.read_first(&mut pieces, 10_000)?;
+    read_second(&mut loading, inputs.other, source)?;
+    Ok(loading.into_session(bases))
 }
 
 /// A genome file whose only line is damaged.

@@ -1,13 +1,21 @@
-use Rattle.std.proofs.Common.{Ok}
+use Rattle.std.proofs.Common.{Ok, Err, refl}
+use Rattle.std.specs.Option.{option_map}
 use Rattle.iv_session.specs.Streams.{streams}
 use Rattle.iv_program.specs.Limits.{most_lines, most_line_bytes}
-use Rattle.iv_program.proofs.RunLemmas.{ran-of}
+use Rattle.iv_program.proofs.RunLemmas.{ran-of, report-of}
 use Rattle.iv_program.proofs.script_run.run_over.Goals as goal
 
+pub returns-in-Err : goal.returns-in-Err
+returns-in-Err g c = λ plan texts says. (
+  Err c.in-Err.fault,
+  report-of plan texts c.args.read.loading (option_map (λ bytes. bytes.items) c.args.read.bases) (Err c.in-Err.fault) says c.in-Err.ensures,
+  (refl, c.from.ensures),
+)
+
 pub returns : goal.returns
-returns g c = λ texts says. (
+returns g c = λ plan texts says. (
   Ok c.in-Ok.session,
-  c.in-Ok.ensures texts says,
+  report-of plan texts c.args.read.loading (option_map (λ bytes. bytes.items) c.args.read.bases) (Ok c.in-Ok.session) says c.in-Ok.ensures,
   (
     c.run_script-done.new.session,
     c.run_script-done.result,

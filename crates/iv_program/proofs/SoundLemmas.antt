@@ -1,0 +1,190 @@
+-- A run of one subcommand that nothing hinders.
+use Rattle.std.proofs.Common.{◌≡◌, ◌<◌, inl, inr, ℕ, Bool, true, false, true≢false, List, [], length, Option, None, Some, Result, Ok, Err, IfSome, refl, sym, ap, ◌∙◌, subst, arith}
+use Rattle.iv_bytes.specs.Sinks.{SinkState, Takes}
+use Rattle.iv_session.specs.Streams.{Streams}
+use Rattle.iv_args.specs.Notices.{notice_of}
+use Rattle.iv_args.specs.Words.{RunPlan, IsPlan, file_of, is_session}
+use Rattle.iv_args.specs.declared.fault.PlanFault.TheVariants as planning
+use Rattle.iv_args.specs.declared.plan.Slot.{Slot}
+use Rattle.iv_args.specs.declared.plan.Slot.TheVariants.{Sizes, First, Other, Bases}
+use Rattle.iv_run.specs.Shots.{Shows, shown}
+use Rattle.iv_run.specs.declared.fault.CliFault.{CliFault}
+use Rattle.iv_run.specs.declared.fault.CliFault.TheVariants as fault
+use Rattle.iv_run.specs.declared.fault.FileFault.{FileFault}
+use Rattle.iv_run.specs.declared.fault.FileFault.TheVariants as file
+use Rattle.iv_cli.specs.Endings.{ending_after, ending_of, ending_of_file, is_through, line_of, name_meant, status_of}
+use Rattle.iv_cli.specs.declared.ending.Ending.{Ending}
+use Rattle.iv_cli.specs.declared.ending.Ending.TheVariants as ending
+use Rattle.iv_program.specs.Files.{FilesState, StopsFile}
+use Rattle.iv_program.specs.Limits.{most_file_bytes, most_records}
+use Rattle.iv_program.specs.Outcomes.{AreSound, HasBytes, Hold, PrintsJust}
+use Rattle.iv_program.specs.Program.{Asked, Shown, Planned, Wrong, Ask, Finishes, Flushes, Runs, Serves, Tells, name_told}
+use Rattle.iv_program.specs.Runs.{DoesWith, RunsPlan, World, ending_of_shot}
+use Rattle.iv_program.specs.Texts.{Texts, AreTexts, IsTextIfNamed}
+use Rattle.iv_program.proofs.DoneLemmas.{one-plan, then-flushed}
+
+-- ---- files
+
+-- a file has one text
+text-known : (files : FilesState) (name : Option (List ℕ)) (text bytes : Option (List ℕ)) → IsTextIfNamed files name text → HasBytes files name bytes → text ≡ bytes
+text-known files None None bytes is has = sym has
+text-known files None (Some text) bytes is has = absurd is
+text-known files (Some name) None bytes is has = absurd is
+text-known files (Some name) (Some text) bytes is has =
+    let known : has.0 ≡ text = subst (λ (o : Option (List ℕ)). IfSome o (λ known. known ≡ text)) has.1 is.0 in
+    ap Some (sym known) ∙ sym has.3
+
+texts-known : (files : FilesState) (plan : RunPlan) (texts held : Texts) → AreTexts files plan texts → Hold files plan held → texts ≡ held
+texts-known files plan texts held are hold =
+    let sizes : Some texts.sizes ≡ Some held.sizes = text-known files (Some plan.sizes) (Some texts.sizes) (Some held.sizes) are.sizes hold.sizes in
+    let first : Some texts.first ≡ Some held.first = text-known files (Some plan.first) (Some texts.first) (Some held.first) are.first hold.first in
+    let other : texts.other ≡ held.other = text-known files plan.other texts.other held.other are.other hold.other in
+    let bases : texts.bases ≡ held.bases = text-known files plan.bases texts.bases held.bases are.bases hold.bases in
+    let is_sizes : texts.sizes ≡ held.sizes = cc sizes in
+    let is_first : texts.first ≡ held.first = cc first in
+    λ i. record { sizes = is_sizes i; first = is_first i; other = other i; bases = bases i }
+
+-- none is too long
+slot-known : (files : FilesState) (plan : RunPlan) (texts : Texts) (slot : Slot) (name : List ℕ) → Hold files plan texts → file_of plan slot ≡ Some name
+    → (bytes : Option (List ℕ)) × HasBytes files (Some name) bytes
+slot-known files plan texts Sizes name hold named = (Some texts.sizes, subst (λ (o : Option (List ℕ)). HasBytes files o (Some texts.sizes)) named hold.sizes)
+slot-known files plan texts First name hold named = (Some texts.first, subst (λ (o : Option (List ℕ)). HasBytes files o (Some texts.first)) named hold.first)
+slot-known files plan texts Other name hold named = (texts.other, subst (λ (o : Option (List ℕ)). HasBytes files o texts.other) named hold.other)
+slot-known files plan texts Bases name hold named = (texts.bases, subst (λ (o : Option (List ℕ)). HasBytes files o texts.bases) named hold.bases)
+
+not-long : (files : FilesState) (name : List ℕ) (bytes : Option (List ℕ)) → HasBytes files (Some name) bytes → IfSome (files.contents name) (λ known. most_file_bytes < length known) → ⊥
+not-long files name bytes has long =
+    let known : most_file_bytes < length has.0 = subst (λ (o : Option (List ℕ)). IfSome o (λ known. most_file_bytes < length known)) has.1 long in
+    absurd (omega (arith, known, has.2))
+
+-- ---- the end of a run
+
+sound-failed : (b : Bool) → b ≡ true → b ≡ false → ⊥
+sound-failed b t f = true≢false (sym t ∙ f)
+
+module _ (ended : Ending) (name : List ℕ) (out0 out1 said0 said1 : SinkState) (status : ℕ) (finishes : Finishes ended name out0 out1 said0 said1 status)
+    (sound : out1.failed ≡ false) (heard : said1.failed ≡ false) where
+  flushed-true : finishes.flushed ≡ true
+  flushed-true = by finishes.flushed finishes.flush
+    where
+      by : (b : Bool) → Flushes b out0 out1 → b ≡ true
+      by true flush = refl
+      by false flush = absurd (sound-failed out1.failed flush.failed sound)
+
+  -- the output was flushed
+  flushed : Takes out0 out1 []
+  flushed = subst (λ (b : Bool). Flushes b out0 out1) flushed-true finishes.flush
+
+  same-ending : (e : Ending) → ending_after true e ≡ e
+  same-ending ending.Done = refl
+  same-ending ending.Refused = refl
+  same-ending (ending.Words code) = refl
+  same-ending (ending.Damaged slot damage) = refl
+  same-ending (ending.Unreadable slot) = refl
+  same-ending (ending.TooLong slot) = refl
+  same-ending ending.InputUnreadable = refl
+  same-ending ending.InputTooLong = refl
+  same-ending ending.Output = refl
+  same-ending ending.Memory = refl
+
+  ending-is : ending_after finishes.flushed ended ≡ ended
+  ending-is = ap (λ (b : Bool). ending_after b ended) flushed-true ∙ same-ending ended
+
+  status-of : status ≡ status_of ended
+  status-of = finishes.status_is ∙ ap status_of ending-is
+
+  -- its line was put
+  told : Takes said0 said1 (line_of name ended)
+  told = subst (λ (e : Ending). Takes said0 said1 (line_of name e)) ending-is (by finishes.told)
+    where
+      by : Tells said0 said1 (line_of name (ending_after finishes.flushed ended)) → Takes said0 said1 (line_of name (ending_after finishes.flushed ended))
+      by (inl took) = took
+      by (inr failed) = absurd (sound-failed said1.failed failed.failed heard)
+
+  -- there is none if all was done
+  quiet : ended ≡ ending.Done → said1 ≡ said0
+  quiet is = finishes.quiet (ap (λ (e : Ending). is_through e) (ending-is ∙ is))
+
+-- ---- a view
+
+module _ (plan : RunPlan) (before reached after : Streams) (status : ℕ) (ended : Ending)
+    (finishes : Finishes ended (name_meant plan ended) reached.output after.output reached.messages after.messages status)
+    (sound : after.output.failed ≡ false) (heard : after.messages.failed ≡ false) (had_memory : status ≡ 5 → ⊥)
+    (only : reached ≡ record before { output = reached.output }) where
+  out : Takes reached.output after.output []
+  out = flushed ended (name_meant plan ended) reached.output after.output reached.messages after.messages status finishes sound heard
+
+  same-messages : reached.messages ≡ before.messages
+  same-messages = ap (λ (s : Streams). s.messages) only
+
+  line-told : Takes before.messages after.messages (line_of (name_meant plan ended) ended)
+  line-told = subst (λ (m : SinkState). Takes m after.messages (line_of (name_meant plan ended) ended)) same-messages
+      (told ended (name_meant plan ended) reached.output after.output reached.messages after.messages status finishes sound heard)
+
+  is-status : status ≡ status_of ended
+  is-status = status-of ended (name_meant plan ended) reached.output after.output reached.messages after.messages status finishes sound heard
+
+  is-quiet : ended ≡ ending.Done → after.messages ≡ before.messages
+  is-quiet is = quiet ended (name_meant plan ended) reached.output after.output reached.messages after.messages status finishes sound heard is ∙ same-messages
+
+  -- the fault of files or of words is told, and nothing was printed
+  tells : (k : CliFault) → ended ≡ ending_of k → reached.output ≡ before.output → (said : Result (List ℕ) CliFault) → said ≡ Err k → PrintsJust plan said before after status
+  tells k is same said e = subst (λ (r : Result (List ℕ) CliFault). PrintsJust plan r before after status) (sym e) (
+    subst (λ (o : SinkState). Takes o after.output []) same out,
+    subst (λ (e : Ending). Takes before.messages after.messages (line_of (name_meant plan e) e)) is line-told,
+    is-status ∙ ap status_of is,
+  )
+
+  pub shows-just : (done : Result (Unit {0}) CliFault) (said : Result (List ℕ) CliFault) → Shows before.output reached.output done said → ended ≡ ending_of_shot done
+      → PrintsJust plan said before after status
+  shows-just (Ok done) said shows is = subst (λ (r : Result (List ℕ) CliFault). PrintsJust plan r before after status) (sym shows.1) (
+    then-flushed before.output reached.output after.output shows.0 shows.2 out,
+    is-quiet is,
+    is-status ∙ ap status_of is,
+  )
+  shows-just (Err fault.Output) said shows is = absurd (sound-failed after.output.failed (out.failed ∙ shows.2.failed) sound)
+  shows-just (Err fault.Memory) said shows is = absurd (had_memory (is-status ∙ ap status_of is))
+  shows-just (Err (fault.Words code)) said shows is = tells (fault.Words code) is shows.1 said shows.0
+  shows-just (Err (fault.Damaged slot damage)) said shows is = tells (fault.Damaged slot damage) is shows.1 said shows.0
+
+-- ---- the program
+
+pub prints-just : (words : List (List ℕ)) (before after : World) (plan : RunPlan) (texts : Texts) (status : ℕ) → notice_of words ≡ None → IsPlan words plan
+    → is_session plan.run ≡ false → Hold before.files plan texts → Runs words before after status → AreSound after → (status ≡ 5 → ⊥)
+    → PrintsJust plan (shown plan texts.sizes texts.first texts.other texts.bases most_records) before.streams after.streams status
+prints-just words before after plan texts status none is view hold ran sound had_memory = by ran.asked ran.ask ran.serves ran.finishes
+  where
+    Goal : Type 0
+    Goal = PrintsJust plan (shown plan texts.sizes texts.first texts.other texts.bases most_records) before.streams after.streams status
+
+    of_plan : (name : List ℕ) → name ≡ name_meant plan ran.ended → RunsPlan plan before ran.reached ran.ended
+        → Finishes ran.ended name ran.reached.streams.output after.streams.output ran.reached.streams.messages after.streams.messages status → Goal
+    of_plan name named (inl read) finishes =
+        let same : read.texts ≡ texts = texts-known before.files plan read.texts texts read.are hold in
+        let does : DoesWith false plan read.texts before.streams ran.reached.streams ran.ended =
+        subst (λ (b : Bool). DoesWith b plan read.texts before.streams ran.reached.streams ran.ended) view read.does in
+        subst (λ (t : Texts). PrintsJust plan (shown plan t.sizes t.first t.other t.bases most_records) before.streams after.streams status) same
+        (shows-just plan before.streams ran.reached.streams after.streams status ran.ended
+        (subst (λ (n : List ℕ). Finishes ran.ended n ran.reached.streams.output after.streams.output ran.reached.streams.messages after.streams.messages status) named finishes)
+        sound.output sound.messages had_memory does.1 does.0.0
+        (shown plan read.texts.sizes read.texts.first read.texts.other read.texts.bases most_records) does.0.1 does.0.2)
+    of_plan name named (inr stopped) finishes = absurd (never stopped.fault stopped.stops.stops stopped.ended_is)
+      where
+        -- no file failed, none is too long, and there was memory
+        never : (why : FileFault) → StopsFile before.files stopped.stops.name why ran.reached.files → ran.ended ≡ ending_of_file stopped.slot why → ⊥
+        never file.Input stops e = sound-failed after.files.failed (ap (λ (f : FilesState). f.failed) (ran.files ∙ stops)) sound.files
+        never file.TooLong stops e =
+            let has = slot-known before.files plan texts stopped.slot stopped.stops.name hold stopped.stops.named in
+            not-long before.files stopped.stops.name has.0 has.1 stops.0
+        never file.Memory stops e = had_memory
+            (status-of ran.ended name ran.reached.streams.output after.streams.output ran.reached.streams.messages after.streams.messages status finishes sound.output sound.messages ∙ ap status_of e)
+
+    by : (asked : Asked) → Ask words asked → Serves asked before ran.reached ran.ended
+        → Finishes ran.ended (name_told asked ran.ended) ran.reached.streams.output after.streams.output ran.reached.streams.messages after.streams.messages status → Goal
+    by (Shown notice) ask serves finishes = absurd (cc (sym none ∙ ask))
+    by (Planned other) ask serves finishes =
+        let same : other ≡ plan = one-plan words other plan ask.1 is in
+        of_plan (name_meant other ran.ended) (ap (λ (p : RunPlan). name_meant p ran.ended) same) (subst (λ (p : RunPlan). RunsPlan p before ran.reached ran.ended) same serves) finishes
+    by (Wrong planning.Words) ask serves finishes = absurd (ask.1 plan is)
+    by (Wrong planning.Memory) ask serves finishes = absurd (had_memory
+        (status-of ran.ended [] ran.reached.streams.output after.streams.output ran.reached.streams.messages after.streams.messages status finishes sound.output sound.messages ∙ ap status_of serves.1))

@@ -1,0 +1,12 @@
+use Rattle.std.proofs.Common.{◌≡◌, List, ℕ, Option, Some, subst}
+use Rattle.iv_program.specs.Texts.{IsTextIfNamed}
+use Rattle.iv_program.proofs.files.read_second.Goals as goal
+
+pub returns-in-Ok-clause-ok : goal.returns-in-Ok-clause-ok
+returns-in-Ok-clause-ok g c =
+    let read = c.in-Ok.ensures.ok in
+    let named : Some c.in-Some.name.now ≡ c.args.plan.now.other = c.in-Some.ensures in (
+      Some read.0,
+      subst (λ (o : Option (List ℕ)). IsTextIfNamed (g.F.InputFiles.state c.args.files.now) o (Some read.0)) named read.1,
+      λ sizes text says none. read.2 sizes text says,
+    )

@@ -1,0 +1,22 @@
+use Rattle.std.proofs.Common.{◌≡◌, Ok, refl, ap, ◌∙◌}
+use Rattle.std.specs.Option.{is_some}
+use Rattle.iv_view.proofs.WordLemmas.{needs-there, bases-there}
+use Rattle.iv_view.specs.declared.view.View.TheVariants as view
+use Rattle.iv_view.specs.declared.written_view.WrittenView.TheVariants as written
+use Rattle.iv_run.proofs.one_shot.TextFiles.put.Goals as goal
+
+pub put_pairs-requires : goal.put_pairs-requires
+put_pairs-requires g c =
+    let one = c.in-Written-Paired.is in
+    let two : c.in-Written-Paired.field-0 ≡ written.Paired c.in-Written-Paired.rows = rw one at c.in-Written-Paired.field-0-is in
+    let view-is : c.args.view ≡ view.Written (written.Paired c.in-Written-Paired.rows) = one ∙ ap view.Written two in
+    let files = c.args.self in
+    needs-there files.first.width (is_some files.second) (is_some files.bases) c.requires.0 (view.Written (written.Paired c.in-Written-Paired.rows)) (c.requires.2 ∙ ap Ok view-is) refl
+
+pub put_fasta-requires : goal.put_fasta-requires
+put_fasta-requires g c =
+    let one = c.in-Written-Getfasta.is in
+    let two : c.in-Written-Getfasta.field-0 ≡ written.Getfasta c.in-Written-Getfasta.shown = rw one at c.in-Written-Getfasta.field-0-is in
+    let view-is : c.args.view ≡ view.Written (written.Getfasta c.in-Written-Getfasta.shown) = one ∙ ap view.Written two in
+    let files = c.args.self in
+    bases-there files.first.width (is_some files.second) (is_some files.bases) c.requires.0 c.in-Written-Getfasta.shown (c.requires.2 ∙ ap Ok view-is)

@@ -1,0 +1,100 @@
+-- What is known of the files of a run while they are read. No part of what is promised.
+use Rattle.std.specs.Prelude.{◌≡◌, ◌⊎◌, ℕ, ◌≤◌, List, Option, None, Some, All, length, Result, Ok, Err}
+use Rattle.std.specs.Option.{option_map}
+use Rattle.iv_text.specs.BedFile.{Bed, bed_of}
+use Rattle.iv_text.specs.Genome.{Sequences}
+use Rattle.iv_text.specs.GenomeFile.{genome_of}
+use Rattle.iv_text.specs.KeptDrafts.{IsKept, kept_bed}
+use Rattle.iv_text.specs.Row.{Row}
+use Rattle.iv_text.specs.declared.fault.LoadFault.{LoadFault}
+use Rattle.iv_args.specs.declared.plan.Slot.TheVariants.{First, Other}
+use Rattle.iv_run.specs.Loading.{Parsed, damage_of, parsed, second_of}
+use Rattle.iv_run.specs.declared.fault.CliFault.{CliFault}
+use Rattle.iv_run.specs.declared.fault.CliFault.TheVariants.{Memory}
+
+-- the genome on which BED files are read; the report of the first damaged file; which width a BED file without a record has, and how
+-- many records each may have; and the BED files that were read, with their records as they are kept
+pub record SoFar : Type 0 where
+  pub genome : Sequences
+  pub damage : Option CliFault
+  pub width : ℕ
+  pub limit : ℕ
+  pub first : Bed
+  pub second : Option Bed
+
+-- these are kept of records of the file's width on the genome, and they are not more than the limit
+pub record AreKept (kept : Row → Row) (g : Sequences) (limit : ℕ) (file : Bed) : Type 0 where
+  pub kept_all : All (IsKept kept g file.width) file.rows
+  pub few : length file.rows ≤ limit
+
+-- the limits of a run stay
+abbrev pub IsOfOneRun : SoFar → SoFar → Type 0
+IsOfOneRun old new = (new.width ≡ old.width) × (new.limit ≡ old.limit)
+
+-- the report once one more file is damaged: that of the first one stays
+abbrev pub noted : Option CliFault → CliFault → Option CliFault
+noted None fault = Some fault
+noted (Some before) fault = Some before
+
+-- once the first BED file is read
+abbrev pub taken_first : SoFar → Result Bed LoadFault → SoFar
+taken_first known (Ok file) = record known { first = file }
+taken_first known (Err f) = record known { damage = noted known.damage (damage_of First f) }
+
+-- once the second BED file is read
+abbrev pub taken_second : SoFar → Result Bed LoadFault → SoFar
+taken_second known (Ok file) = record known { second = Some file }
+taken_second known (Err f) = record known { damage = noted known.damage (damage_of Other f) }
+
+-- the genome file of these bytes is sound; or this is the report of all files, whatever the others say
+abbrev pub SaysSizesBy : List ℕ → SoFar → Option CliFault → Type 0
+SaysSizesBy sizes known None = genome_of sizes ≡ Ok known.genome
+SaysSizesBy sizes known (Some k) =
+    (k ≡ Memory) ⊎ ((text : List ℕ) (other bases : Option (List ℕ)) → parsed known.width sizes text other bases known.limit ≡ Err k)
+
+-- what is known is what the genome file of these bytes says
+abbrev pub SaysSizes : List ℕ → SoFar → Type 0
+SaysSizes sizes known = SaysSizesBy sizes known known.damage
+
+-- both the genome file and the first BED file are sound
+pub record IsFirst (kept : Row → Row) (sizes text : List ℕ) (known : SoFar) : Type 0 where
+  pub genome_is : genome_of sizes ≡ Ok known.genome
+  pub bed : Bed
+  pub bed_is : bed_of known.genome known.width known.limit text ≡ Ok bed
+  pub kept_is : known.first ≡ kept_bed kept bed
+
+-- the two files of these bytes are sound; or this is the report of all files, whatever the others say
+abbrev pub SaysFirstBy : (Row → Row) → List ℕ → List ℕ → SoFar → Option CliFault → Type 0
+SaysFirstBy kept sizes text known None = IsFirst kept sizes text known
+SaysFirstBy kept sizes text known (Some k) =
+    (k ≡ Memory) ⊎ ((other bases : Option (List ℕ)) → parsed known.width sizes text other bases known.limit ≡ Err k)
+
+-- what is known is what the genome file and the first BED file of these bytes say
+abbrev pub SaysFirst : (Row → Row) → List ℕ → List ℕ → SoFar → Type 0
+SaysFirst kept sizes text known = SaysFirstBy kept sizes text known known.damage
+
+-- so is the second BED file, where there is one
+pub record AreBoth (kept : Row → Row) (sizes text : List ℕ) (other : Option (List ℕ)) (known : SoFar) : Type 0 where
+  pub first : IsFirst kept sizes text known
+  pub beside : Option Bed
+  pub beside_is : second_of known.genome known.width known.limit other ≡ Ok beside
+  pub kept_is : known.second ≡ option_map (kept_bed kept) beside
+
+-- the files of these bytes are sound; or this is the report of all files, whatever the FASTA file says
+abbrev pub SaysSecondBy : (Row → Row) → List ℕ → List ℕ → Option (List ℕ) → SoFar → Option CliFault → Type 0
+SaysSecondBy kept sizes text other known None = AreBoth kept sizes text other known
+SaysSecondBy kept sizes text other known (Some k) =
+    (k ≡ Memory) ⊎ ((bases : Option (List ℕ)) → parsed known.width sizes text other bases known.limit ≡ Err k)
+
+-- what is known is what the genome file and the BED files of these bytes say
+abbrev pub SaysSecond : (Row → Row) → List ℕ → List ℕ → Option (List ℕ) → SoFar → Type 0
+SaysSecond kept sizes text other known = SaysSecondBy kept sizes text other known known.damage
+
+-- files with their records as they are kept
+abbrev pub kept_files : (Row → Row) → Parsed → Parsed
+kept_files kept files = record files { first = kept_bed kept files.first; second = option_map (kept_bed kept) files.second }
+
+-- a call answers with what files say, their records as they are kept; or it reports the fault of the first damaged one, or out of memory
+abbrev pub ReportsKept : (Row → Row) → Result Parsed CliFault → Result Parsed CliFault → Type 0
+ReportsKept kept (Ok files) said = (whole : Parsed) × (said ≡ Ok whole) × (files ≡ kept_files kept whole)
+ReportsKept kept (Err k) said = (k ≡ Memory) ⊎ (said ≡ Err k)

@@ -1,0 +1,321 @@
+//! The files of a run while they are read, one after another, and the session that they begin.
+ghost use Rattle.std.specs.Prelude.{◌≡◌, ◌<◌, ◌≤◌, ◌^◌, ◌⊎◌, List, ℕ, [], Option, None, Some, Ok, Err, IfOk, IfErr, OnOk, OnErr};
+ghost use Rattle.std.specs.Option.{option_copied, option_map};
+ghost use Rattle.iv_track.specs.Tracked.{most_records};
+ghost use Rattle.iv_workspace.specs.States.{begun};
+ghost use Rattle.iv_run.specs.Files.{ReadsWhole, StopsReading};
+ghost use Rattle.iv_run.specs.Loading.{IsReport, loaded, parsed};
+ghost use Rattle.iv_run.specs.SoFar.{AreKept, IsOfOneRun, ReportsKept, SaysFirst, SaysSecond, SaysSizes, noted, taken_first, taken_second};
+
+use crate::fault::{CliFault, FileFault};
+use crate::reading::{BedDraft, KeptFile, in_slot, parse_fasta, read_bed};
+use iv_args::{Plan, Slot};
+use iv_bytes::Source;
+use iv_fasta::Fasta;
+use iv_text::{BedFile, FromRecord, Genome, LoadFault, Record};
+use iv_workspace::Session;
+use std::alloc::{Allocator, Global};
+use std::marker::Model;
+
+/// The bytes of the files of a run, apart from the FASTA file.
+#[derive(Clone, Copy, Debug)]
+pub struct Inputs<'a> {
+    /// The genome file.
+    pub sizes: &'a [u8],
+    /// The first BED file.
+    pub first: &'a [u8],
+    /// The second BED file, where the plan names one.
+    pub other: Option<&'a [u8]>,
+}
+
+/// The files of a run while they are read: what they say so far, or the fault of the first damaged one. Of each record of a BED
+/// file is kept what `K` says: all of it ([`Record`]), or its place ([`Span`](iv_index::Span)).
+///
+/// The genome file comes first, then the first BED file, the second, where there is one, and the FASTA file. A file that can't be
+/// read is reported before a damaged one, so each is read to its end, whatever the others said: where the genome file is damaged,
+/// the BED files are read on a genome of no sequence.
+#[derive(Drop)]
+pub struct Loading<K: FromRecord<A>, A: Allocator + Copy = Global> {
+    alloc: A,
+    genome: Genome<A>,
+    damage: Option<CliFault>,
+    empty_width: u8,
+    limit: u32,
+    first: KeptFile<K, A>,
+    second: Option<KeptFile<K, A>>,
+}
+
+impl<K: FromRecord<A>, A: Allocator + Copy> Model for Loading<K, A> {
+    ghost use Rattle.std.specs.Prelude.{◌≤◌, IfSome};
+    ghost use Rattle.iv_run.specs.SoFar.{AreKept, SoFar};
+
+    ghost Value = { SoFar };
+
+    ghost view = { λ l. record { genome = l.genome; damage = l.damage; width = l.empty_width; limit = l.limit; first = l.first; second = l.second } };
+
+    ghost invariant = { λ l. (3 ≤ l.empty_width) × (l.empty_width ≤ 6) × AreKept K.kept l.genome l.limit l.first × IfSome l.second (AreKept K.kept l.genome l.limit) };
+}
+
+/// What all files of a run say, of each record what is kept of it.
+#[derive(Drop)]
+pub(crate) struct LoadedFiles<K: FromRecord<A>, A: Allocator + Copy = Global> {
+    pub(crate) alloc: A,
+    pub(crate) genome: Genome<A>,
+    pub(crate) first: KeptFile<K, A>,
+    pub(crate) second: Option<KeptFile<K, A>>,
+    pub(crate) fasta: Option<Fasta<A>>,
+    pub(crate) limit: u32,
+}
+
+impl<K: FromRecord<A>, A: Allocator + Copy> Model for LoadedFiles<K, A> {
+    ghost use Rattle.std.specs.Prelude.{IfSome};
+    ghost use Rattle.iv_run.specs.Loading.{Parsed};
+    ghost use Rattle.iv_run.specs.SoFar.{AreKept};
+
+    ghost Value = { Parsed };
+
+    ghost view = { λ f. record { genome = f.genome; first = f.first; second = f.second; bases = f.fasta; limit = f.limit } };
+
+    ghost invariant = { λ f. AreKept K.kept f.genome f.limit f.first × IfSome f.second (AreKept K.kept f.genome f.limit) };
+}
+
+impl<K: FromRecord<A>, A: Allocator + Copy> Loading<K, A> {
+    /// No BED file is read yet.
+    fn on(
+        alloc: A,
+        genome: Genome<A>,
+        damage: Option<CliFault>,
+        empty_width: u8,
+        limit: u32,
+    ) -> Self
+        requires { (3 ≤ empty_width) × (empty_width ≤ 6) }
+        ensures { result ≡ record { genome = genome; damage = damage; width = empty_width; limit = limit; first = record { width = empty_width; rows = [] }; second = None } }
+    {
+        Loading {
+            alloc,
+            genome,
+            damage,
+            empty_width,
+            limit,
+            first: KeptFile::empty(alloc, empty_width),
+            second: None,
+        }
+    }
+
+    /// Begins with the bytes of a genome file. A BED file of the run without a record has the width that the plan says, and each may
+    /// have at most `limit` records.
+    pub fn begin(alloc: A, plan: &Plan<'_, A>, sizes: &[u8], limit: u32) -> Self
+        ensures says { SaysSizes sizes.now result }
+        ensures width { result.width ≡ plan.now.width }
+        ensures limit { result.limit ≡ limit }
+        ensures alone { result.second ≡ None }
+    {
+        let empty_width = plan.width();
+        match in_slot(Slot::Sizes, Genome::parse(alloc, sizes)) {
+            Ok(genome) => Loading::on(alloc, genome, None, empty_width, limit),
+            Err(fault) => Loading::on(alloc, Genome::empty(alloc), Some(fault), empty_width, limit),
+        }
+    }
+
+    /// A file is damaged. The report of the first one stays.
+    fn note(&mut self, fault: CliFault)
+        ensures { self.new ≡ record self.old { damage = noted self.old.damage fault } }
+    {
+        if self.damage.is_none() {
+            self.damage = Some(fault);
+        }
+    }
+
+    /// The first BED file was read, and says this.
+    fn take_first(&mut self, said: Result<KeptFile<K, A>, LoadFault>)
+        requires { IfOk said (AreKept K.kept self.old.genome self.old.limit) }
+        ensures { self.new ≡ taken_first self.old said }
+    {
+        match in_slot(Slot::First, said) {
+            Ok(file) => self.first = file,
+            Err(fault) => self.note(fault),
+        }
+    }
+
+    /// The second BED file was read, and says this.
+    fn take_second(&mut self, said: Result<KeptFile<K, A>, LoadFault>)
+        requires { IfOk said (AreKept K.kept self.old.genome self.old.limit) }
+        ensures { self.new ≡ taken_second self.old said }
+    {
+        match in_slot(Slot::Other, said) {
+            Ok(file) => self.second = Some(file),
+            Err(fault) => self.note(fault),
+        }
+    }
+
+    /// Reads the first BED file from a source to its end, at most `most` bytes.
+    ///
+    /// # Errors
+    ///
+    /// A fault of the source. That the file is damaged is no error here: [`Loading::into_session`] reports it.
+    pub fn read_first<R: Source>(&mut self, source: &mut R, most: u64) -> Result<(), FileFault>
+        requires { most < 2 ^ 63 }
+        ensures ok { OnOk result ((text : List ℕ) × ReadsWhole (R.state source.old) (R.state source.new) most text
+            × ((sizes : List ℕ) → SaysSizes sizes self.old → SaysFirst K.kept sizes text self.new)) }
+        ensures same { IsOfOneRun self.old self.new }
+        ensures beside { self.new.second ≡ self.old.second }
+        ensures err { IfErr result (λ fault. StopsReading (R.state source.old) (R.state source.new) most fault) }
+        ensures nothing { OnErr result (self.new ≡ self.old) }
+    {
+        let draft = read_bed(self.alloc, &self.genome, self.limit, source, most)?;
+        let said = draft.finish(&self.genome, self.empty_width, self.limit);
+        self.take_first(said);
+        Ok(())
+    }
+
+    /// Reads the second BED file from a source to its end, at most `most` bytes.
+    ///
+    /// # Errors
+    ///
+    /// A fault of the source. That the file is damaged is no error here: [`Loading::into_session`] reports it.
+    pub fn read_second<R: Source>(&mut self, source: &mut R, most: u64) -> Result<(), FileFault>
+        requires { most < 2 ^ 63 }
+        ensures ok { OnOk result ((other : List ℕ) × ReadsWhole (R.state source.old) (R.state source.new) most other
+            × ((sizes text : List ℕ) → SaysFirst K.kept sizes text self.old → SaysSecond K.kept sizes text (Some other) self.new)) }
+        ensures same { IsOfOneRun self.old self.new }
+        ensures err { IfErr result (λ fault. StopsReading (R.state source.old) (R.state source.new) most fault) }
+        ensures nothing { OnErr result (self.new ≡ self.old) }
+    {
+        let draft = read_bed(self.alloc, &self.genome, self.limit, source, most)?;
+        let said = draft.finish(&self.genome, self.empty_width, self.limit);
+        self.take_second(said);
+        Ok(())
+    }
+
+    /// Takes the first BED file, given all its bytes.
+    fn parse_first(&mut self, text: &[u8])
+        ensures says { (sizes : List ℕ) → SaysSizes sizes self.old → SaysFirst K.kept sizes text.now self.new }
+        ensures same { IsOfOneRun self.old self.new }
+        ensures beside { self.new.second ≡ self.old.second }
+    {
+        let draft = BedDraft::of_text(self.alloc, &self.genome, self.limit, text);
+        let said = draft.finish(&self.genome, self.empty_width, self.limit);
+        self.take_first(said);
+    }
+
+    /// Takes the second BED file, given all its bytes.
+    fn parse_second(&mut self, other: &[u8])
+        ensures says { (sizes text : List ℕ) → SaysFirst K.kept sizes text self.old → SaysSecond K.kept sizes text (Some other.now) self.new }
+        ensures same { IsOfOneRun self.old self.new }
+    {
+        let draft = BedDraft::of_text(self.alloc, &self.genome, self.limit, other);
+        let said = draft.finish(&self.genome, self.empty_width, self.limit);
+        self.take_second(said);
+    }
+
+    /// The files of a run, given the bytes of all but the FASTA file.
+    pub(crate) fn of_inputs(alloc: A, plan: &Plan<'_, A>, inputs: &Inputs<'_>, limit: u32) -> Self
+        ensures says { SaysSecond K.kept inputs.now.sizes.now inputs.now.first.now (option_copied inputs.now.other) result }
+        ensures width { result.width ≡ plan.now.width }
+        ensures limit { result.limit ≡ limit }
+    {
+        let mut loading = Loading::begin(alloc, plan, inputs.sizes, limit);
+        loading.parse_first(inputs.first);
+        if let Some(other) = inputs.other {
+            loading.parse_second(other);
+        }
+        loading
+    }
+
+    /// What all files say, once the BED files are read, or the fault of the first damaged one. `bases` are the bytes of the FASTA
+    /// file, where there is one. They are taken: the bases stay in their memory.
+    pub(crate) fn finish(self, bases: Option<Vec<u8, A>>) -> Result<LoadedFiles<K, A>, CliFault>
+        ensures says { (sizes text : List ℕ) (other : Option (List ℕ)) → SaysSecond K.kept sizes text other self
+            → ReportsKept K.kept result (parsed self.width sizes text other (option_map (λ text. text.items) bases) self.limit) }
+        ensures limit { IfOk result (λ files. files.limit ≡ self.limit) }
+    {
+        let Loading {
+            alloc,
+            genome,
+            damage,
+            empty_width: _,
+            limit,
+            first,
+            second,
+        } = self;
+        if let Some(fault) = damage {
+            return Err(fault);
+        }
+        let fasta = in_slot(Slot::Bases, parse_fasta(alloc, &genome, bases))?;
+        Ok(LoadedFiles {
+            alloc,
+            genome,
+            first,
+            second,
+            fasta,
+            limit,
+        })
+    }
+}
+
+/// The records of a file that may be left out.
+fn into_bed<A: Allocator + Copy>(file: Option<KeptFile<Record<A>, A>>) -> Option<BedFile<A>>
+    ensures { result ≡ file }
+{
+    match file {
+        Some(file) => Some(file.into_bed()),
+        None => None,
+    }
+}
+
+impl<A: Allocator + Copy> LoadedFiles<Record<A>, A> {
+    /// The session that the files begin, with no view open.
+    ///
+    /// # Errors
+    ///
+    /// Memory was refused.
+    fn into_session(self) -> Result<Session<A>, CliFault>
+        requires { self.limit ≤ most_records }
+        ensures ok { IfOk result (λ session. session ≡ begun self.genome self.first self.second self.bases self.limit) }
+        ensures err { IfErr result (λ fault. fault ≡ CliFault.Memory) }
+    {
+        let LoadedFiles {
+            alloc,
+            genome,
+            first,
+            second,
+            fasta,
+            limit,
+        } = self;
+        let first = first.into_bed();
+        Ok(Session::new(alloc, genome, first, into_bed(second), fasta, limit)?)
+    }
+}
+
+impl<A: Allocator + Copy> Loading<Record<A>, A> {
+    /// The session that the files begin, with no view open, once the BED files are read; or the fault of the first damaged file.
+    /// `bases` are the bytes of the FASTA file, where there is one. They are taken: the bases stay in their memory.
+    pub fn into_session(self, bases: Option<Vec<u8, A>>) -> Result<Session<A>, CliFault>
+        requires { self.limit ≤ most_records }
+        ensures { (sizes text : List ℕ) (other : Option (List ℕ)) → SaysSecond (λ r. r) sizes text other self
+            → IsReport result (loaded self.width sizes text other (option_map (λ text. text.items) bases) self.limit) }
+    {
+        self.finish(bases)?.into_session()
+    }
+}
+
+/// The session that the files of a run begin, with no view open, or the fault of the first damaged file, given the bytes of the files.
+///
+/// A BED file without a record has the width that the plan says, and each may have at most `limit` records. `bases` are the bytes of
+/// the FASTA file, where the plan names one; they are taken.
+pub fn load<A: Allocator + Copy>(
+    alloc: A,
+    plan: &Plan<'_, A>,
+    inputs: &Inputs<'_>,
+    bases: Option<Vec<u8, A>>,
+    limit: u32,
+) -> Result<Session<A>, CliFault>
+    requires { limit ≤ most_records }
+    ensures ok { IfOk result (λ session.
+        loaded plan.now.width inputs.now.sizes.now inputs.now.first.now (option_copied inputs.now.other) (option_map (λ text. text.items) bases) limit ≡ Ok session) }
+    ensures err { IfErr result (λ fault. (fault ≡ CliFault.Memory) ⊎
+        (loaded plan.now.width inputs.now.sizes.now inputs.now.first.now (option_copied inputs.now.other) (option_map (λ text. text.items) bases) limit ≡ Err fault)) }
+{
+    let loading: Loading<Record<A>, A> = Loading::of_inputs(alloc, plan, inputs, limit);
+    loading.into_session(bases)
+}
