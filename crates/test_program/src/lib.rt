@@ -20,6 +20,16 @@ mod piece_refusals;
 #[cfg(test)]
 mod piece_runs;
 #[cfg(test)]
+mod program_files;
+#[cfg(test)]
+mod program_fixtures;
+#[cfg(test)]
+mod program_refusals;
+#[cfg(test)]
+mod program_rooms;
+#[cfg(test)]
+mod program_words;
+#[cfg(test)]
 mod programs;
 #[cfg(test)]
 mod read_refusals;

@@ -21,7 +21,7 @@ fn ask(rt: &HostRuntime, notices: &[(&[u8], Notice)]) -> Result<bool, Fail> {
 }
 
 /// Words, and the notice that they ask for.
-const NOTICES: [(&[u8], Notice); 16] = [
+pub(crate) const NOTICES: [(&[u8], Notice); 16] = [
     (b"--help", Notice::Help),
     (b"-h", Notice::Help),
     (b"help", Notice::Help),
@@ -57,7 +57,7 @@ fn ask_for_none(rt: &HostRuntime, texts: &[&[u8]]) -> Result<bool, Fail> {
 }
 
 /// Words that ask for none.
-const NO_NOTICE: [&[u8]; 18] = [
+pub(crate) const NO_NOTICE: [&[u8]; 18] = [
     b"",
     b"-help",
     b"--Help",
