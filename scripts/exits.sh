@@ -63,6 +63,16 @@ for words in '' 'merge' 'merge -i records.bed' 'merge -g sizes -a records.bed' '
     ends "words: $words" 2 'bedkeep: bad options\n'
     prints "words: $words" ''
 done
+
+# A word that is no text in UTF-8, where a name stands and where an option stands.
+for word in $'\xff' $'records\xff.bed'; do
+    "$program" merge -g sizes -i "$word" > out 2> err
+    ends 'a word that is no text' 2 'bedkeep: bad options\n'
+    prints 'a word that is no text' ''
+    "$program" "$word" > out 2> err
+    ends 'a first word that is no text' 2 'bedkeep: bad options\n'
+    prints 'a first word that is no text' ''
+done
 session -g sizes -i ''  < prints
 ends 'a file without a name' 4 'bedkeep: : cannot be read\n'
 
