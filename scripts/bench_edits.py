@@ -2,7 +2,7 @@
 """Times edits of a session of bedkeep over a track of a million records.
 
     make build
-    python3 scripts/bench_edits.py [FOLDER] [--of WHAT] [--view WORDS ..] [--records N] [--columns N ..] [--edits N]
+    python3 scripts/bench_edits.py [FOLDER] [--of WHAT] [--view WORDS ..] [--records N] [--columns N ..] [--edits N] [--at PLACES]
 
 Writes a genome file, a BED file and two scripts into FOLDER (a temporary
 folder where none is given), the same bytes each time. One script opens
@@ -14,6 +14,10 @@ status 1 where what they print differs.
 The edits are those of the track, or, with `--of second`, of a second file that
 has the same records. With `--of lengths` they make the first sequence longer and
 then as long as it was: first N times longer by one base, and then N times shorter.
+
+The records that are added lie all over the genome. With `--at one-place` they lie
+beside one another in the first sequence, and are added in no order; with
+`--at ascending` they lie there and are added from the first to the last.
 """
 
 import argparse
@@ -38,7 +42,7 @@ def main():
         sys.exit(f"{wanted.program} is not there: run `make build` first")
     if wanted.records + wanted.edits > MOST_RECORDS:
         sys.exit(f"a track takes at most {MOST_RECORDS:,} records, and the adds are {wanted.edits:,} of them")
-    print(f"{wanted.records:,} records, {2 * wanted.edits:,} edits of the {wanted.of}, {wanted.runs} runs each, "
+    print(f"{wanted.records:,} records, {2 * wanted.edits:,} edits of the {wanted.of} ({wanted.at}), {wanted.runs} runs each, "
           f"{os.cpu_count()} processors, {platform.machine()}")
     print(f"Open views: {', '.join(wanted.view)}")
     print("| columns | without edits | with edits | edits a second |")
@@ -58,6 +62,7 @@ def read_words():
     words.add_argument("--records", type=int, default=1_000_000)
     words.add_argument("--columns", type=int, nargs="+", choices=[3, 4, 5, 6], default=[3, 6])
     words.add_argument("--edits", type=int, default=200_000, help="how many adds, and how many removes")
+    words.add_argument("--at", choices=["all-over", "one-place", "ascending"], default="all-over", help="where the added records lie, and in which order they come")
     words.add_argument("--runs", type=int, default=5, help="runs of each script")
     words.add_argument("--program", default=os.path.join(TOP, "build", "bedkeep"))
     return words.parse_args()
@@ -73,7 +78,7 @@ def run_case(wanted, folder, columns):
     if wanted.of == "lengths":
         write_lengths(busy, opened, wanted.edits)
     else:
-        write_edits(busy, opened, wanted.edits, columns, "b" if wanted.of == "second" else "")
+        write_edits(busy, opened, wanted.edits, columns, "b" if wanted.of == "second" else "", wanted.at)
     if wanted.of == "second":
         words += ["-b", track]
     if printed(words, idle) != printed(words, busy):
@@ -95,20 +100,31 @@ def write_lengths(script, opened, edits):
         file.write("printall\n")
 
 
-def write_edits(script, opened, edits, columns, file_word):
+def write_edits(script, opened, edits, columns, file_word, at):
     chance = random.Random(SEED)
-    # the same places as in the track, and others: some records get a copy
     rows = []
-    for number, (rank, start, stop) in enumerate(places(edits)):
-        shift = 0 if number % 2 else 7
+    for number, (rank, start, stop) in enumerate(places_to_edit(edits, at, chance)):
         others = [f"gene_{number}", str(number % 1000), "+-"[number % 2]][:columns - 3]
-        rows.append("\t".join([CHROMOSOMES[rank][0], str(start + shift), str(stop + shift), *others]))
+        rows.append("\t".join([CHROMOSOMES[rank][0], str(start), str(stop), *others]))
     with open(script, "w") as file:
         file.write(opened)
         file.writelines(f"add{file_word}\t{row}\n" for row in rows)
         chance.shuffle(rows)
         file.writelines(f"remove{file_word}\t{row}\n" for row in rows)
         file.write("printall\n")
+
+
+def places_to_edit(edits, at, chance):
+    """The places of the records that are added, in the order of the script."""
+    if at == "all-over":
+        # the same places as in the track, and others: some records get a copy
+        return [(rank, start + 7 * (number % 2 == 0), stop + 7 * (number % 2 == 0))
+                for number, (rank, start, stop) in enumerate(places(edits))]
+    middle = CHROMOSOMES[0][1] // 2
+    found = [(0, middle + 3 * number, middle + 3 * number + 2) for number in range(edits)]
+    if at == "one-place":
+        chance.shuffle(found)
+    return found
 
 
 def printed(words, script):

@@ -5,7 +5,8 @@ Memory: a value that says that memory ran out is made only where a refused growt
 block `impl From<..> for FAULT`; all other code hands it on by `?`. A contract cannot tell a call that met a refusal
 from one that gave up, since an allocator's refusals have no place in the logic. So the names NoMemory, Memory and
 AllocError may stand in patterns, comparisons, types, declarations and `use` lines, and as values in those blocks
-alone. AllocError itself is made in `test_faults` alone, the allocator that refuses on purpose.
+alone. AllocError itself is made in `test_faults` alone, the allocator that refuses on purpose, and where FULL_COUNTS says
+that a count of items would leave its number, which no memory is large enough for.
 
 Meter: steps are counted by the meter that is handed in; a call that made a meter of its own would hide its steps.
 So a meter is made only in the functions that MAKES_A_METER names, file by file, once in each and in no loop: in the calls of a
@@ -30,12 +31,17 @@ RENAMED = re.compile(r"\b(NoMemory|Memory|AllocError|Meter)\s+as\b")
 METER = re.compile(r"\bMeter\s*>?\s*::\s*new\b")
 MAKES_A_METER = {
     "iv_pair/src/hits.rt": {"of"},
-    "iv_pair/src/second.rt": {"new", "hits"},
+    "iv_pair/src/second.rt": {"from_batches", "hits"},
     "iv_workspace/src/session/lengths.rt": {"has_record_past"},
     "iv_workspace/src/session/open_views.rt": {"open_view"},
     "iv_workspace/src/session/printing.rt": {"print_view", "print_all"},
     "iv_workspace/src/session/second_edits.rt": {"add_second", "remove_second", "replace_second"},
     "iv_workspace/src/session/track_edits.rt": {"add", "remove", "replace"},
+}
+# A list of items in several vectors may be longer than any one of them, so their number is looked at before it grows.
+FULL_COUNTS = {
+    "iv_text/src/batches.rt": (r"let Some\(len\) = self\.len\.checked_add\(1\) else \{", ""),
+    "iv_track/src/chunks.rt": (r"if (?:self\.)?len == MOST_ENTRIES \{", "const MOST_ENTRIES: usize = 9_223_372_036_854_775_807;"),
 }
 # Under its own name it is found wherever it is made: `C::Meter::new()` too.
 METER_CALLED_OTHERWISE = re.compile(r"\btype\s+(?!Meter\b)\w+\s*=\s*[\w:]*\bMeter\b")
@@ -137,6 +143,14 @@ def conversions(code):
             yield body
 
 
+def full_counts(place, code):
+    """The blocks that are for a count which can't grow."""
+    test, constant = FULL_COUNTS.get(place, (r"(?!)", ""))
+    if constant in code:
+        for m in re.finditer(test + r"\s*return Err\(AllocError\);\s*\}", code):
+            yield m.span()
+
+
 def bodies(code, word):
     """The bodies of functions, or of loops, with what is between the word and the body."""
     for m in re.finditer(rf"\b(?:{word})\b", code):
@@ -152,7 +166,7 @@ def is_in(at, stretches):
 def memory_made(place, code):
     """The places where a value is made that says that memory ran out."""
     crate = crate_of(place)
-    allowed = [*patterns(code), *declarations(code), *conversions(code)]
+    allowed = [*patterns(code), *declarations(code), *conversions(code), *full_counts(place, code)]
     for m in REFUSED.finditer(code):
         only_named = crate.startswith("test_") and m.group() != "AllocError"
         if crate != "test_faults" and not only_named and not is_in(m.start(), allowed):
@@ -216,6 +230,7 @@ PLANTED = [
     ("iv_cli", "use crate::CliFault::Memory;\nfn f() -> CliFault { Memory }", MADE),
     ("iv_cli", "const FAULT: CliFault = CliFault::Memory;", MADE),
     ("iv_session", "fn f() -> Result<(), AllocError> { Err(AllocError) }", MADE),
+    ("iv_track", "fn f(len: usize) -> Result<(), AllocError> { if len == MOST_ENTRIES { return Err(AllocError); } Ok(()) }", MADE),
     ("iv_session", "fn f() -> EditFault { EditFault::from(AllocError) }", MADE),
     ("iv_session", "impl From<u8> for EditFault { fn from(_: u8) -> EditFault { EditFault::NoMemory } }", MADE),
     ("iv_session", "fn f() -> EditFault { let fault = EditFault::NoMemory; fault }", MADE),

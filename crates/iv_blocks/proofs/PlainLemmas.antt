@@ -1,9 +1,8 @@
 -- The blocks of a walk with strands together, as they are kept.
 use Rattle.std.proofs.Common.{◌≡◌, ℕ, ◌+◌, max, Bool, true, false, List, [], ◌∷◌, ◌++◌, map, length, ◌==◌, ◌&&◌, nat_le, Some, None, refl, sym, ◌∙◌, ap, subst, append-nil, append_assoc, All}
-use Rattle.std.specs.Iterator.{Drains}
+use Rattle.std.specs.Iterator.{Drains, YieldsFirst}
 use Rattle.std.specs.List.{flat_map, range_with_len}
 use Rattle.std.proofs.lemmas.Iterator.{items_from_drains}
-use Rattle.std.proofs.lemmas.Iterator.Adapters.{YieldsList-from_vec}
 use Rattle.std.proofs.lemmas.Iterator.Consumers.{YieldsList-from_shown}
 use Rattle.std.proofs.lemmas.List.Elements.{All-weaker}
 use Rattle.iv_text.specs.Genome.{Sequences, seq_count, sequence_length}
@@ -15,8 +14,6 @@ use Rattle.iv_cover.specs.TrackBlocks.{Group, start_of, stop_of, block_on, block
 use Rattle.iv_text.specs.Covering.{on}
 use Rattle.iv_text.proofs.ListLemmas.{filter-agree}
 use Rattle.iv_track.specs.Entries.{IsLedger, value_at}
-use Rattle.std.specs.Vec.Iter.{into_iter_items, into_iter_len, into_iter_steps}
-use Rattle.std.specs.declared.vec.IntoIter.{IntoIter}
 use Rattle.iv_cover.specs.Coming.{coming, is_joined}
 use Rattle.iv_cover.specs.declared.block.Block.{Block}
 use Rattle.iv_cover.specs.declared.column.ColumnSummary.{ColumnSummary}
@@ -134,8 +131,7 @@ module _ (g : Sequences) (summaries : List ColumnSummary) (d : ℕ) where
         ∙ ap (λ (bs : List Group). entries ++ kept_entry g summaries b ∷ map (kept_entry g summaries) bs) (sym (coming-begun d r rows next next_is))
         ∙ ap (λ (bs : List Group). entries ++ map (kept_entry g summaries) bs) (sym (coming-split_up d b r rows (is_test ∙ no_test)))
 
--- entries of a vector are given one by one
-pub drained-items : {Z : Type 0} (it : IntoIter (Key × Kept) Z) (items es : Entries) → into_iter_items it ≡ items → into_iter_len it ≡ length items
-    → Drains into_iter_steps it es → es ≡ items
-drained-items it items es items_are len run = sym (map-same es)
-    ∙ items_from_drains es (run.1.0, run.1.1, λ _. (run.0, run.1.2)) (YieldsList-from_vec items items_are len)
+-- entries are given one by one
+pub drained-items : (items es : Entries) → Drains (YieldsFirst (λ (l : Entries). l)) items es → es ≡ items
+drained-items items es run = sym (map-same es)
+    ∙ items_from_drains es (run.1.0, run.1.1, λ _. (run.0, run.1.2)) (YieldsList-from_shown (YieldsFirst (λ (l : Entries). l)) (λ e. e) (λ l. l) (λ s t h. ap length h.0) (λ s x t h. h) items)

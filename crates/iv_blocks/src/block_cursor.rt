@@ -17,7 +17,7 @@ use std::marker::Model;
 /// Its model is the list of them.
 #[derive(Drop)]
 pub(crate) struct BlockCursor<'a, A: Allocator + Copy> {
-    walk: Walk<'a, (u32, bool, u32), KeptBlock<A>>,
+    walk: Walk<'a, (u32, bool, u32), KeptBlock<A>, A>,
     // The block that was read ahead, `None` after the last.
     next: Option<Block>,
 }
@@ -72,7 +72,7 @@ fn is_until(block: Block, rank: u32, position: u64) -> bool
 
 /// Where the next block is, `None` after the last. One step.
 fn read<A: Allocator + Copy>(
-    walk: &mut Walk<'_, (u32, bool, u32), KeptBlock<A>>,
+    walk: &mut Walk<'_, (u32, bool, u32), KeptBlock<A>, A>,
     meter: &mut Meter,
 ) -> Option<Block>
     ensures next { TakesFirst (λ b. b) (map interval_of walk.old) result (map interval_of walk.new) }

@@ -10,9 +10,12 @@ use crate::blocks::Key;
 use crate::kept_block::KeptBlock;
 use crate::options::Options;
 use iv_cover::{Block, results_in};
-use iv_text::{Genome, Record};
+use iv_text::{Batches, Genome, Record};
 use iv_track::{Meter, Track};
 use std::alloc::{AllocError, Allocator};
+
+/// So many entries are kept in one vector while they are made: 64 KiB.
+const MOST_IN_BATCH: usize = 2_048;
 
 /// The blocks of all records, strands together, each as it is kept, by key.
 ///
@@ -25,11 +28,11 @@ pub(crate) fn entries_of<A: Allocator + Copy>(
     track: &Track<A>,
     genome: &Genome<A>,
     meter: &mut Meter,
-) -> Result<Vec<(Key, KeptBlock<A>), A>, AllocError>
-    ensures entries { IfOk result (λ entries. entries.items ≡ map (kept_entry genome.now (listed options.now.summaries)) (coming options.now.distance None track.now.rows)) }
+) -> Result<Batches<(Key, KeptBlock<A>), A>, AllocError>
+    ensures entries { IfOk result (λ entries. entries ≡ map (kept_entry genome.now (listed options.now.summaries)) (coming options.now.distance None track.now.rows)) }
     ensures order { OnOk result (AreInOrder track.now.rows) }
 {
-    let mut entries = Vec::new(alloc);
+    let mut entries = Batches::new(alloc);
     let mut rows = track.walk(0, 0, meter);
     let Some(first) = rows.next(meter) else {
         return Ok(entries);
@@ -84,13 +87,13 @@ fn put_entry<A: Allocator + Copy>(
     block: Block,
     members: &[&Record<A>],
     memory: Vec<u8, A>,
-    entries: &mut Vec<(Key, KeptBlock<A>), A>,
+    entries: &mut Batches<(Key, KeptBlock<A>), A>,
 ) -> Result<Vec<u8, A>, AllocError>
-    ensures { OnOk result (entries.new.items ≡ entries.old.items ++ kept_entry genome.now (listed options.now.summaries) (with_members block (map (λ row. row.now) members.now)) ∷ []) }
+    ensures { OnOk result (entries.new ≡ entries.old ++ kept_entry genome.now (listed options.now.summaries) (with_members block (map (λ row. row.now) members.now)) ∷ []) }
 {
     let name = genome.name(block.sequence).unwrap_or(b"");
     let results = results_in(alloc, options.summaries.as_slice(), name, members, memory)?;
     let kept = KeptBlock::copy_of(alloc, block.stop, results.as_slice())?;
-    entries.push(((block.sequence, false, block.start), kept))?;
+    entries.push(MOST_IN_BATCH, ((block.sequence, false, block.start), kept))?;
     Ok(results)
 }

@@ -13,13 +13,13 @@ use std::marker::Model;
 ///
 /// Its model is the list of their entries.
 #[derive(Drop)]
-pub(crate) struct ChangeCursor<'a> {
-    walk: Walk<'a, (u32, u32), i64>,
+pub(crate) struct ChangeCursor<'a, A: Allocator + Copy> {
+    walk: Walk<'a, (u32, u32), i64, A>,
     // The entry that was read ahead, `None` after the last.
     ahead: Option<((u32, u32), i64)>,
 }
 
-impl<'a> Model for ChangeCursor<'a> {
+impl<'a, A: Allocator + Copy> Model for ChangeCursor<'a, A> {
     ghost use Rattle.std.specs.Prelude.{◌≡◌, [], None};
     ghost use Rattle.iv_depth.specs.Changes.{Entries};
     ghost use Rattle.iv_depth.specs.Walks.{ahead_of};
@@ -31,12 +31,9 @@ impl<'a> Model for ChangeCursor<'a> {
     ghost invariant = { λ c. c.ahead ≡ None → c.walk ≡ [] };
 }
 
-impl<'a> ChangeCursor<'a> {
+impl<'a, A: Allocator + Copy> ChangeCursor<'a, A> {
     /// All changes, from the first on. At most 2 steps.
-    pub(crate) fn of<A: Allocator + Copy>(
-        changes: &'a Changes<A>,
-        meter: &mut Meter,
-    ) -> ChangeCursor<'a>
+    pub(crate) fn of(changes: &'a Changes<A>, meter: &mut Meter) -> ChangeCursor<'a, A>
         ensures all { result ≡ changes.now }
         ensures steps { TakesUpTo meter.old meter.new 2 }
     {
@@ -46,7 +43,7 @@ impl<'a> ChangeCursor<'a> {
     }
 }
 
-impl<'a> DepthChanges for ChangeCursor<'a> {
+impl<'a, A: Allocator + Copy> DepthChanges for ChangeCursor<'a, A> {
     ghost use Rattle.std.specs.Prelude.{length};
     ghost use Rattle.iv_depth.specs.Walks.{AreAhead};
 
@@ -71,7 +68,10 @@ impl<'a> DepthChanges for ChangeCursor<'a> {
 }
 
 /// The next entry, `None` after the last. One step.
-fn read(walk: &mut Walk<'_, (u32, u32), i64>, meter: &mut Meter) -> Option<((u32, u32), i64)>
+fn read<A: Allocator + Copy>(
+    walk: &mut Walk<'_, (u32, u32), i64, A>,
+    meter: &mut Meter,
+) -> Option<((u32, u32), i64)>
     ensures next { TakesFirst (λ e. e) walk.old result walk.new }
     ensures step { TakesUpTo meter.old meter.new 1 }
 {

@@ -31,6 +31,10 @@ impl<A: Allocator + Copy> FromRecord<A> for Span {
         })
     }
 
+    fn most_in_batch() -> usize {
+        usize::MAX
+    }
+
     fn is_place_alone(_width: u8) -> bool {
         true
     }

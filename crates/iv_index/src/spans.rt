@@ -58,6 +58,7 @@ impl<A: Allocator + Copy> Spans<A> {
         let mut draft: KeptDraft<Span, A> = KeptDraft::new(alloc);
         draft.take_piece(genome, limit, text)?;
         let (width, spans) = draft.finish(genome, empty_width, limit)?;
+        let spans = spans.into_vec()?;
         Ok(Spans::of(width, spans))
     }
 

@@ -1,5 +1,5 @@
 -- The lengths of records, counted in a map.
-use Rattle.std.proofs.Common.{◌≡◌, ◌≢◌, ℕ, ◌+◌, ◌-◌, ◌<◌, ◌≤◌, ◌^◌, Bool, true, false, cond, List, [], ◌∷◌, Option, Some, None, refl, sym, ap, ◌∙◌, subst, arith, length, length-drop, drop, drop-cons, get_or, add-one, suc, inl, inr}
+use Rattle.std.proofs.Common.{◌≡◌, ◌≢◌, ℕ, ◌+◌, ◌-◌, ◌<◌, ◌≤◌, ◌^◌, Bool, true, false, cond, List, [], ◌∷◌, Option, Some, None, refl, sym, ap, ◌∙◌, subst, arith, length, suc, inl, inr}
 use Rattle.std.specs.Prelude.{All, count_by, unwrap_or, find, fold, reverse, IfSome}
 use Rattle.std.specs.List.{AllByRecursion}
 use Rattle.std.specs.Option.{option_or}
@@ -23,7 +23,7 @@ use Rattle.iv_text.specs.Row.{Row, row_cmp}
 use Rattle.iv_text.proofs.OrderedLemmas.{copies-added, length-all_added}
 use Rattle.iv_track.specs.Copies.{expanded, removed_by}
 use Rattle.iv_track.specs.Entries.{IsLedger, value_at, last_until, pair_cmp}
-use Rattle.iv_track.specs.Tracked.{removed}
+use Rattle.iv_track.specs.Tracked.{Tracked, removed}
 use Rattle.iv_track.proofs.Counts.{copies-expanded, copies-removed, expanded-insert, expanded-remove_entry, expanded-set_value}
 use Rattle.iv_track.proofs.Edits.{added-removed}
 use Rattle.iv_pair.specs.Lengths.{length_of, with_length, IsTally, AreLengths, IsSecond, AreUpTo}
@@ -134,7 +134,7 @@ IsCounted-begin es rows none = rw none record {
 pub IsCounted-room : (es : List ((ℕ × ℕ) × ℕ)) (left rows : List Row) (k : ℕ × ℕ) → IsCounted es left rows → copies_by pair_cmp (expanded es) k ≤ length rows
 IsCounted-room es left rows k c = omega (arith, c.counts k, count_by-le-length (λ r. is_eq (pair_cmp k (length_of r))) rows)
 
-IsCounted-next : (es fs : List ((ℕ × ℕ) × ℕ)) (left after rows : List Row) (r : Row) → IsCounted es left rows → left ≡ r ∷ after
+pub IsCounted-next : (es fs : List ((ℕ × ℕ) × ℕ)) (left after rows : List Row) (r : Row) → IsCounted es left rows → left ≡ r ∷ after
     → IsTally fs → expanded fs ≡ added_by pair_cmp (expanded es) (length_of r) → IsCounted fs after rows
 IsCounted-next es fs left after rows r c first t up = record {
   tally = t;
@@ -148,35 +148,10 @@ IsCounted-next es fs left after rows r c first t up = record {
   );
 }
 
-IsCounted-all : (es : List ((ℕ × ℕ) × ℕ)) (left rows : List Row) → IsCounted es left rows → left ≡ [] → AreLengths es rows
+pub IsCounted-all : (es : List ((ℕ × ℕ) × ℕ)) (left rows : List Row) → IsCounted es left rows → left ≡ [] → AreLengths es rows
 IsCounted-all es left rows c none = record {
   tally = c.tally;
   counts = λ k. omega (arith, c.counts k, ap (λ (l : List Row). with_length l k) none);
-}
-
-drop-at : (rows : List Row) (i : ℕ) (d : Row) → i < length rows → drop i rows ≡ get_or rows i d ∷ drop (i + 1) rows
-drop-at rows i d low = rw (drop-cons rows i d low, add-one) refl
-
--- the record at the index is counted
-pub IsCounted-at : (es fs : List ((ℕ × ℕ) × ℕ)) (rows : List Row) (i : ℕ) (d : Row) → i < length rows → IsCounted es (drop i rows) rows
-    → IsTally fs → expanded fs ≡ added_by pair_cmp (expanded es) (length_of (get_or rows i d)) → IsCounted fs (drop (i + 1) rows) rows
-IsCounted-at es fs rows i d low c t up = IsCounted-next es fs (drop i rows) (drop (i + 1) rows) rows (get_or rows i d) c (drop-at rows i d low) t up
-
-drop-end : (rows : List Row) (i : ℕ) → length rows ≤ i → drop i rows ≡ []
-drop-end rows i past = go (drop i rows) (omega (arith, length-drop i rows))
-  where
-    go : (l : List Row) → length l ≤ 0 → l ≡ []
-    go [] h = refl
-    go (r ∷ l) h = absurd (omega arith)
-
-pub IsCounted-end : (es : List ((ℕ × ℕ) × ℕ)) (rows : List Row) (i : ℕ) → length rows ≤ i → IsCounted es (drop i rows) rows → AreLengths es rows
-IsCounted-end es rows i past c = IsCounted-all es (drop i rows) rows c (drop-end rows i past)
-
--- they don't depend on the order
-pub AreLengths-ordered : (es : List ((ℕ × ℕ) × ℕ)) (rows : List Row) → AreLengths es rows → AreLengths es (ordered rows)
-AreLengths-ordered es rows a = record {
-  tally = a.tally;
-  counts = λ k. omega (arith, a.counts k, count-all_added row_cmp (λ r. is_eq (pair_cmp k (length_of r))) rows []);
 }
 
 -- ---- the lengths of a track's records, with one more and with one less
@@ -257,11 +232,14 @@ AreLengths-back es fs gs rows k a up low = record {
 }
 
 -- a second file of the records of a file
-pub IsSecond-new : (es : List ((ℕ × ℕ) × ℕ)) (rows : List Row) (width limit : ℕ) → AreLengths es rows → length rows ≤ limit
-    → IsSecond es (record { rows = ordered rows; width = width; limit = limit })
-IsSecond-new es rows width limit a few = record {
-  counted = AreLengths-ordered es rows a;
-  few = omega (arith, length-all_added row_cmp rows [], few);
+pub few-ordered : (rows : List Row) (limit : ℕ) → length rows ≤ limit → length (ordered rows) ≤ limit
+few-ordered rows limit few = omega (arith, length-all_added row_cmp rows [], few)
+
+pub IsSecond-new : (es : List ((ℕ × ℕ) × ℕ)) (rows : List Row) (width limit : ℕ) (track : Tracked) → track ≡ record { rows = ordered rows; width = width; limit = limit }
+    → AreLengths es track.rows → length rows ≤ limit → IsSecond es track
+IsSecond-new es rows width limit track is a few = record {
+  counted = a;
+  few = subst (λ (t : Tracked). length t.rows ≤ t.limit) (sym is) (few-ordered rows limit few);
 }
 
 -- a bound of all lengths of a sequence is one of its records

@@ -8,7 +8,7 @@ ghost use Rattle.iv_track.specs.Entries.{pair_cmp};
 ghost use Rattle.iv_pair.specs.Lengths.{AreLengths, IsTally, length_of};
 
 use iv_text::Record;
-use iv_track::{Ledger, Meter};
+use iv_track::{Ledger, Meter, Track};
 use std::alloc::{AllocError, Allocator};
 
 /// The lengths of records, by the rank of their sequence, with how many records have each.
@@ -67,17 +67,18 @@ pub(crate) fn lower<A: Allocator + Copy>(
     }
 }
 
-/// The lengths of these records. Nothing grows but the ledger.
+/// The lengths of a track's records. Nothing grows but the ledger.
 pub(crate) fn lengths_of<A: Allocator + Copy>(
     alloc: A,
-    records: &[Record<A>],
+    track: &Track<A>,
     meter: &mut Meter,
 ) -> Result<Lengths<A>, AllocError>
-    requires { length records.now < 2 ^ 32 - 1 }
-    ensures { IfOk result (λ lengths. AreLengths lengths records.now) }
+    requires { length track.now.rows < 2 ^ 32 - 1 }
+    ensures { IfOk result (λ lengths. AreLengths lengths track.now.rows) }
 {
     let mut lengths = Ledger::new(alloc);
-    for record in records {
+    let mut rows = track.walk(0, 0, meter);
+    while let Some(record) = rows.next(meter) {
         raise(&mut lengths, length_of(record), meter)?;
     }
     Ok(lengths)

@@ -10,7 +10,7 @@ ghost use Rattle.iv_pair.specs.Lengths.{AreUpTo};
 use crate::counted_edits::{stage, take};
 use crate::hits::Hits;
 use crate::lengths::{Lengths, lengths_of, longest};
-use iv_text::Record;
+use iv_text::{Batches, Record};
 use iv_track::{EditFault, Meter, Rows, Track};
 use std::alloc::{AllocError, Allocator, Global};
 use std::marker::Model;
@@ -54,9 +54,29 @@ impl<A: Allocator + Copy> Second<A> {
         requires width { All (λ r. r.width ≡ width) records.items }
         ensures { IfOk result (λ s. s ≡ record { rows = ordered records.items; width = width; limit = limit }) }
     {
+        Second::from_batches(alloc, width, limit, Batches::of(records))
+    }
+
+    /// The second file of these records, as [`Second::new`] makes it. Their vectors are freed one after the other while the track is
+    /// built.
+    ///
+    /// # Errors
+    ///
+    /// Memory was refused.
+    pub fn from_batches(
+        alloc: A,
+        width: u8,
+        limit: u32,
+        records: Batches<Record<A>, A>,
+    ) -> Result<Self, AllocError>
+        requires limit { limit ≤ most_records }
+        requires few { length records ≤ limit }
+        requires width { All (λ r. r.width ≡ width) records }
+        ensures { IfOk result (λ s. s ≡ record { rows = ordered records; width = width; limit = limit }) }
+    {
         let mut meter = Meter::new();
-        let lengths = lengths_of(alloc, &records, &mut meter)?;
-        let track = Track::from_records(alloc, width, limit, records)?;
+        let track = Track::from_batches(alloc, width, limit, records)?;
+        let lengths = lengths_of(alloc, &track, &mut meter)?;
         Ok(Second { track, lengths })
     }
 

@@ -84,44 +84,6 @@ module _ (width : ℕ) (sizes text : List ℕ) (limit : ℕ) where
         pub bases-damaged : (f : LoadFault) → IsWhy f (bases_said g bases) → (damage_of Bases f ≡ Memory) ⊎ IsLastFault (damage_of Bases f)
         bases-damaged f why = reported-by Bases f IsLastFault (λ is. past-second ∙ ap (with_bases g bed second limit) is) why
 
--- ---- files that are read at once
-
-module _ (width : ℕ) (sizes text : List ℕ) (other bases : Option (List ℕ)) (limit : ℕ) where
-  abbrev Reported : CliFault → Type 0
-  Reported k = (k ≡ Memory) ⊎ (parsed width sizes text other bases limit ≡ Err k)
-
-  -- one of them is damaged
-  pub no-sizes : (r : Result Sequences LoadFault) → IfErr r (λ f. IsWhy f (genome_of sizes)) → (k : CliFault) → (f : LoadFault) × (r ≡ Err f) × (k ≡ damage_of Sizes f) → Reported k
-  no-sizes r whys k why =
-      let said : IsWhy why.0 (genome_of sizes) = subst (λ (r : Result Sequences LoadFault). IfErr r (λ f. IsWhy f (genome_of sizes))) why.1 whys in
-      subst Reported (sym why.2) (reported-by Sizes why.0 (λ (j : CliFault). parsed width sizes text other bases limit ≡ Err j) (ap (with_genome width text other bases limit)) said)
-
-  module _ (g : Sequences) (genome : genome_of sizes ≡ Ok g) where
-    pub no-first : (r : Result Bed LoadFault) → IfErr r (λ f. IsWhy f (bed_of g width limit text)) → (k : CliFault) → (f : LoadFault) × (r ≡ Err f) × (k ≡ damage_of First f) → Reported k
-    no-first r whys k why =
-        let said : IsWhy why.0 (bed_of g width limit text) = subst (λ (r : Result Bed LoadFault). IfErr r (λ f. IsWhy f (bed_of g width limit text))) why.1 whys in
-        subst Reported (sym why.2) (by (first-damaged width sizes text limit g genome why.0 said))
-      where
-        by : (damage_of First why.0 ≡ Memory) ⊎ IsFault width sizes text limit (damage_of First why.0) → Reported (damage_of First why.0)
-        by (inl memory) = inl memory
-        by (inr all) = inr (all other bases)
-
-    module _ (bed : Bed) (sound : bed_of g width limit text ≡ Ok bed) where
-      pub no-second : (r : Result (Option Bed) LoadFault) → IfErr r (λ f. IsWhy f (second_of g width limit other)) → (k : CliFault) → (f : LoadFault) × (r ≡ Err f) × (k ≡ damage_of Other f) → Reported k
-      no-second r whys k why =
-          let said : IsWhy why.0 (second_of g width limit other) = subst (λ (r : Result (Option Bed) LoadFault). IfErr r (λ f. IsWhy f (second_of g width limit other))) why.1 whys in
-          subst Reported (sym why.2) (by (second-damaged width sizes text limit g genome bed sound other why.0 said))
-        where
-          by : (damage_of Other why.0 ≡ Memory) ⊎ IsLaterFault width sizes text limit g genome bed sound other (damage_of Other why.0) → Reported (damage_of Other why.0)
-          by (inl memory) = inl memory
-          by (inr all) = inr (all bases)
-
-      pub no-bases : (second : Option Bed) → second_of g width limit other ≡ Ok second → (r : Result (Option Fasta.Bases) LoadFault) → IfErr r (λ f. IsWhy f (bases_said g bases))
-          → (k : CliFault) → (f : LoadFault) × (r ≡ Err f) × (k ≡ damage_of Bases f) → Reported k
-      no-bases second whole r whys k why =
-          let said : IsWhy why.0 (bases_said g bases) = subst (λ (r : Result (Option Fasta.Bases) LoadFault). IfErr r (λ f. IsWhy f (bases_said g bases))) why.1 whys in
-          subst Reported (sym why.2) (bases-damaged width sizes text limit g genome bed sound other second whole bases why.0 said)
-
 -- ---- files of which the records are kept
 
 kept-sound : (kept : Row → Row) (r : Result Bed LoadFault) (file : Bed) → kept_or_fault kept r ≡ Ok file → (bed : Bed) × (r ≡ Ok bed) × (file ≡ kept_bed kept bed)
@@ -150,10 +112,7 @@ same-files files = λ i. record files { first = same-bed files.first i; second =
 
 -- ---- files while they are read
 
--- the genome file was read
-pub says-sizes : (sizes : List ℕ) (known : SoFar) → known.damage ≡ None → genome_of sizes ≡ Ok known.genome → SaysSizes sizes known
-says-sizes sizes known sound is = subst (SaysSizesBy sizes known) (sym sound) is
-
+-- the genome file is damaged
 pub says-no_sizes : (sizes : List ℕ) (known : SoFar) (k : CliFault) → known.damage ≡ Some k → (f : LoadFault) × (k ≡ damage_of Sizes f) × IsWhy f (genome_of sizes) → SaysSizes sizes known
 says-no_sizes sizes known k is why = subst (SaysSizesBy sizes known) (sym is) (subst Reports (sym why.1) (reported-by Sizes why.0 Damages (λ e text other bases. ap (with_genome known.width text other bases known.limit) e) why.2))
   where
@@ -227,25 +186,12 @@ module _ (kept : Row → Row) (sizes text : List ℕ) (other bases : Option (Lis
   abbrev said : Result Parsed CliFault
   said = parsed known.width sizes text other bases known.limit
 
-  -- one of them is damaged, or the genome file
-  pub reports-damage : (k : CliFault) → known.damage ≡ Some k → (k ≡ Memory) ⊎ (said ≡ Err k)
-  reports-damage k is = by (subst (SaysSecondBy kept sizes text other known) is says)
-    where
-      by : SaysSecondBy kept sizes text other known (Some k) → (k ≡ Memory) ⊎ (said ≡ Err k)
-      by (inl memory) = inl memory
-      by (inr all) = inr (all bases)
-
   -- they are sound
   module _ (sound : known.damage ≡ None) where
     both : AreBoth kept sizes text other known
     both = subst (SaysSecondBy kept sizes text other known) sound says
 
-    -- the FASTA file is damaged
-    pub reports-bases : (k : CliFault) → (f : LoadFault) × (k ≡ damage_of Bases f) × IsWhy f (bases_said known.genome bases) → (k ≡ Memory) ⊎ (said ≡ Err k)
-    reports-bases k why = subst (λ (j : CliFault). (j ≡ Memory) ⊎ (said ≡ Err j)) (sym why.1)
-        (bases-damaged known.width sizes text known.limit known.genome both.first.genome_is both.first.bed both.first.bed_is other both.beside both.beside_is bases why.0 why.2)
-
-    -- it is sound too
+    -- the FASTA file is sound too
     pub reports-all : (fasta : Option Fasta.Bases) → bases_said known.genome bases ≡ Ok fasta
         → ReportsKept kept (Ok (record { genome = known.genome; first = known.first; second = known.second; bases = fasta; limit = known.limit })) said
     reports-all fasta is =
@@ -267,13 +213,17 @@ few-beside g limit (Some file) kept = kept.few
 
 -- ---- the session that files begin
 
-module _ (width : ℕ) (sizes text : List ℕ) (other bases : Option (List ℕ)) (limit : ℕ) where
-  -- the files are damaged, or memory was refused
-  pub begins-not : (k : CliFault) → (k ≡ Memory) ⊎ (parsed width sizes text other bases limit ≡ Err k) → (k ≡ Memory) ⊎ (loaded width sizes text other bases limit ≡ Err k)
-  begins-not k (inl memory) = inl memory
-  begins-not k (inr is) = inr (ap session_of is)
+-- what is reported, and why it is a fault
+pub report-ok : {T : Type 0} (r said : Result T CliFault) → IsReport r said → IfOk r (λ value. said ≡ Ok value)
+report-ok (Ok value) said is = is
+report-ok (Err k) said is = tt
 
-  -- they are sound, and all of their records is kept
+pub report-err : {T : Type 0} (r said : Result T CliFault) → IsReport r said → IfErr r (λ k. (k ≡ Memory) ⊎ (said ≡ Err k))
+report-err (Ok value) said is = tt
+report-err (Err k) said is = is
+
+module _ (width : ℕ) (sizes text : List ℕ) (other bases : Option (List ℕ)) (limit : ℕ) where
+  -- the files are sound, and all of their records is kept
   pub begins : (files : Parsed) (r : Result State CliFault) → ReportsKept (λ r. r) (Ok files) (parsed width sizes text other bases limit)
       → IfOk r (λ s. s ≡ begun files.genome files.first files.second files.bases files.limit) → IfErr r (λ k. k ≡ Memory) → IsReport r (loaded width sizes text other bases limit)
   begins files (Ok s) all ok err =

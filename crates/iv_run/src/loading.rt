@@ -12,7 +12,7 @@ use crate::reading::{BedDraft, KeptFile, in_slot, parse_fasta, read_bed};
 use iv_args::{Plan, Slot};
 use iv_bytes::Source;
 use iv_fasta::Fasta;
-use iv_text::{BedFile, FromRecord, Genome, LoadFault, Record};
+use iv_text::{BedBatches, FromRecord, Genome, LoadFault, Record};
 use iv_workspace::Session;
 use std::alloc::{Allocator, Global};
 use std::marker::Model;
@@ -254,7 +254,7 @@ impl<K: FromRecord<A>, A: Allocator + Copy> Loading<K, A> {
 }
 
 /// The records of a file that may be left out.
-fn into_bed<A: Allocator + Copy>(file: Option<KeptFile<Record<A>, A>>) -> Option<BedFile<A>>
+fn into_bed<A: Allocator + Copy>(file: Option<KeptFile<Record<A>, A>>) -> Option<BedBatches<A>>
     ensures { result ≡ file }
 {
     match file {
@@ -283,7 +283,7 @@ impl<A: Allocator + Copy> LoadedFiles<Record<A>, A> {
             limit,
         } = self;
         let first = first.into_bed();
-        Ok(Session::new(alloc, genome, first, into_bed(second), fasta, limit)?)
+        Ok(Session::from_batches(alloc, genome, first, into_bed(second), fasta, limit)?)
     }
 }
 

@@ -126,7 +126,7 @@ fn print_files<A: Allocator + Copy, S: Sink>(
         fasta: _,
         limit: _,
     } = files;
-    let mut spans = first.into_spans();
+    let mut spans = first.into_spans()?;
     spans.sort();
     view.print(alloc, spans.as_slice(), &genome, sink)
 }

@@ -14,8 +14,8 @@ use iv_args::Slot;
 use iv_bytes::Source;
 use iv_fasta::Fasta;
 use iv_index::{Span, Spans};
-use iv_text::{BedFile, FromRecord, Genome, KeptDraft, LoadFault, Record};
-use std::alloc::{Allocator, Global};
+use iv_text::{Batches, BedBatches, FromRecord, Genome, KeptDraft, LoadFault, Record};
+use std::alloc::{AllocError, Allocator, Global};
 use std::marker::Model;
 
 /// Adds a piece to the bytes. They may come to this limit in all.
@@ -62,7 +62,7 @@ pub fn read_all<A: Allocator + Copy, R: Source>(
 #[derive(Drop)]
 pub(crate) struct KeptFile<K: FromRecord<A>, A: Allocator + Copy = Global> {
     width: u8,
-    kept: Vec<K, A>,
+    kept: Batches<K, A>,
 }
 
 impl<K: FromRecord<A>, A: Allocator + Copy> Model for KeptFile<K, A> {
@@ -71,7 +71,7 @@ impl<K: FromRecord<A>, A: Allocator + Copy> Model for KeptFile<K, A> {
 
     ghost Value = { Bed };
 
-    ghost view = { λ f. record { width = f.width; rows = map K.as_row f.kept.items } };
+    ghost view = { λ f. record { width = f.width; rows = map K.as_row f.kept } };
 
     ghost invariant = { λ f. (3 ≤ f.width) × (f.width ≤ 6) };
 }
@@ -84,28 +84,32 @@ impl<K: FromRecord<A>, A: Allocator + Copy> KeptFile<K, A> {
     {
         KeptFile {
             width,
-            kept: Vec::new(alloc),
+            kept: Batches::new(alloc),
         }
     }
 }
 
 impl<A: Allocator + Copy> KeptFile<Record<A>, A> {
     /// The file with its records, of which all is kept.
-    pub(crate) fn into_bed(self) -> BedFile<A>
+    pub(crate) fn into_bed(self) -> BedBatches<A>
         ensures { result ≡ self }
     {
         let KeptFile { width, kept } = self;
-        BedFile::of(width, kept)
+        BedBatches::of(width, kept)
     }
 }
 
 impl<A: Allocator + Copy> KeptFile<Span, A> {
     /// The places of the file's records.
-    pub(crate) fn into_spans(self) -> Spans<A>
-        ensures { result ≡ self }
+    ///
+    /// # Errors
+    ///
+    /// Memory was refused.
+    pub(crate) fn into_spans(self) -> Result<Spans<A>, AllocError>
+        ensures { IfOk result (λ spans. spans ≡ self) }
     {
         let KeptFile { width, kept } = self;
-        Spans::of(width, kept)
+        Ok(Spans::of(width, kept.into_vec()?))
     }
 }
 

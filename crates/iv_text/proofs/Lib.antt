@@ -10,6 +10,7 @@ pub mod OnePassLemmas
 pub mod ShortLemmas
 pub mod BedLemmas
 pub mod KeptLemmas
+pub mod BatchLemmas
 pub mod BedLawLemmas
 pub mod RowLemmas
 pub mod OrderedLemmas

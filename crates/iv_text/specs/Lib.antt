@@ -13,6 +13,7 @@ pub mod BedFile
 pub mod FileLaws
 pub mod ShortLine
 pub mod KeptDrafts
+pub mod Batches
 pub mod Ordered
 pub mod Covering
 pub mod RecordText

@@ -23,6 +23,9 @@ pub trait FromRecord<A: Allocator + Copy>: Sized + Drop {
     fn from_record(alloc: A, read: &RecordRef<'_>) -> Result<Self, AllocError>
         ensures { IfOk result (λ one. as_row one ≡ kept read.now) };
 
+    /// How many of them are kept in one vector before the next one is begun.
+    fn most_in_batch() -> usize;
+
     /// Whether the place of a record of this width is all that is kept of it.
     fn is_place_alone(width: u8) -> bool;
 
@@ -43,6 +46,11 @@ impl<A: Allocator + Copy> FromRecord<A> for Record<A> {
 
     fn from_record(alloc: A, read: &RecordRef<'_>) -> Result<Self, AllocError> {
         read.to_record(alloc)
+    }
+
+    // 64 KiB, which is less than what malloc takes from the system by itself.
+    fn most_in_batch() -> usize {
+        2_048
     }
 
     fn is_place_alone(width: u8) -> bool {

@@ -4,7 +4,8 @@ ghost use Rattle.iv_text.specs.BedFile.{finished};
 ghost use Rattle.iv_text.specs.declared.fault.LoadCause.TheVariants as cause;
 ghost use Rattle.iv_text.specs.KeptDrafts.{AreSound, IsKept, IsEnded, EndsAtFeed, begun, coming, size_of};
 
-use crate::fault::{LoadCause, LoadFault};
+use crate::batches::Batches;
+use crate::fault::LoadFault;
 use crate::from_record::FromRecord;
 use crate::genome::Genome;
 use crate::kept_lines::KeptLines;
@@ -64,10 +65,8 @@ fn keep<A: Allocator>(tail: &mut Vec<u8, A>, bytes: &[u8]) -> Result<(), LoadFau
     ensures ok { OnOk result (tail.new.items ≡ tail.old.items ++ bytes.now) }
     ensures err { IfErr result (λ f. f ≡ record { line = 0; cause = cause.Memory }) }
 {
-    match tail.extend_from_slice(bytes) {
-        Ok(()) => Ok(()),
-        Err(refused) => Err(LoadFault::at(0, LoadCause::from(refused))),
-    }
+    tail.extend_from_slice(bytes)?;
+    Ok(())
 }
 
 impl<K: FromRecord<A>, A: Allocator + Copy> KeptDraft<K, A> {
@@ -80,7 +79,7 @@ impl<K: FromRecord<A>, A: Allocator + Copy> KeptDraft<K, A> {
             read: KeptLines {
                 number: 1,
                 width: None,
-                kept: Vec::new(alloc),
+                kept: Batches::new(alloc),
             },
             tail: Vec::new(alloc),
         }
@@ -153,14 +152,14 @@ impl<K: FromRecord<A>, A: Allocator + Copy> KeptDraft<K, A> {
         genome: &Genome<A>,
         empty_width: u8,
         limit: u32,
-    ) -> Result<(u8, Vec<K, A>), LoadFault>
+    ) -> Result<(u8, Batches<K, A>), LoadFault>
         requires width { (3 ≤ empty_width) × (empty_width ≤ 6) }
         requires sound { AreSound K.kept genome.now limit self.read }
         requires few { size_of self < 2 ^ 64 }
-        ensures ok { IfOk result (λ file. finished empty_width (coming K.kept genome.now limit self []) ≡ Ok (record { width = file.0; rows = map K.as_row file.1.items })) }
+        ensures ok { IfOk result (λ file. finished empty_width (coming K.kept genome.now limit self []) ≡ Ok (record { width = file.0; rows = map K.as_row file.1 })) }
         ensures width { IfOk result (λ file. (3 ≤ file.0) × (file.0 ≤ 6)) }
-        ensures kept { IfOk result (λ file. All (IsKept K.kept genome.now file.0) (map K.as_row file.1.items)) }
-        ensures few { IfOk result (λ file. length file.1.items ≤ limit) }
+        ensures kept { IfOk result (λ file. All (IsKept K.kept genome.now file.0) (map K.as_row file.1)) }
+        ensures few { IfOk result (λ file. length file.1 ≤ limit) }
         ensures err { IfErr result (λ f. (f ≡ record { line = 0; cause = cause.Memory }) ⊎ (coming K.kept genome.now limit self [] ≡ Err f)) }
     {
         let KeptDraft {

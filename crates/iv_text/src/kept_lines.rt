@@ -4,6 +4,7 @@ ghost use Rattle.iv_text.specs.Lines.{lines};
 ghost use Rattle.iv_text.specs.declared.fault.LoadCause.TheVariants as cause;
 ghost use Rattle.iv_text.specs.KeptDrafts.{AreSound, Takes, Refuses, after};
 
+use crate::batches::Batches;
 use crate::bed_file::{is_unread, width_for};
 use crate::fault::{LoadCause, LoadFault};
 use crate::from_record::FromRecord;
@@ -11,7 +12,7 @@ use crate::genome::Genome;
 use crate::lines::split_line;
 use crate::record_reader::RecordReader;
 use crate::record_ref::RecordRef;
-use std::alloc::{AllocError, Allocator};
+use std::alloc::Allocator;
 use std::marker::Model;
 
 /// What lines of a BED file have said: how many columns their records have, and what is kept of these.
@@ -20,7 +21,7 @@ pub(crate) struct KeptLines<K: FromRecord<A>, A: Allocator + Copy> {
     // The number of the next line, from 1.
     pub(crate) number: u64,
     pub(crate) width: Option<u8>,
-    pub(crate) kept: Vec<K, A>,
+    pub(crate) kept: Batches<K, A>,
 }
 
 impl<K: FromRecord<A>, A: Allocator + Copy> Model for KeptLines<K, A> {
@@ -29,15 +30,7 @@ impl<K: FromRecord<A>, A: Allocator + Copy> Model for KeptLines<K, A> {
 
     ghost Value = { LinesRead };
 
-    ghost view = { λ l. record { number = l.number; width = l.width; rows = map K.as_row l.kept.items } };
-}
-
-/// Adds one at the end.
-fn push<K: Drop, A: Allocator>(kept: &mut Vec<K, A>, one: K) -> Result<(), AllocError>
-    ensures { OnOk result (kept.new.items ≡ kept.old.items ++ one ∷ []) }
-{
-    kept.push(one)?;
-    Ok(())
+    ghost view = { λ l. record { number = l.number; width = l.width; rows = map K.as_row l.kept } };
 }
 
 /// What is kept of a record.
@@ -77,7 +70,7 @@ impl<K: FromRecord<A>, A: Allocator + Copy> KeptLines<K, A> {
         if self.kept.len() >= limit as usize {
             return Err(LoadCause::TooMany);
         }
-        push(&mut self.kept, one)?;
+        self.kept.push(K::most_in_batch(), one)?;
         self.width = Some(width);
         Ok(())
     }

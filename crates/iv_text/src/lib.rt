@@ -2,6 +2,8 @@
 #![tactic(auto)]
 
 mod after_text;
+mod batches;
+mod bed_batches;
 mod bed_file;
 mod bed_record;
 mod bounded_texts;
@@ -28,6 +30,8 @@ mod row_buffer;
 mod strand;
 
 pub use after_text::{AfterText, NameHasher};
+pub use batches::{BatchItems, Batches};
+pub use bed_batches::BedBatches;
 pub use bed_file::{BedFile, is_unread, width_for};
 pub use bed_record::BedRecord;
 pub use fault::{LoadCause, LoadFault, RecordFault, fault_text, load_text};

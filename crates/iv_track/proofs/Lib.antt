@@ -1,11 +1,16 @@
 pub mod CountedLemmas
 pub mod BuiltLemmas
+pub mod ChunkLemmas
 pub mod Counts
 mod EditLaws
 pub mod Edits
+pub mod FindLemmas
+pub mod MapLemmas
 pub mod Nearest
 pub mod NumberOrder
 pub mod PlaceLemmas
+pub mod RoomLemmas
+pub mod Splits
 pub mod StepLemmas
 pub mod TrackLemmas
 pub mod WalkLemmas

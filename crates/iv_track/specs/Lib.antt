@@ -1,4 +1,5 @@
 pub mod Copies
+pub mod Chunks
 pub mod Counted
 pub mod Edits
 pub mod Entries

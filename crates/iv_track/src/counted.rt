@@ -1,42 +1,40 @@
 //! The different records of a list in order, each with the number of its copies.
-ghost use Rattle.std.specs.Prelude.{◌≡◌, ◌^◌, ◌<◌, vec_len};
+ghost use Rattle.std.specs.Prelude.{◌≡◌, ◌^◌, ◌<◌, length};
 ghost use Rattle.std.specs.Iterator.{item_count};
 ghost use Rattle.iv_text.specs.Row.{row_cmp};
 ghost use Rattle.iv_track.specs.Counted.{grouped, GivesEntry};
 
-use iv_text::Record;
+use iv_text::{BatchItems, Batches, Record};
 use std::alloc::Allocator;
 use std::marker::Model;
-use std::vec::IntoIter;
 
 /// An iterator that takes equal neighbours of a list as one entry: the record, and how many there are.
 ///
 /// Its model is the list of the entries that are left.
 #[derive(Drop)]
 pub(crate) struct Counted<A: Allocator> {
-    rest: IntoIter<Record<A>, A>,
+    rest: BatchItems<Record<A>, A>,
     // The record that ended the entry before.
     ahead: Option<Record<A>>,
 }
 
 impl<A: Allocator> Model for Counted<A> {
-    ghost use Rattle.std.specs.Prelude.{◌≡◌, ◌<◌, ◌^◌, ℕ, List, length};
-    ghost use Rattle.std.specs.Vec.Iter.{into_iter_items, into_iter_len};
+    ghost use Rattle.std.specs.Prelude.{◌<◌, ◌^◌, ℕ, List, length};
     ghost use Rattle.iv_text.specs.Row.{Row, row_cmp};
     ghost use Rattle.iv_track.specs.Counted.{grouped, left};
 
     ghost Value = { List (Row × ℕ) };
 
-    ghost view = { λ c. grouped row_cmp (left c.ahead (into_iter_items c.rest)) };
+    ghost view = { λ c. grouped row_cmp (left c.ahead c.rest) };
 
-    ghost invariant = { λ c. (length (left c.ahead (into_iter_items c.rest)) < 2 ^ 32) × (into_iter_len c.rest ≡ length (into_iter_items c.rest)) };
+    ghost invariant = { λ c. length (left c.ahead c.rest) < 2 ^ 32 };
 }
 
-impl<A: Allocator> Counted<A> {
+impl<A: Allocator + Copy> Counted<A> {
     /// The entries of fewer than 2^32 records.
-    pub(crate) fn of(rows: Vec<Record<A>, A>) -> Self
-        requires { vec_len rows < 2 ^ 32 }
-        ensures { result ≡ grouped row_cmp rows.items }
+    pub(crate) fn of(rows: Batches<Record<A>, A>) -> Self
+        requires { length rows < 2 ^ 32 }
+        ensures { result ≡ grouped row_cmp rows }
     {
         Counted {
             rest: rows.into_iter(),

@@ -13,7 +13,7 @@ pub fn one_record_added()
 
 /// A record that is removed is one copy less of just that record, and the records stay in order.
 ///
-/// Where it has no copy, nothing changes.
+/// If it has no copy, nothing changes.
 pub fn one_record_removed()
     ensures in_order { (rows : List Row) (r : Row) → AreInOrder rows → AreInOrder (removed rows r) }
     ensures one_less { (rows : List Row) (r : Row) → 0 < copies rows r → copies (removed rows r) r + 1 ≡ copies rows r }

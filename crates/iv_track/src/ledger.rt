@@ -1,5 +1,5 @@
 //! An ordered map that counts its calls.
-ghost use Rattle.std.specs.Prelude.{◌≡◌, ◌+◌, ◌^◌, ◌<◌, List, [], length, IsSome, IfOk, IfErr, IfSome, OnOk, OnErr, IfNone, MatchResult};
+ghost use Rattle.std.specs.Prelude.{◌≡◌, ◌^◌, ◌<◌, List, [], length, IfOk, IfErr, OnOk, OnErr};
 ghost use Rattle.std.specs.Option.{option_map, option_copied};
 ghost use Rattle.std.specs.Map.{remove_entry, set_value};
 ghost use Rattle.std.specs.Map.Iter.{deref_pair, TakesFirst};
@@ -10,22 +10,20 @@ ghost use Rattle.std.specs.Ordering.{is_le};
 ghost use Rattle.iv_track.specs.Entries.{IsLedger, value_at, first_from, first_after, last_until};
 ghost use Rattle.iv_track.specs.Steps.{ticked};
 
+use crate::abbreviated::Abbreviated;
+use crate::chunks::{Entries, SortedChunks};
 use crate::meter::Meter;
 use std::alloc::{AllocError, Allocator, Global};
-use std::collections::BTreeMap;
-use std::collections::btree_map::Range;
 use std::marker::Model;
-use std::mem;
-use std::ops::Bound;
 
 /// An ordered map from keys to values that counts its calls, so that a contract can say how many a method makes.
 ///
-/// It is a `BTreeMap`. Each call that takes a `Meter` adds one step to it, whatever it finds. No key is
-/// twice. Only `put` can want memory, and only for a key that is new. Its model is the list of its entries in
+/// Its entries are in chunks, each a vector of some of them in order. Each call that takes a `Meter` adds one step to it, whatever it finds. No key is
+/// twice. Only `put` takes memory, and only for a new key. Its model is the list of its entries in
 /// the order of the keys.
 #[derive(Drop)]
 pub struct Ledger<K: Ord, V, A: Allocator = Global> {
-    map: BTreeMap<K, V, A>,
+    map: SortedChunks<K, V, A>,
 }
 
 impl<K: Ord, V, A: Allocator> Model for Ledger<K, V, A> {
@@ -33,16 +31,16 @@ impl<K: Ord, V, A: Allocator> Model for Ledger<K, V, A> {
 
     ghost Value = { List (K × V) };
 
-    ghost view = { λ l. l.map.entries };
+    ghost view = { λ l. l.map };
 }
 
-impl<K: Ord + Drop, V: Drop, A: Allocator + Clone + Drop> Ledger<K, V, A> {
+impl<K: Ord + Abbreviated + Drop, V: Drop, A: Allocator + Clone + Drop> Ledger<K, V, A> {
     /// No entry yet; nothing grows. It keeps the allocator for its entries.
     pub fn new(alloc: A) -> Self
         ensures { result ≡ [] }
     {
         Ledger {
-            map: BTreeMap::new(alloc),
+            map: SortedChunks::new(alloc),
         }
     }
 
@@ -64,7 +62,7 @@ impl<K: Ord + Drop, V: Drop, A: Allocator + Clone + Drop> Ledger<K, V, A> {
         ensures ordered { IfOk result (λ l. IsLedger K.cmp l) }
     {
         Ok(Ledger {
-            map: BTreeMap::from_iter(alloc, entries)?,
+            map: SortedChunks::from_ascending(alloc, entries)?,
         })
     }
 
@@ -77,7 +75,7 @@ impl<K: Ord + Drop, V: Drop, A: Allocator + Clone + Drop> Ledger<K, V, A> {
         self.map.len()
     }
 
-    /// The value at a key, `None` where the key is absent.
+    /// The value at a key, `None` if the key is absent.
     pub fn get(&self, key: &K, meter: &mut Meter) -> Option<&V>
         ensures value { option_copied result ≡ value_at K.cmp self.now key.now }
         ensures step { meter.new ≡ ticked meter.old }
@@ -101,7 +99,7 @@ impl<K: Ord + Drop, V: Drop, A: Allocator + Clone + Drop> Ledger<K, V, A> {
         ensures step { meter.new ≡ ticked meter.old }
     {
         meter.tick();
-        Ok(self.map.insert(key, value)?)
+        self.map.insert(key, value)
     }
 
     /// Writes the value of a key that is there and gives the old one. It takes no memory.
@@ -118,13 +116,10 @@ impl<K: Ord + Drop, V: Drop, A: Allocator + Clone + Drop> Ledger<K, V, A> {
         ensures step { meter.new ≡ ticked meter.old }
     {
         meter.tick();
-        match self.map.get_mut(key) {
-            Some(place) => Ok(mem::replace(place, value)),
-            None => Err(value),
-        }
+        self.map.set(key, value)
     }
 
-    /// Takes a key out and gives its value, `None` where the key is absent. It takes no memory.
+    /// Takes a key out and gives its value, `None` if the key is absent. It takes no memory.
     pub fn take(&mut self, key: &K, meter: &mut Meter) -> Option<V>
         ensures value { result ≡ value_at K.cmp self.old key.now }
         ensures rest { self.new ≡ remove_entry (is_at (K.cmp key.now)) self.old }
@@ -135,47 +130,45 @@ impl<K: Ord + Drop, V: Drop, A: Allocator + Clone + Drop> Ledger<K, V, A> {
         self.map.remove(key)
     }
 
-    /// The entry of the first key at or after this one, in order, `None` where there is none.
+    /// The entry of the first key at or after this one, in order, `None` if there is none.
     pub fn at_or_after(&self, key: &K, meter: &mut Meter) -> Option<(&K, &V)>
         ensures entry { option_map deref_pair result ≡ first_from K.cmp self.now key.now }
         ensures ordered { IsLedger K.cmp self.now }
         ensures step { meter.new ≡ ticked meter.old }
     {
         meter.tick();
-        self.map.range(key..).next()
+        self.map.at_or_after(key)
     }
 
-    /// The entry of the last key at or before this one, in order, `None` where there is none.
+    /// The entry of the last key at or before this one, in order, `None` if there is none.
     pub fn at_or_before(&self, key: &K, meter: &mut Meter) -> Option<(&K, &V)>
         ensures entry { option_map deref_pair result ≡ last_until K.cmp self.now key.now }
         ensures ordered { IsLedger K.cmp self.now }
         ensures step { meter.new ≡ ticked meter.old }
     {
         meter.tick();
-        self.map.range(..=key).next_back()
+        self.map.at_or_before(key)
     }
 
-    /// The entry of the first key after this one, in order, `None` where there is none.
+    /// The entry of the first key after this one, in order, `None` if there is none.
     pub fn after(&self, key: &K, meter: &mut Meter) -> Option<(&K, &V)>
         ensures entry { option_map deref_pair result ≡ first_after K.cmp self.now key.now }
         ensures ordered { IsLedger K.cmp self.now }
         ensures step { meter.new ≡ ticked meter.old }
     {
         meter.tick();
-        self.map
-            .range((Bound::Excluded(key), Bound::Unbounded))
-            .next()
+        self.map.after(key)
     }
 
     /// The entries from a key on, in order. To begin is one step, and each call of the walk's `next` another.
-    pub fn walk(&self, key: &K, meter: &mut Meter) -> Walk<'_, K, V>
+    pub fn walk(&self, key: &K, meter: &mut Meter) -> Walk<'_, K, V, A>
         ensures entries { result ≡ filter (λ e. is_le (K.cmp key.now e.0)) self.now }
         ensures ordered { IsLedger K.cmp self.now }
         ensures step { meter.new ≡ ticked meter.old }
     {
         meter.tick();
         Walk {
-            entries: self.map.range(key..),
+            entries: self.map.walk(key),
         }
     }
 }
@@ -184,11 +177,11 @@ impl<K: Ord + Drop, V: Drop, A: Allocator + Clone + Drop> Ledger<K, V, A> {
 ///
 /// Its model is the entries that are left.
 #[derive(Drop)]
-pub struct Walk<'a, K, V> {
-    entries: Range<'a, K, V>,
+pub struct Walk<'a, K, V, A: Allocator = Global> {
+    entries: Entries<'a, K, V, A>,
 }
 
-impl<'a, K, V> Model for Walk<'a, K, V> {
+impl<'a, K, V, A: Allocator> Model for Walk<'a, K, V, A> {
     ghost use Rattle.std.specs.Prelude.{List};
 
     ghost Value = { List (K × V) };
@@ -196,7 +189,7 @@ impl<'a, K, V> Model for Walk<'a, K, V> {
     ghost view = { λ w. w.entries };
 }
 
-impl<'a, K, V> Walk<'a, K, V> {
+impl<'a, K, V, A: Allocator> Walk<'a, K, V, A> {
     /// The next entry, `None` after the last. Each call is one step, the last one too.
     pub fn next(&mut self, meter: &mut Meter) -> Option<(&'a K, &'a V)>
         ensures next { TakesFirst deref_pair self.old result self.new }
@@ -207,12 +200,11 @@ impl<'a, K, V> Walk<'a, K, V> {
     }
 
     /// The same walk once more, from where it is now. It is no step, and takes no memory.
-    pub fn again(&self) -> Walk<'a, K, V>
+    pub fn again(&self) -> Walk<'a, K, V, A>
         ensures { result ≡ self.now }
     {
-        match self.entries.clone() {
-            Ok(entries) => Walk { entries },
-            Err(_) => unreachable!(),
+        Walk {
+            entries: self.entries.again(),
         }
     }
 }

@@ -1,14 +1,19 @@
 //! The track: records in order with their copies, in an ordered map whose every call is counted.
 #![tactic(auto)]
 
+mod abbreviated;
+mod chunks;
 mod counted;
 mod fault;
 mod laws;
 mod ledger;
 mod meter;
+mod places;
 mod rows;
+mod starts;
 mod track;
 
+pub use abbreviated::Abbreviated;
 pub use fault::EditFault;
 pub use laws::{one_record_added, one_record_removed};
 pub use ledger::{Ledger, Walk};

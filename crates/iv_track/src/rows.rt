@@ -14,7 +14,7 @@ use std::marker::Model;
 /// A record comes once for each of its copies. Its model is the list of the records that are left.
 #[derive(Drop)]
 pub struct Rows<'a, A: Allocator + Copy = Global> {
-    pub(crate) entries: Walk<'a, Record<A>, u32>,
+    pub(crate) entries: Walk<'a, Record<A>, u32, A>,
     pub(crate) held: Option<(&'a Record<A>, u32)>,
 }
 

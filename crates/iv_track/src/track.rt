@@ -2,6 +2,7 @@
 ghost use Rattle.std.specs.Prelude.{◌≡◌, ◌+◌, ◌-◌, ◌^◌, ◌<◌, ◌≤◌, [], length, Some, None, IfOk, IfErr, OnOk, OnErr, All, option_map, vec_len};
 ghost use Rattle.std.specs.Map.Iter.{deref_pair};
 ghost use Rattle.std.specs.List.{filter};
+ghost use Rattle.std.specs.List.Sorted.{IsPermutation, IsSorted};
 ghost use Rattle.iv_text.specs.Row.{Row, row_cmp};
 ghost use Rattle.iv_text.specs.Ordered.{AreInOrder, copies, ordered};
 ghost use Rattle.iv_track.specs.Edits.{RefusesAdd, RefusesRemove, RefusesReplace, with_record, without_record, with_replaced};
@@ -13,7 +14,7 @@ use crate::fault::EditFault;
 use crate::ledger::Ledger;
 use crate::meter::Meter;
 use crate::rows::Rows;
-use iv_text::Record;
+use iv_text::{Batches, Record};
 use std::alloc::{AllocError, Allocator, Global};
 use std::marker::Model;
 
@@ -59,7 +60,7 @@ impl<A: Allocator + Copy> Track<A> {
         }
     }
 
-    /// The track of these records: they are sorted, and the map is built from them at once.
+    /// The track of these records: they are sorted, unless they are in order, and the map is built from them at once.
     ///
     /// The limit is at most 4,000,000 records. There are no more records than the limit, and each has the width.
     ///
@@ -77,9 +78,30 @@ impl<A: Allocator + Copy> Track<A> {
         requires width { All (λ r. r.width ≡ width) rows.items }
         ensures { IfOk result (λ t. t ≡ record { rows = ordered rows.items; width = width; limit = limit }) }
     {
+        Track::from_batches(alloc, width, limit, Batches::of(rows))
+    }
+
+    /// The track of these records, as [`Track::from_records`] makes it. If they are in order, each of their vectors is freed as
+    /// soon as its records are in the map.
+    ///
+    /// The limit is at most 4,000,000 records. There are no more records than the limit, and each has the width.
+    ///
+    /// # Errors
+    ///
+    /// Memory was refused.
+    pub fn from_batches(
+        alloc: A,
+        width: u8,
+        limit: u32,
+        rows: Batches<Record<A>, A>,
+    ) -> Result<Self, AllocError>
+        requires limit { limit ≤ most_records }
+        requires few { length rows ≤ limit }
+        requires width { All (λ r. r.width ≡ width) rows }
+        ensures { IfOk result (λ t. t ≡ record { rows = ordered rows; width = width; limit = limit }) }
+    {
         let len = rows.len() as u32;
-        let mut sorted = rows;
-        sorted.sort()?;
+        let sorted = in_order(rows)?;
         Ok(Track {
             ledger: Ledger::from_entries(alloc, Counted::of(sorted))?,
             alloc,
@@ -115,7 +137,7 @@ impl<A: Allocator + Copy> Track<A> {
         self.width
     }
 
-    /// How many copies of the record are there, 0 where it is absent. At most 2 steps.
+    /// How many copies of the record are there, 0 if it is absent. At most 2 steps.
     pub fn copies(&self, row: &Record<A>, meter: &mut Meter) -> u32
         ensures value { result ≡ copies self.now.rows row.now }
         ensures ordered { AreInOrder self.now.rows }
@@ -153,7 +175,7 @@ impl<A: Allocator + Copy> Track<A> {
     ///
     /// # Errors
     ///
-    /// E12 exactly where the track holds its limit or more, else E22, and that only for a record without a
+    /// E12 exactly if the track holds its limit or more, else E22, and that only for a record without a
     /// copy. The track is unchanged.
     pub fn add(&mut self, row: Record<A>, meter: &mut Meter) -> Result<(), EditFault>
         requires { row.width ≡ self.old.width }
@@ -212,7 +234,7 @@ impl<A: Allocator + Copy> Track<A> {
     ///
     /// # Errors
     ///
-    /// E11 exactly where no copy is there. The track is unchanged.
+    /// E11 exactly if no copy is there. The track is unchanged.
     pub fn remove(&mut self, row: &Record<A>, meter: &mut Meter) -> Result<(), EditFault>
         ensures there { OnOk result (0 < copies self.old.rows row.now) }
         ensures ok { OnOk result (self.new ≡ without_record row.now self.old) }
@@ -239,7 +261,7 @@ impl<A: Allocator + Copy> Track<A> {
     ///
     /// # Errors
     ///
-    /// E11 exactly where no copy of the old record is there, else E22, and that only for a new record without a
+    /// E11 exactly if no copy of the old record is there, else E22, and that only for a new record without a
     /// copy. The track is unchanged.
     pub fn replace(
         &mut self,
@@ -266,7 +288,7 @@ impl<A: Allocator + Copy> Track<A> {
     }
 }
 
-/// The least record that may be on this sequence from this start on, or on a later sequence, `None` where none may be.
+/// The least record that may be on this sequence from this start on, or on a later sequence, `None` if none may be.
 fn least_from<A: Allocator + Copy>(alloc: A, seq: u32, start: u64) -> Option<Record<A>>
     ensures { BeginsFrom seq start result }
 {
@@ -276,4 +298,19 @@ fn least_from<A: Allocator + Copy>(alloc: A, seq: u32, start: u64) -> Option<Rec
     // No record starts so late.
     let next = seq.checked_add(1)?;
     Some(Record::least_at(alloc, next, 0))
+}
+
+/// These records in the order of a track. If they are in it they stay as they are, and no memory is taken.
+fn in_order<A: Allocator + Copy>(
+    rows: Batches<Record<A>, A>,
+) -> Result<Batches<Record<A>, A>, AllocError>
+    ensures same { IfOk result (λ sorted. IsPermutation rows sorted) }
+    ensures sorted { IfOk result (λ sorted. IsSorted row_cmp sorted) }
+{
+    if rows.is_sorted() {
+        return Ok(rows);
+    }
+    let mut rows = rows.into_vec()?;
+    rows.sort()?;
+    Ok(Batches::of(rows))
 }

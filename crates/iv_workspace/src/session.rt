@@ -16,7 +16,7 @@ mod track_edits;
 use crate::views::Views;
 use iv_fasta::Fasta;
 use iv_pair::Second;
-use iv_text::{BedFile, Genome, RecordFault, RecordRef, read_record};
+use iv_text::{BedBatches, BedFile, Genome, RecordFault, RecordRef, read_record};
 use iv_track::{Meter, Track};
 use std::alloc::{AllocError, Allocator, Global};
 use std::marker::Model;
@@ -70,7 +70,7 @@ impl<A: Allocator + Copy> Model for Session<A> {
 /// The second file of the records of a BED file, if there is one.
 fn second_of<A: Allocator + Copy>(
     alloc: A,
-    file: Option<BedFile<A>>,
+    file: Option<BedBatches<A>>,
     limit: u32,
 ) -> Result<Option<Second<A>>, AllocError>
     requires widths { IfSome file (λ f. All (λ r. r.width ≡ f.width) f.rows) }
@@ -83,12 +83,26 @@ fn second_of<A: Allocator + Copy>(
         return Ok(None);
     };
     let width = file.width();
-    let second = Second::new(alloc, width, limit, file.into_records())?;
+    let second = Second::from_batches(alloc, width, limit, file.into_records())?;
     Ok(Some(second))
+}
+
+/// A file that may be left out, its records in batches.
+fn into_batches<A: Allocator + Copy>(file: Option<BedFile<A>>) -> Option<BedBatches<A>>
+    ensures { result ≡ file }
+{
+    match file {
+        Some(file) => Some(file.into_batches()),
+        None => None,
+    }
 }
 
 impl<A: Allocator + Copy> Session<A> {
     /// A session of the records of a file, and of a second file and a FASTA file or none, with no view open. Copies are kept.
+    ///
+    /// # Errors
+    ///
+    /// Memory was refused.
     pub fn new(
         alloc: A,
         genome: Genome<A>,
@@ -104,8 +118,33 @@ impl<A: Allocator + Copy> Session<A> {
         requires bounded { limit ≤ most_records }
         ensures { IfOk result (λ s. s ≡ begun genome first second fasta limit) }
     {
+        let first = first.into_batches();
+        Session::from_batches(alloc, genome, first, into_batches(second), fasta, limit)
+    }
+
+    /// A session of the same, as [`Session::new`] makes it. The vectors of each file's records are freed one after the other while
+    /// its track is built.
+    ///
+    /// # Errors
+    ///
+    /// Memory was refused.
+    pub fn from_batches(
+        alloc: A,
+        genome: Genome<A>,
+        first: BedBatches<A>,
+        second: Option<BedBatches<A>>,
+        fasta: Option<Fasta<A>>,
+        limit: u32,
+    ) -> Result<Session<A>, AllocError>
+        requires fit { All (Fits genome first.width) first.rows }
+        requires few { length first.rows ≤ limit }
+        requires second_fit { IfSome second (λ file. All (Fits genome file.width) file.rows) }
+        requires second_few { IfSome second (λ file. length file.rows ≤ limit) }
+        requires bounded { limit ≤ most_records }
+        ensures { IfOk result (λ s. s ≡ begun genome first second fasta limit) }
+    {
         let width = first.width();
-        let track = Track::from_records(alloc, width, limit, first.into_records())?;
+        let track = Track::from_batches(alloc, width, limit, first.into_records())?;
         let second = second_of(alloc, second, limit)?;
         Ok(Session {
             alloc,

@@ -96,7 +96,7 @@ fn each_growth_of_the_words_refused(rt: HostRuntime) -> Result<(), Fail> {
     Ok(())
 }
 
-/// How many records each file has, so many that the tree of a track splits.
+/// How many records each file has.
 const COUNT: u32 = 30;
 
 /// Puts a row of five bases at the end of a text.

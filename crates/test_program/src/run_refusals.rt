@@ -7,7 +7,7 @@ use std::alloc::Global;
 use std::test::Fail;
 use test_faults::{RefusesNth, refuse_each};
 
-/// So many records that the tree of a track splits.
+/// So many records.
 const COUNT: u32 = 30;
 
 /// A BED file of four columns.

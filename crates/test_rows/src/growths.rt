@@ -1,4 +1,5 @@
 //! Runs that ask for memory, each of whose growths is refused in turn.
+use crate::batches::refused_batches;
 use crate::copy_refusals::{refused_copy, refused_sink};
 use crate::genome_refusals::{refused_damage, refused_genome};
 use crate::many_places::refused_reads;
@@ -21,6 +22,8 @@ pub(crate) enum Run<'t> {
     Three,
     /// Puts keys into a ledger.
     Keys,
+    /// Adds items to batches.
+    Batches,
     /// Makes edits of a kind.
     Calls(Call),
     /// Copies a record with these texts.
@@ -40,8 +43,8 @@ pub(crate) enum Run<'t> {
 /// How a BED file is read.
 #[derive(Clone, Copy)]
 pub(crate) enum Reading<'t> {
-    /// As records of so many columns, unless it has a fault.
-    Records(&'t [u8], u8, Option<LoadFault>),
+    /// As so many records of so many columns, unless it has a fault.
+    Records(&'t [u8], u32, u8, Option<LoadFault>),
     /// As their places alone, in pieces of so many bytes.
     Pieces(&'t [u8], usize, u8, Option<LoadFault>),
     /// As places in its text.
@@ -76,7 +79,9 @@ fn refused_over<'a>(
     reading: Reading<'_>,
 ) -> Result<u32, Fail> {
     match reading {
-        Reading::Records(text, width, damage) => refused_file(alloc, genome, text, width, damage),
+        Reading::Records(text, count, width, damage) => {
+            refused_file(alloc, genome, text, count, width, damage)
+        }
         Reading::Pieces(text, size, width, damage) => {
             refused_spans(alloc, genome, text, size, width, damage)
         }
@@ -111,6 +116,7 @@ fn refused(rt: &HostRuntime, alloc: &RefusesNth<Global>, run: Run<'_>) -> Result
     match run {
         Run::Three => Ok(refused_of_three(alloc)),
         Run::Keys => refused_keys(alloc),
+        Run::Batches => refused_batches(alloc),
         Run::Calls(call) => refused_calls(rt, alloc, call),
         Run::Copy(row, texts) => refused_copy(alloc, row, texts),
         Run::Sink(room) => refused_sink(alloc, room),

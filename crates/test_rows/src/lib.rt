@@ -2,6 +2,8 @@
 #![tactic(auto)]
 
 #[cfg(test)]
+mod batches;
+#[cfg(test)]
 mod bytes;
 #[cfg(test)]
 mod copy_refusals;
@@ -19,6 +21,8 @@ mod genome_refusals;
 mod growths;
 #[cfg(test)]
 mod ledgers;
+#[cfg(test)]
+mod long_ledgers;
 #[cfg(test)]
 mod many_places;
 #[cfg(test)]

@@ -10,12 +10,12 @@ use test_faults::RefusesNth;
 /// So many records that vectors grow more than once.
 const COUNT: u32 = 40;
 
-/// A BED file of three or of six columns, with a record at each start.
-fn bed_file(rt: &HostRuntime, width: u8) -> Result<String, Fail> {
+/// A BED file of three or of six columns, with so many records, one at each start.
+fn bed_file(rt: &HostRuntime, count: u32, width: u8) -> Result<String, Fail> {
     let mut text = String::new(rt.alloc());
-    for start in 0..COUNT {
+    for start in 0..count {
         let stop = u64::from(start) + 10;
-        text.push_str(format!(in rt.alloc(); "chr1\t{start}\t{stop}")?.as_str())?;
+        text.push_str(format!(in rt.alloc(); "big\t{start}\t{stop}")?.as_str())?;
         if width == 6 {
             text.push_str("\tread\t0.5\t-")?;
         }
@@ -30,14 +30,14 @@ fn is_record<A: Allocator>(record: &Record<A>, width: u8, start: u64) -> bool {
         6 => ((b"read".as_slice(), b"0.5".as_slice()), Some(Strand::Minus)),
         _ => ((b"".as_slice(), b"".as_slice()), None),
     };
-    (record.seq(), record.start(), record.stop()) == (0, start, start.saturating_add(10))
+    (record.seq(), record.start(), record.stop()) == (2, start, start.saturating_add(10))
         && (record.name(), record.score()) == texts
         && record.strand() == strand
         && record.width() == width
 }
 
 /// Whether a file has just the records of that file.
-fn has_records<A: Allocator + Copy>(file: &BedFile<A>, width: u8) -> bool {
+fn has_records<A: Allocator + Copy>(file: &BedFile<A>, count: u32, width: u8) -> bool {
     let mut start = 0u64;
     for record in file.records() {
         if !is_record(record, width, start) {
@@ -45,28 +45,29 @@ fn has_records<A: Allocator + Copy>(file: &BedFile<A>, width: u8) -> bool {
         }
         start = start.saturating_add(1);
     }
-    start == u64::from(COUNT) && file.width() == width
+    start == u64::from(count) && file.width() == width
 }
 
-/// Reads a BED file over a genome, and says how often memory was refused, once or never.
+/// Reads a BED file of so many records over a genome, and says how often memory was refused, once or never.
 pub(crate) fn refused_file<'a>(
     alloc: &'a RefusesNth<Global>,
     genome: &Genome<&'a RefusesNth<Global>>,
     text: &[u8],
+    count: u32,
     width: u8,
     damage: Option<LoadFault>,
 ) -> Result<u32, Fail> {
-    match BedFile::parse(alloc, genome, 5, 1_000, text) {
-        Ok(file) if damage.is_none() && has_records(&file, width) => Ok(0),
+    match BedFile::parse(alloc, genome, 5, 10_000, text) {
+        Ok(file) if damage.is_none() && has_records(&file, count, width) => Ok(0),
         Ok(_) => Err(Fail::new("other records")),
         Err(fault) => memory_of(fault, damage),
     }
 }
 
-/// How many growths the reading of a file of this width takes.
-fn growths_of_file(rt: &HostRuntime, width: u8) -> Result<u32, Fail> {
-    let text = bed_file(rt, width)?;
-    let reading = Reading::Records(text.as_bytes(), width, None);
+/// How many growths the reading of a file of so many records of this width takes.
+fn growths_of_file(rt: &HostRuntime, count: u32, width: u8) -> Result<u32, Fail> {
+    let text = bed_file(rt, count, width)?;
+    let reading = Reading::Records(text.as_bytes(), count, width, None);
     growths(rt, Run::Over(reading))
 }
 
@@ -74,14 +75,23 @@ fn growths_of_file(rt: &HostRuntime, width: u8) -> Result<u32, Fail> {
 #[test]
 fn each_growth_of_a_bed_file_refused(rt: HostRuntime) -> Result<(), Fail> {
     for (width, least) in [(3, 1), (6, COUNT)] {
-        assert!(rt; least < growths_of_file(&rt, width)?);
+        assert!(rt; least < growths_of_file(&rt, COUNT, width)?);
     }
+    Ok(())
+}
+
+/// One record more than a vector takes is put into another, and then all are moved into a third.
+#[test]
+fn each_growth_of_two_batches_refused(rt: HostRuntime) -> Result<(), Fail> {
+    assert!(rt;
+        growths_of_file(&rt, 2_049, 3)? == growths_of_file(&rt, 2_048, 3)?.saturating_add(3)
+    );
     Ok(())
 }
 
 /// A file of six columns with this end.
 fn file_with_end(rt: &HostRuntime, end: &str) -> Result<String, Fail> {
-    let mut text = bed_file(rt, 6)?;
+    let mut text = bed_file(rt, COUNT, 6)?;
     text.push_str(end)?;
     Ok(text)
 }
@@ -95,7 +105,7 @@ const DAMAGE: LoadFault = LoadFault {
 /// How often memory is refused before that fault is reported.
 fn growths_before_damage(rt: &HostRuntime) -> Result<u32, Fail> {
     let text = file_with_end(rt, "\nchr1\t1\t2\n")?;
-    let reading = Reading::Records(text.as_bytes(), 6, Some(DAMAGE));
+    let reading = Reading::Records(text.as_bytes(), COUNT, 6, Some(DAMAGE));
     growths(rt, Run::Over(reading))
 }
 
@@ -109,7 +119,7 @@ fn damaged_bed_files_without_memory(rt: HostRuntime) -> Result<(), Fail> {
 fn has_places<A: Allocator + Copy>(file: &Spans<A>, width: u8) -> bool {
     let mut start = 0u32;
     for span in file.as_slice() {
-        if (span.seq, span.start, span.stop) != (0, start, start.saturating_add(10)) {
+        if (span.seq, span.start, span.stop) != (2, start, start.saturating_add(10)) {
             return false;
         }
         start = start.saturating_add(1);
@@ -158,7 +168,7 @@ fn pieces_take_more(rt: &HostRuntime, text: &[u8], width: u8) -> Result<bool, Fa
 
 /// The same of a file of this width.
 fn pieces_of_width(rt: &HostRuntime, width: u8) -> Result<bool, Fail> {
-    let text = bed_file(rt, width)?;
+    let text = bed_file(rt, COUNT, width)?;
     pieces_take_more(rt, text.as_bytes(), width)
 }
 

@@ -5,8 +5,8 @@ use std::alloc::{AllocError, Allocator, Global};
 use std::test::Fail;
 use test_faults::RefusesNth;
 
-/// So many keys that the tree splits.
-const COUNT: u32 = 30;
+/// So many keys that chunks are split.
+const COUNT: u32 = 1_000;
 
 /// Whether a vector grows, and whether a growth was refused by then.
 fn grown(alloc: &RefusesNth<Global>) -> (bool, bool) {

@@ -45,7 +45,7 @@ pub(crate) fn spans_of<A: Allocator + Copy>(
     let mut draft: KeptDraft<Span, A> = KeptDraft::new(alloc);
     take_pieces(&mut draft, genome, limit, text, size)?;
     let (width, spans) = draft.finish(genome, 5, limit)?;
-    Ok(Spans::of(width, spans))
+    Ok(Spans::of(width, spans.into_vec()?))
 }
 
 /// Rank, start and stop of a record.

@@ -1,16 +1,17 @@
 //! Each growth of a track's memory, refused in turn.
 ghost use Rattle.std.specs.Prelude.{◌≡◌, ◌≤◌, IfOk, length};
 
-use crate::fixtures::{add, genome, replace, stage};
+use crate::fixtures::{add, replace, stage};
 use crate::growths::{Reading, Run, growths};
+use crate::places::SIZES;
 use iv_text::{BedFile, Genome, Record, read_record};
 use iv_track::{Meter, Track};
 use std::alloc::{Allocator, Global};
 use std::test::Fail;
 use test_faults::RefusesNth;
 
-/// So many records that the tree splits.
-const COUNT: u32 = 30;
+/// So many records that a chunk is split.
+const COUNT: u32 = 300;
 
 /// An edit that may be refused.
 #[derive(Clone, Copy)]
@@ -50,7 +51,7 @@ fn holds_starts<A: Allocator + Copy>(track: &Track<A>, first: u32, count: u32) -
 /// A line of four columns.
 fn line(rt: &HostRuntime, start: u32) -> Result<String, Fail> {
     let stop = u64::from(start) + 10;
-    Ok(format!(in rt.alloc(); "chr1\t{start}\t{stop}\tname\n")?)
+    Ok(format!(in rt.alloc(); "big\t{start}\t{stop}\tname\n")?)
 }
 
 /// The record at a start. Where its memory is refused it is made anew.
@@ -236,7 +237,7 @@ pub(crate) fn refused_calls(
     alloc: &RefusesNth<Global>,
     call: Call,
 ) -> Result<u32, Fail> {
-    let genome = genome(rt)?;
+    let genome = Genome::parse(rt.alloc(), SIZES)?;
     let mut track = Track::new(alloc, 4, COUNT);
     refused_on(rt, &genome, &mut track, alloc, call)
 }

@@ -8,7 +8,7 @@ use std::alloc::Global;
 use std::test::Fail;
 use test_faults::{RefusesNth, refuse_each};
 
-/// So many records, of half as many lengths, that the trees split.
+/// So many records, of half as many lengths.
 const COUNT: u32 = 30;
 
 /// The first file.

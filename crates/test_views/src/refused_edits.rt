@@ -10,7 +10,7 @@ use std::alloc::Global;
 use std::test::Fail;
 use test_faults::RefusesNth;
 
-/// So many records, of so many lengths, that the trees split.
+/// So many records, of so many lengths.
 const COUNT: u32 = 30;
 
 /// A line of a record that starts here, of a length of its own.

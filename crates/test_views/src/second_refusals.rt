@@ -8,7 +8,7 @@ use std::alloc::{AllocError, Global};
 use std::test::Fail;
 use test_faults::RefusesNth;
 
-/// So many records, of so many lengths, that the trees split.
+/// So many records, of so many lengths.
 const COUNT: u64 = 30;
 
 /// The lines of records, each in the next and one longer, the longest last.

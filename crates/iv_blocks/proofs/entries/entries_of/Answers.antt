@@ -15,7 +15,7 @@ returns-in_default-clause-entries g c =
     let s = c.args.genome.now in
     let sums = listed c.args.options.now.summaries in
     let d = c.args.options.now.distance in
-    c.new-entries.ensures.items
+    c.new-entries.ensures
     ∙ ap (λ (rows : List Row). map (kept_entry s sums) (coming d None rows)) (sym c.in_default.ensures.row.0 ∙ c.walk-rows.ensures.rows ∙ filter-from_first c.args.track.now.rows)
 
 pub loop-record-init : goal.loop-record-init
@@ -27,8 +27,8 @@ loop-record-init g c =
     let rest = c.next.new.self in
     let pushed : map now c.push.new.self.items ≡ c.in-Some.first.now ∷ [] =
     ap (map now) (c.in_ok-push.ensures.items ∙ ap (λ (l : List (Bor Row)). l ++ c.in-Some.first ∷ []) c.new-members.ensures.items) in
-    entries-alike s sums d c.new-entries.result.items [] c.of-block.result c.of-block.result (map now c.push.new.self.items) (c.in-Some.first.now ∷ []) rest
-    c.new-entries.ensures.items (λ i. c.of-block.result) pushed
+    entries-alike s sums d c.new-entries.result [] c.of-block.result c.of-block.result (map now c.push.new.self.items) (c.in-Some.first.now ∷ []) rest
+    c.new-entries.ensures (λ i. c.of-block.result) pushed
     ∙ entries-begun s sums d c.in-Some.first.now rest c.of-block.result c.of-block.ensures
     ∙ ap (λ (rows : List Row). map (kept_entry s sums) (coming d None rows)) (sym c.in-Some.ensures.row ∙ c.walk-rows.ensures.rows ∙ filter-from_first c.args.track.now.rows)
 
@@ -46,21 +46,21 @@ loop-record-preserved g c =
     let test = c.is_joined_by.result in
     let pushed : map now c.push-in-Some-next.new.self.items ≡ map now j.members.items ++ r ∷ [] =
     ap (map now) c.in_ok-push-2.ensures.items ∙ map-append now j.members.items (c.in-Some-next.record ∷ []) in
-    let before : entries_with s sums d l.entries.items l.block (map now l.members.items) (r ∷ rest) ≡ map (kept_entry s sums) (coming d None c.args.track.now.rows) =
-    ap (entries_with s sums d l.entries.items l.block (map now l.members.items)) (sym c.in-Some-next.ensures.row) ∙ l.invariant in
+    let before : entries_with s sums d l.entries l.block (map now l.members.items) (r ∷ rest) ≡ map (kept_entry s sums) (coming d None c.args.track.now.rows) =
+    ap (entries_with s sums d l.entries l.block (map now l.members.items)) (sym c.in-Some-next.ensures.row) ∙ l.invariant in
     elim j.branch [
       | then-is_joined_by w ↦
-          entries-alike s sums d j.entries.items l.entries.items j.block w.with-block.result (map now c.push-in-Some-next.new.self.items) (map now l.members.items ++ r ∷ []) rest
-          (ap (λ v. v.items) w.entries-is) w.block-is (pushed ∙ ap (λ v. map now v.items ++ r ∷ []) w.members-is)
-          ∙ entries-joined s sums d l.entries.items l.block (map now l.members.items) r rest next c.of-next.ensures test c.is_joined_by.ensures w.with-block.result w.with-block.ensures w.if-is_joined_by.true
+          entries-alike s sums d j.entries l.entries j.block w.with-block.result (map now c.push-in-Some-next.new.self.items) (map now l.members.items ++ r ∷ []) rest
+          w.entries-is w.block-is (pushed ∙ ap (λ v. map now v.items ++ r ∷ []) w.members-is)
+          ∙ entries-joined s sums d l.entries l.block (map now l.members.items) r rest next c.of-next.ensures test c.is_joined_by.ensures w.with-block.result w.with-block.ensures w.if-is_joined_by.true
           ∙ before
       | else-is_joined_by+in_ok-memory w ↦
-          entries-alike s sums d j.entries.items w.put_entry.new.entries.items j.block next (map now c.push-in-Some-next.new.self.items) (r ∷ []) rest
-          (ap (λ v. v.items) w.entries-is) w.block-is
+          entries-alike s sums d j.entries w.put_entry.new.entries j.block next (map now c.push-in-Some-next.new.self.items) (r ∷ []) rest
+          w.entries-is w.block-is
           (pushed ∙ ap (λ v. map now v.items ++ r ∷ []) w.members-is ∙ ap (λ (m : List (Bor Row)). map now m ++ r ∷ []) w.clear.ensures.items)
-          ∙ entries-split_up s sums d l.entries.items l.block (map now l.members.items) r rest next c.of-next.ensures test c.is_joined_by.ensures w.put_entry.new.entries.items
+          ∙ entries-split_up s sums d l.entries l.block (map now l.members.items) r rest next c.of-next.ensures test c.is_joined_by.ensures w.put_entry.new.entries
           (w.in_ok-memory.ensures
-          ∙ ap (λ (m : List (Bor Row)). l.entries.items ++ kept_entry s sums (with_members l.block (map now m)) ∷ []) w.deref.ensures.value)
+          ∙ ap (λ (m : List (Bor Row)). l.entries ++ kept_entry s sums (with_members l.block (map now m)) ∷ []) w.deref.ensures.value)
           w.if-is_joined_by.false
           ∙ before
     ]
@@ -73,6 +73,6 @@ returns-clause-entries g c =
     let now : Bor Row → Row = λ (row : Bor Row). row.now in
     let l = c.loop-record in
     c.in_ok-put_entry.ensures
-    ∙ ap (λ (m : List (Bor Row)). l.entries.items ++ kept_entry s sums (with_members l.block (map now m)) ∷ []) c.deref-2.ensures.value
-    ∙ ap (entries_with s sums d l.entries.items l.block (map now l.members.items)) (sym c.in_default-next.ensures.row.0)
+    ∙ ap (λ (m : List (Bor Row)). l.entries ++ kept_entry s sums (with_members l.block (map now m)) ∷ []) c.deref-2.ensures.value
+    ∙ ap (entries_with s sums d l.entries l.block (map now l.members.items)) (sym c.in_default-next.ensures.row.0)
     ∙ l.invariant

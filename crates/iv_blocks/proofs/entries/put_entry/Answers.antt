@@ -16,4 +16,4 @@ returns g c =
     = c.as_slice-2.ensures.value ∙ (rw (name, c.as_slice.ensures) at c.in_ok-results.ensures) in
     let kept : c.in_ok-kept.kept ≡ record { stop = b.stop; results = results_over (sequence_name a.genome.now b.sequence) (listed a.options.now.summaries) (map (λ row. row.now) a.members.now) }
     = c.in_ok-kept.ensures ∙ ap (λ (t : List ℕ). record { stop = b.stop; results = t }) texts in
-    c.in_ok-push.ensures.items ∙ ap (λ (k : Kept). a.entries.now.items ++ ((b.sequence, false, b.start), k) ∷ []) kept
+    c.in_ok-push.ensures.ok ∙ ap (λ (k : Kept). a.entries.now ++ ((b.sequence, false, b.start), k) ∷ []) kept

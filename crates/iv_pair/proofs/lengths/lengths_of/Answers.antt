@@ -1,22 +1,25 @@
-use Rattle.std.proofs.Common.{◌≡◌, ◌∙◌, ap, arith, get_or, rules}
+use Rattle.std.proofs.Common.{◌∙◌, List, sym, ap, subst, arith}
 use Rattle.iv_text.specs.Ordered.{added_by}
+use Rattle.iv_text.specs.Row.{Row}
 use Rattle.iv_track.specs.Copies.{expanded}
-use Rattle.iv_pair.specs.Lengths.{length_of}
-use Rattle.iv_pair.proofs.LengthLemmas.{IsCounted-begin, IsCounted-at, IsCounted-room, IsCounted-end}
 use Rattle.iv_track.specs.Entries.{pair_cmp}
+use Rattle.iv_track.proofs.WalkLemmas.{filter-from_first}
+use Rattle.iv_pair.proofs.LengthLemmas.{IsCounted, IsCounted-begin, IsCounted-next, IsCounted-room, IsCounted-all}
 use Rattle.iv_pair.proofs.lengths.lengths_of.Goals as goal
 
 pub loop-record-init : goal.loop-record-init
-loop-record-init g c = IsCounted-begin _ _ c.new-lengths.ensures
+loop-record-init g c =
+    let rows = c.args.track.now.rows in
+    subst (λ (left : List Row). IsCounted c.new-lengths.result left rows) (sym (c.walk-rows.ensures.rows ∙ filter-from_first rows)) (IsCounted-begin c.new-lengths.result rows c.new-lengths.ensures)
 
 pub raise-requires-clause-room : goal.raise-requires-clause-room
 raise-requires-clause-room g c = omega (arith, IsCounted-room _ _ _ c.length_of.result c.loop-record.invariant, c.requires)
 
 pub loop-record-preserved : goal.loop-record-preserved
 loop-record-preserved g c =
-    let item : c.record-item.result ≡ get_or c.args.records.now c.loop-record.record-index c.record-item.result = search rules in
-    IsCounted-at c.loop-record.lengths c.raise.new.lengths c.args.records.now c.loop-record.record-index c.record-item.result c.loop-record-test.true c.loop-record.invariant c.in_ok-raise.ensures.ok.0
-    (c.in_ok-raise.ensures.ok.1 ∙ ap (added_by pair_cmp (expanded c.loop-record.lengths)) (c.length_of.ensures.is ∙ ap length_of item))
+    let l = c.loop-record in
+    IsCounted-next l.lengths c.raise.new.lengths l.rows c.next.new.self c.args.track.now.rows c.in-Some.record.now l.invariant c.in-Some.ensures.row c.in_ok-raise.ensures.ok.0
+    (c.in_ok-raise.ensures.ok.1 ∙ ap (added_by pair_cmp (expanded l.lengths)) c.length_of.ensures.is)
 
 pub returns : goal.returns
-returns g c = IsCounted-end _ _ c.loop-record.record-index (omega (arith, c.loop-record-test.false)) c.loop-record.invariant
+returns g c = IsCounted-all c.loop-record.lengths c.loop-record.rows c.args.track.now.rows c.loop-record.invariant c.in_default.ensures.row.0

@@ -1,7 +1,10 @@
-use Rattle.std.proofs.Common.{drop}
+use Rattle.std.proofs.Common.{length}
 use Rattle.iv_pair.proofs.LengthLemmas.{IsCounted}
 use Rattle.iv_pair.proofs.lengths.lengths_of.Given as goal
 
--- the records before the index are counted
+-- all records but those that are left are counted
 abbrev pub invariant-loop-record : goal.invariant-loop-record
-invariant-loop-record g l = IsCounted l.lengths (drop l.record-index l.records) l.records
+invariant-loop-record g l = IsCounted l.lengths l.rows l.track.rows
+
+abbrev pub decreases-loop-record : goal.decreases-loop-record
+decreases-loop-record g l = length l.rows

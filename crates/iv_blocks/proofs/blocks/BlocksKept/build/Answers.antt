@@ -1,10 +1,9 @@
-use Rattle.std.proofs.Common.{◌≡◌, ◌∙◌, List, map, length, sym, ap, subst, arith, rules}
+use Rattle.std.proofs.Common.{◌≡◌, ◌∙◌, List, map, sym, ap, subst, arith}
 use Rattle.std.specs.Prelude.{All}
 use Rattle.iv_text.specs.Named.{names_of}
 use Rattle.iv_text.specs.Ordered.{AreInOrder}
 use Rattle.iv_text.specs.Read.{IsOnGenome}
 use Rattle.iv_text.specs.Row.{Row}
-use Rattle.std.specs.Vec.Iter.{into_iter_len}
 use Rattle.iv_cover.specs.TrackBlocks.{blocks_of}
 use Rattle.iv_cover.proofs.Merging.{merge-all}
 use Rattle.iv_track.specs.Entries.{IsLedger, value_at}
@@ -59,10 +58,9 @@ from_entries-requires-then-not-options-clause-ascend g c es run =
     let o = c.args.options in
     let s = c.args.genome.now in
     let rows = c.args.track.now.rows in
-    let made : c.in_ok-entries.entries.items ≡ map (kept_entry s (listed o.summaries)) (blocks_of o.distance s rows) =
+    let made : c.in_ok-entries.entries ≡ map (kept_entry s (listed o.summaries)) (blocks_of o.distance s rows) =
     c.in_ok-entries.ensures.entries ∙ ap (map (kept_entry s (listed o.summaries))) (merge-all o.distance s rows c.in_ok-entries.ensures.order (all-lie s c.args.track.now.width rows c.requires.fit)) in
-    let len : into_iter_len c.into_iter.result ≡ length c.in_ok-entries.entries.items = search rules in
-    subst (IsLedger key_cmp) (sym (drained-items c.into_iter.result c.in_ok-entries.entries.items es c.into_iter.ensures.rest len run ∙ made))
+    subst (IsLedger key_cmp) (sym (drained-items c.into_iter.result es run ∙ c.into_iter.ensures ∙ made))
     (kept-ordered o s c.args.track.now.width rows c.requires.fit c.if-not-options.true)
 
 pub returns-then-not-options-clause-right : goal.returns-then-not-options-clause-right
@@ -71,14 +69,13 @@ returns-then-not-options-clause-right g c =
     let s = c.args.genome.now in
     let rows = c.args.track.now.rows in
     let e = c.in_ok-from_entries-2.ensures in
-    let made : c.in_ok-entries.entries.items ≡ map (kept_entry s (listed o.summaries)) (blocks_of o.distance s rows) =
+    let made : c.in_ok-entries.entries ≡ map (kept_entry s (listed o.summaries)) (blocks_of o.distance s rows) =
     c.in_ok-entries.ensures.entries ∙ ap (map (kept_entry s (listed o.summaries))) (merge-all o.distance s rows c.in_ok-entries.ensures.order (all-lie s c.args.track.now.width rows c.requires.fit)) in
-    let len : into_iter_len c.into_iter.result ≡ length c.in_ok-entries.entries.items = search rules in
     record {
       ordered = e.ordered;
       blocks = λ k.
           e.values.2 k
-          ∙ ap (λ (l : Entries). value_at key_cmp l k) (drained-items c.into_iter.result c.in_ok-entries.entries.items e.values.0 c.into_iter.ensures.rest len e.values.1 ∙ made)
+          ∙ ap (λ (l : Entries). value_at key_cmp l k) (drained-items c.into_iter.result e.values.0 e.values.1 ∙ c.into_iter.ensures ∙ made)
           ∙ kept-found o s c.args.track.now.width rows c.requires.fit c.if-not-options.true k;
     }
 

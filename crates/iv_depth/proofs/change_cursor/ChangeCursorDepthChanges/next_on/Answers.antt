@@ -8,13 +8,13 @@ use Rattle.iv_depth.proofs.Sequences.{BeginsElsewhere, AreAhead-next, AreAhead-p
 use Rattle.iv_depth.proofs.change_cursor.ChangeCursorDepthChanges.next_on.Goals as goal
 
 pub returns-then-sequence-rank-clause-change : goal.returns-then-sequence-rank-clause-change
-returns-then-sequence-rank-clause-change c = λ g f from d h.
+returns-then-sequence-rank-clause-change t c = λ g f from d h.
     let e = c.in_ok-sequence in
     let now : c.args.self.now ≡ ((e.sequence, e.position), e.change) ∷ c.self.inside.walk = sym c.self.view_is ∙ ap (λ (a : Option (Place × ℤ)). ahead_of a c.self.inside.walk) (e.was) in
     AreAhead-past g f c.args.rank from d c.args.self.now (subst (BeginsElsewhere c.args.rank) (sym now) c.if-sequence-rank.true) h
 
 pub returns-clause-change : goal.returns-clause-change
-returns-clause-change c = λ g f from d h.
+returns-clause-change t c = λ g f from d h.
     let e = c.in_ok-sequence in
     let rest : Entries = ahead_of c.read-self-inside.result c.read-self-inside.new.walk in
     let fits : SFits w64 e.change = search rules in

@@ -1,4 +1,4 @@
-use Rattle.std.proofs.Common.{◌≡◌, ◌∙◌, ◌⊎◌, ◌++◌, List, ℕ, [], Result, Ok, Err, sym, ap, subst, inl, inr, append-nil}
+use Rattle.std.proofs.Common.{◌≡◌, ◌∙◌, ◌++◌, List, ℕ, [], Result, Ok, sym, ap, subst, inl, inr, append-nil}
 use Rattle.std.specs.Prelude.{All}
 use Rattle.iv_text.specs.BedFile.{Bed, Draft, finished}
 use Rattle.iv_text.specs.Genome.{Sequences}
@@ -8,6 +8,7 @@ use Rattle.iv_text.specs.declared.fault.LoadFault.{LoadFault}
 use Rattle.iv_text.proofs.KeptLemmas.{handed-on, whole-file}
 use Rattle.iv_index.specs.Places.{bare}
 use Rattle.iv_index.specs.Spans.{bare_bed_of, span_rows}
+use Rattle.iv_index.specs.declared.span.Span.{Span}
 use Rattle.iv_index.proofs.BareLemmas.{kept-on_genome}
 use Rattle.iv_index.proofs.spans.Spans.parse.Goals as goal
 
@@ -39,9 +40,11 @@ returns-in_err-width-clause-err g c =
 pub returns-clause-ok : goal.returns-clause-ok
 returns-clause-ok g c =
     whole c.args.genome.now c.args.limit c.args.empty_width c.args.text.now c.new-draft.result _ c.new-draft.ensures (c.in_ok-take_piece.ensures.ok [])
-    ∙ c.in_ok-width.ensures.ok ∙ ap Ok (sym c.of.ensures)
+    ∙ c.in_ok-width.ensures.ok
+    ∙ ap (λ (spans : List Span). Ok (record { width = c.in_ok-width.width; rows = span_rows spans })) (sym c.in_ok-spans.ensures)
+    ∙ ap Ok (sym c.of.ensures)
 
 pub returns-clause-on_genome : goal.returns-clause-on_genome
 returns-clause-on_genome g c =
-    let rows : c.of.result.rows ≡ span_rows c.in_ok-width.spans.items = ap (λ (b : Bed). b.rows) c.of.ensures in
-    subst (All (IsOnGenome c.args.genome.now)) (sym rows) (kept-on_genome c.args.genome.now c.in_ok-width.width (span_rows c.in_ok-width.spans.items) c.in_ok-width.ensures.kept)
+    let rows : c.of.result.rows ≡ span_rows c.in_ok-width.spans = ap (λ (b : Bed). b.rows) c.of.ensures ∙ ap span_rows c.in_ok-spans.ensures in
+    subst (All (IsOnGenome c.args.genome.now)) (sym rows) (kept-on_genome c.args.genome.now c.in_ok-width.width (span_rows c.in_ok-width.spans) c.in_ok-width.ensures.kept)

@@ -9,7 +9,7 @@ use Rattle.iv_pair.specs.Hits.{hits_of}
 use Rattle.iv_pair.specs.PairRows.{pair_text}
 use Rattle.iv_pair.specs.declared.intersect.IntersectRows.TheVariants.{Count}
 use Rattle.iv_pair.specs.declared.pair_rows.PairRows.TheVariants.{Intersect}
-use Rattle.iv_pair.specs.Counts.{AreEndsOf, AreStartsOf, begins_before, ends_by, place_before}
+use Rattle.iv_pair.specs.Counts.{begins_before, ends_by, place_before}
 use Rattle.iv_pair.proofs.CountLemmas.{AreStartsOf-rows, begun-later, ended-later, hits-between, passes-all, places-more}
 use Rattle.iv_pair.proofs.count_sweep.CountSweep.print.Goals as goal
 

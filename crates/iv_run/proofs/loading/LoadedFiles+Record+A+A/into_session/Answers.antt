@@ -6,17 +6,17 @@ use Rattle.iv_text.proofs.KeptLemmas.{fit-all}
 use Rattle.iv_run.proofs.LoadLemmas.{few-beside, fits-beside}
 use Rattle.iv_run.proofs.loading.LoadedFiles+Record+A+A.into_session.Goals as goal
 
-pub new-requires-clause-fit : goal.new-requires-clause-fit
-new-requires-clause-fit g c =
+pub from_batches-requires-clause-fit : goal.from_batches-requires-clause-fit
+from_batches-requires-clause-fit g c =
     let inside = c.self.inside in
     subst (λ (b : Bed). All (Fits inside.genome b.width) b.rows) (sym c.into_bed-first.ensures) (fit-all inside.genome inside.first.width inside.first.rows c.self.invariant.0.kept_all)
 
-pub new-requires-clause-second_fit : goal.new-requires-clause-second_fit
-new-requires-clause-second_fit g c =
+pub from_batches-requires-clause-second_fit : goal.from_batches-requires-clause-second_fit
+from_batches-requires-clause-second_fit g c =
     let inside = c.self.inside in
     subst (λ (o : Option Bed). IfSome o (λ file. All (Fits inside.genome file.width) file.rows)) (sym c.into_bed.ensures) (fits-beside inside.genome inside.limit inside.second c.self.invariant.1)
 
-pub new-requires-clause-second_few : goal.new-requires-clause-second_few
-new-requires-clause-second_few g c =
+pub from_batches-requires-clause-second_few : goal.from_batches-requires-clause-second_few
+from_batches-requires-clause-second_few g c =
     let inside = c.self.inside in
     subst (λ (o : Option Bed). IfSome o (λ file. length file.rows ≤ inside.limit)) (sym c.into_bed.ensures) (few-beside inside.genome inside.limit inside.second c.self.invariant.1)

@@ -21,5 +21,5 @@ returns-clause-says g c = λ text says.
 pub returns-clause-kept : goal.returns-clause-kept
 returns-clause-kept g c = record {
   kept_all = c.in_ok-width.ensures.kept;
-  few = omega (arith, c.in_ok-width.ensures.few, length-map c.in_ok-width.kept.items g.K.FromRecord.as_row);
+  few = omega (arith, c.in_ok-width.ensures.few, length-map c.in_ok-width.kept g.K.FromRecord.as_row);
 }

@@ -55,9 +55,9 @@ returns-clause-ok g c =
     ∙ ap (λ (t : List ℕ). finished empty (coming same genome limit begun t)) (sym (append-nil text))
     ∙ ap (λ (r : Reading). finished empty (coming same genome limit r (text ++ []))) (sym c.new-draft.ensures)
     ∙ ap (finished empty) (c.in_ok-take_piece.ensures.ok []) in
-    whole ∙ c.in_ok-width.ensures.ok ∙ ap (λ (rows : List Row). Ok (record { width = c.in_ok-width.width; rows = rows })) (rows-all c.in_ok-width.records.items)
+    whole ∙ c.in_ok-width.ensures.ok ∙ ap (λ (rows : List Row). Ok (record { width = c.in_ok-width.width; rows = rows })) (rows-all c.in_ok-width.records ∙ sym c.in_ok-records.ensures)
 
 pub returns-clause-fit : goal.returns-clause-fit
 returns-clause-fit g c =
     let kept = c.in_ok-width.ensures.kept in
-    fit-all c.args.genome.now c.in_ok-width.width c.in_ok-width.records.items (rw (rows-all c.in_ok-width.records.items) at kept)
+    rw c.in_ok-records.ensures (fit-all c.args.genome.now c.in_ok-width.width c.in_ok-width.records (rw (rows-all c.in_ok-width.records) at kept))

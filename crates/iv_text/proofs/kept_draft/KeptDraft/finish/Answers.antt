@@ -32,7 +32,7 @@ returns-clause-ok g c =
     let read = c.self.inside.read in
     let line : List ℕ = c.as_slice.result.now in
     let done : ℕ → List Row → Result Bed LoadFault = λ w rows. Ok (record { width = w; rows = rows }) in
-    let rows : List Row = map g.K.FromRecord.as_row c.read.inside.kept.items in
+    let rows : List Row = map g.K.FromRecord.as_row c.read.inside.kept in
     let sound : AreSound kept genome limit (record { number = c.read.inside.number; width = c.read.inside.width; rows = rows }) = subst (AreSound kept genome limit) (sym c.read.view_is) c.in_ok-take_lines.ensures.sound in
     ap (finished empty)
     (ap (λ (r : Reading). coming kept genome limit r []) (sym c.self.view_is)
@@ -48,7 +48,7 @@ returns-clause-kept g c =
     let genome = c.args.genome.now in
     let limit = c.args.limit in
     let kept = g.K.FromRecord.kept in
-    let rows : List Row = map g.K.FromRecord.as_row c.read.inside.kept.items in
+    let rows : List Row = map g.K.FromRecord.as_row c.read.inside.kept in
     let sound : AreSound kept genome limit (record { number = c.read.inside.number; width = c.read.inside.width; rows = rows }) = subst (AreSound kept genome limit) (sym c.read.view_is) c.in_ok-take_lines.ensures.sound in
     subst (λ (w : ℕ). All (IsKept kept genome w) rows) (sym c.unwrap_or.ensures)
     (sound-kept kept genome limit (record { number = c.read.inside.number; width = c.read.inside.width; rows = rows }) c.args.empty_width sound c.requires.width.0 c.requires.width.1).2

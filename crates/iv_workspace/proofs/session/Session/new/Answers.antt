@@ -1,27 +1,22 @@
-use Rattle.std.proofs.Common.{◌≡◌, ◌∙◌, ℕ, List, Option, sym, ap₂, subst}
-use Rattle.std.specs.Prelude.{IfSome}
-use Rattle.iv_text.specs.Ordered.{ordered}
-use Rattle.iv_text.specs.Row.{Row}
-use Rattle.iv_track.specs.Tracked.{Tracked}
-use Rattle.iv_workspace.specs.States.{IsTrackOn, tracked}
-use Rattle.iv_workspace.proofs.SessionLemmas.{track-of_file, second-of_file, widths-of_file}
+use Rattle.std.proofs.Common.{◌≡◌, Option, sym, subst, length, ◌≤◌}
+use Rattle.std.specs.Prelude.{All, IfOk, IfSome}
+use Rattle.iv_text.specs.BedFile.{Bed}
+use Rattle.iv_text.specs.Read.{Fits}
+use Rattle.iv_workspace.specs.States.{begun}
 use Rattle.iv_workspace.proofs.session.Session.new.Goals as goal
 
-pub second_of-requires-clause-widths : goal.second_of-requires-clause-widths
-second_of-requires-clause-widths g c = widths-of_file c.args.genome c.args.second c.requires.second_fit
+pub from_batches-requires-clause-fit : goal.from_batches-requires-clause-fit
+from_batches-requires-clause-fit g c = subst (λ (b : Bed). All (Fits c.args.genome b.width) b.rows) (sym c.into_batches-first.ensures) c.requires.fit
 
-pub invariant_of-result : goal.invariant_of-result
-invariant_of-result g c =
+pub from_batches-requires-clause-second_fit : goal.from_batches-requires-clause-second_fit
+from_batches-requires-clause-second_fit g c =
+    subst (λ (o : Option Bed). IfSome o (λ file. All (Fits c.args.genome file.width) file.rows)) (sym c.into_batches.ensures) c.requires.second_fit
+
+pub from_batches-requires-clause-second_few : goal.from_batches-requires-clause-second_few
+from_batches-requires-clause-second_few g c = subst (λ (o : Option Bed). IfSome o (λ file. length file.rows ≤ c.args.limit)) (sym c.into_batches.ensures) c.requires.second_few
+
+pub returns : goal.returns
+returns g c =
     let a = c.args in
-    let is : c.in_ok-track.track ≡ tracked a.first a.limit =
-    c.in_ok-track.ensures ∙ ap₂ (λ (rows : List Row) (width : ℕ). record { rows = ordered rows; width = width; limit = a.limit }) c.into_records.ensures c.width-width.ensures.value in
-    let known = rw c.width-width.ensures.value at c.width-width.ensures.known in (
-      record {
-        track_is = subst (IsTrackOn a.genome) (sym is) (track-of_file a.genome a.first a.limit known c.requires.fit c.requires.few);
-        second_is = subst (λ (o : Option Tracked). IfSome o (IsTrackOn a.genome)) (sym c.in_ok-second.ensures.value)
-            (second-of_file a.genome a.second a.limit c.in_ok-second.ensures.known c.requires.second_fit c.requires.second_few);
-        served = rw c.new.ensures tt;
-        fresh = rw c.new.ensures tt;
-      },
-      rw c.new.ensures (tt, tt),
-    )
+    subst (λ (o : Option Bed). IfOk c.from_batches.result (λ s. s ≡ begun a.genome a.first o a.fasta a.limit)) c.into_batches.ensures
+    (subst (λ (b : Bed). IfOk c.from_batches.result (λ s. s ≡ begun a.genome b c.into_batches.result a.fasta a.limit)) c.into_batches-first.ensures c.from_batches.ensures)

@@ -1,0 +1,53 @@
+//! The records of a BED file in batches.
+ghost use Rattle.std.specs.Prelude.{◌≡◌, ◌≤◌};
+
+use crate::batches::Batches;
+use crate::record::Record;
+use std::alloc::{Allocator, Global};
+use std::marker::Model;
+
+/// The records of a BED file, in the order of the file, all of one width, in vectors of bounded length.
+///
+/// It says what a [`BedFile`](crate::BedFile) says. What is made of the records can free each vector once it is used.
+#[derive(Drop)]
+pub struct BedBatches<A: Allocator = Global> {
+    width: u8,
+    records: Batches<Record<A>, A>,
+}
+
+impl<A: Allocator> Model for BedBatches<A> {
+    ghost use Rattle.std.specs.Prelude.{◌≤◌};
+    ghost use Rattle.iv_text.specs.BedFile.{Bed};
+
+    ghost Value = { Bed };
+
+    ghost view = { λ b. record { width = b.width; rows = b.records } };
+
+    ghost invariant = { λ b. (3 ≤ b.width) × (b.width ≤ 6) };
+}
+
+impl<A: Allocator> BedBatches<A> {
+    /// The BED file of records of so many columns, 3 to 6.
+    pub fn of(width: u8, records: Batches<Record<A>, A>) -> BedBatches<A>
+        requires { (3 ≤ width) × (width ≤ 6) }
+        ensures { result ≡ record { width = width; rows = records } }
+    {
+        BedBatches { width, records }
+    }
+
+    /// The number of columns of each record, 3 to 6.
+    pub fn width(&self) -> u8
+        ensures value { result ≡ self.now.width }
+        ensures known { (3 ≤ result) × (result ≤ 6) }
+    {
+        self.width
+    }
+
+    /// The records, in the order of the file.
+    pub fn into_records(self) -> Batches<Record<A>, A>
+        ensures { result ≡ self.rows }
+    {
+        let BedBatches { width: _, records } = self;
+        records
+    }
+}

@@ -1,0 +1,121 @@
+-- What the entries of a list of chunks are, at a place and after an edit of one chunk.
+use Rattle.std.proofs.Common.{◌≡◌, ℕ, suc, ◌+◌, ◌<◌, ◌≤◌, List, ◌∷◌, ◌++◌, length, take, drop, get_or, set, sym, ap, ◌∙◌, append_assoc, arith}
+use Rattle.std.specs.Vec.{vec_items}
+use Rattle.std.specs.List.{insert, remove}
+use Rattle.std.specs.declared.vec.Vec.{Vec}
+use Rattle.std.proofs.lemmas.List.{take-append-drop, drop_more, drop-append-le, take-append-le, set_split, length-drop, drop-drop}
+use Rattle.std.proofs.lemmas.List.Concat.{flat_map-append}
+use Rattle.std.proofs.lemmas.List.Elements.{All-append, All-take, All-drop, All-cons, All-set}
+use Rattle.iv_track.specs.Chunks.{joined, before, from, IsFilled, AreFilled}
+use Rattle.iv_track.specs.declared.places.Place.{Place}
+
+module _ {X Z : Type 0} (cs : List (Vec X Z)) where
+  -- the entries before a place and those from it on are all
+  pub before-from : (p : Place) → before cs p ++ from cs p ≡ joined cs
+  before-from p =
+      append_assoc (joined (take p.chunk cs)) (take p.index (joined (drop p.chunk cs))) (from cs p)
+      ∙ ap (λ xs. joined (take p.chunk cs) ++ xs) (take-append-drop p.index (joined (drop p.chunk cs)))
+      ∙ sym (flat_map-append vec_items (take p.chunk cs) (drop p.chunk cs))
+      ∙ ap joined (take-append-drop p.chunk cs)
+
+  pub joined-split : (n : ℕ) → joined cs ≡ joined (take n cs) ++ joined (drop n cs)
+  joined-split n = ap joined (sym (take-append-drop n cs)) ∙ flat_map-append vec_items (take n cs) (drop n cs)
+
+  module _ (c : ℕ) (x : Vec X Z) (in_range : c < length cs) (is : x ≡ get_or cs c x) where
+    -- from a chunk on
+    pub joined-drop : joined (drop c cs) ≡ vec_items x ++ joined (drop (c + 1) cs)
+    joined-drop = ap joined (drop_more cs c x in_range) ∙ ap (λ y. vec_items y ++ joined (drop (c + 1) cs)) (sym is)
+
+    pub joined-parts : joined cs ≡ joined (take c cs) ++ (vec_items x ++ joined (drop (c + 1) cs))
+    joined-parts =
+        ap joined (sym (take-append-drop c cs))
+        ∙ flat_map-append vec_items (take c cs) (drop c cs)
+        ∙ ap (λ xs. joined (take c cs) ++ xs) joined-drop
+
+    module _ (i : ℕ) (within : i ≤ length (vec_items x)) where
+      pub before_at : before cs (record { chunk = c; index = i }) ≡ joined (take c cs) ++ take i (vec_items x)
+      before_at =
+          ap (λ xs. joined (take c cs) ++ take i xs) joined-drop
+          ∙ ap (λ xs. joined (take c cs) ++ xs) (take-append-le i (vec_items x) (joined (drop (c + 1) cs)) within)
+
+      pub from_at : from cs (record { chunk = c; index = i }) ≡ drop i (vec_items x) ++ joined (drop (c + 1) cs)
+      from_at = ap (λ xs. drop i xs) joined-drop ∙ drop-append-le i (vec_items x) (joined (drop (c + 1) cs)) within
+
+    -- with another chunk in its place
+    pub joined-set : (y : Vec X Z) → joined (set cs c y) ≡ joined (take c cs) ++ (vec_items y ++ joined (drop (c + 1) cs))
+    joined-set y =
+        let e : suc c ≡ c + 1 = omega arith in
+        ap joined (set_split cs c y in_range)
+        ∙ flat_map-append vec_items (take c cs) (y ∷ drop (suc c) cs)
+        ∙ ap (λ n. joined (take c cs) ++ (vec_items y ++ joined (drop n cs))) e
+
+    pub joined-set_same : (y : Vec X Z) → vec_items y ≡ vec_items x → joined (set cs c y) ≡ joined cs
+    joined-set_same y same =
+        joined-set y ∙ ap (λ xs. joined (take c cs) ++ (xs ++ joined (drop (c + 1) cs))) same ∙ sym joined-parts
+
+    -- the chunk has other entries from an index on
+    module _ (y : Vec X Z) (i : ℕ) (within : i ≤ length (vec_items x)) (zs : List X) (has : vec_items y ≡ take i (vec_items x) ++ zs) where
+      pub joined-set_from : joined (set cs c y) ≡ before cs (record { chunk = c; index = i }) ++ (zs ++ joined (drop (c + 1) cs))
+      joined-set_from =
+          let rest = joined (drop (c + 1) cs) in
+          joined-set y
+          ∙ ap (λ xs. joined (take c cs) ++ (xs ++ rest)) has
+          ∙ ap (λ xs. joined (take c cs) ++ xs) (append_assoc (take i (vec_items x)) zs rest)
+          ∙ sym (append_assoc (joined (take c cs)) (take i (vec_items x)) (zs ++ rest))
+          ∙ ap (λ xs. xs ++ (zs ++ rest)) (sym (before_at i within))
+
+    module _ (y : Vec X Z) (i : ℕ) where
+      pub joined-set_inserted : (e : X) → i ≤ length (vec_items x) → vec_items y ≡ insert (vec_items x) i e → joined (set cs c y) ≡ before cs (record { chunk = c; index = i }) ++ e ∷ from cs (record { chunk = c; index = i })
+      joined-set_inserted e within has =
+          joined-set_from y i within (e ∷ drop i (vec_items x)) has
+          ∙ ap (λ xs. before cs (record { chunk = c; index = i }) ++ e ∷ xs) (sym (from_at i within))
+
+      -- the entries after the one at a place
+      pub from_next : i < length (vec_items x) → drop 1 (from cs (record { chunk = c; index = i })) ≡ drop (suc i) (vec_items x) ++ joined (drop (c + 1) cs)
+      from_next within =
+          let some : 1 ≤ length (drop i (vec_items x)) = omega (arith, length-drop i (vec_items x)) in
+          let e : i + 1 ≡ suc i = omega arith in
+          ap (λ xs. drop 1 xs) (from_at i (omega arith))
+          ∙ drop-append-le 1 (drop i (vec_items x)) (joined (drop (c + 1) cs)) some
+          ∙ ap (λ xs. xs ++ joined (drop (c + 1) cs)) (drop-drop 1 i (vec_items x) ∙ ap (λ n. drop n (vec_items x)) e)
+
+      pub joined-set_removed : i < length (vec_items x) → vec_items y ≡ remove (vec_items x) i → joined (set cs c y) ≡ before cs (record { chunk = c; index = i }) ++ drop 1 (from cs (record { chunk = c; index = i }))
+      joined-set_removed within has =
+          joined-set_from y i (omega arith) (drop (suc i) (vec_items x)) has
+          ∙ ap (λ xs. before cs (record { chunk = c; index = i }) ++ xs) (sym (from_next within))
+
+      pub joined-set_written : (e : X) → i < length (vec_items x) → vec_items y ≡ set (vec_items x) i e → joined (set cs c y) ≡ before cs (record { chunk = c; index = i }) ++ e ∷ drop 1 (from cs (record { chunk = c; index = i }))
+      joined-set_written e within has =
+          joined-set_from y i (omega arith) (e ∷ drop (suc i) (vec_items x)) (has ∙ set_split (vec_items x) i e within)
+          ∙ ap (λ xs. before cs (record { chunk = c; index = i }) ++ e ∷ xs) (sym (from_next within))
+
+      -- the entry at a place
+      pub from_here : (e : X) → i < length (vec_items x) → e ≡ get_or (vec_items x) i e → from cs (record { chunk = c; index = i }) ≡ e ∷ drop 1 (from cs (record { chunk = c; index = i }))
+      from_here e within same =
+          let next : i + 1 ≡ suc i = omega arith in
+          from_at i (omega arith)
+          ∙ ap (λ xs. xs ++ joined (drop (c + 1) cs)) (drop_more (vec_items x) i e within)
+          ∙ ap (λ n. get_or (vec_items x) i e ∷ (drop n (vec_items x) ++ joined (drop (c + 1) cs))) next
+          ∙ ap (λ z. z ∷ (drop (suc i) (vec_items x) ++ joined (drop (c + 1) cs))) (sym same)
+          ∙ ap (λ xs. e ∷ xs) (sym (from_next within))
+
+  -- without a chunk
+  pub joined-remove : (c : ℕ) → joined (remove cs c) ≡ joined (take c cs) ++ joined (drop (c + 1) cs)
+  joined-remove c =
+      let e : suc c ≡ c + 1 = omega arith in
+      flat_map-append vec_items (take c cs) (drop (suc c) cs) ∙ ap (λ n. joined (take c cs) ++ joined (drop n cs)) e
+
+  -- with a further one
+  pub joined-insert : (c : ℕ) (y : Vec X Z) → joined (insert cs c y) ≡ joined (take c cs) ++ (vec_items y ++ joined (drop c cs))
+  joined-insert c y = flat_map-append vec_items (take c cs) (y ∷ drop c cs)
+
+  pub filled-remove : (c : ℕ) → AreFilled cs → AreFilled (remove cs c)
+  filled-remove c h =
+      All-append IsFilled (take c cs) (drop (suc c) cs) (All-take IsFilled c cs h) (All-drop IsFilled (suc c) cs h)
+
+  pub filled-insert : (c : ℕ) (y : Vec X Z) → IsFilled y → AreFilled cs → AreFilled (insert cs c y)
+  filled-insert c y some h =
+      All-append IsFilled (take c cs) (y ∷ drop c cs) (All-take IsFilled c cs h) (All-cons IsFilled y (drop c cs) some (All-drop IsFilled c cs h))
+
+  pub filled-set : (c : ℕ) (y : Vec X Z) → IsFilled y → AreFilled cs → AreFilled (set cs c y)
+  filled-set c y some h = All-set IsFilled cs c y some h

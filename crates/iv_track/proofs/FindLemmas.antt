@@ -1,0 +1,233 @@
+-- What a search finds in a list of chunks.
+use Rattle.std.proofs.Common.{◌≡◌, ℕ, zero, suc, ◌+◌, ◌<◌, ◌≤◌, true, false, List, [], ◌∷◌, ◌++◌, length, take, drop, get_or, refl, sym, ap, ◌∙◌, subst, append_assoc, arith, vec_len}
+use mathlib.Core.Bool.{true≢false}
+use Rattle.std.specs.Prelude.{All, IfSome}
+use Rattle.std.specs.Vec.{vec_items}
+use Rattle.std.specs.Cmp.{IsTotalOrder}
+use Rattle.std.specs.List.{AllByRecursion, AllWithin, HoldsAt, slice_get}
+use Rattle.std.specs.List.Sorted.{IsPartitionedBy, IsPartitionPoint, IsNonDecreasingBy}
+use Rattle.std.specs.Ordering.{is_ge, is_gt, ordering_reverse, ordering_index}
+use Rattle.std.specs.declared.cmp.Ordering.{Ordering}
+use Rattle.std.specs.declared.cmp.Ordering.TheVariants.{Less, Equal, Greater}
+use Rattle.std.specs.declared.vec.Vec.{Vec}
+use Rattle.std.proofs.lemmas.Cmp.{tied_back}
+use Rattle.std.specs.Map.{keys_of}
+use Rattle.std.specs.Ordering.{is_lt}
+use Rattle.std.proofs.lemmas.List.{length-take-le, length-drop, length-map, get_or-take, get_or-drop, get_or-map, take_more}
+use Rattle.std.proofs.lemmas.List.Sorted.{searchable_from_sorted}
+use Rattle.std.proofs.lemmas.Map.Keys.{Less-from_sorted}
+use Rattle.std.proofs.lemmas.List.Elements.{All-from_recursion, recursion_from_All, All-nil, All-cons, All-append, at_read}
+use Rattle.iv_track.specs.Chunks.{joined, before, from, AreChunks, IsGap, IsFound, starts_by}
+use Rattle.iv_track.specs.Entries.{IsLedger}
+use Rattle.iv_track.specs.declared.places.Place.{Place}
+use Rattle.iv_track.proofs.Splits.{IsBelow, IsAbove, all_front, all_back, all_both, weaken, around_below, ledger_head, ledger_tail, ledger_nil, ledger_cons}
+use Rattle.iv_track.proofs.ChunkLemmas.{joined-split, joined-parts, before_at, from_at, from_here, before-from}
+
+less_from_not_ge : (r : Ordering) → is_ge r ≡ false → r ≡ Less
+less_from_not_ge Less h = refl
+less_from_not_ge Equal h = absurd (true≢false h)
+less_from_not_ge Greater h = absurd (true≢false h)
+
+pub less_from_lt : (r : Ordering) → is_lt r ≡ true → r ≡ Less
+less_from_lt Less h = refl
+less_from_lt Equal h = absurd (true≢false (sym h))
+less_from_lt Greater h = absurd (true≢false (sym h))
+
+pub greater_from_gt : (r : Ordering) → is_gt r ≡ true → r ≡ Greater
+greater_from_gt Greater h = refl
+greater_from_gt Equal h = absurd (true≢false (sym h))
+greater_from_gt Less h = absurd (true≢false (sym h))
+
+-- the key is at an index of a chunk
+pub found_near : {K V Z : Type 0} (cmp : K → K → Ordering) (k : K) (cs : List (Vec (K × V) Z)) (c : ℕ) (x : Vec (K × V) Z) → c < length cs → x ≡ get_or cs c x → (i : ℕ) → i < length (vec_items x) → HoldsAt (λ e. cmp k e.0 ≡ Equal) (vec_items x) i → IsFound cmp cs k (record { chunk = c; index = i })
+found_near cmp k cs c x lt read i bound equal = record {
+  inside = record { chunk_in_range = lt; index_in_range = at_read cs (λ y. i < vec_len y) c x lt read (omega (arith, x.ok.0, bound)) };
+  has_key = at_read cs (λ y. HoldsAt (λ e. cmp k e.0 ≡ Equal) (vec_items y) i) c x lt read equal;
+}
+
+-- what a search in one chunk answers
+module _ {K V : Type 0} (cmp : K → K → Ordering) (k : K) (i : ℕ) where
+  abbrev pub HoldsKeyAt : List (K × V) → Type 0
+  HoldsKeyAt xs = HoldsAt (λ e. cmp e.0 k ≡ Equal) xs i
+
+  abbrev pub PartsAt : List (K × V) → Type 0
+  PartsAt xs = IsNonDecreasingBy (λ e. ordering_index (cmp e.0 k)) xs → IsPartitionPoint (λ e. cmp e.0 k ≡ Less) (λ e. cmp e.0 k ≡ Greater) xs i
+
+module _ {K : Type 0} {cmp : K → K → Ordering} (o : IsTotalOrder cmp) where
+  turned : (x y : K) (r : Ordering) → cmp x y ≡ r → cmp y x ≡ ordering_reverse r
+  turned x y r h = o.antisymm y x ∙ ap ordering_reverse h
+
+  -- e is below f, and f is not above k
+  past : (k e f : K) (r : Ordering) → cmp k f ≡ r → is_ge r ≡ true → cmp e f ≡ Less → cmp k e ≡ Greater
+  past k e f Less is ge less = absurd (true≢false (sym ge))
+  past k e f Equal is ge less = o.congr k f e is ∙ turned e f Less less
+  past k e f Greater is ge less = turned e k Less (o.trans e f k less (turned k f Greater is))
+
+module _ {K V : Type 0} {cmp : K → K → Ordering} (o : IsTotalOrder cmp) where
+  ledger_front : (front back : List (K × V)) → IsLedger cmp (front ++ back) → IsLedger cmp front
+  ledger_front [] back s = ledger_nil K V cmp
+  ledger_front (e ∷ front) back s =
+      ledger_cons o e front (all_front (λ f. cmp e.0 f.0 ≡ Less) front back (ledger_head o e (front ++ back) s)) (ledger_front front back (ledger_tail o e (front ++ back) s))
+
+  ledger_back : (front back : List (K × V)) → IsLedger cmp (front ++ back) → IsLedger cmp back
+  ledger_back [] back s = s
+  ledger_back (e ∷ front) back s = ledger_back front back (ledger_tail o e (front ++ back) s)
+
+  module _ (k : K) where
+    -- the entries of a chunk that starts above k
+    chunk_above : (xs : List (K × V)) → IsLedger cmp xs → starts_by cmp k xs ≡ false → AllByRecursion (IsAbove cmp k) xs
+    chunk_above [] s h = tt
+    chunk_above (e ∷ es) s h =
+        let above = less_from_not_ge (cmp k e.0) h in
+        (above, weaken (λ f. cmp e.0 f.0 ≡ Less) (IsAbove cmp k) (λ f less. o.trans k e.0 f.0 above less) es (ledger_head o e es s))
+
+    -- a chunk starts by k if a later one does
+    first_past : (e : K × V) (ys : List (K × V)) → 0 < length ys → AllByRecursion (λ f. cmp e.0 f.0 ≡ Less) ys → starts_by cmp k ys ≡ true → is_ge (cmp k e.0) ≡ true
+    first_past e [] some h starts = absurd (omega arith)
+    first_past e (f ∷ ys) some h starts = ap is_ge (past o k e.0 f.0 (cmp k f.0) refl starts h.0)
+
+    -- the search in a chunk
+    rises : (xs : List (K × V)) → IsLedger cmp xs → IsNonDecreasingBy (λ e. ordering_index (cmp e.0 k)) xs
+    rises xs s = searchable_from_sorted o (λ e. e.0) xs k (λ i d low lt.
+        let below : cmp (get_or (keys_of xs) i d.0) (get_or (keys_of xs) (i + 1) d.0) ≡ Less = Less-from_sorted cmp (keys_of xs) i (i + 1) d.0 s (omega arith) (omega (arith, length-map xs (λ (e : K × V). e.0))) in
+        let here = get_or-map (λ (e : K × V). e.0) xs i d d.0 (omega arith) in
+        let next = get_or-map (λ (e : K × V). e.0) xs (i + 1) d d.0 lt in
+        ap is_lt (turned o (get_or xs i d).0 (get_or xs (i + 1) d).0 Less (ap (λ y. cmp y (get_or xs (i + 1) d).0) (sym here) ∙ ap (cmp (get_or (keys_of xs) i d.0)) (sym next) ∙ below)))
+
+    front_below : (xs : List (K × V)) (i : ℕ) → i ≤ length xs → AllWithin (λ e. cmp e.0 k ≡ Less) xs 0 i → All (IsBelow cmp k) (take i xs)
+    front_below xs i within h j d lt =
+        let less : j < i = omega (arith, length-take-le i xs within) in
+        subst (IsBelow cmp k) (sym (get_or-take i xs j d less)) (turned o _ k Less (h j d (omega arith) less))
+
+    back_above : (xs : List (K × V)) (i : ℕ) → i ≤ length xs → AllWithin (λ e. cmp e.0 k ≡ Greater) xs i (length xs) → All (IsAbove cmp k) (drop i xs)
+    back_above xs i within h j d lt =
+        subst (IsAbove cmp k) (sym (get_or-drop i xs j d)) (turned o _ k Greater (h (i + j) d (omega arith) (omega (arith, length-drop i xs))))
+
+    earlier_below : (front xs back : List (K × V)) → 0 < length xs → starts_by cmp k xs ≡ true → IsLedger cmp (front ++ (xs ++ back)) → All (IsBelow cmp k) front
+    earlier_below front [] back some starts s = absurd (omega arith)
+    earlier_below front (e ∷ xs) back some starts s =
+        All-from_recursion (IsBelow cmp k) front (weaken (λ f. cmp f.0 e.0 ≡ Less) (IsBelow cmp k) (λ f less. past o k f.0 e.0 (cmp k e.0) refl starts less) front (around_below o front e (xs ++ back) s))
+
+    not_first : (xs : List (K × V)) → 0 < length xs → starts_by cmp k xs ≡ true → AllWithin (λ e. cmp e.0 k ≡ Greater) xs 0 (length xs) → ⊥
+    not_first [] some starts h = omega arith
+    not_first (e ∷ xs) some starts h = true≢false (sym starts ∙ ap is_ge (turned o e.0 k Greater (h 0 e (omega arith) some)))
+
+    -- all of some entries in order, if the first is above k
+    above_first : (es : List (K × V)) → IsLedger cmp es → IfSome (slice_get es 0) (IsAbove cmp k) → All (IsAbove cmp k) es
+    above_first [] s h = All-nil (IsAbove cmp k)
+    above_first (f ∷ es) s h = All-from_recursion (IsAbove cmp k) (f ∷ es) (chunk_above (f ∷ es) s (ap is_ge h))
+
+    module _ {Z : Type 0} where
+      later_above : (cs : List (Vec (K × V) Z)) → IsLedger cmp (joined cs) → AllByRecursion (λ c. starts_by cmp k (vec_items c) ≡ false) cs → AllByRecursion (IsAbove cmp k) (joined cs)
+      later_above [] s h = tt
+      later_above (c ∷ cs) s h =
+          all_both (IsAbove cmp k) (vec_items c) (joined cs) (chunk_above (vec_items c) (ledger_front (vec_items c) (joined cs) s) h.0) (later_above cs (ledger_back (vec_items c) (joined cs) s) h.1)
+
+      -- the entries of a chunk are some of all
+      chunk_of_all : (P : K × V → Type 0) (cs : List (Vec (K × V) Z)) (j : ℕ) (d : Vec (K × V) Z) → j < length cs → AllByRecursion P (joined cs) → AllByRecursion P (vec_items (get_or cs j d))
+      chunk_of_all P [] j d lt h = absurd (omega arith)
+      chunk_of_all P (c ∷ cs) zero d lt h = all_front P (vec_items c) (joined cs) h
+      chunk_of_all P (c ∷ cs) (suc j) d lt h = chunk_of_all P cs j d (omega arith) (all_back P (vec_items c) (joined cs) h)
+
+      first_before : (xs : List (K × V)) (cs : List (Vec (K × V) Z)) (j : ℕ) (d : Vec (K × V) Z) → j < length cs → 0 < length (vec_items (get_or cs j d)) → IsLedger cmp (xs ++ joined cs) → starts_by cmp k (vec_items (get_or cs j d)) ≡ true → starts_by cmp k xs ≡ true
+      first_before [] cs j d lt some s starts = refl
+      first_before (e ∷ xs) cs j d lt some s starts =
+          first_past e (vec_items (get_or cs j d)) some (chunk_of_all (λ f. cmp e.0 f.0 ≡ Less) cs j d lt (all_back (λ f. cmp e.0 f.0 ≡ Less) xs (joined cs) (ledger_head o e (xs ++ joined cs) s))) starts
+
+      parted : (cs : List (Vec (K × V) Z)) → IsLedger cmp (joined cs) → ((j : ℕ) (d : Vec (K × V) Z) → j < length cs → 0 < length (vec_items (get_or cs j d)))
+          → (i j : ℕ) (d : Vec (K × V) Z) → i ≤ j → j < length cs → starts_by cmp k (vec_items (get_or cs j d)) ≡ true → starts_by cmp k (vec_items (get_or cs i d)) ≡ true
+      parted [] s some i j d le lt starts = absurd (omega arith)
+      parted (c ∷ cs) s some zero zero d le lt starts = starts
+      parted (c ∷ cs) s some zero (suc j) d le lt starts = first_before (vec_items c) cs j d (omega arith) (some (suc j) d lt) s starts
+      parted (c ∷ cs) s some (suc i) zero d le lt starts = absurd (omega arith)
+      parted (c ∷ cs) s some (suc i) (suc j) d le lt starts =
+          parted cs (ledger_back (vec_items c) (joined cs) s) (λ m e less. some (suc m) e (omega arith)) i j d (omega arith) (omega arith) starts
+
+      module _ (cs : List (Vec (K × V) Z)) (ok : AreChunks cmp cs) where
+        some_items : (j : ℕ) (d : Vec (K × V) Z) → j < length cs → 0 < length (vec_items (get_or cs j d))
+        some_items j d lt = let x = get_or cs j d in let h = (ok.filled j d lt).0 in omega (arith, x.ok.0)
+
+        pub partitioned : IsPartitionedBy (λ c. starts_by cmp k (vec_items c)) cs
+        partitioned i j d le lt starts = parted cs ok.ordered some_items i j d le lt starts
+
+        module _ (n : ℕ) (bound : n ≤ length cs) (point : IsPartitionPoint (λ c. starts_by cmp k (vec_items c) ≡ true) (λ c. starts_by cmp k (vec_items c) ≡ false) cs n) where
+          -- all entries of the chunks from there on are above k
+          rest_above : All (IsAbove cmp k) (joined (drop n cs))
+          rest_above =
+              let Q : Vec (K × V) Z → Type 0 = λ c. starts_by cmp k (vec_items c) ≡ false in
+              let chunks : All Q (drop n cs) = λ j d lt.
+              let same = get_or-drop n cs j d in
+              subst Q (sym same) (point.1 (n + j) d (omega arith) (omega (arith, length-drop n cs))) in
+              let sorted = ledger_back (joined (take n cs)) (joined (drop n cs)) (subst (IsLedger cmp) (joined-split cs n) ok.ordered) in
+              All-from_recursion (IsAbove cmp k) (joined (drop n cs)) (later_above (drop n cs) sorted (recursion_from_All Q (drop n cs) chunks))
+
+          pub no_chunk : n ≡ 0 → IsGap cmp cs k (record { chunk = 0; index = 0 })
+          no_chunk none = record {
+            within = record { chunk_in_range = λ some. some; index_in_range = λ some d. omega arith };
+            first_is_first = λ first. refl;
+            some_before = λ some. absurd (omega arith);
+            below = All-nil (IsBelow cmp k);
+            above = subst (λ m. All (IsAbove cmp k) (joined (drop m cs))) none rest_above;
+          }
+
+          -- the last chunk that starts at k or before it
+          module _ (c : ℕ) (is : n ≡ c + 1) (x : Vec (K × V) Z) (read : x ≡ get_or cs c x) where
+            lt : c < length cs
+            lt = omega arith
+
+            starts : starts_by cmp k (vec_items x) ≡ true
+            starts = subst (λ y. starts_by cmp k (vec_items y) ≡ true) (sym read) (point.0 c x (omega arith) (omega arith))
+
+            some : 0 < length (vec_items x)
+            some = subst (λ y. 0 < length (vec_items y)) (sym read) (some_items c x lt)
+
+            sorted : IsLedger cmp (joined (take c cs) ++ (vec_items x ++ joined (drop (c + 1) cs)))
+            sorted = subst (IsLedger cmp) (joined-parts cs c x lt read) ok.ordered
+
+            sorted_here : IsLedger cmp (vec_items x)
+            sorted_here = ledger_front (vec_items x) (joined (drop (c + 1) cs)) (ledger_back (joined (take c cs)) (vec_items x ++ joined (drop (c + 1) cs)) sorted)
+
+            pub found : (i : ℕ) → i < length (vec_items x) → HoldsAt (λ e. cmp e.0 k ≡ Equal) (vec_items x) i → IsFound cmp cs k (record { chunk = c; index = i })
+            found i within equal = record {
+              inside = record { chunk_in_range = lt; index_in_range = at_read cs (λ y. i < vec_len y) c x lt read (omega (arith, x.ok.0)) };
+              has_key = at_read cs (λ y. HoldsAt (λ e. cmp k e.0 ≡ Equal) (vec_items y) i) c x lt read (λ d. tied_back o _ k (equal d));
+            }
+
+            pub gap : (i : ℕ) → i ≤ length (vec_items x) → (IsNonDecreasingBy (λ e. ordering_index (cmp e.0 k)) (vec_items x) → IsPartitionPoint (λ e. cmp e.0 k ≡ Less) (λ e. cmp e.0 k ≡ Greater) (vec_items x) i) → IsGap cmp cs k (record { chunk = c; index = i })
+            gap i within by_order =
+                let halves = by_order (rises (vec_items x) sorted_here) in
+                record {
+                  within = record { chunk_in_range = λ _. lt; index_in_range = λ _. at_read cs (λ y. i ≤ vec_len y) c x lt read (omega (arith, x.ok.0)) };
+                  first_is_first = λ first. absurd (not_first (vec_items x) some starts (subst (λ m. AllWithin (λ e. cmp e.0 k ≡ Greater) (vec_items x) m (length (vec_items x))) first halves.1));
+                  some_before = λ _. lt;
+                  below = subst (All (IsBelow cmp k)) (sym (before_at cs c x lt read i within)) (
+                      All-append (IsBelow cmp k) (joined (take c cs)) (take i (vec_items x)) (earlier_below (joined (take c cs)) (vec_items x) (joined (drop (c + 1) cs)) some starts sorted) (front_below (vec_items x) i within halves.0)
+                      );
+                  above = subst (All (IsAbove cmp k)) (sym (from_at cs c x lt read i within)) (
+                      All-append (IsAbove cmp k) (drop i (vec_items x)) (joined (drop (c + 1) cs)) (back_above (vec_items x) i within halves.1) (subst (λ m. All (IsAbove cmp k) (joined (drop m cs))) is rest_above)
+                      );
+                }
+
+        -- a place where the entry before it is below k
+        module _ (c j : ℕ) (x : Vec (K × V) Z) (read : x ≡ get_or cs c x) (lt : c < length cs) (within : j < length (vec_items x)) (e : K × V) (here : e ≡ get_or (vec_items x) j e) (less : cmp k e.0 ≡ Greater) where
+          below_last : All (IsBelow cmp k) (before cs (record { chunk = c; index = j }))
+          below_last =
+              let p : Place = record { chunk = c; index = j } in
+              let all = sym (before-from cs p) ∙ ap (λ es. before cs p ++ es) (from_here cs c x lt read x j e within here) in
+              let sorted = subst (IsLedger cmp) all ok.ordered in
+              All-from_recursion (IsBelow cmp k) (before cs p) (weaken (λ f. cmp f.0 e.0 ≡ Less) (IsBelow cmp k) (λ f h. turned o f.0 k Less (o.trans f.0 e.0 k h (turned o k e.0 Greater less))) (before cs p) (around_below o (before cs p) e (drop 1 (from cs p)) sorted))
+
+          pub below_place : (i : ℕ) → i ≡ j + 1 → All (IsBelow cmp k) (before cs (record { chunk = c; index = i }))
+          below_place i next =
+              let bound : j + 1 ≤ length (vec_items x) = omega (arith, within) in
+              let parts : before cs (record { chunk = c; index = i }) ≡ before cs (record { chunk = c; index = j }) ++ e ∷ [] =
+              ap (λ m. before cs (record { chunk = c; index = m })) next
+              ∙ before_at cs c x lt read (j + 1) bound
+              ∙ ap (λ es. joined (take c cs) ++ es) (take_more (vec_items x) j e within ∙ ap (λ f. take j (vec_items x) ++ f ∷ []) (sym here))
+              ∙ sym (append_assoc (joined (take c cs)) (take j (vec_items x)) (e ∷ []))
+              ∙ ap (λ es. es ++ e ∷ []) (sym (before_at cs c x lt read j (omega (arith, within)))) in
+              subst (All (IsBelow cmp k)) (sym parts) (All-append (IsBelow cmp k) (before cs (record { chunk = c; index = j })) (e ∷ []) below_last (All-cons (IsBelow cmp k) e [] less (All-nil (IsBelow cmp k))))
+
+        -- a place where the entry at it is above k, or there is none
+        pub above_place : (p : Place) → IfSome (slice_get (from cs p) 0) (IsAbove cmp k) → All (IsAbove cmp k) (from cs p)
+        above_place p h = above_first (from cs p) (ledger_back (before cs p) (from cs p) (subst (IsLedger cmp) (sym (before-from cs p)) ok.ordered)) h

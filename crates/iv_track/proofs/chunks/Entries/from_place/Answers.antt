@@ -1,0 +1,23 @@
+use Rattle.std.proofs.Common.{rules, arith, sym, ap, subst, ◌∙◌, ◌≡◌, ◌<◌, ◌≤◌, ◌+◌, ◌++◌, length, get_or, drop, vec_len}
+use Rattle.std.specs.Vec.{vec_items}
+use Rattle.std.specs.List.{between}
+use Rattle.std.proofs.lemmas.Slice.{between_to_end}
+use Rattle.iv_track.specs.Chunks.{joined}
+use Rattle.iv_track.proofs.ChunkLemmas.{from_at}
+use Rattle.iv_track.proofs.chunks.Entries.from_place.Goals as goal
+
+pub returns-in-Some : goal.returns-in-Some
+returns-in-Some g c =
+    let cs = c.args.chunks.now in
+    let n = c.args.at.chunk in
+    let i = c.args.at.index in
+    let x = c.in-Some.chunk.now in
+    let lt : n < length cs = search rules in
+    let is : x ≡ get_or cs n x = search rules in
+    let within = subst (λ y. i ≤ vec_len y) (sym is) (c.requires.within.index_in_range (omega arith) x) in
+    let items = c.deref.result.now in
+    let first : between i (length items) items ≡ drop i (vec_items x) = between_to_end items i (length items) (omega arith) ∙ ap (drop i) c.deref.ensures.value in
+    let others : between (n + 1) (length cs) cs ≡ drop (n + 1) cs = between_to_end cs (n + 1) (length cs) (omega arith) in
+    ap (λ xs. xs ++ joined (between (n + 1) (length cs) cs)) first
+    ∙ ap (λ ds. drop i (vec_items x) ++ joined ds) others
+    ∙ sym (from_at cs n x lt is i (omega (arith, within, x.ok.0)))

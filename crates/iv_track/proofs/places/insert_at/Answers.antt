@@ -1,0 +1,32 @@
+use Rattle.std.proofs.Common.{rules, arith, ◌++◌, ◌∷◌, ◌≤◌, ◌∙◌, subst, sym, ap, vec_len}
+use Rattle.iv_track.proofs.ChunkLemmas.{joined-set_same, joined-set_inserted, before-from}
+use Rattle.iv_track.proofs.RoomLemmas.{always_on_err}
+use Rattle.iv_track.specs.Chunks.{IsPlaceWithRoom, before, from}
+use Rattle.iv_track.proofs.places.insert_at.Goals as goal
+
+pub returns-in_err-insert-clause-err : goal.returns-in_err-insert-clause-err
+returns-in_err-insert-clause-err g c =
+    let old = c.args.chunks.now.items in
+    let new = c.with_room.new.chunks.items in
+    let q = c.in_ok-place.place in
+    let place : IsPlaceWithRoom old c.args.at new q = search rules in
+    always_on_err c.from_residual-in_err-insert.result (
+    joined-set_same new q.chunk c.index_mut.result.now place.chunk_in_range c.index_mut.ensures.value c.insert.new.self (search rules)
+    ∙ sym (before-from new q)
+    ∙ ap (λ xs. xs ++ from new q) place.same_before
+    ∙ ap (λ xs. before old c.args.at ++ xs) place.same_from
+    ∙ before-from old c.args.at
+    )
+
+pub returns-clause-ok : goal.returns-clause-ok
+returns-clause-ok g c =
+    let old = c.args.chunks.now.items in
+    let new = c.with_room.new.chunks.items in
+    let q = c.in_ok-place.place in
+    let place : IsPlaceWithRoom old c.args.at new q = search rules in
+    let x = c.index_mut.result.now in
+    let is = c.index_mut.ensures.value in
+    let within = subst (λ y. q.index ≤ vec_len y) (sym is) (place.index_in_range x) in
+    joined-set_inserted new q.chunk x place.chunk_in_range is c.insert.new.self q.index c.args.entry (omega (arith, within, x.ok.0)) (search rules)
+    ∙ ap (λ xs. xs ++ c.args.entry ∷ from new q) place.same_before
+    ∙ ap (λ xs. before old c.args.at ++ c.args.entry ∷ xs) place.same_from

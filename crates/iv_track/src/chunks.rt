@@ -1,0 +1,295 @@
+//! Entries in the order of their keys, in chunks.
+ghost use Rattle.std.specs.Prelude.{◌≡◌, ◌+◌, ◌^◌, ◌<◌, List, [], length, IfOk, IfErr, OnOk, OnErr};
+ghost use Rattle.std.specs.Option.{option_map, option_copied};
+ghost use Rattle.std.specs.Map.{remove_entry, set_value};
+ghost use Rattle.std.specs.Map.Iter.{deref_pair, TakesFirst};
+ghost use Rattle.std.specs.BTreeMap.{is_at, insert_entry};
+ghost use Rattle.std.specs.Iterator.{IsFinite, Drains};
+ghost use Rattle.std.specs.List.{filter};
+ghost use Rattle.std.specs.Ordering.{is_le};
+ghost use Rattle.iv_track.specs.Chunks.{AreFilled, IsWithin, from};
+ghost use Rattle.iv_track.specs.Entries.{IsLedger, value_at, first_from, first_after, last_until};
+
+use crate::abbreviated::Abbreviated;
+use crate::places::{
+    self, MOST_IN_CHUNK, Place, append, find, insert_at, place_after, place_from, remove_at,
+};
+use crate::starts::Starts;
+use std::alloc::{AllocError, Allocator};
+use std::marker::Model;
+use std::mem;
+
+/// More entries than there is memory for.
+const MOST_ENTRIES: usize = 9_223_372_036_854_775_807;
+
+/// An ordered map as a list of chunks, each of them a vector of some entries in order.
+///
+/// No chunk is empty or has more than 256 entries, and the keys ascend over all chunks. Its model is the list of its entries in the order
+/// of the keys. Beside the chunks lie the abbreviations of their first keys, for the time of a search alone: nothing is said of them, and
+/// whatever they are, what a call gives is the same.
+#[derive(Drop)]
+pub(crate) struct SortedChunks<K: Ord, V, A: Allocator> {
+    chunks: Vec<Vec<(K, V), A>, A>,
+    starts: Starts<A>,
+    len: usize,
+}
+
+impl<K: Ord, V, A: Allocator> Model for SortedChunks<K, V, A> {
+    ghost use Rattle.std.specs.Prelude.{◌≡◌, List};
+    ghost use Rattle.iv_track.specs.Chunks.{IsWhole, joined};
+
+    ghost Value = { List (K × V) };
+
+    ghost view = { λ s. joined s.chunks.items };
+
+    ghost invariant = { λ s. IsWhole K.cmp s.chunks.items s.len };
+}
+
+impl<K: Ord + Abbreviated + Drop, V: Drop, A: Allocator + Clone + Drop> SortedChunks<K, V, A> {
+    /// No entry yet; nothing grows.
+    pub(crate) fn new(alloc: A) -> Self
+        ensures { result ≡ [] }
+    {
+        SortedChunks {
+            chunks: Vec::new(alloc),
+            starts: Starts::new(),
+            len: 0,
+        }
+    }
+
+    /// The entries that an iterator gives up to its first `None`. Their keys ascend.
+    ///
+    /// # Errors
+    ///
+    /// Memory was refused.
+    pub(crate) fn from_ascending<I: Iterator<Item = (K, V)>>(
+        alloc: A,
+        entries: I,
+    ) -> Result<Self, AllocError>
+        requires starts { I.can_next entries }
+        requires ends { IsFinite (I.remaining entries) }
+        requires ascend { (es : List (K × V)) → Drains I.next_gives entries es → IsLedger K.cmp es }
+        ensures { IfOk result (λ s. Drains I.next_gives entries s × IsLedger K.cmp s) }
+    {
+        let mut chunks = Vec::new(alloc.clone()?);
+        let mut last = Vec::with_capacity(alloc.clone()?, MOST_IN_CHUNK)?;
+        let mut len = 0;
+        for entry in entries {
+            if len == MOST_ENTRIES {
+                return Err(AllocError);
+            }
+            append(&mut chunks, &mut last, entry)?;
+            len += 1;
+        }
+        if last.is_empty() {
+            let starts = Starts::of(alloc, &chunks)?;
+            return Ok(SortedChunks {
+                chunks,
+                starts,
+                len,
+            });
+        }
+        chunks.push(last)?;
+        let starts = Starts::of(alloc, &chunks)?;
+        Ok(SortedChunks {
+            chunks,
+            starts,
+            len,
+        })
+    }
+
+    /// How many entries there are.
+    pub(crate) fn len(&self) -> usize
+        ensures len { result ≡ length self.now }
+        ensures small { result < 2 ^ 63 }
+        ensures ordered { IsLedger K.cmp self.now }
+    {
+        self.len
+    }
+
+    /// The value at a key, `None` if the key is absent.
+    pub(crate) fn get(&self, key: &K) -> Option<&V>
+        ensures { option_copied result ≡ value_at K.cmp self.now key.now }
+    {
+        match find(&self.chunks, self.starts.as_slice(), key) {
+            Ok(at) => Some(&self.chunks[at.chunk][at.index].1),
+            Err(_) => None,
+        }
+    }
+
+    /// Writes the value of a key, whether it is there or new, and gives the value before, `None` for a new key.
+    ///
+    /// # Errors
+    ///
+    /// Memory was refused, which happens for a new key alone. Nothing is changed.
+    pub(crate) fn insert(&mut self, key: K, value: V) -> Result<Option<V>, AllocError>
+        ensures before { IfOk result (λ before. before ≡ value_at K.cmp self.old key) }
+        ensures ok { OnOk result (self.new ≡ insert_entry K.cmp self.old key value) }
+        ensures absent { OnErr result (value_at K.cmp self.old key ≡ None) }
+        ensures err { OnErr result (self.new ≡ self.old) }
+        ensures was_ordered { IsLedger K.cmp self.old }
+        ensures ordered { IsLedger K.cmp self.new }
+    {
+        match find(&self.chunks, self.starts.as_slice(), &key) {
+            Ok(at) => Ok(Some(mem::replace(&mut self.chunks[at.chunk][at.index].1, value))),
+            Err(gap) => {
+                if self.len == MOST_ENTRIES {
+                    return Err(AllocError);
+                }
+                self.starts.make_room(self.chunks.allocator().clone()?)?;
+                let put = insert_at(&mut self.chunks, gap, (key, value));
+                self.starts.follow_insert(&self.chunks, gap);
+                put?;
+                self.len += 1;
+                Ok(None)
+            }
+        }
+    }
+
+    /// Writes the value of a key that is there and gives the old one.
+    ///
+    /// # Errors
+    ///
+    /// The key is absent: the new value is given back, and nothing is changed.
+    pub(crate) fn set(&mut self, key: &K, value: V) -> Result<V, V>
+        ensures ok { IfOk result (λ before. value_at K.cmp self.old key.now ≡ Some before) }
+        ensures written { OnOk result (self.new ≡ set_value (is_at (K.cmp key.now)) self.old value) }
+        ensures absent { IfErr result (λ back. back ≡ value × (value_at K.cmp self.old key.now ≡ None)) }
+        ensures err { OnErr result (self.new ≡ self.old) }
+        ensures ordered { IsLedger K.cmp self.new }
+    {
+        match find(&self.chunks, self.starts.as_slice(), key) {
+            Ok(at) => Ok(mem::replace(&mut self.chunks[at.chunk][at.index].1, value)),
+            Err(_) => Err(value),
+        }
+    }
+
+    /// Takes a key out and gives its value, `None` if the key is absent.
+    pub(crate) fn remove(&mut self, key: &K) -> Option<V>
+        ensures value { result ≡ value_at K.cmp self.old key.now }
+        ensures rest { self.new ≡ remove_entry (is_at (K.cmp key.now)) self.old }
+        ensures ordered { IsLedger K.cmp self.new }
+    {
+        match find(&self.chunks, self.starts.as_slice(), key) {
+            Ok(at) => {
+                let (_, value) = remove_at(&mut self.chunks, at);
+                self.starts.follow_remove(&self.chunks, at);
+                self.len -= 1;
+                Some(value)
+            }
+            Err(_) => None,
+        }
+    }
+
+    /// The entry of the first key at or after this one, in order, `None` if there is none.
+    pub(crate) fn at_or_after(&self, key: &K) -> Option<(&K, &V)>
+        ensures entry { option_map deref_pair result ≡ first_from K.cmp self.now key.now }
+        ensures ordered { IsLedger K.cmp self.now }
+    {
+        let at = place_from(&self.chunks, self.starts.as_slice(), key);
+        let entry = places::first_from(&self.chunks, at)?;
+        Some((&entry.0, &entry.1))
+    }
+
+    /// The entry of the last key at or before this one, in order, `None` if there is none.
+    pub(crate) fn at_or_before(&self, key: &K) -> Option<(&K, &V)>
+        ensures entry { option_map deref_pair result ≡ last_until K.cmp self.now key.now }
+        ensures ordered { IsLedger K.cmp self.now }
+    {
+        match find(&self.chunks, self.starts.as_slice(), key) {
+            Ok(at) => {
+                let entry = &self.chunks[at.chunk][at.index];
+                Some((&entry.0, &entry.1))
+            }
+            Err(gap) => {
+                let index = gap.index.checked_sub(1)?;
+                let entry = &self.chunks[gap.chunk][index];
+                Some((&entry.0, &entry.1))
+            }
+        }
+    }
+
+    /// The entry of the first key after this one, in order, `None` if there is none.
+    pub(crate) fn after(&self, key: &K) -> Option<(&K, &V)>
+        ensures entry { option_map deref_pair result ≡ first_after K.cmp self.now key.now }
+        ensures ordered { IsLedger K.cmp self.now }
+    {
+        let at = place_after(&self.chunks, self.starts.as_slice(), key);
+        let entry = places::first_from(&self.chunks, at)?;
+        Some((&entry.0, &entry.1))
+    }
+
+    /// The entries from a key on, in order.
+    pub(crate) fn walk(&self, key: &K) -> Entries<'_, K, V, A>
+        ensures entries { result ≡ filter (λ e. is_le (K.cmp key.now e.0)) self.now }
+        ensures ordered { IsLedger K.cmp self.now }
+    {
+        let at = place_from(&self.chunks, self.starts.as_slice(), key);
+        Entries::from_place(&self.chunks, at)
+    }
+}
+
+/// The entries of some chunks, in order.
+///
+/// Its model is the entries that are left.
+#[derive(Drop)]
+pub(crate) struct Entries<'a, K, V, A: Allocator> {
+    rest: &'a [(K, V)],
+    later: &'a [Vec<(K, V), A>],
+}
+
+impl<'a, K, V, A: Allocator> Model for Entries<'a, K, V, A> {
+    ghost use Rattle.std.specs.Prelude.{List, ◌++◌};
+    ghost use Rattle.iv_track.specs.Chunks.{AreFilled, joined};
+
+    ghost Value = { List (K × V) };
+
+    ghost view = { λ w. w.rest.now ++ joined w.later.now };
+
+    ghost invariant = { λ w. AreFilled w.later.now };
+}
+
+impl<'a, K, V, A: Allocator> Entries<'a, K, V, A> {
+    /// The entries from a place on.
+    fn from_place(chunks: &'a [Vec<(K, V), A>], at: Place) -> Entries<'a, K, V, A>
+        requires within { IsWithin chunks.now at }
+        requires filled { AreFilled chunks.now }
+        ensures { result ≡ from chunks.now at }
+    {
+        match chunks.get(at.chunk) {
+            Some(chunk) => Entries {
+                rest: &chunk[at.index..],
+                later: &chunks[at.chunk + 1..],
+            },
+            None => Entries {
+                rest: &[],
+                later: &[],
+            },
+        }
+    }
+
+    /// The next entry, `None` after the last.
+    pub(crate) fn next(&mut self) -> Option<(&'a K, &'a V)>
+        ensures { TakesFirst deref_pair self.old result self.new }
+    {
+        if let Some((entry, rest)) = self.rest.split_first() {
+            self.rest = rest;
+            return Some((&entry.0, &entry.1));
+        }
+        let (chunk, later) = self.later.split_first()?;
+        let (entry, rest) = chunk.split_first()?;
+        self.rest = rest;
+        self.later = later;
+        Some((&entry.0, &entry.1))
+    }
+
+    /// The same entries once more.
+    pub(crate) fn again(&self) -> Entries<'a, K, V, A>
+        ensures { result ≡ self.now }
+    {
+        Entries {
+            rest: self.rest,
+            later: self.later,
+        }
+    }
+}

@@ -1,0 +1,392 @@
+//! Places in a list of chunks, and what is done at them.
+ghost use Rattle.std.specs.Prelude.{◌≡◌, ◌+◌, ◌-◌, ◌<◌, ◌≤◌, true, List, [], ◌∷◌, ◌++◌, length, take, drop, All, vec_len, vec_capacity, IfOk, OnOk, IfErr, OnErr};
+ghost use Rattle.std.specs.List.{filter, slice_get, HoldsAt};
+ghost use Rattle.std.specs.Ordering.{is_le, is_lt};
+ghost use Rattle.std.specs.Option.{option_copied};
+ghost use Rattle.iv_track.specs.Chunks.{AreChunks, AreFilled, IsFound, IsGap, IsInside, IsWithin, IsParted, IsPlaceWithRoom, before, from, joined, most_at_once, most_in_chunk, starts_by};
+
+use crate::abbreviated::Abbreviated;
+use std::alloc::{AllocError, Allocator};
+use std::cmp::Ordering;
+use std::mem;
+
+/// At most so many entries are in one chunk.
+pub(crate) const MOST_IN_CHUNK: usize = 256;
+
+/// So many entries are in each chunk except the last if all entries are given at once: there is room for later ones.
+pub(crate) const MOST_AT_ONCE: usize = 224;
+
+/// A place in a list of chunks: the index of a chunk, and an index in it.
+#[derive(Clone, Copy)]
+pub(crate) struct Place {
+    pub(crate) chunk: usize,
+    pub(crate) index: usize,
+}
+
+/// Where the key is, or else the place before which it would go.
+///
+/// The abbreviations of the chunks' first keys give the chunk to begin with. They are a guess that is looked at: if the key turns out to
+/// be in another chunk, its place is found by the keys alone.
+pub(crate) fn find<K: Ord + Abbreviated, V, A: Allocator>(
+    chunks: &[Vec<(K, V), A>],
+    starts: &[u64],
+    key: &K,
+) -> Result<Place, Place>
+    requires { AreChunks K.cmp chunks.now }
+    ensures found { IfOk result (IsFound K.cmp chunks.now key.now) }
+    ensures absent { IfErr result (IsGap K.cmp chunks.now key.now) }
+{
+    match find_near(chunks, starts, key) {
+        Ok(at) => Ok(at),
+        Err(gap) => {
+            if is_above_last(chunks, key, gap) && is_below_next(chunks, key, gap) {
+                return Err(gap);
+            }
+            find_by_keys(chunks, key)
+        }
+    }
+}
+
+/// Where the key is in the chunk that the abbreviations point to, or else a place where it may be missing.
+fn find_near<K: Ord + Abbreviated, V, A: Allocator>(
+    chunks: &[Vec<(K, V), A>],
+    starts: &[u64],
+    key: &K,
+) -> Result<Place, Place>
+    ensures found { IfOk result (IsFound K.cmp chunks.now key.now) }
+    ensures absent { IfErr result (IsWithin chunks.now) }
+{
+    let abbreviation = key.abbreviation();
+    let chunk = starts
+        .partition_point(|start: &u64| -> bool { *start <= abbreviation })
+        .saturating_sub(1);
+    if chunks.len() <= chunk {
+        return Err(Place { chunk: 0, index: 0 });
+    }
+    let entries = &chunks[chunk];
+    let guess = in_proportion(starts, chunk, abbreviation, entries.len());
+    match search_near(entries, key, guess) {
+        Ok(index) => Ok(Place { chunk, index }),
+        Err(index) => Err(Place { chunk, index }),
+    }
+}
+
+/// An index among so many entries of a chunk, as far on as the abbreviation is between the first of the chunk and that of the next.
+fn in_proportion(starts: &[u64], chunk: usize, abbreviation: u64, len: usize) -> usize {
+    let Some(first) = starts.get(chunk) else {
+        return 0;
+    };
+    let Some(next) = starts.get(chunk + 1) else {
+        return len / 2;
+    };
+    let before = abbreviation.saturating_sub(*first);
+    let all = next.saturating_sub(*first);
+    if all == 0 || before >= all || all >= 4_294_967_296 {
+        return len / 2;
+    }
+    (before.wrapping_mul(len as u64) / all) as usize
+}
+
+/// Where the key is, or else an index where it may be missing. The search begins at a guess.
+fn search_near<K: Ord, V>(entries: &[(K, V)], key: &K, guess: usize) -> Result<usize, usize>
+    ensures bound { IfOk result (λ i. i < length entries.now) }
+    ensures found { IfOk result (HoldsAt (λ e. K.cmp key.now e.0 ≡ Ordering.Equal) entries.now) }
+    ensures absent { IfErr result (λ i. i ≤ length entries.now) }
+{
+    let mut low = 0;
+    let mut high = entries.len();
+    let mut probe = guess;
+    let mut step = 2usize;
+    while low < high {
+        let at = between(low, high, probe);
+        match key.cmp(&entries[at].0) {
+            Ordering::Equal => return Ok(at),
+            Ordering::Greater => {
+                low = at + 1;
+                probe = low.wrapping_add(step).min(middle(low, high));
+            }
+            Ordering::Less => {
+                high = at;
+                probe = high.saturating_sub(step).max(middle(low, high));
+            }
+        }
+        step = step.wrapping_mul(4);
+    }
+    Err(low)
+}
+
+/// The index in the middle.
+fn middle(low: usize, high: usize) -> usize
+    requires { low ≤ high }
+    ensures { low < high → (low ≤ result) × (result < high) }
+{
+    low + (high - low) / 2
+}
+
+/// The probe if it is in the range, or else the middle.
+fn between(low: usize, high: usize, probe: usize) -> usize
+    requires { low < high }
+    ensures low { low ≤ result }
+    ensures high { result < high }
+{
+    if low <= probe && probe < high {
+        return probe;
+    }
+    middle(low, high)
+}
+
+/// Whether the key is above all entries before a place. At the first index of a later chunk the answer is no.
+fn is_above_last<K: Ord, V, A: Allocator>(chunks: &[Vec<(K, V), A>], key: &K, at: Place) -> bool
+    requires chunks { AreChunks K.cmp chunks.now }
+    requires within { IsWithin chunks.now at }
+    ensures first { result ≡ true → at.index ≡ 0 → at.chunk ≡ 0 }
+    ensures chunk { result ≡ true → 0 < at.index → at.chunk < length chunks.now }
+    ensures entries { result ≡ true → All (λ e. K.cmp key.now e.0 ≡ Ordering.Greater) (before chunks.now at) }
+{
+    let Some(last) = at.index.checked_sub(1) else {
+        return at.chunk == 0;
+    };
+    let chunk = at.chunk;
+    if chunks.len() <= chunk {
+        return false;
+    }
+    let entries = &chunks[chunk];
+    let entry = &entries[last];
+    key.cmp(&entry.0).is_gt()
+}
+
+/// Whether the key is below all entries from a place on.
+fn is_below_next<K: Ord, V, A: Allocator>(chunks: &[Vec<(K, V), A>], key: &K, at: Place) -> bool
+    requires chunks { AreChunks K.cmp chunks.now }
+    requires within { IsWithin chunks.now at }
+    ensures { result ≡ true → All (λ e. K.cmp key.now e.0 ≡ Ordering.Less) (from chunks.now at) }
+{
+    match first_from(chunks, at) {
+        Some(entry) => key.cmp(&entry.0).is_lt(),
+        None => true,
+    }
+}
+
+/// Where the key is, or else the place before which it would go, by the keys alone.
+fn find_by_keys<K: Ord, V, A: Allocator>(chunks: &[Vec<(K, V), A>], key: &K) -> Result<Place, Place>
+    requires { AreChunks K.cmp chunks.now }
+    ensures found { IfOk result (IsFound K.cmp chunks.now key.now) }
+    ensures absent { IfErr result (IsGap K.cmp chunks.now key.now) }
+{
+    let starts = chunks.partition_point(
+        |chunk: &Vec<(K, V), A>| -> bool
+            ensures { result ≡ starts_by K.cmp key.entry.now chunk.now.items }
+        { starts_until(chunk, key) },
+    );
+    if starts == 0 {
+        return Err(Place { chunk: 0, index: 0 });
+    }
+    let chunk = starts - 1;
+    match chunks[chunk].binary_search_by(
+        |entry: &(K, V)| -> Ordering
+            ensures { result ≡ K.cmp entry.now.0 key.entry.now }
+        { entry.0.cmp(key) },
+    ) {
+        Ok(index) => Ok(Place { chunk, index }),
+        Err(index) => Err(Place { chunk, index }),
+    }
+}
+
+/// Whether the first key of a chunk is at the key or before it.
+fn starts_until<K: Ord, V, A: Allocator>(chunk: &Vec<(K, V), A>, key: &K) -> bool
+    ensures { result ≡ starts_by K.cmp key.now chunk.now.items }
+{
+    match chunk.first() {
+        Some(entry) => key.cmp(&entry.0).is_ge(),
+        None => true,
+    }
+}
+
+/// The place from which on the entries are at the key or after it.
+pub(crate) fn place_from<K: Ord + Abbreviated, V, A: Allocator>(
+    chunks: &[Vec<(K, V), A>],
+    starts: &[u64],
+    key: &K,
+) -> Place
+    requires { AreChunks K.cmp chunks.now }
+    ensures within { IsWithin chunks.now result }
+    ensures entries { from chunks.now result ≡ filter (λ e. is_le (K.cmp key.now e.0)) (joined chunks.now) }
+{
+    match find(chunks, starts, key) {
+        Ok(at) => at,
+        Err(gap) => gap,
+    }
+}
+
+/// The place from which on the entries are after the key.
+pub(crate) fn place_after<K: Ord + Abbreviated, V, A: Allocator>(
+    chunks: &[Vec<(K, V), A>],
+    starts: &[u64],
+    key: &K,
+) -> Place
+    requires { AreChunks K.cmp chunks.now }
+    ensures within { IsWithin chunks.now result }
+    ensures entries { from chunks.now result ≡ filter (λ e. is_lt (K.cmp key.now e.0)) (joined chunks.now) }
+{
+    match find(chunks, starts, key) {
+        Ok(at) => Place {
+            chunk: at.chunk,
+            index: at.index + 1,
+        },
+        Err(gap) => gap,
+    }
+}
+
+/// The first entry from a place on.
+pub(crate) fn first_from<T, A: Allocator>(chunks: &[Vec<T, A>], at: Place) -> Option<&T>
+    requires within { IsWithin chunks.now at }
+    requires filled { AreFilled chunks.now }
+    ensures { option_copied result ≡ slice_get (from chunks.now at) 0 }
+{
+    match chunks.get(at.chunk)?.get(at.index) {
+        Some(entry) => Some(entry),
+        None => chunks.get(at.chunk + 1)?.first(),
+    }
+}
+
+/// Puts an entry in at a place.
+///
+/// # Errors
+///
+/// Memory was refused: the entries are as before.
+pub(crate) fn insert_at<T: Drop, A: Allocator + Clone + Drop>(
+    chunks: &mut Vec<Vec<T, A>, A>,
+    at: Place,
+    entry: T,
+) -> Result<(), AllocError>
+    requires within { IsWithin chunks.old.items at }
+    requires filled { AreFilled chunks.old.items }
+    ensures ok { OnOk result (joined chunks.new.items ≡ before chunks.old.items at ++ entry ∷ from chunks.old.items at) }
+    ensures err { OnErr result (joined chunks.new.items ≡ joined chunks.old.items) }
+    ensures filled { AreFilled chunks.new.items }
+{
+    if chunks.is_empty() {
+        let mut first = Vec::with_capacity(chunks.allocator().clone()?, MOST_IN_CHUNK)?;
+        first.push(entry)?;
+        chunks.push(first)?;
+        return Ok(());
+    }
+    let place = with_room(chunks, at)?;
+    chunks[place.chunk].insert(place.index, entry)?;
+    Ok(())
+}
+
+/// Puts an entry after all others, of which the last are not among the chunks yet.
+///
+/// # Errors
+///
+/// Memory was refused.
+pub(crate) fn append<T: Drop, A: Allocator + Clone + Drop>(
+    chunks: &mut Vec<Vec<T, A>, A>,
+    last: &mut Vec<T, A>,
+    entry: T,
+) -> Result<(), AllocError>
+    requires filled { AreFilled chunks.old.items }
+    requires last { vec_len last.old ≤ most_at_once }
+    ensures all { OnOk result (joined chunks.new.items ++ last.new.items ≡ (joined chunks.old.items ++ last.old.items) ++ entry ∷ []) }
+    ensures filled { OnOk result (AreFilled chunks.new.items) }
+    ensures last { OnOk result (vec_len last.new ≤ most_at_once) }
+{
+    if last.len() < MOST_AT_ONCE {
+        last.push(entry)?;
+        return Ok(());
+    }
+    let mut next = Vec::with_capacity(chunks.allocator().clone()?, MOST_IN_CHUNK)?;
+    next.push(entry)?;
+    chunks.push(mem::replace(last, next))?;
+    Ok(())
+}
+
+/// The same place in a chunk that is not full: a full one is halved.
+///
+/// # Errors
+///
+/// Memory was refused: nothing is changed.
+fn with_room<T: Drop, A: Allocator + Clone + Drop>(
+    chunks: &mut Vec<Vec<T, A>, A>,
+    at: Place,
+) -> Result<Place, AllocError>
+    requires chunk_in_range { at.chunk < vec_len chunks.old }
+    requires within { IsWithin chunks.old.items at }
+    requires filled { AreFilled chunks.old.items }
+    ensures ok { IfOk result (IsPlaceWithRoom chunks.old.items at chunks.new.items) }
+    ensures err { OnErr result (chunks.new.items ≡ chunks.old.items) }
+    ensures filled { AreFilled chunks.new.items }
+{
+    let len = chunks[at.chunk].len();
+    if len < MOST_IN_CHUNK {
+        return Ok(at);
+    }
+    let half = len / 2;
+    halve(chunks, at.chunk, half)?;
+    if at.index <= half {
+        return Ok(at);
+    }
+    Ok(Place {
+        chunk: at.chunk + 1,
+        index: at.index - half,
+    })
+}
+
+/// Makes two chunks of one: its entries before an index, and those from it on.
+///
+/// # Errors
+///
+/// Memory was refused: nothing is changed.
+fn halve<T: Drop, A: Allocator + Clone + Drop>(
+    chunks: &mut Vec<Vec<T, A>, A>,
+    chunk: usize,
+    half: usize,
+) -> Result<(), AllocError>
+    requires chunk_in_range { chunk < vec_len chunks.old }
+    requires index_in_range { HoldsAt (λ c. half ≤ vec_len c) chunks.old.items chunk }
+    requires room { HoldsAt (λ c. vec_len c ≤ half + most_in_chunk) chunks.old.items chunk }
+    ensures ok { OnOk result (IsParted chunks.old.items chunk half chunks.new.items) }
+    ensures err { OnErr result (chunks.new.items ≡ chunks.old.items) }
+{
+    let mut right = Vec::with_capacity(chunks.allocator().clone()?, MOST_IN_CHUNK)?;
+    chunks.reserve(1)?;
+    move_tail(&mut chunks[chunk], half, &mut right);
+    match chunks.insert(chunk + 1, right) {
+        Ok(()) => Ok(()),
+        Err(_) => unreachable!(),
+    }
+}
+
+/// Moves the items from an index on into another vector, which is empty and has room for them.
+fn move_tail<T, A: Allocator>(left: &mut Vec<T, A>, half: usize, right: &mut Vec<T, A>)
+    requires in_range { half ≤ vec_len left.old }
+    requires room { vec_len left.old ≤ half + vec_capacity right.old }
+    requires empty { right.old.items ≡ [] }
+    ensures kept { left.new.items ≡ take half left.old.items }
+    ensures moved { right.new.items ≡ drop half left.old.items }
+{
+    while half < left.len() {
+        right.push_reserved(left.take_last());
+    }
+    right.reverse();
+}
+
+/// Takes the entry at a place out, and with it a chunk that it leaves empty.
+pub(crate) fn remove_at<T: Drop, A: Allocator + Drop>(
+    chunks: &mut Vec<Vec<T, A>, A>,
+    at: Place,
+) -> T
+    requires inside { IsInside chunks.old.items at }
+    requires filled { AreFilled chunks.old.items }
+    ensures value { from chunks.old.items at ≡ result ∷ drop 1 (from chunks.old.items at) }
+    ensures rest { joined chunks.new.items ≡ before chunks.old.items at ++ drop 1 (from chunks.old.items at) }
+    ensures filled { AreFilled chunks.new.items }
+{
+    let chunk = &mut chunks[at.chunk];
+    let entry = chunk.remove(at.index);
+    if chunk.is_empty() {
+        chunks.remove(at.chunk);
+    }
+    entry
+}
