@@ -14,7 +14,7 @@ usage: bedkeep session -g GENOME -i BED [-b BED] [-fi FASTA] [-width N]
        bedkeep cluster -g GENOME -i BED [-d N] [-width N]
        bedkeep complement -g GENOME -i BED [-L] [-width N]
        bedkeep genomecov -g GENOME -i BED -bg|-bga|-d [-width N]
-       bedkeep intersect -g GENOME -a BED -b BED [-wa] [-wb] [-u|-v|-c] [-width N]
+       bedkeep intersect -g GENOME -a BED -b BED [-wa] [-wb|-u|-v|-c] [-width N]
        bedkeep subtract -g GENOME -a BED -b BED [-A] [-width N]
        bedkeep getfasta -g GENOME -bed BED -fi FASTA [-s] [-tab] [-width N]
        bedkeep --help [SUBCOMMAND]      (or: bedkeep SUBCOMMAND --help)
@@ -22,7 +22,8 @@ usage: bedkeep session -g GENOME -i BED [-b BED] [-fi FASTA] [-width N]
 
 session reads a script on standard input; the others print one view of their
 files and end. Options come in any order, and other options of bedtools are
-refused. Records needn't be sorted.
+refused. Records needn't be sorted. Standard input as a file is /dev/stdin, and
+not -; <(..) of bash is a file too. No file is changed.
   -g GENOME   names and lengths of the sequences, two columns
   -i BED      the records, three to six columns, in any order; of intersect and
               subtract it is -a, of getfasta -bed
@@ -37,7 +38,7 @@ Lines of a script, their fields separated by one TAB:
   replace   COLUMNS  COLUMNS          take out the first, put in the second
   addb      COLUMNS                   add a record to the second file
   removeb   COLUMNS                   take out one copy of a record there
-  replaceb  COLUMNS  COLUMNS          take out the first there, put in the second
+  replaceb  COLUMNS  COLUMNS          replace the first there by the second
   resize    SEQUENCE  LENGTH          correct the length of a sequence
   print     NAME                      print a view
   printall                            print all views, each under #NAME
@@ -46,17 +47,17 @@ Empty lines and lines that begin with # are skipped.
 
 Views, with the same options in a script and on the command line:
   merge             the blocks of records that overlap or are book-ended;
-                    -d N joins over gaps of up to N bases, -s keeps strands apart,
-                    -c LIST -o LIST add summaries of columns (count, sum, min, max,
-                    collapse, distinct)
+                    -d N joins over gaps of up to N bases,
+                    -s keeps strands apart, -c LIST -o LIST add summaries of
+                    columns (count, sum, min, max, collapse, distinct)
   cluster           every record with the number of its block; -d N
-  complement        what no record covers; -L on sequences with a record alone
+  complement        what no record covers; -L only on sequences with a record
   genomecov -bg     depth above 0: a row for each interval of one depth
   genomecov -bga    the same, also where the depth is 0
   genomecov -d      depth at each position, counted from 1
-  intersect         for each record its overlaps with records of the second file;
+  intersect         each overlap of a record with one of the second file;
                     -wa the record whole, -wb also the other record whole,
-                    -u the record once if there is an overlap, -v if there is none,
+                    -u the record once if it has an overlap, -v if it has none,
                     -c the record with their number
   subtract          the parts of each record that the second file doesn't cover;
                     -A the record whole if it has no overlap
@@ -66,6 +67,7 @@ Views, with the same options in a script and on the command line:
 
 examples:
   bedkeep merge -g chrom.sizes -i genes.bed -d 100
+  zcat genes.bed.gz | bedkeep merge -g chrom.sizes -i /dev/stdin
   printf 'open\\tm\\tmerge\\nadd\\tchr1\\t10\\t20\\nprint\\tm\\n' |
     bedkeep session -g chrom.sizes -i genes.bed
 
@@ -105,7 +107,7 @@ Lines of a script, their fields separated by one TAB:
   replace   COLUMNS  COLUMNS          take out the first, put in the second
   addb      COLUMNS                   add a record to the second file
   removeb   COLUMNS                   take out one copy of a record there
-  replaceb  COLUMNS  COLUMNS          take out the first there, put in the second
+  replaceb  COLUMNS  COLUMNS          replace the first there by the second
   resize    SEQUENCE  LENGTH          correct the length of a sequence
   print     NAME                      print a view
   printall                            print all views, each under #NAME
@@ -115,16 +117,23 @@ its options, separated by spaces: merge, cluster, complement, genomecov,
 intersect, subtract, getfasta. A refused line changes nothing; standard error
 names it with the reason, and the exit status is 1.
 
+No file is changed. The corrected track comes out by cluster without its last
+column, as in the example. Standard input is the script, so no file can be
+/dev/stdin; <(..) of bash is one.
+
 Different from bedtools: bedtools has no sessions. The help of each subcommand
 says what else differs.
 
 example:
   printf 'chr1\\t100\\n' > example.sizes
   printf 'chr1\\t10\\t20\\n' > example.bed
-  printf 'open\\tm\\tmerge\\nadd\\tchr1\\t15\\t30\\nprint\\tm\\n' > example.script
-  bedkeep session -g example.sizes -i example.bed < example.script
+  printf 'add\\tchr1\\t15\\t30\\n' > example.script
+  printf 'open\\tall\\tcluster\\nprint\\tall\\n' >> example.script
+  bedkeep session -g example.sizes -i example.bed < example.script |
+    sed 's/\\t[0-9]*$//'
 prints:
-  chr1\t10\t30
+  chr1\t10\t20
+  chr1\t15\t30
 ";
 
 const MERGE: &[u8] =
@@ -145,7 +154,7 @@ Different from bedtools: the genome file is needed, and rows come in its order;
 records needn't be sorted. With -s the blocks of + come before those of -, and
 not by start. -c without -o sums. For sum, min and max a number is an optional -
 and up to 15 digits, and all digits are printed; a value . is skipped, and any
-other value makes the result . for its block.
+other value makes the result . for its block. Standard input is /dev/stdin.
 
 example:
   printf 'chr1\\t100\\n' > example.sizes
@@ -165,7 +174,7 @@ overlap or are book-ended are in one block.
   -width N    columns of a BED without a record, 3 to 6 (default 3)
 
 Different from bedtools: the genome file is needed, and rows come in its order;
-records needn't be sorted. There is no -s.
+records needn't be sorted. There is no -s. Standard input is /dev/stdin.
 
 example:
   printf 'chr1\\t100\\n' > example.sizes
@@ -186,7 +195,7 @@ Prints the intervals that no record covers.
   -width N    columns of a BED without a record, 3 to 6 (default 3)
 
 Different from bedtools: records needn't be sorted. A sequence of length 0 is
-allowed and has no row.
+allowed and has no row. Standard input is /dev/stdin.
 
 example:
   printf 'chr1\\t100\\n' > example.sizes
@@ -209,7 +218,7 @@ Prints depth: how many records cover a position. Give one of -bg, -bga and -d.
 
 Different from bedtools: one of -bg, -bga and -d is needed, since there is no
 histogram. Records needn't be sorted. Sequences without a record come in their
-places in the genome file, and not last.
+places in the genome file, and not last. Standard input is /dev/stdin.
 
 example:
   printf 'chr1\\t100\\n' > example.sizes
@@ -221,8 +230,8 @@ prints:
   chr1\t20\t30\t1
 ";
 
-const INTERSECT: &[u8] = b"usage: bedkeep intersect -g GENOME -a BED -b BED [-wa] [-wb] [-width N]
-       bedkeep intersect -g GENOME -a BED -b BED -u|-v|-c [-width N]
+const INTERSECT: &[u8] =
+    b"usage: bedkeep intersect -g GENOME -a BED -b BED [-wa] [-wb|-u|-v|-c] [-width N]
 
 Prints each overlap of a record of the first file with one of the second: the
 part that both share.
@@ -239,6 +248,7 @@ part that both share.
 Different from bedtools: the genome file is needed, and rows come in its order.
 The overlaps of one record come by start and stop of the second file's records.
 At most one of -u, -v and -c can be given, and none of them beside -wb.
+Standard input is /dev/stdin.
 
 example:
   printf 'chr1\\t100\\n' > example.sizes
@@ -260,6 +270,7 @@ Prints the parts of each record of the first file that the second doesn't cover.
   -width N    columns of a BED without a record, 3 to 6 (default 3)
 
 Different from bedtools: the genome file is needed, and rows come in its order.
+Standard input is /dev/stdin.
 
 example:
   printf 'chr1\\t100\\n' > example.sizes
@@ -286,7 +297,7 @@ Prints the bases of each record whose sequence the FASTA file has.
 Different from bedtools: the genome file is needed, and rows come in its order.
 No index file is read or made, and lines of the FASTA file may have any lengths.
 A record past the end of its sequence is an error. One whose sequence the FASTA
-file lacks has no row, without a warning.
+file lacks has no row, without a warning. Standard input is /dev/stdin.
 
 example:
   printf 'chr1\\t12\\n' > example.sizes

@@ -18,7 +18,7 @@ pub enum Notice {
 }
 
 /// The program's name and version, and what proved it.
-const VERSION: &[u8] = b"bedkeep 0.1.0
+const VERSION: &[u8] = b"bedkeep 1.0.0
 proved with rattle-kit-13f logic dac8208d650f15bf
 ";
 

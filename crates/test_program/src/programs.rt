@@ -36,7 +36,7 @@ fn wrong_words(rt: HostRuntime) -> Result<(), Fail> {
             b"--version",
             (
                 0,
-                b"bedkeep 0.1.0\nproved with rattle-kit-13f logic dac8208d650f15bf\n",
+                b"bedkeep 1.0.0\nproved with rattle-kit-13f logic dac8208d650f15bf\n",
                 b""
             )
         )?
