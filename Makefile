@@ -17,12 +17,15 @@ zshdir = $(datadir)/zsh/site-functions
 INSTALL ?= install
 INSTALL_PROGRAM ?= $(INSTALL) -m 755
 INSTALL_DATA ?= $(INSTALL) -m 644
-EXAMPLES := $(wildcard examples/*.*)
+# What is installed below docdir, in the folders that it has here, so that links and the steps of the guide work there too.
+DOCUMENTS = README.md CHANGELOG.md LICENSE $(addprefix docs/,GUIDE.md BEDTOOLS.md FORMAT.md PROMISES.md BENCHMARKS.md speed.svg) \
+	$(shell find examples -type f ! -path '*/.snakemake/*' ! -name '*.pyc' ! -name corrected.bed | LC_ALL=C sort)
 
 .DEFAULT_GOAL := help
-.PHONY: help build demo install uninstall dist test wrong-bodies clean
+.PHONY: help try build demo install uninstall dist test wrong-bodies clean
 
 help:
+	@echo 'make try     in a minute, without a proof: the first session of the README, or a run of your own as in make try ARGS="merge -g sizes -i genes.bed"'
 	@echo 'make build   prove and build the program; it is left at $(PROGRAM)'
 	@echo 'make demo    build it, then run the scripts of examples/ over the files beside them'
 	@echo 'make install     put the built program, its man page and its completions below PREFIX (/usr/local)'
@@ -32,6 +35,10 @@ help:
 	@echo 'make wrong-bodies   the wrong bodies that the gate leaves out, an hour or more'
 	@echo 'make clean   remove all that builds and proofs left behind'
 	@echo 'make help    this list'
+
+# The script of a session comes on standard input: make try ARGS='session -g sizes -i genes.bed' < script
+try:
+	@RT=$(RT) scripts/try.sh $(ARGS)
 
 build:
 	RT=$(RT) scripts/build.sh
@@ -43,18 +50,20 @@ demo: build
 # It builds nothing, so that it can run as another user than the one who built.
 install:
 	@test -x $(PROGRAM) || { echo '$(PROGRAM) is not there: run make build first' >&2; exit 1; }
-	$(INSTALL) -d $(addprefix $(DESTDIR),$(bindir) $(man1dir) $(bashdir) $(zshdir) $(docdir)/examples)
+	$(INSTALL) -d $(addprefix $(DESTDIR),$(bindir) $(man1dir) $(bashdir) $(zshdir) $(docdir))
 	$(INSTALL_PROGRAM) $(PROGRAM) $(DESTDIR)$(bindir)/bedkeep
 	$(INSTALL_DATA) man/bedkeep.1 $(DESTDIR)$(man1dir)/bedkeep.1
 	$(INSTALL_DATA) completions/bedkeep.bash $(DESTDIR)$(bashdir)/bedkeep
 	$(INSTALL_DATA) completions/_bedkeep $(DESTDIR)$(zshdir)/_bedkeep
-	$(INSTALL_DATA) docs/FORMAT.md LICENSE $(DESTDIR)$(docdir)
-	$(INSTALL_DATA) $(EXAMPLES) $(DESTDIR)$(docdir)/examples
+	set -e; for file in $(DOCUMENTS); do \
+		mode=644; test ! -x $$file || mode=755; \
+		$(INSTALL) -D -m $$mode $$file $(DESTDIR)$(docdir)/$$file; \
+	done
 
 uninstall:
 	rm -f $(addprefix $(DESTDIR),$(bindir)/bedkeep $(man1dir)/bedkeep.1 $(bashdir)/bedkeep $(zshdir)/_bedkeep)
-	rm -f $(addprefix $(DESTDIR)$(docdir)/,FORMAT.md LICENSE $(EXAMPLES))
-	rmdir $(addprefix $(DESTDIR)$(docdir),/examples /) 2> /dev/null || true
+	rm -f $(addprefix $(DESTDIR)$(docdir)/,$(DOCUMENTS))
+	find $(DESTDIR)$(docdir) -depth -type d -empty -delete 2> /dev/null || true
 
 # It builds for itself, since a release is linked from the object file of the program.
 dist:
@@ -71,6 +80,7 @@ test:
 	scripts/answers_at_once.sh $(PROGRAM)
 	scripts/exits.sh $(PROGRAM)
 	scripts/examples.sh $(PROGRAM)
+	scripts/at_scale.sh $(PROGRAM)
 	python3 scripts/options_agree.py $(PROGRAM)
 	python3 scripts/guide.py $(PROGRAM)
 	python3 scripts/hostile.py $(PROGRAM) --seed 1 --seconds 20

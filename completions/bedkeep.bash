@@ -74,4 +74,5 @@ _bedkeep() {
     mapfile -t COMPREPLY < <(compgen -W "$choices" -- "$word")
 }
 
-complete -F _bedkeep bedkeep
+# What isn't a word of bedkeep, such as the file after <, is completed as the shell does.
+complete -o bashdefault -o default -F _bedkeep bedkeep

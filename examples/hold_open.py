@@ -3,8 +3,10 @@
 import itertools
 import subprocess
 import sys
+from pathlib import Path
 
-words = ["build/bedkeep", "session", "-g", "examples/human.genome", "-i", "examples/genes.bed"]
+here = Path(__file__).parent
+words = ["bedkeep", "session", "-g", here / "human.genome", "-i", here / "genes.bed"]
 # Rows and messages share one pipe, so they come in the order in which they were written.
 session = subprocess.Popen(words, stdin=subprocess.PIPE, stdout=subprocess.PIPE, stderr=subprocess.STDOUT)
 ends = itertools.count(2, 2)

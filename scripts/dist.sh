@@ -1,5 +1,5 @@
 #!/usr/bin/env bash
-# Makes a release from the built program: build/bedkeep-VERSION-linux-x86_64.tar.gz, and where dpkg-deb is there also
+# Makes a release from the built program: build/bedkeep-VERSION-linux-x86_64.tar.gz, and if dpkg-deb is there also
 # build/bedkeep_VERSION_amd64.deb, with their checksums in build/SHA256SUMS. The program in them needs no shared library.
 # The same sources give the same bytes with the same tools: files have the time of SOURCE_DATE_EPOCH, or else the date
 # of the man page.
@@ -48,6 +48,12 @@ later, with the GCC Runtime Library Exception, version 3.1. scripts/link_static.
 END
 }
 
+# changed: what Debian wants to know of the version
+changed() {
+    printf 'bedkeep (%s) unstable; urgency=low\n\n  * CHANGELOG.md says what changed.\n\n' "$version"
+    printf ' -- the bedkeep authors <bedkeep@example.invalid>  %s\n' "$(LC_ALL=C date --utc --rfc-email --date="@$epoch")"
+}
+
 # dated FOLDER: gives all below it, and itself, the time of the release
 dated() {
     find "$1" -exec touch --no-dereference --date="@$epoch" {} +
@@ -63,9 +69,19 @@ dated "$stage/$name"
     gzip --no-name --best > "build/$name.tar.gz"
 made=("$name.tar.gz")
 
-# The first session of the README, with the unpacked program and no environment.
+# The unpacked program and documents: the first session of the README without an environment, the steps of the README and of
+# the guide, and the examples.
 mkdir "$stage/unpacked"
 tar --extract --gzip --file="build/$name.tar.gz" --directory="$stage/unpacked"
+documents=$stage/unpacked/$name/share/doc/bedkeep
+for document in README.md CHANGELOG.md LICENSE NOTICE docs/{GUIDE,BEDTOOLS,FORMAT,PROMISES}.md examples/{in_git,by_pieces,at_scale}/README.md; do
+    if [ ! -s "$documents/$document" ]; then
+        echo "the release lacks $document" >&2
+        exit 1
+    fi
+done
+python3 scripts/guide.py "$stage/unpacked/$name/bin/bedkeep" "$documents"
+scripts/examples.sh "$stage/unpacked/$name/bin/bedkeep" "$documents/examples"
 printf 'chr1\t100\n' > "$stage/sizes"
 printf 'open\tm\tmerge\nadd\tchr1\t10\t20\nadd\tchr1\t15\t30\nprint\tm\n' > "$stage/script"
 said=$(env --ignore-environment "$stage/unpacked/$name/bin/bedkeep" session -g "$stage/sizes" -i /dev/null < "$stage/script")
@@ -79,7 +95,9 @@ if command -v dpkg-deb > /dev/null; then
     install_to "$root" PREFIX=/usr zshdir=/usr/share/zsh/vendor-completions
     gzip --no-name --best "$root/usr/share/man/man1/bedkeep.1"
     noted "$root/usr/share/doc/bedkeep/NOTICE"
+    echo 'On Debian these licenses are /usr/share/common-licenses/LGPL-2.1 and /usr/share/common-licenses/GPL-3.' >> "$root/usr/share/doc/bedkeep/NOTICE"
     (cd "$root/usr/share/doc/bedkeep" && cat LICENSE NOTICE > copyright && rm LICENSE NOTICE)
+    changed | gzip --no-name --best > "$root/usr/share/doc/bedkeep/changelog.gz"
     mkdir "$root/DEBIAN"
     (cd "$root" && find usr -type f | LC_ALL=C sort | xargs md5sum > DEBIAN/md5sums)
     cat > "$root/DEBIAN/control" << END
@@ -99,6 +117,14 @@ END
     dated "$root"
     dpkg-deb --root-owner-group -Zxz --threads-max=1 --build "$root" "build/bedkeep_${version}_amd64.deb" > /dev/null
     made+=("bedkeep_${version}_amd64.deb")
+    if command -v lintian > /dev/null; then
+        # The program is static, so that it needs nothing; all else that lintian says is to be mended.
+        said=$(lintian --allow-root "build/bedkeep_${version}_amd64.deb" | grep -v 'statically-linked-binary' || true)
+        if [ -n "$said" ]; then
+            echo "$said" >&2
+            exit 1
+        fi
+    fi
 fi
 
 (cd build && sha256sum "${made[@]}" > SHA256SUMS && cat SHA256SUMS)
