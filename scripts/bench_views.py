@@ -185,19 +185,48 @@ def digest_of(words, given):
 
 
 def measure(programs, runs):
-    """Seconds of each run, the programs taking turns, and the most bytes that each held."""
-    seconds, most = {name: [] for name in programs}, dict.fromkeys(programs, 0)
+    """Seconds of each run, the programs taking turns, and the most bytes that each held in one more run."""
+    seconds = {name: [] for name in programs}
     for _ in range(runs):
         for name, (words, given) in programs.items():
             with open(given, "rb") as standard_input:
                 begun = time.perf_counter()
                 running = subprocess.Popen(words, stdin=standard_input, stdout=subprocess.DEVNULL)
-                _, status, used = os.wait4(running.pid, 0)
+                status = running.wait()
                 seconds[name].append(time.perf_counter() - begun)
-            running.returncode = os.waitstatus_to_exitcode(status)
-            stop_unless_done(words, running.returncode)
-            most[name] = max(most[name], used.ru_maxrss * 1024)
-    return seconds, most
+            stop_unless_done(words, status)
+    return seconds, {name: most_held(*program) for name, program in programs.items()}
+
+
+def most_held(words, given):
+    """The most bytes that a run held, or of its processes the one that held the most. They are asked for while it runs: what
+    the system says of a process that has ended (ru_maxrss) counts what its parent held when it was begun."""
+    most = 0
+    with open(given, "rb") as standard_input:
+        running = subprocess.Popen(words, stdin=standard_input, stdout=subprocess.DEVNULL)
+        while running.poll() is None:
+            most = max(most, *map(held, family(running.pid)))
+            time.sleep(0.001)
+    stop_unless_done(words, running.returncode)
+    return most
+
+
+def family(process):
+    """A process and all that it began, as far as they are there."""
+    try:
+        with open(f"/proc/{process}/task/{process}/children") as file:
+            return [process, *(one for child in file.read().split() for one in family(int(child)))]
+    except OSError:
+        return [process]
+
+
+def held(process):
+    """The most bytes that a process has held up to now, since it runs the program that it runs; 0 if it has ended."""
+    try:
+        with open(f"/proc/{process}/status") as file:
+            return max((int(line.split()[1]) * 1024 for line in file if line.startswith("VmHWM:")), default=0)
+    except OSError:
+        return 0
 
 
 def stop_unless_done(words, status):
@@ -212,7 +241,7 @@ def report(view, records, columns, order, seconds, most):
     ours, theirs = (f"{milliseconds(min(runs))}, {milliseconds(statistics.median(runs))}" for runs in seconds.values())
     ratio = statistics.median(seconds["bedkeep"]) / statistics.median(seconds["bedtools"])
     print(f"| {view} | {records:,} | {columns} | {order} | {ours} | {theirs} | {ratio:.2f} "
-          f"| {most['bedkeep'] / records:.0f} | {most['bedtools'] / records:.0f} |", flush=True)
+          f"| {most['bedkeep'] / records:.0f} | {most['bedtools'] / records:.1f} |", flush=True)
 
 
 def milliseconds(value):

@@ -65,5 +65,5 @@ def rows():
         if words:
             last = "; of the operations of `-o`: " + ", ".join(f"`{operation}`" for operation in OPERATIONS) if subcommand == "merge" else ""
             yield [f"`{subcommand}`", ", ".join(words) + last]
-    yield ["all of them", ", ".join(f"`{option}`" for option in SHARED) + "; `-` and `stdin` for standard input"]
-    yield ["formats", "BED of 7 columns and more; GFF, VCF, BAM; compressed files; columns separated by spaces"]
+    yield ["all of them", ", ".join(f"`{option}`" for option in SHARED) + "; `-` and `stdin` for standard input, which is `/dev/stdin`"]
+    yield ["formats", "BED of 7 columns and more (`cut -f1-6`); GFF, VCF, BAM; compressed files (`zcat a.bed.gz`, and `-i /dev/stdin`); columns separated by spaces (`sed 's/  */\\t/g'`)"]

@@ -14,10 +14,11 @@ For users of bedtools: which command of bedkeep prints the rows that you know, w
 ## In short
 
 - Each subcommand of bedkeep needs `-g` with a genome file. Records needn't be sorted.
+- `-i -` and `-i stdin` become `-i /dev/stdin`. A second pipe is `<(..)`, the process substitution of bash. In a session the script is standard input, so `/dev/stdin` can't be a file there too.
 - Sequences come in the order of the genome file, and records by start, stop, name, score and strand. In bedtools most of that comes from the order of its input.
-- Apart from the order, both print the same rows for sound files, but for: blocks of `merge -s` that bedtools 2.30.0 prints in pieces ([strands apart](#strands-apart)); `merge -c` without `-o` ([operation left out](#operation-left-out)); `sum`, `min` and `max` over values that aren't whole numbers of up to ten digits ([dots](#dots) and the reasons after it); leading zeros of a position in a summary ([leading zeros](#leading-zeros)); and `subtract` past 2,147,483,647 ([far positions](#far-positions)).
+- Apart from the order, both print the same rows for sound files, except for: blocks of `merge -s` that bedtools 2.30.0 prints in pieces ([strands apart](#strands-apart)); `merge -c` without `-o` ([operation left out](#operation-left-out)); `sum`, `min` and `max` over values that aren't whole numbers of up to ten digits ([dots](#dots) and the reasons after it); leading zeros of a position in a summary ([leading zeros](#leading-zeros)); and `subtract` past 2,147,483,647 ([far positions](#far-positions)).
 - bedkeep takes some files that bedtools refuses or reads in another way: unsorted ones, BED files with empty lines or with a header line at their end, genome files with a heading or CR LF, FASTA files with lines of several lengths or CR LF.
-- bedkeep refuses some files that bedtools takes: with records of no base, past the end of their sequence or on an unknown one, with more than six columns, with other strands than `+`, `-` and `.`. It takes fewer options: see [What bedkeep doesn't have](#what-bedkeep-doesnt-have).
+- bedkeep refuses some files that bedtools takes: gzip files; records of no base, past the end of their sequence or on an unknown one, of more than six columns, with other strands than `+`, `-` and `.`, or with positions such as `8e02`; headings such as `chrom`, `start`, `end`; `track` or `browser` in capitals or before a TAB; lines that begin with `!` or `>`; FASTA lines that end in spaces. [FORMAT](FORMAT.md#what-a-message-means) says what to do about each. It takes fewer options: see [What bedkeep doesn't have](#what-bedkeep-doesnt-have).
 
 ## Cases
 
@@ -55,7 +56,7 @@ bedkeep refuses all of this, with a message and a status other than 0; it ignore
 """
 
 SESSIONS = """
-bedkeep has what bedtools hasn't: a [session](../README.md#a-session), in which the records of a file that was read once are corrected, and views of them are printed at once.
+bedtools has no [session](../README.md#a-minute-with-it), in which records are corrected and views of them printed at once.
 """
 
 COMPARED = """
@@ -72,5 +73,5 @@ Not compared:
 - `genomecov` and `getfasta` at the limits of length (up to 4,000,000,000), since bedtools takes memory for each base of a sequence and a FASTA file would be too long; `subtract` there with records longer than 1,000 bases, since bedtools goes over them base by base; `genomecov -d` on long sequences (150,000 to 300,000 bases).
 - `genomecov` with a record of an unknown sequence: bedtools 2.30.0 doesn't end then.
 - Large files: [BENCHMARKS](BENCHMARKS.md) has those, sorted and shuffled, with the same output from both.
-- Sessions. What a session prints after edits is what the subcommand prints for the corrected files; that is proved, see [README](../README.md#eight-promises).
+- Sessions. What a session prints after edits is what the subcommand prints for the corrected files; that is proved, see [PROMISES](PROMISES.md#a-print-is-exact).
 """
