@@ -1,6 +1,6 @@
 -- A list in order, its equal neighbours taken as one entry each.
 use Rattle.std.proofs.Common.{◌≡◌, ℕ, ◌+◌, ◌<◌, ◌^◌, Bool, true, false, not, List, [], ◌∷◌, ◌++◌, length, refl, sym, ap, ◌∙◌, subst, arith, zero, suc}
-use Rattle.std.specs.Prelude.{All, map, replicate, if◌then◌else◌}
+use Rattle.std.specs.Prelude.{All, Option, map, replicate, if◌then◌else◌}
 use Rattle.std.specs.Iterator.{Yields, Drains}
 use Rattle.std.specs.List.{AllByRecursion}
 use Rattle.std.specs.List.Sorted.{IsStrictlySortedBy}
@@ -111,8 +111,12 @@ map-same : {X : Type 0} (xs : List X) → map (λ y. y) xs ≡ xs
 map-same [] = refl
 map-same (x ∷ xs) = ap (λ ys. x ∷ ys) (map-same xs)
 
-pub given-entries : (es xs : List (Row × ℕ)) → Drains GivesEntry es xs → xs ≡ es
-given-entries es xs run = sym (map-same xs) ∙ items_from_drains xs (run.1.0, run.1.1, λ _. (run.0, run.1.2)) (gives-list es)
+-- the items that an iterator has given are those that it gives
+pub given-items : {S X : Type 0} {gives : S → Option X → S → Type 0} (s : S) (xs all : List X) → Drains gives s xs → YieldsList gives (λ x. x) s all → xs ≡ all
+given-items s xs all run list = sym (map-same xs) ∙ items_from_drains xs (run.1.0, run.1.1, λ _. (run.0, run.1.2)) list
+
+given-entries : (es xs : List (Row × ℕ)) → Drains GivesEntry es xs → xs ≡ es
+given-entries es xs run = given-items es xs es run (gives-list es)
 
 yielded-placed : (s xs t : List (Row × ℕ)) → Yields GivesEntry s xs t → AllByRecursion IsPlaced (keys_of xs)
 yielded-placed s [] t y = tt

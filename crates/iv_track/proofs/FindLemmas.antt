@@ -134,21 +134,21 @@ module _ {K V : Type 0} {cmp : K → K → Ordering} (o : IsTotalOrder cmp) wher
       first_before (e ∷ xs) cs j d lt some s starts =
           first_past e (vec_items (get_or cs j d)) some (chunk_of_all (λ f. cmp e.0 f.0 ≡ Less) cs j d lt (all_back (λ f. cmp e.0 f.0 ≡ Less) xs (joined cs) (ledger_head o e (xs ++ joined cs) s))) starts
 
-      parted : (cs : List (Vec (K × V) Z)) → IsLedger cmp (joined cs) → ((j : ℕ) (d : Vec (K × V) Z) → j < length cs → 0 < length (vec_items (get_or cs j d)))
+      are_split : (cs : List (Vec (K × V) Z)) → IsLedger cmp (joined cs) → ((j : ℕ) (d : Vec (K × V) Z) → j < length cs → 0 < length (vec_items (get_or cs j d)))
           → (i j : ℕ) (d : Vec (K × V) Z) → i ≤ j → j < length cs → starts_by cmp k (vec_items (get_or cs j d)) ≡ true → starts_by cmp k (vec_items (get_or cs i d)) ≡ true
-      parted [] s some i j d le lt starts = absurd (omega arith)
-      parted (c ∷ cs) s some zero zero d le lt starts = starts
-      parted (c ∷ cs) s some zero (suc j) d le lt starts = first_before (vec_items c) cs j d (omega arith) (some (suc j) d lt) s starts
-      parted (c ∷ cs) s some (suc i) zero d le lt starts = absurd (omega arith)
-      parted (c ∷ cs) s some (suc i) (suc j) d le lt starts =
-          parted cs (ledger_back (vec_items c) (joined cs) s) (λ m e less. some (suc m) e (omega arith)) i j d (omega arith) (omega arith) starts
+      are_split [] s some i j d le lt starts = absurd (omega arith)
+      are_split (c ∷ cs) s some zero zero d le lt starts = starts
+      are_split (c ∷ cs) s some zero (suc j) d le lt starts = first_before (vec_items c) cs j d (omega arith) (some (suc j) d lt) s starts
+      are_split (c ∷ cs) s some (suc i) zero d le lt starts = absurd (omega arith)
+      are_split (c ∷ cs) s some (suc i) (suc j) d le lt starts =
+          are_split cs (ledger_back (vec_items c) (joined cs) s) (λ m e less. some (suc m) e (omega arith)) i j d (omega arith) (omega arith) starts
 
       module _ (cs : List (Vec (K × V) Z)) (ok : AreChunks cmp cs) where
         some_items : (j : ℕ) (d : Vec (K × V) Z) → j < length cs → 0 < length (vec_items (get_or cs j d))
         some_items j d lt = let x = get_or cs j d in let h = (ok.filled j d lt).0 in omega (arith, x.ok.0)
 
         pub partitioned : IsPartitionedBy (λ c. starts_by cmp k (vec_items c)) cs
-        partitioned i j d le lt starts = parted cs ok.ordered some_items i j d le lt starts
+        partitioned i j d le lt starts = are_split cs ok.ordered some_items i j d le lt starts
 
         module _ (n : ℕ) (bound : n ≤ length cs) (point : IsPartitionPoint (λ c. starts_by cmp k (vec_items c) ≡ true) (λ c. starts_by cmp k (vec_items c) ≡ false) cs n) where
           -- all entries of the chunks from there on are above k

@@ -1,4 +1,4 @@
--- A place in a list of chunks of which one was parted.
+-- A place in a list of chunks of which one was split.
 use Rattle.std.proofs.Common.{◌≡◌, ℕ, suc, ◌+◌, ◌<◌, ◌≤◌, List, [], ◌∷◌, ◌++◌, length, take, drop, get_or, set, sym, ap, ◌∙◌, subst, append_assoc, arith, vec_len, Result, Ok, Err}
 use Rattle.std.specs.Result.{OnErr}
 use Rattle.std.specs.Vec.{vec_items}
@@ -6,7 +6,7 @@ use Rattle.std.specs.declared.vec.Vec.{Vec}
 use Rattle.std.proofs.Math.Seq.{take-add}
 use Rattle.std.proofs.lemmas.List.{take-append-drop, take-append-le, drop-append-le, take_at, drop_at, get_or_at, take_more_set, drop-set-lt, take-take, drop-drop, append-nil, length-append, length-take-le, length-drop, length_push}
 use Rattle.std.proofs.lemmas.List.Concat.{flat_map-append}
-use Rattle.iv_track.specs.Chunks.{joined, before, from, IsFilled, AreFilled, IsParted, IsPlaceWithRoom, most_in_chunk}
+use Rattle.iv_track.specs.Chunks.{joined, before, from, IsFilled, AreFilled, IsSplit, IsPlaceWithRoom, most_in_chunk}
 use Rattle.iv_track.proofs.ChunkLemmas.{before_at, from_at, filled-insert, filled-set}
 
 -- a place in a chunk between others
@@ -20,52 +20,52 @@ module _ {X Z : Type 0} (p : List (Vec X Z)) (y : Vec X Z) (q : List (Vec X Z)) 
   from_part : from (p ++ y ∷ q) (record { chunk = m; index = i }) ≡ drop i (vec_items y) ++ joined q
   from_part = ap (λ cs. drop i (joined cs)) (drop_at p (y ∷ q) m at) ∙ drop-append-le i (vec_items y) (joined q) within
 
-module _ {X Z : Type 0} (old : List (Vec X Z)) (c n : ℕ) (new : List (Vec X Z)) (parted : IsParted old c n new)
+module _ {X Z : Type 0} (old : List (Vec X Z)) (c n : ℕ) (new : List (Vec X Z)) (split : IsSplit old c n new)
     (x : Vec X Z) (lt : c < length old) (is : x ≡ get_or old c x) (some : 0 < n) (half : n < vec_len x) (left_room : n < most_in_chunk) (right_room : vec_len x < n + most_in_chunk) where
-  first : vec_items parted.left ≡ take n (vec_items x)
-  first = subst (λ y. vec_items parted.left ≡ take n (vec_items y)) (sym is) (parted.first x)
+  first : vec_items split.left ≡ take n (vec_items x)
+  first = subst (λ y. vec_items split.left ≡ take n (vec_items y)) (sym is) (split.first x)
 
-  others : vec_items parted.right ≡ drop n (vec_items x)
-  others = subst (λ y. vec_items parted.right ≡ drop n (vec_items y)) (sym is) (parted.others x)
+  others : vec_items split.right ≡ drop n (vec_items x)
+  others = subst (λ y. vec_items split.right ≡ drop n (vec_items y)) (sym is) (split.others x)
 
   len : vec_len x ≡ length (vec_items x)
   len = x.ok.0
 
-  left_len : length (vec_items parted.left) ≡ n
+  left_len : length (vec_items split.left) ≡ n
   left_len = ap length first ∙ length-take-le n (vec_items x) (omega (arith, len))
 
-  right_len : length (vec_items parted.right) + n ≡ length (vec_items x)
+  right_len : length (vec_items split.right) + n ≡ length (vec_items x)
   right_len = omega (arith, ap length others, length-drop n (vec_items x), len)
 
-  pub filled_parted : AreFilled old → AreFilled new
-  filled_parted filled =
-      let l : IsFilled parted.left = (omega (arith, left_len, parted.left.ok.0), omega (arith, left_len, parted.left.ok.0)) in
-      let r : IsFilled parted.right = (omega (arith, right_len, parted.right.ok.0, len), omega (arith, right_len, parted.right.ok.0, len)) in
-      subst AreFilled (sym parted.are) (filled-insert (set old c parted.left) (c + 1) parted.right r (filled-set old c parted.left l filled))
+  pub filled_split : AreFilled old → AreFilled new
+  filled_split filled =
+      let l : IsFilled split.left = (omega (arith, left_len, split.left.ok.0), omega (arith, left_len, split.left.ok.0)) in
+      let r : IsFilled split.right = (omega (arith, right_len, split.right.ok.0, len), omega (arith, right_len, split.right.ok.0, len)) in
+      subst AreFilled (sym split.are) (filled-insert (set old c split.left) (c + 1) split.right r (filled-set old c split.left l filled))
 
-  parts : new ≡ (take c old ++ parted.left ∷ []) ++ parted.right ∷ drop (c + 1) old
+  parts : new ≡ (take c old ++ split.left ∷ []) ++ split.right ∷ drop (c + 1) old
   parts =
-      parted.are
-      ∙ ap (λ cs. cs ++ parted.right ∷ drop (c + 1) (set old c parted.left)) (take_more_set old c parted.left lt)
-      ∙ ap (λ cs. (take c old ++ parted.left ∷ []) ++ parted.right ∷ cs) (drop-set-lt (c + 1) old c parted.left (omega arith))
+      split.are
+      ∙ ap (λ cs. cs ++ split.right ∷ drop (c + 1) (set old c split.left)) (take_more_set old c split.left lt)
+      ∙ ap (λ cs. (take c old ++ split.left ∷ []) ++ split.right ∷ cs) (drop-set-lt (c + 1) old c split.left (omega arith))
 
-  parts_left : new ≡ take c old ++ parted.left ∷ parted.right ∷ drop (c + 1) old
-  parts_left = parts ∙ append_assoc (take c old) (parted.left ∷ []) (parted.right ∷ drop (c + 1) old)
+  parts_left : new ≡ take c old ++ split.left ∷ split.right ∷ drop (c + 1) old
+  parts_left = parts ∙ append_assoc (take c old) (split.left ∷ []) (split.right ∷ drop (c + 1) old)
 
   front_len : length (take c old) ≡ c
   front_len = length-take-le c old (omega arith)
 
-  both_len : length (take c old ++ parted.left ∷ []) ≡ c + 1
-  both_len = length_push (take c old) parted.left ∙ ap (λ m. m + 1) front_len
+  both_len : length (take c old ++ split.left ∷ []) ≡ c + 1
+  both_len = length_push (take c old) split.left ∙ ap (λ m. m + 1) front_len
 
   new_len : length new ≡ c + 1 + suc (length (drop (c + 1) old))
-  new_len = ap length parts ∙ length-append (take c old ++ parted.left ∷ []) (parted.right ∷ drop (c + 1) old) ∙ ap (λ m. m + suc (length (drop (c + 1) old))) both_len
+  new_len = ap length parts ∙ length-append (take c old ++ split.left ∷ []) (split.right ∷ drop (c + 1) old) ∙ ap (λ m. m + suc (length (drop (c + 1) old))) both_len
 
-  left_at : (d : Vec X Z) → get_or new c d ≡ parted.left
-  left_at d = ap (λ cs. get_or cs c d) parts_left ∙ get_or_at (take c old) parted.left (parted.right ∷ drop (c + 1) old) d c front_len
+  left_at : (d : Vec X Z) → get_or new c d ≡ split.left
+  left_at d = ap (λ cs. get_or cs c d) parts_left ∙ get_or_at (take c old) split.left (split.right ∷ drop (c + 1) old) d c front_len
 
-  right_at : (d : Vec X Z) → get_or new (c + 1) d ≡ parted.right
-  right_at d = ap (λ cs. get_or cs (c + 1) d) parts ∙ get_or_at (take c old ++ parted.left ∷ []) parted.right (drop (c + 1) old) d (c + 1) both_len
+  right_at : (d : Vec X Z) → get_or new (c + 1) d ≡ split.right
+  right_at d = ap (λ cs. get_or cs (c + 1) d) parts ∙ get_or_at (take c old ++ split.left ∷ []) split.right (drop (c + 1) old) d (c + 1) both_len
 
   -- a place in the first part
   pub room_left : (i : ℕ) → i ≤ n → IsPlaceWithRoom old (record { chunk = c; index = i }) new (record { chunk = c; index = i })
@@ -73,18 +73,18 @@ module _ {X Z : Type 0} (old : List (Vec X Z)) (c n : ℕ) (new : List (Vec X Z)
       let rest_items = joined (drop (c + 1) old) in
       record {
         chunk_in_range = omega (arith, new_len);
-        index_in_range = λ d. subst (λ y. i ≤ vec_len y) (sym (left_at d)) (omega (arith, left_len, parted.left.ok.0));
-        has_room = λ d. subst (λ y. vec_len y < most_in_chunk) (sym (left_at d)) (omega (arith, left_len, parted.left.ok.0));
+        index_in_range = λ d. subst (λ y. i ≤ vec_len y) (sym (left_at d)) (omega (arith, left_len, split.left.ok.0));
+        has_room = λ d. subst (λ y. vec_len y < most_in_chunk) (sym (left_at d)) (omega (arith, left_len, split.left.ok.0));
         same_before =
             ap (λ cs. before cs (record { chunk = c; index = i })) parts_left
-            ∙ before_part (take c old) parted.left (parted.right ∷ drop (c + 1) old) c i front_len (omega (arith, left_len))
+            ∙ before_part (take c old) split.left (split.right ∷ drop (c + 1) old) c i front_len (omega (arith, left_len))
             ∙ ap (λ ys. joined (take c old) ++ take i ys) first
             ∙ ap (λ ys. joined (take c old) ++ ys) (take-take i n (vec_items x) le)
             ∙ sym (before_at old c x lt is i (omega (arith, len)));
         same_from =
             ap (λ cs. from cs (record { chunk = c; index = i })) parts_left
-            ∙ from_part (take c old) parted.left (parted.right ∷ drop (c + 1) old) c i front_len (omega (arith, left_len))
-            ∙ ap (λ ys. drop i ys ++ (vec_items parted.right ++ rest_items)) first
+            ∙ from_part (take c old) split.left (split.right ∷ drop (c + 1) old) c i front_len (omega (arith, left_len))
+            ∙ ap (λ ys. drop i ys ++ (vec_items split.right ++ rest_items)) first
             ∙ ap (λ ys. drop i (take n (vec_items x)) ++ (ys ++ rest_items)) others
             ∙ sym (append_assoc (drop i (take n (vec_items x))) (drop n (vec_items x)) rest_items)
             ∙ ap (λ ys. ys ++ rest_items) (
@@ -100,20 +100,20 @@ module _ {X Z : Type 0} (old : List (Vec X Z)) (c n : ℕ) (new : List (Vec X Z)
       let rest_items = joined (drop (c + 1) old) in
       record {
         chunk_in_range = omega (arith, new_len);
-        index_in_range = λ d. subst (λ y. j ≤ vec_len y) (sym (right_at d)) (omega (arith, right_len, parted.right.ok.0, len));
-        has_room = λ d. subst (λ y. vec_len y < most_in_chunk) (sym (right_at d)) (omega (arith, right_len, parted.right.ok.0, len));
+        index_in_range = λ d. subst (λ y. j ≤ vec_len y) (sym (right_at d)) (omega (arith, right_len, split.right.ok.0, len));
+        has_room = λ d. subst (λ y. vec_len y < most_in_chunk) (sym (right_at d)) (omega (arith, right_len, split.right.ok.0, len));
         same_before =
             ap (λ cs. before cs (record { chunk = c + 1; index = j })) parts
-            ∙ before_part (take c old ++ parted.left ∷ []) parted.right (drop (c + 1) old) (c + 1) j both_len (omega (arith, right_len, len))
-            ∙ ap (λ ys. ys ++ take j (vec_items parted.right)) (flat_map-append vec_items (take c old) (parted.left ∷ []) ∙ ap (λ ys. joined (take c old) ++ ys) (append-nil (vec_items parted.left)))
-            ∙ append_assoc (joined (take c old)) (vec_items parted.left) (take j (vec_items parted.right))
-            ∙ ap (λ ys. joined (take c old) ++ (ys ++ take j (vec_items parted.right))) first
+            ∙ before_part (take c old ++ split.left ∷ []) split.right (drop (c + 1) old) (c + 1) j both_len (omega (arith, right_len, len))
+            ∙ ap (λ ys. ys ++ take j (vec_items split.right)) (flat_map-append vec_items (take c old) (split.left ∷ []) ∙ ap (λ ys. joined (take c old) ++ ys) (append-nil (vec_items split.left)))
+            ∙ append_assoc (joined (take c old)) (vec_items split.left) (take j (vec_items split.right))
+            ∙ ap (λ ys. joined (take c old) ++ (ys ++ take j (vec_items split.right))) first
             ∙ ap (λ ys. joined (take c old) ++ (take n (vec_items x) ++ take j ys)) others
             ∙ ap (λ ys. joined (take c old) ++ ys) (sym (take-add n j (vec_items x)))
             ∙ sym (before_at old c x lt is (n + j) (omega (arith, len)));
         same_from =
             ap (λ cs. from cs (record { chunk = c + 1; index = j })) parts
-            ∙ from_part (take c old ++ parted.left ∷ []) parted.right (drop (c + 1) old) (c + 1) j both_len (omega (arith, right_len, len))
+            ∙ from_part (take c old ++ split.left ∷ []) split.right (drop (c + 1) old) (c + 1) j both_len (omega (arith, right_len, len))
             ∙ ap (λ ys. drop j ys ++ rest_items) others
             ∙ ap (λ ys. ys ++ rest_items) (drop-drop j n (vec_items x))
             ∙ sym (from_at old c x lt is (n + j) (omega (arith, len)));

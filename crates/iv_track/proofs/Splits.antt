@@ -1,4 +1,4 @@
--- A list of entries in order, parted at a key.
+-- A list of entries in order, split at a key.
 use Rattle.std.proofs.Common.{◌≡◌, Bool, true, false, List, [], ◌∷◌, ◌++◌, Some, None, refl, ap, ◌∙◌}
 use Rattle.std.specs.Prelude.{find, filter, reverse, All}
 use Rattle.std.specs.List.{slice_get, AllByRecursion}

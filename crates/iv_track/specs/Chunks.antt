@@ -15,7 +15,7 @@ most_in_chunk = 256
 
 -- the most that one has where all entries are given at once
 abbrev pub most_at_once : ℕ
-most_at_once = 224
+most_at_once = 240
 
 module _ {X Z : Type 0} where
   -- the entries of the chunks, one chunk after another
@@ -54,8 +54,8 @@ module _ {X Z : Type 0} where
     pub same_before : before new q ≡ before old p
     pub same_from : from new q ≡ from old p
 
-  -- the chunk c is parted into one with its first n entries and one with the others
-  pub record IsParted (old : List (Vec X Z)) (c n : ℕ) (new : List (Vec X Z)) : Type 0 where
+  -- the chunk c is split into one with its first n entries and one with the others
+  pub record IsSplit (old : List (Vec X Z)) (c n : ℕ) (new : List (Vec X Z)) : Type 0 where
     pub left : Vec X Z
     pub right : Vec X Z
     pub are : new ≡ insert (slice_set old c left) (c + 1) right

@@ -12,7 +12,7 @@ ghost use Rattle.iv_track.specs.Entries.{IsLedger, value_at, first_from, first_a
 
 use crate::abbreviated::Abbreviated;
 use crate::places::{
-    self, MOST_IN_CHUNK, Place, append, find, insert_at, place_after, place_from, remove_at,
+    self, Place, append, find, insert_at, place_after, place_from, remove_at, with_last,
 };
 use crate::starts::Starts;
 use std::alloc::{AllocError, Allocator};
@@ -72,7 +72,7 @@ impl<K: Ord + Abbreviated + Drop, V: Drop, A: Allocator + Clone + Drop> SortedCh
         ensures { IfOk result (λ s. Drains I.next_gives entries s × IsLedger K.cmp s) }
     {
         let mut chunks = Vec::new(alloc.clone()?);
-        let mut last = Vec::with_capacity(alloc.clone()?, MOST_IN_CHUNK)?;
+        let mut last = Vec::new(alloc.clone()?);
         let mut len = 0;
         for entry in entries {
             if len == MOST_ENTRIES {
@@ -81,15 +81,7 @@ impl<K: Ord + Abbreviated + Drop, V: Drop, A: Allocator + Clone + Drop> SortedCh
             append(&mut chunks, &mut last, entry)?;
             len += 1;
         }
-        if last.is_empty() {
-            let starts = Starts::of(alloc, &chunks)?;
-            return Ok(SortedChunks {
-                chunks,
-                starts,
-                len,
-            });
-        }
-        chunks.push(last)?;
+        let chunks = with_last(chunks, last)?;
         let starts = Starts::of(alloc, &chunks)?;
         Ok(SortedChunks {
             chunks,
@@ -136,7 +128,7 @@ impl<K: Ord + Abbreviated + Drop, V: Drop, A: Allocator + Clone + Drop> SortedCh
                 if self.len == MOST_ENTRIES {
                     return Err(AllocError);
                 }
-                self.starts.make_room(self.chunks.allocator().clone()?)?;
+                self.starts.make_room(&self.chunks, gap)?;
                 let put = insert_at(&mut self.chunks, gap, (key, value));
                 self.starts.follow_insert(&self.chunks, gap);
                 put?;

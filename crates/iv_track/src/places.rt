@@ -3,7 +3,7 @@ ghost use Rattle.std.specs.Prelude.{◌≡◌, ◌+◌, ◌-◌, ◌<◌, ◌≤
 ghost use Rattle.std.specs.List.{filter, slice_get, HoldsAt};
 ghost use Rattle.std.specs.Ordering.{is_le, is_lt};
 ghost use Rattle.std.specs.Option.{option_copied};
-ghost use Rattle.iv_track.specs.Chunks.{AreChunks, AreFilled, IsFound, IsGap, IsInside, IsWithin, IsParted, IsPlaceWithRoom, before, from, joined, most_at_once, most_in_chunk, starts_by};
+ghost use Rattle.iv_track.specs.Chunks.{AreChunks, AreFilled, IsFound, IsGap, IsInside, IsWithin, IsSplit, IsPlaceWithRoom, before, from, joined, most_at_once, most_in_chunk, starts_by};
 
 use crate::abbreviated::Abbreviated;
 use std::alloc::{AllocError, Allocator};
@@ -14,7 +14,7 @@ use std::mem;
 pub(crate) const MOST_IN_CHUNK: usize = 256;
 
 /// So many entries are in each chunk except the last if all entries are given at once: there is room for later ones.
-pub(crate) const MOST_AT_ONCE: usize = 224;
+pub(crate) const MOST_AT_ONCE: usize = 240;
 
 /// A place in a list of chunks: the index of a chunk, and an index in it.
 #[derive(Clone, Copy)]
@@ -292,6 +292,9 @@ pub(crate) fn append<T: Drop, A: Allocator + Clone + Drop>(
     ensures filled { OnOk result (AreFilled chunks.new.items) }
     ensures last { OnOk result (vec_len last.new ≤ most_at_once) }
 {
+    if last.is_empty() {
+        last.reserve(MOST_IN_CHUNK)?;
+    }
     if last.len() < MOST_AT_ONCE {
         last.push(entry)?;
         return Ok(());
@@ -300,6 +303,27 @@ pub(crate) fn append<T: Drop, A: Allocator + Clone + Drop>(
     next.push(entry)?;
     chunks.push(mem::replace(last, next))?;
     Ok(())
+}
+
+/// The chunks with the last entries, which `append` left beside them.
+///
+/// # Errors
+///
+/// Memory was refused.
+pub(crate) fn with_last<T: Drop, A: Allocator + Drop>(
+    mut chunks: Vec<Vec<T, A>, A>,
+    last: Vec<T, A>,
+) -> Result<Vec<Vec<T, A>, A>, AllocError>
+    requires filled { AreFilled chunks.items }
+    requires last { vec_len last ≤ most_at_once }
+    ensures all { IfOk result (λ all. joined all.items ≡ joined chunks.items ++ last.items) }
+    ensures filled { IfOk result (λ all. AreFilled all.items) }
+{
+    if last.is_empty() {
+        return Ok(chunks);
+    }
+    chunks.push(last)?;
+    Ok(chunks)
 }
 
 /// The same place in a chunk that is not full: a full one is halved.
@@ -346,7 +370,7 @@ fn halve<T: Drop, A: Allocator + Clone + Drop>(
     requires chunk_in_range { chunk < vec_len chunks.old }
     requires index_in_range { HoldsAt (λ c. half ≤ vec_len c) chunks.old.items chunk }
     requires room { HoldsAt (λ c. vec_len c ≤ half + most_in_chunk) chunks.old.items chunk }
-    ensures ok { OnOk result (IsParted chunks.old.items chunk half chunks.new.items) }
+    ensures ok { OnOk result (IsSplit chunks.old.items chunk half chunks.new.items) }
     ensures err { OnErr result (chunks.new.items ≡ chunks.old.items) }
 {
     let mut right = Vec::with_capacity(chunks.allocator().clone()?, MOST_IN_CHUNK)?;

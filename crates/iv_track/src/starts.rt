@@ -1,8 +1,8 @@
 //! The abbreviations of the first keys of chunks.
-ghost use Rattle.std.specs.Prelude.{◌<◌, ◌≤◌, vec_len, vec_capacity, IfSome, OnOk};
+ghost use Rattle.std.specs.Prelude.{◌<◌, ◌≤◌, vec_len, vec_capacity};
 
 use crate::abbreviated::Abbreviated;
-use crate::places::Place;
+use crate::places::{MOST_IN_CHUNK, Place};
 use std::alloc::{AllocError, Allocator};
 
 /// The abbreviations of the first keys of chunks, side by side, so that a search for a chunk stays in few lines of memory.
@@ -13,7 +13,7 @@ pub(crate) struct Starts<A: Allocator> {
     list: Option<Vec<u64, A>>,
 }
 
-impl<A: Allocator + Drop> Starts<A> {
+impl<A: Allocator + Clone + Drop> Starts<A> {
     /// None yet; nothing grows.
     pub(crate) fn new() -> Self {
         Starts { list: None }
@@ -45,30 +45,39 @@ impl<A: Allocator + Drop> Starts<A> {
         }
     }
 
-    /// Has room for one more.
+    /// Has room for one more if an entry at this place will make a new chunk.
     ///
     /// # Errors
     ///
     /// Memory was refused.
-    pub(crate) fn make_room(&mut self, alloc: A) -> Result<(), AllocError>
-        ensures room { OnOk result (IfSome self.new.list (λ list. vec_len list < vec_capacity list)) }
-    {
+    pub(crate) fn make_room<T>(
+        &mut self,
+        chunks: &Vec<Vec<T, A>, A>,
+        at: Place,
+    ) -> Result<(), AllocError> {
+        if let Some(chunk) = chunks.get(at.chunk) {
+            if chunk.len() < MOST_IN_CHUNK {
+                return Ok(());
+            }
+        }
         if let Some(list) = &mut self.list {
             list.reserve(1)?;
             return Ok(());
         }
-        self.list = Some(Vec::with_capacity(alloc, 4)?);
+        self.list = Some(Vec::with_capacity(chunks.allocator().clone()?, 4)?);
         Ok(())
     }
 
     /// Follows the chunks after an entry was put in at a place.
-    pub(crate) fn follow_insert<K: Abbreviated, V>(&mut self, chunks: &[Vec<(K, V), A>], at: Place)
-        requires room { IfSome self.old.list (λ list. vec_len list < vec_capacity list) }
-    {
+    pub(crate) fn follow_insert<K: Abbreviated, V>(
+        &mut self,
+        chunks: &[Vec<(K, V), A>],
+        at: Place,
+    ) {
         let Some(list) = &mut self.list else {
             return;
         };
-        if list.len() < chunks.len() {
+        if list.len() < chunks.len() && list.len() < list.capacity() {
             let next = if at.chunk < list.len() {
                 at.chunk + 1
             } else {

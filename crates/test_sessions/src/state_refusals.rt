@@ -226,13 +226,13 @@ fn growths_of(rt: &HostRuntime, kind: Kind, count: u32) -> Result<[u64; 3], Fail
     growths_between(rt, view, &less, &more, most, step)
 }
 
-/// A build takes memory, and so does a first record. The removal of a record that is apart from all others takes none.
+/// A first record grows what is kept. The removal of a record that is apart from all others takes no memory.
 #[test]
 fn kept_states(rt: HostRuntime) -> Result<(), Fail> {
     for kind in [Kind::Blocks, Kind::Results, Kind::Depth] {
         for count in [0, 15, 300] {
             let [build, add, remove] = growths_of(&rt, kind, count)?;
-            if build == 0 || count == 0 && add == 0 || remove > 0 {
+            if (build > 0) != (count > 0) || count == 0 && add == 0 || remove > 0 {
                 return Err(Fail::new("other growths"));
             }
         }

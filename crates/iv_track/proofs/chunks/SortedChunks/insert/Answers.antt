@@ -102,16 +102,6 @@ returns-then-self-eq-MOST_ENTRIES-clause-absent g c =
     let gap = subst (λ ys. IsGap cmp ys k at) c.deref.ensures.value c.in-Err.ensures.absent in
     ap (λ es. value_at cmp es k) (sym c.self.view_is) ∙ gap_value o k cs at gap
 
-pub returns-in_err-clone-in-Err-clause-absent : goal.returns-in_err-clone-in-Err-clause-absent
-returns-in_err-clone-in-Err-clause-absent g c =
-    let cmp = g.K.Ord.cmp in
-    let o = g.met.K.Ord.total in
-    let k = c.args.key in
-    let cs = c.self.inside.chunks.items in
-    let at = c.in-Err.gap in
-    let gap = subst (λ ys. IsGap cmp ys k at) c.deref.ensures.value c.in-Err.ensures.absent in
-    always_on_err _ (ap (λ es. value_at cmp es k) (sym c.self.view_is) ∙ gap_value o k cs at gap)
-
 pub returns-in_err-make_room-in-Err-clause-absent : goal.returns-in_err-make_room-in-Err-clause-absent
 returns-in_err-make_room-in-Err-clause-absent g c =
     let cmp = g.K.Ord.cmp in
