@@ -1,9 +1,11 @@
 //! Net changes of depth, from where the records of a track start and stop.
 ghost use Rattle.std.specs.Prelude.{◌≡◌, [], IfOk, MatchOption};
 ghost use Rattle.std.specs.Iterator.{at_most};
+ghost use Rattle.std.specs.List.Sorted.{IsPermutation};
 ghost use Rattle.iv_depth.specs.NetChanges.{AreEdgesOf, GivesChange, IsLeast, key_of, place_of};
 
 use crate::edges::pass;
+use iv_index::order_nearly;
 use iv_track::{Meter, Track};
 use std::alloc::{AllocError, Allocator};
 use std::marker::Model;
@@ -13,7 +15,7 @@ const POSITIONS: u64 = 1 << 32;
 
 /// Where the records of a track start and where they stop, as keys from the least to the greatest.
 ///
-/// Starts come in the track's order, which their sort only looks at.
+/// Starts come in the track's order, which their sort only looks at, and stops mostly a few places from their own.
 pub(crate) fn edges_of<A: Allocator + Copy>(
     alloc: A,
     track: &Track<A>,
@@ -32,8 +34,16 @@ pub(crate) fn edges_of<A: Allocator + Copy>(
         stops.push(packed(row.seq(), row.stop() as u32))?;
     }
     starts.sort_unstable();
+    order_neighbors(&mut stops);
     stops.sort_unstable();
     Ok((starts, stops))
+}
+
+/// Moves keys past a few neighbors that belong after them.
+fn order_neighbors<A: Allocator>(keys: &mut Vec<u64, A>)
+    ensures { IsPermutation keys.old.items keys.new.items }
+{
+    order_nearly(keys.as_mut_slice(), |before, here| *before > *here);
 }
 
 /// A place as one number: keys ascend as places do, and sort faster.

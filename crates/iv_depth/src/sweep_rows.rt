@@ -11,7 +11,7 @@ use crate::depth_rows::DepthRows;
 use crate::edges::Edges;
 use crate::printing::put_sequence;
 use iv_bytes::{Sink, WriteFault};
-use iv_index::{Span, split_sequence};
+use iv_index::{Span, order_nearly, split_sequence};
 use iv_text::Genome;
 use std::alloc::Allocator;
 
@@ -53,5 +53,6 @@ fn write_stops(spans: &[Span], stops: &mut [u32])
     for index in 0..spans.len() {
         stops[index] = spans[index].stop;
     }
+    order_nearly(stops, |before, here| *before > *here);
     stops.sort_unstable();
 }

@@ -8,7 +8,7 @@ ghost use Rattle.iv_index.specs.Cover.{AreApart, is_covered};
 ghost use Rattle.iv_index.specs.Places.{bare};
 
 use crate::join::join_places;
-use crate::order::{are_in_order, compare, order_nearly};
+use crate::order::{are_in_order, compare, order_places};
 use crate::place::Place;
 use crate::text_draft::TextDraft;
 use crate::text_records::TextRecords;
@@ -120,7 +120,7 @@ impl<'t, A: Allocator + Copy> BedText<'t, A> {
         if are_in_order(text, width, &self.places) {
             return Ok(());
         }
-        order_nearly(alloc, text, width, &mut self.places)?;
+        order_places(alloc, text, width, &mut self.places)?;
         self.places
             .sort_unstable_by(|first, second| compare(text, width, first, second));
         Ok(())

@@ -4,6 +4,7 @@
 mod bed_text;
 mod heads;
 mod join;
+mod nearly;
 mod optional_columns;
 mod order;
 mod place;
@@ -16,6 +17,7 @@ mod text_record;
 mod text_records;
 
 pub use bed_text::BedText;
+pub use nearly::order_nearly;
 pub use place::Place;
 pub use span::Span;
 pub use span_sequence::split_sequence;

@@ -1,5 +1,5 @@
 //! The order of a track among places of a text.
-ghost use Rattle.std.specs.Prelude.{◌≡◌, ◌<◌, ◌↔◌, IsTrue, length};
+ghost use Rattle.std.specs.Prelude.{◌≡◌, ◌↔◌, IsTrue};
 ghost use Rattle.std.specs.List.Sorted.{IsPermutation};
 ghost use Rattle.std.specs.Cmp.Lexicographic.{slice_cmp};
 ghost use Rattle.std.specs.Option.{option_cmp};
@@ -9,6 +9,7 @@ ghost use Rattle.iv_index.specs.Drafts.{AreInOrder};
 ghost use Rattle.iv_index.specs.Places.{row_at};
 
 use crate::heads::sort_by_heads;
+use crate::nearly::order_nearly;
 use crate::optional_columns::{OptionalColumns, optional_columns_of};
 use crate::place::Place;
 use std::alloc::{AllocError, Allocator};
@@ -66,9 +67,6 @@ pub(crate) fn are_in_order(text: &[u8], width: u8, places: &[Place]) -> bool
     places.is_sorted_by(|first, second| !compare(text, width, second, first).is_lt())
 }
 
-/// The most places that one is moved past.
-const MOST_MOVES: usize = 16;
-
 /// Brings places into the order of a track, or near to it: what is left to a sort is mostly to see that they are in order.
 ///
 /// Records of one place are the slow part of a sort, since each comparison cuts two lines. A few of them are moved past each
@@ -77,7 +75,7 @@ const MOST_MOVES: usize = 16;
 /// # Errors
 ///
 /// Memory was refused.
-pub(crate) fn order_nearly<A: Allocator + Copy>(
+pub(crate) fn order_places<A: Allocator + Copy>(
     alloc: A,
     text: &[u8],
     width: u8,
@@ -97,40 +95,17 @@ pub(crate) fn order_nearly<A: Allocator + Copy>(
 }
 
 /// Moves each place past a few others of its start that belong after it. So files that are in order but for records of
-/// one start, as most tools leave them, are then in the order of a track. It stops where there are more than a few, and says
+/// one start, as most tools leave them, are then in the order of a track. It stops if there are more than a few, and says
 /// whether it came to the end.
 fn order_ties<A: Allocator>(text: &[u8], width: u8, places: &mut Vec<Place, A>) -> bool
     ensures { IsPermutation places.old.items places.new.items }
 {
-    for index in 1..places.len() {
-        if !move_forward(text, width, places, index) {
-            return false;
-        }
-    }
-    true
-}
-
-/// Moves the place at an index past a few others of its start that belong after it, and says whether that was enough.
-fn move_forward<A: Allocator>(
-    text: &[u8],
-    width: u8,
-    places: &mut Vec<Place, A>,
-    index: usize,
-) -> bool
-    requires { index < length places.old.items }
-    ensures { IsPermutation places.old.items places.new.items }
-{
-    let mut at = index;
-    while at > 0 && index - at < MOST_MOVES {
-        let (before, here) = (places[at - 1], places[at]);
-        if before.seq != here.seq || before.start != here.start {
-            return true;
-        }
-        if compare(text, width, &before, &here) != Ordering::Greater {
-            return true;
-        }
-        places.swap(at - 1, at);
-        at -= 1;
-    }
-    index - at < MOST_MOVES
+    order_nearly(
+        places.as_mut_slice(),
+        |before: &Place, here: &Place| -> bool {
+            before.seq == here.seq
+                && before.start == here.start
+                && compare(text, width, before, here).is_gt()
+        },
+    )
 }

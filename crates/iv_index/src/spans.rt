@@ -6,7 +6,7 @@ ghost use Rattle.iv_text.specs.declared.fault.LoadCause.TheVariants as cause;
 ghost use Rattle.iv_index.specs.Spans.{bare_bed_of, span_rows};
 
 use crate::span::Span;
-use crate::span_order::{are_in_order, compare_spans, order_nearly};
+use crate::span_order::{are_in_order, compare_spans, order_neighbors};
 use iv_text::{Genome, KeptDraft, LoadFault};
 use std::alloc::{Allocator, Global};
 use std::marker::Model;
@@ -84,7 +84,7 @@ impl<A: Allocator + Copy> Spans<A> {
         if are_in_order(&self.spans) {
             return;
         }
-        order_nearly(&mut self.spans);
+        order_neighbors(&mut self.spans);
         self.spans
             .sort_unstable_by(|first, second| compare_spans(first, second));
     }

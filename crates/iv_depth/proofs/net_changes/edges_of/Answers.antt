@@ -1,4 +1,5 @@
 use Rattle.std.proofs.Common.{◌∙◌, ℕ, ◌∷◌, sym, ap}
+use Rattle.std.proofs.lemmas.List.Sorted.{IsPermutation-trans}
 use Rattle.iv_text.specs.Row.{Row}
 use Rattle.iv_track.proofs.WalkLemmas.{filter-from_first}
 use Rattle.iv_depth.specs.NetChanges.{key_of}
@@ -22,4 +23,4 @@ pub returns : goal.returns
 returns g c =
     gathered-all c.args.track.now.rows c.loop-row.rows c.loop-row.starts.items c.loop-row.stops.items c.sort_unstable.new.self.items c.sort_unstable-2.new.self.items
     c.in_default.ensures.row.0 c.loop-row.invariant
-    c.sort_unstable.ensures.permutation c.sort_unstable.ensures.sorted c.sort_unstable-2.ensures.permutation c.sort_unstable-2.ensures.sorted
+    c.sort_unstable.ensures.permutation c.sort_unstable.ensures.sorted (IsPermutation-trans _ _ _ c.order_neighbors.ensures c.sort_unstable-2.ensures.permutation) c.sort_unstable-2.ensures.sorted

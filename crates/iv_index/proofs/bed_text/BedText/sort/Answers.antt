@@ -18,13 +18,13 @@ invariant_of-self g c =
     record {
       low = s.low;
       high = s.high;
-      some = All-permutation HasBase c.self.inside.places.items c.order_nearly.new.places.items c.order_nearly.ensures s.some;
+      some = All-permutation HasBase c.self.inside.places.items c.order_places.new.places.items c.order_places.ensures s.some;
     }
 
 pub invariant_of-self-2 : goal.invariant_of-self-2
 invariant_of-self-2 g c =
     let s = c.self.invariant in
-    let moved = IsPermutation-trans c.self.inside.places.items c.order_nearly.new.places.items c.sort_unstable_by.new.self.items c.order_nearly.ensures c.sort_unstable_by.ensures.permutation in
+    let moved = IsPermutation-trans c.self.inside.places.items c.order_places.new.places.items c.sort_unstable_by.new.self.items c.order_places.ensures c.sort_unstable_by.ensures.permutation in
     record {
       low = s.low;
       high = s.high;
@@ -45,7 +45,7 @@ pub returns : goal.returns
 returns g c =
     let w = c.self.inside.width in
     let text = c.self.inside.text.now in
-    let moved = IsPermutation-trans c.self.inside.places.items c.order_nearly.new.places.items c.sort_unstable_by.new.self.items c.order_nearly.ensures c.sort_unstable_by.ensures.permutation in
+    let moved = IsPermutation-trans c.self.inside.places.items c.order_places.new.places.items c.sort_unstable_by.new.self.items c.order_places.ensures c.sort_unstable_by.ensures.permutation in
     let with_rows : List Row → Bed = λ rows. record { width = w; rows = rows } in
     let in_order : Bed → Bed = λ b. record { width = b.width; rows = ordered b.rows } in
     ap with_rows (sorted-rows (row_at w text) none c.self.inside.places.items c.sort_unstable_by.new.self.items moved

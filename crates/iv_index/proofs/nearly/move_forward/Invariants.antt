@@ -1,11 +1,11 @@
 use Rattle.std.proofs.Common.{◌≡◌, ◌≤◌, length}
 use Rattle.std.specs.List.Sorted.{IsPermutation}
-use Rattle.iv_index.proofs.order.move_forward.Given as goal
+use Rattle.iv_index.proofs.nearly.move_forward.Given as goal
 
 abbrev pub invariant-loop-at : goal.invariant-loop-at
 invariant-loop-at g l = record {
-  permutation : IsPermutation l.fn.places.items l.places.items;
-  len : length l.places.items ≡ length l.fn.places.items;
+  permutation : IsPermutation l.fn.items l.items;
+  len : length l.items ≡ length l.fn.items;
   within : l.at ≤ l.index;
 }
 

@@ -1,0 +1,44 @@
+//! Items that are in order, but for a few.
+ghost use Rattle.std.specs.Prelude.{◌≡◌, ◌<◌, length};
+ghost use Rattle.std.specs.List.Sorted.{IsPermutation};
+
+/// The most items that one is moved past.
+const MOST_MOVES: usize = 16;
+
+/// Moves each item past a few before it that belong after it, and says whether it came to the end. It stops at an item that belongs
+/// past more.
+///
+/// What is in order but for a few neighbours, as most tools leave it, is then in order, and a sort only looks at it.
+pub fn order_nearly<T: Copy, F: Fn(&T, &T) -> bool>(items: &mut [T], belongs_after: F) -> bool
+    requires { F.IsAlwaysCallable belongs_after }
+    ensures permutation { IsPermutation items.old items.new }
+    ensures len { length items.new ≡ length items.old }
+{
+    for index in 1..items.len() {
+        if !move_forward(items, index, &belongs_after) {
+            return false;
+        }
+    }
+    true
+}
+
+/// Moves the item at an index past a few before it that belong after it, and says whether that was enough.
+fn move_forward<T: Copy, F: Fn(&T, &T) -> bool>(
+    items: &mut [T],
+    index: usize,
+    belongs_after: &F,
+) -> bool
+    requires in_range { index < length items.old }
+    requires callable { F.IsAlwaysCallable belongs_after.now }
+    ensures { IsPermutation items.old items.new }
+{
+    let mut at = index;
+    while at > 0 && index - at < MOST_MOVES {
+        if !belongs_after(&items[at - 1], &items[at]) {
+            return true;
+        }
+        items.swap(at - 1, at);
+        at -= 1;
+    }
+    index - at < MOST_MOVES
+}
