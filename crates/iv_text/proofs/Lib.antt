@@ -6,6 +6,7 @@ pub mod LengthLemmas
 pub mod ReadLemmas
 pub mod FileLemmas
 pub mod FileLawLemmas
+pub mod DigitLemmas
 pub mod OnePassLemmas
 pub mod ShortLemmas
 pub mod BedLemmas

@@ -77,6 +77,7 @@ impl<K: FromRecord<A>, A: Allocator + Copy> KeptLines<K, A> {
 
     /// Takes the first line of a text where a width is known, the reader reads the line in one pass, and the place of its record is
     /// all that is kept of it, and answers the line's size.
+    #[inline(always)]
     fn take_short(
         &mut self,
         alloc: A,

@@ -1,5 +1,5 @@
 //! Records read line after line.
-ghost use Rattle.std.specs.Prelude.{◌≡◌, ◌≤◌, ◌++◌, None, Some, Ok, IfOk, IfSome};
+ghost use Rattle.std.specs.Prelude.{◌≡◌, ℕ, ◌+◌, ◌/◌, ◌%◌, ◌^◌, ◌<◌, ◌≤◌, ◌++◌, None, Some, Ok, IfOk, IfSome, length, slice_index};
 ghost use Rattle.iv_text.specs.Fields.{columns as columns_of};
 ghost use Rattle.iv_text.specs.Genome.{rank_of};
 ghost use Rattle.iv_text.specs.Read.{read, column, Fits};
@@ -71,11 +71,37 @@ impl<'g, 't, A: Allocator> Model for RecordReader<'g, 't, A> {
     ghost invariant = { λ r. IfSome r.before (λ b. IsNamed r.genome.now b.name.now b.rank b.length) };
 }
 
+/// The four bytes from this place on as one number, the first one lowest.
+#[inline(always)]
+fn word_at(text: &[u8], at: usize) -> u32
+    requires { at + 4 ≤ length text.now }
+    ensures { (k : ℕ) → k < 4 → slice_index text.now (at + k) ≡ result / 256 ^ k % 256 }
+{
+    u32::from_le_bytes([text[at], text[at + 1], text[at + 2], text[at + 3]])
+}
+
 /// What is after a name that a line begins with.
+///
+/// A name of 4 to 8 bytes, as most are, is compared without a call: its first four bytes, and its last four.
+#[inline(always)]
 fn after_name<'t>(line: &'t [u8], name: &[u8]) -> Option<&'t [u8]>
     ensures { IfSome result (λ rest. line.now ≡ name.now ++ rest.now) }
 {
-    line.strip_prefix(name)
+    let size = name.len();
+    if size < 4 || size > 8 || line.len() < size {
+        return line.strip_prefix(name);
+    }
+    let begins = word_at(line, 0);
+    let begin = word_at(name, 0);
+    if begins != begin {
+        return None;
+    }
+    let ends = word_at(line, size - 4);
+    let end = word_at(name, size - 4);
+    if ends != end {
+        return None;
+    }
+    Some(&line[size..])
 }
 
 /// The sequence that a line names, whose rank is known. `None` where the name holds a LF, or is a header by itself.
@@ -109,6 +135,7 @@ impl<'g, 't, A: Allocator + Copy> RecordReader<'g, 't, A> {
     /// The three columns that a text begins with, where they name the sequence of the line before and lie on it.
     ///
     /// `None` says nothing.
+    #[inline(always)]
     fn split_place<'a>(&self, text: &'a [u8]) -> Option<Front<'a>>
         ensures { IfSome result (λ f. BeginsWithPlace self.now text.now f.rank f.start f.stop f.rest.now) }
     {
@@ -133,6 +160,7 @@ impl<'g, 't, A: Allocator + Copy> RecordReader<'g, 't, A> {
     /// that ends at a LF: read in one pass, which finds the line's end too.
     ///
     /// `None` says nothing: [`read`](Self::read) answers for every line.
+    #[inline(always)]
     pub fn read_short(&self, width: u8, text: &[u8]) -> Option<ShortLine>
         requires { (3 ≤ width) × (width ≤ 6) }
         ensures { IfSome result (λ l. IsShortLine self.now width text.now l) }

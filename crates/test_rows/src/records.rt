@@ -216,6 +216,142 @@ fn short_lines_with_cells(rt: HostRuntime) -> Result<(), Fail> {
     Ok(())
 }
 
+/// The pieces one after another.
+fn joined(rt: &HostRuntime, pieces: &[&[u8]]) -> Result<Vec<u8>, Fail> {
+    let mut text = Vec::new(rt.alloc());
+    for piece in pieces {
+        text.extend_from_slice(piece)?;
+    }
+    Ok(text)
+}
+
+/// Start, stop and size of the line that a text begins with, if it is known at once after another line of the same sequence.
+fn short_after(
+    genome: &Genome,
+    before: &[u8],
+    text: &[u8],
+) -> Result<Option<(u32, u32, usize)>, Fail> {
+    let mut reader = RecordReader::new(genome);
+    reader.read(3, before)?;
+    let line = reader.read_short(3, text);
+    Ok(line.map(|line| (line.start, line.stop, line.size)))
+}
+
+/// Whether a line of these columns, with this text after it, is known at once as a record from the start to the stop, or is not.
+fn is_known(
+    rt: &HostRuntime,
+    columns: [&[u8]; 3],
+    after: &[u8],
+    want: Option<(u32, u32)>,
+) -> Result<bool, Fail> {
+    let [name, start, stop] = columns;
+    let genome = Genome::parse(
+        rt.alloc(),
+        joined(rt, &[name, b"\t4000000000\n"])?.as_slice(),
+    )?;
+    let before = joined(rt, &[name, b"\t1\t2"])?;
+    let line = joined(rt, &[name, b"\t", start, b"\t", stop, b"\n"])?;
+    let text = joined(rt, &[line.as_slice(), after])?;
+    let want = want.map(|(start, stop)| (start, stop, line.len()));
+    Ok(short_after(&genome, before.as_slice(), text.as_slice())? == want)
+}
+
+/// The same with the end of the text at each of the next bytes.
+fn is_known_before(
+    rt: &HostRuntime,
+    columns: [&[u8]; 3],
+    want: Option<(u32, u32)>,
+) -> Result<bool, Fail> {
+    let after = b"1234567890123456".as_slice();
+    for size in 0..=after.len() {
+        if !is_known(rt, columns, &after[..size], want)? {
+            return Ok(false);
+        }
+    }
+    Ok(true)
+}
+
+/// Names of each length up to 10.
+fn have_names(rt: &HostRuntime) -> Result<bool, Fail> {
+    let letters = b"scaffold_9".as_slice();
+    for size in 1..=letters.len() {
+        if !is_known_before(rt, [&letters[..size], b"7", b"8"], Some((7, 8)))? {
+            return Ok(false);
+        }
+    }
+    Ok(true)
+}
+
+/// Positions of 1 to 10 digits; 11 digits, and a byte that is no digit at each place, aren't known.
+fn have_numbers(rt: &HostRuntime) -> Result<bool, Fail> {
+    for (start, stop, want) in [
+        (b"1".as_slice(), b"39".as_slice(), Some((1, 39))),
+        (b"12", b"398", Some((12, 398))),
+        (b"123", b"3987", Some((123, 3_987))),
+        (b"1234", b"39876", Some((1_234, 39_876))),
+        (b"12345", b"398765", Some((12_345, 398_765))),
+        (b"123456", b"3987654", Some((123_456, 3_987_654))),
+        (b"1234567", b"39876543", Some((1_234_567, 39_876_543))),
+        (b"12345678", b"398765432", Some((12_345_678, 398_765_432))),
+        (
+            b"123456789",
+            b"3987654321",
+            Some((123_456_789, 3_987_654_321)),
+        ),
+        (
+            b"1234567890",
+            b"4000000000",
+            Some((1_234_567_890, 4_000_000_000)),
+        ),
+        (b"0000000001", b"0000000002", Some((1, 2))),
+        (b"00000000001", b"2", None),
+        (b"1", b"00000000002", None),
+        (b"1", b"4000000001", None),
+        (b"9999999999", b"9999999999", None),
+        (b"", b"2", None),
+        (b":2345678", b"98765432", None),
+        (b"1234/678", b"98765432", None),
+        (b"1234567 ", b"98765432", None),
+        (b"12345678", b"9876543\x00", None),
+        (b"12345678", b"\xb98765432", None),
+    ] {
+        if !is_known_before(rt, [b"chr2", start, stop], want)? {
+            return Ok(false);
+        }
+    }
+    Ok(true)
+}
+
+#[test]
+fn short_lines_of_names_and_numbers(rt: HostRuntime) -> Result<(), Fail> {
+    holds(have_names(&rt))?;
+    holds(have_numbers(&rt))
+}
+
+/// A text that begins with another name of the same length is not of the sequence of the line before.
+fn is_other_name(rt: &HostRuntime, name: &[u8], other: &[u8]) -> Result<bool, Fail> {
+    let genome = Genome::parse(rt.alloc(), joined(rt, &[name, b"\t100\n"])?.as_slice())?;
+    let before = joined(rt, &[name, b"\t1\t2"])?;
+    let text = joined(rt, &[other, b"\t1\t2\nchr1\t1\t2\nchr1\t1\t2\n"])?;
+    Ok(short_after(&genome, before.as_slice(), text.as_slice())?.is_none())
+}
+
+#[test]
+fn names_of_one_length(rt: HostRuntime) -> Result<(), Fail> {
+    for (name, other) in [
+        (b"chr1".as_slice(), b"chr2".as_slice()),
+        (b"chr1", b"khr1"),
+        (b"chr10", b"chr11"),
+        (b"chrom_1a", b"chrom_1b"),
+        (b"chrom_1a", b"chrim_1a"),
+        (b"chrom_1ab", b"chrom_1ac"),
+        (b"X", b"Y"),
+    ] {
+        holds(is_other_name(&rt, name, other))?;
+    }
+    Ok(())
+}
+
 /// A record of six columns.
 fn record(rt: &HostRuntime, genome: &Genome, line: &[u8]) -> Result<Record, Fail> {
     Ok(read_record(genome, 6, line)?.to_record(rt.alloc())?)
@@ -230,7 +366,7 @@ fn compared(
 ) -> Result<(Ordering, bool), Fail> {
     let line = record(rt, genome, line)?;
     let other = record(rt, genome, other)?;
-    Ok((line.cmp(&other), line.is_copy_of(&other)))
+    Ok((line.cmp(&other), line == other))
 }
 
 /// Whether each of these lines gives a record after that of the line before it, and the last one a copy.

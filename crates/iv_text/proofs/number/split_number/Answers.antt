@@ -1,28 +1,24 @@
-use Rattle.std.proofs.Common.{◌≡◌, ◌+◌, ◌-◌, ◌*◌, ◌∙◌, ◌++◌, ◌∷◌, [], ℕ, Some, true, ap, sym, take, get_or, arith, length-take}
-use Rattle.std.proofs.lemmas.List.{take_more}
-use Rattle.std.specs.Char.{is_ascii_digit}
-use Rattle.std.specs.Str.{all_ascii_digits}
-use Rattle.iv_text.specs.Number.{decimal_from}
-use Rattle.iv_text.proofs.OnePassLemmas.{decimal-more, digits-more, digit-bound, bound-more, number-is, rest-whole}
+use Rattle.std.proofs.Common.{arith}
+use Rattle.iv_text.proofs.DigitLemmas.{begins, number-more}
 use Rattle.iv_text.proofs.number.split_number.Goals as goal
 
-pub loop-count-preserved : goal.loop-count-preserved
-loop-count-preserved c =
+pub returns-then-count-lt8 : goal.returns-then-count-lt8
+returns-then-count-lt8 c =
+    begins c.args.text.now c.count_digits-count.result c.read_few.result (omega arith) (omega arith) (omega arith) c.count_digits-count.ensures.digits c.read_few.ensures
+
+pub returns-then-count-eq8 : goal.returns-then-count-eq8
+returns-then-count-eq8 c =
+    begins c.args.text.now 8 c.read_eight-eight.result (omega arith) (omega arith) (omega arith) (λ k lt. c.count_digits-count.ensures.digits k (omega arith)) c.read_eight-eight.ensures.value
+
+pub returns-then-count-eq9 : goal.returns-then-count-eq9
+returns-then-count-eq9 c =
     let text = c.args.text.now in
-    let k = c.loop-count.count in
-    let b : ℕ = get_or text k 0 in
-    let is : is_ascii_digit b ≡ true = sym c.is_ascii_digit.ensures.value ∙ c.if-is_ascii_digit.true in
-    let more : take (k + 1) text ≡ take k text ++ b ∷ [] = take_more text k 0 c.if-count-text.true in
-    record {
-      digits = ap all_ascii_digits more ∙ digits-more (take k text) b c.loop-count.invariant.digits is;
-      value = ap (λ v. v * 10 + (b - 48)) c.loop-count.invariant.value ∙ sym (decimal-more 0 (take k text) b) ∙ sym (ap (decimal_from 0) more);
-      bound = bound-more c.loop-count.value b k c.loop-count.invariant.bound (digit-bound b is);
-      few = omega arith;
-      within = omega arith;
-    }
+    begins text 9 _ (omega arith) (omega arith) (omega arith) (λ k lt. c.count_digits-count.ensures.digits k (omega arith))
+    (number-more text 8 c.read_eight-eight.result (omega arith) c.read_eight-eight.ensures.value)
 
 pub returns : goal.returns
 returns c =
     let text = c.args.text.now in
-    let k = c.loop-count.count in
-    (take k text, rest-whole text k, number-is (take k text) (omega (arith, length-take k text)) (omega (arith, length-take k text)) c.loop-count.invariant.digits ∙ ap Some (sym c.loop-count.invariant.value))
+    let ten = c.count_digits-count.ensures.few in
+    begins text 10 _ (omega arith) (omega arith) (omega arith) (λ k lt. c.count_digits-count.ensures.digits k (omega arith))
+    (number-more text 9 _ (omega arith) (number-more text 8 c.read_eight-eight.result (omega arith) c.read_eight-eight.ensures.value))
