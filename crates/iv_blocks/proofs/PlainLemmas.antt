@@ -2,7 +2,6 @@
 use Rattle.std.proofs.Common.{◌≡◌, ℕ, ◌+◌, max, Bool, true, false, List, [], ◌∷◌, ◌++◌, map, length, ◌==◌, ◌&&◌, nat_le, Some, None, refl, sym, ◌∙◌, ap, subst, append-nil, append_assoc, All}
 use Rattle.std.specs.Iterator.{Drains, YieldsFirst}
 use Rattle.std.specs.List.{flat_map, range_with_len}
-use Rattle.std.proofs.lemmas.Iterator.{items_from_drains}
 use Rattle.std.proofs.lemmas.Iterator.Consumers.{YieldsList-from_shown}
 use Rattle.std.proofs.lemmas.List.Elements.{All-weaker}
 use Rattle.iv_text.specs.Genome.{Sequences, seq_count, sequence_length}
@@ -14,12 +13,13 @@ use Rattle.iv_cover.specs.TrackBlocks.{Group, start_of, stop_of, block_on, block
 use Rattle.iv_text.specs.Covering.{on}
 use Rattle.iv_text.proofs.ListLemmas.{filter-agree}
 use Rattle.iv_track.specs.Entries.{IsLedger, value_at}
+use Rattle.iv_track.proofs.CountedLemmas.{given-items}
 use Rattle.iv_cover.specs.Coming.{coming, is_joined}
 use Rattle.iv_cover.specs.declared.block.Block.{Block}
 use Rattle.iv_cover.specs.declared.column.ColumnSummary.{ColumnSummary}
 use Rattle.iv_cover.proofs.Comings.{coming-begun, coming-joined, coming-split_up}
 use Rattle.iv_blocks.specs.Groups.{is_in_group, group, sides, listed}
-use Rattle.iv_blocks.specs.KeptBlocks.{Key, Kept, Entries, key_cmp, kept_at}
+use Rattle.iv_blocks.specs.KeptBlocks.{Key, Entries, key_cmp, kept_at}
 use Rattle.iv_blocks.specs.Plain.{kept_entry, entries_with, plain_entry, GivesKept}
 use Rattle.iv_blocks.specs.declared.options.Options.{Options}
 use Rattle.iv_blocks.proofs.EntryLemmas.{rank_entries, all_entries}
@@ -38,14 +38,9 @@ map-flat_map h f (x ∷ xs) = map-both (f x) (flat_map f xs) ∙ ap (λ l. map h
     map-both [] b = refl
     map-both (y ∷ a) b = ap (λ l. h y ∷ l) (map-both a b)
 
-map-same : {X : Type 0} (xs : List X) → map (λ y. y) xs ≡ xs
-map-same [] = refl
-map-same (x ∷ xs) = ap (λ ys. x ∷ ys) (map-same xs)
-
 -- what is drained is what was left
 pub drained : (bs : List Group) (es : Entries) → Drains GivesKept bs es → es ≡ map plain_entry bs
-drained bs es run = sym (map-same es)
-    ∙ items_from_drains es (run.1.0, run.1.1, λ _. (run.0, run.1.2)) (YieldsList-from_shown GivesKept (λ e. e) (map plain_entry) (λ s t h. ap length h.0) (λ s x t h. h) bs)
+drained bs es run = given-items bs es (map plain_entry bs) run (YieldsList-from_shown GivesKept (λ e. e) (map plain_entry) (λ s t h. ap length h.0) (λ s x t h. h) bs)
 
 module _ (o : Options) (g : Sequences) (width : ℕ) (rows : List Row) (fit : All (Fits g width) rows) (together : o.stranded ≡ false) where
   -- the records of a sequence are its one group
@@ -133,5 +128,4 @@ module _ (g : Sequences) (summaries : List ColumnSummary) (d : ℕ) where
 
 -- entries are given one by one
 pub drained-items : (items es : Entries) → Drains (YieldsFirst (λ (l : Entries). l)) items es → es ≡ items
-drained-items items es run = sym (map-same es)
-    ∙ items_from_drains es (run.1.0, run.1.1, λ _. (run.0, run.1.2)) (YieldsList-from_shown (YieldsFirst (λ (l : Entries). l)) (λ e. e) (λ l. l) (λ s t h. ap length h.0) (λ s x t h. h) items)
+drained-items items es run = given-items items es items run (YieldsList-from_shown (YieldsFirst (λ (l : Entries). l)) (λ e. e) (λ l. l) (λ s t h. ap length h.0) (λ s x t h. h) items)

@@ -4,7 +4,7 @@ ghost use Rattle.std.specs.Map.Iter.{TakesFirst};
 ghost use Rattle.iv_track.specs.Steps.{TakesUpTo};
 ghost use Rattle.iv_blocks.specs.BlockCursor.{interval_of, starts_until};
 
-use crate::blocks::Blocks;
+use crate::blocks::{Blocks, Key};
 use crate::gaps::BlocksAhead;
 use crate::kept_block::KeptBlock;
 use iv_cover::Block;
@@ -17,7 +17,7 @@ use std::marker::Model;
 /// Its model is the list of them.
 #[derive(Drop)]
 pub(crate) struct BlockCursor<'a, A: Allocator + Copy> {
-    walk: Walk<'a, (u32, bool, u32), KeptBlock<A>, A>,
+    walk: Walk<'a, Key, KeptBlock<A>, A>,
     // The block that was read ahead, `None` after the last.
     next: Option<Block>,
 }
@@ -72,7 +72,7 @@ fn is_until(block: Block, rank: u32, position: u64) -> bool
 
 /// Where the next block is, `None` after the last. One step.
 fn read<A: Allocator + Copy>(
-    walk: &mut Walk<'_, (u32, bool, u32), KeptBlock<A>, A>,
+    walk: &mut Walk<'_, Key, KeptBlock<A>, A>,
     meter: &mut Meter,
 ) -> Option<Block>
     ensures next { TakesFirst (λ b. b) (map interval_of walk.old) result (map interval_of walk.new) }

@@ -3,7 +3,7 @@ ghost use Rattle.std.specs.Prelude.{◌≡◌, ◌≢◌, ◌≤◌, ℕ, None, 
 ghost use Rattle.iv_track.specs.Steps.{TakesUpTo};
 ghost use Rattle.iv_blocks.specs.Lookups.{kept_in, IsLastBlock, IsFirstBlock};
 
-use crate::blocks::Blocks;
+use crate::blocks::{Blocks, Key};
 use crate::group::Group;
 use crate::kept_block::KeptBlock;
 use iv_track::Meter;
@@ -43,11 +43,7 @@ impl<A: Allocator + Copy> Blocks<A> {
 }
 
 /// Start and stop of the block that is kept at a key, where it is one of the group.
-fn of_group<A: Allocator>(
-    group: Group,
-    key: (u32, bool, u32),
-    block: &KeptBlock<A>,
-) -> Option<(u32, u32)>
+fn of_group<A: Allocator>(group: Group, key: Key, block: &KeptBlock<A>) -> Option<(u32, u32)>
     ensures { MatchOption result (key.0 ≡ group.rank → key.1 ≢ group.minus)
         (λ b. (key ≡ (group.rank, group.minus, b.0)) × (b.1 ≡ block.now.stop)) }
 {

@@ -1,5 +1,5 @@
 -- What positions in decimal spell.
-use Rattle.std.proofs.Common.{◌≡◌, ◌<◌, ◌≤◌, ◌^◌, ◌==◌, ◌&&◌, ℕ, ℤ, pos, Bool, true, false, List, [], ◌∷◌, Option, None, Some, length, fold, codes, decimal, if◌then◌else◌, refl, sym, ap, ◌∙◌, rules, arith}
+use Rattle.std.proofs.Common.{◌≡◌, ◌<◌, ◌≤◌, ◌^◌, ◌==◌, ◌&&◌, ℕ, pos, Bool, true, false, List, [], ◌∷◌, Option, Some, length, decimal, if◌then◌else◌, ap, ◌∙◌, rules, arith}
 use Rattle.std.specs.Prelude.{neg_ℤ}
 use Rattle.std.specs.Char.{is_ascii_digit}
 use Rattle.std.specs.Option.{option_map}
@@ -11,7 +11,7 @@ use Rattle.std.proofs.lemmas.Str.Parse.{IsNumeralModel, numerals_by_fold, tells_
 use Rattle.iv_text.specs.Number.{decimal_from, number_up_to}
 use Rattle.iv_cover.specs.Spelled.{spelled, spelled_as}
 use Rattle.iv_cover.specs.Summaries.{number_of}
-use Rattle.iv_cover.specs.declared.number.Spelled.TheVariants.{Missing, Number, Other}
+use Rattle.iv_cover.specs.declared.number.Spelled.TheVariants.{Missing, Number}
 
 own : IsNumeralModel (λ ds. all_ascii_digits ds ≡ true) (decimal_from 0)
 own = numerals_by_fold _ tells_all_ascii_digits decimal_from (search rules)

@@ -1,5 +1,6 @@
 //! The results over the values of a block.
 ghost use Rattle.std.specs.Prelude.{◌≡◌, ◌≤◌, ◌∷◌, ℕ, List, decimal, length, vec_capacity};
+ghost use Rattle.std.specs.Fmt.{signed_decimal};
 ghost use Rattle.std.specs.List.{join_with_byte};
 ghost use Rattle.iv_bytes.specs.Sinks.{Puts};
 ghost use Rattle.iv_text.specs.Bytes.{comma};
@@ -74,8 +75,18 @@ fn put_number<S: Sink>(number: Option<i128>, sink: &mut S) -> Result<(), WriteFa
     ensures { Puts (S.state sink.old) (S.state sink.new) result (number_text number) }
 {
     match number {
-        Some(number) => put_all(sink, itoa::Buffer::new().format(number).as_bytes()),
+        Some(number) => put_integer(number, sink),
         None => put_all(sink, b"."),
+    }
+}
+
+/// Puts an integer in decimal. Most have at most 64 bits, and those are cut into digits several times faster.
+fn put_integer<S: Sink>(number: i128, sink: &mut S) -> Result<(), WriteFault>
+    ensures { Puts (S.state sink.old) (S.state sink.new) result (signed_decimal number) }
+{
+    match i64::try_from(number) {
+        Ok(short) => put_all(sink, itoa::Buffer::new().format(short).as_bytes()),
+        Err(_) => put_all(sink, itoa::Buffer::new().format(number).as_bytes()),
     }
 }
 

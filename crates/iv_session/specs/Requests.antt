@@ -14,8 +14,6 @@ use Rattle.iv_track.specs.Fault.{edit_code}
 use Rattle.iv_workspace.specs.Resizes.{resize_code}
 use Rattle.iv_workspace.specs.Views.{print_code}
 use Rattle.iv_workspace.specs.States.{State}
-use Rattle.iv_workspace.specs.declared.fault.SecondFault.{SecondFault}
-use Rattle.iv_workspace.specs.declared.fault.SecondFault.TheVariants as other
 use Rattle.iv_session.specs.TrackEdits.{EditFits, FitsIn, edit_said, width_of}
 use Rattle.iv_session.specs.declared.edit.EditKind.{EditKind}
 use Rattle.iv_session.specs.declared.edit.EditKind.TheVariants as kind
@@ -43,11 +41,6 @@ fault_code (line.Resize f) = Some (resize_code f)
 fault_code (line.Open f) = Some (view_code f)
 fault_code (line.Close f) = Some 21
 fault_code (line.Print f) = print_code f
-
--- why a line is no request, where it means no record of the second file
-abbrev pub of_second : SecondFault → RequestFault
-of_second other.NoSecond = fault.NoSecond
-of_second (other.Record f) = fault.Record f
 
 -- the field of a list that has just one
 abbrev pub only_field : List (List ℕ) → Result (List ℕ) RequestFault

@@ -5,7 +5,7 @@ ghost use Rattle.iv_session.specs.Requests.{request_code, fault_code};
 use iv_text::RecordFault;
 use iv_track::EditFault;
 use iv_view::ViewFault;
-use iv_workspace::{NoView, PrintFault, ResizeFault, SecondFault};
+use iv_workspace::{NoView, PrintFault, ResizeFault};
 use thiserror::Error;
 
 /// Why a line is no request.
@@ -33,20 +33,6 @@ impl From<RecordFault> for RequestFault {
 
     fn from(why: RecordFault) -> RequestFault {
         RequestFault::Record(why)
-    }
-}
-
-impl From<SecondFault> for RequestFault {
-    ghost use Rattle.std.specs.Prelude.{◌≡◌};
-    ghost use Rattle.iv_session.specs.Requests.{of_second};
-
-    ghost from_gives = { λ why fault. fault ≡ of_second why };
-
-    fn from(why: SecondFault) -> RequestFault {
-        match why {
-            SecondFault::NoSecond => RequestFault::NoSecond,
-            SecondFault::Record(fault) => RequestFault::Record(fault),
-        }
     }
 }
 

@@ -1,6 +1,6 @@
 //! The kinds of view.
 ghost use Rattle.std.specs.Prelude.{◌≡◌, true, map};
-ghost use Rattle.iv_view.specs.Views.{read_words, or_bad_words as kept_or_bad_words, beside_second as beside_a_second, beside_fasta as beside_a_fasta, needs_second as wants_second};
+ghost use Rattle.iv_view.specs.Views.{read_words, or_bad_words as kept_or_bad_words, beside_second as beside_a_second, beside_fasta as beside_a_fasta};
 ghost use Rattle.iv_view.specs.Narrowing.{narrowed as narrowed_view};
 
 use crate::cluster::read_cluster;
@@ -107,16 +107,6 @@ impl View {
             View::Written(WrittenView::Getfasta(shown)) => {
                 beside_fasta(width, has_bases, Some(shown))
             }
-        }
-    }
-
-    /// Whether the view is written with the records of a second file.
-    pub fn needs_second(&self) -> bool
-        ensures { result ≡ wants_second self.now }
-    {
-        match self {
-            View::Kept(_) | View::Written(WrittenView::Getfasta(_)) => false,
-            View::Written(WrittenView::Paired(_)) => true,
         }
     }
 }

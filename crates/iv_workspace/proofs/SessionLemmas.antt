@@ -9,7 +9,8 @@ use Rattle.iv_text.specs.Ordered.{copies, added, ordered, AreInOrder}
 use Rattle.iv_text.specs.Read.{Fits}
 use Rattle.iv_text.specs.Row.{Row, row_cmp, rows_total}
 use Rattle.iv_text.proofs.RowLemmas.{rows_exact}
-use Rattle.iv_text.proofs.OrderedLemmas.{all-all_added, length-all_added, length-added, in_order-added, copies-added}
+use Rattle.iv_pair.proofs.LengthLemmas.{few-ordered}
+use Rattle.iv_text.proofs.OrderedLemmas.{all-all_added, length-added, in_order-added, copies-added}
 use Rattle.std.proofs.lemmas.List.Elements.{All-from_recursion, recursion_from_All}
 use Rattle.iv_track.specs.Tracked.{Tracked, removed}
 use Rattle.iv_track.proofs.Counts.{length-removed, removed-added}
@@ -203,7 +204,7 @@ track-of_file g file limit known fit few =
       low = known.0;
       high = known.1;
       fit = All-from_recursion F (ordered file.rows) (all-all_added row_cmp F file.rows [] (recursion_from_All F file.rows fit) tt);
-      few = omega (arith, length-all_added row_cmp file.rows [], few);
+      few = few-ordered file.rows limit few;
     }
 
 pub second-of_file : (g : Sequences) (file : Option Bed) (limit : ℕ) → IfSome file (λ f. (3 ≤ f.width) × (f.width ≤ 6))
