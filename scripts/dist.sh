@@ -54,6 +54,23 @@ changed() {
     printf ' -- the bedkeep authors <bedkeep@example.invalid>  %s\n' "$(LC_ALL=C date --utc --rfc-email --date="@$epoch")"
 }
 
+# linked FOLDER: in the pages below it, a link to a page that is in the sources alone becomes its words
+linked() {
+    python3 - "$1" << 'END'
+import os, re, sys
+
+for folder, _, names in os.walk(sys.argv[1]):
+    for path in (os.path.join(folder, name) for name in names if name.endswith(".md")):
+        def leads(target):
+            return "://" in target or os.path.exists(os.path.join(folder, target.split("#")[0]))
+
+        with open(path, encoding="utf-8") as page:
+            text = page.read()
+        with open(path, "w", encoding="utf-8") as page:
+            page.write(re.sub(r"(?<!!)\[([^]]*)\]\(([^)\s]+)\)", lambda link: link[0] if leads(link[2]) else link[1], text))
+END
+}
+
 # dated FOLDER: gives all below it, and itself, the time of the release
 dated() {
     find "$1" -exec touch --no-dereference --date="@$epoch" {} +
@@ -62,6 +79,7 @@ dated() {
 name=bedkeep-$version-linux-x86_64
 install_to "$stage/$name" PREFIX=
 noted "$stage/$name/share/doc/bedkeep/NOTICE"
+linked "$stage/$name/share/doc/bedkeep"
 dated "$stage/$name"
 # only files, so that unpacking changes no folder that is there
 (cd "$stage" && find "$name" -type f | LC_ALL=C sort) |
@@ -97,6 +115,7 @@ if command -v dpkg-deb > /dev/null; then
     noted "$root/usr/share/doc/bedkeep/NOTICE"
     echo 'On Debian these licenses are /usr/share/common-licenses/LGPL-2.1 and /usr/share/common-licenses/GPL-3.' >> "$root/usr/share/doc/bedkeep/NOTICE"
     (cd "$root/usr/share/doc/bedkeep" && cat LICENSE NOTICE > copyright && rm LICENSE NOTICE)
+    linked "$root/usr/share/doc/bedkeep"
     changed | gzip --no-name --best > "$root/usr/share/doc/bedkeep/changelog.gz"
     mkdir "$root/DEBIAN"
     (cd "$root" && find usr -type f | LC_ALL=C sort | xargs md5sum > DEBIAN/md5sums)

@@ -110,6 +110,7 @@ impl<'a, A: Allocator + Copy> Plan<'a, A> {
     }
 
     /// The kind of run.
+    /// It is for callers outside this repository.
     pub fn run(&self) -> Run
         ensures { result ≡ self.now.run }
     {
@@ -158,6 +159,7 @@ impl<'a, A: Allocator + Copy> Plan<'a, A> {
     }
 
     /// The words of the view that is to be printed: the subcommand and its options, in their order. A session has none.
+    /// It is for callers outside this repository.
     pub fn view_words(&self) -> &[&'a [u8]]
         ensures { map (λ word. word.now) result.now ≡ self.now.view }
     {

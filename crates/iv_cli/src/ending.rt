@@ -247,6 +247,7 @@ fn put_damage<S: Sink>(
 }
 
 /// The exit status of a fault.
+/// It is for callers outside this repository.
 pub fn status(fault: &CliFault) -> u8
     ensures { result ≡ status_of (ending_of fault.now) }
 {
@@ -254,6 +255,7 @@ pub fn status(fault: &CliFault) -> u8
 }
 
 /// The exit status of a run of a script.
+/// It is for callers outside this repository.
 pub fn run_status(done: &Result<Summary, RunFault>) -> u8
     ensures { result ≡ status_of (ending_of_run done.now) }
 {

@@ -11,6 +11,7 @@ use iv_text::Record;
 use std::alloc::{AllocError, Allocator};
 
 /// What an operation gives for the values of a column, in the order of a track.
+/// It is for callers outside this repository.
 pub fn summary<A: Allocator + Copy>(
     alloc: A,
     op: Op,

@@ -68,6 +68,7 @@ impl<A: Allocator + Copy> Fasta<A> {
     }
 
     /// Whether it has the sequence of this rank.
+    /// It is for callers outside this repository.
     pub fn covers(&self, seq: u32) -> bool
         ensures { result ≡ is_some (bases_of self.now seq) }
     {

@@ -61,6 +61,7 @@ impl<A: Allocator + Copy> Track<A> {
     }
 
     /// The track of these records: they are sorted, unless they are in order, and the map is built from them at once.
+    /// It is for callers outside this repository.
     ///
     /// The limit is at most 4,000,000 records. There are no more records than the limit, and each has the width.
     ///
@@ -193,6 +194,7 @@ impl<A: Allocator + Copy> Track<A> {
     }
 
     /// The first record on this sequence from this start on, or on a later sequence, and how many copies of it there are.
+    /// It is for callers outside this repository.
     ///
     /// At most 2 steps, and no memory.
     pub fn at_or_after(&self, seq: u32, start: u64, meter: &mut Meter) -> Option<(&Record<A>, u32)>
@@ -205,6 +207,7 @@ impl<A: Allocator + Copy> Track<A> {
     }
 
     /// The first record after this one, and how many copies of it there are. At most 2 steps, and no memory.
+    /// It is for callers outside this repository.
     pub fn after(&self, row: &Record<A>, meter: &mut Meter) -> Option<(&Record<A>, u32)>
         ensures next { option_map (λ p. (p.0.now, p.1)) result ≡ next_after self.now.rows row.now }
         ensures steps { TakesUpTo meter.old meter.new 2 }

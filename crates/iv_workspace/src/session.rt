@@ -157,6 +157,7 @@ impl<A: Allocator + Copy> Session<A> {
     }
 
     /// The record that a line means on the session's genome at its width, or its first fault.
+    /// It is for callers outside this repository.
     pub fn read<'a>(&self, line: &'a [u8]) -> Result<RecordRef<'a>, RecordFault>
         ensures value { result ≡ read self.now.genome self.now.track.width line.now }
         ensures known { (3 ≤ self.now.track.width) × (self.now.track.width ≤ 6) }
@@ -166,6 +167,7 @@ impl<A: Allocator + Copy> Session<A> {
     }
 
     /// Whether a record is one of the session's width on its genome.
+    /// It is for callers outside this repository.
     pub fn fits(&self, row: &RecordRef<'_>) -> bool
         ensures { IsTrue result ↔ Fits self.now.genome self.now.track.width row.now }
     {
@@ -173,6 +175,7 @@ impl<A: Allocator + Copy> Session<A> {
     }
 
     /// How many records there are, copies counted.
+    /// It is for callers outside this repository.
     pub fn len(&self) -> u32
         ensures { result ≡ length self.now.track.rows }
     {

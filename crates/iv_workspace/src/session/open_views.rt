@@ -64,6 +64,7 @@ impl<A: Allocator + Copy> Session<A> {
     }
 
     /// Whether a view of this name is open, and needn't be built anew before it is printed.
+    /// It is for callers outside this repository.
     pub fn is_current(&self, name: &[u8]) -> bool
         ensures { MatchOption (view_named self.now.views name.now) (result ≡ false) (λ v. result ≡ not v.stale) }
     {

@@ -14,6 +14,7 @@ use std::alloc::Allocator;
 
 impl<A: Allocator + Copy> Session<A> {
     /// The record that a line means on the session's genome at the second file's width.
+    /// It is for callers outside this repository.
     ///
     /// # Errors
     ///
@@ -30,6 +31,7 @@ impl<A: Allocator + Copy> Session<A> {
     }
 
     /// Whether there is a second file, and a record is one of its width on the session's genome.
+    /// It is for callers outside this repository.
     pub fn fits_second(&self, row: &RecordRef<'_>) -> bool
         ensures { IsTrue result ↔ FitsSecond self.now row.now }
     {
