@@ -5,10 +5,10 @@ ghost use Rattle.std.specs.List.Sorted.{IsPermutation};
 /// The most items that one is moved past.
 const MOST_MOVES: usize = 16;
 
-/// Moves each item past a few before it that belong after it, and says whether it came to the end. It stops at an item that belongs
-/// past more.
+/// Moves each item past those right before it that belong after it, and says whether it came to the end. It stops at an item that
+/// is moved past 16.
 ///
-/// What is in order but for a few neighbours, as most tools leave it, is then in order, and a sort only looks at it.
+/// What is in order but for a few neighbors, as most tools leave it, is then in order, and a sort only looks at it.
 pub fn order_nearly<T: Copy, F: Fn(&T, &T) -> bool>(items: &mut [T], belongs_after: F) -> bool
     requires { F.IsAlwaysCallable belongs_after }
     ensures permutation { IsPermutation items.old items.new }

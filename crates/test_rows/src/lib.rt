@@ -26,6 +26,8 @@ mod long_ledgers;
 #[cfg(test)]
 mod many_places;
 #[cfg(test)]
+mod nearly;
+#[cfg(test)]
 mod parse_refusals;
 #[cfg(test)]
 mod places;
