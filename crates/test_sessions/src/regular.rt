@@ -3,6 +3,7 @@ use crate::apart::{SECOND, SIZES, View, apart, text};
 use crate::fixtures::{Edit, Files, alone, answer};
 use crate::refusals::in_refusing;
 use crate::refused_prints::is_print_refused_once;
+use iv_text::lines_of;
 use iv_track::EditFault;
 use iv_workspace::Session;
 use std::alloc::Global;
@@ -137,7 +138,23 @@ fn refused_prints(
     Ok(refused)
 }
 
-/// Opens the views of a session, does the edit of a case with the growth of a number refused, and prints.
+/// Adds the records at these starts, one after the other.
+fn add_each(
+    rt: &HostRuntime,
+    session: &mut Session<&RefusesNth<Global>>,
+    starts: &[u32],
+) -> Result<(), Fail> {
+    let lines = text(rt, View::Merge, starts)?;
+    for line in lines_of(lines.as_bytes()) {
+        if answer(session, Edit::Add(line))?.is_err() {
+            return Err(Fail::new("a record that is not added"));
+        }
+    }
+    Ok(())
+}
+
+/// Opens the views of a session, does the edit of a case with the growth of a number refused, and prints. Where the file has no
+/// record, those before the edit are added first.
 fn edited_and_printed(
     rt: &HostRuntime,
     alloc: &RefusesNth<Global>,
@@ -148,6 +165,9 @@ fn edited_and_printed(
 ) -> Result<Seen, Fail> {
     for (name, words, _, _) in views {
         session.open_view(name, words)?;
+    }
+    if session.len() == 0 {
+        add_each(rt, session, case.before)?;
     }
     let (is_done, seen) = edited(alloc, session, views, case, number)?;
     let starts = if is_done { case.after } else { case.before };
@@ -256,11 +276,34 @@ fn edits_of(rt: &HostRuntime, views: &[Open<'_>], count: u32) -> Result<[Seen; 3
     ])
 }
 
-/// A removal takes no memory.
+/// What is built at once has room for an edit anywhere.
 #[test]
 fn thousand_records(rt: HostRuntime) -> Result<(), Fail> {
-    let [add, remove, replace] = edits_of(&rt, &VIEWS, 1000)?;
-    assert!(rt; add.refused > 0 && remove.refused == 0 && replace.refused > 0);
+    for seen in edits_of(&rt, &VIEWS, 1000)? {
+        assert!(rt; seen == NOTHING);
+    }
+    Ok(())
+}
+
+/// What is seen at one more record, where so many were added one after the other.
+fn add_after_adds(rt: &HostRuntime, count: u32) -> Result<Seen, Fail> {
+    let before = apart(rt, count, None, None)?;
+    let after = apart(rt, count, None, Some(500))?;
+    let case = Case {
+        before: before.as_slice(),
+        edit: Edit::Add(b"big\t500\t510"),
+        after: after.as_slice(),
+    };
+    run_in_turn(rt, &VIEWS, case, b"")
+}
+
+/// A chunk that is full is split at an edit: that of the records and that of the blocks with 256 records, and that of the changes
+/// of depth with 128.
+#[test]
+fn full_chunks(rt: HostRuntime) -> Result<(), Fail> {
+    let records = add_after_adds(&rt, 256)?;
+    let changes = add_after_adds(&rt, 128)?;
+    assert!(rt; records.refused > 0 && records.blocks > 0 && changes.depth > 0);
     Ok(())
 }
 
