@@ -1,16 +1,13 @@
 -- The line at a byte of a text.
-use Rattle.std.proofs.Common.{◌≡◌, ℕ, ◌+◌, ◌-◌, ◌≤◌, List, [], ◌∷◌, length, take, drop, refl, sym, ap, ◌∙◌, arith}
-use Rattle.std.proofs.lemmas.Grind.{common_steps}
+use Rattle.std.proofs.Common.{◌≡◌, ℕ, ◌+◌, ◌-◌, ◌≤◌, List, [], ◌∷◌, length, take, drop, refl, sym, ap, ◌∙◌}
 use Rattle.std.proofs.lemmas.List.{drop_all, drop-drop}
+use Rattle.iv_text.proofs.KeptLemmas.{rest-whole}
 use Rattle.iv_text.specs.Lines.{lines}
 use Rattle.iv_index.specs.Places.{line_at}
 
 pub line-past : (text : List ℕ) (at : ℕ) → length text ≤ at → line_at text at ≡ []
 unfolding line_at
 line-past text at past = rw (drop_all at text past) refl
-
-pub rest-whole : (text : List ℕ) (at : ℕ) → take (length text - at) (drop at text) ≡ drop at text
-rest-whole text at = grind (arith, common_steps)
 
 pub line-found : (text : List ℕ) (at size : ℕ) (line : List ℕ) → lines (take (length text - at) (drop at text)) ≡ line ∷ lines (drop size (take (length text - at) (drop at text))) → lines (drop at text) ≡ line ∷ lines (drop (at + size) text)
 line-found text at size line e =

@@ -35,6 +35,10 @@ rows_at width text places = map (row_at width text) places
 abbrev pub bare : Row → Row
 bare r = record { seq = r.seq; start = r.start; stop = r.stop; name = []; score = []; strand = None; width = 3 }
 
+-- the place of a record whose line begins at this byte of a text
+abbrev pub place_at : Row → ℕ → Place
+place_at r at = record { seq = r.seq; start = r.start; stop = r.stop; line = at }
+
 -- the place has a base
 abbrev pub HasBase : Place → Type 0
 HasBase p = p.start < p.stop

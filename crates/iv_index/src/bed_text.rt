@@ -10,9 +10,8 @@ ghost use Rattle.iv_index.specs.Places.{bare};
 use crate::join::join_places;
 use crate::order::{are_in_order, compare, order_places};
 use crate::place::Place;
-use crate::text_draft::TextDraft;
 use crate::text_records::TextRecords;
-use iv_text::{Genome, LoadFault};
+use iv_text::{Genome, KeptLines, LoadFault};
 use std::alloc::{AllocError, Allocator, Global};
 use std::marker::Model;
 
@@ -60,19 +59,10 @@ impl<'t, A: Allocator + Copy> BedText<'t, A> {
         ensures few { IfOk result (λ b. length b.rows ≤ limit) }
         ensures err { IfErr result (λ f. (f ≡ record { line = 0; cause = cause.Memory }) ⊎ (bed_of genome.now empty_width limit text.now ≡ Err f)) }
     {
-        let mut draft = TextDraft {
-            text,
-            at: 0,
-            width: None,
-            places: Vec::new(alloc),
-        };
-        draft.take_lines(genome, limit)?;
-        let TextDraft {
-            text,
-            at: _,
-            width,
-            places,
-        } = draft;
+        let mut lines: KeptLines<Place, A> = KeptLines::new(alloc);
+        lines.take_lines(alloc, genome, limit, text)?;
+        let (width, places) = lines.finish();
+        let places = places.into_vec()?;
         Ok(BedText {
             text,
             places,

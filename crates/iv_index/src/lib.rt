@@ -12,7 +12,6 @@ mod span;
 mod span_order;
 mod span_sequence;
 mod spans;
-mod text_draft;
 mod text_record;
 mod text_records;
 

@@ -1,5 +1,6 @@
 //! Where a record is, and nothing beside.
 
+ghost use Rattle.std.specs.Prelude.{refl};
 ghost use Rattle.iv_index.specs.Places.{bare};
 ghost use Rattle.iv_index.specs.Spans.{row_of_span};
 
@@ -22,7 +23,13 @@ impl<A: Allocator + Copy> FromRecord<A> for Span {
 
     ghost as_row = { row_of_span };
 
-    fn from_record(_alloc: A, record: &RecordRef<'_>) -> Result<Span, AllocError> {
+    ghost kept_of = { λ r at. record { seq = r.seq; start = r.start; stop = r.stop } };
+
+    ghost again = { λ r. refl };
+
+    ghost stands = { λ r at. refl };
+
+    fn from_record(_alloc: A, record: &RecordRef<'_>, _at: u32) -> Result<Span, AllocError> {
         record.law_of_place();
         Ok(Span {
             seq: record.seq(),
@@ -39,13 +46,11 @@ impl<A: Allocator + Copy> FromRecord<A> for Span {
         true
     }
 
-    fn from_place(_alloc: A, _width: u8, line: &ShortLine) -> Option<Span> {
+    fn from_place(_alloc: A, _width: u8, line: &ShortLine, _at: u32) -> Option<Span> {
         Some(Span {
             seq: line.seq,
             start: line.start,
             stop: line.stop,
         })
     }
-
-    fn law_of_kept() {}
 }

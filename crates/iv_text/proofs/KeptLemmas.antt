@@ -1,11 +1,12 @@
 -- The reading of a BED file in pieces.
-use Rattle.std.proofs.Common.{◌≡◌, ℕ, zero, suc, ◌+◌, ◌-◌, ◌<◌, ◌≤◌, Bool, true, false, cond, ◌==◌, ◌&&◌, nat_le, List, [], ◌∷◌, ◌++◌, Option, Some, None, Result, Ok, Err, length, map, take, drop, slice_index_or, refl, sym, ap, subst, ◌∙◌, arith, inl, inr, append_assoc, unwrap_or}
+use Rattle.std.proofs.Common.{◌≡◌, ℕ, zero, suc, ◌+◌, ◌-◌, ◌<◌, ◌≤◌, Bool, true, false, cond, ◌==◌, ◌&&◌, nat_le, List, [], ◌∷◌, ◌++◌, Option, Some, None, Result, Ok, Err, length, map, take, drop, slice_index_or, ◌%◌, ◌^◌, refl, sym, ap, subst, ◌∙◌, arith, inl, inr, append_assoc, unwrap_or}
 use Rattle.std.specs.Prelude.{All, MatchOption, IsErrAnd, IfErr}
 use Rattle.std.proofs.lemmas.Grind.{common_steps}
 use Rattle.std.specs.List.{onto_first}
 use Rattle.std.proofs.lemmas.Bool.{cond-true, le-leb}
 use Rattle.std.proofs.lemmas.Bool.Decides.{nat_tests}
-use Rattle.std.proofs.lemmas.List.{length-map, map-append, drop_all, take_more}
+use Rattle.std.proofs.Math.Nat.{mod-add-mod, mod-eq_of_lt}
+use Rattle.std.proofs.lemmas.List.{length-map, map-append, drop_all, take_more, drop-drop}
 use Rattle.std.proofs.lemmas.List.Elements.{All-nil, All-cons, All-append, All-head, All-tail}
 use Rattle.iv_text.specs.BedFile.{Bed, Draft, drafted, width_at, with_row, is_unread, is_width, after_row, after_rows, finished}
 use Rattle.iv_text.specs.Fields.{columns}
@@ -19,7 +20,7 @@ use Rattle.iv_text.specs.declared.fault.LoadCause.TheVariants as cause
 use Rattle.iv_text.specs.declared.fault.LoadFault.{LoadFault}
 use Rattle.iv_text.specs.ShortLine.{IsShortLine}
 use Rattle.iv_text.specs.declared.record_reader.ShortLine.{ShortLine}
-use Rattle.iv_text.specs.KeptDrafts.{LinesRead, known, kept_draft, after, IsReadAt, IsKept, AreSound, Takes, Refuses, Reading, begun, coming, EndsAtFeed, IsEnded, kept_or_fault, kept_bed_of}
+use Rattle.iv_text.specs.KeptDrafts.{LinesRead, known, kept_draft, after, IsReadAt, IsKept, AreSound, Takes, Refuses, Held, shown, byte_after, BeginsAfter, Shows, TakesLine, RefusesLine, TakesLines, RefusesLines, Reading, begun, coming, EndsAtFeed, IsEnded, kept_or_fault, kept_bed_of}
 use Rattle.iv_text.proofs.BedLemmas.{row-unread, row-columns, row-taken}
 
 -- ---- lines that are cut after a line feed
@@ -196,61 +197,38 @@ module _ (kept : Row → Row) (g : Sequences) (limit : ℕ) where
       by None none same = subst (λ (l : List Row). All (IsKept kept g w) l) (sym none) (All-nil (IsKept kept g w))
       by (Some k) some same = subst (λ (n : ℕ). All (IsKept kept g n) old.rows) (sym same) some.2
 
-  -- a record was taken
-  pub record-taken : ((r : Row) → kept (kept r) ≡ kept r) → (old new : LinesRead) (all left : List (List ℕ)) (line : List ℕ) (w : ℕ) (r k : Row)
-      → AreSound kept g limit old → all ≡ line ∷ left → is_unread line ≡ false → w ≡ unwrap_or old.width (length (columns line)) → 3 ≤ w → w ≤ 6
-      → read g w line ≡ Ok r → Fits g w r → k ≡ kept r
-      → length old.rows < limit → new.rows ≡ old.rows ++ k ∷ [] → new.width ≡ Some w
-      → AreSound kept g limit new × Takes kept g limit old new all left
-  record-taken again old new all left line w r k sound is unread wide low high says fits kept_is free grown width =
-      let gives : with_row limit old.rows (read g w line) ≡ Ok (old.rows ++ r ∷ []) = ap (with_row limit old.rows) says ∙ free-row limit old.rows r free in
-      let same : kept r ≡ kept k = sym (ap kept kept_is ∙ again r) in
-      let rows : map kept (old.rows ++ r ∷ []) ≡ map kept new.rows =
-      map-append kept old.rows (r ∷ []) ∙ ap (λ (b : Row). map kept old.rows ++ b ∷ []) same ∙ sym (map-append kept old.rows (k ∷ [])) ∙ ap (map kept) (sym grown) in
+  -- a record was taken: what is kept is sound
+  pub record-sound : (old new : LinesRead) (line : List ℕ) (w : ℕ) (r k : Row) → AreSound kept g limit old → w ≡ unwrap_or old.width (length (columns line)) → 3 ≤ w → w ≤ 6
+      → Fits g w r → k ≡ kept r → length old.rows < limit → new.rows ≡ old.rows ++ k ∷ [] → new.width ≡ Some w → AreSound kept g limit new
+  record-sound old new line w r k sound wide low high fits kept_is free grown width =
       let one : All (IsKept kept g w) (k ∷ []) = All-cons (IsKept kept g w) k [] (r, fits, kept_is) (All-nil (IsKept kept g w)) in
       let before : All (IsKept kept g w) old.rows = rows-before old w (length (columns line)) sound wide in
-      let fit : All (IsKept kept g w) new.rows = subst (λ (l : List Row). All (IsKept kept g w) l) (sym grown) (All-append (IsKept kept g w) old.rows (k ∷ []) before one) in (
-        record {
-          fit = subst (λ (o : Option ℕ). MatchOption o (new.rows ≡ []) (λ n. (3 ≤ n) × (n ≤ 6) × All (IsKept kept g n) new.rows)) (sym width) (low, high, fit);
-          few = omega (arith, free, ap (λ (l : List Row). length l) grown, long old.rows k);
-        },
-        line-taken old new all left line (record { width = Some w; rows = old.rows ++ r ∷ [] }) is (row-taken g limit (known old) line w (Ok (old.rows ++ r ∷ [])) unread wide low high gives) (sym width) rows,
-      )
+      let fit : All (IsKept kept g w) new.rows = subst (λ (l : List Row). All (IsKept kept g w) l) (sym grown) (All-append (IsKept kept g w) old.rows (k ∷ []) before one) in
+      record {
+        fit = subst (λ (o : Option ℕ). MatchOption o (new.rows ≡ []) (λ n. (3 ≤ n) × (n ≤ 6) × All (IsKept kept g n) new.rows)) (sym width) (low, high, fit);
+        few = omega (arith, free, ap (λ (l : List Row). length l) grown, long old.rows k);
+      }
     where
       long : (xs : List Row) (x : Row) → length (xs ++ x ∷ []) ≡ length xs + 1
       long [] x = refl
       long (y ∷ xs) x = omega (arith, long xs x)
 
-  -- ---- a line that is read in one pass
+  -- and its line is the first of those that were left
+  pub record-taken : ((r : Row) → kept (kept r) ≡ kept r) → (old new : LinesRead) (all left : List (List ℕ)) (line : List ℕ) (w : ℕ) (r k : Row)
+      → all ≡ line ∷ left → is_unread line ≡ false → w ≡ unwrap_or old.width (length (columns line)) → 3 ≤ w → w ≤ 6
+      → read g w line ≡ Ok r → k ≡ kept r → length old.rows < limit → new.rows ≡ old.rows ++ k ∷ [] → new.width ≡ Some w → Takes kept g limit old new all left
+  record-taken again old new all left line w r k is unread wide low high says kept_is free grown width =
+      let gives : with_row limit old.rows (read g w line) ≡ Ok (old.rows ++ r ∷ []) = ap (with_row limit old.rows) says ∙ free-row limit old.rows r free in
+      let same : kept r ≡ kept k = sym (ap kept kept_is ∙ again r) in
+      let rows : map kept (old.rows ++ r ∷ []) ≡ map kept new.rows =
+      map-append kept old.rows (r ∷ []) ∙ ap (λ (b : Row). map kept old.rows ++ b ∷ []) same ∙ sym (map-append kept old.rows (k ∷ [])) ∙ ap (map kept) (sym grown) in
+      line-taken old new all left line (record { width = Some w; rows = old.rows ++ r ∷ [] }) is (row-taken g limit (known old) line w (Ok (old.rows ++ r ∷ [])) unread wide low high gives) (sym width) rows
 
   -- a width that is known is one of 3 to 6
   pub known-wide : (old : LinesRead) (w : ℕ) → AreSound kept g limit old → old.width ≡ Some w → (3 ≤ w) × (w ≤ 6)
   known-wide old w sound is =
       let fit : (3 ≤ w) × (w ≤ 6) × All (IsKept kept g w) old.rows = subst (λ (o : Option ℕ). MatchOption o (old.rows ≡ []) (λ n. (3 ≤ n) × (n ≤ 6) × All (IsKept kept g n) old.rows)) is sound.fit in
       (fit.0, fit.1)
-
-  known-at : (old : LinesRead) (w : ℕ) (line : List ℕ) → old.width ≡ Some w → w ≡ unwrap_or old.width (length (columns line))
-  known-at old w line is = sym (ap (λ (o : Option ℕ). unwrap_or o (length (columns line))) is)
-
-  -- its record is read where the line says
-  pub short-read : (w : ℕ) (text : List ℕ) (l : ShortLine) (short : IsShortLine g w text l) → IsReadAt w l short.row
-  short-read w text l short = record { genome = g; line = short.line; reads = short.reads; seq_is = short.seq_is; start_is = short.start_is; stop_is = short.stop_is }
-
-  -- its record was taken, and the width is as it was
-  pub short-taken : ((r : Row) → kept (kept r) ≡ kept r) → (old new : LinesRead) (w : ℕ) (text : List ℕ) (l : ShortLine) (k : Row) (short : IsShortLine g w text l)
-      → AreSound kept g limit old → old.width ≡ Some w → k ≡ kept short.row → length old.rows < limit → new.rows ≡ old.rows ++ k ∷ [] → new.width ≡ Some w
-      → AreSound kept g limit new × Takes kept g limit old new (lines text) (lines (drop l.size text))
-  short-taken again old new w text l k short sound is kept_is free grown width =
-      let wide = known-wide old w sound is in
-      record-taken again old new (lines text) (lines (drop l.size text)) short.line w short.row k
-      sound short.lines_are short.unread (known-at old w short.line is) wide.0 wide.1 short.reads short.fits kept_is free grown width
-
-  -- its record is one too many
-  pub short-full : (old : LinesRead) (w : ℕ) (text : List ℕ) (l : ShortLine) → AreSound kept g limit old → old.width ≡ Some w → IsShortLine g w text l
-      → limit ≤ length old.rows → Refuses kept g limit old (lines text) cause.TooMany
-  short-full old w text l sound is short full =
-      let wide = known-wide old w sound is in
-      full-refused old (lines text) (lines (drop l.size text)) short.line w short.row short.lines_are short.unread (known-at old w short.line is) wide.0 wide.1 short.reads full
 
   -- ---- pieces
 
@@ -302,6 +280,138 @@ module _ (kept : Row → Row) (g : Sequences) (limit : ℕ) where
           → (3 ≤ unwrap_or o empty) × (unwrap_or o empty ≤ 6) × All (IsKept kept g (unwrap_or o empty)) l.rows
       by None none = (low, high, subst (λ (rows : List Row). All (IsKept kept g empty) rows) (sym none) (All-nil (IsKept kept g empty)))
       by (Some k) some = some
+
+-- ---- lines, and what is kept of them
+
+byte-here : (at : ℕ) → at < 2 ^ 32 → byte_after at 0 ≡ at
+byte-here at small = ap (λ (n : ℕ). n % 2 ^ 32) (omega arith) ∙ mod-eq_of_lt small
+
+byte-further : (at size skipped : ℕ) → byte_after (byte_after at size) skipped ≡ byte_after at (size + skipped)
+byte-further at size skipped = mod-add-mod (at + size) (2 ^ 32) skipped ∙ ap (λ (n : ℕ). n % 2 ^ 32) (omega arith)
+
+-- one line further on
+pub begins-further : (old at next all left size rest : ℕ) → BeginsAfter at size next → ((s : ℕ) → byte_after at (left + s) ≡ byte_after old (all + s)) → left ≡ size + rest
+    → (s : ℕ) → byte_after next (rest + s) ≡ byte_after old (all + s)
+begins-further old at next all left size rest further before is s =
+    further (rest + s) ∙ ap (byte_after at) (omega (arith, is)) ∙ before s
+
+-- a line was counted
+pub begins-next : (at now size next : ℕ) → now ≡ at → next ≡ byte_after now size → BeginsAfter at size next
+begins-next at now size next same is skipped =
+    ap (λ (n : ℕ). byte_after n skipped) (is ∙ ap (λ (n : ℕ). byte_after n size) same) ∙ byte-further at size skipped
+
+known-at : (width : Option ℕ) (w : ℕ) (line : List ℕ) → width ≡ Some w → w ≡ unwrap_or width (length (columns line))
+known-at width w line is = sym (ap (λ (o : Option ℕ). unwrap_or o (length (columns line))) is)
+
+-- the record of a line in one pass is read where the line says
+pub short-read : (g : Sequences) (w : ℕ) (text : List ℕ) (l : ShortLine) (short : IsShortLine g w text l) → IsReadAt w l short.row
+short-read g w text l short = record { genome = g; line = short.line; reads = short.reads; seq_is = short.seq_is; start_is = short.start_is; stop_is = short.stop_is }
+
+module _ {K : Type 0} (kept_of : Row → ℕ → K) (g : Sequences) (limit : ℕ) where
+  -- what is left of a text is shown as the text is
+  pub shows-left : (kept : Row → Row) (row_of : K → Row) (at : ℕ) (text : List ℕ) (size : ℕ) → Shows kept_of g kept row_of at text → Shows kept_of g kept row_of (byte_after at size) (drop size text)
+  shows-left kept row_of at text size s = record {
+    again = s.again;
+    shows = λ skipped w line others r are reads.
+        ap (λ (n : ℕ). row_of (kept_of r n)) (byte-further at size skipped)
+        ∙ s.shows (size + skipped) w line others r (sym (ap lines (drop-drop skipped size text)) ∙ are) reads;
+  }
+
+  -- a line that says no record
+  pub held-unread : (h : Held K) (text line : List ℕ) (size : ℕ) → lines text ≡ line ∷ lines (drop size text) → is_unread line ≡ true → TakesLine kept_of g limit h h text size
+  held-unread h text line size are unread = λ kept row_of s.
+      (λ sound. sound, unread-taken kept g limit (shown row_of h) (lines text) (lines (drop size text)) line are unread)
+
+  -- a record was taken
+  pub held-taken : (old new : Held K) (text line : List ℕ) (size w : ℕ) (r : Row) (one : K)
+      → lines text ≡ line ∷ lines (drop size text) → is_unread line ≡ false → w ≡ unwrap_or old.width (length (columns line)) → 3 ≤ w → w ≤ 6
+      → read g w line ≡ Ok r → Fits g w r → one ≡ kept_of r old.at → old.at < 2 ^ 32 → length old.kept < limit
+      → new ≡ record old { width = Some w; kept = old.kept ++ one ∷ [] } → TakesLine kept_of g limit old new text size
+  held-taken old new text line size w r one are unread wide low high says fits one_is small free new_is = λ kept row_of s.
+      let left = lines (drop size text) in
+      let is : row_of one ≡ kept r = ap row_of one_is ∙ ap (λ (n : ℕ). row_of (kept_of r n)) (sym (byte-here old.at small)) ∙ s.shows 0 w line left r are says in
+      let rows : map row_of new.kept ≡ map row_of old.kept ++ row_of one ∷ [] = ap (λ (h : Held K). map row_of h.kept) new_is ∙ map-append row_of old.kept (one ∷ []) in
+      let width : new.width ≡ Some w = ap (λ (h : Held K). h.width) new_is in
+      let few : length (map row_of old.kept) < limit = omega (arith, free, length-map old.kept row_of) in (
+        λ sound. record-sound kept g limit (shown row_of old) (shown row_of new) line w r (row_of one) sound wide low high fits is few rows width,
+        record-taken kept g limit s.again (shown row_of old) (shown row_of new) (lines text) left line w r (row_of one) are unread wide low high says is few rows width,
+      )
+
+  -- a record is one too many
+  pub held-full : (old : Held K) (text line : List ℕ) (size w : ℕ) (r : Row) → lines text ≡ line ∷ lines (drop size text) → is_unread line ≡ false
+      → w ≡ unwrap_or old.width (length (columns line)) → 3 ≤ w → w ≤ 6 → read g w line ≡ Ok r → limit ≤ length old.kept → RefusesLine kept_of g limit old text cause.TooMany
+  held-full old text line size w r are unread wide low high says full = λ kept row_of.
+      full-refused kept g limit (shown row_of old) (lines text) (lines (drop size text)) line w r are unread wide low high says (omega (arith, full, length-map old.kept row_of))
+
+  -- the record of a line that is read in one pass was taken, and the width is as it was
+  pub short-taken : (old new : Held K) (w : ℕ) (text : List ℕ) (l : ShortLine) (one : K) (short : IsShortLine g w text l) → (3 ≤ w) × (w ≤ 6) → old.width ≡ Some w
+      → one ≡ kept_of short.row old.at → old.at < 2 ^ 32 → length old.kept < limit → new ≡ record old { width = Some w; kept = old.kept ++ one ∷ [] }
+      → TakesLine kept_of g limit old new text l.size
+  short-taken old new w text l one short wide is one_is small free new_is =
+      held-taken old new text short.line l.size w short.row one short.lines_are short.unread (known-at old.width w short.line is) wide.0 wide.1 short.reads short.fits one_is small free new_is
+
+  -- it is one too many
+  pub short-full : (old : Held K) (w : ℕ) (text : List ℕ) (l : ShortLine) → IsShortLine g w text l → (3 ≤ w) × (w ≤ 6) → old.width ≡ Some w → limit ≤ length old.kept
+      → RefusesLine kept_of g limit old text cause.TooMany
+  short-full old w text l short wide is full =
+      held-full old text short.line l.size w short.row short.lines_are short.unread (known-at old.width w short.line is) wide.0 wide.1 short.reads full
+
+  -- ---- line after line
+
+  -- lines of a text were read, and that is left of it
+  abbrev pub TakesUpTo : Held K → Held K → List ℕ → List ℕ → Type 0
+  TakesUpTo old now text left = (kept : Row → Row) (row_of : K → Row) → Shows kept_of g kept row_of old.at text
+      → Shows kept_of g kept row_of now.at left
+      × (AreSound kept g limit (shown row_of old) → AreSound kept g limit (shown row_of now))
+      × ((rest : List (List ℕ)) → after kept g limit (shown row_of old) (lines text ++ rest) ≡ after kept g limit (shown row_of now) (lines left ++ rest))
+
+  pub takes-none : (h : Held K) (text : List ℕ) → TakesUpTo h h text text
+  takes-none h text = λ kept row_of s. (s, λ sound. sound, λ rest. refl)
+
+  pub takes-more : (old now read next : Held K) (text left rest : List ℕ) (size : ℕ) → TakesUpTo old now text left → TakesLine kept_of g limit now read left size
+      → read.number ≡ now.number → read.at ≡ now.at → next ≡ record read { number = read.number + 1; at = byte_after read.at size } → rest ≡ drop size left
+      → TakesUpTo old next text rest
+  takes-more old now read next text left rest size before takes number at next_is rest_is = λ kept row_of s.
+      let so_far = before kept row_of s in
+      let one = takes kept row_of so_far.0 in
+      let at_is : next.at ≡ byte_after now.at size = ap (λ (h : Held K). h.at) next_is ∙ ap (λ (n : ℕ). byte_after n size) at in
+      let there : Shows kept_of g kept row_of next.at (drop size left) =
+      subst (λ (n : ℕ). Shows kept_of g kept row_of n (drop size left)) (sym at_is) (shows-left kept row_of now.at left size so_far.0) in (
+        subst (λ (t : List ℕ). Shows kept_of g kept row_of next.at t) (sym rest_is) there,
+        λ sound.
+            let more : AreSound kept g limit (shown row_of read) = one.0 (so_far.1 sound) in
+            subst (λ (h : Held K). AreSound kept g limit (shown row_of h)) (sym next_is) (record { fit = more.fit; few = more.few }),
+        λ others.
+            so_far.2 others
+            ∙ one.1 now.number others
+            ∙ ap (λ (n : ℕ). kept_draft kept (after_rows g limit (n + 1) (known (shown row_of read)) (lines (drop size left) ++ others))) (sym number)
+            ∙ ap (λ (h : Held K). after kept g limit (shown row_of h) (lines (drop size left) ++ others)) (sym next_is)
+            ∙ ap (λ (t : List ℕ). after kept g limit (shown row_of next) (lines t ++ others)) (sym rest_is),
+      )
+
+  pub takes-all : (old now : Held K) (text left : List ℕ) → TakesUpTo old now text left → left ≡ [] → TakesLines kept_of g limit old now text
+  takes-all old now text left takes none = λ kept row_of s.
+      let so_far = takes kept row_of s in
+      (so_far.1, λ rest. so_far.2 rest ∙ ap (λ (t : List ℕ). after kept g limit (shown row_of now) (lines t ++ rest)) none)
+
+  pub takes-refused : (old now : Held K) (text left : List ℕ) (n : ℕ) (c : LoadCause) → TakesUpTo old now text left → RefusesLine kept_of g limit now left c → n ≡ now.number
+      → RefusesLines kept_of g limit old text (record { line = n; cause = c })
+  takes-refused old now text left n c takes refuses is = λ kept row_of s rest.
+      (takes kept row_of s).2 rest ∙ refuses kept row_of now.number rest ∙ ap (λ (m : ℕ). Err (record { line = m; cause = c })) (sym is)
+
+  -- ---- what is kept, shown as what it stands for
+
+  module _ (kept : Row → Row) (as_row : K → Row) (again : (r : Row) → kept (kept r) ≡ kept r) (stands : (r : Row) (at : ℕ) → as_row (kept_of r at) ≡ kept r) where
+    pub stands-so : (at : ℕ) (text : List ℕ) → Shows kept_of g kept as_row at text
+    stands-so at text = record { again = again; shows = λ skipped w line others r are reads. stands r (byte_after at skipped) }
+
+    pub taken-so : (old new : Held K) (text : List ℕ) → TakesLines kept_of g limit old new text
+        → (rest : List (List ℕ)) → after kept g limit (shown as_row old) (lines text ++ rest) ≡ after kept g limit (shown as_row new) rest
+    taken-so old new text takes = (takes kept as_row (stands-so old.at text)).1
+
+    pub refused-so : (old : Held K) (text : List ℕ) (f : LoadFault) → RefusesLines kept_of g limit old text f
+        → (rest : List (List ℕ)) → after kept g limit (shown as_row old) (lines text ++ rest) ≡ Err f
+    refused-so old text f refuses = refuses kept as_row (stands-so old.at text)
 
 -- where all of each record is kept, records are as they were
 pub rows-all : (rows : List Row) → map (λ r. r) rows ≡ rows

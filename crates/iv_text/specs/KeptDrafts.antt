@@ -1,5 +1,5 @@
 -- What the reading of a BED file in pieces keeps, and what the file says in the midst of it.
-use Rattle.std.specs.Prelude.{◌≡◌, ◌≤◌, ◌⊎◌, ℕ, ◌+◌, ◌++◌, All, MatchOption, List, [], ◌∷◌, Option, None, Result, Ok, Err, length, map}
+use Rattle.std.specs.Prelude.{◌≡◌, ◌≤◌, ◌⊎◌, ℕ, ◌+◌, ◌%◌, ◌^◌, ◌++◌, All, MatchOption, List, [], ◌∷◌, Option, None, Result, Ok, Err, length, map, drop}
 use Rattle.iv_text.specs.BedFile.{Bed, Draft, after_rows, bed_of}
 use Rattle.iv_text.specs.Genome.{Sequences}
 use Rattle.iv_text.specs.Lines.{lines}
@@ -60,6 +60,30 @@ pub record AreSound (kept : Row → Row) (g : Sequences) (limit : ℕ) (l : Line
   pub fit : MatchOption l.width (l.rows ≡ []) (λ w. (3 ≤ w) × (w ≤ 6) × All (IsKept kept g w) l.rows)
   pub few : length l.rows ≤ limit
 
+-- the byte at which a line begins, as far as 32 bits tell it: so many bytes after another
+abbrev pub byte_after : ℕ → ℕ → ℕ
+byte_after at skipped = (at + skipped) % 2 ^ 32
+
+-- the next line begins so many bytes after another: whatever is counted from it on is that much further on
+abbrev pub BeginsAfter : ℕ → ℕ → ℕ → Type 0
+BeginsAfter at size next = (skipped : ℕ) → byte_after next skipped ≡ byte_after at (size + skipped)
+
+-- lines that were read: the number of the next one, the byte at which it begins, the width of the records, once there is one, and
+-- what is kept of each record
+pub record Held (K : Type 0) : Type 0 where
+  pub number : ℕ
+  pub at : ℕ
+  pub width : Option ℕ
+  pub kept : List K
+
+-- lines of which none was read
+abbrev pub none_held : {K : Type 0} → Held K
+none_held = record { number = 1; at = 0; width = None; kept = [] }
+
+-- the same lines, where this is the record that something kept stands for
+abbrev pub shown : {K : Type 0} → (K → Row) → Held K → LinesRead
+shown row_of h = record { number = h.number; width = h.width; rows = map row_of h.kept }
+
 -- the first of these lines was read, and those others are left: whatever comes after them, and whatever the line's number is
 abbrev pub Takes : (Row → Row) → Sequences → ℕ → LinesRead → LinesRead → List (List ℕ) → List (List ℕ) → Type 0
 Takes kept g limit old new all left =
@@ -68,6 +92,34 @@ Takes kept g limit old new all left =
 -- the first of these lines is the first faulty one, and this is its cause
 abbrev pub Refuses : (Row → Row) → Sequences → ℕ → LinesRead → List (List ℕ) → LoadCause → Type 0
 Refuses kept g limit old all c = (n : ℕ) (rest : List (List ℕ)) → kept_draft kept (after_rows g limit n (known old) (all ++ rest)) ≡ Err (record { line = n; cause = c })
+
+module _ {K : Type 0} (kept_of : Row → ℕ → K) (g : Sequences) where
+  -- a way to show what is kept as records: of a record in this text, whose first line begins at this byte, it shows what is to be kept
+  pub record Shows (kept : Row → Row) (row_of : K → Row) (at : ℕ) (text : List ℕ) : Type 0 where
+    pub again : (r : Row) → kept (kept r) ≡ kept r
+    pub shows : (skipped w : ℕ) (line : List ℕ) (others : List (List ℕ)) (r : Row) → lines (drop skipped text) ≡ line ∷ others → read g w line ≡ Ok r
+        → row_of (kept_of r (byte_after at skipped)) ≡ kept r
+
+  -- the first line of a text was read, and what is left of the text is after so many bytes, however what is kept is shown
+  abbrev pub TakesLine : ℕ → Held K → Held K → List ℕ → ℕ → Type 0
+  TakesLine limit old new text size = (kept : Row → Row) (row_of : K → Row) → Shows kept row_of old.at text
+      → (AreSound kept g limit (shown row_of old) → AreSound kept g limit (shown row_of new))
+      × Takes kept g limit (shown row_of old) (shown row_of new) (lines text) (lines (drop size text))
+
+  -- the first line of a text is the first faulty one, and this is its cause
+  abbrev pub RefusesLine : ℕ → Held K → List ℕ → LoadCause → Type 0
+  RefusesLine limit old text c = (kept : Row → Row) (row_of : K → Row) → Refuses kept g limit (shown row_of old) (lines text) c
+
+  -- all lines of a text were read, whatever lines come after them, and however what is kept is shown
+  abbrev pub TakesLines : ℕ → Held K → Held K → List ℕ → Type 0
+  TakesLines limit old new text = (kept : Row → Row) (row_of : K → Row) → Shows kept row_of old.at text
+      → (AreSound kept g limit (shown row_of old) → AreSound kept g limit (shown row_of new))
+      × ((rest : List (List ℕ)) → after kept g limit (shown row_of old) (lines text ++ rest) ≡ after kept g limit (shown row_of new) rest)
+
+  -- the lines of a text have a fault, and this is the first, whatever comes after them
+  abbrev pub RefusesLines : ℕ → Held K → List ℕ → LoadFault → Type 0
+  RefusesLines limit old text f = (kept : Row → Row) (row_of : K → Row) → Shows kept row_of old.at text
+      → (rest : List (List ℕ)) → after kept g limit (shown row_of old) (lines text ++ rest) ≡ Err f
 
 -- a file of which some bytes have come: its lines that were read, and the bytes of a line that isn't ended yet
 pub record Reading : Type 0 where

@@ -25,11 +25,11 @@ pub struct KeptDraft<K: FromRecord<A>, A: Allocator + Copy> {
 }
 
 impl<K: FromRecord<A>, A: Allocator + Copy> Model for KeptDraft<K, A> {
-    ghost use Rattle.iv_text.specs.KeptDrafts.{Reading};
+    ghost use Rattle.iv_text.specs.KeptDrafts.{Reading, shown};
 
     ghost Value = { Reading };
 
-    ghost view = { λ d. record { read = d.read; tail = d.tail.items } };
+    ghost view = { λ d. record { read = shown K.as_row d.read; tail = d.tail.items } };
 }
 
 /// How many bytes there are up to the last LF, with it: 0 without one.
@@ -76,11 +76,7 @@ impl<K: FromRecord<A>, A: Allocator + Copy> KeptDraft<K, A> {
     {
         KeptDraft {
             alloc,
-            read: KeptLines {
-                number: 1,
-                width: None,
-                kept: Batches::new(alloc),
-            },
+            read: KeptLines::new(alloc),
             tail: Vec::new(alloc),
         }
     }
@@ -167,13 +163,8 @@ impl<K: FromRecord<A>, A: Allocator + Copy> KeptDraft<K, A> {
             mut read,
             tail,
         } = self;
-        K::law_of_kept();
         read.take_lines(alloc, genome, limit, tail.as_slice())?;
-        let KeptLines {
-            number: _,
-            width,
-            kept,
-        } = read;
+        let (width, kept) = read.finish();
         Ok((width.unwrap_or(empty_width), kept))
     }
 }

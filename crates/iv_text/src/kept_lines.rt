@@ -1,8 +1,7 @@
 //! Lines of a BED file, and what is kept of their records.
-ghost use Rattle.std.specs.Prelude.{◌≡◌, ◌<◌, ◌≤◌, ◌+◌, ◌^◌, ◌⊎◌, ◌++◌, ◌∷◌, [], ℕ, List, length, drop, map, Some, Err, IfOk, IfErr, OnOk, MatchOption};
-ghost use Rattle.iv_text.specs.Lines.{lines};
+ghost use Rattle.std.specs.Prelude.{◌≡◌, ◌<◌, ◌≤◌, ◌+◌, ◌^◌, ◌⊎◌, ◌++◌, ◌∷◌, [], ℕ, length, Some, IfOk, IfErr, OnOk, MatchOption};
 ghost use Rattle.iv_text.specs.declared.fault.LoadCause.TheVariants as cause;
-ghost use Rattle.iv_text.specs.KeptDrafts.{AreSound, Takes, Refuses, after};
+ghost use Rattle.iv_text.specs.KeptDrafts.{AreSound, BeginsAfter, RefusesLine, RefusesLines, TakesLine, TakesLines, byte_after, none_held, shown};
 
 use crate::batches::Batches;
 use crate::bed_file::{is_unread, width_for};
@@ -17,34 +16,48 @@ use std::marker::Model;
 
 /// What lines of a BED file have said: how many columns their records have, and what is kept of these.
 #[derive(Drop)]
-pub(crate) struct KeptLines<K: FromRecord<A>, A: Allocator + Copy> {
+pub struct KeptLines<K: FromRecord<A>, A: Allocator + Copy> {
     // The number of the next line, from 1.
-    pub(crate) number: u64,
-    pub(crate) width: Option<u8>,
-    pub(crate) kept: Batches<K, A>,
+    number: u64,
+    // The byte at which the next line begins, with 32 bits.
+    at: u32,
+    width: Option<u8>,
+    kept: Batches<K, A>,
 }
 
 impl<K: FromRecord<A>, A: Allocator + Copy> Model for KeptLines<K, A> {
-    ghost use Rattle.std.specs.Prelude.{map};
-    ghost use Rattle.iv_text.specs.KeptDrafts.{LinesRead};
+    ghost use Rattle.iv_text.specs.KeptDrafts.{Held};
 
-    ghost Value = { LinesRead };
+    ghost Value = { Held K };
 
-    ghost view = { λ l. record { number = l.number; width = l.width; rows = map K.as_row l.kept } };
+    ghost view = { λ l. record { number = l.number; at = l.at; width = l.width; kept = l.kept } };
 }
 
-/// What is kept of a record.
+/// What is kept of a record whose line begins at this byte.
 fn kept_of<K: FromRecord<A>, A: Allocator + Copy>(
     alloc: A,
     read: &RecordRef<'_>,
+    at: u32,
 ) -> Result<K, LoadCause>
-    ensures ok { IfOk result (λ one. K.as_row one ≡ K.kept read.now) }
+    ensures ok { IfOk result (λ one. one ≡ K.kept_of read.now at) }
     ensures err { IfErr result (λ c. c ≡ cause.Memory) }
 {
-    Ok(K::from_record(alloc, read)?)
+    Ok(K::from_record(alloc, read, at)?)
 }
 
 impl<K: FromRecord<A>, A: Allocator + Copy> KeptLines<K, A> {
+    /// No line was read.
+    pub fn new(alloc: A) -> Self
+        ensures { result ≡ none_held }
+    {
+        KeptLines {
+            number: 1,
+            at: 0,
+            width: None,
+            kept: Batches::new(alloc),
+        }
+    }
+
     /// How many columns the records have, once there is one.
     fn width(&self) -> Option<u8>
         ensures { result ≡ self.now.width }
@@ -52,20 +65,29 @@ impl<K: FromRecord<A>, A: Allocator + Copy> KeptLines<K, A> {
         self.width
     }
 
-    /// Counts a line.
-    fn count_line(&mut self)
+    /// The byte at which the next line begins.
+    fn at(&self) -> u32
+        ensures value { result ≡ self.now.at }
+        ensures small { result < 2 ^ 32 }
+    {
+        self.at
+    }
+
+    /// Counts a line of so many bytes.
+    fn count_line(&mut self, size: usize)
         requires { self.old.number + 1 < 2 ^ 64 }
-        ensures { self.new ≡ record self.old { number = self.old.number + 1 } }
+        ensures { self.new ≡ record self.old { number = self.old.number + 1; at = byte_after self.old.at size } }
     {
         self.number += 1;
+        self.at = self.at.wrapping_add((size % 4_294_967_296) as u32);
     }
 
     /// Takes what is kept of one more record of this width, unless there are as many as the limit.
     fn take_one(&mut self, limit: u32, width: u8, one: K) -> Result<(), LoadCause>
-        ensures ok { OnOk result (self.new ≡ record self.old { width = Some width; rows = self.old.rows ++ K.as_row one ∷ [] }) }
-        ensures free { OnOk result (length self.old.rows < limit) }
+        ensures ok { OnOk result (self.new ≡ record self.old { width = Some width; kept = self.old.kept ++ one ∷ [] }) }
+        ensures free { OnOk result (length self.old.kept < limit) }
         ensures number { self.new.number ≡ self.old.number }
-        ensures err { IfErr result (λ c. (c ≡ cause.Memory) ⊎ ((c ≡ cause.TooMany) × (limit ≤ length self.old.rows))) }
+        ensures err { IfErr result (λ c. (c ≡ cause.Memory) ⊎ ((c ≡ cause.TooMany) × (limit ≤ length self.old.kept))) }
     {
         if self.kept.len() >= limit as usize {
             return Err(LoadCause::TooMany);
@@ -85,12 +107,12 @@ impl<K: FromRecord<A>, A: Allocator + Copy> KeptLines<K, A> {
         limit: u32,
         text: &[u8],
     ) -> Result<Option<usize>, LoadCause>
-        requires sound { AreSound K.kept reader.now limit self.old }
-        ensures sound { OnOk result (AreSound K.kept reader.now limit self.new) }
+        requires sound { AreSound K.kept reader.now limit (shown K.as_row self.old) }
         ensures number { self.new.number ≡ self.old.number }
+        ensures at { OnOk result (self.new.at ≡ self.old.at) }
         ensures ok { IfOk result (λ taken. MatchOption taken (self.new ≡ self.old)
-            (λ size. (0 < size) × (size ≤ length text.now) × Takes K.kept reader.now limit self.old self.new (lines text.now) (lines (drop size text.now)))) }
-        ensures err { IfErr result (λ c. (c ≡ cause.Memory) ⊎ Refuses K.kept reader.now limit self.old (lines text.now) c) }
+            (λ size. (0 < size) × (size ≤ length text.now) × TakesLine K.kept_of reader.now limit self.old self.new text.now size)) }
+        ensures err { IfErr result (λ c. (c ≡ cause.Memory) ⊎ RefusesLine K.kept_of reader.now limit self.old text.now c) }
     {
         let Some(width) = self.width() else {
             return Ok(None);
@@ -101,10 +123,10 @@ impl<K: FromRecord<A>, A: Allocator + Copy> KeptLines<K, A> {
         let Some(line) = reader.read_short(width, text) else {
             return Ok(None);
         };
-        let Some(one) = K::from_place(alloc, width, &line) else {
+        let at = self.at();
+        let Some(one) = K::from_place(alloc, width, &line, at) else {
             return Ok(None);
         };
-        K::law_of_kept();
         self.take_one(limit, width, one)?;
         Ok(Some(line.size))
     }
@@ -117,13 +139,13 @@ impl<K: FromRecord<A>, A: Allocator + Copy> KeptLines<K, A> {
         limit: u32,
         text: &'t [u8],
     ) -> Result<usize, LoadCause>
-        requires sound { AreSound K.kept reader.old limit self.old }
+        requires sound { AreSound K.kept reader.old limit (shown K.as_row self.old) }
         requires some { 0 < length text.now }
         ensures same { reader.new ≡ reader.old }
-        ensures sound { OnOk result (AreSound K.kept reader.old limit self.new) }
         ensures number { self.new.number ≡ self.old.number }
-        ensures ok { IfOk result (λ size. (0 < size) × (size ≤ length text.now) × Takes K.kept reader.old limit self.old self.new (lines text.now) (lines (drop size text.now))) }
-        ensures err { IfErr result (λ c. (c ≡ cause.Memory) ⊎ Refuses K.kept reader.old limit self.old (lines text.now) c) }
+        ensures at { OnOk result (self.new.at ≡ self.old.at) }
+        ensures ok { IfOk result (λ size. (0 < size) × (size ≤ length text.now) × TakesLine K.kept_of reader.old limit self.old self.new text.now size) }
+        ensures err { IfErr result (λ c. (c ≡ cause.Memory) ⊎ RefusesLine K.kept_of reader.old limit self.old text.now c) }
     {
         if let Some(size) = self.take_short(alloc, reader, limit, text)? {
             return Ok(size);
@@ -139,26 +161,31 @@ impl<K: FromRecord<A>, A: Allocator + Copy> KeptLines<K, A> {
             Ok(record) => record,
             Err(fault) => return Err(LoadCause::Record(fault)),
         };
-        K::law_of_kept();
-        let one = kept_of(alloc, &record)?;
+        let at = self.at();
+        let one = kept_of(alloc, &record, at)?;
         self.take_one(limit, width, one)?;
         Ok(size)
     }
 
-    /// Takes all lines of a text, up to the first fault.
-    pub(crate) fn take_lines(
+    /// Takes all lines of a text, up to the first fault. The text begins where the lines that were read end.
+    ///
+    /// # Errors
+    ///
+    /// The first fault, or memory was refused. Nothing is said of the lines then.
+    pub fn take_lines(
         &mut self,
         alloc: A,
         genome: &Genome<A>,
         limit: u32,
         text: &[u8],
     ) -> Result<(), LoadFault>
-        requires sound { AreSound K.kept genome.now limit self.old }
+        requires sound { AreSound K.kept genome.now limit (shown K.as_row self.old) }
         requires few { self.old.number + length text.now < 2 ^ 64 }
-        ensures sound { OnOk result (AreSound K.kept genome.now limit self.new) }
+        ensures sound { OnOk result (AreSound K.kept genome.now limit (shown K.as_row self.new)) }
         ensures few { OnOk result (self.new.number ≤ self.old.number + length text.now) }
-        ensures ok { OnOk result ((rest : List (List ℕ)) → after K.kept genome.now limit self.old (lines text.now ++ rest) ≡ after K.kept genome.now limit self.new rest) }
-        ensures err { IfErr result (λ f. (f ≡ record { line = 0; cause = cause.Memory }) ⊎ ((rest : List (List ℕ)) → after K.kept genome.now limit self.old (lines text.now ++ rest) ≡ Err f)) }
+        ensures at { OnOk result (BeginsAfter self.old.at (length text.now) self.new.at) }
+        ensures ok { OnOk result (TakesLines K.kept_of genome.now limit self.old self.new text.now) }
+        ensures err { IfErr result (λ f. (f ≡ record { line = 0; cause = cause.Memory }) ⊎ RefusesLines K.kept_of genome.now limit self.old text.now f) }
     {
         let mut reader = RecordReader::new(genome);
         let mut left = text;
@@ -166,11 +193,19 @@ impl<K: FromRecord<A>, A: Allocator + Copy> KeptLines<K, A> {
             match self.take_line(alloc, &mut reader, limit, left) {
                 Ok(size) => {
                     left = &left[size..];
-                    self.count_line();
+                    self.count_line(size);
                 }
                 Err(cause) => return Err(LoadFault::at(self.number, cause)),
             }
         }
         Ok(())
+    }
+
+    /// How many columns the records have, if there is one, and what is kept of each.
+    pub fn finish(self) -> (Option<u8>, Batches<K, A>)
+        ensures width { result.0 ≡ self.width }
+        ensures kept { result.1 ≡ self.kept }
+    {
+        (self.width, self.kept)
     }
 }

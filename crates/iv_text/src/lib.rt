@@ -44,6 +44,7 @@ pub use iv_bytes::{
     WriteFault, put_all, put_pieces,
 };
 pub use kept_draft::KeptDraft;
+pub use kept_lines::KeptLines;
 pub use laws::{
     bed_or_first_fault, first_line_ends_at_feed, genome_or_first_fault, last_line_ends_at_end,
     one_length_changes, one_ordered_list,

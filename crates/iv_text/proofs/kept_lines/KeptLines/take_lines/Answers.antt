@@ -1,32 +1,30 @@
-use Rattle.std.proofs.Common.{◌≡◌, ◌∙◌, ◌+◌, ◌-◌, ◌++◌, ℕ, List, length, take, drop, sym, ap, subst, arith, length-drop}
-use Rattle.iv_text.specs.BedFile.{after_rows}
-use Rattle.iv_text.specs.Lines.{lines}
-use Rattle.iv_text.specs.KeptDrafts.{LinesRead, AreSound, Takes, after, kept_draft, known}
-use Rattle.iv_text.proofs.KeptLemmas.{rest-whole}
+use Rattle.std.proofs.Common.{◌≡◌, ◌∙◌, ◌-◌, List, ℕ, length, take, drop, sym, ap, subst, arith, length-drop}
+use Rattle.iv_text.specs.KeptDrafts.{AreSound, TakesLine, shown}
+use Rattle.iv_text.proofs.KeptLemmas.{begins-further, begins-next, rest-whole, stands-so, takes-more}
 use Rattle.iv_text.proofs.kept_lines.KeptLines.take_lines.Goals as goal
 
 pub lines-preserved : goal.lines-preserved
 lines-preserved g c =
-    let kept = g.K.FromRecord.kept in
+    let k = g.K.FromRecord in
+    let law = g.met.K.FromRecord in
     let genome = c.args.genome.now in
     let limit = c.args.limit in
     let i = c.lines.invariant in
+    let now = c.lines.self in
     let left = c.lines.left.now in
     let size = c.in-Ok.size in
     let read = c.take_line.new.self in
-    let sound : AreSound kept genome limit read = rw i.same at c.in-Ok.ensures.sound in
-    let takes : Takes kept genome limit c.lines.self read (lines left) (lines (drop size left)) = rw i.same at c.in-Ok.ensures.ok.2 in
-    let counted : c.count_line.new.self.number ≡ read.number + 1 = ap (λ (l : LinesRead). l.number) c.count_line.ensures in
+    let takes : TakesLine k.kept_of genome limit now read left size = rw i.same at c.in-Ok.ensures.ok.2 in
+    let more : AreSound k.kept genome limit (shown k.as_row read) = (takes k.kept k.as_row (stands-so k.kept_of genome limit k.kept k.as_row law.again law.stands now.at left)).0 i.sound in
+    let counted = ap (λ h. h.number) c.count_line.ensures in
     let dropped : length (drop size left) ≡ length left - size = length-drop size left in
     let rest_is : length (take (length left - size) (drop size left)) ≡ length (drop size left) = ap (λ (t : List ℕ). length t) (rest-whole left size) in
     record {
       same = c.in-Ok.ensures.same ∙ i.same;
-      sound = subst (AreSound kept genome limit) (sym c.count_line.ensures) (record { fit = sound.fit; few = sound.few });
-      rest = λ more.
-          i.rest more
-          ∙ takes c.lines.self.number more
-          ∙ ap (λ (n : ℕ). kept_draft kept (after_rows genome limit (n + 1) (known read) (lines (drop size left) ++ more))) (sym c.in-Ok.ensures.number)
-          ∙ ap (λ (l : LinesRead). after kept genome limit l (lines (drop size left) ++ more)) (sym c.count_line.ensures)
-          ∙ ap (λ (t : List ℕ). after kept genome limit c.count_line.new.self (lines t ++ more)) (sym (rest-whole left size));
+      sound = subst (λ h. AreSound k.kept genome limit (shown k.as_row h)) (sym c.count_line.ensures) (record { fit = more.fit; few = more.few });
+      rest = takes-more k.kept_of genome limit c.args.self.now now read c.count_line.new.self c.args.text.now left (take (length left - size) (drop size left)) size i.rest takes
+          c.in-Ok.ensures.number c.in-Ok.ensures.at c.count_line.ensures (rest-whole left size);
+      at = begins-further c.args.self.now.at now.at c.count_line.new.self.at (length c.args.text.now) (length left) size (length (take (length left - size) (drop size left)))
+          (begins-next now.at read.at size c.count_line.new.self.at c.in-Ok.ensures.at (ap (λ h. h.at) c.count_line.ensures)) i.at (omega (arith, c.in-Ok.ensures.ok.1, dropped, rest_is));
       number = omega (arith, i.number, c.in-Ok.ensures.ok.0, c.in-Ok.ensures.ok.1, c.in-Ok.ensures.number, counted, dropped, rest_is);
     }
