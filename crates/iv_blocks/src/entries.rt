@@ -91,7 +91,7 @@ fn put_entry<A: Allocator + Copy>(
 ) -> Result<Vec<u8, A>, AllocError>
     ensures { OnOk result (entries.new ≡ entries.old ++ kept_entry genome.now (listed options.now.summaries) (with_members block (map (λ row. row.now) members.now)) ∷ []) }
 {
-    let name = genome.name(block.sequence).unwrap_or(b"");
+    let name = genome.name_of(block.sequence);
     let results = results_in(alloc, options.summaries.as_slice(), name, members, memory)?;
     let kept = KeptBlock::copy_of(alloc, block.stop, results.as_slice())?;
     entries.push(MOST_IN_BATCH, ((block.sequence, false, block.start), kept))?;

@@ -42,8 +42,8 @@ pub(crate) fn put_gaps<B: BlocksAhead, A: Allocator + Copy, S: Sink>(
     ensures steps { TakesForEach (B.steps counter.old) (B.steps counter.new) (B.left blocks.old) (B.left blocks.new) }
 {
     for rank in 0..genome.count() {
-        let name = genome.name(rank).unwrap_or(b"");
-        let length = genome.length(rank).unwrap_or(0);
+        let name = genome.name_of(rank);
+        let length = genome.length_of(rank);
         put_sequence(!limited, name, rank, length, blocks, counter, sink)?;
     }
     Ok(())

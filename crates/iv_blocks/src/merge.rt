@@ -35,7 +35,7 @@ impl<A: Allocator + Copy> Blocks<A> {
         let mut walk = self.ledger.walk(&(0, false, 0), meter);
         while let Some((key, block)) = walk.next(meter) {
             let (sequence, _, start) = *key;
-            let name = genome.name(sequence).unwrap_or(b"");
+            let name = genome.name_of(sequence);
             put_block(name, start, block, sink)?;
         }
         Ok(())

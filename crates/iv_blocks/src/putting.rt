@@ -137,7 +137,7 @@ impl<A: Allocator + Copy> Blocks<A> {
         }
         let members = Members::of(track, group, start, stop, meter);
         let rows = gather(self.alloc, members, meter)?;
-        let name = genome.name(group.rank).unwrap_or(b"");
+        let name = genome.name_of(group.rank);
         let results = results(self.alloc, summaries, name, rows.as_slice())?;
         Ok(KeptBlock::copy_of(self.alloc, stop, results.as_slice())?)
     }

@@ -110,8 +110,8 @@ pub(crate) fn put_sequence<A: Allocator + Copy, C: DepthChanges, S: Sink>(
     ensures past { (f : ℕ → ℕ → ℕ) → C.are_of changes.old genome.now f rank 0 0 → OnOk result (C.are_past changes.new genome.now f (rank + 1)) }
     ensures steps { TakesForEach (C.reading meter.old) (C.reading meter.new) (C.left changes.old) (C.left changes.new) }
 {
-    let name = genome.name(rank).unwrap_or(b"");
-    let length = genome.length(rank).unwrap_or(0);
+    let name = genome.name_of(rank);
+    let length = genome.length_of(rank);
     let mut start: u64 = 0;
     let mut depth: i64 = 0;
     while let Some((position, change)) = changes.next_on(rank, meter) {

@@ -31,7 +31,7 @@ fn differs<A: Allocator + Copy>(genome: &Genome<A>, name: &[u8], count: usize) -
     ensures { result ≡ differs_in genome.now name.now count }
 {
     match genome.rank(name) {
-        Some(rank) => count as u64 != genome.length(rank).unwrap_or(0),
+        Some(rank) => count as u64 != genome.length_of(rank),
         None => false,
     }
 }

@@ -88,7 +88,7 @@ fn put_front<R: BedRecord, A: Allocator + Copy, S: Sink>(
     requires { strand ≡ strand_of shown (R.as_row row.now) }
     ensures { Puts (S.state sink.old) (S.state sink.new) result (front shown genome.now (R.as_row row.now)) }
 {
-    let sequence = genome.name(row.seq()).unwrap_or(b"");
+    let sequence = genome.name_of(row.seq());
     let mut start = itoa::Buffer::new();
     let mut stop = itoa::Buffer::new();
     put_pieces(

@@ -1,5 +1,6 @@
 -- The limits of a script: how many lines it may have, and how many bytes a line.
 use Rattle.std.specs.Prelude.{◌≡◌, ℕ, ◌+◌, ◌≤◌, ◌<◌, ◌==◌, ◌||◌, ◌++◌, ◌∷◌, [], ◌⊎◌, ⊤, All, List, Bool, nat_lt, cond, Option, None, Some, length}
+use Rattle.iv_text.specs.Bytes.{line_feed}
 
 -- one byte more in the first of these lines; where there is none, it is a line of its own
 abbrev pub one_longer : List ℕ → List ℕ
@@ -9,11 +10,11 @@ one_longer (size ∷ sizes) = (size + 1) ∷ sizes
 -- how many bytes each line of a text has before its LF, a CR included; a last line without LF has those up to the end
 abbrev pub line_sizes : List ℕ → List ℕ
 line_sizes [] = []
-line_sizes (b ∷ bs) = cond (b == 10) (0 ∷ line_sizes bs) (one_longer (line_sizes bs))
+line_sizes (b ∷ bs) = cond (b == line_feed) (0 ∷ line_sizes bs) (one_longer (line_sizes bs))
 
 -- these bytes are whole lines: there are none, or the last of them is an LF
 abbrev pub AreWholeLines : List ℕ → Type 0
-AreWholeLines bytes = (bytes ≡ []) ⊎ ((front : List ℕ) × (bytes ≡ front ++ 10 ∷ []))
+AreWholeLines bytes = (bytes ≡ []) ⊎ ((front : List ℕ) × (bytes ≡ front ++ line_feed ∷ []))
 
 -- lines of these sizes keep both limits: they are not too many, and none has too many bytes
 abbrev pub AreWithin : ℕ → ℕ → List ℕ → Type 0

@@ -1,5 +1,6 @@
 //! Edits of the two tracks of a session.
 ghost use Rattle.std.specs.Prelude.{◌≡◌, ◌≢◌, ◌≤◌, Err, IfOk, IfErr, OnOk, OnErr};
+ghost use Rattle.iv_text.specs.Bytes.{tab};
 ghost use Rattle.iv_text.specs.Fields.{fields_left};
 ghost use Rattle.iv_text.specs.Read.{Fits, read_columns};
 ghost use Rattle.iv_session.specs.TrackEdits.{EditFits, FitsIn, IsEdited, RefusesIn, both, edit_said, read_two, width_of};
@@ -62,7 +63,7 @@ impl<'a> Edit<'a> {
         fields: Option<&'a [u8]>,
     ) -> Result<Edit<'a>, RecordFault>
         requires { (3 ≤ width) × (width ≤ 6) }
-        ensures value { result ≡ edit_said genome.now width kind (fields_left 9 fields.entry) }
+        ensures value { result ≡ edit_said genome.now width kind (fields_left tab fields.entry) }
         ensures fits { IfOk result (EditFits (Fits genome.now width)) }
     {
         match kind {
@@ -104,7 +105,7 @@ fn one_row<'a, A: Allocator + Copy>(
     fields: Option<&'a [u8]>,
 ) -> Result<RecordRef<'a>, RecordFault>
     requires { (3 ≤ width) × (width ≤ 6) }
-    ensures value { result ≡ read_columns genome.now width (fields_left 9 fields.entry) }
+    ensures value { result ≡ read_columns genome.now width (fields_left tab fields.entry) }
     ensures fits { IfOk result (Fits genome.now width) }
 {
     read_record(genome, width, fields.unwrap_or(b""))
@@ -134,7 +135,7 @@ fn two_rows<'a, A: Allocator + Copy>(
     fields: Option<&'a [u8]>,
 ) -> Result<(RecordRef<'a>, RecordRef<'a>), RecordFault>
     requires { (3 ≤ width) × (width ≤ 6) }
-    ensures value { result ≡ read_two genome.now width (fields_left 9 fields.entry) }
+    ensures value { result ≡ read_two genome.now width (fields_left tab fields.entry) }
     ensures first { IfOk result (λ rows. Fits genome.now width rows.0) }
     ensures second { IfOk result (λ rows. Fits genome.now width rows.1) }
 {

@@ -1,5 +1,6 @@
 //! The fields after a command.
 ghost use Rattle.std.specs.Prelude.{◌≡◌, ◌<◌, ◌≤◌, ◌++◌, length, MatchOption};
+ghost use Rattle.iv_text.specs.Bytes.{tab};
 ghost use Rattle.iv_text.specs.Fields.{columns as columns_of, fields_left};
 ghost use Rattle.iv_session.specs.Requests.{no_fields, only_field, two_fields as two_of};
 
@@ -37,7 +38,7 @@ impl<'a> Field<'a> {
 
 /// No field is after a command that takes none.
 pub(crate) fn no_field(fields: Option<&[u8]>) -> Result<(), RequestFault>
-    ensures { result ≡ no_fields (fields_left 9 fields.entry) }
+    ensures { result ≡ no_fields (fields_left tab fields.entry) }
 {
     if fields.is_some() {
         return Err(RequestFault::Command);
@@ -47,7 +48,7 @@ pub(crate) fn no_field(fields: Option<&[u8]>) -> Result<(), RequestFault>
 
 /// The field after a command that takes one.
 pub(crate) fn one_field(fields: Option<&[u8]>) -> Result<Field<'_>, RequestFault>
-    ensures { result ≡ only_field (fields_left 9 fields.entry) }
+    ensures { result ≡ only_field (fields_left tab fields.entry) }
 {
     let mut columns = columns(fields.ok_or(RequestFault::Command)?);
     let field = columns.next().ok_or(RequestFault::Command)?;
@@ -59,7 +60,7 @@ pub(crate) fn one_field(fields: Option<&[u8]>) -> Result<Field<'_>, RequestFault
 
 /// The fields after a command that takes two.
 pub(crate) fn two_fields(fields: Option<&[u8]>) -> Result<(Field<'_>, Field<'_>), RequestFault>
-    ensures { result ≡ two_of (fields_left 9 fields.entry) }
+    ensures { result ≡ two_of (fields_left tab fields.entry) }
 {
     let mut columns = columns(fields.ok_or(RequestFault::Command)?);
     let first = columns.next().ok_or(RequestFault::Command)?;

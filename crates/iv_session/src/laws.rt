@@ -1,5 +1,6 @@
 //! Laws of the definitions: functions that do nothing, whose contracts are the laws.
 ghost use Rattle.std.specs.Prelude.{◌≡◌, ◌↔◌, ◌⊎◌, ℕ, ◌+◌, ◌≤◌, ◌<◌, ◌++◌, ◌∷◌, [], List, Some, None, Result, Ok, Err, length};
+ghost use Rattle.iv_text.specs.Bytes.{line_feed};
 ghost use Rattle.iv_text.specs.Lines.{lines, HasNoFeed};
 ghost use Rattle.iv_workspace.specs.States.{State};
 ghost use Rattle.iv_session.specs.Endings.{Ran, AreSound, HadMemory, IsTooLongAt};
@@ -12,7 +13,7 @@ ghost use Rattle.iv_session.specs.declared.script.Summary.{Summary};
 /// The sizes of lines: the bytes before each LF, a CR included, and those of a last line without LF; there are as many as lines.
 pub fn sizes_are_of_lines()
     ensures none { line_sizes [] ≡ [] }
-    ensures ended { (line rest : List ℕ) → HasNoFeed line → line_sizes ((line ++ 10 ∷ []) ++ rest) ≡ length line ∷ line_sizes rest }
+    ensures ended { (line rest : List ℕ) → HasNoFeed line → line_sizes ((line ++ line_feed ∷ []) ++ rest) ≡ length line ∷ line_sizes rest }
     ensures last { (line : List ℕ) → HasNoFeed line → 0 < length line → line_sizes line ≡ length line ∷ [] }
     ensures as_many { (text : List ℕ) → length (line_sizes text) ≡ length (lines text) }
 {}

@@ -1,5 +1,6 @@
 //! What a line of a script asks for.
 ghost use Rattle.std.specs.Prelude.{◌≡◌, ◌≤◌, IfOk};
+ghost use Rattle.iv_text.specs.Bytes.{tab};
 ghost use Rattle.iv_text.specs.Fields.{fields_left};
 ghost use Rattle.iv_text.specs.Genome.{most_length};
 ghost use Rattle.iv_workspace.specs.States.{State};
@@ -9,7 +10,7 @@ ghost use Rattle.iv_session.specs.declared.request.Request.TheVariants as reques
 use crate::edit::{Edit, EditKind, Target};
 use crate::fault::RequestFault;
 use crate::fields::{Field, no_field, one_field, two_fields};
-use iv_text::{read_number, split_first_column};
+use iv_text::{MOST_LENGTH, read_number, split_first_column};
 use iv_workspace::Session;
 use std::alloc::Allocator;
 
@@ -35,7 +36,7 @@ fn read_length(field: &[u8]) -> Result<u64, RequestFault>
     ensures bounded { IfOk result (λ length. length ≤ most_length) }
 {
     match read_number(field) {
-        Some(length) if length <= 4_000_000_000 => Ok(length),
+        Some(length) if length <= MOST_LENGTH => Ok(length),
         _ => Err(RequestFault::Length),
     }
 }
@@ -63,7 +64,7 @@ impl<'a> Request<'a> {
         word: &'a [u8],
         fields: Option<&'a [u8]>,
     ) -> Result<Request<'a>, RequestFault>
-        ensures value { result ≡ asked_by session.now word.now (fields_left 9 fields.entry) }
+        ensures value { result ≡ asked_by session.now word.now (fields_left tab fields.entry) }
         ensures fits { IfOk result (RequestFits session.now) }
     {
         if word == b"add".as_slice() {
@@ -100,7 +101,7 @@ impl<'a> Request<'a> {
         kind: EditKind,
         fields: Option<&'a [u8]>,
     ) -> Result<Request<'a>, RequestFault>
-        ensures value { result ≡ edit_asked session.now target kind (fields_left 9 fields.entry) }
+        ensures value { result ≡ edit_asked session.now target kind (fields_left tab fields.entry) }
         ensures fits { IfOk result (RequestFits session.now) }
     {
         let width = target.width(session)?;
@@ -110,7 +111,7 @@ impl<'a> Request<'a> {
 
     /// To give the sequence of the first field the length of the second.
     fn resize(fields: Option<&'a [u8]>) -> Result<Request<'a>, RequestFault>
-        ensures value { result ≡ of_fields (λ pair. request.Resize pair.0 pair.1) (name_and_length (two_fields_of (fields_left 9 fields.entry))) }
+        ensures value { result ≡ of_fields (λ pair. request.Resize pair.0 pair.1) (name_and_length (two_fields_of (fields_left tab fields.entry))) }
         ensures fits { (s : State) → IfOk result (RequestFits s) }
     {
         let (name, field) = two_fields(fields)?;
@@ -120,7 +121,7 @@ impl<'a> Request<'a> {
 
     /// To open a view under the first field, by the words of the second.
     fn open(fields: Option<&'a [u8]>) -> Result<Request<'a>, RequestFault>
-        ensures { result ≡ of_fields (λ pair. request.Open pair.0 pair.1) (two_fields_of (fields_left 9 fields.entry)) }
+        ensures { result ≡ of_fields (λ pair. request.Open pair.0 pair.1) (two_fields_of (fields_left tab fields.entry)) }
     {
         let (name, words) = two_fields(fields)?;
         Ok(Request::Open(name, words))
@@ -128,21 +129,21 @@ impl<'a> Request<'a> {
 
     /// To close the view of the one field.
     fn close(fields: Option<&'a [u8]>) -> Result<Request<'a>, RequestFault>
-        ensures { result ≡ of_fields (λ name. request.Close name) (only_field (fields_left 9 fields.entry)) }
+        ensures { result ≡ of_fields (λ name. request.Close name) (only_field (fields_left tab fields.entry)) }
     {
         Ok(Request::Close(one_field(fields)?))
     }
 
     /// To print the view of the one field.
     fn print(fields: Option<&'a [u8]>) -> Result<Request<'a>, RequestFault>
-        ensures { result ≡ of_fields (λ name. request.Print name) (only_field (fields_left 9 fields.entry)) }
+        ensures { result ≡ of_fields (λ name. request.Print name) (only_field (fields_left tab fields.entry)) }
     {
         Ok(Request::Print(one_field(fields)?))
     }
 
     /// To print all views; there is no field.
     fn print_all(fields: Option<&'a [u8]>) -> Result<Request<'a>, RequestFault>
-        ensures { result ≡ of_fields (λ none. request.PrintAll) (no_fields (fields_left 9 fields.entry)) }
+        ensures { result ≡ of_fields (λ none. request.PrintAll) (no_fields (fields_left tab fields.entry)) }
     {
         no_field(fields)?;
         Ok(Request::PrintAll)

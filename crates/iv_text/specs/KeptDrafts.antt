@@ -1,5 +1,6 @@
 -- What the reading of a BED file in pieces keeps, and what the file says in the midst of it.
 use Rattle.std.specs.Prelude.{◌≡◌, ◌≤◌, ◌⊎◌, ℕ, ◌+◌, ◌%◌, ◌^◌, ◌++◌, All, MatchOption, List, [], ◌∷◌, Option, None, Result, Ok, Err, length, map, drop}
+use Rattle.iv_text.specs.Bytes.{line_feed}
 use Rattle.iv_text.specs.BedFile.{Bed, Draft, after_rows, bed_of}
 use Rattle.iv_text.specs.Genome.{Sequences}
 use Rattle.iv_text.specs.Lines.{lines}
@@ -140,7 +141,7 @@ size_of r = r.read.number + length r.tail
 
 -- the bytes end at a line feed
 abbrev pub EndsAtFeed : List ℕ → Type 0
-EndsAtFeed bytes = (front : List ℕ) × (bytes ≡ front ++ 10 ∷ [])
+EndsAtFeed bytes = (front : List ℕ) × (bytes ≡ front ++ line_feed ∷ [])
 
 -- the bytes are lines that are ended, each by its line feed, or there are none
 abbrev pub IsEnded : List ℕ → Type 0

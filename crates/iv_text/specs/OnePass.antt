@@ -31,7 +31,7 @@ pub record BeginsWithPlace (g : Sequences) (text : List ℕ) (rank start stop : 
   pub starts : List ℕ
   pub stops : List ℕ
   pub len : ℕ
-  pub text_is : text ≡ name ++ 9 ∷ (starts ++ 9 ∷ (stops ++ rest))
+  pub text_is : text ≡ name ++ tab ∷ (starts ++ tab ∷ (stops ++ rest))
   pub named : IsNamed g name rank len
   pub start_is : number starts ≡ Some start
   pub stop_is : number stops ≡ Some stop
@@ -48,12 +48,12 @@ IsCell cell = All (λ b. ends_cell b ≡ false) cell
 
 -- the text begins with a TAB and a good cell, and the rest is after them
 abbrev pub BeginsWithCell : (List ℕ → Type 0) → List ℕ → List ℕ → Type 0
-BeginsWithCell Good text rest = (cell : List ℕ) × (text ≡ 9 ∷ (cell ++ rest)) × IsCell cell × Good cell
+BeginsWithCell Good text rest = (cell : List ℕ) × (text ≡ tab ∷ (cell ++ rest)) × IsCell cell × Good cell
 
 -- cells, each after its TAB
 abbrev pub laid : List (List ℕ) → List ℕ
 laid [] = []
-laid (cell ∷ cells) = 9 ∷ (cell ++ laid cells)
+laid (cell ∷ cells) = tab ∷ (cell ++ laid cells)
 
 -- the text begins with the cells of a record of this width after its place, each after its TAB, and the rest is after them
 pub record BeginsWithCells (width : ℕ) (text rest : List ℕ) : Type 0 where

@@ -37,7 +37,7 @@ pub use bed_record::BedRecord;
 pub use fault::{LoadCause, LoadFault, RecordFault, fault_text, load_text};
 pub use fields::{Fields, columns, split_first_column};
 pub use from_record::FromRecord;
-pub use genome::Genome;
+pub use genome::{Genome, MOST_LENGTH};
 pub use genome_file::is_bad_name;
 pub use iv_bytes::{
     Buffered, ByteQueue, MemSink, MemSource, ReadFault, Sink, Source, StdSink, StdSource,

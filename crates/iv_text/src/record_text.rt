@@ -30,7 +30,7 @@ fn put_place<S: Sink, A: Allocator + Copy>(
 ) -> Result<(), WriteFault>
     ensures { Puts (S.state sink.old) (S.state sink.new) result (place_text genome.now row.now) }
 {
-    let name = genome.name(row.seq()).unwrap_or(b"");
+    let name = genome.name_of(row.seq());
     RowBuffer::new().put_after_numbers(name, row.start(), row.stop(), sink)
 }
 
@@ -99,7 +99,7 @@ pub fn put_row<S: Sink, A: Allocator + Copy>(
         return put_all(sink, tail.as_slice());
     }
     prepend_rest(tail, row);
-    let name = genome.name(row.seq()).unwrap_or(b"");
+    let name = genome.name_of(row.seq());
     tail.put_after_numbers(name, row.start(), row.stop(), sink)
 }
 

@@ -24,19 +24,18 @@ impl<A: Allocator + Copy> Session<A> {
             ((result ≡ Err PrintFault.NoView) × (S.state sink.new ≡ S.state sink.old) × (self.new ≡ self.old))
             (λ v. PrintedView self.old name.now v self.new (S.state sink.old) (S.state sink.new) result) }
     {
-        let Some(_) = self.views.find(name) else {
+        let mut meter = Meter::new();
+        let Some(view) =
+            self.views
+                .refresh(name, self.alloc, &self.track, &self.genome, &mut meter)?
+        else {
             return Err(PrintFault::NoView);
         };
-        let mut meter = Meter::new();
-        self.views
-            .refresh(name, self.alloc, &self.track, &self.genome, &mut meter)?;
-        let Some(opened) = self.views.find(name) else {
-            unreachable!()
-        };
-        let second = self.second.as_ref();
-        let fasta = self.fasta.as_ref();
+        let mut buffer = Buffered::new(sink);
+        let (second, fasta) = (self.second.as_ref(), self.fasta.as_ref());
         let (track, genome) = (&self.track, &self.genome);
-        self.views.print(opened.view, track, second, fasta, genome, &mut meter, sink)?;
+        self.views.put(view, track, second, fasta, genome, &mut meter, &mut buffer)?;
+        buffer.finish()?;
         Ok(())
     }
 
@@ -53,21 +52,13 @@ impl<A: Allocator + Copy> Session<A> {
         let mut meter = Meter::new();
         self.views
             .refresh_all(self.alloc, &self.track, &self.genome, &mut meter)?;
-        self.put_all(&mut meter, sink)?;
+        let mut buffer = Buffered::new(sink);
+        self.put_views(&mut meter, &mut buffer)?;
+        buffer.finish()?;
         Ok(())
     }
 
-    /// Puts the headings and texts of all views, which are current, through one buffer.
-    fn put_all<S: Sink>(&self, meter: &mut Meter, sink: &mut S) -> Result<(), WriteFault>
-        requires { All (λ v. v.1.stale ≡ false) self.now.views }
-        ensures { Puts (S.state sink.old) (S.state sink.new) result (all_text self.now) }
-    {
-        let mut buffer = Buffered::new(sink);
-        self.put_views(meter, &mut buffer)?;
-        buffer.finish()
-    }
-
-    /// Puts the headings and texts of all views, which are current, straight into the sink.
+    /// Puts the headings and texts of all views, which are current.
     fn put_views<S: Sink>(&self, meter: &mut Meter, sink: &mut S) -> Result<(), WriteFault>
         requires { All (λ v. v.1.stale ≡ false) self.now.views }
         ensures { Puts (S.state sink.old) (S.state sink.new) result (all_text self.now) }
@@ -77,8 +68,7 @@ impl<A: Allocator + Copy> Session<A> {
                 break;
             };
             put_heading(sink, name)?;
-            let second = self.second.as_ref();
-            let fasta = self.fasta.as_ref();
+            let (second, fasta) = (self.second.as_ref(), self.fasta.as_ref());
             let (track, genome) = (&self.track, &self.genome);
             self.views
                 .put(opened.view, track, second, fasta, genome, meter, sink)?;

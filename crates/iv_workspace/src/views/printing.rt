@@ -9,7 +9,7 @@ ghost use Rattle.iv_workspace.specs.ViewStates.{AreRight, IsKept, all_owned};
 ghost use Rattle.iv_workspace.specs.States.{IsServed};
 
 use super::Views;
-use iv_bytes::{Buffered, Sink, WriteFault};
+use iv_bytes::{Sink, WriteFault};
 use iv_fasta::Fasta;
 use iv_pair::Second;
 use iv_text::Genome;
@@ -18,30 +18,7 @@ use iv_view::View;
 use std::alloc::Allocator;
 
 impl<A: Allocator + Copy> Views<A> {
-    /// Prints a view whose state is kept, through one buffer. On a fault the sink has taken a prefix of the text.
-    pub(crate) fn print<S: Sink>(
-        &self,
-        view: View,
-        track: &Track<A>,
-        second: Option<&Second<A>>,
-        fasta: Option<&Fasta<A>>,
-        genome: &Genome<A>,
-        meter: &mut Meter,
-        sink: &mut S,
-    ) -> Result<(), WriteFault>
-        requires kept { IsKept (all_owned self.now) view }
-        requires served { IsServed (option_copied second) view }
-        requires right { AreRight self.now (names_of genome.now) track.now.rows }
-        requires fit { All (Fits genome.now track.now.width) track.now.rows }
-        ensures { Puts (S.state sink.old) (S.state sink.new) result
-            (view_text view genome.now track.now.rows (second_rows (option_copied second.entry)) (unwrap_or (option_copied fasta.entry) [])) }
-    {
-        let mut buffer = Buffered::new(sink);
-        self.put(view, track, second, fasta, genome, meter, &mut buffer)?;
-        buffer.finish()
-    }
-
-    /// Puts the text of a view whose state is kept straight into the sink.
+    /// Puts the text of a view whose state is kept into the sink. On a fault the sink has taken a prefix of it.
     pub(crate) fn put<S: Sink>(
         &self,
         view: View,

@@ -1,5 +1,5 @@
 //! Stale views are built anew.
-ghost use Rattle.std.specs.Prelude.{◌≡◌, ◌<◌, Some, IfSome, OnOk, OnErr, All, length, true};
+ghost use Rattle.std.specs.Prelude.{◌≡◌, ◌<◌, Some, IfOk, IfNone, IfSome, OnOk, OnErr, All, length, option_map, true};
 ghost use Rattle.std.specs.List.{slice_get};
 ghost use Rattle.iv_text.specs.Named.{names_of};
 ghost use Rattle.iv_text.specs.Read.{Fits};
@@ -10,10 +10,11 @@ ghost use Rattle.iv_workspace.specs.Views.{view_named};
 use super::Views;
 use iv_text::Genome;
 use iv_track::{Meter, Track};
+use iv_view::View;
 use std::alloc::{AllocError, Allocator};
 
 impl<A: Allocator + Copy> Views<A> {
-    /// Builds the view of a name anew, if there is one that is stale.
+    /// The view of a name, if there is one. If it is stale it is built anew first.
     ///
     /// # Errors
     ///
@@ -25,18 +26,22 @@ impl<A: Allocator + Copy> Views<A> {
         track: &Track<A>,
         genome: &Genome<A>,
         meter: &mut Meter,
-    ) -> Result<(), AllocError>
+    ) -> Result<Option<View>, AllocError>
         requires right { AreRight self.old (names_of genome.now) track.now.rows }
         requires fit { All (Fits genome.now track.now.width) track.now.rows }
         ensures right { AreRight self.new (names_of genome.now) track.now.rows }
+        ensures view { IfOk result (λ found. found ≡ option_map (λ v. v.view) (view_named (all_seen self.old) name.now)) }
         ensures ok { OnOk result (all_seen self.new ≡ with_current (all_seen self.old) name.now) }
+        ensures none { IfOk result (λ found. IfNone found (self.new ≡ self.old)) }
         ensures err { OnErr result (self.new ≡ self.old) }
         ensures stale { OnErr result (IfSome (view_named (all_seen self.old) name.now) (λ v. v.stale ≡ true)) }
     {
-        let Some(place) = self.views.place(name) else {
-            return Ok(());
+        let Some((place, opened)) = self.views.find(name) else {
+            return Ok(None);
         };
-        self.refresh_at(place, alloc, track, genome, meter)
+        let view = opened.view;
+        self.refresh_at(place, alloc, track, genome, meter)?;
+        Ok(Some(view))
     }
 
     /// Builds all stale views anew.

@@ -1,6 +1,6 @@
-use Rattle.std.proofs.Common.{◌≡◌, ◌<◌, ◌-◌, refl, arith, rules, not}
+use Rattle.std.proofs.Common.{◌≡◌, ◌<◌, ◌-◌, refl, arith, not}
 use Rattle.iv_bytes.proofs.Putting.{Underway-begin, Underway-more, Underway-fails, Underway-ends, Puts-err}
-use Rattle.iv_text.specs.Genome.{seq_count, sequence_name, sequence_length}
+use Rattle.iv_text.specs.Genome.{seq_count}
 use Rattle.iv_blocks.specs.BlockCursor.{starts_until, drop_while}
 use Rattle.iv_blocks.proofs.BlockCursorLemmas.{TakesForEach-begin, TakesForEach-next}
 use Rattle.iv_blocks.proofs.ComplementLemmas.{texts-next, texts-none}
@@ -15,11 +15,9 @@ pub returns-in_err-put_sequence : goal.returns-in_err-put_sequence
 returns-in_err-put_sequence g c =
     let i = c.loop-rank.invariant in
     let rank = c.loop-rank.rank in
-    let named : c.unwrap_or-name.result.now ≡ sequence_name c.args.genome.now rank = search rules in
-    let long : c.unwrap_or-length.result ≡ sequence_length c.args.genome.now rank = search rules in
     let low : rank < seq_count c.args.genome.now = omega (arith, c.loop-rank-test.true, c.count-rank-end.ensures.value) in
-    let next = texts-next (not c.args.limited) c.args.genome.now rank c.unwrap_or-length.result c.unwrap_or-name.result.now (g.B.BlocksAhead.left c.loop-rank.blocks)
-    (drop_while (starts_until rank c.unwrap_or-length.result) (g.B.BlocksAhead.left c.loop-rank.blocks)) low named long refl in
+    let next = texts-next (not c.args.limited) c.args.genome.now rank c.length_of-length.result c.name_of-name.result.now (g.B.BlocksAhead.left c.loop-rank.blocks)
+    (drop_while (starts_until rank c.length_of-length.result) (g.B.BlocksAhead.left c.loop-rank.blocks)) low c.name_of-name.ensures c.length_of-length.ensures refl in
     record {
       text = Puts-err _ _ c.from_residual.result _ c.from_residual.ensures.0
           (Underway-fails _ _ _ _ _ _ (rw next at i.put) c.in_err-put_sequence.ensures.text);
@@ -30,10 +28,8 @@ pub loop-rank-preserved : goal.loop-rank-preserved
 loop-rank-preserved g c =
     let i = c.loop-rank.invariant in
     let rank = c.loop-rank.rank in
-    let named : c.unwrap_or-name.result.now ≡ sequence_name c.args.genome.now rank = search rules in
-    let long : c.unwrap_or-length.result ≡ sequence_length c.args.genome.now rank = search rules in
     let low : rank < seq_count c.args.genome.now = omega (arith, c.loop-rank-test.true, c.count-rank-end.ensures.value) in
-    let next = texts-next (not c.args.limited) c.args.genome.now rank c.unwrap_or-length.result c.unwrap_or-name.result.now (g.B.BlocksAhead.left c.loop-rank.blocks) (g.B.BlocksAhead.left c.put_sequence.new.blocks) low named long c.in_ok-put_sequence.ensures.past in
+    let next = texts-next (not c.args.limited) c.args.genome.now rank c.length_of-length.result c.name_of-name.result.now (g.B.BlocksAhead.left c.loop-rank.blocks) (g.B.BlocksAhead.left c.put_sequence.new.blocks) low c.name_of-name.ensures c.length_of-length.ensures c.in_ok-put_sequence.ensures.past in
     record {
       put = Underway-more _ _ _ _ _ _ (rw next at i.put) c.in_ok-put_sequence.ensures.text;
       steps = TakesForEach-next _ _ _ _ _ _ i.steps c.in_ok-put_sequence.ensures.steps;

@@ -2,7 +2,6 @@ use Rattle.std.proofs.Common.{◌≡◌, ℕ, ◌∙◌, ap, refl, arith, rules,
 use Rattle.std.proofs.lemmas.Int.{ints}
 use lib.IntN.{nat_abs}
 use Rattle.iv_bytes.proofs.Putting.{Underway-begin, Underway-more, Underway-fails, Underway-last, Puts-err}
-use Rattle.iv_text.specs.Genome.{sequence_name, sequence_length}
 use Rattle.iv_track.proofs.StepLemmas.{each_none, each_more}
 use Rattle.iv_depth.specs.DepthRows.{rows_between, sequence_text}
 use Rattle.iv_depth.proofs.Stretches.{rows-next, rows-end}
@@ -19,13 +18,11 @@ pub returns-in_err-put_stretch-clause-text : goal.returns-in_err-put_stretch-cla
 returns-in_err-put_stretch-clause-text g c = λ f right.
     let i = c.loop-position.invariant in
     let at = i.at f right in
-    let name = c.unwrap_or-name.result.now in
-    let long : c.unwrap_or-length.result ≡ sequence_length c.args.genome.now c.args.rank = search rules in
+    let name = c.name_of-name.result.now in
     let s = (c.in-Some.ensures.change c.args.genome.now f c.loop-position.start at.0 at.2).0 in
-    let split = rows-next c.args.shown name (f c.args.rank) c.loop-position.start c.unwrap_or-length.result _ _ c.unsigned_abs.result c.from-stop.result _ s
-    long (c.unsigned_abs.ensures.value ∙ ap nat_abs at.1) c.from-stop.ensures in
-    let named : sequence_name c.args.genome.now c.args.rank ≡ name = search rules in
-    let whole : sequence_text c.args.shown c.args.genome.now f c.args.rank ≡ rows_between c.args.shown name (f c.args.rank) 0 c.unwrap_or-length.result = rw (named, long) refl in
+    let split = rows-next c.args.shown name (f c.args.rank) c.loop-position.start c.length_of-length.result _ _ c.unsigned_abs.result c.from-stop.result _ s
+    c.length_of-length.ensures (c.unsigned_abs.ensures.value ∙ ap nat_abs at.1) c.from-stop.ensures in
+    let whole : sequence_text c.args.shown c.args.genome.now f c.args.rank ≡ rows_between c.args.shown name (f c.args.rank) 0 c.length_of-length.result = rw (c.name_of-name.ensures, c.length_of-length.ensures) refl in
     rw whole (Puts-err _ _ c.from_residual.result _ c.from_residual.ensures.0
     (Underway-fails _ _ _ _ _ _ (rw split at (i.put f right)) c.in_err-put_stretch.ensures))
 
@@ -40,14 +37,13 @@ overflow_add-depth g c =
 pub loop-position-preserved : goal.loop-position-preserved
 loop-position-preserved g c =
     let i = c.loop-position.invariant in
-    let long : c.unwrap_or-length.result ≡ sequence_length c.args.genome.now c.args.rank = search rules in
     let fits : SFits w64 c.in-Some.change = search rules in
     record {
       put = λ f right.
           let at = i.at f right in
           let s = (c.in-Some.ensures.change c.args.genome.now f c.loop-position.start at.0 at.2).0 in
-          let split = rows-next c.args.shown c.unwrap_or-name.result.now (f c.args.rank) c.loop-position.start c.unwrap_or-length.result _ _ c.unsigned_abs.result c.from-stop.result _ s
-          long (c.unsigned_abs.ensures.value ∙ ap nat_abs at.1) c.from-stop.ensures in
+          let split = rows-next c.args.shown c.name_of-name.result.now (f c.args.rank) c.loop-position.start c.length_of-length.result _ _ c.unsigned_abs.result c.from-stop.result _ s
+          c.length_of-length.ensures (c.unsigned_abs.ensures.value ∙ ap nat_abs at.1) c.from-stop.ensures in
           Underway-more _ _ _ _ _ _ (rw split at (i.put f right)) c.in_ok-put_stretch.ensures;
       at = λ f right.
           let at = i.at f right in
@@ -60,11 +56,9 @@ pub returns-clause-text : goal.returns-clause-text
 returns-clause-text g c = λ f right.
     let i = c.loop-position.invariant in
     let at = i.at f right in
-    let name = c.unwrap_or-name.result.now in
+    let name = c.name_of-name.result.now in
     let same = (c.in_default.ensures.change c.args.genome.now f c.loop-position.start at.0 at.2).0 in
     let depth : c.unsigned_abs-2.result ≡ at.0 = c.unsigned_abs-2.ensures.value ∙ ap nat_abs at.1 in
-    let last = rows-end c.args.shown name (f c.args.rank) c.unsigned_abs-2.result c.loop-position.start c.unwrap_or-length.result (rw depth same) in
-    let named : sequence_name c.args.genome.now c.args.rank ≡ name = search rules in
-    let long : c.unwrap_or-length.result ≡ sequence_length c.args.genome.now c.args.rank = search rules in
-    let whole : sequence_text c.args.shown c.args.genome.now f c.args.rank ≡ rows_between c.args.shown name (f c.args.rank) 0 c.unwrap_or-length.result = rw (named, long) refl in
+    let last = rows-end c.args.shown name (f c.args.rank) c.unsigned_abs-2.result c.loop-position.start c.length_of-length.result (rw depth same) in
+    let whole : sequence_text c.args.shown c.args.genome.now f c.args.rank ≡ rows_between c.args.shown name (f c.args.rank) 0 c.length_of-length.result = rw (c.name_of-name.ensures, c.length_of-length.ensures) refl in
     rw whole (Underway-last _ _ _ _ c.put_stretch-2.result _ (rw last at (i.put f right)) c.put_stretch-2.ensures)

@@ -1,18 +1,14 @@
-use Rattle.std.proofs.Common.{◌≡◌, ◌∙◌, ℕ, List, refl, ap}
-use Rattle.iv_text.specs.Genome.{sequence_name}
+use Rattle.std.proofs.Common.{◌≡◌, ◌∙◌, ℕ, List, ap}
 use Rattle.iv_blocks.specs.MembersLeft.{MembersLeft}
 use Rattle.iv_blocks.specs.KeptBlocks.{KeptBlocks}
 use Rattle.iv_blocks.specs.Groups.{members_between, listed}
-use Rattle.iv_blocks.proofs.NameLemmas.{name-lent}
 use Rattle.iv_blocks.proofs.blocks.Blocks.kept_block.Goals as goal
 
 pub returns-clause-value : goal.returns-clause-value
 returns-clause-value g c =
-    let name : c.unwrap_or-name.result.now ≡ sequence_name c.args.genome.now c.args.group.rank =
-    name-lent c.args.genome.now c.args.group.rank c.name.result _ c.unwrap_or-name.result c.unwrap_or-name.ensures refl c.name.ensures.value in
     let summaries : c.as_slice-summaries.result.now ≡ listed c.args.self.now.options.summaries =
     c.as_slice-summaries.ensures ∙ ap (λ (k : KeptBlocks). listed k.options.summaries) c.self.view_is in
     let rows : c.of-members.result.members ≡ members_between c.args.group c.args.start c.args.stop c.args.track.now.rows = ap (λ (m : MembersLeft). m.members) c.of-members.ensures.members in
     c.in_ok-copy_of.ensures
     ∙ ap (λ (t : List ℕ). record { stop = c.args.stop; results = t })
-    (c.as_slice-2.ensures.value ∙ (rw (name, summaries, c.as_slice.ensures.value, c.in_ok-rows.ensures.rows, rows) at c.in_ok-results.ensures))
+    (c.as_slice-2.ensures.value ∙ (rw (c.name_of-name.ensures, summaries, c.as_slice.ensures.value, c.in_ok-rows.ensures.rows, rows) at c.in_ok-results.ensures))

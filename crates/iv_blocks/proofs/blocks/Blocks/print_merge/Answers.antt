@@ -1,6 +1,5 @@
-use Rattle.std.proofs.Common.{◌≡◌, ◌∙◌, ap, arith, ◌∷◌, length, rules, false}
+use Rattle.std.proofs.Common.{◌≡◌, ◌∙◌, ap, arith, ◌∷◌, length, false}
 use Rattle.iv_bytes.proofs.Putting.{Underway-begin, Underway-more, Underway-fails, Underway-ends, Puts-err}
-use Rattle.iv_text.specs.Genome.{sequence_name}
 use Rattle.iv_track.proofs.StepLemmas.{takes_none, takes_one_more}
 use Rattle.iv_blocks.specs.KeptBlocks.{KeptBlocks, Entries}
 use Rattle.iv_blocks.proofs.EntryLemmas.{from, from-first}
@@ -23,8 +22,7 @@ pub loop-key-preserved : goal.loop-key-preserved
 loop-key-preserved g c =
     let i = c.loop-key.invariant in
     let first : c.loop-key.walk ≡ (c.in-Some.key.now, c.in-Some.block.now) ∷ c.next.new.self = c.in-Some.ensures.next in
-    let named : c.unwrap_or-name.result.now ≡ sequence_name c.args.genome.now c.in-Some.key.now.0 = search rules in
-    let next = rows-next c.args.genome.now c.unwrap_or-name.result.now c.in-Some.key.now c.in-Some.block.now c.loop-key.walk c.next.new.self named first in
+    let next = rows-next c.args.genome.now c.name_of-name.result.now c.in-Some.key.now c.in-Some.block.now c.loop-key.walk c.next.new.self c.name_of-name.ensures first in
     let one = takes_one_more _ _ _ 0 (takes_none c.loop-key.meter) c.in-Some.ensures.step in
     record {
       put = Underway-more _ _ _ _ _ _ (rw next at i.put) c.in_ok-put_block.ensures;
@@ -35,8 +33,7 @@ loop-key-preserved g c =
 pub returns-in_err-put_block-clause-text : goal.returns-in_err-put_block-clause-text
 returns-in_err-put_block-clause-text g c =
     let first : c.loop-key.walk ≡ (c.in-Some.key.now, c.in-Some.block.now) ∷ c.next.new.self = c.in-Some.ensures.next in
-    let named : c.unwrap_or-name.result.now ≡ sequence_name c.args.genome.now c.in-Some.key.now.0 = search rules in
-    let next = rows-next c.args.genome.now c.unwrap_or-name.result.now c.in-Some.key.now c.in-Some.block.now c.loop-key.walk c.next.new.self named first in
+    let next = rows-next c.args.genome.now c.name_of-name.result.now c.in-Some.key.now c.in-Some.block.now c.loop-key.walk c.next.new.self c.name_of-name.ensures first in
     rw (← rows-are _ _ c.args.track.now.width c.args.track.now.rows _ c.requires.right c.requires.fit)
     (Puts-err _ _ c.from_residual.result _ c.from_residual.ensures.0
     (Underway-fails _ _ _ _ _ _ (rw next at c.loop-key.invariant.put) c.in_err-put_block.ensures))

@@ -1,6 +1,6 @@
-use Rattle.std.proofs.Common.{◌≡◌, ◌≤◌, ◌<◌, ◌-◌, ◌==◌, ◌∙◌, nat_lt, filter, List, ℕ, All, length, vec_capacity, ap, sym, subst, arith, rules}
+use Rattle.std.proofs.Common.{◌≡◌, ◌≤◌, ◌<◌, ◌-◌, ◌==◌, ◌∙◌, nat_lt, filter, List, ℕ, All, length, vec_capacity, ap, sym, subst, arith}
 use Rattle.iv_bytes.proofs.Putting.{Underway-begin, Puts-err}
-use Rattle.iv_text.specs.Genome.{seq_count, sequence_name}
+use Rattle.iv_text.specs.Genome.{seq_count}
 use Rattle.iv_text.specs.Ordered.{AreInOrder}
 use Rattle.iv_text.specs.Row.{Row}
 use Rattle.iv_text.specs.Covering.{on}
@@ -53,10 +53,9 @@ returns-in_err-put_sequence-clause-text g c =
     let rows = c.args.self.now.1 in
     let rank = c.loop-rank.rank in
     let genome = c.args.genome.now in
-    let named : c.unwrap_or-name.result.now ≡ sequence_name genome rank = search rules in
     let low : rank < seq_count genome = omega (arith, c.loop-rank-test.true, c.count-rank-end.ensures.value) in
     let here : c.split_sequence-here.result.0 ≡ on rank rows = c.split_sequence-here.ensures.here ∙ ap (on rank) i.left_is ∙ from-here rank rows in
-    let next = rows-next c.args.self.now.0 genome rows c.requires.order c.requires.on_genome c.loop-rank.self-inside.options c.unwrap_or-name.result.now c.split_sequence-here.result.0 rank low i.options_are named here in
+    let next = rows-next c.args.self.now.0 genome rows c.requires.order c.requires.on_genome c.loop-rank.self-inside.options c.name_of-name.result.now c.split_sequence-here.result.0 rank low i.options_are c.name_of-name.ensures here in
     Puts-err _ _ c.from_residual.result _ c.from_residual.ensures.0
     (Underway-failed _ _ _ _ _ _ _ next i.put c.in_err-put_sequence.ensures.text)
 
@@ -66,10 +65,9 @@ loop-rank-preserved g c =
     let rows = c.args.self.now.1 in
     let rank = c.loop-rank.rank in
     let genome = c.args.genome.now in
-    let named : c.unwrap_or-name.result.now ≡ sequence_name genome rank = search rules in
     let low : rank < seq_count genome = omega (arith, c.loop-rank-test.true, c.count-rank-end.ensures.value) in
     let here : c.split_sequence-here.result.0 ≡ on rank rows = c.split_sequence-here.ensures.here ∙ ap (on rank) i.left_is ∙ from-here rank rows in
-    let next = rows-next c.args.self.now.0 genome rows c.requires.order c.requires.on_genome c.loop-rank.self-inside.options c.unwrap_or-name.result.now c.split_sequence-here.result.0 rank low i.options_are named here in
+    let next = rows-next c.args.self.now.0 genome rows c.requires.order c.requires.on_genome c.loop-rank.self-inside.options c.name_of-name.result.now c.split_sequence-here.result.0 rank low i.options_are c.name_of-name.ensures here in
     record {
       put = Underway-step _ _ _ _ _ _ _ next i.put c.in_ok-put_sequence.ensures.text;
       left_is = c.split_sequence-here.ensures.later ∙ ap (λ (l : List Row). filter (λ r. nat_lt rank r.seq) l) i.left_is ∙ from-later rank rows;
