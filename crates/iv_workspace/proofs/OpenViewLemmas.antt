@@ -211,6 +211,15 @@ seen-lookup {A} name (v ∷ views) = elim (bytes_eq name v.0) as (λ b. cond b (
   | false ↦ seen-lookup name views
 ]
 
+-- what the view under a name is, as contracts see it too
+pub seen-view : {A : Type 0} (name : List ℕ) (views : List (List ℕ × OpenView A))
+    → option_map (λ v. v.view) (lookup (bytes_eq name) views) ≡ option_map (λ v. v.view) (lookup (bytes_eq name) (all_seen views))
+seen-view {A} name views = by (lookup (bytes_eq name) views) ∙ sym (ap (option_map (λ v. v.view)) (seen-lookup name views))
+  where
+    by : (o : Option (OpenView A)) → option_map (λ v. v.view) o ≡ option_map (λ v. v.view) (option_map seen o)
+    by None = refl
+    by (Some v) = refl
+
 -- the same, at the place where the loop is
 pub stale-yes : {A : Type 0} (es : List (List ℕ × OpenView A)) (i : ℕ) (v : OpenView A) → slice_get (values_of es) i ≡ Some v → (seen v).stale ≡ true
     → stale_count (all_seen (drop i es)) ≡ 1 + stale_count (all_seen (drop (i + 1) es))

@@ -2,12 +2,13 @@
 use Rattle.std.proofs.lemmas.Option.{slice_get-map, slice_get_within, slice_get_cases, get_or_from_slice_get}
 use Rattle.std.proofs.lemmas.List.Elements.{All-from_recursion}
 use Rattle.std.proofs.Common.{◌+◌, drop, get_or, append_assoc, add-one, drop-cons, inl, inr, length, slice_get, ◌≤◌, ◌≡◌, ℕ, List, [], ◌∷◌, ◌++◌, Option, None, Some, false, refl, sym, ap, ap₂, subst, ◌∙◌}
-use Rattle.std.specs.Prelude.{All, MatchOption, IfSome}
+use Rattle.std.specs.Prelude.{All, MatchOption, IsSomeAnd}
 use Rattle.std.specs.List.{flat_map, AllByRecursion}
 use Rattle.std.specs.Map.{lookup}
 use Rattle.std.specs.Option.{option_map}
 use Rattle.std.specs.Str.{bytes_eq}
 use Rattle.iv_bytes.specs.Sinks.{SinkState, Takes, FailsIn}
+use Rattle.iv_view.specs.declared.view.View.{View}
 use Rattle.iv_workspace.specs.declared.open_view.OpenView.{OpenView}
 use Rattle.iv_workspace.specs.ViewStates.{seen}
 use Rattle.iv_workspace.specs.ViewStates.{all_seen}
@@ -24,27 +25,27 @@ match-none o Q P is q = subst (λ (o : Option Shown). MatchOption o Q P) is q
 pub match-some : (o : Option Shown) (Q : Type 0) (P : Shown → Type 0) (v : Shown) → Some v ≡ o → P v → MatchOption o Q P
 match-some o Q P v is p = subst (λ (o : Option Shown). MatchOption o Q P) is p
 
-pub if-some : (o : Option Shown) (P : Shown → Type 0) (v : Shown) → Some v ≡ o → IfSome o P → P v
-if-some o P v is h = subst (λ (o : Option Shown). IfSome o P) (sym is) h
+-- a view that is answered is that of the name
+pub view-found : (o : Option Shown) (view : View) → Some view ≡ option_map (λ v. v.view) o → (v : Shown) × (Some v ≡ o) × (view ≡ v.view)
+view-found None view is = absurd (cc is)
+view-found (Some v) view is = (v, refl, cc is)
+
+pub view-none : (o : Option Shown) → None ≡ option_map (λ v. v.view) o → None ≡ o
+view-none None is = refl
+view-none (Some v) is = absurd (cc is)
+
+pub some-and : (o : Option Shown) (P : Shown → Type 0) → IsSomeAnd o P → (v : Shown) × (Some v ≡ o) × P v
+some-and None P p = absurd p
+some-and (Some v) P p = (v, refl, p)
 
 -- the view of a name, once it is current
-pub found-again : (name : List ℕ) (views more : List (List ℕ × Shown)) (v w : Shown) → Some v ≡ lookup (bytes_eq name) views → more ≡ with_current views name
-    → Some w ≡ lookup (bytes_eq name) more → w ≡ current v
-found-again name views more v w found are again =
-    let both : Some w ≡ Some (current v) =
-    again ∙ ap (lookup (bytes_eq name)) are ∙ current-named name views ∙ ap (option_map current) (sym found) in
-    cc (both)
-
-pub found-not : (name : List ℕ) (views more : List (List ℕ × Shown)) (v : Shown) → Some v ≡ lookup (bytes_eq name) views → more ≡ with_current views name
-    → None ≡ lookup (bytes_eq name) more → ⊥
-found-not name views more v found are again =
-    let both : None ≡ Some (current v) =
-    again ∙ ap (lookup (bytes_eq name)) are ∙ current-named name views ∙ ap (option_map current) (sym found) in
-    cc (both)
+pub current-found : (name : List ℕ) (views more : List (List ℕ × Shown)) (v : Shown) → Some v ≡ lookup (bytes_eq name) views → more ≡ with_current views name
+    → lookup (bytes_eq name) more ≡ Some (current v)
+current-found name views more v found are = ap (lookup (bytes_eq name)) are ∙ current-named name views ∙ ap (option_map current) (sym found)
 
 -- what it prints
-pub same-text : (inside s : State) (v w : Shown) → inside ≡ s → w ≡ current v → text_in inside w.view ≡ text_in s v.view
-same-text inside s v w same is = ap (λ (u : Shown). text_in inside u.view) is ∙ ap (λ (u : State). text_in u v.view) same
+pub same-text : (inside s : State) (v : Shown) (view : View) → inside ≡ s → view ≡ v.view → text_in inside view ≡ text_in s v.view
+same-text inside s v view same is = ap (text_in inside) is ∙ ap (λ (u : State). text_in u v.view) same
 
 -- all views print the same, current or not
 pub same-all_text : (s : State) → all_text (with_all_printed s) ≡ all_text s

@@ -1,5 +1,5 @@
 //! Stale views are built anew.
-ghost use Rattle.std.specs.Prelude.{◌≡◌, ◌<◌, Some, IfOk, IfNone, IfSome, OnOk, OnErr, All, length, option_map, true};
+ghost use Rattle.std.specs.Prelude.{◌≡◌, ◌<◌, Some, IfOk, IfNone, IfSome, IsSomeAnd, OnOk, OnErr, All, length, option_map, true};
 ghost use Rattle.std.specs.List.{slice_get};
 ghost use Rattle.iv_text.specs.Named.{names_of};
 ghost use Rattle.iv_text.specs.Read.{Fits};
@@ -34,7 +34,7 @@ impl<A: Allocator + Copy> Views<A> {
         ensures ok { OnOk result (all_seen self.new ≡ with_current (all_seen self.old) name.now) }
         ensures none { IfOk result (λ found. IfNone found (self.new ≡ self.old)) }
         ensures err { OnErr result (self.new ≡ self.old) }
-        ensures stale { OnErr result (IfSome (view_named (all_seen self.old) name.now) (λ v. v.stale ≡ true)) }
+        ensures stale { OnErr result (IsSomeAnd (view_named (all_seen self.old) name.now) (λ v. v.stale ≡ true)) }
     {
         let Some((place, opened)) = self.views.find(name) else {
             return Ok(None);

@@ -1,5 +1,6 @@
-use Rattle.std.proofs.Common.{◌∙◌, ◌<◌, refl, ap, subst}
+use Rattle.std.proofs.Common.{◌≡◌, ◌∙◌, ◌<◌, refl, ap, sym, subst}
 use Rattle.std.proofs.lemmas.Result.{err_from_is_err_and}
+use Rattle.iv_bytes.proofs.Putting.{Takes-finished, FailsIn-finished, FailsIn-given_up}
 use Rattle.iv_workspace.specs.ViewStates.{all_seen}
 use Rattle.iv_workspace.specs.OpenViews.{Freshens, all_current, stale_count}
 use Rattle.iv_workspace.specs.States.{State}
@@ -18,19 +19,37 @@ returns-in_err-refresh_all g c =
       (ap (λ (s : State). record s { views = more }) c.self.view_is, subst (λ (s : State). Freshens s.views more) c.self.view_is c.in_err-refresh_all.ensures.err),
     )
 
-pub put_all-requires : goal.put_all-requires
-put_all-requires g c = all-fresh (all_seen c.self.inside.views) (all_seen c.refresh_all.new.self) c.in_ok-refresh_all.ensures.ok
+pub put_views-requires : goal.put_views-requires
+put_views-requires g c = all-fresh (all_seen c.self.inside.views) (all_seen c.refresh_all.new.self) c.in_ok-refresh_all.ensures.ok
 
-pub returns-in_err-put_all : goal.returns-in_err-put_all
-returns-in_err-put_all g c =
-    let p = err_from_is_err_and c.from_residual-in_err-put_all.result c.from_residual-in_err-put_all.ensures.1 in
+pub returns-in_err-put_views : goal.returns-in_err-put_views
+returns-in_err-put_views g c =
+    let p = err_from_is_err_and c.from_residual-in_err-put_views.result c.from_residual-in_err-put_views.ensures.1 in
     let new = views-changed all_current _ c.args.self.now (all_seen c.refresh_all.new.self) c.self.view_is c.in_ok-refresh_all.ensures.ok in
-    rw (p.1, p.2) (FailsIn-text _ _ _ _ (ap all_text new ∙ same-all_text c.args.self.now) c.in_err-put_all.ensures, new)
+    let failed = rw (c.new-buffer.ensures.same, c.new-buffer.ensures.empty) at c.in_err-put_views.ensures in
+    let names = failed.same in
+    let named : c.put_views.new.sink.sink.ghost_name ≡ c.new-buffer.result.sink.ghost_name = cc names in
+    let same = c.in_err-put_views.sink-1-own.given.1 (sym c.new-buffer.ensures.same_reference ∙ sym named) in
+    rw (p.1, p.2, same) (FailsIn-text _ _ _ _ (ap all_text new ∙ same-all_text c.args.self.now) (FailsIn-given_up _ _ _ _ _ _ failed), new)
+
+pub returns-in_err-finish : goal.returns-in_err-finish
+returns-in_err-finish g c =
+    let p = err_from_is_err_and c.from_residual-in_err-finish.result c.from_residual-in_err-finish.ensures.1 in
+    let new = views-changed all_current _ c.args.self.now (all_seen c.refresh_all.new.self) c.self.view_is c.in_ok-refresh_all.ensures.ok in
+    let took = rw (c.new-buffer.ensures.same, c.new-buffer.ensures.empty) at c.in_ok-put_views.ensures in
+    let names = took.moved.same in
+    let named : c.put_views.new.sink.sink.ghost_name ≡ c.new-buffer.result.sink.ghost_name = cc names in
+    let same = c.sink-2-1.given.1 (sym c.new-buffer.ensures.same_reference ∙ sym named) in
+    rw (p.1, p.2, same) (FailsIn-text _ _ _ _ (ap all_text new ∙ same-all_text c.args.self.now) (FailsIn-finished _ _ _ _ _ _ _ took c.in_err-finish.ensures), new)
 
 pub returns : goal.returns
 returns g c =
     let new = views-changed all_current _ c.args.self.now (all_seen c.refresh_all.new.self) c.self.view_is c.in_ok-refresh_all.ensures.ok in
-    (Takes-text _ _ _ _ (ap all_text new ∙ same-all_text c.args.self.now) c.in_ok-put_all.ensures, new)
+    let took = rw (c.new-buffer.ensures.same, c.new-buffer.ensures.empty) at c.in_ok-put_views.ensures in
+    let names = took.moved.same in
+    let named : c.put_views.new.sink.sink.ghost_name ≡ c.new-buffer.result.sink.ghost_name = cc names in
+    let same = c.sink-2-1.given.1 (sym c.new-buffer.ensures.same_reference ∙ sym named) in
+    rw same (Takes-text _ _ _ _ (ap all_text new ∙ same-all_text c.args.self.now) (Takes-finished _ _ _ _ _ _ _ took c.in_ok-finish.ensures), new)
 
 pub invariant_of-self : goal.invariant_of-self
 invariant_of-self g c = (
