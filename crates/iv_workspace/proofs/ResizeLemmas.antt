@@ -121,10 +121,6 @@ hit-past seq n end rows left rest r some within is gives =
 
 -- ---- the records of a session's track, and their ends
 
--- the end of a sequence, as it is read
-pub end-is : (g : Sequences) (seq end : ℕ) (o : Option ℕ) → o ≡ length_at g seq → end ≡ unwrap_or o 0 → end ≡ unwrap_or (length_at g seq) 0
-end-is g seq end o at is = is ∙ ap (λ (p : Option ℕ). unwrap_or p 0) at
-
 module _ (g : Sequences) (t : Tracked) (is : IsTrackOn g t) where
   is_placed : (q : Row) → Mem q t.rows → (q.start < q.stop) × IsWithin g q.seq q.stop
   is_placed q m = let fits = all-mem (Fits g t.width) t.rows is.fit q m in (fits.is_placed.some, fits.is_placed.within)

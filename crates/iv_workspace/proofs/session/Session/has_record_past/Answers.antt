@@ -1,11 +1,11 @@
 use Rattle.std.proofs.Common.{◌∙◌, refl, sym}
-use Rattle.iv_workspace.proofs.ResizeLemmas.{end-is, no_record-past, track-past, second-past, second-there, rows-some, rows-within}
+use Rattle.iv_workspace.proofs.ResizeLemmas.{no_record-past, track-past, second-past, second-there, rows-some, rows-within}
 use Rattle.iv_workspace.proofs.session.Session.has_record_past.Goals as goal
 
 pub returns-then-length-end : goal.returns-then-length-end
 returns-then-length-end g c =
-    no_record-past _ c.args.self.now _ c.args.seq c.args.length c.unwrap_or-end.result c.self.view_is c.self.invariant.0
-    (end-is c.self.inside.genome c.args.seq _ _ c.length.ensures.value c.unwrap_or-end.ensures) c.if-length-end.true
+    no_record-past _ c.args.self.now _ c.args.seq c.args.length c.length_of-end.result c.self.view_is c.self.invariant.0
+    c.length_of-end.ensures c.if-length-end.true
 
 pub returns-then-track_reaches_past : goal.returns-then-track_reaches_past
 returns-then-track_reaches_past g c =
@@ -19,8 +19,8 @@ second_reaches_past-requires-clause-some g c =
 pub second_reaches_past-requires-clause-within : goal.second_reaches_past-requires-clause-within
 second_reaches_past-requires-clause-within g c =
     let i = c.self.inside in
-    rows-within i.genome c.in-Some.second (second-there i.genome i.second c.in-Some.second c.self.invariant.0.second_is c.in-Some.is) c.args.seq c.unwrap_or-end.result
-    (end-is c.self.inside.genome c.args.seq _ _ c.length.ensures.value c.unwrap_or-end.ensures)
+    rows-within i.genome c.in-Some.second (second-there i.genome i.second c.in-Some.second c.self.invariant.0.second_is c.in-Some.is) c.args.seq c.length_of-end.result
+    c.length_of-end.ensures
 
 pub returns-in-Some : goal.returns-in-Some
 returns-in-Some g c =
