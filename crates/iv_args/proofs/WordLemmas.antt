@@ -2,8 +2,8 @@
 use Rattle.std.proofs.Common.{◌≡◌, ℕ, ◌≤◌, Bool, true, false, List, [], ◌∷◌, ◌++◌, Option, Some, None, length, refl, sym, ap, ◌∙◌, subst, arith, ◌⊎◌, inl, inr, Result, Ok, Err}
 use Rattle.std.specs.Prelude.{◌&&◌, ◌||◌, not, IsTrue, IsSome, IfOk, IfErr}
 use Rattle.std.specs.Option.{option_to_list, is_some}
-use Rattle.iv_args.specs.declared.fault.PlanFault.{PlanFault}
-use Rattle.iv_args.specs.declared.fault.PlanFault.TheVariants as fault
+use Rattle.iv_text.specs.declared.fault.Fault.{Fault}
+use Rattle.iv_text.specs.declared.fault.Fault.TheVariants as fault
 use Rattle.iv_args.specs.declared.run.Run.{Run}
 use Rattle.iv_args.specs.declared.run.RunOption.{RunOption}
 use Rattle.iv_args.specs.declared.run.RunOption.TheVariants as option
@@ -178,17 +178,17 @@ module _ (word : List ℕ) (rest : List (List ℕ)) (run : Run) (is_run : Some r
   refuse-plan said h none plan is = none plan (makes said plan h is)
 
   -- why there is no plan
-  abbrev pub IsNone : PlanFault → Type 0
-  IsNone why = (why ≡ fault.Memory) ⊎ ((why ≡ fault.Words) × ((plan : RunPlan) → ¬ IsPlan (word ∷ rest) plan))
+  abbrev pub IsNone : Fault → Type 0
+  IsNone why = (why ≡ fault.NoMemory) ⊎ ((why ≡ fault.Words) × ((plan : RunPlan) → ¬ IsPlan (word ∷ rest) plan))
 
-  pub none-taken : (first : PartialPlan) (why : PlanFault) → first ≡ begun_by run word
-      → (why ≡ fault.Memory) ⊎ ((why ≡ fault.Words) × (drafted run rest first ≡ None)) → IsNone why
+  pub none-taken : (first : PartialPlan) (why : Fault) → first ≡ begun_by run word
+      → (why ≡ fault.NoMemory) ⊎ ((why ≡ fault.Words) × (drafted run rest first ≡ None)) → IsNone why
   none-taken first why begun refused = elim refused [
     | inl memory ↦ inl memory
     | inr words ↦ inr (words.0, refuse-taken (ap (drafted run rest) (sym begun) ∙ words.1))
   ]
 
-  pub none-made : (first said : PartialPlan) (why : PlanFault) → first ≡ begun_by run word → drafted run rest first ≡ Some said
+  pub none-made : (first said : PartialPlan) (why : Fault) → first ≡ begun_by run word → drafted run rest first ≡ Some said
       → (why ≡ fault.Words) × ((plan : RunPlan) → ¬ Makes run said plan) → IsNone why
   none-made first said why begun h refused = inr (refused.0, refuse-plan said (ap (drafted run rest) (sym begun) ∙ h) refused.1)
 

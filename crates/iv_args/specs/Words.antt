@@ -2,10 +2,10 @@
 use Rattle.std.specs.Prelude.{◌≡◌, ◌-◌, ℕ, ◌++◌, ◌&&◌, ◌||◌, nat_le, Bool, true, false, cond, List, [], ◌∷◌, Option, None, Some, Result, Ok, Err, IsTrue, IsSome, map, filter, codes}
 use Rattle.std.specs.Option.{option_map, option_to_list}
 use Rattle.std.specs.Str.{bytes_eq}
+use Rattle.iv_text.specs.declared.fault.Fault.{Fault}
+use Rattle.iv_text.specs.declared.fault.Fault.TheVariants as fault
 use Rattle.iv_view.specs.Views.{read_words}
 use Rattle.iv_view.specs.declared.view.View.{View}
-use Rattle.iv_view.specs.declared.fault.ViewFault.{ViewFault}
-use Rattle.iv_view.specs.declared.fault.ViewFault.TheVariants as fault
 use Rattle.iv_args.specs.declared.run.Run.{Run}
 use Rattle.iv_args.specs.declared.run.Run.TheVariants as kind
 use Rattle.iv_args.specs.declared.run.RunOption.{RunOption}
@@ -163,7 +163,7 @@ lead kind.Session word = []
 lead run word = word ∷ []
 
 -- whether words were read as those of a view, or have a fault that only the files can show
-abbrev pub are_understood : Result View ViewFault → Bool
+abbrev pub are_understood : Result View Fault → Bool
 are_understood (Ok view) = true
 are_understood (Err fault.Words) = false
 are_understood (Err why) = true

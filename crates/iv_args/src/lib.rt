@@ -1,7 +1,6 @@
 //! The words of a run: what it is to do, with which files, and what the program says of itself.
 #![tactic(auto)]
 
-mod fault;
 mod help;
 mod laws;
 mod notice;
@@ -9,7 +8,6 @@ mod plan;
 mod plan_draft;
 mod run;
 
-pub use fault::PlanFault;
 pub use laws::{no_option_twice, options_among_view_words};
 pub use notice::Notice;
 pub use plan::{Plan, Slot};

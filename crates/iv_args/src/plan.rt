@@ -5,9 +5,9 @@ ghost use Rattle.iv_view.specs.Views.{read_words};
 ghost use Rattle.iv_args.specs.Words.{RunPlan, IsPlan, file_of, is_session};
 ghost use Rattle.iv_args.specs.Drafts.{Makes};
 
-use crate::fault::PlanFault;
 use crate::plan_draft::PlanDraft;
 use crate::run::Run;
+use iv_text::Fault;
 use iv_view::{View, ViewFault};
 use std::alloc::{Allocator, Global};
 use std::marker::Model;
@@ -53,20 +53,17 @@ impl<'a, A: Allocator + Copy> Model for Plan<'a, A> {
 }
 
 /// The plan of what the words have said, where that is one.
-fn plan_of<'a, A: Allocator + Copy>(
-    run: Run,
-    draft: PlanDraft<'a, A>,
-) -> Result<Plan<'a, A>, PlanFault>
+fn plan_of<'a, A: Allocator + Copy>(run: Run, draft: PlanDraft<'a, A>) -> Result<Plan<'a, A>, Fault>
     ensures ok { IfOk result (λ plan. Makes run draft.entry plan) }
-    ensures err { IfErr result (λ fault. (fault ≡ PlanFault.Words) × ((plan : RunPlan) → ¬ Makes run draft.entry plan)) }
+    ensures err { IfErr result (λ fault. (fault ≡ Fault.Words) × ((plan : RunPlan) → ¬ Makes run draft.entry plan)) }
 {
     let view = draft.read_view();
     if !draft.has_needed(run) || !draft.has_view(run, view) {
-        return Err(PlanFault::Words);
+        return Err(Fault::Words);
     }
     let width = draft.width();
     let (Some(sizes), Some(first), Some(width)) = (draft.sizes, draft.first, width) else {
-        return Err(PlanFault::Words);
+        return Err(Fault::Words);
     };
     Ok(Plan {
         run,
@@ -91,18 +88,18 @@ impl<'a, A: Allocator + Copy> Plan<'a, A> {
     ///
     /// # Errors
     ///
-    /// `Words` for any other words, and `Memory`. A fault of the subcommand's options that only the width of the records can
+    /// `Words` (E16) for any other words, and `NoMemory` (E22). A fault of the subcommand's options that only the width of the records can
     /// show is not looked for here.
-    pub fn read(alloc: A, words: &[&'a [u8]]) -> Result<Plan<'a, A>, PlanFault>
+    pub fn read(alloc: A, words: &[&'a [u8]]) -> Result<Plan<'a, A>, Fault>
         ensures ok { IfOk result (λ plan. IsPlan (map (λ word. word.now) words.now) plan) }
-        ensures err { IfErr result (λ fault. (fault ≡ PlanFault.Memory)
-            ⊎ ((fault ≡ PlanFault.Words) × ((plan : RunPlan) → ¬ IsPlan (map (λ word. word.now) words.now) plan))) }
+        ensures err { IfErr result (λ fault. (fault ≡ Fault.NoMemory)
+            ⊎ ((fault ≡ Fault.Words) × ((plan : RunPlan) → ¬ IsPlan (map (λ word. word.now) words.now) plan))) }
     {
         let Some((word, rest)) = words.split_first() else {
-            return Err(PlanFault::Words);
+            return Err(Fault::Words);
         };
         let Some(run) = Run::of(word) else {
-            return Err(PlanFault::Words);
+            return Err(Fault::Words);
         };
         let mut draft = PlanDraft::new(alloc, run, word)?;
         draft.take_all(run, rest)?;

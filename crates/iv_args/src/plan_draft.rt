@@ -5,8 +5,8 @@ ghost use Rattle.iv_view.specs.Views.{read_words};
 ghost use Rattle.iv_args.specs.Words.{width_of, width_said, are_view_words};
 ghost use Rattle.iv_args.specs.Drafts.{begun_by, drafted, with_value, viewed, has_needed_files};
 
-use crate::fault::PlanFault;
 use crate::run::{Run, RunOption};
+use iv_text::Fault;
 use iv_view::{View, ViewFault};
 use std::alloc::{AllocError, Allocator, Global};
 use std::marker::Model;
@@ -47,9 +47,9 @@ impl<'a, A: Allocator + Copy> Model for PlanDraft<'a, A> {
 
 impl<'a, A: Allocator + Copy> PlanDraft<'a, A> {
     /// What the first word says.
-    pub(crate) fn new(alloc: A, run: Run, word: &'a [u8]) -> Result<Self, PlanFault>
+    pub(crate) fn new(alloc: A, run: Run, word: &'a [u8]) -> Result<Self, Fault>
         ensures ok { IfOk result (λ draft. draft ≡ begun_by run word.now) }
-        ensures err { IfErr result (λ fault. fault ≡ PlanFault.Memory) }
+        ensures err { IfErr result (λ fault. fault ≡ Fault.NoMemory) }
     {
         let mut draft = PlanDraft {
             sizes: None,
@@ -74,10 +74,10 @@ impl<'a, A: Allocator + Copy> PlanDraft<'a, A> {
     }
 
     /// Takes all words after the first.
-    pub(crate) fn take_all(&mut self, run: Run, words: &[&'a [u8]]) -> Result<(), PlanFault>
+    pub(crate) fn take_all(&mut self, run: Run, words: &[&'a [u8]]) -> Result<(), Fault>
         ensures ok { OnOk result (drafted run (map (λ word. word.now) words.now) self.old ≡ Some self.new) }
-        ensures err { IfErr result (λ fault. (fault ≡ PlanFault.Memory)
-            ⊎ ((fault ≡ PlanFault.Words) × (drafted run (map (λ word. word.now) words.now) self.old ≡ None))) }
+        ensures err { IfErr result (λ fault. (fault ≡ Fault.NoMemory)
+            ⊎ ((fault ≡ Fault.Words) × (drafted run (map (λ word. word.now) words.now) self.old ≡ None))) }
     {
         let mut rest = words;
         'words: while let [word, others @ ..] = rest {
@@ -89,12 +89,12 @@ impl<'a, A: Allocator + Copy> PlanDraft<'a, A> {
 
     /// Takes one more word, and the first of the others where that is its value. It says how many of the others it has
     /// taken: one or none.
-    fn take(&mut self, run: Run, word: &'a [u8], others: &[&'a [u8]]) -> Result<usize, PlanFault>
+    fn take(&mut self, run: Run, word: &'a [u8], others: &[&'a [u8]]) -> Result<usize, Fault>
         ensures ok { IfOk result (λ values. drafted run (word.now ∷ map (λ word. word.now) others.now) self.old
             ≡ drafted run (map (λ word. word.now) (drop values others.now)) self.new) }
         ensures some { IfOk result (λ values. (values ≤ 1) × (values ≤ length others.now)) }
-        ensures err { IfErr result (λ fault. (fault ≡ PlanFault.Memory)
-            ⊎ ((fault ≡ PlanFault.Words) × (drafted run (word.now ∷ map (λ word. word.now) others.now) self.old ≡ None))) }
+        ensures err { IfErr result (λ fault. (fault ≡ Fault.NoMemory)
+            ⊎ ((fault ≡ Fault.Words) × (drafted run (word.now ∷ map (λ word. word.now) others.now) self.old ≡ None))) }
     {
         let Some(value) = others.first() else {
             return self.take_last(run, word);
@@ -116,22 +116,22 @@ impl<'a, A: Allocator + Copy> PlanDraft<'a, A> {
     }
 
     /// Takes the last word. No others are taken.
-    fn take_last(&mut self, run: Run, word: &'a [u8]) -> Result<usize, PlanFault>
+    fn take_last(&mut self, run: Run, word: &'a [u8]) -> Result<usize, Fault>
         ensures ok { IfOk result (λ values. (values ≡ 0) × (drafted run (word.now ∷ []) self.old ≡ Some self.new)) }
-        ensures err { IfErr result (λ fault. (fault ≡ PlanFault.Memory)
-            ⊎ ((fault ≡ PlanFault.Words) × (drafted run (word.now ∷ []) self.old ≡ None))) }
+        ensures err { IfErr result (λ fault. (fault ≡ Fault.NoMemory)
+            ⊎ ((fault ≡ Fault.Words) × (drafted run (word.now ∷ []) self.old ≡ None))) }
     {
         if run.option(word).is_some() {
-            return Err(PlanFault::Words);
+            return Err(Fault::Words);
         }
         self.keep(&[word])?;
         Ok(0)
     }
 
     /// Sets the value of an option.
-    fn set(&mut self, option: RunOption, value: &'a [u8]) -> Result<(), PlanFault>
+    fn set(&mut self, option: RunOption, value: &'a [u8]) -> Result<(), Fault>
         ensures ok { OnOk result (with_value option value.now self.old ≡ Some self.new) }
-        ensures err { IfErr result (λ fault. (fault ≡ PlanFault.Words) × (with_value option value.now self.old ≡ None)) }
+        ensures err { IfErr result (λ fault. (fault ≡ Fault.Words) × (with_value option value.now self.old ≡ None)) }
     {
         match option {
             RunOption::Sizes if self.sizes.is_none() => {
@@ -154,7 +154,7 @@ impl<'a, A: Allocator + Copy> PlanDraft<'a, A> {
                 self.width = Some(value);
                 Ok(())
             }
-            _ => Err(PlanFault::Words),
+            _ => Err(Fault::Words),
         }
     }
 

@@ -14,8 +14,8 @@ use Rattle.iv_text.specs.Lines.{lines}
 use Rattle.iv_text.specs.Read.{read, row, or_fault, has_fault, faults, column, Fits}
 use Rattle.iv_text.specs.Row.{Row, strand_of}
 use Rattle.iv_text.specs.BedFile.{Draft, bed_of, finished}
-use Rattle.iv_text.specs.declared.fault.RecordFault.{RecordFault}
-use Rattle.iv_text.specs.declared.fault.RecordFault.TheVariants as fault
+use Rattle.iv_text.specs.declared.fault.Fault.{Fault}
+use Rattle.iv_text.specs.declared.fault.Fault.TheVariants as fault
 use Rattle.iv_text.specs.declared.fault.LoadFault.{LoadFault}
 use Rattle.iv_index.proofs.PlaceLemmas.{line-is}
 use Rattle.iv_index.specs.Places.{HasBase, line_at, place_at, row_of, row_at, rows_at}
@@ -24,18 +24,18 @@ use Rattle.iv_index.specs.declared.place.Place.{Place}
 
 -- ---- the record of a line
 
-or_fault-ok : (o : Option RecordFault) (q r : Row) → or_fault o q ≡ Ok r → q ≡ r
+or_fault-ok : (o : Option Fault) (q r : Row) → or_fault o q ≡ Ok r → q ≡ r
 or_fault-ok None q r h = cc
 or_fault-ok (Some f) q r h = cc
 
 row-is : (g : Sequences) (w : ℕ) (line : List ℕ) (r : Row) → read g w line ≡ Ok r → row g w (columns line) ≡ r
 row-is g w line r says = or_fault-ok (find (has_fault g w (columns line)) faults) (row g w (columns line)) r says
 
-or_fault-hit : (o : Option RecordFault) (f : RecordFault) (q r : Row) → o ≡ Some f → or_fault o q ≡ Ok r → ⊥
+or_fault-hit : (o : Option Fault) (f : Fault) (q r : Row) → o ≡ Some f → or_fault o q ≡ Ok r → ⊥
 or_fault-hit None f q r is h = cc
 or_fault-hit (Some e) f q r is h = cc
 
-other_faults : List RecordFault
+other_faults : List Fault
 other_faults = fault.UnknownSeq ∷ fault.StartNumber ∷ fault.StopNumber ∷ fault.Order ∷ fault.PastEnd ∷ fault.Name ∷ fault.Score ∷ fault.Strand ∷ []
 
 count-is : (g : Sequences) (w : ℕ) (line : List ℕ) (r : Row) → read g w line ≡ Ok r → length (columns line) ≡ w

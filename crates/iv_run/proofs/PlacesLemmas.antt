@@ -5,6 +5,8 @@ use Rattle.std.specs.Bool.{then_some}
 use Rattle.std.specs.Option.{is_some}
 use Rattle.iv_bytes.specs.Sinks.{SinkState}
 use Rattle.iv_text.specs.Ordered.{ordered}
+use Rattle.iv_text.specs.declared.fault.Fault.{Fault}
+use Rattle.iv_text.specs.declared.fault.Fault.TheVariants as refused
 use Rattle.iv_index.proofs.BareLemmas.{ordered-bare}
 use Rattle.iv_index.specs.Places.{bare}
 use Rattle.iv_blocks.specs.Groups.{listed}
@@ -17,8 +19,6 @@ use Rattle.iv_view.specs.declared.view.View.{View}
 use Rattle.iv_view.specs.declared.view.View.TheVariants as view
 use Rattle.iv_view.specs.declared.view.KeptView.{KeptView}
 use Rattle.iv_view.specs.declared.view.KeptView.TheVariants as kept
-use Rattle.iv_view.specs.declared.fault.ViewFault.{ViewFault}
-use Rattle.iv_view.specs.declared.fault.ViewFault.TheVariants as viewing
 use Rattle.iv_view.specs.declared.written_view.WrittenView.TheVariants as written
 use Rattle.iv_depth.specs.declared.depth_rows.DepthRows.{DepthRows}
 use Rattle.iv_pair.specs.declared.pair_rows.PairRows.{PairRows}
@@ -92,11 +92,11 @@ cluster-columns distance (places.Genomecov rows) is = is
 -- a view of places is the same on fewer columns and without files
 narrowed-same : (width : ℕ) (b c : Bool) (v : PlacesView) (asked : KeptView) → IsViewOf v asked → narrowed width b c (view.Kept asked) ≡ Ok (view.Kept asked)
 narrowed-same width b c (places.Merge distance) = of-merge distance (λ (k : KeptView). narrowed width b c (view.Kept k) ≡ Ok (view.Kept k))
-    (λ o plain i. as_merge (if not (has_columns width (plain.nothing i)) then Err viewing.Column else if plain.together i && nat_lt width 6 then Err viewing.NoStrand else Ok o))
+    (λ o plain i. as_merge (if not (has_columns width (plain.nothing i)) then Err refused.Column else if plain.together i && nat_lt width 6 then Err refused.NoStrand else Ok o))
 narrowed-same width b c (places.Complement limited) = of-complement limited (λ (k : KeptView). narrowed width b c (view.Kept k) ≡ Ok (view.Kept k)) refl
 narrowed-same width b c (places.Genomecov rows) = of-genomecov rows (λ (k : KeptView). narrowed width b c (view.Kept k) ≡ Ok (view.Kept k)) refl
 
-merge-kept : (t u : Bool) (o : Options) (asked : KeptView) → as_merge (if t then Err viewing.Column else if u then Err viewing.NoStrand else Ok o) ≡ Ok (view.Kept asked) → view.Kept (kept.Merge o) ≡ view.Kept asked
+merge-kept : (t u : Bool) (o : Options) (asked : KeptView) → as_merge (if t then Err refused.Column else if u then Err refused.NoStrand else Ok o) ≡ Ok (view.Kept asked) → view.Kept (kept.Merge o) ≡ view.Kept asked
 merge-kept true u o asked is = cc
 merge-kept false true o asked is = cc
 merge-kept false false o asked is = cc
@@ -106,7 +106,7 @@ second-never true rows asked is = cc
 second-never false rows asked is = cc
 
 fasta-never : (t u : Bool) (rows : FastaRows) (asked : KeptView)
-    → (if t then Err viewing.NoStrand else if u then Ok (view.Written (written.Getfasta rows)) else Err viewing.NoFasta) ≡ Ok (view.Kept asked) → ⊥
+    → (if t then Err refused.NoStrand else if u then Ok (view.Written (written.Getfasta rows)) else Err refused.NoFasta) ≡ Ok (view.Kept asked) → ⊥
 fasta-never true u rows asked is = cc
 fasta-never false true rows asked is = cc
 fasta-never false false rows asked is = cc
@@ -125,15 +125,15 @@ module _ (words : List (List ℕ)) where
   asks-none : ((k : KeptView) → read_words 6 true true words ≡ Ok (view.Kept k) → NeedsColumns k) → AskForColumns words
   asks-none none asked width b c is = by (read_words 6 true true words) refl
     where
-      never : (why : ViewFault) → Err why ≡ Ok (view.Kept asked) → NeedsColumns asked
+      never : (why : Fault) → Err why ≡ Ok (view.Kept asked) → NeedsColumns asked
       never why e = cc
 
-      by : (r : Result View ViewFault) → read_words 6 true true words ≡ r → NeedsColumns asked
+      by : (r : Result View Fault) → read_words 6 true true words ≡ r → NeedsColumns asked
       by (Ok v) e = none asked (e ∙ ap Ok (narrowed-kept width b c v asked (view-narrowed width b c words v e ∙ is)))
       by (Err why) e = never why (sym (fault-narrowed width b c words why e) ∙ is)
 
   -- a view of which no state is kept, or a fault
-  pub asks-other : (r : Result View ViewFault) → read_words 6 true true words ≡ r → ((k : KeptView) → r ≡ Ok (view.Kept k) → ⊥) → AskForColumns words
+  pub asks-other : (r : Result View Fault) → read_words 6 true true words ≡ r → ((k : KeptView) → r ≡ Ok (view.Kept k) → ⊥) → AskForColumns words
   asks-other r is other = asks-none (λ k e. absurd (other k (sym is ∙ e)))
 
   -- a view of which a state is kept

@@ -5,14 +5,14 @@ use Rattle.iv_text.specs.BedFile.{Bed, bed_of}
 use Rattle.iv_text.specs.Genome.{Sequences}
 use Rattle.iv_text.specs.GenomeFile.{genome_of}
 use Rattle.iv_text.specs.declared.fault.LoadFault.{LoadFault}
+use Rattle.iv_text.specs.declared.fault.Fault.{Fault}
+use Rattle.iv_text.specs.declared.fault.Fault.TheVariants as refused
 use Rattle.iv_fasta.specs.Fasta.{Bases}
-use Rattle.iv_view.specs.declared.fault.ViewFault.{ViewFault}
-use Rattle.iv_view.specs.declared.fault.ViewFault.TheVariants as viewing
 use Rattle.iv_view.specs.declared.view.View.{View}
 use Rattle.iv_run.specs.Prints.{Prints}
 use Rattle.iv_run.specs.declared.fault.CliFault.{CliFault}
 use Rattle.iv_run.specs.declared.fault.CliFault.TheVariants as fault
-use Rattle.iv_run.specs.Loading.{Parsed, parsed, second_of, bases_said, with_bases, with_second, with_first, with_genome, fault_of_view}
+use Rattle.iv_run.specs.Loading.{Parsed, parsed, second_of, bases_said, with_bases, with_second, with_first, with_genome, fault_of_words}
 use Rattle.iv_run.specs.Shots.{Shows, shown_of, text_or_fault, text_beside, view_beside}
 
 -- ---- damaged files
@@ -49,20 +49,13 @@ shows-damage width sizes first other bases limit words (fault.Damaged slot damag
 -- ---- sound files
 
 module _ (said : Result Parsed CliFault) (files : Parsed) (is : said ≡ Ok files) (words : List (List ℕ)) where
-  asked-is : (r : Result View ViewFault) → view_beside files words ≡ r → shown_of words said ≡ text_or_fault files r
+  asked-is : (r : Result View Fault) → view_beside files words ≡ r → shown_of words said ≡ text_or_fault files r
   asked-is r asked = ap (shown_of words) is ∙ ap (text_or_fault files) asked
 
   -- a fault of the words is reported, and nothing is printed
-  pub shows-words : (why : ViewFault) (old : SinkState) → view_beside files words ≡ Err why → Shows old old (Err (fault_of_view why)) (shown_of words said)
-  shows-words viewing.NoMemory old asked = refl
-  shows-words viewing.BadName old asked = (asked-is (Err viewing.BadName) asked, refl)
-  shows-words viewing.Taken old asked = (asked-is (Err viewing.Taken) asked, refl)
-  shows-words viewing.TooMany old asked = (asked-is (Err viewing.TooMany) asked, refl)
-  shows-words viewing.Words old asked = (asked-is (Err viewing.Words) asked, refl)
-  shows-words viewing.Column old asked = (asked-is (Err viewing.Column) asked, refl)
-  shows-words viewing.NoStrand old asked = (asked-is (Err viewing.NoStrand) asked, refl)
-  shows-words viewing.NoSecond old asked = (asked-is (Err viewing.NoSecond) asked, refl)
-  shows-words viewing.NoFasta old asked = (asked-is (Err viewing.NoFasta) asked, refl)
+  pub shows-words : (why : Fault) (old : SinkState) → view_beside files words ≡ Err why → Shows old old (Err (fault_of_words why)) (shown_of words said)
+  shows-words refused.NoMemory old asked = refl
+  shows-words why old asked = (asked-is (Err why) asked, refl)
 
   -- the text of the view is printed; or a prefix of it is, and the output failed; or nothing is, for out of memory
   pub shows-text : (view : View) → view_beside files words ≡ Ok view → (old new : SinkState) (result : Result (Unit {0}) CliFault)

@@ -2,15 +2,15 @@
 use Rattle.std.specs.Prelude.{◌≡◌, ◌⊎◌, ℕ, List, Option, Result, Ok, Err}
 use Rattle.std.specs.Option.{option_map, option_transpose}
 use Rattle.iv_text.specs.Genome.{Sequences}
+use Rattle.iv_text.specs.Fault.{code_of}
 use Rattle.iv_text.specs.GenomeFile.{genome_of}
 use Rattle.iv_text.specs.BedFile.{Bed, bed_of}
 use Rattle.iv_text.specs.declared.fault.LoadFault.{LoadFault}
 use Rattle.iv_text.specs.declared.fault.LoadCause.{LoadCause}
 use Rattle.iv_text.specs.declared.fault.LoadCause.TheVariants as cause
+use Rattle.iv_text.specs.declared.fault.Fault.{Fault}
+use Rattle.iv_text.specs.declared.fault.Fault.TheVariants as refused
 use Rattle.iv_fasta.specs.Fasta as fasta
-use Rattle.iv_view.specs.Views.{view_code}
-use Rattle.iv_view.specs.declared.fault.ViewFault.{ViewFault}
-use Rattle.iv_view.specs.declared.fault.ViewFault.TheVariants as viewing
 use Rattle.iv_workspace.specs.States.{State, begun}
 use Rattle.iv_run.specs.declared.fault.CliFault.{CliFault}
 use Rattle.iv_run.specs.declared.fault.CliFault.TheVariants.{Words, Damaged, Memory}
@@ -35,10 +35,10 @@ abbrev pub IsReport : {T : Type 0} → Result T CliFault → Result T CliFault �
 IsReport (Ok value) said = said ≡ Ok value
 IsReport (Err fault) said = (fault ≡ Memory) ⊎ (said ≡ Err fault)
 
--- how a fault of a view's words is reported: by its number, but out of memory as that
-abbrev pub fault_of_view : ViewFault → CliFault
-fault_of_view viewing.NoMemory = Memory
-fault_of_view why = Words (view_code why)
+-- how a fault of words is reported: by its number, but out of memory as that
+abbrev pub fault_of_words : Fault → CliFault
+fault_of_words refused.NoMemory = Memory
+fault_of_words why = Words (code_of why)
 
 -- what the files of a run say, and how many records each track of them may hold
 pub record Parsed : Type 0 where

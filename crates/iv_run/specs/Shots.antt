@@ -3,11 +3,12 @@ use Rattle.std.specs.Prelude.{◌≡◌, ℕ, List, [], Option, Result, Ok, Err}
 use Rattle.std.specs.Option.{is_some, option_map, unwrap_or}
 use Rattle.iv_bytes.specs.Sinks.{SinkState, Takes, FailsIn}
 use Rattle.iv_text.specs.BedFile.{Bed}
+use Rattle.iv_text.specs.Fault.{code_of}
 use Rattle.iv_text.specs.Ordered.{ordered}
 use Rattle.iv_text.specs.Row.{Row}
-use Rattle.iv_view.specs.Views.{read_words, view_code, view_text}
+use Rattle.iv_text.specs.declared.fault.Fault.{Fault}
+use Rattle.iv_view.specs.Views.{read_words, view_text}
 use Rattle.iv_view.specs.declared.view.View.{View}
-use Rattle.iv_view.specs.declared.fault.ViewFault.{ViewFault}
 use Rattle.iv_run.specs.declared.fault.CliFault.{CliFault}
 use Rattle.iv_run.specs.declared.fault.CliFault.TheVariants as fault
 use Rattle.iv_run.specs.Loading.{Parsed, parsed}
@@ -18,7 +19,7 @@ abbrev pub ordered_other : Option Bed → List Row
 ordered_other second = unwrap_or (option_map (λ file. ordered file.rows) second) []
 
 -- the view that words ask for beside these files, at the width of the records
-abbrev pub view_beside : Parsed → List (List ℕ) → Result View ViewFault
+abbrev pub view_beside : Parsed → List (List ℕ) → Result View Fault
 view_beside files words = read_words files.first.width (is_some files.second) (is_some files.bases) words
 
 -- what the view prints for the files: its text for their records in track order
@@ -26,8 +27,8 @@ abbrev pub text_beside : Parsed → View → List ℕ
 text_beside files view = view_text view files.genome (ordered files.first.rows) (ordered_other files.second) (unwrap_or files.bases [])
 
 -- the text of the view that was asked for, or the fault of its words
-abbrev pub text_or_fault : Parsed → Result View ViewFault → Result (List ℕ) CliFault
-text_or_fault files (Err why) = Err (fault.Words (view_code why))
+abbrev pub text_or_fault : Parsed → Result View Fault → Result (List ℕ) CliFault
+text_or_fault files (Err why) = Err (fault.Words (code_of why))
 text_or_fault files (Ok view) = Ok (text_beside files view)
 
 -- the text of the view that words ask for, unless the files are damaged, or else the fault of the words

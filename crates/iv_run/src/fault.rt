@@ -1,8 +1,7 @@
 //! Faults of a run.
 use iv_args::Slot;
 use iv_bytes::{ReadFault, WriteFault};
-use iv_text::{LoadCause, LoadFault};
-use iv_view::ViewFault;
+use iv_text::{Fault, LoadCause, LoadFault};
 use std::alloc::AllocError;
 use thiserror::Error;
 
@@ -84,16 +83,16 @@ impl From<(Slot, LoadFault)> for CliFault {
     }
 }
 
-/// Out of memory, or a fault of the view's words, by its number.
-impl From<ViewFault> for CliFault {
+/// Out of memory, or a fault of words, by its number.
+impl From<Fault> for CliFault {
     ghost use Rattle.std.specs.Prelude.{◌≡◌};
-    ghost use Rattle.iv_run.specs.Loading.{fault_of_view};
+    ghost use Rattle.iv_run.specs.Loading.{fault_of_words};
 
-    ghost from_gives = { λ why fault. fault ≡ fault_of_view why };
+    ghost from_gives = { λ why fault. fault ≡ fault_of_words why };
 
-    fn from(why: ViewFault) -> CliFault {
+    fn from(why: Fault) -> CliFault {
         match why {
-            ViewFault::NoMemory => CliFault::Memory,
+            Fault::NoMemory => CliFault::Memory,
             _ => CliFault::Words(why.code()),
         }
     }

@@ -22,7 +22,7 @@ use iv_bytes::{Buffered, Sink};
 use iv_fasta::{Fasta, FastaRows};
 use iv_index::{BedText, Span};
 use iv_pair::PairRows;
-use iv_text::{Genome, LoadFault};
+use iv_text::{Fault, Genome, LoadFault};
 use iv_view::{KeptView, View, ViewFault, WrittenView};
 use std::alloc::{Allocator, Global};
 use std::marker::Model;
@@ -163,7 +163,7 @@ impl<'t, A: Allocator + Copy> TextFiles<'t, A> {
             limit: _,
         } = self;
         let Some(mut second) = second else {
-            return Err(CliFault::from(ViewFault::NoSecond));
+            return Err(CliFault::from(Fault::NoSecond));
         };
         first.sort(alloc)?;
         first.law_of_bases();
@@ -186,7 +186,7 @@ impl<'t, A: Allocator + Copy> TextFiles<'t, A> {
             limit: _,
         } = self;
         let Some(fasta) = fasta else {
-            return Err(CliFault::from(ViewFault::NoFasta));
+            return Err(CliFault::from(Fault::NoFasta));
         };
         records.sort(alloc)?;
         put_each(shown, &records.records(), &fasta, &genome, sink)?;

@@ -4,7 +4,7 @@ use Rattle.std.specs.Prelude.{codes}
 use Rattle.iv_text.specs.Genome.{Sequences}
 use Rattle.iv_text.specs.Fields.{words}
 use Rattle.iv_text.specs.Row.{Row}
-use Rattle.iv_text.specs.declared.fault.RecordFault.TheVariants as record_fault
+use Rattle.iv_text.specs.declared.fault.Fault.TheVariants as fault
 use Rattle.iv_session.specs.Requests.{asked}
 use Rattle.iv_session.specs.Running.{Runs}
 use Rattle.iv_session.specs.Scripts.{Steps}
@@ -17,10 +17,6 @@ use Rattle.iv_session.specs.Written.{Written, printed, refused_by}
 use Rattle.iv_session.specs.declared.request.Request.TheVariants as request
 use Rattle.iv_session.specs.declared.edit.Edit.TheVariants as edit
 use Rattle.iv_session.specs.declared.edit.Target.TheVariants as target
-use Rattle.iv_session.specs.declared.fault.LineFault.TheVariants as line
-use Rattle.iv_session.specs.declared.fault.RequestFault.TheVariants as request_fault
-use Rattle.iv_workspace.specs.declared.fault.PrintFault.TheVariants as printing
-use Rattle.iv_view.specs.declared.fault.ViewFault.TheVariants as fault
 use Rattle.iv_blocks.specs.Groups.{filled}
 use Rattle.iv_view.specs.declared.view.View.{View}
 use Rattle.iv_view.specs.declared.view.View.TheVariants as view
@@ -70,10 +66,10 @@ comments-ask_nothing = refl
 pub commands-come_before_a_tab : asked empty (codes "print" ++ tab ++ codes "m") ≡ Ok (request.Print (codes "m"))
 commands-come_before_a_tab = refl
 
-pub other_words-are_no_commands : asked empty (codes "paint" ++ tab ++ codes "m") ≡ Err request_fault.Command
+pub other_words-are_no_commands : asked empty (codes "paint" ++ tab ++ codes "m") ≡ Err fault.Command
 other_words-are_no_commands = refl
 
-pub printall-takes_no_field : asked empty (codes "printall" ++ tab) ≡ Err request_fault.Command
+pub printall-takes_no_field : asked empty (codes "printall" ++ tab) ≡ Err fault.Command
 printall-takes_no_field = refl
 
 pub records-come_after_add : asked empty (codes "add" ++ tab ++ codes "chr1" ++ tab ++ codes "10" ++ tab ++ codes "20") ≡ Ok (request.Edit target.First (edit.Add first_row))
@@ -83,7 +79,7 @@ pub lengths-come_after_names : asked empty (codes "resize" ++ tab ++ codes "chr1
 lengths-come_after_names = refl
 
 -- a name is looked for only after a sound length
-pub bad_lengths-come_before_names : asked empty (codes "resize" ++ tab ++ codes "chr9" ++ tab ++ codes "x") ≡ Err request_fault.Length
+pub bad_lengths-come_before_names : asked empty (codes "resize" ++ tab ++ codes "chr9" ++ tab ++ codes "x") ≡ Err fault.StopNumber
 bad_lengths-come_before_names = refl
 
 pub spaces-are_no_words : read_words 3 false false (words (codes "  merge ")) ≡ Ok plain_merge
@@ -116,7 +112,7 @@ script =
 abbrev silent : Written
 silent = printed []
 
-pub script-steps : Steps Runs empty script (silent ∷ silent ∷ silent ∷ printed (text_in with_two plain_merge) ∷ refused_by (Some 7) ∷ []) with_two
+pub script-steps : Steps Runs empty script (silent ∷ silent ∷ silent ∷ printed (text_in with_two plain_merge) ∷ refused_by 7 ∷ []) with_two
 script-steps = (
   with_a_view,
   inl ([], ((plain_merge, refl, refl), refl), refl),
@@ -129,7 +125,7 @@ script-steps = (
       (
         with_two,
         inl (text_in with_two plain_merge, (merging, refl, refl, refl), refl),
-        (with_two, inr (line.Request (request_fault.Record record_fault.PastEnd), refl, refl, refl), refl),
+        (with_two, inr (fault.PastEnd, refl, refl, refl), refl),
       ),
     ),
   ),
@@ -142,8 +138,8 @@ with_stale = record with_one { views = (codes "m", record { view = plain_merge; 
 pub edits-may_leave_a_view_stale : Runs with_a_view (codes "add" ++ tab ++ codes "chr1" ++ tab ++ codes "10" ++ tab ++ codes "20") with_stale silent
 edits-may_leave_a_view_stale = inl ([], ((omega arith, (refl, (refl, refl, (λ stale. refl), (λ none. absurd (cc (none))), tt))), refl), refl)
 
-pub prints-may_want_memory : Runs with_stale (codes "print" ++ tab ++ codes "m") with_stale (refused_by (Some 22))
-prints-may_want_memory = inr (line.Print printing.NoMemory, (record { view = plain_merge; stale = true }, refl, refl), refl, refl)
+pub prints-may_want_memory : Runs with_stale (codes "print" ++ tab ++ codes "m") with_stale (refused_by 22)
+prints-may_want_memory = inr (fault.NoMemory, (record { view = plain_merge; stale = true }, refl, refl), refl, refl)
 
 pub prints-make_a_view_current : Runs with_stale (codes "print" ++ tab ++ codes "m") with_one (printed (text_in with_one plain_merge))
 prints-make_a_view_current = inl (text_in with_one plain_merge, (record { view = plain_merge; stale = true }, refl, refl, refl), refl)
@@ -174,10 +170,10 @@ pub records_with_a_hit-are_left_out : all_text beside ≡ codes "#v\n"
 records_with_a_hit-are_left_out = refl
 
 -- an edit of the second file asks for one, before its columns are looked at
-pub no_second-is_reported_before_columns : asked empty (codes "removeb") ≡ Err request_fault.NoSecond
+pub no_second-is_reported_before_columns : asked empty (codes "removeb") ≡ Err fault.NoSecond
 no_second-is_reported_before_columns = refl
 
-pub columns-are_missing_beside_a_second : asked beside (codes "removeb") ≡ Err (request_fault.Record record_fault.Columns)
+pub columns-are_missing_beside_a_second : asked beside (codes "removeb") ≡ Err fault.Columns
 columns-are_missing_beside_a_second = refl
 
 pub records-come_after_addb : asked beside (codes "addb" ++ tab ++ codes "chr1" ++ tab ++ codes "10" ++ tab ++ codes "20") ≡ Ok (request.Edit target.Second (edit.Add first_row))

@@ -1,20 +1,19 @@
 -- What a line of a script may do.
 use Rattle.std.specs.Prelude.{◌≡◌, ◌<◌, ◌⊎◌, ℕ, true, List, [], Option, None, Some, Result, Ok, Err, IsSome}
 use Rattle.iv_bytes.specs.Sinks.{SinkState, Takes, FailsIn}
-use Rattle.iv_text.specs.Fault.{fault_text}
+use Rattle.iv_text.specs.Fault.{code_of, fault_text}
 use Rattle.iv_text.specs.Fields.{words}
+use Rattle.iv_text.specs.declared.fault.Fault.{Fault}
+use Rattle.iv_text.specs.declared.fault.Fault.TheVariants as fault
 use Rattle.iv_workspace.specs.OpenViews.{Shown, stale_count}
 use Rattle.iv_workspace.specs.Prints.{with_printed, with_all_printed, IsButCurrent}
 use Rattle.iv_workspace.specs.States.{State, without_view}
 use Rattle.iv_workspace.specs.Resizes.{resized}
-use Rattle.iv_workspace.specs.Views.{view_named, Opens, RefusesOpen, all_text, text_in}
-use Rattle.iv_workspace.specs.declared.fault.PrintFault.TheVariants as printing
-use Rattle.iv_session.specs.Requests.{asked, fault_code}
+use Rattle.iv_workspace.specs.Views.{view_named, Opens, RefusesOpen, all_text, print_code, text_in}
+use Rattle.iv_session.specs.Requests.{asked}
 use Rattle.iv_session.specs.TrackEdits.{IsEdited, RefusesIn}
 use Rattle.iv_session.specs.Written.{Written, printed, refused_by}
-use Rattle.iv_session.specs.declared.fault.LineFault.{LineFault}
-use Rattle.iv_session.specs.declared.fault.LineFault.TheVariants as fault
-use Rattle.iv_session.specs.declared.fault.RequestFault.{RequestFault}
+use Rattle.iv_workspace.specs.declared.fault.PrintFault.{PrintFault}
 use Rattle.iv_session.specs.declared.request.Request.{Request}
 use Rattle.iv_session.specs.declared.request.Request.TheVariants as request
 use Rattle.iv_session.specs.declared.script.RunCause.{RunCause}
@@ -34,52 +33,51 @@ Does (request.Print name) old new text =
 Does request.PrintAll old new text = (new ≡ with_all_printed old) × (text ≡ all_text old)
 
 -- why a request is refused: a print for out of memory only where a view to be printed is stale
-abbrev pub Refuses : Request → State → LineFault → Type 0
-Refuses (request.Edit target e) s (fault.Edit f) = RefusesIn target e s f
-Refuses (request.Resize name n) s (fault.Resize f) = resized s name n ≡ Err f
-Refuses (request.Open name said) s (fault.Open f) = RefusesOpen s name (words said) f
-Refuses (request.Close name) s (fault.Close f) = view_named s.views name ≡ None
-Refuses (request.Print name) s (fault.Print printing.NoView) = view_named s.views name ≡ None
-Refuses (request.Print name) s (fault.Print printing.NoMemory) =
-    (v : Shown) × (view_named s.views name ≡ Some v) × (v.stale ≡ true)
-Refuses request.PrintAll s (fault.Print printing.NoMemory) = 0 < stale_count s.views
+abbrev pub Refuses : Request → State → Fault → Type 0
+Refuses (request.Edit target e) s f = RefusesIn target e s f
+Refuses (request.Resize name n) s f = resized s name n ≡ Err f
+Refuses (request.Open name said) s f = RefusesOpen s name (words said) f
+Refuses (request.Close name) s fault.NoView = view_named s.views name ≡ None
+Refuses (request.Print name) s fault.NoView = view_named s.views name ≡ None
+Refuses (request.Print name) s fault.NoMemory = (v : Shown) × (view_named s.views name ≡ Some v) × (v.stale ≡ true)
+Refuses request.PrintAll s fault.NoMemory = 0 < stale_count s.views
 Refuses other s f = ⊥
 
 -- what a line asks for is done, if it asks for anything
-abbrev pub DoesAsked : Result Request RequestFault → State → State → List ℕ → Type 0
+abbrev pub DoesAsked : Result Request Fault → State → State → List ℕ → Type 0
 DoesAsked (Ok asks) old new text = Does asks old new text
 DoesAsked (Err f) old new text = ⊥
 
 -- why a line is refused: it is no request, or its request is refused
-abbrev pub RefusesAsked : Result Request RequestFault → State → LineFault → Type 0
+abbrev pub RefusesAsked : Result Request Fault → State → Fault → Type 0
 RefusesAsked (Ok asks) s f = Refuses asks s f
-RefusesAsked (Err reported) s f = f ≡ fault.Request reported
+RefusesAsked (Err reported) s f = f ≡ reported
 
 -- what a refused line leaves: all as before, but that a print of all views may have made some of them current
-abbrev pub Leaves : Result Request RequestFault → State → State → Type 0
+abbrev pub Leaves : Result Request Fault → State → State → Type 0
 Leaves (Ok request.PrintAll) old new = IsButCurrent old new
 Leaves other old new = new ≡ old
 
 -- how a line that asks for this may end: it is done, and its text is written; or it is refused, and the message is
 -- that of the fault
-abbrev pub Ends : Result Request RequestFault → State → State → Written → Type 0
+abbrev pub Ends : Result Request Fault → State → State → Written → Type 0
 Ends asks old new written =
     ((text : List ℕ) × DoesAsked asks old new text × (written ≡ printed text))
-    ⊎ ((f : LineFault) × RefusesAsked asks old f × Leaves asks old new × (written ≡ refused_by (fault_code f)))
+    ⊎ ((f : Fault) × RefusesAsked asks old f × Leaves asks old new × (written ≡ refused_by (code_of f)))
 
 -- what a line may do: from one state to another, with what it writes
 abbrev pub Runs : State → List ℕ → State → Written → Type 0
 Runs old line new written = Ends (asked old line) old new written
 
 -- a view is to be printed, or all of them
-abbrev pub AsksToPrint : Result Request RequestFault → Type 0
+abbrev pub AsksToPrint : Result Request Fault → Type 0
 AsksToPrint (Ok (request.Print name)) = Unit {0}
 AsksToPrint (Ok request.PrintAll) = Unit {0}
 AsksToPrint other = ⊥
 
 -- the line with which a run ends at a sink: at the output only a print that isn't refused, at the messages only a refused line. The
 -- session is as before, but that some views may have become current
-abbrev pub EndsAt : RunCause → Result Request RequestFault → State → State → Written → Type 0
+abbrev pub EndsAt : RunCause → Result Request Fault → State → State → Written → Type 0
 EndsAt cause.Output asks old new written = AsksToPrint asks × (written.refusal ≡ None) × IsButCurrent old new
 EndsAt cause.Messages asks old new written = IsSome written.refusal × IsButCurrent old new
 EndsAt other asks old new written = ⊥
@@ -95,17 +93,17 @@ WritesFault None out0 out1 written = FailsIn out0 out1 written.output × (writte
 WritesFault (Some code) out0 out1 written =
     Takes out0 out1 written.output × (written.refusal ≡ Some (fault_text code))
 
-abbrev pub WritesAs : Result (Unit {0}) LineFault → SinkState → SinkState → Written → Type 0
+abbrev pub WritesAs : Result (Unit {0}) PrintFault → SinkState → SinkState → Written → Type 0
 WritesAs (Ok done) out0 out1 written = Takes out0 out1 written.output × (written.refusal ≡ None)
-WritesAs (Err f) out0 out1 written = WritesFault (fault_code f) out0 out1 written
+WritesAs (Err f) out0 out1 written = WritesFault (print_code f) out0 out1 written
 
 -- a line of whose fault no number is known is a print
-abbrev pub PrintsUnless : Result (Unit {0}) LineFault → Result Request RequestFault → Type 0
+abbrev pub PrintsUnless : Result (Unit {0}) PrintFault → Result Request Fault → Type 0
 PrintsUnless (Ok done) asks = Unit {0}
-PrintsUnless (Err f) asks = fault_code f ≡ None → AsksToPrint asks
+PrintsUnless (Err f) asks = print_code f ≡ None → AsksToPrint asks
 
 -- a line that asks for this ends as it may, and writes its text. No part of what is promised
-pub record Writes (asks : Result Request RequestFault) (old new : State) (out0 out1 : SinkState) (result : Result (Unit {0}) LineFault) : Type 0 where
+pub record Writes (asks : Result Request Fault) (old new : State) (out0 out1 : SinkState) (result : Result (Unit {0}) PrintFault) : Type 0 where
   pub written : Written
   pub ends : Ends asks old new written
   pub writes : WritesAs result out0 out1 written

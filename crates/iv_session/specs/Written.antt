@@ -1,7 +1,6 @@
 -- What a line of a script writes.
 use Rattle.std.specs.Prelude.{ℕ, ◌+◌, ◌++◌, List, [], ◌∷◌, Option, None, Some, codes, decimal}
 use Rattle.std.specs.List.{flat_map}
-use Rattle.std.specs.Option.{option_map}
 use Rattle.iv_text.specs.Fault.{fault_text}
 
 -- what a line writes: a text to the output, and where it is refused the reason to the messages
@@ -14,8 +13,8 @@ abbrev pub printed : List ℕ → Written
 printed text = record { output = text; refusal = None }
 
 -- a line that is refused for the fault with this number
-abbrev pub refused_by : Option ℕ → Written
-refused_by code = record { output = []; refusal = option_map fault_text code }
+abbrev pub refused_by : ℕ → Written
+refused_by code = record { output = []; refusal = Some (fault_text code) }
 
 -- the message on line number n
 abbrev pub message : ℕ → List ℕ → List ℕ

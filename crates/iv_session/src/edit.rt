@@ -5,10 +5,8 @@ ghost use Rattle.iv_text.specs.Fields.{fields_left};
 ghost use Rattle.iv_text.specs.Read.{Fits, read_columns};
 ghost use Rattle.iv_session.specs.TrackEdits.{EditFits, FitsIn, IsEdited, RefusesIn, both, edit_said, read_two, width_of};
 
-use crate::fault::RequestFault;
 use crate::fields::split_columns;
-use iv_text::{Genome, RecordFault, RecordRef, read_record};
-use iv_track::EditFault;
+use iv_text::{Fault, Genome, RecordRef, read_record};
 use iv_workspace::{Accepted, Session};
 use std::alloc::Allocator;
 
@@ -21,7 +19,7 @@ pub(crate) enum Target {
 
 impl Target {
     /// How many columns the records of the track have, 3 to 6; or the fault that there is no second file.
-    pub(crate) fn width<A: Allocator + Copy>(self, session: &Session<A>) -> Result<u8, RequestFault>
+    pub(crate) fn width<A: Allocator + Copy>(self, session: &Session<A>) -> Result<u8, Fault>
         ensures value { result ≡ width_of session.now self }
         ensures known { IfOk result (λ width. (3 ≤ width) × (width ≤ 6)) }
     {
@@ -29,7 +27,7 @@ impl Target {
             Target::First => Ok(session.track().width()),
             Target::Second => match session.second_width() {
                 Some(width) => Ok(width),
-                None => Err(RequestFault::NoSecond),
+                None => Err(Fault::NoSecond),
             },
         }
     }
@@ -61,7 +59,7 @@ impl<'a> Edit<'a> {
         width: u8,
         kind: EditKind,
         fields: Option<&'a [u8]>,
-    ) -> Result<Edit<'a>, RecordFault>
+    ) -> Result<Edit<'a>, Fault>
         requires { (3 ≤ width) × (width ≤ 6) }
         ensures value { result ≡ edit_said genome.now width kind (fields_left tab fields.entry) }
         ensures fits { IfOk result (EditFits (Fits genome.now width)) }
@@ -81,7 +79,7 @@ impl<'a> Edit<'a> {
         &self,
         session: &mut Session<A>,
         target: Target,
-    ) -> Result<Accepted, EditFault>
+    ) -> Result<Accepted, Fault>
         requires { EditFits (FitsIn session.old target) self.now }
         ensures ok { OnOk result (IsEdited target self.now session.old session.new) }
         ensures why { IfErr result (RefusesIn target self.now session.old) }
@@ -103,7 +101,7 @@ fn one_row<'a, A: Allocator + Copy>(
     genome: &Genome<A>,
     width: u8,
     fields: Option<&'a [u8]>,
-) -> Result<RecordRef<'a>, RecordFault>
+) -> Result<RecordRef<'a>, Fault>
     requires { (3 ≤ width) × (width ≤ 6) }
     ensures value { result ≡ read_columns genome.now width (fields_left tab fields.entry) }
     ensures fits { IfOk result (Fits genome.now width) }
@@ -114,14 +112,14 @@ fn one_row<'a, A: Allocator + Copy>(
 /// Both records of a line, or a fault: that the second has too few or too many columns is reported first, then a
 /// fault of the first record, then one of the second.
 fn both_rows<'a>(
-    first: Result<RecordRef<'a>, RecordFault>,
-    second: Result<RecordRef<'a>, RecordFault>,
-) -> Result<(RecordRef<'a>, RecordRef<'a>), RecordFault>
-    ensures columns { second.entry ≡ Err RecordFault.Columns → result ≡ Err RecordFault.Columns }
-    ensures others { second.entry ≢ Err RecordFault.Columns → result ≡ both first.entry second.entry }
+    first: Result<RecordRef<'a>, Fault>,
+    second: Result<RecordRef<'a>, Fault>,
+) -> Result<(RecordRef<'a>, RecordRef<'a>), Fault>
+    ensures columns { second.entry ≡ Err Fault.Columns → result ≡ Err Fault.Columns }
+    ensures others { second.entry ≢ Err Fault.Columns → result ≡ both first.entry second.entry }
 {
     match (first, second) {
-        (_, Err(RecordFault::Columns)) => Err(RecordFault::Columns),
+        (_, Err(Fault::Columns)) => Err(Fault::Columns),
         (Err(fault), _) => Err(fault),
         (Ok(_), Err(fault)) => Err(fault),
         (Ok(first), Ok(second)) => Ok((first, second)),
@@ -133,7 +131,7 @@ fn two_rows<'a, A: Allocator + Copy>(
     genome: &Genome<A>,
     width: u8,
     fields: Option<&'a [u8]>,
-) -> Result<(RecordRef<'a>, RecordRef<'a>), RecordFault>
+) -> Result<(RecordRef<'a>, RecordRef<'a>), Fault>
     requires { (3 ≤ width) × (width ≤ 6) }
     ensures value { result ≡ read_two genome.now width (fields_left tab fields.entry) }
     ensures first { IfOk result (λ rows. Fits genome.now width rows.0) }
@@ -144,6 +142,6 @@ fn two_rows<'a, A: Allocator + Copy>(
             read_record(genome, width, old),
             read_record(genome, width, new),
         ),
-        None => Err(RecordFault::Columns),
+        None => Err(Fault::Columns),
     }
 }

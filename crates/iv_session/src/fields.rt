@@ -4,8 +4,7 @@ ghost use Rattle.iv_text.specs.Bytes.{tab};
 ghost use Rattle.iv_text.specs.Fields.{columns as columns_of, fields_left};
 ghost use Rattle.iv_session.specs.Requests.{no_fields, only_field, two_fields as two_of};
 
-use crate::fault::RequestFault;
-use iv_text::{columns, split_first_column};
+use iv_text::{Fault, columns, split_first_column};
 use std::marker::Model;
 
 /// A field of a line.
@@ -37,36 +36,36 @@ impl<'a> Field<'a> {
 }
 
 /// No field is after a command that takes none.
-pub(crate) fn no_field(fields: Option<&[u8]>) -> Result<(), RequestFault>
+pub(crate) fn no_field(fields: Option<&[u8]>) -> Result<(), Fault>
     ensures { result ≡ no_fields (fields_left tab fields.entry) }
 {
     if fields.is_some() {
-        return Err(RequestFault::Command);
+        return Err(Fault::Command);
     }
     Ok(())
 }
 
 /// The field after a command that takes one.
-pub(crate) fn one_field(fields: Option<&[u8]>) -> Result<Field<'_>, RequestFault>
+pub(crate) fn one_field(fields: Option<&[u8]>) -> Result<Field<'_>, Fault>
     ensures { result ≡ only_field (fields_left tab fields.entry) }
 {
-    let mut columns = columns(fields.ok_or(RequestFault::Command)?);
-    let field = columns.next().ok_or(RequestFault::Command)?;
+    let mut columns = columns(fields.ok_or(Fault::Command)?);
+    let field = columns.next().ok_or(Fault::Command)?;
     match columns.next() {
-        Some(_) => Err(RequestFault::Command),
+        Some(_) => Err(Fault::Command),
         None => Ok(Field::of(field)),
     }
 }
 
 /// The fields after a command that takes two.
-pub(crate) fn two_fields(fields: Option<&[u8]>) -> Result<(Field<'_>, Field<'_>), RequestFault>
+pub(crate) fn two_fields(fields: Option<&[u8]>) -> Result<(Field<'_>, Field<'_>), Fault>
     ensures { result ≡ two_of (fields_left tab fields.entry) }
 {
-    let mut columns = columns(fields.ok_or(RequestFault::Command)?);
-    let first = columns.next().ok_or(RequestFault::Command)?;
-    let second = columns.next().ok_or(RequestFault::Command)?;
+    let mut columns = columns(fields.ok_or(Fault::Command)?);
+    let first = columns.next().ok_or(Fault::Command)?;
+    let second = columns.next().ok_or(Fault::Command)?;
     match columns.next() {
-        Some(_) => Err(RequestFault::Command),
+        Some(_) => Err(Fault::Command),
         None => Ok((Field::of(first), Field::of(second))),
     }
 }

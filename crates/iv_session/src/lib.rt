@@ -2,7 +2,6 @@
 #![tactic(auto)]
 
 mod edit;
-mod fault;
 mod fields;
 mod laws;
 mod line;
@@ -14,8 +13,9 @@ mod script;
 pub use iv_depth::DepthRows;
 pub use iv_fasta::FastaRows;
 pub use iv_pair::{IntersectRows, PairRows};
+pub use iv_text::Fault;
 pub use iv_track::EditFault;
 pub use iv_view::{KeptView, View as ViewWords, ViewFault, WrittenView};
-pub use iv_workspace::{Accepted, NoView, PrintFault, ResizeFault, Session};
+pub use iv_workspace::{Accepted, PrintFault, ResizeFault, Session};
 pub use laws::{first_over_is_first, sizes_are_of_lines, too_long_is_exact};
 pub use script::{RunCause, RunFault, ScriptLimits, Summary, run_script};

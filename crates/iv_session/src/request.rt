@@ -8,9 +8,8 @@ ghost use Rattle.iv_session.specs.Requests.{asked, asked_by, edit_asked, length_
 ghost use Rattle.iv_session.specs.declared.request.Request.TheVariants as request;
 
 use crate::edit::{Edit, EditKind, Target};
-use crate::fault::RequestFault;
 use crate::fields::{Field, no_field, one_field, two_fields};
-use iv_text::{MOST_LENGTH, read_number, split_first_column};
+use iv_text::{Fault, MOST_LENGTH, read_number, split_first_column};
 use iv_workspace::Session;
 use std::alloc::Allocator;
 
@@ -31,13 +30,13 @@ pub(crate) enum Request<'a> {
 }
 
 /// The length that a field says: 1 to 10 digits, and at most 4,000,000,000.
-fn read_length(field: &[u8]) -> Result<u64, RequestFault>
+fn read_length(field: &[u8]) -> Result<u64, Fault>
     ensures value { result ≡ length_said field.now }
     ensures bounded { IfOk result (λ length. length ≤ most_length) }
 {
     match read_number(field) {
         Some(length) if length <= MOST_LENGTH => Ok(length),
-        _ => Err(RequestFault::Length),
+        _ => Err(Fault::StopNumber),
     }
 }
 
@@ -47,7 +46,7 @@ impl<'a> Request<'a> {
     pub(crate) fn read<A: Allocator + Copy>(
         session: &Session<A>,
         line: &'a [u8],
-    ) -> Result<Request<'a>, RequestFault>
+    ) -> Result<Request<'a>, Fault>
         ensures value { result ≡ asked session.now line.now }
         ensures fits { IfOk result (RequestFits session.now) }
     {
@@ -63,7 +62,7 @@ impl<'a> Request<'a> {
         session: &Session<A>,
         word: &'a [u8],
         fields: Option<&'a [u8]>,
-    ) -> Result<Request<'a>, RequestFault>
+    ) -> Result<Request<'a>, Fault>
         ensures value { result ≡ asked_by session.now word.now (fields_left tab fields.entry) }
         ensures fits { IfOk result (RequestFits session.now) }
     {
@@ -90,7 +89,7 @@ impl<'a> Request<'a> {
         } else if word == b"resize".as_slice() {
             Request::resize(fields)
         } else {
-            Err(RequestFault::Command)
+            Err(Fault::Command)
         }
     }
 
@@ -100,7 +99,7 @@ impl<'a> Request<'a> {
         target: Target,
         kind: EditKind,
         fields: Option<&'a [u8]>,
-    ) -> Result<Request<'a>, RequestFault>
+    ) -> Result<Request<'a>, Fault>
         ensures value { result ≡ edit_asked session.now target kind (fields_left tab fields.entry) }
         ensures fits { IfOk result (RequestFits session.now) }
     {
@@ -110,7 +109,7 @@ impl<'a> Request<'a> {
     }
 
     /// To give the sequence of the first field the length of the second.
-    fn resize(fields: Option<&'a [u8]>) -> Result<Request<'a>, RequestFault>
+    fn resize(fields: Option<&'a [u8]>) -> Result<Request<'a>, Fault>
         ensures value { result ≡ of_fields (λ pair. request.Resize pair.0 pair.1) (name_and_length (two_fields_of (fields_left tab fields.entry))) }
         ensures fits { (s : State) → IfOk result (RequestFits s) }
     {
@@ -120,7 +119,7 @@ impl<'a> Request<'a> {
     }
 
     /// To open a view under the first field, by the words of the second.
-    fn open(fields: Option<&'a [u8]>) -> Result<Request<'a>, RequestFault>
+    fn open(fields: Option<&'a [u8]>) -> Result<Request<'a>, Fault>
         ensures { result ≡ of_fields (λ pair. request.Open pair.0 pair.1) (two_fields_of (fields_left tab fields.entry)) }
     {
         let (name, words) = two_fields(fields)?;
@@ -128,21 +127,21 @@ impl<'a> Request<'a> {
     }
 
     /// To close the view of the one field.
-    fn close(fields: Option<&'a [u8]>) -> Result<Request<'a>, RequestFault>
+    fn close(fields: Option<&'a [u8]>) -> Result<Request<'a>, Fault>
         ensures { result ≡ of_fields (λ name. request.Close name) (only_field (fields_left tab fields.entry)) }
     {
         Ok(Request::Close(one_field(fields)?))
     }
 
     /// To print the view of the one field.
-    fn print(fields: Option<&'a [u8]>) -> Result<Request<'a>, RequestFault>
+    fn print(fields: Option<&'a [u8]>) -> Result<Request<'a>, Fault>
         ensures { result ≡ of_fields (λ name. request.Print name) (only_field (fields_left tab fields.entry)) }
     {
         Ok(Request::Print(one_field(fields)?))
     }
 
     /// To print all views; there is no field.
-    fn print_all(fields: Option<&'a [u8]>) -> Result<Request<'a>, RequestFault>
+    fn print_all(fields: Option<&'a [u8]>) -> Result<Request<'a>, Fault>
         ensures { result ≡ of_fields (λ none. request.PrintAll) (no_fields (fields_left tab fields.entry)) }
     {
         no_field(fields)?;

@@ -1,17 +1,17 @@
 //! Running one line of a script.
 ghost use Rattle.std.specs.Prelude.{◌≡◌, Ok, MatchResult};
-ghost use Rattle.iv_session.specs.Requests.{RequestFits, asked, fault_code};
+ghost use Rattle.iv_workspace.specs.Views.{print_code};
+ghost use Rattle.iv_session.specs.Requests.{RequestFits, asked};
 ghost use Rattle.iv_session.specs.Running.{Runs, RunsLast, Writes};
 ghost use Rattle.iv_session.specs.Scripts.{Tells, RanLine, FailedLine, refusals_of};
 
-use crate::fault::LineFault;
 use crate::message::put_message;
 use crate::request::Request;
 use crate::script::RunCause;
 use iv_bytes::Sink;
 use iv_text::fault_text;
 use iv_view::Words;
-use iv_workspace::Session;
+use iv_workspace::{PrintFault, Session};
 use std::alloc::Allocator;
 
 /// What became of a line.
@@ -38,7 +38,7 @@ fn run_request<A: Allocator + Copy, W: Sink>(
     session: &mut Session<A>,
     request: Request<'_>,
     output: &mut W,
-) -> Result<(), LineFault>
+) -> Result<(), PrintFault>
     requires { RequestFits session.old request }
     ensures { Writes (Ok request.entry) session.old session.new (W.state output.old) (W.state output.new) result }
 {
@@ -60,14 +60,8 @@ fn run_request<A: Allocator + Copy, W: Sink>(
             session.close_view(name.bytes())?;
             Ok(())
         }
-        Request::Print(name) => {
-            session.print_view(name.bytes(), output)?;
-            Ok(())
-        }
-        Request::PrintAll => {
-            session.print_all(output)?;
-            Ok(())
-        }
+        Request::Print(name) => session.print_view(name.bytes(), output),
+        Request::PrintAll => session.print_all(output),
     }
 }
 
@@ -76,7 +70,7 @@ fn answer_line<A: Allocator + Copy, W: Sink>(
     session: &mut Session<A>,
     line: &[u8],
     output: &mut W,
-) -> Result<(), LineFault>
+) -> Result<(), PrintFault>
     ensures { Writes (asked session.old line.now) session.old session.new (W.state output.old) (W.state output.new) result }
 {
     let request = Request::read(session, line)?;
@@ -84,8 +78,8 @@ fn answer_line<A: Allocator + Copy, W: Sink>(
 }
 
 /// Tells of a line that was not done.
-fn tell<E: Sink>(messages: &mut E, number: u64, fault: LineFault) -> Result<Outcome, RunCause>
-    ensures { Tells (fault_code fault) number (E.state messages.old) (E.state messages.new) result }
+fn tell<E: Sink>(messages: &mut E, number: u64, fault: PrintFault) -> Result<Outcome, RunCause>
+    ensures { Tells (print_code fault) number (E.state messages.old) (E.state messages.new) result }
 {
     let Some(code) = fault.code() else {
         return Err(RunCause::Output);

@@ -12,7 +12,7 @@ use Rattle.iv_text.specs.Read.{has_fault, faults, row, or_fault}
 use Rattle.iv_text.specs.Row.{Row}
 use Rattle.iv_text.specs.BedFile.{is_unread, is_width, with_row, Bed, Draft, drafted, width_at, after_row, after_rows, finished, bed_of}
 use Rattle.iv_text.specs.FileLaws.{HaveNoCause, IsFirstFault, record_lines, first_width, rows_of, bed_from, width_after, has_row_cause, row_causes, row_cause}
-use Rattle.iv_text.specs.declared.fault.RecordFault.{RecordFault}
+use Rattle.iv_text.specs.declared.fault.Fault.{Fault}
 use Rattle.iv_text.specs.declared.fault.LoadCause.{LoadCause}
 use Rattle.iv_text.specs.declared.fault.LoadCause.TheVariants as cause
 use Rattle.iv_text.specs.declared.fault.LoadFault.{LoadFault}
@@ -51,7 +51,7 @@ draft-read g before line read =
 
 -- ---- the first cause of a line
 
-find-map : (p : LoadCause → Bool) (fs : List RecordFault) → find p (map cause.Record fs) ≡ option_map cause.Record (find (λ f. p (cause.Record f)) fs)
+find-map : (p : LoadCause → Bool) (fs : List Fault) → find p (map cause.Record fs) ≡ option_map cause.Record (find (λ f. p (cause.Record f)) fs)
 find-map p [] = refl
 find-map p (f ∷ fs) = by (p (cause.Record f)) (find-map p fs)
   where
@@ -61,7 +61,7 @@ find-map p (f ∷ fs) = by (p (cause.Record f)) (find-map p fs)
     by false rest = rest
 
 -- the first of the three kinds of causes
-abbrev cause_by : Bool → Option RecordFault → Bool → Option LoadCause
+abbrev cause_by : Bool → Option Fault → Bool → Option LoadCause
 cause_by fits f full = cond (not fits) (Some cause.Columns) (option_or (option_map cause.Record f) (cond full (Some cause.TooMany) None))
 
 cause-unread : (g : Sequences) (limit : ℕ) (before : List (List ℕ)) (line : List ℕ) → is_unread line ≡ true → row_cause g limit before line ≡ None
@@ -81,7 +81,7 @@ abbrev outcome : Draft → Option LoadCause → Result Draft LoadCause
 outcome more None = Ok more
 outcome more (Some c) = Err c
 
-row-by : (limit w : ℕ) (rows : List Row) (r : Row) (fits : Bool) (f : Option RecordFault)
+row-by : (limit w : ℕ) (rows : List Row) (r : Row) (fits : Bool) (f : Option Fault)
     → cond fits (drafted w (with_row limit rows (or_fault f r))) (Err cause.Columns) ≡ outcome (record { width = Some w; rows = rows ++ r ∷ [] }) (cause_by fits f (nat_le limit (length rows)))
 row-by limit w rows r false f = refl
 row-by limit w rows r true (Some f) = refl

@@ -14,7 +14,7 @@ use Rattle.iv_text.specs.Genome.{Sequences}
 use Rattle.iv_text.specs.Lines.{begins_with_feed, lines}
 use Rattle.iv_text.specs.Read.{read, Fits}
 use Rattle.iv_text.specs.Row.{Row}
-use Rattle.iv_text.specs.declared.fault.RecordFault.{RecordFault}
+use Rattle.iv_text.specs.declared.fault.Fault.{Fault}
 use Rattle.iv_text.specs.declared.fault.LoadCause.{LoadCause}
 use Rattle.iv_text.specs.declared.fault.LoadCause.TheVariants as cause
 use Rattle.iv_text.specs.declared.fault.LoadFault.{LoadFault}
@@ -109,7 +109,7 @@ module _ (kept : Row → Row) where
   kept-more xs ys r same = map-append kept xs (r ∷ []) ∙ ap (λ (l : List Row). l ++ kept r ∷ []) same ∙ sym (map-append kept ys (r ∷ []))
 
 module _ (kept : Row → Row) (g : Sequences) (limit : ℕ) where
-  alike-drafted : (w : ℕ) (xs ys : List Row) (r : Result Row RecordFault) → map kept xs ≡ map kept ys → AreAlike kept (drafted w (with_row limit xs r)) (drafted w (with_row limit ys r))
+  alike-drafted : (w : ℕ) (xs ys : List Row) (r : Result Row Fault) → map kept xs ≡ map kept ys → AreAlike kept (drafted w (with_row limit xs r)) (drafted w (with_row limit ys r))
   alike-drafted w xs ys (Err f) same = refl
   alike-drafted w xs ys (Ok r) same = by (nat_le limit (length xs)) (nat_le limit (length ys)) (ap (nat_le limit) long)
     where
@@ -177,7 +177,7 @@ module _ (kept : Row → Row) (g : Sequences) (limit : ℕ) where
       → is_width (width_at (known old) line) ≡ false → Refuses kept g limit old all cause.Columns
   columns-refused old all left line is unread wrong = line-refused old all left line cause.Columns is (row-columns g limit (known old) line unread wrong)
 
-  pub record-refused : (old : LinesRead) (all left : List (List ℕ)) (line : List ℕ) (w : ℕ) (f : RecordFault) → all ≡ line ∷ left → is_unread line ≡ false
+  pub record-refused : (old : LinesRead) (all left : List (List ℕ)) (line : List ℕ) (w : ℕ) (f : Fault) → all ≡ line ∷ left → is_unread line ≡ false
       → w ≡ unwrap_or old.width (length (columns line)) → 3 ≤ w → w ≤ 6 → read g w line ≡ Err f → Refuses kept g limit old all (cause.Record f)
   record-refused old all left line w f is unread wide low high says =
       line-refused old all left line (cause.Record f) is

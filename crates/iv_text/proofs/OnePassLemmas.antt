@@ -17,8 +17,8 @@ use Rattle.std.specs.Borrow.{Bor}
 use Rattle.std.specs.Prelude.{MatchOption, IfSome, IsSome}
 use Rattle.std.specs.Option.{is_none}
 use Rattle.iv_text.proofs.ReadLemmas.{skip, hit}
-use Rattle.iv_text.specs.declared.fault.RecordFault.{RecordFault}
-use Rattle.iv_text.specs.declared.fault.RecordFault.TheVariants as fault
+use Rattle.iv_text.specs.declared.fault.Fault.{Fault}
+use Rattle.iv_text.specs.declared.fault.Fault.TheVariants as fault
 use Rattle.std.specs.Cmp.Lexicographic.{same_text, pointwise}
 use Rattle.iv_text.specs.Genome.{Sequences, rank_of, length_at}
 use Rattle.iv_text.specs.Read.{read, row, column, or_fault, has_fault, faults, bad_text, number_in, length_of, AreColumns, AreSound}
@@ -152,7 +152,7 @@ is_there : {X : Type 0} (o : Option X) → IsSome o → is_none o ≡ false
 is_there None h = cc
 is_there (Some x) h = refl
 
-none-found : (t : RecordFault → Bool) → t fault.Columns ≡ false → t fault.UnknownSeq ≡ false → t fault.StartNumber ≡ false → t fault.StopNumber ≡ false → t fault.Order ≡ false → t fault.PastEnd ≡ false
+none-found : (t : Fault → Bool) → t fault.Columns ≡ false → t fault.UnknownSeq ≡ false → t fault.StartNumber ≡ false → t fault.StopNumber ≡ false → t fault.Order ≡ false → t fault.PastEnd ≡ false
     → t fault.Name ≡ false → t fault.Score ≡ false → t fault.Strand ≡ false → find t faults ≡ None
 none-found t h1 h2 h3 h4 h5 h6 h7 h8 h9 = simp (h1, h2, h3, h4, h5, h6, h7, h8, h9)
 
@@ -214,15 +214,15 @@ line-read g w line rest name score sixth others rank from to strand place after 
 
 -- ---- a line that was read names its record's sequence
 
-or_fault-ok : (o : Option RecordFault) (q r : Row) → or_fault o q ≡ Ok r → q ≡ r
+or_fault-ok : (o : Option Fault) (q r : Row) → or_fault o q ≡ Ok r → q ≡ r
 or_fault-ok None q r h = cc
 or_fault-ok (Some f) q r h = cc
 
-or_fault-hit : (o : Option RecordFault) (f : RecordFault) (q r : Row) → o ≡ Some f → or_fault o q ≡ Ok r → ⊥
+or_fault-hit : (o : Option Fault) (f : Fault) (q r : Row) → o ≡ Some f → or_fault o q ≡ Ok r → ⊥
 or_fault-hit None f q r is h = cc
 or_fault-hit (Some e) f q r is h = cc
 
-later_faults : List RecordFault
+later_faults : List Fault
 later_faults = fault.StartNumber ∷ fault.StopNumber ∷ fault.Order ∷ fault.PastEnd ∷ fault.Name ∷ fault.Score ∷ fault.Strand ∷ []
 
 pub read-ranked : (g : Sequences) (w : ℕ) (line : List ℕ) (r : Row) → read g w line ≡ Ok r → rank_of g (column (columns line) 0) ≡ Some r.seq

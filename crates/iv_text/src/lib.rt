@@ -34,7 +34,7 @@ pub use batches::{BatchItems, Batches};
 pub use bed_batches::BedBatches;
 pub use bed_file::{BedFile, is_unread, width_for};
 pub use bed_record::BedRecord;
-pub use fault::{LoadCause, LoadFault, RecordFault, fault_text, load_text};
+pub use fault::{Fault, LoadCause, LoadFault, RecordFault, fault_text, load_text};
 pub use fields::{Fields, columns, split_first_column};
 pub use from_record::FromRecord;
 pub use genome::{Genome, MOST_LENGTH};

@@ -7,8 +7,8 @@ use Rattle.iv_text.specs.Row.{Row, row_cmp, rows_total}
 use Rattle.iv_text.proofs.OrderedLemmas.{all-added, in_order-added, copies-added, rows-alone}
 use Rattle.iv_track.specs.Edits.{RefusesRemove}
 use Rattle.iv_track.specs.Tracked.{Tracked, removed}
-use Rattle.iv_track.specs.declared.fault.EditFault.{EditFault}
-use Rattle.iv_track.specs.declared.fault.EditFault.TheVariants as fault
+use Rattle.iv_text.specs.declared.fault.Fault.{Fault}
+use Rattle.iv_text.specs.declared.fault.Fault.TheVariants as fault
 use Rattle.iv_track.proofs.Counts.{all-removed, in_order-removed, copies-removed}
 
 -- what holds of all records, and of one more
@@ -26,7 +26,6 @@ added-removed rows r order there =
     (λ q. omega (arith, copies-added row_cmp (removed rows r) r q, copies-removed row_cmp rows_total rows r q there))
 
 -- whatever the fault of a removal is, the record is not there
-pub refused-absent : (t : Tracked) (r : Row) (f : EditFault) → RefusesRemove t r f → copies t.rows r ≡ 0
+pub refused-absent : (t : Tracked) (r : Row) (f : Fault) → RefusesRemove t r f → copies t.rows r ≡ 0
 refused-absent t r fault.Absent why = why
-refused-absent t r fault.Full why = elim why [ ]
-refused-absent t r fault.NoMemory why = elim why [ ]
+refused-absent t r other why = elim why [ ]

@@ -3,8 +3,8 @@ use Rattle.std.specs.Prelude.{◌≡◌, ◌<◌, ◌≤◌, length}
 use Rattle.iv_text.specs.Ordered.{added, copies}
 use Rattle.iv_text.specs.Row.{Row}
 use Rattle.iv_track.specs.Tracked.{Tracked, removed}
-use Rattle.iv_track.specs.declared.fault.EditFault.{EditFault}
-use Rattle.iv_track.specs.declared.fault.EditFault.TheVariants as fault
+use Rattle.iv_text.specs.declared.fault.Fault.{Fault}
+use Rattle.iv_text.specs.declared.fault.Fault.TheVariants as fault
 
 -- the track with one more record, in its place in the order
 abbrev pub with_record : Row → Tracked → Tracked
@@ -20,20 +20,19 @@ with_replaced r q t = with_record q (without_record r t)
 
 -- why a record is not added to a track: it holds its limit; or memory ran out, for it grows only below its limit, and only for
 -- a record that is not there
-abbrev pub RefusesAdd : Tracked → Row → EditFault → Type 0
-RefusesAdd t r fault.Absent = ⊥
+abbrev pub RefusesAdd : Tracked → Row → Fault → Type 0
 RefusesAdd t r fault.Full = t.limit ≤ length t.rows
 RefusesAdd t r fault.NoMemory = (length t.rows < t.limit) × (copies t.rows r ≡ 0)
+RefusesAdd t r other = ⊥
 
 -- why a record is not removed from a track: it is not there
-abbrev pub RefusesRemove : Tracked → Row → EditFault → Type 0
+abbrev pub RefusesRemove : Tracked → Row → Fault → Type 0
 RefusesRemove t r fault.Absent = copies t.rows r ≡ 0
-RefusesRemove t r fault.Full = ⊥
-RefusesRemove t r fault.NoMemory = ⊥
+RefusesRemove t r other = ⊥
 
 -- why r is not replaced by q in a track: r is not there; or memory ran out, for the track grows only where r is there, and only
 -- for a q that is not
-abbrev pub RefusesReplace : Tracked → Row → Row → EditFault → Type 0
+abbrev pub RefusesReplace : Tracked → Row → Row → Fault → Type 0
 RefusesReplace t r q fault.Absent = copies t.rows r ≡ 0
-RefusesReplace t r q fault.Full = ⊥
 RefusesReplace t r q fault.NoMemory = (0 < copies t.rows r) × (copies t.rows q ≡ 0)
+RefusesReplace t r q other = ⊥

@@ -3,6 +3,5 @@ pub mod Chunks
 pub mod Counted
 pub mod Edits
 pub mod Entries
-pub mod Fault
 pub mod Steps
 pub mod Tracked

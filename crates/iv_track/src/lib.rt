@@ -4,7 +4,6 @@
 mod abbreviated;
 mod chunks;
 mod counted;
-mod fault;
 mod laws;
 mod ledger;
 mod meter;
@@ -14,9 +13,8 @@ mod starts;
 mod track;
 
 pub use abbreviated::Abbreviated;
-pub use fault::EditFault;
 pub use laws::{one_record_added, one_record_removed};
 pub use ledger::{Ledger, Walk};
 pub use meter::Meter;
 pub use rows::Rows;
-pub use track::Track;
+pub use track::{EditFault, Track};

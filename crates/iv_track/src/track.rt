@@ -10,13 +10,15 @@ ghost use Rattle.iv_track.specs.Steps.{TakesUpTo};
 ghost use Rattle.iv_track.specs.Tracked.{BeginsFrom, most_records};
 
 use crate::counted::Counted;
-use crate::fault::EditFault;
 use crate::ledger::Ledger;
 use crate::meter::Meter;
 use crate::rows::Rows;
-use iv_text::{Batches, Record};
+use iv_text::{Batches, Fault, Record};
 use std::alloc::{AllocError, Allocator, Global};
 use std::marker::Model;
+
+/// Why an edit of a track is refused: `Absent` (E11), `Full` (E12) or `NoMemory` (E22).
+pub type EditFault = Fault;
 
 /// Records in the order of a track, with their copies, all of one width.
 ///

@@ -5,6 +5,8 @@ use Rattle.std.specs.Option.{option_map}
 use Rattle.std.specs.Str.{bytes_eq}
 use Rattle.std.proofs.lemmas.Bool.{cases_lt, cond-true, cond-false, le-leb, ne_eqb, and_right}
 use Rattle.std.proofs.lemmas.List.{take_all, take-append-le}
+use Rattle.iv_text.specs.declared.fault.Fault.{Fault}
+use Rattle.iv_text.specs.declared.fault.Fault.TheVariants as fault
 use Rattle.iv_cover.specs.Columns.{column_numbered}
 use Rattle.iv_cover.specs.declared.column.Column.{Column}
 use Rattle.iv_cover.specs.declared.column.ColumnSummary.{ColumnSummary}
@@ -24,8 +26,6 @@ use Rattle.iv_view.specs.Merge.{MergeArgs, said_by, nothing_said, distance_of, l
 use Rattle.iv_view.specs.Narrowing.{number_of, has_columns, narrowed_options, narrowed}
 use Rattle.iv_view.specs.Subtract.{is_whole}
 use Rattle.iv_view.specs.Views.{read_words, or_bad_words, as_merge, beside_second, beside_fasta}
-use Rattle.iv_view.specs.declared.fault.ViewFault.{ViewFault}
-use Rattle.iv_view.specs.declared.fault.ViewFault.TheVariants as fault
 use Rattle.iv_view.specs.declared.view.View.{View}
 use Rattle.iv_view.specs.declared.view.View.TheVariants as view
 use Rattle.iv_view.specs.declared.view.KeptView.TheVariants as kept
@@ -142,7 +142,7 @@ listed-filled summaries =
 -- ---- the options of a merge
 
 -- the options that were read, narrowed, or their fault
-abbrev options_from : ℕ → Result Options ViewFault → Result Options ViewFault
+abbrev options_from : ℕ → Result Options Fault → Result Options Fault
 options_from width (Err why) = Err why
 options_from width (Ok options) = narrowed_options width options
 
@@ -151,7 +151,7 @@ module _ (width : ℕ) (stranded : Bool) (distance : ℕ) where
   with_summaries summaries = record { distance = distance; stranded = stranded; summaries = filled summaries }
 
   -- the options, where each column is there or one isn't
-  abbrev if_there : Bool → List ColumnSummary → Result Options ViewFault
+  abbrev if_there : Bool → List ColumnSummary → Result Options Fault
   if_there there summaries =
       if not there then Err fault.Column
       else if stranded && nat_lt width 6 then Err fault.NoStrand
@@ -186,15 +186,15 @@ said-narrowed width (Some said) = by (distance_of said.distance) (pairs_of (list
 -- ---- all views
 
 -- the view that was read, narrowed, or its fault
-abbrev narrowed_from : ℕ → Bool → Bool → Result View ViewFault → Result View ViewFault
+abbrev narrowed_from : ℕ → Bool → Bool → Result View Fault → Result View Fault
 narrowed_from width has_second has_bases (Err why) = Err why
 narrowed_from width has_second has_bases (Ok v) = narrowed width has_second has_bases v
 
 module _ (width : ℕ) (has_second has_bases : Bool) where
-  abbrev here : Result View ViewFault → Result View ViewFault
+  abbrev here : Result View Fault → Result View Fault
   here said = narrowed_from width has_second has_bases said
 
-  either : (b : Bool) (one two six_one six_two : Result View ViewFault) → one ≡ here six_one → two ≡ here six_two
+  either : (b : Bool) (one two six_one six_two : Result View Fault) → one ≡ here six_one → two ≡ here six_two
       → (if b then one else two) ≡ here (if b then six_one else six_two)
   either true one two six_one six_two is other = is
   either false one two six_one six_two is other = other
@@ -202,7 +202,7 @@ module _ (width : ℕ) (has_second has_bases : Bool) where
   narrowed-merge : (said : Option MergeArgs) → as_merge (merge_options width said) ≡ here (as_merge (merge_options 6 said))
   narrowed-merge said = ap as_merge (said-narrowed width said) ∙ by (merge_options 6 said)
     where
-      by : (r : Result Options ViewFault) → as_merge (options_from width r) ≡ here (as_merge r)
+      by : (r : Result Options Fault) → as_merge (options_from width r) ≡ here (as_merge r)
       by (Err why) = refl
       by (Ok options) = refl
 
@@ -243,5 +243,5 @@ module _ (width : ℕ) (has_second has_bases : Bool) where
   view-narrowed words v is = sym (words-narrowed words ∙ ap here is)
 
   -- a fault stays
-  pub fault-narrowed : (words : List (List ℕ)) (why : ViewFault) → read_words 6 true true words ≡ Err why → read_words width has_second has_bases words ≡ Err why
+  pub fault-narrowed : (words : List (List ℕ)) (why : Fault) → read_words 6 true true words ≡ Err why → read_words width has_second has_bases words ≡ Err why
   fault-narrowed words why is = words-narrowed words ∙ ap here is

@@ -4,6 +4,7 @@ use Rattle.std.specs.Prelude.{IsTrue, IfOk, Result, Ok, Err, ◌&&◌, nat_lt, i
 use Rattle.std.specs.Str.{bytes_eq}
 use Rattle.std.proofs.lemmas.List.{take_all, length-take-le}
 use Rattle.std.proofs.lemmas.Bool.{cases_lt}
+use Rattle.iv_text.specs.declared.fault.Fault.{Fault}
 use Rattle.iv_view.specs.Merge.{MergeArgs, said_by, with_flag, with_value, with_value_of, option_of, unless_given, nothing_said}
 use Rattle.iv_view.specs.Complement.{is_limited}
 use Rattle.iv_view.specs.Genomecov.{genomecov_rows}
@@ -16,7 +17,6 @@ use Rattle.iv_view.specs.Views.{read_words, or_bad_words, as_merge, beside_secon
 use Rattle.iv_blocks.specs.declared.options.Options.{Options}
 use Rattle.iv_fasta.specs.declared.rows.FastaRows.{FastaRows}
 use Rattle.iv_pair.specs.declared.pair_rows.PairRows.{PairRows}
-use Rattle.iv_view.specs.declared.fault.ViewFault.{ViewFault}
 use Rattle.iv_view.specs.declared.view.View.{View}
 use Rattle.iv_view.specs.declared.view.View.TheVariants as view
 use Rattle.iv_view.specs.declared.written_view.WrittenView.TheVariants as written
@@ -136,14 +136,14 @@ needs_bases (view.Written (written.Getfasta shown)) = true
 
 -- a view that needs a second file or a FASTA file is read only beside one
 module _ (has_second has_bases : Bool) where
-  abbrev IsServed : Result View ViewFault → Type 0
+  abbrev IsServed : Result View Fault → Type 0
   IsServed said = IfOk said (λ v. (IsTrue (needs_second v) → IsTrue has_second) × (IsTrue (needs_bases v) → IsTrue has_bases))
 
-  served-either : (b : Bool) (first second : Result View ViewFault) → IsServed first → IsServed second → IsServed (if b then first else second)
+  served-either : (b : Bool) (first second : Result View Fault) → IsServed first → IsServed second → IsServed (if b then first else second)
   served-either true first second one two = one
   served-either false first second one two = two
 
-  served-merge : (said : Result Options ViewFault) → IsServed (as_merge said)
+  served-merge : (said : Result Options Fault) → IsServed (as_merge said)
   served-merge (Err why) = tt
   served-merge (Ok options) = (λ needs. absurd (cc needs), λ needs. absurd (cc needs))
 
@@ -151,7 +151,7 @@ module _ (has_second has_bases : Bool) where
   served-kept None = tt
   served-kept (Some v) = (λ needs. absurd (cc needs), λ needs. absurd (cc needs))
 
-  served-beside : (has : Bool) (v : View) (fault : ViewFault)
+  served-beside : (has : Bool) (v : View) (fault : Fault)
       → (has ≡ true → (IsTrue (needs_second v) → IsTrue has_second) × (IsTrue (needs_bases v) → IsTrue has_bases))
       → IsServed (if has then Ok v else Err fault)
   served-beside true v fault is = is refl

@@ -3,6 +3,8 @@ use Rattle.std.specs.Prelude.{ℕ, Bool, true, false, nat_le, nat_lt, ◌&&◌, 
 use Rattle.std.specs.Option.{option_map, is_some}
 use Rattle.std.specs.Str.{bytes_eq}
 use Rattle.iv_text.specs.Number.{number}
+use Rattle.iv_text.specs.declared.fault.Fault.{Fault}
+use Rattle.iv_text.specs.declared.fault.Fault.TheVariants as fault
 use Rattle.iv_cover.specs.Columns.{column_numbered}
 use Rattle.iv_cover.specs.Summaries.{op_named}
 use Rattle.iv_cover.specs.declared.column.Column.{Column}
@@ -15,8 +17,6 @@ use Rattle.iv_blocks.specs.declared.options.Summaries.{Summaries}
 use Rattle.iv_view.specs.Lists.{all_some, items_in, pairs}
 use Rattle.iv_view.specs.declared.options.ValuedOption.{ValuedOption}
 use Rattle.iv_view.specs.declared.options.ValuedOption.TheVariants as option
-use Rattle.iv_view.specs.declared.fault.ViewFault.{ViewFault}
-use Rattle.iv_view.specs.declared.fault.ViewFault.TheVariants as fault
 
 -- what options say: the values of `-d`, `-c` and `-o` as they are, and whether `-s` is there
 pub record MergeArgs : Type 0 where
@@ -87,17 +87,17 @@ abbrev pub summary_within : ℕ → ℕ × Op → Option ColumnSummary
 summary_within width asked = option_map (λ column. record { column = column; op = asked.1 }) (column_within width asked.0)
 
 -- the summaries in their places; a fault where one asks for a column that isn't there
-abbrev pub filled_or_fault : Option (List ColumnSummary) → Result Summaries ViewFault
+abbrev pub filled_or_fault : Option (List ColumnSummary) → Result Summaries Fault
 filled_or_fault None = Err fault.Column
 filled_or_fault (Some summaries) = Ok (filled summaries)
 
 -- the summaries that pairs of columns and operations ask for on a track of this width; bad words where they don't pair off
-abbrev pub asked_summaries : ℕ → Option (List (ℕ × Op)) → Result Summaries ViewFault
+abbrev pub asked_summaries : ℕ → Option (List (ℕ × Op)) → Result Summaries Fault
 asked_summaries width None = Err fault.Words
 asked_summaries width (Some asked) = filled_or_fault (all_some (map (summary_within width) asked))
 
 -- the options with these summaries on a track of this width; a fault where there are no strands to keep apart
-abbrev pub options_within : ℕ → Bool → ℕ → Result Summaries ViewFault → Result Options ViewFault
+abbrev pub options_within : ℕ → Bool → ℕ → Result Summaries Fault → Result Options Fault
 options_within width stranded distance (Err why) = Err why
 options_within width stranded distance (Ok summaries) =
     if stranded && nat_lt width 6
@@ -105,7 +105,7 @@ options_within width stranded distance (Ok summaries) =
     else Ok (record { distance = distance; stranded = stranded; summaries = summaries })
 
 -- the same, where the distance may be missing
-abbrev pub options_with : ℕ → Bool → Option ℕ → Result Summaries ViewFault → Result Options ViewFault
+abbrev pub options_with : ℕ → Bool → Option ℕ → Result Summaries Fault → Result Options Fault
 options_with width stranded None summaries = Err fault.Words
 options_with width stranded (Some distance) summaries = options_within width stranded distance summaries
 
@@ -115,7 +115,7 @@ pairs_of None = None
 pairs_of (Some lists) = pairs lists.0 lists.1
 
 -- the options of a merge on a track of this width that words after `merge` say, or their first fault
-abbrev pub merge_options : ℕ → Option MergeArgs → Result Options ViewFault
+abbrev pub merge_options : ℕ → Option MergeArgs → Result Options Fault
 merge_options width None = Err fault.Words
 merge_options width (Some said) =
     options_with width said.stranded (distance_of said.distance) (asked_summaries width (pairs_of (lists_of said.columns said.ops)))

@@ -1,6 +1,8 @@
 -- A view that was read for records of six columns beside both files, on fewer columns or without one of the files.
 use Rattle.std.specs.Prelude.{ℕ, Bool, not, nat_le, nat_lt, ◌&&◌, if◌then◌else◌, List, Some, Result, Ok, Err}
 use Rattle.std.specs.List.{list_all}
+use Rattle.iv_text.specs.declared.fault.Fault.{Fault}
+use Rattle.iv_text.specs.declared.fault.Fault.TheVariants as fault
 use Rattle.iv_cover.specs.declared.column.Column.{Column}
 use Rattle.iv_cover.specs.declared.column.Column.TheVariants.{Sequence, Start, Stop, Name, Score, Strand}
 use Rattle.iv_cover.specs.declared.column.ColumnSummary.{ColumnSummary}
@@ -11,8 +13,6 @@ use Rattle.iv_view.specs.declared.view.View.{View}
 use Rattle.iv_view.specs.declared.view.View.TheVariants as view
 use Rattle.iv_view.specs.declared.view.KeptView.TheVariants as kept
 use Rattle.iv_view.specs.declared.written_view.WrittenView.TheVariants as written
-use Rattle.iv_view.specs.declared.fault.ViewFault.{ViewFault}
-use Rattle.iv_view.specs.declared.fault.ViewFault.TheVariants as fault
 
 -- the number of a column, from 1
 abbrev pub number_of : Column → ℕ
@@ -29,14 +29,14 @@ has_columns width summaries = list_all (λ asked. nat_le (number_of asked.column
 
 -- the options of a merge of records of this width; a fault where they lack a column that is asked for, and then where there are no
 -- strands to keep apart
-abbrev pub narrowed_options : ℕ → Options → Result Options ViewFault
+abbrev pub narrowed_options : ℕ → Options → Result Options Fault
 narrowed_options width options =
     if not (has_columns width (listed options.summaries)) then Err fault.Column
     else if options.stranded && nat_lt width 6 then Err fault.NoStrand
     else Ok options
 
 -- the view of records of this width, beside a second file and a FASTA file or without, or its first fault
-abbrev pub narrowed : ℕ → Bool → Bool → View → Result View ViewFault
+abbrev pub narrowed : ℕ → Bool → Bool → View → Result View Fault
 narrowed width has_second has_bases (view.Kept (kept.Merge options)) = as_merge (narrowed_options width options)
 narrowed width has_second has_bases (view.Kept (kept.Cluster distance)) = Ok (view.Kept (kept.Cluster distance))
 narrowed width has_second has_bases (view.Kept (kept.Complement limited)) = Ok (view.Kept (kept.Complement limited))

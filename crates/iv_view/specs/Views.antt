@@ -1,9 +1,11 @@
--- The views: the words that ask for one, its text, and the numbers of the faults.
+-- The views: the words that ask for one, and its text.
 use Rattle.std.specs.Prelude.{ℕ, Bool, true, false, nat_lt, ◌&&◌, if◌then◌else◌, List, [], ◌∷◌, Option, None, Some, Result, Ok, Err, codes}
 use Rattle.std.specs.Option.{ok_or, option_map}
 use Rattle.std.specs.Str.{bytes_eq}
 use Rattle.iv_text.specs.Genome.{Sequences}
 use Rattle.iv_text.specs.Row.{Row}
+use Rattle.iv_text.specs.declared.fault.Fault.{Fault}
+use Rattle.iv_text.specs.declared.fault.Fault.TheVariants as fault
 use Rattle.iv_blocks.specs.ClusterRows.{cluster_text}
 use Rattle.iv_blocks.specs.ComplementRows.{complement_text}
 use Rattle.iv_blocks.specs.MergeRows.{merge_text}
@@ -28,8 +30,6 @@ use Rattle.iv_view.specs.declared.view.KeptView.{KeptView}
 use Rattle.iv_view.specs.declared.view.KeptView.TheVariants as kept
 use Rattle.iv_view.specs.declared.written_view.WrittenView.{WrittenView}
 use Rattle.iv_view.specs.declared.written_view.WrittenView.TheVariants as written
-use Rattle.iv_view.specs.declared.fault.ViewFault.{ViewFault}
-use Rattle.iv_view.specs.declared.fault.ViewFault.TheVariants as fault
 
 -- the view is written with the records of a second file
 abbrev pub needs_second : View → Bool
@@ -38,22 +38,22 @@ needs_second (view.Written (written.Paired rows)) = true
 needs_second (view.Written (written.Getfasta shown)) = false
 
 -- the view of which a state is kept, or bad words where there is none
-abbrev pub or_bad_words : Option KeptView → Result View ViewFault
+abbrev pub or_bad_words : Option KeptView → Result View Fault
 or_bad_words asked = ok_or (option_map view.Kept asked) fault.Words
 
 -- the view of a merge with these options
-abbrev pub as_merge : Result Options ViewFault → Result View ViewFault
+abbrev pub as_merge : Result Options Fault → Result View Fault
 as_merge (Err why) = Err why
 as_merge (Ok options) = Ok (view.Kept (kept.Merge options))
 
 -- the view that needs a second file: bad words where there is none, and then a fault where there is no such file
-abbrev pub beside_second : Bool → Option PairRows → Result View ViewFault
+abbrev pub beside_second : Bool → Option PairRows → Result View Fault
 beside_second has_second None = Err fault.Words
 beside_second has_second (Some rows) = if has_second then Ok (view.Written (written.Paired rows)) else Err fault.NoSecond
 
 -- the view that needs a FASTA file, on a track of this width: bad words where there is none, then a fault where there are no strands
 -- to show, and then one where there is no such file
-abbrev pub beside_fasta : ℕ → Bool → Option FastaRows → Result View ViewFault
+abbrev pub beside_fasta : ℕ → Bool → Option FastaRows → Result View Fault
 beside_fasta width has_bases None = Err fault.Words
 beside_fasta width has_bases (Some shown) =
     if shown.stranded && nat_lt width 6 then Err fault.NoStrand
@@ -61,7 +61,7 @@ beside_fasta width has_bases (Some shown) =
     else Err fault.NoFasta
 
 -- the view that words ask for on a track of this width, beside a second file and a FASTA file or without, or their first fault
-abbrev pub read_words : ℕ → Bool → Bool → List (List ℕ) → Result View ViewFault
+abbrev pub read_words : ℕ → Bool → Bool → List (List ℕ) → Result View Fault
 read_words width has_second has_bases [] = Err fault.Words
 read_words width has_second has_bases (word ∷ words) =
     if bytes_eq word (codes "merge") then as_merge (merge_options width (said_by words nothing_said))
@@ -95,15 +95,3 @@ second_rows (Some second) = second.rows
 abbrev pub view_text : View → Sequences → List Row → List Row → Bases → List ℕ
 view_text (view.Kept v) g rows second bases = kept_text v g rows
 view_text (view.Written v) g rows second bases = written_text v g rows second bases
-
--- the number of a view's fault
-abbrev pub view_code : ViewFault → ℕ
-view_code fault.BadName = 13
-view_code fault.Taken = 14
-view_code fault.TooMany = 15
-view_code fault.Words = 16
-view_code fault.Column = 17
-view_code fault.NoStrand = 18
-view_code fault.NoSecond = 19
-view_code fault.NoFasta = 20
-view_code fault.NoMemory = 22

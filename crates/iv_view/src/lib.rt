@@ -3,7 +3,6 @@
 
 mod cluster;
 mod complement;
-mod fault;
 mod genomecov;
 mod getfasta;
 mod intersect;
@@ -17,9 +16,8 @@ mod view;
 mod words;
 mod written_view;
 
-pub use fault::ViewFault;
 pub use kept_state::{KeptState, StateKey};
 pub use laws::{no_option_twice, options_in_any_order, words_are_options};
-pub use view::{KeptView, View};
+pub use view::{KeptView, View, ViewFault};
 pub use words::Words;
 pub use written_view::WrittenView;

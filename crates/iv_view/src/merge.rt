@@ -7,9 +7,9 @@ ghost use Rattle.iv_view.specs.Lists.{all_some, pairs};
 ghost use Rattle.iv_view.specs.Merge.{said_by, nothing_said, merge_options, asked_summaries, distance_of, lists_of, summary_within};
 ghost use Rattle.iv_view.specs.Narrowing.{number_of as number_of_column, has_columns as columns_are_there, narrowed_options};
 
-use crate::fault::ViewFault;
 use crate::lists::{MOST_ITEMS, read_items, repeated};
 use crate::options::MergeArgs;
+use crate::view::ViewFault;
 use arrayvec::ArrayVec;
 use iv_blocks::{Options, Summaries};
 use iv_cover::{Column, ColumnSummary, Op};

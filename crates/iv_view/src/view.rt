@@ -5,7 +5,6 @@ ghost use Rattle.iv_view.specs.Narrowing.{narrowed as narrowed_view};
 
 use crate::cluster::read_cluster;
 use crate::complement::read_complement;
-use crate::fault::ViewFault;
 use crate::genomecov::read_genomecov;
 use crate::getfasta::read_getfasta;
 use crate::intersect::read_intersect;
@@ -16,7 +15,12 @@ use iv_blocks::Options;
 use iv_depth::DepthRows;
 use iv_fasta::FastaRows;
 use iv_pair::PairRows;
+use iv_text::Fault;
 use std::alloc::Allocator;
+
+/// Why a view is not opened, in the order in which the causes are looked for: `BadName`, `Taken`, `TooMany`, `Words`, `Column`,
+/// `NoStrand`, `NoSecond`, `NoFasta` (E13 to E20), and `NoMemory` (E22).
+pub type ViewFault = Fault;
 
 /// A view of a track, with its options.
 #[derive(Clone, Copy, Debug, PartialEq, Eq)]

@@ -14,6 +14,8 @@ use Rattle.iv_text.specs.Row.{Row}
 use Rattle.iv_text.proofs.LengthLemmas.{length-with_length, length_at-with_length, length_at-other, rank-within}
 use Rattle.iv_track.specs.Tracked.{Tracked, is_from}
 use Rattle.iv_text.proofs.ListLemmas.{Mem, all-mem, mem-all, any-found, any-at, any-none, any-from_none, mem-filter, mem-filter_from}
+use Rattle.iv_text.specs.declared.fault.Fault.{Fault}
+use Rattle.iv_text.specs.declared.fault.Fault.TheVariants as fault
 use Rattle.iv_fasta.specs.Fasta.{Bases, bases_of, HasLengthsOf}
 use Rattle.iv_pair.specs.Hits.{overlaps}
 use Rattle.iv_pair.proofs.PlaceLemmas.{le_pair, pair_le, from_all}
@@ -21,8 +23,6 @@ use Rattle.iv_view.specs.Views.{second_rows}
 use Rattle.iv_workspace.specs.OpenViews.{Shown}
 use Rattle.iv_workspace.specs.Resizes.{reaches_past, has_record_past, has_other_bases, is_other, with_sequence_length, resized_if, resized}
 use Rattle.iv_workspace.specs.States.{State, IsTrackOn, IsSession}
-use Rattle.iv_workspace.specs.declared.fault.ResizeFault.{ResizeFault}
-use Rattle.iv_workspace.specs.declared.fault.ResizeFault.TheVariants as fault
 
 -- ---- records past a length
 
@@ -272,14 +272,14 @@ accepted old new name n is = by (rank_of old.genome name) refl is
     by None at is = absurd (cc is)
     by (Some seq) at is = elim (cases_Bool (has_record_past old seq n)) [
       | inl past ↦
-          let never : ◌≡◌ {A = Result State ResizeFault} (Err fault.Shorter) (Ok new) = sym (cond-true _ _ _ past) ∙ is in
+          let never : ◌≡◌ {A = Result State Fault} (Err fault.Shorter) (Ok new) = sym (cond-true _ _ _ past) ∙ is in
           absurd (cc never)
       | inr clear ↦ elim (cases_Bool (has_other_bases old.bases seq n)) [
         | inl other ↦
-            let never : ◌≡◌ {A = Result State ResizeFault} (Err fault.Fixed) (Ok new) = sym (cond-false _ _ _ clear ∙ cond-true _ _ _ other) ∙ is in
+            let never : ◌≡◌ {A = Result State Fault} (Err fault.Fixed) (Ok new) = sym (cond-false _ _ _ clear ∙ cond-true _ _ _ other) ∙ is in
             absurd (cc never)
         | inr same ↦
-            let done : ◌≡◌ {A = Result State ResizeFault} (Ok (with_sequence_length old seq n)) (Ok new) = sym (cond-false _ _ _ clear ∙ cond-false _ _ _ same) ∙ is in
+            let done : ◌≡◌ {A = Result State Fault} (Ok (with_sequence_length old seq n)) (Ok new) = sym (cond-false _ _ _ clear ∙ cond-false _ _ _ same) ∙ is in
             (seq, at, same, cc done)
       ]
     ]

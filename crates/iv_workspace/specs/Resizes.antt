@@ -4,11 +4,11 @@ use Rattle.std.specs.List.{list_any}
 use Rattle.std.specs.Option.{option_map, unwrap_or}
 use Rattle.iv_text.specs.Genome.{rank_of, with_length}
 use Rattle.iv_text.specs.Row.{Row}
+use Rattle.iv_text.specs.declared.fault.Fault.{Fault}
+use Rattle.iv_text.specs.declared.fault.Fault.TheVariants as fault
 use Rattle.iv_fasta.specs.Fasta.{Bases, bases_of}
 use Rattle.iv_view.specs.Views.{second_rows}
 use Rattle.iv_workspace.specs.States.{State}
-use Rattle.iv_workspace.specs.declared.fault.ResizeFault.{ResizeFault}
-use Rattle.iv_workspace.specs.declared.fault.ResizeFault.TheVariants as fault
 
 -- the record is on the sequence of this rank, and its stop is above a length
 abbrev pub reaches_past : ℕ → ℕ → Row → Bool
@@ -33,23 +33,17 @@ with_sequence_length s seq n = record s { genome = with_length s.genome seq n }
 
 -- the session with this length of the sequence of a rank, or why it isn't given: a record passes the new end, or else the FASTA
 -- file has another number of bases
-abbrev pub resized_at : State → ℕ → ℕ → Result State ResizeFault
+abbrev pub resized_at : State → ℕ → ℕ → Result State Fault
 resized_at s seq n =
     if has_record_past s seq n then Err fault.Shorter
     else if has_other_bases s.bases seq n then Err fault.Fixed
     else Ok (with_sequence_length s seq n)
 
 -- the same for the sequence of a rank that a name may have
-abbrev pub resized_if : State → Option ℕ → ℕ → Result State ResizeFault
+abbrev pub resized_if : State → Option ℕ → ℕ → Result State Fault
 resized_if s None n = Err fault.UnknownSeq
 resized_if s (Some seq) n = resized_at s seq n
 
 -- the session with this length of the sequence of a name, or the first fault
-abbrev pub resized : State → List ℕ → ℕ → Result State ResizeFault
+abbrev pub resized : State → List ℕ → ℕ → Result State Fault
 resized s name n = resized_if s (rank_of s.genome name) n
-
--- the number of the fault of a resize
-abbrev pub resize_code : ResizeFault → ℕ
-resize_code fault.UnknownSeq = 3
-resize_code fault.Shorter = 23
-resize_code fault.Fixed = 24

@@ -4,10 +4,11 @@ use Rattle.std.specs.List.{list_all, flat_map}
 use Rattle.std.specs.Option.{is_some, unwrap_or}
 use Rattle.std.specs.Map.{lookup}
 use Rattle.std.specs.Str.{bytes_eq}
+use Rattle.iv_text.specs.Fault.{code_of}
+use Rattle.iv_text.specs.declared.fault.Fault.{Fault}
+use Rattle.iv_text.specs.declared.fault.Fault.TheVariants as fault
 use Rattle.iv_view.specs.Views.{read_words, second_rows, view_text}
 use Rattle.iv_view.specs.declared.view.View.{View}
-use Rattle.iv_view.specs.declared.fault.ViewFault.{ViewFault}
-use Rattle.iv_view.specs.declared.fault.ViewFault.TheVariants as fault
 use Rattle.iv_workspace.specs.OpenViews.{Shown}
 use Rattle.iv_workspace.specs.States.{State, with_view}
 use Rattle.iv_workspace.specs.declared.fault.PrintFault.{PrintFault}
@@ -30,32 +31,27 @@ abbrev pub most_views : ℕ
 most_views = 64
 
 -- what words ask for in a session
-abbrev pub words_said : State → List (List ℕ) → Result View ViewFault
+abbrev pub words_said : State → List (List ℕ) → Result View Fault
 words_said s words = read_words s.track.width (is_some s.second) (is_some s.bases) words
 
 -- whether the name of a view to be opened has a fault
-abbrev pub has_name_fault : State → List ℕ → ViewFault → Bool
+abbrev pub has_name_fault : State → List ℕ → Fault → Bool
 has_name_fault s name fault.BadName = not (is_view_name name)
 has_name_fault s name fault.Taken = is_some (view_named s.views name)
 has_name_fault s name fault.TooMany = nat_le most_views (length s.views)
-has_name_fault s name fault.Words = false
-has_name_fault s name fault.Column = false
-has_name_fault s name fault.NoStrand = false
-has_name_fault s name fault.NoSecond = false
-has_name_fault s name fault.NoFasta = false
-has_name_fault s name fault.NoMemory = false
+has_name_fault s name other = false
 
 -- the faults of a name, in the order in which they are reported
-abbrev pub name_faults : List ViewFault
+abbrev pub name_faults : List Fault
 name_faults = fault.BadName ∷ fault.Taken ∷ fault.TooMany ∷ []
 
 -- a fault, or else what the words say
-abbrev pub unless_fault : Option ViewFault → Result View ViewFault → Result View ViewFault
+abbrev pub unless_fault : Option Fault → Result View Fault → Result View Fault
 unless_fault None said = said
 unless_fault (Some f) said = Err f
 
 -- the view that is opened under a name by these words: the first fault of the name, or else what the words say
-abbrev pub opened : State → List ℕ → List (List ℕ) → Result View ViewFault
+abbrev pub opened : State → List ℕ → List (List ℕ) → Result View Fault
 opened s name words = unless_fault (find (has_name_fault s name) name_faults) (words_said s words)
 
 -- the view of these words is opened under the name: it is the last, and current
@@ -63,7 +59,7 @@ abbrev pub Opens : State → List ℕ → List (List ℕ) → State → Type 0
 Opens old name words new = (view : View) × (opened old name words ≡ Ok view) × (new ≡ with_view old name view)
 
 -- why no view is opened: for the first fault; or memory was refused, where there is none
-abbrev pub RefusesOpen : State → List ℕ → List (List ℕ) → ViewFault → Type 0
+abbrev pub RefusesOpen : State → List ℕ → List (List ℕ) → Fault → Type 0
 RefusesOpen s name words f = (opened s name words ≡ Err f) ⊎ ((f ≡ fault.NoMemory) × IsOk (opened s name words))
 
 -- what a view prints: its text for the records as they are, beside the second file's records and the bases, if there are any
@@ -82,8 +78,7 @@ headed_text s v = heading v.0 ++ text_in s v.1.view
 abbrev pub all_text : State → List ℕ
 all_text s = flat_map (headed_text s) s.views
 
--- the number of a print's fault
+-- the number of the fault for which a print or a line is refused; none where the output failed
 abbrev pub print_code : PrintFault → Option ℕ
-print_code printing.NoView = Some 21
-print_code printing.NoMemory = Some 22
+print_code (printing.Refused f) = Some (code_of f)
 print_code printing.Write = None

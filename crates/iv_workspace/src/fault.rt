@@ -1,89 +1,39 @@
-//! Faults of lines of a second file, of resizes and of prints, by their numbers.
+//! Why a resize, a line of a second file or a print is refused.
 ghost use Rattle.std.specs.Prelude.{◌≡◌, ◌≤◌, Some, None, IfSome};
-ghost use Rattle.iv_workspace.specs.Edits.{second_code};
-ghost use Rattle.iv_workspace.specs.Resizes.{resize_code};
 ghost use Rattle.iv_workspace.specs.Views.{print_code};
 
 use iv_bytes::WriteFault;
-use iv_text::RecordFault;
+use iv_text::Fault;
 use std::alloc::AllocError;
 use thiserror::Error;
 
-/// Why a line means no record of a second file.
-#[derive(Clone, Copy, Debug, PartialEq, Eq, Error)]
-pub enum SecondFault {
-    /// E19: there is no second file.
-    #[error("no second file")]
-    NoSecond,
-    /// E2 to E10: the record's fault.
-    #[error("{0}")]
-    Record(RecordFault),
-}
+/// Why a line means no record of a second file: `NoSecond` (E19), or E2 to E10.
+pub type SecondFault = Fault;
 
-impl From<RecordFault> for SecondFault {
-    ghost use Rattle.std.specs.Prelude.{◌≡◌};
-    ghost use Rattle.iv_workspace.specs.declared.fault.SecondFault.TheVariants.{Record};
+/// Why the length of a sequence is not corrected, in the order in which the causes are looked for: `UnknownSeq` (E3), `Shorter`
+/// (E23) or `Fixed` (E24).
+pub type ResizeFault = Fault;
 
-    ghost from_gives = { λ why fault. fault ≡ Record why };
-
-    fn from(why: RecordFault) -> SecondFault {
-        SecondFault::Record(why)
-    }
-}
-
-impl SecondFault {
-    /// Its number in the table of faults: 19, or 2 to 10.
-    pub fn code(&self) -> u8
-        ensures value { result ≡ second_code self.now }
-        ensures known { (1 ≤ result) × (result ≤ 24) }
-    {
-        match self {
-            SecondFault::NoSecond => 19,
-            SecondFault::Record(fault) => fault.code(),
-        }
-    }
-}
-
-/// Why the length of a sequence is not corrected, in the order in which the causes are looked for.
-#[derive(Clone, Copy, Debug, PartialEq, Eq, Error)]
-pub enum ResizeFault {
-    /// E3: the genome has no such sequence.
-    #[error("unknown sequence")]
-    UnknownSeq,
-    /// E23: a record of the track or of the second file on the sequence has a stop above the length.
-    #[error("records past the new end")]
-    Shorter,
-    /// E24: the FASTA file has the sequence, and another number of bases of it.
-    #[error("length fixed by the sequence file")]
-    Fixed,
-}
-
-impl ResizeFault {
-    /// Its number in the table of faults.
-    pub fn code(&self) -> u8
-        ensures value { result ≡ resize_code self.now }
-        ensures known { (1 ≤ result) × (result ≤ 24) }
-    {
-        match self {
-            ResizeFault::UnknownSeq => 3,
-            ResizeFault::Shorter => 23,
-            ResizeFault::Fixed => 24,
-        }
-    }
-}
-
-/// Why a view is not printed.
+/// Why a view is not printed, or a line of a script is not done.
 #[derive(Clone, Copy, Debug, PartialEq, Eq, Error)]
 pub enum PrintFault {
-    /// E21: no view of this name is open. Nothing was written.
-    #[error("no such view")]
-    NoView,
-    /// E22: memory for a stale view was refused. Nothing was written.
-    #[error("no memory")]
-    NoMemory,
+    /// It is refused. Nothing was written.
+    #[error("{0}")]
+    Refused(Fault),
     /// The sink failed. A prefix of the text was written.
     #[error("output cannot be written")]
     Write,
+}
+
+impl From<Fault> for PrintFault {
+    ghost use Rattle.std.specs.Prelude.{◌≡◌};
+    ghost use Rattle.iv_workspace.specs.declared.fault.PrintFault.TheVariants.{Refused};
+
+    ghost from_gives = { λ why fault. fault ≡ Refused why };
+
+    fn from(why: Fault) -> PrintFault {
+        PrintFault::Refused(why)
+    }
 }
 
 impl From<WriteFault> for PrintFault {
@@ -99,12 +49,13 @@ impl From<WriteFault> for PrintFault {
 
 impl From<AllocError> for PrintFault {
     ghost use Rattle.std.specs.Prelude.{◌≡◌};
-    ghost use Rattle.iv_workspace.specs.declared.fault.PrintFault.TheVariants.{NoMemory};
+    ghost use Rattle.iv_text.specs.declared.fault.Fault.TheVariants.{NoMemory};
+    ghost use Rattle.iv_workspace.specs.declared.fault.PrintFault.TheVariants.{Refused};
 
-    ghost from_gives = { λ _ fault. fault ≡ NoMemory };
+    ghost from_gives = { λ _ fault. fault ≡ Refused NoMemory };
 
     fn from(_: AllocError) -> PrintFault {
-        PrintFault::NoMemory
+        PrintFault::Refused(Fault::NoMemory)
     }
 }
 
@@ -115,23 +66,8 @@ impl PrintFault {
         ensures known { IfSome result (λ code. (1 ≤ code) × (code ≤ 24)) }
     {
         match self {
-            PrintFault::NoView => Some(21),
-            PrintFault::NoMemory => Some(22),
+            PrintFault::Refused(fault) => Some(fault.code()),
             PrintFault::Write => None,
         }
-    }
-}
-
-/// E21: no view of this name is open.
-#[derive(Clone, Copy, Debug, PartialEq, Eq, Error)]
-#[error("no such view")]
-pub struct NoView;
-
-impl NoView {
-    /// Its number in the table of faults: 21.
-    pub fn code(&self) -> u8
-        ensures { result ≡ 21 }
-    {
-        21
     }
 }

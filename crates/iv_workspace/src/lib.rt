@@ -9,6 +9,6 @@ mod past_end;
 mod session;
 mod views;
 
-pub use fault::{NoView, PrintFault, ResizeFault, SecondFault};
+pub use fault::{PrintFault, ResizeFault, SecondFault};
 pub use laws::corrected_lengths_are_those_of_bases;
 pub use session::{Accepted, Session};

@@ -5,8 +5,8 @@ ghost use Rattle.iv_workspace.specs.States.{without_view};
 ghost use Rattle.iv_workspace.specs.Views.{view_named, RefusesOpen, Opens};
 
 use super::Session;
-use crate::fault::NoView;
 use crate::names::is_view_name;
+use iv_text::Fault;
 use iv_track::Meter;
 use iv_view::{View, ViewFault};
 use std::alloc::Allocator;
@@ -49,15 +49,15 @@ impl<A: Allocator + Copy> Session<A> {
     ///
     /// # Errors
     ///
-    /// No view of this name is open. Nothing changes.
-    pub fn close_view(&mut self, name: &[u8]) -> Result<(), NoView>
+    /// `NoView` exactly where no view of this name is open. Nothing changes.
+    pub fn close_view(&mut self, name: &[u8]) -> Result<(), Fault>
         ensures there { OnOk result (IsSome (view_named self.old.views name.now)) }
         ensures ok { OnOk result (self.new ≡ without_view self.old name.now) }
-        ensures absent { OnErr result (view_named self.old.views name.now ≡ None) }
+        ensures why { IfErr result (λ fault. (fault ≡ Fault.NoView) × (view_named self.old.views name.now ≡ None)) }
         ensures err { OnErr result (self.new ≡ self.old) }
     {
         let Some(_) = self.views.find(name) else {
-            return Err(NoView);
+            return Err(Fault::NoView);
         };
         self.views.remove(name);
         Ok(())

@@ -8,6 +8,7 @@ use super::Session;
 use crate::fault::PrintFault;
 use crate::names::put_heading;
 use iv_bytes::{Buffered, Sink, WriteFault};
+use iv_text::Fault;
 use iv_track::Meter;
 use std::alloc::Allocator;
 
@@ -21,7 +22,7 @@ impl<A: Allocator + Copy> Session<A> {
     /// written. `Write`, and then a prefix was.
     pub fn print_view<S: Sink>(&mut self, name: &[u8], sink: &mut S) -> Result<(), PrintFault>
         ensures { MatchOption (view_named self.old.views name.now)
-            ((result ≡ Err PrintFault.NoView) × (S.state sink.new ≡ S.state sink.old) × (self.new ≡ self.old))
+            ((result ≡ Err (PrintFault.Refused Fault.NoView)) × (S.state sink.new ≡ S.state sink.old) × (self.new ≡ self.old))
             (λ v. PrintedView self.old name.now v self.new (S.state sink.old) (S.state sink.new) result) }
     {
         let mut meter = Meter::new();
@@ -29,7 +30,7 @@ impl<A: Allocator + Copy> Session<A> {
             self.views
                 .refresh(name, self.alloc, &self.track, &self.genome, &mut meter)?
         else {
-            return Err(PrintFault::NoView);
+            return Err(PrintFault::Refused(Fault::NoView));
         };
         let mut buffer = Buffered::new(sink);
         let (second, fasta) = (self.second.as_ref(), self.fasta.as_ref());

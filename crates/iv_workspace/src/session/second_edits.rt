@@ -27,7 +27,7 @@ impl<A: Allocator + Copy> Session<A> {
         let Some(width) = self.second_width() else {
             return Err(SecondFault::NoSecond);
         };
-        Ok(read_record(&self.genome, width, line)?)
+        read_record(&self.genome, width, line)
     }
 
     /// Whether there is a second file, and a record is one of its width on the session's genome.

@@ -10,8 +10,8 @@ use Rattle.iv_workspace.proofs.OpenViewLemmas.{all-removed}
 use Rattle.iv_workspace.proofs.SessionLemmas.{views-changed}
 use Rattle.iv_workspace.proofs.session.Session.close_view.Goals as goal
 
-pub returns-in_default-clause-absent : goal.returns-in_default-clause-absent
-returns-in_default-clause-absent g c = sym (c.in_default.ensures.seen ∙ ap (λ (s : State). view_named s.views c.args.name.now) c.self.view_is)
+pub returns-in_default-clause-why : goal.returns-in_default-clause-why
+returns-in_default-clause-why g c = (refl, sym (c.in_default.ensures.seen ∙ ap (λ (s : State). view_named s.views c.args.name.now) c.self.view_is))
 
 pub invariant_of-self : goal.invariant_of-self
 invariant_of-self g c =
