@@ -12,7 +12,6 @@ use Rattle.iv_run.specs.declared.fault.CliFault.TheVariants.{Damaged, Memory}
 use Rattle.iv_args.specs.declared.plan.Slot.{Slot}
 use Rattle.iv_args.specs.declared.plan.Slot.TheVariants.{Sizes, First, Other, Bases}
 use Rattle.iv_fasta.specs.Fasta as Fasta
-use Rattle.iv_workspace.specs.States.{State, begun}
 use Rattle.iv_run.specs.Loading.{IsAnswer, IsReport, Parsed, loaded, session_of, parsed, bases_said, second_of, with_bases, with_second, with_first, with_genome, fault_of, damage_of}
 use Rattle.std.specs.Option.{option_map, option_transpose}
 use Rattle.iv_text.specs.KeptDrafts.{kept_bed, kept_bed_of, kept_or_fault}
@@ -94,21 +93,6 @@ kept-why : (kept : Row → Row) (r : Result Bed LoadFault) (f : LoadFault) → I
 kept-why kept r f (inl memory) = inl memory
 kept-why kept (Ok bed) f (inr is) = cc
 kept-why kept (Err e) f (inr is) = let same : e ≡ f = cc in inr (ap Err same)
-
--- what is kept of whole records is the records
-same-all : (rows : List Row) → map (λ (r : Row). r) rows ≡ rows
-same-all [] = refl
-same-all (r ∷ rows) = ap (λ (l : List Row). r ∷ l) (same-all rows)
-
-same-bed : (b : Bed) → kept_bed (λ r. r) b ≡ b
-same-bed b = ap (λ (l : List Row). record { width = b.width; rows = l }) (same-all b.rows)
-
-same-beside : (o : Option Bed) → option_map (kept_bed (λ r. r)) o ≡ o
-same-beside None = refl
-same-beside (Some b) = ap Some (same-bed b)
-
-same-files : (files : Parsed) → kept_files (λ r. r) files ≡ files
-same-files files = λ i. record files { first = same-bed files.first i; second = same-beside files.second i }
 
 -- ---- files while they are read
 
@@ -201,31 +185,3 @@ module _ (kept : Row → Row) (sizes text : List ℕ) (other bases : Option (Lis
               ∙ ap (with_bases known.genome both.first.bed both.beside known.limit) is,
           (λ i. record { genome = known.genome; first = both.first.kept_is i; second = both.kept_is i; bases = fasta; limit = known.limit }),
         )
-
--- records that fit a genome
-pub fits-beside : (g : Sequences) (limit : ℕ) (o : Option Bed) → IfSome o (AreKept (λ r. r) g limit) → IfSome o (λ file. All (Fits g file.width) file.rows)
-fits-beside g limit None kept = tt
-fits-beside g limit (Some file) kept = fit-all g file.width file.rows kept.kept_all
-
-pub few-beside : (g : Sequences) (limit : ℕ) (o : Option Bed) → IfSome o (AreKept (λ r. r) g limit) → IfSome o (λ file. length file.rows ≤ limit)
-few-beside g limit None kept = tt
-few-beside g limit (Some file) kept = kept.few
-
--- ---- the session that files begin
-
--- what is reported, and why it is a fault
-pub report-ok : {T : Type 0} (r said : Result T CliFault) → IsReport r said → IfOk r (λ value. said ≡ Ok value)
-report-ok (Ok value) said is = is
-report-ok (Err k) said is = tt
-
-pub report-err : {T : Type 0} (r said : Result T CliFault) → IsReport r said → IfErr r (λ k. (k ≡ Memory) ⊎ (said ≡ Err k))
-report-err (Ok value) said is = tt
-report-err (Err k) said is = is
-
-module _ (width : ℕ) (sizes text : List ℕ) (other bases : Option (List ℕ)) (limit : ℕ) where
-  -- the files are sound, and all of their records is kept
-  pub begins : (files : Parsed) (r : Result State CliFault) → ReportsKept (λ r. r) (Ok files) (parsed width sizes text other bases limit)
-      → IfOk r (λ s. s ≡ begun files.genome files.first files.second files.bases files.limit) → IfErr r (λ k. k ≡ Memory) → IsReport r (loaded width sizes text other bases limit)
-  begins files (Ok s) all ok err =
-      ap session_of (all.1 ∙ ap Ok (sym (all.2 ∙ same-files all.0))) ∙ ap Ok (sym ok)
-  begins files (Err k) all ok err = inl err

@@ -1,4 +1,4 @@
--- The session that the files of a run begin.
+-- What the files of a run say.
 use Rattle.std.specs.Prelude.{◌≡◌, ◌⊎◌, ℕ, List, Option, Result, Ok, Err}
 use Rattle.std.specs.Option.{option_map, option_transpose}
 use Rattle.iv_text.specs.Genome.{Sequences}
@@ -11,7 +11,6 @@ use Rattle.iv_text.specs.declared.fault.LoadCause.TheVariants as cause
 use Rattle.iv_text.specs.declared.fault.Fault.{Fault}
 use Rattle.iv_text.specs.declared.fault.Fault.TheVariants as refused
 use Rattle.iv_fasta.specs.Fasta as fasta
-use Rattle.iv_workspace.specs.States.{State, begun}
 use Rattle.iv_run.specs.declared.fault.CliFault.{CliFault}
 use Rattle.iv_run.specs.declared.fault.CliFault.TheVariants.{Words, Damaged, Memory}
 use Rattle.iv_args.specs.declared.plan.Slot.{Slot}
@@ -81,12 +80,3 @@ with_genome width first other bases limit (Ok g) = with_first g width other base
 -- damaged file
 abbrev pub parsed : ℕ → List ℕ → List ℕ → Option (List ℕ) → Option (List ℕ) → ℕ → Result Parsed CliFault
 parsed width sizes first other bases limit = with_genome width first other bases limit (genome_of sizes)
-
--- the session that files begin, unless they are damaged
-abbrev pub session_of : Result Parsed CliFault → Result State CliFault
-session_of (Err f) = Err f
-session_of (Ok files) = Ok (begun files.genome files.first files.second files.bases files.limit)
-
--- the session that the bytes of the files begin, or the fault of the first damaged file
-abbrev pub loaded : ℕ → List ℕ → List ℕ → Option (List ℕ) → Option (List ℕ) → ℕ → Result State CliFault
-loaded width sizes first other bases limit = session_of (parsed width sizes first other bases limit)

@@ -1,4 +1,4 @@
-//! From the files of a run to a session, or to the rows of one view.
+//! From the files of a run to what they say, or to the rows of one view.
 #![tactic(auto)]
 
 mod fault;
@@ -11,7 +11,7 @@ mod text_rows;
 
 pub use fault::{CliFault, FileFault};
 pub use laws::too_long_above_the_limit;
-pub use loading::{Inputs, Loading, load};
+pub use loading::{Inputs, LoadedFiles, Loading};
 pub use one_shot::shot;
 pub use places_view::PlacesView;
-pub use reading::read_all;
+pub use reading::{KeptFile, read_all};

@@ -1,10 +1,8 @@
-//! The files of a run while they are read, one after another, and the session that they begin.
+//! The files of a run while they are read, one after another.
 ghost use Rattle.std.specs.Prelude.{◌≡◌, ◌<◌, ◌≤◌, ◌^◌, ◌⊎◌, List, ℕ, [], Option, None, Some, Ok, Err, IfOk, IfErr, OnOk, OnErr};
 ghost use Rattle.std.specs.Option.{option_copied, option_map};
-ghost use Rattle.iv_track.specs.Tracked.{most_records};
-ghost use Rattle.iv_workspace.specs.States.{begun};
 ghost use Rattle.iv_run.specs.Files.{ReadsWhole, StopsReading};
-ghost use Rattle.iv_run.specs.Loading.{IsReport, loaded, parsed};
+ghost use Rattle.iv_run.specs.Loading.{parsed};
 ghost use Rattle.iv_run.specs.SoFar.{AreKept, IsOfOneRun, ReportsKept, SaysFirst, SaysSecond, SaysSizes, noted, taken_first, taken_second};
 
 use crate::fault::{CliFault, FileFault};
@@ -12,8 +10,7 @@ use crate::reading::{BedDraft, KeptFile, in_slot, parse_fasta, read_bed};
 use iv_args::{Plan, Slot};
 use iv_bytes::Source;
 use iv_fasta::Fasta;
-use iv_text::{BedBatches, FromRecord, Genome, LoadFault, Record};
-use iv_workspace::Session;
+use iv_text::{FromRecord, Genome, LoadFault};
 use std::alloc::{Allocator, Global};
 use std::marker::Model;
 
@@ -29,7 +26,7 @@ pub struct Inputs<'a> {
 }
 
 /// The files of a run while they are read: what they say so far, or the fault of the first damaged one. Of each record of a BED
-/// file is kept what `K` says: all of it ([`Record`]), or its place ([`Span`](iv_index::Span)).
+/// file is kept what `K` says: all of it ([`Record`](iv_text::Record)), or its place ([`Span`](iv_index::Span)).
 ///
 /// The genome file comes first, then the first BED file, the second, where there is one, and the FASTA file. A file that can't be
 /// read is reported before a damaged one, so each is read to its end, whatever the others said: where the genome file is damaged,
@@ -58,13 +55,13 @@ impl<K: FromRecord<A>, A: Allocator + Copy> Model for Loading<K, A> {
 
 /// What all files of a run say, of each record what is kept of it.
 #[derive(Drop)]
-pub(crate) struct LoadedFiles<K: FromRecord<A>, A: Allocator + Copy = Global> {
-    pub(crate) alloc: A,
-    pub(crate) genome: Genome<A>,
-    pub(crate) first: KeptFile<K, A>,
-    pub(crate) second: Option<KeptFile<K, A>>,
-    pub(crate) fasta: Option<Fasta<A>>,
-    pub(crate) limit: u32,
+pub struct LoadedFiles<K: FromRecord<A>, A: Allocator + Copy = Global> {
+    pub alloc: A,
+    pub genome: Genome<A>,
+    pub first: KeptFile<K, A>,
+    pub second: Option<KeptFile<K, A>>,
+    pub fasta: Option<Fasta<A>>,
+    pub limit: u32,
 }
 
 impl<K: FromRecord<A>, A: Allocator + Copy> Model for LoadedFiles<K, A> {
@@ -152,7 +149,7 @@ impl<K: FromRecord<A>, A: Allocator + Copy> Loading<K, A> {
     ///
     /// # Errors
     ///
-    /// A fault of the source. That the file is damaged is no error here: [`Loading::into_session`] reports it.
+    /// A fault of the source. That the file is damaged is no error here: [`Loading::finish`] reports it.
     pub fn read_first<R: Source>(&mut self, source: &mut R, most: u64) -> Result<(), FileFault>
         requires { most < 2 ^ 63 }
         ensures ok { OnOk result ((text : List ℕ) × ReadsWhole (R.state source.old) (R.state source.new) most text
@@ -172,7 +169,7 @@ impl<K: FromRecord<A>, A: Allocator + Copy> Loading<K, A> {
     ///
     /// # Errors
     ///
-    /// A fault of the source. That the file is damaged is no error here: [`Loading::into_session`] reports it.
+    /// A fault of the source. That the file is damaged is no error here: [`Loading::finish`] reports it.
     pub fn read_second<R: Source>(&mut self, source: &mut R, most: u64) -> Result<(), FileFault>
         requires { most < 2 ^ 63 }
         ensures ok { OnOk result ((other : List ℕ) × ReadsWhole (R.state source.old) (R.state source.new) most other
@@ -209,7 +206,7 @@ impl<K: FromRecord<A>, A: Allocator + Copy> Loading<K, A> {
     }
 
     /// The files of a run, given the bytes of all but the FASTA file.
-    pub(crate) fn of_inputs(alloc: A, plan: &Plan<'_, A>, inputs: &Inputs<'_>, limit: u32) -> Self
+    pub fn of_inputs(alloc: A, plan: &Plan<'_, A>, inputs: &Inputs<'_>, limit: u32) -> Self
         ensures says { SaysSecond K.kept inputs.now.sizes.now inputs.now.first.now (option_copied inputs.now.other) result }
         ensures width { result.width ≡ plan.now.width }
         ensures limit { result.limit ≡ limit }
@@ -224,7 +221,7 @@ impl<K: FromRecord<A>, A: Allocator + Copy> Loading<K, A> {
 
     /// What all files say, once the BED files are read, or the fault of the first damaged one. `bases` are the bytes of the FASTA
     /// file, where there is one. They are taken: the bases stay in their memory.
-    pub(crate) fn finish(self, bases: Option<Vec<u8, A>>) -> Result<LoadedFiles<K, A>, CliFault>
+    pub fn finish(self, bases: Option<Vec<u8, A>>) -> Result<LoadedFiles<K, A>, CliFault>
         ensures says { (sizes text : List ℕ) (other : Option (List ℕ)) → SaysSecond K.kept sizes text other self
             → ReportsKept K.kept result (parsed self.width sizes text other (option_map (λ text. text.items) bases) self.limit) }
         ensures limit { IfOk result (λ files. files.limit ≡ self.limit) }
@@ -251,72 +248,4 @@ impl<K: FromRecord<A>, A: Allocator + Copy> Loading<K, A> {
             limit,
         })
     }
-}
-
-/// The records of a file that may be left out.
-fn into_bed<A: Allocator + Copy>(file: Option<KeptFile<Record<A>, A>>) -> Option<BedBatches<A>>
-    ensures { result ≡ file }
-{
-    match file {
-        Some(file) => Some(file.into_bed()),
-        None => None,
-    }
-}
-
-impl<A: Allocator + Copy> LoadedFiles<Record<A>, A> {
-    /// The session that the files begin, with no view open.
-    ///
-    /// # Errors
-    ///
-    /// Memory was refused.
-    fn into_session(self) -> Result<Session<A>, CliFault>
-        requires { self.limit ≤ most_records }
-        ensures ok { IfOk result (λ session. session ≡ begun self.genome self.first self.second self.bases self.limit) }
-        ensures err { IfErr result (λ fault. fault ≡ CliFault.Memory) }
-    {
-        let LoadedFiles {
-            alloc,
-            genome,
-            first,
-            second,
-            fasta,
-            limit,
-        } = self;
-        let first = first.into_bed();
-        Ok(Session::from_batches(alloc, genome, first, into_bed(second), fasta, limit)?)
-    }
-}
-
-impl<A: Allocator + Copy> Loading<Record<A>, A> {
-    /// The session that the files begin, with no view open, once the BED files are read; or the fault of the first damaged file.
-    /// `bases` are the bytes of the FASTA file, where there is one. They are taken: the bases stay in their memory.
-    pub fn into_session(self, bases: Option<Vec<u8, A>>) -> Result<Session<A>, CliFault>
-        requires { self.limit ≤ most_records }
-        ensures { (sizes text : List ℕ) (other : Option (List ℕ)) → SaysSecond (λ r. r) sizes text other self
-            → IsReport result (loaded self.width sizes text other (option_map (λ text. text.items) bases) self.limit) }
-    {
-        self.finish(bases)?.into_session()
-    }
-}
-
-/// The session that the files of a run begin, with no view open, or the fault of the first damaged file, given the bytes of the files.
-/// It is for callers outside this repository.
-///
-/// A BED file without a record has the width that the plan says, and each may have at most `limit` records. `bases` are the bytes of
-/// the FASTA file, where the plan names one; they are taken.
-pub fn load<A: Allocator + Copy>(
-    alloc: A,
-    plan: &Plan<'_, A>,
-    inputs: &Inputs<'_>,
-    bases: Option<Vec<u8, A>>,
-    limit: u32,
-) -> Result<Session<A>, CliFault>
-    requires { limit ≤ most_records }
-    ensures ok { IfOk result (λ session.
-        loaded plan.now.width inputs.now.sizes.now inputs.now.first.now (option_copied inputs.now.other) (option_map (λ text. text.items) bases) limit ≡ Ok session) }
-    ensures err { IfErr result (λ fault. (fault ≡ CliFault.Memory) ⊎
-        (loaded plan.now.width inputs.now.sizes.now inputs.now.first.now (option_copied inputs.now.other) (option_map (λ text. text.items) bases) limit ≡ Err fault)) }
-{
-    let loading: Loading<Record<A>, A> = Loading::of_inputs(alloc, plan, inputs, limit);
-    loading.into_session(bases)
 }

@@ -60,7 +60,7 @@ pub fn read_all<A: Allocator + Copy, R: Source>(
 
 /// What is kept of the records of a BED file, and how many columns each of them has.
 #[derive(Drop)]
-pub(crate) struct KeptFile<K: FromRecord<A>, A: Allocator + Copy = Global> {
+pub struct KeptFile<K: FromRecord<A>, A: Allocator + Copy = Global> {
     width: u8,
     kept: Batches<K, A>,
 }
@@ -91,7 +91,7 @@ impl<K: FromRecord<A>, A: Allocator + Copy> KeptFile<K, A> {
 
 impl<A: Allocator + Copy> KeptFile<Record<A>, A> {
     /// The file with its records, of which all is kept.
-    pub(crate) fn into_bed(self) -> BedBatches<A>
+    pub fn into_bed(self) -> BedBatches<A>
         ensures { result ≡ self }
     {
         let KeptFile { width, kept } = self;
