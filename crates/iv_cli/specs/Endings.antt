@@ -4,18 +4,18 @@ use Rattle.std.specs.Option.{unwrap_or}
 use Rattle.std.specs.declared.io.ErrorKind.{ErrorKind}
 use Rattle.std.specs.declared.io.ErrorKind.TheVariants.{OutOfMemory}
 use Rattle.iv_text.specs.Fault.{fault_text, load_text}
+use Rattle.iv_text.specs.declared.fault.Fault.{Fault}
 use Rattle.iv_session.specs.declared.script.Summary.{Summary}
 use Rattle.iv_session.specs.declared.script.RunFault.{RunFault}
 use Rattle.iv_session.specs.declared.script.RunCause.{RunCause}
 use Rattle.iv_session.specs.declared.script.RunCause.TheVariants as cause
 use Rattle.iv_cli.specs.declared.ending.Ending.{Ending}
 use Rattle.iv_cli.specs.declared.ending.Ending.TheVariants as ending
+use Rattle.iv_run.specs.Loading.{fault_of_words}
 use Rattle.iv_run.specs.declared.fault.CliFault.{CliFault}
 use Rattle.iv_run.specs.declared.fault.CliFault.TheVariants as fault
 use Rattle.iv_run.specs.declared.fault.FileFault.{FileFault}
 use Rattle.iv_run.specs.declared.fault.FileFault.TheVariants as file
-use Rattle.iv_args.specs.declared.fault.PlanFault.{PlanFault}
-use Rattle.iv_args.specs.declared.fault.PlanFault.TheVariants as planning
 use Rattle.iv_args.specs.declared.plan.Slot.{Slot}
 use Rattle.iv_args.specs.Words.{RunPlan, file_of}
 
@@ -37,17 +37,16 @@ abbrev pub ending_of_kind : ErrorKind → Ending
 ending_of_kind OutOfMemory = ending.Memory
 ending_of_kind kind = ending.Words 16
 
--- the ending of words that are no plan
-abbrev pub ending_of_words : PlanFault → Ending
-ending_of_words planning.Words = ending.Words 16
-ending_of_words planning.Memory = ending.Memory
-
 -- the ending of a run with a fault
 abbrev pub ending_of : CliFault → Ending
 ending_of (fault.Words code) = ending.Words code
 ending_of (fault.Damaged slot damage) = ending.Damaged slot damage
 ending_of fault.Output = ending.Output
 ending_of fault.Memory = ending.Memory
+
+-- the ending of words that are no plan
+abbrev pub ending_of_words : Fault → Ending
+ending_of_words why = ending_of (fault_of_words why)
 
 -- the ending of a run whose file was not read
 abbrev pub ending_of_file : Slot → FileFault → Ending

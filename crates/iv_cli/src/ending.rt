@@ -4,11 +4,11 @@ ghost use Rattle.iv_bytes.specs.Sinks.{Puts};
 ghost use Rattle.iv_cli.specs.Endings.{status_of, ending_of, ending_of_run, ending_after, words_text as text_of_words, name_meant, said, said_of, said_of_line, line_of, is_through};
 
 use itoa::Buffer;
-use iv_args::{Plan, PlanFault, Slot};
+use iv_args::{Plan, Slot};
 use iv_bytes::{Sink, WriteFault, put_pieces};
 use iv_run::{CliFault, FileFault};
 use iv_session::{RunCause, RunFault, Summary};
-use iv_text::{LoadFault, fault_text, load_text};
+use iv_text::{Fault, LoadFault, fault_text, load_text};
 use std::alloc::{AllocError, Allocator};
 use std::io::{self, ErrorKind};
 
@@ -64,17 +64,15 @@ impl From<io::Error> for Ending {
     }
 }
 
-impl From<PlanFault> for Ending {
+/// The ending where the words are no plan, or memory was refused.
+impl From<Fault> for Ending {
     ghost use Rattle.std.specs.Prelude.{◌≡◌};
     ghost use Rattle.iv_cli.specs.Endings.{ending_of_words};
 
     ghost from_gives = { λ fault ending. ending ≡ ending_of_words fault };
 
-    fn from(fault: PlanFault) -> Ending {
-        match fault {
-            PlanFault::Words => Ending::Words(16),
-            PlanFault::Memory => Ending::Memory,
-        }
+    fn from(fault: Fault) -> Ending {
+        Ending::from(CliFault::from(fault))
     }
 }
 

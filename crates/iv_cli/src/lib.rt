@@ -5,5 +5,6 @@
 mod ending;
 
 pub use ending::{Ending, run_status, status};
-pub use iv_args::{Notice, Plan, PlanFault, Run, Slot};
+pub use iv_args::{Notice, Plan, Run, Slot};
 pub use iv_run::{CliFault, FileFault, Inputs, load, read_all, shot};
+pub use iv_text::Fault;
