@@ -16,11 +16,11 @@ use Rattle.iv_args.specs.Texts.{notice_text}
 use Rattle.iv_args.specs.Words.{RunPlan, IsPlan, is_session, run_of}
 use Rattle.iv_args.specs.declared.run.Run.{Run}
 use Rattle.std.specs.Option.{option_to_list}
-use Rattle.iv_args.specs.declared.fault.PlanFault.{PlanFault}
-use Rattle.iv_args.specs.declared.fault.PlanFault.TheVariants as planning
+use Rattle.iv_text.specs.declared.fault.Fault.{Fault}
+use Rattle.iv_text.specs.declared.fault.Fault.TheVariants as refused
 use Rattle.iv_args.specs.declared.notice.Notice.{Notice}
 use Rattle.iv_args.specs.declared.plan.Slot.{Slot}
-use Rattle.iv_run.specs.Loading.{IsReport, loaded}
+use Rattle.iv_run.specs.Loading.{IsReport, fault_of_words, loaded}
 use Rattle.iv_run.specs.Shots.{Shows, shown}
 use Rattle.iv_run.specs.declared.fault.CliFault.{CliFault}
 use Rattle.iv_run.specs.declared.fault.CliFault.TheVariants as fault
@@ -82,9 +82,8 @@ no-cause cause.Output e = cc e
 no-cause cause.Messages e = cc e
 no-cause cause.Memory e = cc e
 
-no-word-fault : (why : PlanFault) → ending.Done ≡ ending_of_words why → ⊥
-no-word-fault planning.Words e = cc e
-no-word-fault planning.Memory e = cc e
+no-word-fault : (why : Fault) → ending.Done ≡ ending_of_words why → ⊥
+no-word-fault why e = no-fault (fault_of_words why) e
 
 none-refused : (n : ℕ) (b : Bool) → (n == 0) ≡ b → ending.Done ≡ (if b then ending.Done else ending.Refused) → n ≡ 0
 none-refused n true t e = eqb-true n 0 t
@@ -172,8 +171,9 @@ notice-done words before after notice is ran = by ran.asked ran.ask ran.serves
             (then-flushed before.streams.output ran.reached.streams.output after.streams.output (notice_text said) took.1 ends.1)
         given said same (inr lost) = absurd (cc (sym lost.0 ∙ ends.0))
     by (Planned plan) ask serves = absurd (cc (sym ask.0 ∙ is))
-    by (Wrong planning.Words) ask serves = absurd (cc (sym ask.0 ∙ is))
-    by (Wrong planning.Memory) ask serves = absurd (cc (sym ask ∙ is))
+    by (Wrong refused.Words) ask serves = absurd (cc (sym ask.0 ∙ is))
+    by (Wrong refused.NoMemory) ask serves = absurd (cc (sym ask ∙ is))
+    by (Wrong other) ask serves = absurd ask
 
 -- ---- at most one plan fits words
 

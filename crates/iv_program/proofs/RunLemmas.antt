@@ -2,6 +2,8 @@
 use Rattle.std.proofs.Common.{◌≡◌, ◌⊎◌, inl, inr, ◌<◌, ◌≤◌, ◌^◌, ℕ, Bool, true, false, List, [], length, Option, None, Some, Result, Ok, Err, IfOk, IfErr, IfSome, refl, sym, ◌∙◌, subst, arith}
 use Rattle.iv_bytes.specs.Sinks.{SinkState}
 use Rattle.iv_bytes.specs.Sources.{SourceState}
+use Rattle.iv_text.specs.declared.fault.Fault.{Fault}
+use Rattle.iv_text.specs.declared.fault.Fault.TheVariants as refused
 use Rattle.iv_workspace.specs.States.{State}
 use Rattle.iv_session.specs.Endings.{Ran}
 use Rattle.iv_session.specs.Running.{Runs as LineRuns, RunsLast}
@@ -13,8 +15,6 @@ use Rattle.iv_session.specs.declared.script.Summary.{Summary}
 use Rattle.iv_args.specs.Notices.{notice_of}
 use Rattle.iv_args.specs.Texts.{notice_text}
 use Rattle.iv_args.specs.Words.{RunPlan, IsPlan, is_session}
-use Rattle.iv_args.specs.declared.fault.PlanFault.{PlanFault}
-use Rattle.iv_args.specs.declared.fault.PlanFault.TheVariants as planning
 use Rattle.iv_args.specs.declared.notice.Notice.{Notice}
 use Rattle.iv_args.specs.declared.plan.Slot.{Slot}
 use Rattle.iv_args.specs.declared.plan.Slot.TheVariants.{Sizes, First, Other, Bases}
@@ -184,8 +184,8 @@ module _ (words : List (List ℕ)) (status : ℕ) where
     input = refl;
   }
 
-  pub had-no-plan : (why : PlanFault) (files : FilesState) (input : SourceState) (o0 o1 s0 s1 : SinkState) (ended : Ending) → notice_of words ≡ None
-      → (why ≡ planning.Memory) ⊎ ((why ≡ planning.Words) × ((plan : RunPlan) → ¬ IsPlan words plan)) → ended ≡ ending_of_words why
+  pub had-no-plan : (why : Fault) (files : FilesState) (input : SourceState) (o0 o1 s0 s1 : SinkState) (ended : Ending) → notice_of words ≡ None
+      → (why ≡ refused.NoMemory) ⊎ ((why ≡ refused.Words) × ((plan : RunPlan) → ¬ IsPlan words plan)) → ended ≡ ending_of_words why
       → Finishes ended [] o0 o1 s0 s1 status → Runs words (world files input o0 s0) (world files input o1 s1) status
   had-no-plan why files input o0 o1 s0 s1 ended none is ended_is finishes = record {
     asked = Wrong why;
@@ -198,10 +198,6 @@ module _ (words : List (List ℕ)) (status : ℕ) where
     input = refl;
   }
     where
-      by : (why : PlanFault) → (why ≡ planning.Memory) ⊎ ((why ≡ planning.Words) × ((plan : RunPlan) → ¬ IsPlan words plan)) → Ask words (Wrong why)
-      by planning.Memory is = none
-      by planning.Words (inl memory) = absurd (never memory)
-        where
-          never : planning.Words ≡ planning.Memory → ⊥
-          never e = cc
-      by planning.Words (inr is) = (none, is.1)
+      by : (why : Fault) → (why ≡ refused.NoMemory) ⊎ ((why ≡ refused.Words) × ((plan : RunPlan) → ¬ IsPlan words plan)) → Ask words (Wrong why)
+      by why (inl memory) = subst (λ (f : Fault). Ask words (Wrong f)) (sym memory) none
+      by why (inr is) = subst (λ (f : Fault). Ask words (Wrong f)) (sym is.0) (none, is.1)

@@ -1,10 +1,10 @@
 -- A run of one subcommand that nothing hinders.
 use Rattle.std.proofs.Common.{◌≡◌, ◌<◌, inl, inr, ℕ, Bool, true, false, true≢false, List, [], length, Option, None, Some, Result, Ok, Err, IfSome, refl, sym, ap, ◌∙◌, subst, arith}
 use Rattle.iv_bytes.specs.Sinks.{SinkState, Takes}
+use Rattle.iv_text.specs.declared.fault.Fault.TheVariants as refused
 use Rattle.iv_session.specs.Streams.{Streams}
 use Rattle.iv_args.specs.Notices.{notice_of}
 use Rattle.iv_args.specs.Words.{RunPlan, IsPlan, file_of, is_session}
-use Rattle.iv_args.specs.declared.fault.PlanFault.TheVariants as planning
 use Rattle.iv_args.specs.declared.plan.Slot.{Slot}
 use Rattle.iv_args.specs.declared.plan.Slot.TheVariants.{Sizes, First, Other, Bases}
 use Rattle.iv_run.specs.Shots.{Shows, shown}
@@ -185,6 +185,7 @@ prints-just words before after plan texts status none is view hold ran sound had
     by (Planned other) ask serves finishes =
         let same : other ≡ plan = one-plan words other plan ask.1 is in
         of_plan (name_meant other ran.ended) (ap (λ (p : RunPlan). name_meant p ran.ended) same) (subst (λ (p : RunPlan). RunsPlan p before ran.reached ran.ended) same serves) finishes
-    by (Wrong planning.Words) ask serves finishes = absurd (ask.1 plan is)
-    by (Wrong planning.Memory) ask serves finishes = absurd (had_memory
+    by (Wrong refused.Words) ask serves finishes = absurd (ask.1 plan is)
+    by (Wrong refused.NoMemory) ask serves finishes = absurd (had_memory
         (status-of ran.ended [] ran.reached.streams.output after.streams.output ran.reached.streams.messages after.streams.messages status finishes sound.output sound.messages ∙ ap status_of serves.1))
+    by (Wrong why) ask serves finishes = absurd ask

@@ -2,12 +2,12 @@
 use Rattle.std.specs.Prelude.{◌≡◌, ℕ, ◌⊎◌, List, [], Bool, true, false, None, Some}
 use Rattle.iv_bytes.specs.Sinks.{SinkState, Takes, FailsIn}
 use Rattle.iv_bytes.specs.Sources.{SourceState}
+use Rattle.iv_text.specs.declared.fault.Fault.{Fault}
+use Rattle.iv_text.specs.declared.fault.Fault.TheVariants as refused
 use Rattle.iv_session.specs.Streams.{streams}
 use Rattle.iv_args.specs.Notices.{notice_of}
 use Rattle.iv_args.specs.Texts.{notice_text}
 use Rattle.iv_args.specs.Words.{RunPlan, IsPlan}
-use Rattle.iv_args.specs.declared.fault.PlanFault.{PlanFault}
-use Rattle.iv_args.specs.declared.fault.PlanFault.TheVariants as planning
 use Rattle.iv_args.specs.declared.notice.Notice.{Notice}
 use Rattle.iv_cli.specs.Endings.{ending_after, ending_of_words, is_through, line_of, name_meant, status_of}
 use Rattle.iv_cli.specs.declared.ending.Ending.{Ending}
@@ -22,14 +22,15 @@ world files input output messages = record { files = files; streams = streams in
 pub data Asked : Type 0 where
   Shown : Notice → Asked
   Planned : RunPlan → Asked
-  Wrong : PlanFault → Asked
+  Wrong : Fault → Asked
 
 -- these words ask for it: words that ask for a notice ask for no plan
 abbrev pub Ask : List (List ℕ) → Asked → Type 0
 Ask words (Shown notice) = notice_of words ≡ Some notice
 Ask words (Planned plan) = (notice_of words ≡ None) × IsPlan words plan
-Ask words (Wrong planning.Words) = (notice_of words ≡ None) × ((plan : RunPlan) → ¬ IsPlan words plan)
-Ask words (Wrong planning.Memory) = notice_of words ≡ None
+Ask words (Wrong refused.Words) = (notice_of words ≡ None) × ((plan : RunPlan) → ¬ IsPlan words plan)
+Ask words (Wrong refused.NoMemory) = notice_of words ≡ None
+Ask words (Wrong other) = ⊥
 
 -- a text was put, or the output failed in it
 abbrev pub Gives : SinkState → SinkState → List ℕ → Ending → Type 0
