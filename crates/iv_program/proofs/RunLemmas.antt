@@ -18,7 +18,8 @@ use Rattle.iv_args.specs.Words.{RunPlan, IsPlan, is_session}
 use Rattle.iv_args.specs.declared.notice.Notice.{Notice}
 use Rattle.iv_args.specs.declared.plan.Slot.{Slot}
 use Rattle.iv_args.specs.declared.plan.Slot.TheVariants.{Sizes, First, Other, Bases}
-use Rattle.iv_run.specs.Loading.{IsReport, loaded}
+use Rattle.iv_run.specs.Loading.{IsReport}
+use Rattle.iv_cli.specs.Loading.{loaded}
 use Rattle.iv_run.specs.SoFar.{SaysSecond, SoFar}
 use Rattle.iv_run.specs.declared.fault.CliFault.{CliFault}
 use Rattle.iv_run.specs.declared.fault.FileFault.{FileFault}

@@ -6,7 +6,7 @@ use Rattle.iv_session.specs.Running.{Runs as LineRuns}
 use Rattle.iv_session.specs.Scripts.{Done}
 use Rattle.iv_session.specs.Streams.{Streams}
 use Rattle.iv_args.specs.Words.{RunPlan, is_session}
-use Rattle.iv_run.specs.Loading.{loaded}
+use Rattle.iv_cli.specs.Loading.{loaded}
 use Rattle.iv_run.specs.Shots.{shown}
 use Rattle.iv_run.specs.declared.fault.CliFault.{CliFault}
 use Rattle.iv_cli.specs.Endings.{ending_of, line_of, name_meant, status_of}

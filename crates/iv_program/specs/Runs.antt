@@ -9,7 +9,8 @@ use Rattle.iv_session.specs.declared.script.RunFault.{RunFault}
 use Rattle.iv_session.specs.declared.script.Summary.{Summary}
 use Rattle.iv_args.specs.Words.{RunPlan, is_session}
 use Rattle.iv_args.specs.declared.plan.Slot.{Slot}
-use Rattle.iv_run.specs.Loading.{IsReport, loaded}
+use Rattle.iv_run.specs.Loading.{IsReport}
+use Rattle.iv_cli.specs.Loading.{loaded}
 use Rattle.iv_run.specs.Shots.{Shows, shown}
 use Rattle.iv_run.specs.SoFar.{SaysSecond, SoFar}
 use Rattle.iv_run.specs.declared.fault.CliFault.{CliFault}

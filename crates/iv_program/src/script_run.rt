@@ -10,7 +10,7 @@ ghost use Rattle.iv_program.specs.Texts.{Texts, AreTexts, StopsAt};
 use crate::files::{InputFiles, ReadFiles, SlotFault};
 use iv_args::Plan;
 use iv_bytes::{Sink, Source};
-use iv_cli::Ending;
+use iv_cli::{Ending, begin_session};
 use iv_session::{ScriptLimits, run_script};
 use iv_text::Record;
 use std::alloc::Allocator;
@@ -37,7 +37,7 @@ fn run_over<A: Allocator + Copy, R: Source, W: Sink, E: Sink>(
         (streams (R.state input.new) (W.state output.new) (E.state messages.new)) result }
 {
     let ReadFiles { loading, bases } = read;
-    let mut session = match loading.into_session(bases) {
+    let mut session = match begin_session(loading, bases) {
         Ok(session) => session,
         Err(fault) => return Ending::from(fault),
     };

@@ -12,7 +12,7 @@ use Rattle.iv_run.specs.declared.fault.CliFault.TheVariants.{Damaged, Memory}
 use Rattle.iv_args.specs.declared.plan.Slot.{Slot}
 use Rattle.iv_args.specs.declared.plan.Slot.TheVariants.{Sizes, First, Other, Bases}
 use Rattle.iv_fasta.specs.Fasta as Fasta
-use Rattle.iv_run.specs.Loading.{IsAnswer, IsReport, Parsed, loaded, session_of, parsed, bases_said, second_of, with_bases, with_second, with_first, with_genome, fault_of, damage_of}
+use Rattle.iv_run.specs.Loading.{IsAnswer, Parsed, parsed, bases_said, second_of, with_bases, with_second, with_first, with_genome, fault_of, damage_of}
 use Rattle.std.specs.Option.{option_map, option_transpose}
 use Rattle.iv_text.specs.KeptDrafts.{kept_bed, kept_bed_of, kept_or_fault}
 use Rattle.iv_text.specs.Read.{Fits}

@@ -63,13 +63,31 @@ impl PlacesView {
         }
     }
 
-    /// Puts the text of the view, for places in the order of a track that are on the genome.
+    /// Prints the text of the view, for places in the order of a track that are on the genome, through one buffer.
     ///
-    /// All memory is had before the first byte is put: room for a stop of each record for `genomecov`, and none for the others.
+    /// All memory is had before the first byte is printed: room for a stop of each record for `genomecov`, and none for the others.
     ///
     /// # Errors
     ///
-    /// `Memory`, and then nothing was put. `Output`, and then the sink has taken a prefix of the text. There is no other.
+    /// `Memory`, and then nothing was printed. `Output`, and then the sink has taken a prefix of the text. There is no other.
+    fn print<A: Allocator + Copy, S: Sink>(
+        self,
+        alloc: A,
+        spans: &[Span],
+        genome: &Genome<A>,
+        sink: &mut S,
+    ) -> Result<(), CliFault>
+        requires order { AreInOrder (span_rows spans.now) }
+        requires on_genome { All (IsOnGenome genome.now) (span_rows spans.now) }
+        ensures { (view : KeptView) → IsViewOf self view → Prints (S.state sink.old) (S.state sink.new) result (kept_text view genome.now (span_rows spans.now)) }
+    {
+        let mut buffer = Buffered::new(sink);
+        self.put(alloc, spans, genome, &mut buffer)?;
+        buffer.finish()?;
+        Ok(())
+    }
+
+    /// Puts the text of the view straight into the sink. Where memory is refused the sink is not touched.
     fn put<A: Allocator + Copy, S: Sink>(
         self,
         alloc: A,
@@ -92,7 +110,7 @@ impl PlacesView {
     }
 }
 
-/// Sorts the places of the first BED file, and prints a view of them through one buffer.
+/// Sorts the places of the first BED file, and prints a view of them.
 fn print_files<A: Allocator + Copy, S: Sink>(
     view: PlacesView,
     files: LoadedFiles<Span, A>,
@@ -110,10 +128,7 @@ fn print_files<A: Allocator + Copy, S: Sink>(
     } = files;
     let mut spans = first.into_spans()?;
     spans.sort();
-    let mut buffer = Buffered::new(sink);
-    view.put(alloc, spans.as_slice(), &genome, &mut buffer)?;
-    buffer.finish()?;
-    Ok(())
+    view.print(alloc, spans.as_slice(), &genome, sink)
 }
 
 impl<A: Allocator + Copy> Loading<Span, A> {

@@ -1,7 +1,8 @@
 //! Each growth of loading, refused in turn: from the bytes of the BED files, and from files that come in pieces.
 use crate::session_pieces::load_in_pieces;
 use iv_args::Plan;
-use iv_run::{CliFault, Inputs, load};
+use iv_cli::load;
+use iv_run::{CliFault, Inputs};
 use iv_workspace::Session;
 use std::alloc::Global;
 use std::test::Fail;

@@ -6,6 +6,7 @@ use crate::piece_fixtures::{damage, plan_of};
 use crate::shot_fixtures::GENOME;
 use iv_args::{Plan, Slot};
 use iv_bytes::MemSource;
+use iv_cli::begin_session;
 use iv_run::{CliFault, FileFault, Inputs, Loading};
 use iv_text::{LoadCause, Record, RecordFault};
 use iv_workspace::Session;
@@ -42,7 +43,7 @@ pub(crate) fn load_in_pieces<A: Allocator + Copy>(
     let mut pieces = MemSource::new(inputs.first, source.0, source.1.max(1));
     loading.read_first(&mut pieces, 10_000)?;
     read_second(&mut loading, inputs.other, source)?;
-    Ok(loading.into_session(bases))
+    Ok(begin_session(loading, bases))
 }
 
 /// A genome file whose only line is damaged.
