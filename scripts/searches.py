@@ -235,6 +235,7 @@ PLANTED = [
     ("iv_session", "impl From<u8> for EditFault { fn from(_: u8) -> EditFault { EditFault::NoMemory } }", MADE),
     ("iv_session", "fn f() -> EditFault { let fault = EditFault::NoMemory; fault }", MADE),
     ("iv_session", "const MAKE: fn(u8) -> EditFault = |_| EditFault::NoMemory;", MADE),
+    ("iv_session", "fn f() -> Result<(), PrintFault> { Err(PrintFault::Refused(Fault::NoMemory)) }", MADE),
     ("test_rows", "fn f() -> Result<(), AllocError> { Err(AllocError) }", MADE),
     ("bedkeep", "use iv_session::EditFault::NoMemory as Full;", OTHER_NAME),
     ("iv_text", "/// Memory was refused: `AllocError`.\nfn f<A>(a: A) -> Result<Vec<u8, A>, AllocError>\n    ensures { OnErr result (g.fault ≡ LoadCause.Memory) }\n{\n    g(\"Memory\")\n}", None),

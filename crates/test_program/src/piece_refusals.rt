@@ -2,9 +2,10 @@
 use crate::patterns::{Case, Texts, place_cases, texts_of};
 use crate::piece_fixtures::{Ended, SHORT, Setting, UNREAD, run_over};
 use crate::shot_fixtures::times_refused;
-use iv_args::{Plan, PlanFault};
+use iv_args::Plan;
 use iv_bytes::{MemSink, MemSource, StdSource};
 use iv_run::CliFault;
+use iv_text::Fault;
 use std::alloc::Global;
 use std::test::Fail;
 use test_faults::{Bad, Device, FAILURES, RefusesNth, refuse_each, words_of};
@@ -37,8 +38,8 @@ fn run(
 ) -> Result<bool, Fail> {
     match Plan::read(alloc, words) {
         Ok(plan) => is_refused(alloc, &plan, setting, text, piece, sink),
-        Err(PlanFault::Memory) => Ok(true),
-        Err(PlanFault::Words) => Err(Fail::new("other words")),
+        Err(Fault::NoMemory) => Ok(true),
+        Err(_) => Err(Fail::new("other words")),
     }
 }
 

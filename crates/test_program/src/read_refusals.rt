@@ -1,10 +1,9 @@
 //! Each growth of reading a file, of reading the words of a run and of beginning a session, refused in turn.
 use crate::shot_fixtures::times_refused;
-use iv_args::{Plan, PlanFault, Slot};
+use iv_args::{Plan, Slot};
 use iv_bytes::{MemSink, MemSource};
 use iv_run::{FileFault, read_all};
-use iv_text::{BedFile, Genome};
-use iv_view::ViewFault;
+use iv_text::{BedFile, Fault, Genome};
 use iv_workspace::{PrintFault, Session};
 use std::alloc::Global;
 use std::test::Fail;
@@ -75,7 +74,7 @@ fn is_merge<'a>(plan: &Plan<'_, &'a RefusesNth<Global>>) -> bool {
 }
 
 /// Whether reading those words gives their plan.
-fn is_plan_read(alloc: &RefusesNth<Global>) -> Result<bool, PlanFault> {
+fn is_plan_read(alloc: &RefusesNth<Global>) -> Result<bool, Fault> {
     let plan = Plan::read(alloc, &WORDS)?;
     Ok(is_merge(&plan))
 }
@@ -85,8 +84,8 @@ fn refused_plan(alloc: &RefusesNth<Global>) -> Result<u32, Fail> {
     match is_plan_read(alloc) {
         Ok(true) => Ok(0),
         Ok(false) => Err(Fail::new("another plan")),
-        Err(PlanFault::Memory) => Ok(1),
-        Err(PlanFault::Words) => Err(Fail::new("bad words")),
+        Err(Fault::NoMemory) => Ok(1),
+        Err(_) => Err(Fail::new("bad words")),
     }
 }
 
@@ -139,12 +138,12 @@ fn is_print_refused<'a>(
 ) -> Result<bool, Fail> {
     match session.open_view(b"v", &[b"intersect", b"-c"]) {
         Ok(()) => {}
-        Err(ViewFault::NoMemory) => return Ok(true),
+        Err(Fault::NoMemory) => return Ok(true),
         Err(_) => return Err(Fail::new("another fault of the view")),
     }
     match session.print_view(b"v", sink) {
         Ok(()) => Ok(false),
-        Err(PrintFault::NoMemory) => Ok(true),
+        Err(PrintFault::Refused(Fault::NoMemory)) => Ok(true),
         Err(_) => Err(Fail::new("another fault of the print")),
     }
 }

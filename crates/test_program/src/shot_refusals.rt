@@ -1,9 +1,10 @@
 //! Each growth of a run of one subcommand, refused in turn.
 use crate::patterns::{Case, cases, texts_of};
 use crate::shot_fixtures::{are_short, copied, times_refused};
-use iv_args::{Plan, PlanFault};
+use iv_args::Plan;
 use iv_bytes::MemSink;
 use iv_run::{CliFault, Inputs, shot};
+use iv_text::Fault;
 use std::alloc::Global;
 use std::test::Fail;
 use test_faults::{RefusesNth, refuse_each, words_of};
@@ -44,8 +45,8 @@ fn run<'a>(
 ) -> Result<bool, Fail> {
     match Plan::read(alloc, words) {
         Ok(plan) => is_refused(alloc, &plan, inputs, bases, sink),
-        Err(PlanFault::Memory) => Ok(true),
-        Err(PlanFault::Words) => Err(Fail::new("other words")),
+        Err(Fault::NoMemory) => Ok(true),
+        Err(_) => Err(Fail::new("other words")),
     }
 }
 

@@ -1,6 +1,7 @@
 //! Words of runs of one subcommand.
 use crate::piece_fixtures::plan_of;
-use iv_args::{Plan, PlanFault, Run, Slot};
+use iv_args::{Plan, Run, Slot};
+use iv_text::Fault;
 use std::test::Fail;
 use test_faults::words_of;
 
@@ -143,7 +144,7 @@ fn words_of_subcommands(rt: HostRuntime) -> Result<(), Fail> {
 
 /// Whether words are bad options.
 pub(crate) fn is_no_plan(rt: &HostRuntime, words: &[&[u8]]) -> bool {
-    Plan::read(rt.alloc(), words).err() == Some(PlanFault::Words)
+    Plan::read(rt.alloc(), words).err() == Some(Fault::Words)
 }
 
 /// The same of words that are separated by spaces.

@@ -1,5 +1,6 @@
 //! Prints of a session whose memory may be refused.
 use iv_bytes::MemSink;
+use iv_text::Fault;
 use iv_workspace::{PrintFault, Session};
 use std::alloc::Global;
 use std::test::Fail;
@@ -9,7 +10,7 @@ use test_faults::RefusesNth;
 fn is_refused(done: Result<(), PrintFault>, bytes: &[u8], want: &[u8]) -> Result<bool, Fail> {
     match done {
         Ok(()) if bytes == want => Ok(false),
-        Err(PrintFault::NoMemory) if bytes.is_empty() => Ok(true),
+        Err(PrintFault::Refused(Fault::NoMemory)) if bytes.is_empty() => Ok(true),
         _ => Err(Fail::new("another print")),
     }
 }

@@ -1,9 +1,9 @@
 //! The calls of a session, one by one.
 use crate::fixtures::{Edit, alone, answer, holds, in_session, prints, prints_into};
-use iv_text::RecordFault;
+use iv_text::{Fault, RecordFault};
 use iv_track::{EditFault, Meter};
 use iv_view::ViewFault;
-use iv_workspace::{NoView, PrintFault, Session};
+use iv_workspace::{PrintFault, Session};
 use std::test::Fail;
 
 /// The fault of an edit.
@@ -144,7 +144,12 @@ fn check_prints(rt: &HostRuntime, session: &mut Session) -> Result<(), Fail> {
     for (name, room, want, text) in [
         (Some(b"a".as_slice()), 99, None, &all[3..25]),
         (Some(b"b"), 7, Some(PrintFault::Write), b"chr1\t10"),
-        (Some(b"c"), 99, Some(PrintFault::NoView), b""),
+        (
+            Some(b"c"),
+            99,
+            Some(PrintFault::Refused(Fault::NoView)),
+            b"",
+        ),
         (None, 99, None, all),
         (None, 28, Some(PrintFault::Write), &all[..28]),
     ] {
@@ -164,7 +169,7 @@ fn prints_into_outputs(rt: HostRuntime) -> Result<(), Fail> {
 fn closes(session: &mut Session) -> Result<bool, Fail> {
     let is_added = fault_of(session, Edit::Add(b"chr1\t30\t31"))?.is_none();
     let is_current = session.is_current(b"a") && !session.is_current(b"c");
-    let is_absent = session.close_view(b"c") == Err(NoView);
+    let is_absent = session.close_view(b"c") == Err(Fault::NoView);
     let is_closed = session.close_view(b"a") == Ok(()) && !session.is_current(b"a");
     Ok(is_added && is_current && is_absent && is_closed)
 }
@@ -203,11 +208,11 @@ fn numbers_of_faults(rt: HostRuntime) {
         (ViewFault::NoStrand, 18),
         (ViewFault::NoSecond, 19),
         (ViewFault::NoFasta, 20),
+        (Fault::NoView, 21),
         (ViewFault::NoMemory, 22),
     ] {
         assert!(rt; fault.code() == code);
     }
-    assert!(rt; PrintFault::NoView.code() == Some(21) && PrintFault::NoMemory.code() == Some(22));
+    assert!(rt; PrintFault::Refused(Fault::NoView).code() == Some(21));
     assert!(rt; PrintFault::Write.code().is_none());
-    assert!(rt; NoView.code() == 21);
 }
