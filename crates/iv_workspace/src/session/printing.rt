@@ -26,9 +26,9 @@ impl<A: Allocator + Copy> Session<A> {
             (λ v. PrintedView self.old name.now v self.new (S.state sink.old) (S.state sink.new) result) }
     {
         let mut meter = Meter::new();
-        let Some(view) =
-            self.views
-                .refresh(name, self.alloc, &self.track, &self.genome, &mut meter)?
+        let Some(view) = self
+            .views
+            .refresh(name, self.alloc, &self.track, &self.genome, &mut meter)?
         else {
             return Err(PrintFault::Refused(Fault::NoView));
         };
