@@ -1,6 +1,6 @@
 pub mod Streams
 pub mod Written
-pub mod TrackEdits
+pub mod EditLines
 pub mod Requests
 pub mod Limits
 pub mod Running

@@ -11,7 +11,7 @@ use Rattle.iv_workspace.specs.States.{State, without_view}
 use Rattle.iv_workspace.specs.Resizes.{resized}
 use Rattle.iv_workspace.specs.Views.{view_named, Opens, RefusesOpen, all_text, print_code, text_in}
 use Rattle.iv_session.specs.Requests.{asked}
-use Rattle.iv_session.specs.TrackEdits.{IsEdited, RefusesIn}
+use Rattle.iv_workspace.specs.Edits.{IsEdited, RefusesIn}
 use Rattle.iv_session.specs.Written.{Written, printed, refused_by}
 use Rattle.iv_workspace.specs.declared.fault.PrintFault.{PrintFault}
 use Rattle.iv_session.specs.declared.request.Request.{Request}

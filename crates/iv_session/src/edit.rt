@@ -1,37 +1,15 @@
-//! Edits of the two tracks of a session.
-ghost use Rattle.std.specs.Prelude.{◌≡◌, ◌≢◌, ◌≤◌, Err, IfOk, IfErr, OnOk, OnErr};
+//! The edits that lines of a script say.
+ghost use Rattle.std.specs.Prelude.{◌≡◌, ◌≢◌, ◌≤◌, Err, IfOk};
 ghost use Rattle.iv_text.specs.Bytes.{tab};
 ghost use Rattle.iv_text.specs.Fields.{fields_left};
 ghost use Rattle.iv_text.specs.Read.{Fits, read_columns};
-ghost use Rattle.iv_session.specs.TrackEdits.{EditFits, FitsIn, IsEdited, RefusesIn, both, edit_said, read_two, width_of};
+ghost use Rattle.iv_workspace.specs.Edits.{EditFits};
+ghost use Rattle.iv_session.specs.EditLines.{both, edit_said, read_two};
 
 use crate::fields::split_columns;
 use iv_text::{Fault, Genome, RecordRef, read_record};
-use iv_workspace::{Accepted, Session};
+use iv_workspace::Edit;
 use std::alloc::Allocator;
-
-/// Which of the two tracks an edit is for: the session's own, or the second file.
-#[derive(Clone, Copy, Debug, PartialEq, Eq)]
-pub(crate) enum Target {
-    First,
-    Second,
-}
-
-impl Target {
-    /// How many columns the records of the track have, 3 to 6; or the fault that there is no second file.
-    pub(crate) fn width<A: Allocator + Copy>(self, session: &Session<A>) -> Result<u8, Fault>
-        ensures value { result ≡ width_of session.now self }
-        ensures known { IfOk result (λ width. (3 ≤ width) × (width ≤ 6)) }
-    {
-        match self {
-            Target::First => Ok(session.track().width()),
-            Target::Second => match session.second_width() {
-                Some(width) => Ok(width),
-                None => Err(Fault::NoSecond),
-            },
-        }
-    }
-}
 
 /// What an edit does, whatever its records are.
 #[derive(Clone, Copy, Debug, PartialEq, Eq)]
@@ -41,57 +19,23 @@ pub(crate) enum EditKind {
     Replace,
 }
 
-/// An edit of a track.
-#[derive(Drop)]
-pub(crate) enum Edit<'a> {
-    /// To add a record.
-    Add(RecordRef<'a>),
-    /// To take a copy of a record out.
-    Remove(RecordRef<'a>),
-    /// To take a copy of the first record out, and to add the second.
-    Replace(RecordRef<'a>, RecordRef<'a>),
-}
-
-impl<'a> Edit<'a> {
-    /// The edit that the columns after a command say, on a track of this width, or their first fault.
-    pub(crate) fn read<A: Allocator + Copy>(
-        genome: &Genome<A>,
-        width: u8,
-        kind: EditKind,
-        fields: Option<&'a [u8]>,
-    ) -> Result<Edit<'a>, Fault>
-        requires { (3 ≤ width) × (width ≤ 6) }
-        ensures value { result ≡ edit_said genome.now width kind (fields_left tab fields.entry) }
-        ensures fits { IfOk result (EditFits (Fits genome.now width)) }
-    {
-        match kind {
-            EditKind::Add => Ok(Edit::Add(one_row(genome, width, fields)?)),
-            EditKind::Remove => Ok(Edit::Remove(one_row(genome, width, fields)?)),
-            EditKind::Replace => {
-                let (old, new) = two_rows(genome, width, fields)?;
-                Ok(Edit::Replace(old, new))
-            }
-        }
-    }
-
-    /// Does the edit to a track of a session. A refusal changes nothing.
-    pub(crate) fn run<A: Allocator + Copy>(
-        &self,
-        session: &mut Session<A>,
-        target: Target,
-    ) -> Result<Accepted, Fault>
-        requires { EditFits (FitsIn session.old target) self.now }
-        ensures ok { OnOk result (IsEdited target self.now session.old session.new) }
-        ensures why { IfErr result (RefusesIn target self.now session.old) }
-        ensures err { OnErr result (session.new ≡ session.old) }
-    {
-        match (target, self) {
-            (Target::First, Edit::Add(row)) => session.add(row),
-            (Target::First, Edit::Remove(row)) => session.remove(row),
-            (Target::First, Edit::Replace(old, new)) => session.replace(old, new),
-            (Target::Second, Edit::Add(row)) => session.add_second(row),
-            (Target::Second, Edit::Remove(row)) => session.remove_second(row),
-            (Target::Second, Edit::Replace(old, new)) => session.replace_second(old, new),
+/// The edit that the columns after a command say, on a track of this width, or their first fault.
+pub(crate) fn read_edit<'a, A: Allocator + Copy>(
+    genome: &Genome<A>,
+    width: u8,
+    kind: EditKind,
+    fields: Option<&'a [u8]>,
+) -> Result<Edit<'a>, Fault>
+    requires { (3 ≤ width) × (width ≤ 6) }
+    ensures value { result ≡ edit_said genome.now width kind (fields_left tab fields.entry) }
+    ensures fits { IfOk result (EditFits (Fits genome.now width)) }
+{
+    match kind {
+        EditKind::Add => Ok(Edit::Add(one_row(genome, width, fields)?)),
+        EditKind::Remove => Ok(Edit::Remove(one_row(genome, width, fields)?)),
+        EditKind::Replace => {
+            let (old, new) = two_rows(genome, width, fields)?;
+            Ok(Edit::Replace(old, new))
         }
     }
 }

@@ -7,10 +7,10 @@ ghost use Rattle.iv_workspace.specs.States.{State};
 ghost use Rattle.iv_session.specs.Requests.{asked, asked_by, edit_asked, length_said, name_and_length, no_fields, of_fields, only_field, two_fields as two_fields_of, RequestFits};
 ghost use Rattle.iv_session.specs.declared.request.Request.TheVariants as request;
 
-use crate::edit::{Edit, EditKind, Target};
+use crate::edit::{EditKind, read_edit};
 use crate::fields::{Field, no_field, one_field, two_fields};
 use iv_text::{Fault, MOST_LENGTH, read_number, split_first_column};
-use iv_workspace::Session;
+use iv_workspace::{Edit, Session, Target};
 use std::alloc::Allocator;
 
 /// What a line asks for. Names, words and columns are in the line.
@@ -103,8 +103,8 @@ impl<'a> Request<'a> {
         ensures value { result ≡ edit_asked session.now target kind (fields_left tab fields.entry) }
         ensures fits { IfOk result (RequestFits session.now) }
     {
-        let width = target.width(session)?;
-        let edit = Edit::read(session.genome(), width, kind, fields)?;
+        let width = session.width_of(target)?;
+        let edit = read_edit(session.genome(), width, kind, fields)?;
         Ok(Request::Edit(target, edit))
     }
 

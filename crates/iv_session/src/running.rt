@@ -45,7 +45,7 @@ fn run_request<A: Allocator + Copy, W: Sink>(
     match request {
         Request::Nothing => Ok(()),
         Request::Edit(target, edit) => {
-            edit.run(session, target)?;
+            session.edit(target, &edit)?;
             Ok(())
         }
         Request::Resize(name, length) => {

@@ -1,12 +1,19 @@
--- What an edit of a session may be refused for beside its track, and the records of the second file.
-use Rattle.std.specs.Prelude.{ℕ, ◌≡◌, ◌<◌, List, Option, None, Some, Result, Err}
+-- Edits of the two tracks of a session: what an edit leaves, how many steps it takes, and why it is refused; and the records of the second file.
+use Rattle.std.specs.Prelude.{ℕ, ◌≡◌, ◌<◌, ◌⊎◌, ◌+◌, List, Option, None, Some, Result, Ok, Err, IsSomeAnd, length}
 use Rattle.iv_text.specs.Genome.{Sequences}
-use Rattle.iv_text.specs.Read.{read}
+use Rattle.iv_text.specs.Ordered.{added, copies}
+use Rattle.iv_text.specs.Read.{Fits, read}
 use Rattle.iv_text.specs.Row.{Row}
 use Rattle.iv_text.specs.declared.fault.Fault.{Fault}
 use Rattle.iv_text.specs.declared.fault.Fault.TheVariants as fault
+use Rattle.iv_track.specs.Edits.{RefusesAdd, RefusesRemove, RefusesReplace, with_record, without_record, with_replaced}
 use Rattle.iv_track.specs.Tracked.{Tracked}
-use Rattle.iv_workspace.specs.States.{State}
+use Rattle.iv_workspace.specs.OpenViews.{all_steps}
+use Rattle.iv_workspace.specs.States.{State, FitsSecond, IsButStale, with_track, with_second}
+use Rattle.iv_workspace.specs.declared.edit.Edit.{Edit}
+use Rattle.iv_workspace.specs.declared.edit.Edit.TheVariants as edit
+use Rattle.iv_workspace.specs.declared.edit.Target.{Target}
+use Rattle.iv_workspace.specs.declared.edit.Target.TheVariants as target
 
 -- memory ran out for a copy of a record of the line, which needs none at width 3
 abbrev pub RefusesCopy : Tracked → Fault → Type 0
@@ -20,3 +27,68 @@ read_beside g (Some t) line = read g t.width line
 -- the same at the width of the session's second file
 abbrev pub read_second : State → List ℕ → Result Row Fault
 read_second s line = read_beside s.genome s.second line
+
+-- the width of a second file, or that there is none
+abbrev pub width_beside : Option Tracked → Result ℕ Fault
+width_beside None = Err fault.NoSecond
+width_beside (Some t) = Ok t.width
+
+-- the width of the track that an edit is for
+abbrev pub width_of : State → Target → Result ℕ Fault
+width_of s target.First = Ok s.track.width
+width_of s target.Second = width_beside s.second
+
+-- a record fits the track that an edit is for
+abbrev pub FitsIn : State → Target → Row → Type 0
+FitsIn s target.First r = Fits s.genome s.track.width r
+FitsIn s target.Second r = FitsSecond s r
+
+-- each record of an edit fits
+abbrev pub EditFits : (Row → Type 0) → Edit → Type 0
+EditFits Fit (edit.Add r) = Fit r
+EditFits Fit (edit.Remove r) = Fit r
+EditFits Fit (edit.Replace r q) = Fit r × Fit q
+
+-- what an edit needs of its track: room for one more record, or a copy of the one that is taken out
+abbrev pub Allows : Edit → Tracked → Type 0
+Allows (edit.Add r) t = length t.rows < t.limit
+Allows (edit.Remove r) t = 0 < copies t.rows r
+Allows (edit.Replace r q) t = 0 < copies t.rows r
+
+-- the track after an edit
+abbrev pub edited : Edit → Tracked → Tracked
+edited (edit.Add r) = with_record r
+edited (edit.Remove r) = without_record r
+edited (edit.Replace r q) = with_replaced r q
+
+-- why an edit of a track is refused
+abbrev pub RefusesEdit : Edit → Tracked → Fault → Type 0
+RefusesEdit (edit.Add r) t f = RefusesCopy t f ⊎ RefusesAdd t r f
+RefusesEdit (edit.Remove r) t f = RefusesCopy t f ⊎ RefusesRemove t r f
+RefusesEdit (edit.Replace r q) t f = RefusesCopy t f ⊎ RefusesReplace t r q f
+
+-- the track that an edit is for has what it needs
+abbrev pub AllowsIn : Target → Edit → State → Type 0
+AllowsIn target.First e s = Allows e s.track
+AllowsIn target.Second e s = IsSomeAnd s.second (Allows e)
+
+-- an edit of a session's track leaves some views stale, one of its second file none
+abbrev pub IsLeft : Target → Edit → State → State → Type 0
+IsLeft target.First e old new = IsButStale (with_track old (edited e)) new
+IsLeft target.Second e old new = new ≡ with_second old (edited e)
+
+-- the edit is done
+abbrev pub IsEdited : Target → Edit → State → State → Type 0
+IsEdited to e old new = AllowsIn to e old × IsLeft to e old new
+
+-- the most steps that an edit takes: 8 in the track and those of the views for each record that comes or goes; 16 in the second file
+abbrev pub most_steps : Target → Edit → State → ℕ
+most_steps target.First (edit.Add r) s = 8 + all_steps s.views (added s.track.rows r) r
+most_steps target.First (edit.Remove r) s = 8 + all_steps s.views s.track.rows r
+most_steps target.First (edit.Replace r q) s = 8 + all_steps s.views (added s.track.rows q) q + all_steps s.views (added s.track.rows q) r
+most_steps target.Second e s = 16
+
+-- why an edit of a session's track, or of its second file, is refused
+abbrev pub RefusesIn : Target → Edit → State → Fault → Type 0
+RefusesIn target.First e s f = RefusesEdit e s.track f
+RefusesIn target.Second e s f = IsSomeAnd s.second (λ t. RefusesEdit e t f)

@@ -7,6 +7,7 @@ ghost use Rattle.iv_workspace.specs.ViewStates.{all_seen};
 ghost use Rattle.iv_workspace.specs.OpenViews.{stale_count};
 ghost use Rattle.iv_workspace.specs.States.{State, begun, tracked};
 
+mod edits;
 mod lengths;
 mod open_views;
 mod printing;

@@ -8,15 +8,15 @@ use Rattle.iv_session.proofs.running.run_request.Goals as goal
 pub returns-in-Nothing : goal.returns-in-Nothing
 returns-in-Nothing g c = rw c.in-Nothing.is (done-silent (Ok request.Nothing) c.args.session.now _ _ (refl, refl))
 
-pub returns-in_err-run-in-Edit : goal.returns-in_err-run-in-Edit
-returns-in_err-run-in-Edit g c =
+pub returns-in_err-edit-in-Edit : goal.returns-in_err-edit-in-Edit
+returns-in_err-edit-in-Edit g c =
     let p = err_from_is_err_and c.from_residual.result c.from_residual.ensures.1 in
     rw (p.1, p.2, c.in-Edit.is)
-    (refused (Ok (request.Edit c.in-Edit.target c.in-Edit.edit)) c.args.session.now _ _ c.in_err-run-in-Edit.field-0.0 c.in_err-run-in-Edit.ensures.why c.in_err-run-in-Edit.ensures.err)
+    (refused (Ok (request.Edit c.in-Edit.target c.in-Edit.edit)) c.args.session.now _ _ c.in_err-edit-in-Edit.field-0.0 c.in_err-edit-in-Edit.ensures.why c.in_err-edit-in-Edit.ensures.err)
 
-pub returns-in_ok-run-in-Edit : goal.returns-in_ok-run-in-Edit
-returns-in_ok-run-in-Edit g c =
-    rw c.in-Edit.is (done-silent (Ok (request.Edit c.in-Edit.target c.in-Edit.edit)) c.args.session.now _ _ (c.in_ok-run-in-Edit.ensures.ok, refl))
+pub returns-in_ok-edit-in-Edit : goal.returns-in_ok-edit-in-Edit
+returns-in_ok-edit-in-Edit g c =
+    rw c.in-Edit.is (done-silent (Ok (request.Edit c.in-Edit.target c.in-Edit.edit)) c.args.session.now _ _ ((c.in_ok-edit-in-Edit.ensures.allowed, c.in_ok-edit-in-Edit.ensures.ok), refl))
 
 pub returns-in_err-resize-in-Resize : goal.returns-in_err-resize-in-Resize
 returns-in_err-resize-in-Resize g c =

@@ -1,4 +1,4 @@
-use Rattle.iv_session.proofs.edit.Edit.run.Goals as goal
+use Rattle.iv_workspace.proofs.session.Session.edit.Goals as goal
 
 pub returns-in-First-Replace-clause-why : goal.returns-in-First-Replace-clause-why
 returns-in-First-Replace-clause-why g c = rw (c.in-First-Replace.is-0, c.in-First-Replace.is-1) c.replace.ensures.why
