@@ -17,6 +17,8 @@ zshdir = $(datadir)/zsh/site-functions
 INSTALL ?= install
 INSTALL_PROGRAM ?= $(INSTALL) -m 755
 INSTALL_DATA ?= $(INSTALL) -m 644
+# The Python package, which is installed below datadir/bedkeep: PYTHONPATH is then its folder python, or pip installs that.
+PACKAGE = python/pyproject.toml python/bedkeep/py.typed $(sort $(wildcard python/bedkeep/*.py))
 # What is installed below docdir, in the folders that it has here, so that links and the steps of the guide work there too.
 DOCUMENTS = README.md CHANGELOG.md LICENSE $(addprefix docs/,GUIDE.md BEDTOOLS.md FORMAT.md PROMISES.md BENCHMARKS.md speed.svg) \
 	$(shell find examples -type f ! -path '*/.snakemake/*' ! -name '*.pyc' ! -name corrected.bed | LC_ALL=C sort)
@@ -28,10 +30,10 @@ help:
 	@echo 'make try     in a minute, without a proof: the first session of the README, or a run of your own as in make try ARGS="merge -g sizes -i genes.bed"'
 	@echo 'make build   prove and build the program; it is left at $(PROGRAM)'
 	@echo 'make demo    build it, then run the scripts of examples/ over the files beside them'
-	@echo 'make install     put the built program, its man page and its completions below PREFIX (/usr/local)'
+	@echo 'make install     put the built program, its man page, its completions and the Python package below PREFIX (/usr/local)'
 	@echo 'make uninstall   take them away again'
 	@echo 'make dist    build it, then leave an archive and a Debian package of a release in build/'
-	@echo 'make test    the whole gate: searches, every proof from nothing, the wrong bodies, the tests, the stored run, a run through pipes, every exit, the examples, the steps of the guide, the options in the man page and the completions, random scripts while something goes wrong'
+	@echo 'make test    the whole gate: searches, every proof from nothing, the wrong bodies, the tests, the stored run, a run through pipes, every exit, the examples, the Python package, the steps of the guide, the options in the man page and the completions, random scripts while something goes wrong'
 	@echo 'make wrong-bodies   the wrong bodies that the gate leaves out, an hour or more'
 	@echo 'make clean   remove all that builds and proofs left behind'
 	@echo 'make help    this list'
@@ -59,11 +61,14 @@ install:
 		mode=644; test ! -x $$file || mode=755; \
 		$(INSTALL) -D -m $$mode $$file $(DESTDIR)$(docdir)/$$file; \
 	done
+	set -e; for file in $(PACKAGE); do $(INSTALL_DATA) -D $$file $(DESTDIR)$(datadir)/bedkeep/$$file; done
 
 uninstall:
 	rm -f $(addprefix $(DESTDIR),$(bindir)/bedkeep $(man1dir)/bedkeep.1 $(bashdir)/bedkeep $(zshdir)/_bedkeep)
 	rm -f $(addprefix $(DESTDIR)$(docdir)/,$(DOCUMENTS))
-	find $(DESTDIR)$(docdir) -depth -type d -empty -delete 2> /dev/null || true
+	rm -f $(addprefix $(DESTDIR)$(datadir)/bedkeep/,$(PACKAGE))
+	rm -rf $(DESTDIR)$(datadir)/bedkeep/python/bedkeep/__pycache__
+	find $(DESTDIR)$(docdir) $(DESTDIR)$(datadir)/bedkeep -depth -type d -empty -delete 2> /dev/null || true
 
 # It builds for itself, since a release is linked from the object file of the program.
 dist:
@@ -81,6 +86,7 @@ test:
 	scripts/exits.sh $(PROGRAM)
 	scripts/examples.sh $(PROGRAM)
 	scripts/at_scale.sh $(PROGRAM)
+	scripts/python.sh $(PROGRAM)
 	python3 scripts/options_agree.py $(PROGRAM)
 	python3 scripts/guide.py $(PROGRAM)
 	python3 scripts/hostile.py $(PROGRAM) --seed 1 --seconds 20

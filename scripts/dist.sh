@@ -88,7 +88,7 @@ dated "$stage/$name"
 made=("$name.tar.gz")
 
 # The unpacked program and documents: the first session of the README without an environment, the steps of the README and of
-# the guide, and the examples.
+# the guide, the examples, and the tests of the Python package.
 mkdir "$stage/unpacked"
 tar --extract --gzip --file="build/$name.tar.gz" --directory="$stage/unpacked"
 documents=$stage/unpacked/$name/share/doc/bedkeep
@@ -100,6 +100,7 @@ for document in README.md CHANGELOG.md LICENSE NOTICE docs/{GUIDE,BEDTOOLS,FORMA
 done
 python3 scripts/guide.py "$stage/unpacked/$name/bin/bedkeep" "$documents"
 scripts/examples.sh "$stage/unpacked/$name/bin/bedkeep" "$documents/examples"
+scripts/python.sh "$stage/unpacked/$name/bin/bedkeep" "$stage/unpacked/$name/share/bedkeep/python"
 printf 'chr1\t100\n' > "$stage/sizes"
 printf 'open\tm\tmerge\nadd\tchr1\t10\t20\nadd\tchr1\t15\t30\nprint\tm\n' > "$stage/script"
 said=$(env --ignore-environment "$stage/unpacked/$name/bin/bedkeep" session -g "$stage/sizes" -i /dev/null < "$stage/script")

@@ -6,7 +6,7 @@
 FOLDER has README.md, GUIDE.md or docs/GUIDE.md, and examples/: the sources, which is the default, or the documents of a
 release that was unpacked. A step is a block of commands, ```sh, and after it what it prints, ```text; a step without that
 prints nothing. The steps of a page run in their order, each by a bash of its own, in a temporary folder that has examples/,
-with the program on the path as bedkeep. Standard output and standard error go into one pipe, as they would to a terminal. A
+with the program on the path as bedkeep and the Python package on that of Python. Standard output and standard error go into one pipe, as they would to a terminal. A
 block of Python is the text of a file of examples/, and a block without a language is a picture. Status 1 where anything
 differs.
 """
@@ -38,7 +38,7 @@ def main():
             faults.append(f"{page} is not there")
             continue
         steps, wrong = read_page(page, top / "examples")
-        faults += wrong + run_page(page.name, steps, program, top / "examples")
+        faults += wrong + run_page(page.name, steps, program, top)
         done.append(f"{len(steps)} steps of {page.relative_to(top)}")
     for fault in faults:
         print(fault, file=sys.stderr)
@@ -67,13 +67,15 @@ def read_page(page, examples):
     return steps, faults
 
 
-def run_page(name, steps, program, examples):
+def run_page(name, steps, program, top):
     """Runs the steps of a page in a folder of their own, and says which of them print something else."""
     faults = []
     with tempfile.TemporaryDirectory() as here, tempfile.TemporaryDirectory() as path:
-        shutil.copytree(examples, Path(here) / "examples")
+        shutil.copytree(top / "examples", Path(here) / "examples")
         (Path(path) / "bedkeep").symlink_to(program)
-        environment = {**os.environ, "PATH": f"{path}:{os.environ['PATH']}"}
+        packages = f"{top / 'python'}:{top.parent.parent / 'bedkeep' / 'python'}"  # of the sources, or of a release
+        environment = {**os.environ, "PATH": f"{path}:{os.environ['PATH']}",
+                       "PYTHONPATH": packages, "PYTHONDONTWRITEBYTECODE": "1"}
         for line, commands, shown in steps:
             faults += differences(f"{name}, the step at line {line}:", shown, run(commands, here, environment))
     return faults

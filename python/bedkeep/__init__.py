@@ -1,0 +1,26 @@
+"""bedkeep from Python: sessions that stay open, and runs of one subcommand.
+
+    with bedkeep.Session("sizes", "genes.bed") as session:
+        session.add("chr1", 390, 500, "geneC")
+        for block in session.view("merge -d 10"):
+            print(block.chromosome, block.start, block.end)
+        session.save("corrected.bed")
+
+    for block in bedkeep.merge("sizes", "genes.bed", d=100):
+        ...
+
+A record is the columns of a BED line: chromosome, start, end, and then name, score and strand if the file has them. Start
+counts from 0, and end is not included. The program is the argument `program`, else what BEDKEEP in the environment names,
+else `bedkeep` on the path.
+"""
+from .errors import BadOptions, Damaged, Ended, Error, InputOutput, NoMemory, NotFound, Refused
+from .rows import Row, to_frame
+from .runs import cluster, complement, genomecov, getfasta, intersect, merge, subtract
+from .session import Session
+
+__version__ = "1.0.0"
+__all__ = [
+    "BadOptions", "Damaged", "Ended", "Error", "InputOutput", "NoMemory", "NotFound", "Refused",
+    "Row", "Session", "to_frame",
+    "cluster", "complement", "genomecov", "getfasta", "intersect", "merge", "subtract",
+]

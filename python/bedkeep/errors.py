@@ -1,0 +1,85 @@
+"""The exceptions of the package. Each is an Error."""
+from __future__ import annotations
+
+import re
+
+
+class Error(Exception):
+    """What the package raises of its own."""
+
+
+class NotFound(Error):
+    """The program isn't there."""
+
+
+class Refused(Error):
+    """A line was refused, and changed nothing.
+
+    reason: why, in the program's words, such as `no such record`
+    number: the line's number in the script that was handed to `edit`, from 1; 1 for a call that sends one line
+    line:   the line as it was sent, its fields separated by TABs
+    """
+
+    def __init__(self, reason: str, number: int, line: str) -> None:
+        super().__init__(reason, number, line)
+        self.reason = reason
+        self.number = number
+        self.line = line
+
+    def __str__(self) -> str:
+        return f"line {self.number}: {self.reason}: {self.line!r}"
+
+
+class Ended(Error):
+    """The program ended before it had answered.
+
+    status:  its exit status, or a signal's number below 0 if a signal ended it
+    message: the line that it wrote of that, without `bedkeep: `
+    """
+
+    def __init__(self, status: int, message: str) -> None:
+        super().__init__(status, message)
+        self.status = status
+        self.message = message
+
+    def __str__(self) -> str:
+        return f"{self.message} (status {self.status})"
+
+
+class BadOptions(Ended):
+    """Status 2: an option, a value or a column that the subcommand doesn't take."""
+
+
+class Damaged(Ended):
+    """Status 3: a line of a file is damaged.
+
+    file:   the file's name as it was given
+    line:   the line's number, from 1
+    reason: why, in the program's words
+    """
+
+    def __init__(self, status: int, message: str) -> None:
+        super().__init__(status, message)
+        parts = re.fullmatch(r"(.*): line (\d+): (.*)", message, re.DOTALL)
+        self.file, line, self.reason = parts.groups() if parts else ("", "0", message)
+        self.line = int(line)
+
+
+class InputOutput(Ended):
+    """Status 4: a file, the script or the output can't be read or written, or is too long."""
+
+
+class NoMemory(Ended):
+    """Status 5: memory ran out."""
+
+
+BY_STATUS = {2: BadOptions, 3: Damaged, 4: InputOutput, 5: NoMemory}
+
+
+def ended(status: int, messages: str) -> Ended:
+    """The exception for an exit status and all that was written to standard error."""
+    last = messages.rstrip("\n").rpartition("\n")[2]
+    message = last[len("bedkeep: "):] if last.startswith("bedkeep: ") else ""
+    if not message:
+        message = f"ended by signal {-status}" if status < 0 else "ended without a message"
+    return BY_STATUS.get(status, Ended)(status, message)

@@ -1,0 +1,29 @@
+"""The path of the program, and texts of bytes in any encoding."""
+from __future__ import annotations
+
+import os
+import shutil
+from typing import Optional, Union
+
+from .errors import NotFound
+
+Path = Union[str, "os.PathLike[str]"]
+
+
+def find(program: Optional[Path]) -> str:
+    """The path of the program: the argument, else what BEDKEEP names, else `bedkeep` on the path."""
+    name = os.fspath(program) if program is not None else os.environ.get("BEDKEEP") or "bedkeep"
+    path = shutil.which(name)
+    if path is None:
+        raise NotFound(f"no program {name!r}: give program=.., set BEDKEEP, or put bedkeep on the path")
+    return path
+
+
+def decoded(text: bytes) -> str:
+    """The text of bytes in any encoding; `encoded` gives the same bytes again."""
+    return text.decode("utf-8", "surrogateescape")
+
+
+def encoded(text: str) -> bytes:
+    """The bytes of a text."""
+    return text.encode("utf-8", "surrogateescape")

@@ -1,0 +1,63 @@
+"""What the tests share: a folder of files for each, and the program that BEDKEEP names."""
+import os
+import subprocess
+import tempfile
+import unittest
+from pathlib import Path
+
+import bedkeep
+
+PROGRAM = os.environ["BEDKEEP"]
+EXAMPLES = Path(__file__).resolve().parent.parent.parent / "examples"
+
+
+class Case(unittest.TestCase):
+    """A test in a folder of its own, with a small genome, a track of four columns and a mask."""
+
+    def setUp(self):
+        folder = tempfile.TemporaryDirectory()
+        self.addCleanup(folder.cleanup)
+        self.folder = Path(folder.name)
+        self.sizes = self.file("sizes", "chr1\t1000\nchr2\t500\n")
+        self.genes = self.file("genes.bed", "chr1\t100\t200\tgeneA\nchr1\t300\t400\tgeneB\n")
+        self.mask = self.file("mask.bed", "chr1\t150\t350\n")
+        self.bases = self.file("bases.fa", ">chr1\n" + "ACGTT" * 200 + "\n>chr2\n" + "G" * 500 + "\n")
+
+    def file(self, name, text):
+        path = self.folder / name
+        path.write_bytes(text if isinstance(text, bytes) else text.encode())
+        return path
+
+    def script(self, name, text):
+        """A program of the shell, for the argument `program`."""
+        path = self.file(name, f"#!/bin/bash\n{text}\n")
+        path.chmod(0o755)
+        return path
+
+    def session(self, **options):
+        session = bedkeep.Session(self.sizes, self.genes, **options)
+        self.addCleanup(session.end)
+        return session
+
+    def refused(self, reason, number=1):
+        """A context in which a line has to be refused for this reason."""
+        return self.assertRaisesRegex(bedkeep.Refused, f"^line {number}: {reason}: ")
+
+
+def printed(*words, **options):
+    """The rows of a run, as lists of text."""
+    run = subprocess.run([PROGRAM, *map(str, words)], stdout=subprocess.PIPE, check=True, **options)
+    return [row.split("\t") for row in run.stdout.decode().split("\n")[:-1]]
+
+
+def texts(rows):
+    """Rows of the package as lists of text."""
+    return [["." if column is None else str(column) for column in row] for row in rows]
+
+
+def many(folder, count, length=10 ** 9):
+    """The files of a genome of one sequence and of so many records of four columns, in their order."""
+    sizes, bed = folder / "long", folder / "many.bed"
+    sizes.write_text(f"chr1\t{length}\n")
+    bed.write_text("".join(f"chr1\t{10 * number}\t{10 * number + 15}\tg{number % 100}\n" for number in range(count)))
+    return sizes, bed

@@ -1,0 +1,536 @@
+import os
+import pickle
+import random
+import signal
+import sys
+import threading
+import time
+import types
+from collections import Counter
+from unittest import mock
+
+import bedkeep
+from bedkeep.conversation import Exchange
+from bedkeep.rows import Reader
+from helpers import EXAMPLES, Case, many
+
+
+class Edits(Case):
+    def test_records_as_columns_and_as_one_sequence(self):
+        with self.session() as session:
+            session.add("chr2", 5, 10, "x")
+            session.add(("chr2", 5, 10, "x"))
+            session.add(["chr2", "7", "9", "y"])
+            session.remove("chr2", 5, 10, "x")
+            first = session.records()[0]
+            session.replace(first, first._replace(end=250))
+            self.assertEqual(session.records(), [
+                ("chr1", 100, 250, "geneA"), ("chr1", 300, 400, "geneB"), ("chr2", 5, 10, "x"), ("chr2", 7, 9, "y")])
+
+    def test_the_width_is_that_of_the_file(self):
+        for width in range(3, 7):
+            line = "\t".join(["chr1", "1", "2", "n", "0", "+"][:width])
+            bed = self.file("width.bed", f"# a comment\n{line}\n")
+            with bedkeep.Session(self.sizes, bed) as session:
+                self.assertEqual(session.width, width)
+                self.assertEqual(session.records()[0]._fields, bedkeep.rows.RECORD[:width])
+            with bedkeep.Session(self.sizes, os.devnull, width=width) as session:
+                self.assertEqual(session.width, width)
+                self.assertEqual(session.records(), [])
+
+    def test_edits_of_the_second_file(self):
+        with self.session(second=self.mask) as session:
+            session.add_second("chr1", 0, 110)
+            session.remove_second("chr1", 150, 350)
+            session.replace_second(("chr1", 0, 110), ("chr1", 0, 120))
+            self.assertEqual(session.view("intersect"), [("chr1", 100, 120, "geneA")])
+            with self.refused("no such record"):
+                session.remove_second("chr1", 150, 350)
+        with self.session() as session, self.refused("no second file"):
+            session.add_second("chr1", 0, 110)
+
+    def test_a_refused_edit_changes_nothing(self):
+        with self.session() as session:
+            before = session.records()
+            for record, reason in (
+                (("chr1", 1, 1001, "x"), "end past the sequence's end"), (("chr9", 1, 2, "x"), "unknown sequence"),
+                (("chr1", 2, 2, "x"), "start not below end"), (("chr1", 1, 2), "wrong number of columns"),
+                (("chr1", 1.5, 2, "x"), "start is not a number"), (("chr1", 1, 2, ""), "bad name"),
+            ):
+                with self.refused(reason):
+                    session.add(record)
+            with self.refused("no such record"):
+                session.remove("chr1", 100, 200, "geneB")
+            with self.refused("no such record"):
+                session.replace(("chr1", 1, 2, "x"), ("chr1", 1, 3, "x"))
+            self.assertEqual(session.records(), before)
+            self.assertEqual(session.script(), "")
+
+    def test_what_a_refusal_says(self):
+        with self.session() as session:
+            with self.assertRaises(bedkeep.Refused) as caught:
+                session.remove("chr1", 1, 2, "x")
+            refused = caught.exception
+            self.assertEqual((refused.reason, refused.number, refused.line), ("no such record", 1, "remove\tchr1\t1\t2\tx"))
+            self.assertIsInstance(refused, bedkeep.Error)
+            self.assertEqual(str(pickle.loads(pickle.dumps(refused))), str(refused))
+
+    def test_no_field_can_become_another_line(self):
+        with self.session() as session:
+            for name in "x\tadd", "x\nadd\tchr1\t1\t2\tx", "x\r":
+                with self.assertRaises(ValueError):
+                    session.add("chr1", 1, 2, name)
+            with self.assertRaises(ValueError):
+                session.edit(["add\tchr1\t1\t2\tx\nadd\tchr1\t1\t2\ty"])
+            self.assertEqual(len(session.records()), 2)
+
+    def test_bytes_of_any_encoding(self):
+        bed = self.file("bytes.bed", b"chr1\t1\t2\t\xff\xfe\x85\nchr1\t3\t4\t\xe2\x80\xa8\x1c\n")
+        with bedkeep.Session(self.sizes, bed) as session:
+            session.add(session.records()[0])
+            session.save(self.folder / "saved.bed")
+        self.assertEqual((self.folder / "saved.bed").read_bytes(),
+                         b"chr1\t1\t2\t\xff\xfe\x85\n" * 2 + b"chr1\t3\t4\t\xe2\x80\xa8\x1c\n")
+
+
+class Scripts(Case):
+    def test_many_edits_at_once(self):
+        with self.session() as session:
+            refused = session.edit(
+                "# geneA ends later\r\nreplace\tchr1\t100\t200\tgeneA\tchr1\t100\t250\tgeneA\r\n\n"
+                "remove\tchr1\t300\t401\tgeneB\nhelp\nadd\tchr2\t1\t2\tlast")
+            self.assertEqual([(one.number, one.reason, one.line) for one in refused], [
+                (4, "no such record", "remove\tchr1\t300\t401\tgeneB"), (5, "no such command or wrong fields", "help")])
+            self.assertEqual(session.script(), "# geneA ends later\nreplace\tchr1\t100\t200\tgeneA\tchr1\t100\t250\tgeneA\n\n"
+                                               "add\tchr2\t1\t2\tlast\n")
+            self.assertEqual(session.edit(iter(["add\tchr2\t3\t4\tx\n", "bad"]))[0].number, 2)
+            self.assertEqual(session.edit([]), [])
+            self.assertEqual(session.edit(""), [])
+            after = session.records()
+        with self.session() as again:
+            self.assertEqual(again.edit(session.script()), [])
+            self.assertEqual(again.records(), after)
+
+    def test_an_open_file(self):
+        with self.session() as session, open(EXAMPLES / "first" / "corrections") as corrections:
+            self.assertEqual([(one.number, one.reason) for one in session.edit(corrections)], [(6, "no such record")])
+
+    def test_views_are_no_edits(self):
+        with self.session() as session:
+            for line in "open\tm\tmerge", "close\tm", "print\tm", "printall":
+                with self.assertRaises(ValueError):
+                    session.edit(["add\tchr1\t1\t2\tx", line])
+            self.assertEqual(session.script(), "")
+
+    def test_undo_takes_each_edit_back(self):
+        with self.session(second=self.mask) as session:
+            looks = [(session.records(), session.view("intersect -wb"), session.view("complement"))]
+            for edit, words in (
+                (session.add, ("chr1", 5, 6, "x")), (session.remove, ("chr1", 100, 200, "geneA")),
+                (session.replace, (("chr1", 300, 400, "geneB"), ("chr2", 1, 500, "y"))),
+                (session.add_second, ("chr1", 380, 390)), (session.remove_second, ("chr1", 150, 350)),
+                (session.replace_second, (("chr1", 380, 390), ("chr2", 5, 6))), (session.resize, ("chr2", 700)),
+                (session.resize, ("chr2", 900)), (session.resize, ("chr1", 450)),
+            ):
+                edit(*words)
+                looks.append((session.records(), session.view("intersect -wb"), session.view("complement")))
+            session.edit(["# no edit", ""])
+            for look in reversed(looks[:-1]):
+                session.undo()
+                self.assertEqual((session.records(), session.view("intersect -wb"), session.view("complement")), look)
+            self.assertEqual(session.script(), "# no edit\n\n")
+            with self.assertRaises(IndexError):
+                session.undo()
+
+    def test_undo_of_resize_over_a_genome_file_with_comments(self):
+        self.sizes = self.file("sizes", "#chr1\t7\nchrom\tsize\nchr1\t1000\tmore\r\nchr2\t500\r\n")
+        with self.session() as session:
+            session.resize("chr2", 400)
+            session.resize("chr1", 900)
+            session.undo()
+            session.undo()
+            self.assertEqual([row.end for row in session.view("complement")], [100, 300, 1000, 500])
+
+    def test_undo_of_resize_over_a_genome_file_from_a_pipe(self):
+        reader, writer = os.pipe()
+        os.write(writer, b"chr1\t1000\n")
+        os.close(writer)
+        program = self.script("program", f'exec "$BEDKEEP" session -g <(printf "chr1\\t1000\\n") "${{@:4}}"')
+        with bedkeep.Session(f"/dev/fd/{reader}", self.genes, program=program) as session:
+            session.resize("chr1", 2000)
+            session.resize("chr1", 3000)
+            session.undo()
+            with self.assertRaises(ValueError):
+                session.undo()
+        os.close(reader)
+
+
+class Views(Case):
+    def test_open_rows_close(self):
+        with self.session() as session:
+            session.open("m", "merge  -d 100 -c 4,1 -o collapse,count")
+            row = session.rows("m")[0]
+            self.assertEqual(row, ("chr1", 100, 400, "geneA,geneB", 2))
+            self.assertEqual((row.start, row.collapse_4, row.count_1), (100, "geneA,geneB", 2))
+            with self.refused("view name taken"):
+                session.open("m", "cluster")
+            session.close("m")
+            for call in session.rows, session.close:
+                with self.refused("no such view"):
+                    call("m")
+            with self.refused("bad view name"):
+                session.open("", "merge")
+            with self.refused("bad options"):
+                session.open("m", "merge -x")
+            with self.assertRaises(ValueError):
+                session.open("m", "merge\n")
+
+    def test_a_view_stays_open(self):
+        with self.session() as session:
+            self.assertEqual(session.view("merge -d 100"), [("chr1", 100, 400)])
+            session.remove("chr1", 300, 400, "geneB")
+            with mock.patch.object(session, "open") as opened:
+                self.assertEqual(session.view(" merge  -d 100"), [("chr1", 100, 200)])
+            opened.assert_not_called()
+            with self.refused("bad options"):
+                session.view("merge -x")
+            with self.refused("no second file"):
+                session.view("intersect")
+
+    def test_more_views_than_can_be_open(self):
+        with self.session() as session:
+            session.open("mine", "merge")
+            for distance in range(100):
+                self.assertEqual(len(session.view(f"merge -d {distance}")), 2 if distance < 100 else 1)
+            self.assertEqual(session.rows("mine"), [("chr1", 100, 200), ("chr1", 300, 400)])
+            session.close(session._views["merge -d 99"])
+            self.assertEqual(len(session.view("merge -d 99")), 2)
+            self.assertEqual(len(session.records()), 2)
+
+    def test_the_names_and_numbers_of_each_view(self):
+        coding = self.file("coding.bed", "chr1\t10\t20\ta\t7\t+\nchr1\t15\t30\tb\t2.5\t-\n")
+        with bedkeep.Session(self.sizes, coding, second=self.mask, fasta=self.bases) as session:
+            session.add_second("chr1", 0, 12)
+            record = ("chr1", 10, 20, "a", "7", "+")
+            fields = ("chromosome", "start", "end", "name", "score", "strand")
+            second = ("second_chromosome", "second_start", "second_end")
+            for words, names, row in (
+                ("merge", fields[:3], ("chr1", 10, 30)), ("merge -s", fields[:3], ("chr1", 10, 20)),
+                ("merge -s -c 5", (*fields[:3], "sum_5"), ("chr1", 10, 20, 7)),
+                ("merge -o max -c 05", (*fields[:3], "max_5"), ("chr1", 10, 30, None)),
+                ("merge -c 4 -o count,distinct", (*fields[:3], "count_4", "distinct_4"), ("chr1", 10, 30, 2, "a,b")),
+                ("merge -c 4,4 -o count", (*fields[:3], "count_4", "_4"), ("chr1", 10, 30, 2, 2)),
+                ("cluster", (*fields, "block"), (*record, 1)), ("complement", fields[:3], ("chr1", 0, 10)),
+                ("genomecov -bg", (*fields[:3], "depth"), ("chr1", 10, 15, 1)),
+                ("genomecov -bga", (*fields[:3], "depth"), ("chr1", 0, 10, 0)),
+                ("genomecov -d", ("chromosome", "position", "depth"), ("chr1", 1, 0)),
+                ("intersect", fields, ("chr1", 10, 12, "a", "7", "+")), ("intersect -wa", fields, record),
+                ("intersect -u", fields, record), ("intersect -v", fields, ("chr1", 15, 30, "b", "2.5", "-")),
+                ("intersect -c", (*fields, "hits"), (*record, 1)),
+                ("intersect -wa -wb", (*fields, *second), (*record, "chr1", 0, 12)),
+                ("intersect -wb", (*fields, *second), ("chr1", 10, 12, "a", "7", "+", "chr1", 0, 12)),
+                ("subtract", fields, ("chr1", 12, 20, "a", "7", "+")),
+                ("subtract -A", fields, ("chr1", 15, 30, "b", "2.5", "-")),
+                ("getfasta", (*fields[:3], "bases"), ("chr1", 10, 20, "ACGTTACGTT")),
+                ("getfasta -tab -s", (*fields[:3], "strand", "bases"), ("chr1", 10, 20, "+", "ACGTTACGTT")),
+            ):
+                with self.subTest(words):
+                    found = session.view(words)[0]
+                    self.assertEqual(found, row)
+                    self.assertEqual(found._fields, names)
+                    self.assertEqual([type(one) for one in found], [type(one) for one in row])
+                    self.assertEqual(pickle.loads(pickle.dumps(found)), found)
+            self.assertEqual(session.view("getfasta -s")[1], ("chr1", 15, 30, "-", "AACGTAACGTAACGT"))
+
+    def test_to_frame(self):
+        pandas = types.ModuleType("pandas")
+        pandas.DataFrame = types.SimpleNamespace(from_records=lambda rows, columns: (list(columns or []), list(rows)))
+        with self.session() as session, mock.patch.dict(sys.modules, pandas=pandas):
+            self.assertEqual(session.to_frame("merge"), (["chromosome", "start", "end"], session.view("merge")))
+            self.assertEqual(session.to_frame()[1], session.records())
+            self.assertEqual(bedkeep.to_frame(iter([])), ([], []))
+        with self.session() as session, mock.patch.dict(sys.modules, pandas=None), self.assertRaises(ImportError):
+            session.to_frame()
+
+
+class Saving(Case):
+    def test_a_saved_file_is_the_track(self):
+        target, link = self.folder / "corrected.bed", self.folder / "link.bed"
+        target.write_text("old\n")
+        target.chmod(0o640)
+        link.symlink_to(target)
+        with self.session(second=self.mask) as session:
+            session.add("chr2", 3, 4, "12")
+            session.add("chr2", 3, 4, "12")
+            session.save(link)
+            self.assertEqual(target.read_text(), "".join("\t".join(map(str, row)) + "\n" for row in session.records()))
+            self.assertEqual(target.stat().st_mode & 0o777, 0o640)
+            self.assertTrue(link.is_symlink())
+            session.save(str(self.folder / "new.bed"))
+        with bedkeep.Session(self.sizes, target) as again:
+            self.assertEqual(again.records(), session_records(session, self))
+
+    def test_a_save_that_fails_leaves_both_as_they_were(self):
+        with self.session() as session:
+            before = sorted(os.listdir(self.folder))
+            with self.assertRaises(FileNotFoundError):
+                session.save(self.folder / "absent" / "x.bed")
+            with mock.patch("bedkeep.session._without_block", side_effect=OSError("no space")), self.assertRaises(OSError):
+                session.save(self.folder / "x.bed")
+            self.assertEqual(sorted(os.listdir(self.folder)), before)
+            session.add("chr1", 1, 2, "x")
+            self.assertEqual(len(session.records()), 3)
+
+
+def session_records(session, case):
+    """The records that the session's script leaves, from a new session."""
+    with case.session() as again:
+        again.edit(session.script())
+        return again.records()
+
+
+class Ends(Case):
+    def test_what_keeps_a_session_from_beginning(self):
+        damaged = self.file("damaged: line 7: x.bed", "chr1\t1\t2\nchr1\t5\t3\n")
+        with self.assertRaises(bedkeep.Damaged) as caught:
+            bedkeep.Session(self.sizes, damaged)
+        self.assertEqual((caught.exception.file, caught.exception.line, caught.exception.reason, caught.exception.status),
+                         (str(damaged), 2, "start not below end", 3))
+        self.assertEqual(str(pickle.loads(pickle.dumps(caught.exception))), str(caught.exception))
+        for error, status, message, options in (
+            (bedkeep.BadOptions, 2, "bad options", {"width": 9}),
+            (bedkeep.InputOutput, 4, f"{self.folder}: cannot be read", {"second": self.folder}),
+            (bedkeep.Damaged, 3, f"{self.genes}: line 1: bases before a header", {"fasta": self.genes}),
+        ):
+            with self.assertRaises(error) as caught:
+                self.session(**options)
+            self.assertEqual((caught.exception.status, caught.exception.message), (status, message))
+            self.assertIsInstance(caught.exception, bedkeep.Ended)
+        with self.assertRaises(ValueError):
+            bedkeep.Session(self.sizes, "/dev/stdin")
+
+    def test_where_the_program_is(self):
+        for program in self.folder / "absent", self.sizes:
+            with self.assertRaises(bedkeep.NotFound):
+                self.session(program=program)
+        with mock.patch.dict(os.environ, BEDKEEP="absent"), self.assertRaises(bedkeep.NotFound):
+            self.session()
+        (self.folder / "bedkeep").symlink_to(os.environ["BEDKEEP"])
+        with mock.patch.dict(os.environ, PATH=str(self.folder), BEDKEEP=""):
+            self.assertEqual(len(self.session().records()), 2)
+
+    def test_no_memory(self):
+        program = self.script("small", 'ulimit -v 8000\nexec "$BEDKEEP" "$@"')
+        self.sizes, self.genes = many(self.folder, 300_000)
+        with self.assertRaises(bedkeep.NoMemory) as caught:
+            self.session(program=program)
+        self.assertEqual((caught.exception.status, caught.exception.message), (5, "no memory"))
+
+    def test_a_line_that_is_too_long(self):
+        with self.session() as session:
+            session.add("chr1", 1, 2, "x")
+            with self.assertRaises(bedkeep.InputOutput) as caught:
+                session.add("chr1", 1, 2, "x" * (1 << 20))
+            self.assertEqual((caught.exception.status, caught.exception.message), (4, "input too long"))
+            self.assertEqual(session.script(), "add\tchr1\t1\t2\tx\n")
+
+    def test_killed_between_two_calls(self):
+        with self.session() as session:
+            session.add("chr1", 1, 2, "x")
+            os.kill(session._talk._process.pid, signal.SIGKILL)
+            for call in session.records, session.records, lambda: session.edit(["add\tchr1\t1\t2\tx"] * 100_000), session.undo:
+                with self.assertRaises(bedkeep.Ended) as caught:
+                    call()
+                self.assertEqual((caught.exception.status, caught.exception.message), (-9, "ended by signal 9"))
+            self.assertEqual(session.script(), "add\tchr1\t1\t2\tx\n")
+
+    def test_killed_in_the_middle_of_an_answer(self):
+        with self.session() as session:
+            session.edit(f"add\tchr1\t{number % 900}\t1000\tx" for number in range(100_000))
+            session.open("all", "cluster")
+            rows = Reader.rows
+
+            def kill_first(reader, lines):
+                os.kill(session._talk._process.pid, signal.SIGKILL)
+                return rows(reader, lines)
+
+            with mock.patch.object(Reader, "rows", kill_first), self.assertRaises(bedkeep.Ended):
+                session.rows("all")
+
+    def test_a_closed_session(self):
+        session = self.session()
+        session.add("chr1", 1, 2, "x")
+        session.end()
+        session.end()
+        with self.assertRaisesRegex(bedkeep.Ended, "the session is closed"):
+            session.records()
+        self.assertEqual(session.script(), "add\tchr1\t1\t2\tx\n")
+
+    def test_a_fork_does_not_hold_up_the_end(self):
+        """A process that was forked has the pipe to the program too, so the program doesn't see its end."""
+        with mock.patch("bedkeep.conversation.SECONDS", 0.2), self.session() as session:
+            child = os.fork()
+            if child == 0:
+                time.sleep(20)
+                os._exit(0)
+            session.end()
+        os.kill(child, signal.SIGKILL)
+        os.waitpid(child, 0)
+
+    def test_an_error_of_the_caller_ends_the_session(self):
+        with self.assertRaises(ZeroDivisionError), self.session() as session:
+            1 / 0
+        self.assertIsNotNone(session._talk._process.poll())
+
+
+class Interrupted(Case):
+    """An interrupt comes by os.kill, at a place that a patch chooses."""
+
+    def interrupt(self, times=1):
+        for _ in range(times):
+            os.kill(os.getpid(), signal.SIGINT)
+
+    def after_one(self, owner, name, times):
+        """Patches a method: its first call is followed by interrupts."""
+        method, calls = getattr(owner, name), []
+
+        def patched(*words):
+            result = method(*words)
+            if not calls:
+                calls.append(name)
+                self.interrupt(times)
+            return result
+
+        return mock.patch.object(owner, name, patched)
+
+    def test_while_rows_come(self):
+        with self.session() as session:
+            session.edit(f"add\tchr1\t{number % 900}\t1000\tx" for number in range(100_000))
+            with self.after_one(Exchange, "rows", 1), self.assertRaises(KeyboardInterrupt):
+                session.view("cluster")
+            session.add("chr2", 1, 2, "x")
+            self.assertEqual(len(session.records()), 100_003)
+
+    def test_while_edits_are_sent(self):
+        with self.session() as session:
+            lines = [f"add\tchr1\t{number % 900}\t1000\tx{number}" for number in range(100_000)]
+            with self.after_one(Exchange, "write", 1), self.assertRaises(KeyboardInterrupt):
+                session.edit(lines)
+            done = session.script().splitlines()
+            self.assertEqual(done, lines[:len(done)])
+            self.assertTrue(0 < len(done) < len(lines))
+            self.assertEqual(len(session.records()), 2 + len(done))
+            session.undo()
+            self.assertEqual(len(session.records()), 1 + len(done))
+
+    def test_a_second_one_closes_the_session(self):
+        with self.session() as session:
+            with self.after_one(Exchange, "write", 2), self.assertRaises(KeyboardInterrupt):
+                session.edit("add\tchr1\t1\t2\tx" for _ in range(100_000))
+            with self.assertRaises(bedkeep.Ended):
+                session.records()
+        self.assertEqual(signal.getsignal(signal.SIGINT), signal.default_int_handler)
+
+    def test_while_the_program_is_silent(self):
+        program = self.script("slow", 'sleep 0.4\nexec "$BEDKEEP" "$@"')
+        alarm = threading.Timer(0.1, self.interrupt)
+        alarm.start()
+        begun = time.monotonic()
+        with self.assertRaises(KeyboardInterrupt):
+            self.session(program=program)
+        self.assertLess(time.monotonic() - begun, 10)
+        alarm.join()
+
+    def test_from_another_thread(self):
+        with self.session() as session:
+            found = []
+            thread = threading.Thread(target=lambda: found.append(len(session.records())))
+            thread.start()
+            thread.join()
+            self.assertEqual(found, [2])
+
+
+class Large(Case):
+    def test_a_million_rows(self):
+        self.sizes, self.genes = many(self.folder, 1_000_000)
+        with self.session() as session:
+            records = session.records()
+            self.assertEqual(len(records), 1_000_000)
+            self.assertEqual(records[-1], ("chr1", 9_999_990, 10_000_005, "g99"))
+            del records
+            session.save(self.folder / "saved.bed")
+        self.assertEqual((self.folder / "saved.bed").read_bytes(), self.genes.read_bytes())
+
+    def test_rows_longer_than_a_pipe(self):
+        bases = "ACGTN" * 600_000
+        self.sizes = self.file("sizes", f"chr1\t{len(bases)}\n")
+        with self.session(fasta=self.file("bases.fa", f">chr1\n{bases}\n")) as session:
+            session.edit(f"add\tchr1\t{number}\t{len(bases)}\tx{number}" for number in range(50_000))
+            session.edit(f"remove\tchr1\t{number}\t{len(bases)}\tx{number}" for number in range(1, 50_000))
+            self.assertEqual(session.view("getfasta")[0].bases, bases)
+            session.edit(f"add\tchr1\t5\t6\tx{number}" for number in range(50_000))
+            self.assertEqual(len(session.view("merge -c 4 -o distinct")[0].distinct_4.split(",")), 50_002)
+
+    def test_more_messages_than_a_pipe_holds(self):
+        with self.session() as session:
+            refused = session.edit(["remove\tchr1\t1\t2\tx", "add\tchr1\t1\t2\ty"] * 50_000)
+            self.assertEqual([one.number for one in refused], list(range(1, 100_000, 2)))
+            self.assertEqual({one.reason for one in refused}, {"no such record"})
+            self.assertEqual(len(session.records()), 50_002)
+
+
+class Model(Case):
+    """The records beside a model of them in Python."""
+
+    def setUp(self):
+        super().setUp()
+        self.random = random.Random(5)
+        self.records = Counter({("chr1", 100, 200, "geneA"): 1, ("chr1", 300, 400, "geneB"): 1})
+
+    def record(self):
+        start = self.random.randrange(990)
+        return (self.random.choice(["chr1", "chr2"]), start, start + self.random.randrange(1, 9), f"n{self.random.randrange(3)}")
+
+    def present(self):
+        return self.random.choice(list(self.records)) if self.records and self.random.random() < 0.8 else self.record()
+
+    def edit(self):
+        """A random edit: its line, and the records that it takes out and puts in, or None if it is refused."""
+        kind = self.random.choice(["add", "add", "remove", "replace"])
+        out = [] if kind == "add" else [self.present()]
+        new = [] if kind == "remove" else [self.record()]
+        fits = all(end <= (1000 if chromosome == "chr1" else 500) for chromosome, _, end, _ in out + new)
+        change = (out, new) if fits and all(self.records[one] for one in out) else None
+        self.records += Counter()
+        return "\t".join(map(str, [kind, *(column for one in out + new for column in one)])), change
+
+    def change(self, out, new):
+        self.records.subtract(out)
+        self.records.update(new)
+        self.records += Counter()
+
+    def test_ten_thousand_edits(self):
+        history = []
+        with self.session() as session:
+            session.open("depth", "genomecov -bg")
+            for _ in range(2_000):
+                lines, wanted = [], []
+                for _ in range(self.random.choice([1, 1, 1, 17])):
+                    line, change = self.edit()
+                    lines.append(line)
+                    if change:
+                        self.change(*change)
+                        history.append(change)
+                    else:
+                        wanted.append(len(lines))
+                self.assertEqual([one.number for one in session.edit(lines)], wanted)
+                for _ in range(self.random.choice([0, 0, 0, 2])):
+                    if history:
+                        out, new = history.pop()
+                        session.undo()
+                        self.change(new, out)
+            self.assertEqual([tuple(one) for one in session.records()], sorted(self.records.elements()))
+            covered = sum((row.end - row.start) * row.depth for row in session.rows("depth"))
+            self.assertEqual(covered, sum(end - start for _, start, end, _ in self.records.elements()))
+            self.assertEqual(session.script().count("\n"), len(history))
+            self.assertEqual(session_records(session, self), session.records())
