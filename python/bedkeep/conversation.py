@@ -10,13 +10,11 @@ from __future__ import annotations
 import os
 import re
 import selectors
-import signal
 import subprocess
-import threading
-from types import FrameType
-from typing import Any, Callable, NamedTuple, NoReturn, Optional, Sequence
+from typing import Callable, NamedTuple, NoReturn, Optional, Sequence
 
 from .errors import Ended, ended
+from .interrupts import Interrupts
 from .program import decoded, encoded
 from .rows import Lines
 
@@ -32,31 +30,6 @@ class Answer(NamedTuple):
 
     sent: int
     refused: dict[int, str]
-
-
-class Interrupts:
-    """Holds an interrupt (Ctrl-C) back until an answer is complete, and then raises it. A second one ends the program."""
-
-    def __init__(self, kill: Callable[[], None]) -> None:
-        self.came = False
-        self._kill = kill
-        self._before: Any = None
-
-    def __enter__(self) -> Interrupts:
-        if threading.current_thread() is threading.main_thread() and callable(signal.getsignal(signal.SIGINT)):
-            self._before = signal.signal(signal.SIGINT, self._arrived)
-        return self
-
-    def _arrived(self, number: int, frame: Optional[FrameType]) -> None:
-        if self.came:
-            self._kill()
-        self.came = True
-
-    def __exit__(self, *_: object) -> None:
-        if self._before is not None:
-            signal.signal(signal.SIGINT, self._before)
-            if self.came:
-                self._before(signal.SIGINT, None)
 
 
 class Exchange:

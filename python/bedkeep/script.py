@@ -6,6 +6,7 @@ import os
 import re
 from typing import Iterable, Union
 
+from .interrupts import Interrupts
 from .program import Path, decoded
 
 INVERSE = {"add": "remove", "remove": "add", "replace": "replace",
@@ -33,8 +34,8 @@ def edits_of(lines: Union[str, Iterable[str]]) -> str:
         text = "\n".join([*listed, ""])
         if text.count("\n") != len(listed):
             text = "\n".join([*(line.rstrip("\n") for line in listed), ""])
-        if text.count("\n") != len(listed):
-            raise ValueError("a line has the end of another line in it")
+            if text.count("\n") != len(listed):
+                raise ValueError("a line has the end of another line in it")
     text = text.replace("\r\n", "\n")
     view = VIEW_COMMAND.search(f"\n{text}")
     if view:
@@ -60,9 +61,10 @@ class Script:
 
     def lines(self) -> list[str]:
         """The lines, without their ends."""
-        for text in self._added:
-            self._lines += text.split("\n")[:-1]
-        self._added.clear()
+        with Interrupts():
+            for text in self._added:
+                self._lines += text.split("\n")[:-1]
+            self._added.clear()
         return self._lines
 
     def last(self) -> int:

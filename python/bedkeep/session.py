@@ -6,14 +6,16 @@ import re
 import shutil
 from typing import Any, Callable, Iterable, Optional, Sequence, Union
 
-from .conversation import Conversation, Interrupts, Take
+from .conversation import Conversation, Take
 from .errors import Refused
+from .interrupts import Interrupts
 from .program import Path, find
 from .rows import Lines, Reader, Row, to_frame
 from .script import Script, edits_of, line_of
 
 Columns = Sequence[Union[str, int]]
 STANDARD_INPUT = {"/dev/stdin", "/dev/fd/0", "/proc/self/fd/0"}
+OPENED = "view:"  # how the names of views begin that `view` opens
 BLOCK = re.compile(rb"\t[0-9]+\n")
 
 
@@ -25,7 +27,7 @@ class Session:
 
     Records are columns, `add("chr1", 10, 20)`, or one sequence of them, `add(("chr1", 10, 20))`: as many as the file has,
     `width`. Start counts from 0, and end is not included. A line that is refused raises Refused and changes nothing. If the
-    program ends, the call raises Ended, and so does each call after it; `script()` still has what was accepted.
+    program ends, the call raises Ended, and so does each call after it; `script()` still has what the calls before it did.
 
     An interrupt (Ctrl-C) is raised once the answer that was begun is complete, and the session can be used on. A second
     interrupt closes it. A session is for one thread at a time. A call takes one more line than it sends of the 4,000,000
@@ -44,7 +46,6 @@ class Session:
             words += ["-width", str(width)]
         self._script = Script(genome)
         self._named: dict[str, list[str]] = {}
-        self._views: dict[str, str] = {}
         self._opened = 0
         self._talk = Conversation(words)
         try:
@@ -115,15 +116,12 @@ class Session:
 
     def open(self, name: str, words: str) -> None:
         """Opens a view, such as `merge -d 10`, under a name."""
-        listed = [word for word in words.split(" ") if word]
-        if listed[:1] == ["getfasta"] and "-tab" not in listed:
-            listed.append("-tab")
+        listed = _words(words)
         self._send_one(line_of("open", name, " ".join(listed)), done=lambda _: self._named.update({name: listed}))
 
     def close(self, name: str) -> None:
         """Closes a view."""
         self._send_one(line_of("close", name), done=lambda _: self._named.pop(name))
-        self._views = {words: opened for words, opened in self._views.items() if opened != name}
 
     def rows(self, name: str) -> list[Row]:
         """The rows of an open view, as the records are now."""
@@ -134,7 +132,7 @@ class Session:
         return self.rows(self._view(words))
 
     def records(self) -> list[Row]:
-        """All records in the order of the genome file: the rows of the view `cluster` without their last column."""
+        """All records in the order of the genome file: the view `cluster`, which stays open, without its last column."""
         return self._print(self._view("cluster"), Reader(["records"], self.width), _without_block)
 
     def to_frame(self, words: Optional[str] = None) -> Any:
@@ -196,20 +194,28 @@ class Session:
 
     def _view(self, words: str) -> str:
         """The name of the view of these words, which is opened if it isn't yet."""
-        words = " ".join(word for word in words.split(" ") if word)
-        name = self._views.pop(words, None)
-        if name is None:
-            self._opened += 1
-            name = f"={self._opened}"
-            try:
-                self.open(name, words)
-            except Refused as refused:
-                if refused.reason != "too many views" or not self._views:
-                    raise
-                self.close(next(iter(self._views.values())))
-                self.open(name, words)
-        self._views[words] = name  # The last one is the one that was looked at last.
+        mine = [name for name in self._named if name.startswith(OPENED)]
+        for name in mine:
+            if self._named[name] == _words(words):
+                return name
+        self._opened += 1
+        name = f"{OPENED}{self._opened}"
+        try:
+            self.open(name, words)
+        except Refused as refused:
+            if refused.reason != "too many views" or not mine:
+                raise
+            self.close(mine[0])
+            self.open(name, words)
         return name
+
+
+def _words(words: str) -> list[str]:
+    """The words of a view. The rows of getfasta are a line each."""
+    listed = [word for word in words.split(" ") if word]
+    if listed[:1] == ["getfasta"] and "-tab" not in listed:
+        listed.append("-tab")
+    return listed
 
 
 def _without_block(lines: bytes) -> bytes:

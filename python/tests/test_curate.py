@@ -22,8 +22,9 @@ class Curate(Case):
 
     def typed(self, *lines, words=None, status=0):
         """What the prompt prints for these lines, after its first line."""
-        run = subprocess.run(self.command(*(words or (self.sizes, self.genes, self.mask))), input="".join(f"{line}\n" for line in lines),
-                             stdout=subprocess.PIPE, stderr=subprocess.STDOUT, encoding="utf-8", env=self.environment(), timeout=60)
+        run = subprocess.run(self.command(*(words or (self.sizes, self.genes, self.mask))),
+                             input="".join(f"{line}\n" for line in lines), stdout=subprocess.PIPE, stderr=subprocess.STDOUT,
+                             encoding="utf-8", env=self.environment(), timeout=60)
         self.assertEqual(run.returncode, status)
         return run.stdout.splitlines()[1:] if status == 0 else run.stdout.splitlines()
 
@@ -40,8 +41,9 @@ class Curate(Case):
         saved, script = self.folder / "saved.bed", self.folder / "script file"
         said = self.typed("# why", "add chr1 1 2 x", "remove chr1 1 2 x", "undo", "script", f"save {saved}", f"script {script}",
                           "undo", "undo", "save", "merge -x", "help", f"save {self.folder}/absent/x")
-        self.assertEqual(said[:10], ["done", "done", "undone: remove chr1 1 2 x", "# why", "add\tchr1\t1\t2\tx", "saved", "written",
-                                     "undone: add chr1 1 2 x", "nothing to undo", "save FILE: the file's name is missing"])
+        self.assertEqual(said[:10], [
+            "done", "done", "undone: remove chr1 1 2 x", "# why", "add\tchr1\t1\t2\tx", "saved", "written",
+            "undone: add chr1 1 2 x", "nothing to undo", "save FILE: the file's name is missing"])
         self.assertEqual(said[10], "refused: bad options")
         self.assertEqual("\n".join(said[11:-1]), bedkeep.curate.HELP)
         self.assertIn("No such file", said[-1])
@@ -51,7 +53,8 @@ class Curate(Case):
     def test_quit_asks_once_for_edits_that_are_not_written(self):
         self.assertEqual(self.typed("quit", "undo"), [])
         asked = "The edits aren't written: save FILE, script FILE, or quit again."
-        self.assertEqual(self.typed("add chr1 1 2 x", "quit", "undo", "quit", "undo"), ["done", asked, "undone: add chr1 1 2 x"])
+        self.assertEqual(self.typed("add chr1 1 2 x", "quit", "undo", "quit", "undo"),
+                         ["done", asked, "undone: add chr1 1 2 x"])
         self.assertEqual(self.typed("add chr1 1 2 x", "quit", "quit", "undo"), ["done", asked])
         self.assertEqual(self.typed("add chr1 1 2 x", f"save {self.folder}/x", "quit", "undo"), ["done", "saved"])
 

@@ -70,7 +70,7 @@ class Runs(Case):
         reader, writer = os.pipe()
         os.write(writer, self.genes.read_bytes())
         os.close(writer)
-        code = ("import bedkeep, sys; [print(row) for row in bedkeep.intersect(sys.argv[1], '/dev/stdin', sys.argv[2], wb=True)]")
+        code = "import bedkeep, sys; print(*bedkeep.intersect(sys.argv[1], '/dev/stdin', sys.argv[2], wb=True), sep='\\n')"
         package = pathlib.Path(bedkeep.__file__).parent.parent
         said = subprocess.run([sys.executable, "-S", "-c", code, self.sizes, self.mask], stdin=reader, stdout=subprocess.PIPE,
                               env={**os.environ, "PYTHONPATH": str(package)}, check=True).stdout.decode().splitlines()

@@ -203,7 +203,7 @@ class Views(Case):
             for distance in range(100):
                 self.assertEqual(len(session.view(f"merge -d {distance}")), 2 if distance < 100 else 1)
             self.assertEqual(session.rows("mine"), [("chr1", 100, 200), ("chr1", 300, 400)])
-            session.close(session._views["merge -d 99"])
+            session.close("view:100")
             self.assertEqual(len(session.view("merge -d 99")), 2)
             self.assertEqual(len(session.records()), 2)
 
@@ -431,6 +431,27 @@ class Interrupted(Case):
                 session.records()
         self.assertEqual(signal.getsignal(signal.SIGINT), signal.default_int_handler)
 
+    def test_at_any_moment(self):
+        """Interrupts come every few milliseconds; the script always has just what was done."""
+        chance = random.Random(3)
+        session, interrupts = self.session(), 0
+        handler = signal.signal(signal.SIGALRM, lambda *_: signal.raise_signal(signal.SIGINT))
+        self.addCleanup(signal.signal, signal.SIGALRM, handler)
+        for _ in range(200):
+            signal.setitimer(signal.ITIMER_REAL, chance.random() * 0.01)
+            try:
+                chance.choice([
+                    lambda: session.edit(f"add\tchr1\t{number}\t1000\tx" for number in range(chance.randrange(500))),
+                    lambda: session.add("chr2", chance.randrange(100), 200, "y"),
+                    lambda: session.script() and session.undo(),
+                    session.records, lambda: session.view(f"merge -d {chance.randrange(70)}"),
+                ])()
+                time.sleep(0.01)
+            except KeyboardInterrupt:
+                interrupts += 1
+        self.assertGreater(interrupts, 50)
+        self.assertEqual(session_records(session, self), session.records())
+
     def test_while_the_program_is_silent(self):
         program = self.script("slow", 'sleep 0.4\nexec "$BEDKEEP" "$@"')
         alarm = threading.Timer(0.1, self.interrupt)
@@ -489,7 +510,8 @@ class Model(Case):
 
     def record(self):
         start = self.random.randrange(990)
-        return (self.random.choice(["chr1", "chr2"]), start, start + self.random.randrange(1, 9), f"n{self.random.randrange(3)}")
+        end = start + self.random.randrange(1, 9)
+        return self.random.choice(["chr1", "chr2"]), start, end, f"n{self.random.randrange(3)}"
 
     def present(self):
         return self.random.choice(list(self.records)) if self.records and self.random.random() < 0.8 else self.record()
