@@ -82,9 +82,12 @@ class Runs(Case):
         sizes, bed = many(self.folder, 100_000)
         rows = bedkeep.cluster(sizes, bed)
         self.assertEqual(next(rows), ("chr1", 0, 15, "g0", 1))
+        rows.close()
+        rows = bedkeep.merge(sizes, bed, program=self.script("slow", "printf 'chr1\\t1\\t2\\n'\nexec sleep 60"))
+        self.assertEqual(next(rows), ("chr1", 1, 2))
         begun = time.monotonic()
         rows.close()
-        self.assertLess(time.monotonic() - begun, 5)
+        self.assertLess(time.monotonic() - begun, 30)
         count = sum(1 for _ in bedkeep.genomecov(sizes, bed, bg=True))
         self.assertEqual(count, 199_999)
 

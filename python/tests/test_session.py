@@ -12,6 +12,7 @@ from unittest import mock
 import bedkeep
 from bedkeep.conversation import Exchange
 from bedkeep.rows import Reader
+from bedkeep.script import Script
 from helpers import EXAMPLES, Case, many
 
 
@@ -143,13 +144,13 @@ class Scripts(Case):
                 session.undo()
 
     def test_undo_of_resize_over_a_genome_file_with_comments(self):
-        self.sizes = self.file("sizes", "#chr1\t7\nchrom\tsize\nchr1\t1000\tmore\r\nchr2\t500\r\n")
+        self.sizes = self.file("sizes", "#chr1\t7\nchrom\tsize\nchr1\t1000\tmore\r\nchr2\t500\r\nchrom\t70\n")
         with self.session() as session:
-            session.resize("chr2", 400)
-            session.resize("chr1", 900)
-            session.undo()
-            session.undo()
-            self.assertEqual([row.end for row in session.view("complement")], [100, 300, 1000, 500])
+            for chromosome, length in ("chr2", 400), ("chr1", 900), ("chrom", 60):
+                session.resize(chromosome, length)
+            for _ in range(3):
+                session.undo()
+            self.assertEqual([row.end for row in session.view("complement")], [100, 300, 1000, 500, 70])
 
     def test_undo_of_resize_over_a_genome_file_from_a_pipe(self):
         reader, writer = os.pipe()
@@ -431,6 +432,19 @@ class Interrupted(Case):
                 session.records()
         self.assertEqual(signal.getsignal(signal.SIGINT), signal.default_int_handler)
 
+    def test_while_the_script_is_put_in_order(self):
+        class Text(str):
+            def split(self, *words):
+                os.kill(os.getpid(), signal.SIGINT)
+                return super().split(*words)
+
+        script = Script(self.sizes)
+        script.add("add\tchr1\t1\t2\n")
+        script.add(Text("add\tchr1\t3\t4\n"))
+        with self.assertRaises(KeyboardInterrupt):
+            script.lines()
+        self.assertEqual(script.lines(), ["add\tchr1\t1\t2", "add\tchr1\t3\t4"])
+
     def test_at_any_moment(self):
         """Interrupts come every few milliseconds; the script always has just what was done."""
         chance = random.Random(3)
@@ -491,6 +505,13 @@ class Large(Case):
             self.assertEqual(session.view("getfasta")[0].bases, bases)
             session.edit(f"add\tchr1\t5\t6\tx{number}" for number in range(50_000))
             self.assertEqual(len(session.view("merge -c 4 -o distinct")[0].distinct_4.split(",")), 50_002)
+
+    def test_small_pieces(self):
+        """The message that ends an answer can be read before the last rows are."""
+        with self.session() as session, mock.patch("bedkeep.conversation.PIECE", 7):
+            session.edit(f"add\tchr1\t{number}\t1000\tx" for number in range(99))
+            self.assertEqual(len(session.records()), 101)
+            self.assertEqual(session.view("merge"), [("chr1", 0, 1000)])
 
     def test_more_messages_than_a_pipe_holds(self):
         with self.session() as session:
