@@ -6,9 +6,9 @@
 FOLDER has README.md, GUIDE.md or docs/GUIDE.md, and examples/: the sources, which is the default, or the documents of a
 release that was unpacked. A step is a block of commands, ```sh, and after it what it prints, ```text; a step without that
 prints nothing. The steps of a page run in their order, each by a bash of its own, in a temporary folder that has examples/,
-with the program on the path as bedkeep and the Python package on that of Python. Standard output and standard error go into one pipe, as they would to a terminal. A
-block of Python is the text of a file of examples/, and a block without a language is a picture. Status 1 where anything
-differs.
+with the program on the path as bedkeep and the Python package on that of Python. Standard output and standard error go into
+one pipe, as they would to a terminal. A block of Python is the text of a file of examples/, and a block without a language is
+a picture. Status 1 where anything differs.
 """
 import difflib
 import os

@@ -8,7 +8,7 @@ sources=$(realpath "$(dirname "$0")/../python")
 package=$(realpath "${2:-$sources}")
 export PYTHONDONTWRITEBYTECODE=1
 if command -v mypy > /dev/null; then
-    mypy --strict --cache-dir /dev/null --python-version 3.9 "$package/bedkeep"
+    mypy --strict --cache-dir /dev/null "$package/bedkeep"
 fi
 cd "$sources/tests"
 BEDKEEP=$program PYTHONPATH=$package python3 -S -m unittest
