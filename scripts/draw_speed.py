@@ -1,5 +1,5 @@
 #!/usr/bin/env python3
-"""Draws docs/speed.svg from the first table of docs/BENCHMARKS.md: a bar for each row that has a ratio.
+"""Draws docs/speed.svg from the tables of docs/BENCHMARKS.md: a bar for each row that has a ratio.
 
     python3 scripts/draw_speed.py            writes docs/speed.svg
     python3 scripts/draw_speed.py OTHER.svg  writes another file
@@ -15,15 +15,13 @@ BLUE, GREY = "#3465a4", "#888888"
 
 
 def rows(text):
-    """What was measured and its ratio to bedtools, for each row of the first table that has one."""
+    """What was measured and its ratio to bedtools, for each row of a table that has one."""
     found = []
     for line in text.splitlines():
         cells = [cell.strip().replace("`", "") for cell in line.strip("|").split("|")]
-        if len(cells) == 6 and re.fullmatch(r"\d+\.\d+", cells[4]):
+        if len(cells) == 5 and re.fullmatch(r"\d+\.\d+", cells[4]):
             what = re.sub(r", (4,000,000 records|70,000 records over 200 million bases, beside bedtools with its index)", "", cells[0])
             found.append((what, int(cells[1]), float(cells[4])))
-        elif found and not line.strip():
-            break
     return found
 
 
