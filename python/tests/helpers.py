@@ -1,5 +1,6 @@
 """What the tests share: a folder of files for each, and the program that BEDKEEP names."""
 import os
+import signal
 import subprocess
 import tempfile
 import unittest
@@ -9,6 +10,9 @@ import bedkeep
 
 PROGRAM = os.environ["BEDKEEP"]
 EXAMPLES = Path(__file__).resolve().parent.parent.parent / "examples"
+
+# A shell starts what it runs in the background with interrupts ignored, and so are those of Python then.
+signal.signal(signal.SIGINT, signal.default_int_handler)
 
 
 class Case(unittest.TestCase):
