@@ -20,7 +20,7 @@ INSTALL_DATA ?= $(INSTALL) -m 644
 # The Python package, which is installed below datadir/bedkeep: PYTHONPATH is then its folder python, or pip installs that.
 PACKAGE = python/pyproject.toml python/bedkeep/py.typed $(sort $(wildcard python/bedkeep/*.py))
 # What is installed below docdir, in the folders that it has here, so that links and the steps of the guide work there too.
-DOCUMENTS = README.md CHANGELOG.md LICENSE $(addprefix docs/,GUIDE.md BEDTOOLS.md FORMAT.md PROMISES.md BENCHMARKS.md speed.svg) \
+DOCUMENTS = README.md CHANGELOG.md LICENSE $(addprefix docs/,GUIDE.md BEDTOOLS.md bedtools-report.md FORMAT.md PROMISES.md BENCHMARKS.md speed.svg) \
 	$(shell find examples -type f ! -path '*/.snakemake/*' ! -name '*.pyc' ! -name corrected.bed | LC_ALL=C sort)
 
 .DEFAULT_GOAL := help

@@ -2,12 +2,13 @@
 """Runs bedkeep and bedtools over the same generated files, and sorts out where their outputs differ and why.
 
     make build
-    python3 scripts/beside_bedtools.py build/bedkeep [--seed N] [--cases N] [--jobs N] [--write docs/BEDTOOLS.md]
+    python3 scripts/beside_bedtools.py build/bedkeep [--seed N] [--cases N] [--jobs N] [--write docs/bedtools-report.md]
 
 A case is a set of files, a subcommand and its options. It is in one of four classes: the same bytes; the same rows in another order;
 different; refused by both. Where the outputs aren't the same, reasons that are known must explain the whole difference: those of
 scripts/beside/reasons.py and refusals.py. A case that they don't explain is printed with its files, and the status is 1. With --write the
-page is written, the same for a seed and a number of cases each time, where every case is explained.
+report is written if every case is explained, the same each time for a seed and a number of cases. docs/BEDTOOLS.md is only read: it must name
+each reason, and each subcommand and option of bedtools that bedkeep lacks.
 """
 
 import argparse
@@ -28,6 +29,7 @@ from beside import examples, inputs, missing, page, programs, sorting  # noqa: E
 MEMORY = 4 * 1024**3
 # cases without a known reason that are printed, and bytes of files from which on a case is no example
 SHOWN, TOO_LONG = 3, 2000
+GUIDE = os.path.join(os.path.dirname(os.path.realpath(__file__)), "..", "docs", "BEDTOOLS.md")
 
 
 def main():
@@ -37,6 +39,10 @@ def main():
         sys.exit(f"{wanted.program} is not there: run `make build` first")
     if shutil.which("bedtools") is None:
         sys.exit("bedtools is not installed")
+    with open(GUIDE, encoding="utf-8") as file:
+        fault = page.fault_of(file.read())
+    if fault:
+        sys.exit(fault)
     tally = page.Tally()
     with tempfile.TemporaryDirectory() as folder, multiprocessing.Pool(wanted.jobs, limit_memory) as pool:
         desk = functools.partial(new_desk, program, folder)
@@ -61,7 +67,7 @@ def read_words():
     words.add_argument("--seed", type=int, default=1)
     words.add_argument("--cases", type=int, default=40_000)
     words.add_argument("--jobs", type=int, default=os.cpu_count(), help="runs side by side")
-    words.add_argument("--write", metavar="FILE", help="the page to write")
+    words.add_argument("--write", metavar="FILE", help="the report to write")
     return words.parse_args()
 
 

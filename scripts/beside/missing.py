@@ -26,7 +26,6 @@ OPERATIONS = ["absmin", "absmax", "mean", "median", "mode", "antimode", "stdev",
 SUBCOMMANDS = ["annotate", "bamtobed", "bamtofastq", "bed12tobed6", "bedpetobam", "bedtobam", "closest", "coverage", "expand", "fisher", "flank", "groupby", "igv",
                "jaccard", "links", "makewindows", "map", "maskfasta", "multicov", "multiinter", "nuc", "overlap", "pairtobed", "pairtopair", "random", "reldist",
                "sample", "shift", "shuffle", "slop", "sort", "spacing", "split", "summary", "tag", "unionbedg", "window"]
-OTHER = {"merge": "a negative `-d`", "genomecov": "the histogram", "intersect": "several files for `-b`", "getfasta": "an index file beside the FASTA file"}
 
 
 def fault(desk):
@@ -57,13 +56,9 @@ def refused(desk, subcommand, options):
 
 
 def rows():
-    """The rows of the page's table."""
-    yield ["other subcommands", ", ".join(f"`{subcommand}`" for subcommand in SUBCOMMANDS)]
+    """The first cell of each row that the table of BEDTOOLS.md must have, and the names in that row."""
+    yield "other subcommands", SUBCOMMANDS
     for subcommand, (_, missing) in OPTIONS.items():
-        words = [OTHER[subcommand]] if subcommand in OTHER else []
-        words += [f"`{option}`" for option in missing]
-        if words:
-            last = "; of the operations of `-o`: " + ", ".join(f"`{operation}`" for operation in OPERATIONS) if subcommand == "merge" else ""
-            yield [f"`{subcommand}`", ", ".join(words) + last]
-    yield ["all of them", ", ".join(f"`{option}`" for option in SHARED) + "; `-` and `stdin` for standard input, which is `/dev/stdin`"]
-    yield ["formats", "BED of 7 columns and more (`cut -f1-6`); GFF, VCF, BAM; compressed files (`zcat a.bed.gz`, and `-i /dev/stdin`); columns separated by spaces (`sed 's/  */\\t/g'`)"]
+        yield f"`{subcommand}`", missing
+    yield "operations of `merge`", OPERATIONS
+    yield "all of them", SHARED

@@ -1,6 +1,7 @@
-"""Counts the cases, and writes the page."""
+"""Counts the cases, writes the report, and looks whether BEDTOOLS.md names all that it should."""
 
 import collections
+import re
 import signal
 
 from beside import formats, missing, programs
@@ -8,13 +9,15 @@ from beside.inputs import KINDS
 from beside.reasons import REASONS
 from beside.refusals import REFUSALS
 from beside.sorting import DIFFERENT, ORDER, REFUSED, SAME
-from beside.words import BEGIN, COMMANDS, COMPARED, MISSING, ORDER_OF_ROWS, REASONS_BEGIN, SESSIONS
+from beside.words import BEGIN, COMMANDS, COMPARED, REASONS_BEGIN
 
 GROUPS = (SAME, ORDER, DIFFERENT, REFUSED)
 HEADS = [group.capitalize() for group in GROUPS]
 KNOWN = [*REASONS, *REFUSALS]
 REFUSED_HERE = {refusal.name for refusal in REFUSALS}
 VALUES = {"merge": {"-d": "N", "-c": "LIST", "-o": "LIST"}, "cluster": {"-d": "N"}}
+# of BEDTOOLS.md: the heading above its table of what isn't there, and how it links to the report
+MISSING, REPORT = "## What bedkeep doesn't have", "bedtools-report.md"
 # rows of a file or an output that an example shows
 ROWS = 12
 
@@ -93,7 +96,7 @@ def summary(tally):
 
 
 def text(tally, examples, wanted, ours, theirs):
-    """The page."""
+    """The report."""
     known = collections.defaultdict(list)
     for (name, _), found in zip(tally.examples(), examples):
         known[name].append(found)
@@ -102,19 +105,30 @@ def text(tally, examples, wanted, ours, theirs):
         BEGIN.format(count=number(tally.count), seed=wanted.seed, cases=wanted.cases, ours=ours, theirs=theirs),
         table(["Class", "Cases"], [[group, number(tally.groups[group])] for group in GROUPS]),
         REASONS_BEGIN, table(["Reason", *HEADS[1:3]], [reason_row(name, tally) for name in known]),
-        in_order_words(tally), COMMANDS, command_table(tally), ORDER_OF_ROWS, "## The reasons, one by one", *sections,
-        MISSING, table(["", "Not there"], missing.rows(), words=2), SESSIONS,
+        in_order_words(tally), COMMANDS, command_table(tally), "## The reasons, one by one", *sections,
         COMPARED.format(theirs=theirs), table(["Files", "Cases", *HEADS], [counted([kind], tally.kinds[kind]) for kind in KINDS if kind in tally.kinds]),
     ]
     return "\n\n".join(part.strip("\n") for part in parts) + "\n"
+
+
+def fault_of(guide):
+    """What the text of BEDTOOLS.md doesn't say and should, or None."""
+    table = dict(re.findall(r"(?m)^\| ([^|]+?) \| (.*) \|$", guide.partition(MISSING)[2].partition("\n## ")[0]))
+    names = [f"{name} of {row}" for row, names in missing.rows() for name in names if f"`{name}`" not in table.get(row, "")]
+    reasons = [reason.name for reason in KNOWN if f"({REPORT}{anchor(reason.name)})" not in guide]
+    return f"docs/BEDTOOLS.md lacks {', '.join(names + reasons)}" if names or reasons else None
 
 
 def counted(row, counts):
     return [*row, number(sum(counts.values())), *(number(counts[group]) for group in GROUPS)]
 
 
+def anchor(name):
+    return "#" + name.lower().replace(" ", "-")
+
+
 def link(name):
-    return f"[{name}](#{name.lower().replace(' ', '-')})"
+    return f"[{name}]({anchor(name)})"
 
 
 def reason_row(name, tally):
@@ -170,7 +184,7 @@ def example_block(found, name):
 
 
 def shown(data):
-    """The lines of a file or an output, as the page shows them."""
+    """The lines of a file or an output, as the report shows them."""
     lines = [line.replace("\t", "  ").replace("\r", "\\r") or "(empty line)" for line in data.decode("latin-1").split("\n")]
     lines = lines[:-1] if data.endswith(b"\n") or data == b"" else lines
     return lines[:ROWS] + ([f"({len(lines) - ROWS} more lines)"] if len(lines) > ROWS else []) or ["(nothing)"]

@@ -10,7 +10,7 @@ from collections import namedtuple
 
 from beside import formats, programs
 
-# `applies` looks at the files, the order, the subcommand and the options alone; `words` and `check` are what the page says.
+# `applies` looks at the files, the order, the subcommand and the options alone; `words` and `check` are what the report says.
 Reason = namedtuple("Reason", "name applies change words check")
 FLOAT = re.compile(rb"-?[0-9]+(\.[0-9]+)?(e[0-9]+)?")
 NOT_A_NUMBER = float("nan")
@@ -218,9 +218,9 @@ REASONS = [
            "bedkeep prints sequences in the order of the genome file. bedtools prints them in the order of its input: after `sort -k1,1 -k2,2n` the order "
            "of their names as bytes, `chr10` before `chr2`. So `cluster` numbers its blocks in another order, and `complement` of bedtools refuses records "
            "whose sequences come in another order than in the genome file.",
-           "`bedtools sort -g sizes` in place of `sort`"),
+           "`bedtools sort -g sizes` instead of `sort`"),
     Reason("order at one start", has_ties, lambda asked: asked._replace(ties=True),
-           "bedkeep sorts records by sequence, start, stop, and then name, score and strand as bytes. `sort -k1,1 -k2,2n` compares lines as text where the "
+           "bedkeep sorts records by sequence, start, stop, and then name, score and strand as bytes. `sort -k1,1 -k2,2n` compares lines as text if the "
            "starts are equal, and `bedtools sort` looks at sequence and start alone. So records of one start can come in another order in `cluster`, and "
            "their values in `collapse`.",
            "records of one start put into bedkeep's order before bedtools gets them"),
@@ -239,9 +239,9 @@ REASONS = [
     Reason("strands apart",
            lambda asked: asked.subcommand == "merge" and "-s" in asked.options and formats.width_of(asked.files["a.bed"]) == 6,
            lambda asked: asked._replace(split=True),
-           "`merge -s` prints the `+` blocks of a sequence and then its `-` blocks. bedtools prints both by their starts; and where several sequences have "
-           "records, bedtools 2.30.0 prints some blocks in two rows, or between those of another sequence.",
-           "bedtools run for each sequence by itself, with `-S +` and then `-S -` in place of `-s`"),
+           "`merge -s` prints the `+` blocks of a sequence and then its `-` blocks. bedtools prints both by their starts. If several sequences have "
+           "records, bedtools 2.30.0 also prints some blocks in two rows, or between those of another sequence.",
+           "bedtools run for each sequence by itself, with `-S +` and then `-S -` instead of `-s`"),
     Reason("empty lines", any_line(lambda line: line == b""), lambda asked: with_lines(asked, lambda lines: [line for line in lines if line]),
            "bedkeep skips empty lines of a BED file. bedtools 2.30.0 doesn't join records across one in `merge`, and `complement` changes with it.",
            "the files without their empty lines"),
@@ -259,10 +259,10 @@ REASONS = [
     Reason("lines of bases",
            lambda asked: asked.subcommand == "getfasta" and (b"\r" in asked.files["s.fa"] or has_uneven_bases(asked)), even_bases,
            "A FASTA file may have lines of any lengths, empty ones, and lines that end in CR LF. bedtools refuses a sequence whose lines differ in length, and "
-           "takes a CR for a base: then all bases after it are a place farther on, and names of sequences end in CR.",
+           "takes a CR for a base: then all bases after it are shifted by one, and names of sequences end in CR.",
            "the FASTA file with one line for each sequence, and without CR"),
     Reason("leading zeros", has_zeros, without_zeros,
-           "A position is printed without its leading zeros everywhere. bedtools keeps them where `-c 2` or `-c 3` names the column.",
+           "A position is printed without its leading zeros everywhere. bedtools keeps them if `-c 2` or `-c 3` names the column.",
            "the files without leading zeros"),
     Reason("operation left out",
            lambda asked: asked.subcommand == "merge" and "-c" in asked.options and "-o" not in asked.options,
@@ -273,13 +273,13 @@ REASONS = [
              mend_values(name), words, check)
       for check in ["the result of bedtools predicted from the values of the block, and exchanged for the one that FORMAT.md gives; all else is compared as it is"]
       for name, words in [
-          ("dots", "`sum`, `min` and `max` skip a value `.`. bedtools gives `.` for the sum of a block that has one, and for `min` and `max` where it is "
+          ("dots", "`sum`, `min` and `max` skip a value `.`. bedtools gives `.` for the sum of a block that has one, and for `min` and `max` if it is "
            "the value of the block's first record."),
-          ("fractions and words", "For `sum`, `min` and `max` a number is an optional `-` and 1 to 15 digits; where a block has any other value but `.`, the result "
+          ("fractions and words", "For `sum`, `min` and `max` a number is an optional `-` and 1 to 15 digits. If a block has any other value except `.`, the result "
            "is `.`. bedtools reads fractions and exponents too, and leaves a word out of `min` and `max` unless it is the value of the block's first record."),
           ("sixteen digits", "A value of 16 digits or more is no number, and the result is `.`. bedtools reads it and prints ten digits of it."),
           ("more than ten digits", "Results have all their digits. bedtools prints the first ten, and a form like `1e+12`."),
-          ("minus zero", "Zero has no sign. bedtools prints `-0` where that is the least or greatest value."),
+          ("minus zero", "Zero has no sign. bedtools prints `-0` if that is the least or greatest value."),
       ]],
     Reason("far positions",
            lambda asked: asked.subcommand == "subtract" and any(int(columns[2]) >= TOO_FAR for name in beds(asked) for columns in records(asked, name)),
