@@ -12,7 +12,7 @@ other shape the ratio to them. A time is the least of the runs. A run that takes
 than `--most` seconds is stopped, and its row says so.
 
 A ratio of bedkeep above 5 is listed at the end, and the script stops with status 1, unless
-docs/FORMAT.md names the shape and the view in its table of slow shapes.
+SLOW has the shape and the view.
 """
 
 import argparse
@@ -36,7 +36,13 @@ MOST_RATIO = 5
 SEQUENCES = 1_000_000
 # shapes whose file isn't sorted
 UNSORTED = ("shuffled", "one start")
-FORMAT = os.path.join(TOP, "docs", "FORMAT.md")
+# shapes and views that are known to be slow: a session counts each overlap for `intersect -c`, and a run takes half a second for the names of the
+# genome file, ten times what its records take
+SLOW = {
+    "nested": ["intersect -c"],
+    "a deep place in both": ["intersect -c"],
+    "many sequences": [view for view in VIEWS if view != "getfasta"],
+}
 
 
 def main():
@@ -49,9 +55,9 @@ def main():
     print("| shape | view | run | session | bedtools |\n|---|---|---|---|---|")
     with tempfile.TemporaryDirectory() as temporary:
         slow = run_all(wanted, wanted.folder or temporary, beside)
-    unnamed = [f"{shape}, {view}: {ratio:.1f}" for shape, view, ratio in slow if (shape, view) not in named_slow()]
+    unnamed = [f"{shape}, {view}: {ratio:.1f}" for shape, view, ratio in slow if view not in SLOW.get(shape, [])]
     if unnamed:
-        sys.exit("above 5 and not in FORMAT's table of slow shapes:\n" + "\n".join(unnamed))
+        sys.exit("above 5 and not known to be slow:\n" + "\n".join(unnamed))
 
 
 def run_all(wanted, folder, beside):
@@ -159,19 +165,6 @@ def timed(words, given, most):
     seconds = time.perf_counter() - begun
     timer.cancel()
     return seconds, status, late.is_set()
-
-
-def named_slow():
-    """The shapes and views of FORMAT's table of slow shapes."""
-    found = set()
-    with open(FORMAT) as file:
-        text = file.read()
-    _, _, table = text.partition("### Slow shapes")
-    for line in table.partition("\n#")[0].splitlines():
-        cells = [cell.strip() for cell in line.strip("|").split("|")]
-        if len(cells) >= 2 and cells[0] in SHAPES:
-            found |= {(cells[0], view.strip(" `")) for view in cells[1].split(",")}
-    return found
 
 
 # ------------------------------------------------------------------ the shapes
