@@ -7,6 +7,7 @@ pub mod ReadLemmas
 pub mod FileLemmas
 pub mod FileLawLemmas
 pub mod DigitLemmas
+pub mod CellLemmas
 pub mod OnePassLemmas
 pub mod ShortLemmas
 pub mod BedLemmas

@@ -1,11 +1,12 @@
 //! The cells that a text begins with: columns after the third, each after its TAB.
-ghost use Rattle.std.specs.Prelude.{◌≡◌, ◌≤◌, false, [], ◌∷◌, IfSome, IsSome};
+ghost use Rattle.std.specs.Prelude.{◌≡◌, ◌≤◌, false, [], ◌∷◌, IfSome, IsSome, length, take};
 ghost use Rattle.std.specs.Option.{is_some};
-ghost use Rattle.iv_text.specs.OnePass.{ends_cell, BeginsWithCell, BeginsWithCells};
+ghost use Rattle.iv_text.specs.OnePass.{ends_cell, BeginsWithCell, BeginsWithCells, IsCell};
 ghost use Rattle.iv_text.specs.Read.{bad_text};
 ghost use Rattle.iv_text.specs.Row.{strand_of};
 
 use crate::fields::after_byte;
+use std::simd::prelude::*;
 
 /// Whether no cell goes on at this byte.
 fn is_end(byte: u8) -> bool
@@ -14,15 +15,44 @@ fn is_end(byte: u8) -> bool
     byte == b'\t' || byte == b'\n' || byte == b'\r' || byte == 0
 }
 
+/// How many bytes a text begins with that no cell ends at, looked at byte after byte.
+fn count_slowly(text: &[u8]) -> usize
+    ensures cell { IsCell (take result text.now) }
+    ensures within { result ≤ length text.now }
+{
+    let mut end: usize = 0;
+    while end < text.len() && !is_end(text[end]) {
+        end += 1;
+    }
+    end
+}
+
+/// How many bytes a text begins with that no cell ends at: the first 16 are looked at together, and each control byte up to 13
+/// counts as an end.
+#[inline(always)]
+fn count_cell(text: &[u8]) -> usize
+    ensures cell { IsCell (take result text.now) }
+    ensures within { result ≤ length text.now }
+{
+    if text.len() < 16 {
+        return count_slowly(text);
+    }
+    let ends = u8x16::from_slice(text)
+        .simd_lt(u8x16::splat(14))
+        .to_bitmask();
+    if ends == 0 {
+        return count_slowly(text);
+    }
+    ends.trailing_zeros() as usize
+}
+
 /// What is after a TAB and a name or a score, where a text begins with them.
+#[inline(always)]
 fn after_text(text: &[u8]) -> Option<&[u8]>
     ensures { IfSome result (λ rest. BeginsWithCell (λ cell. bad_text cell ≡ false) text.now rest.now) }
 {
     let cell = after_byte(text, b'\t')?;
-    let mut end: usize = 0;
-    while end < cell.len() && !is_end(cell[end]) {
-        end += 1;
-    }
+    let end = count_cell(cell);
     if end == 0 {
         return None;
     }
