@@ -1,6 +1,9 @@
 //! Records of lines.
 use crate::fixtures::{genome, holds};
-use iv_text::{Genome, Record, RecordFault, RecordReader, RecordRef, Strand, read_record};
+use iv_text::{
+    BedFile, Genome, LoadCause, LoadFault, Record, RecordFault, RecordReader, RecordRef, Strand,
+    read_record,
+};
 use std::cmp::Ordering;
 use std::mem::size_of;
 use std::test::Fail;
@@ -326,6 +329,72 @@ fn have_numbers(rt: &HostRuntime) -> Result<bool, Fail> {
 fn short_lines_of_names_and_numbers(rt: HostRuntime) -> Result<(), Fail> {
     holds(have_names(&rt))?;
     holds(have_numbers(&rt))
+}
+
+/// The name and the score of the second record of a file that has this name there, or the file's fault.
+fn second_name(
+    rt: &HostRuntime,
+    name: &[u8],
+) -> Result<Result<(Vec<u8>, Vec<u8>), LoadFault>, Fail> {
+    let genome = genome(rt)?;
+    let text = joined(rt, &[b"chr2\t1\t2\tn\t0\nchr2\t3\t4\t", name, b"\t57\n"])?;
+    match BedFile::parse(rt.alloc(), &genome, 3, 10, text.as_slice()) {
+        Ok(file) => match file.records() {
+            [_, second] => Ok(Ok((
+                joined(rt, &[second.name()])?,
+                joined(rt, &[second.score()])?,
+            ))),
+            _ => Err("two records".into()),
+        },
+        Err(fault) => Ok(Err(fault)),
+    }
+}
+
+/// Whether a record may have this name.
+fn is_read_as(rt: &HostRuntime, name: &[u8]) -> Result<bool, Fail> {
+    Ok(match second_name(rt, name)? {
+        Ok((read, score)) => read.as_slice() == name && score.as_slice() == b"57".as_slice(),
+        Err(_) => false,
+    })
+}
+
+/// Names of 1 to 20 bytes, with each of these bytes at each place.
+fn have_bytes(rt: &HostRuntime, bytes: &[u8]) -> Result<bool, Fail> {
+    let letters = b"abcdefghijklmnopqrst".as_slice();
+    for place in 0..letters.len() {
+        for byte in bytes {
+            let short = joined(rt, &[&letters[..place], &[*byte]])?;
+            let long = joined(rt, &[short.as_slice(), &letters[place + 1..]])?;
+            if !is_read_as(rt, short.as_slice())? || !is_read_as(rt, long.as_slice())? {
+                return Ok(false);
+            }
+        }
+    }
+    Ok(true)
+}
+
+/// Each of these bytes at each place of a name refuses its line.
+fn refuse_bytes(rt: &HostRuntime, bytes: &[u8]) -> Result<bool, Fail> {
+    let bad = LoadFault {
+        line: 2,
+        cause: LoadCause::Record(RecordFault::Name),
+    };
+    let letters = b"abcdefghijklmnopqrst".as_slice();
+    for place in 0..letters.len() {
+        for byte in bytes {
+            let name = joined(rt, &[&letters[..place], &[*byte], &letters[place + 1..]])?;
+            if second_name(rt, name.as_slice())?.err() != Some(bad) {
+                return Ok(false);
+            }
+        }
+    }
+    Ok(true)
+}
+
+#[test]
+fn names_of_each_length(rt: HostRuntime) -> Result<(), Fail> {
+    holds(have_bytes(&rt, b"x\x01\x08\x0b\x0c\x0e\x1f \x7f\xff"))?;
+    holds(refuse_bytes(&rt, b"\x00\r"))
 }
 
 /// A text that begins with another name of the same length is not of the sequence of the line before.
