@@ -10,7 +10,7 @@ ghost use Rattle.iv_blocks.specs.MergeRows.{all_blocks, merge_text};
 use crate::blocks::Blocks;
 use crate::kept_block::KeptBlock;
 use iv_bytes::{Sink, WriteFault, put_pieces};
-use iv_text::{Genome, put_interval};
+use iv_text::{Genome, RowBuffer};
 use iv_track::{Meter, Track};
 use std::alloc::Allocator;
 
@@ -42,6 +42,9 @@ impl<A: Allocator + Copy> Blocks<A> {
     }
 }
 
+/// How many bytes of results are put together with the columns before them.
+const MOST_TOGETHER: usize = 149;
+
 /// Puts the row of a block: name, start, stop and results.
 fn put_block<A: Allocator, S: Sink>(
     name: &[u8],
@@ -51,22 +54,13 @@ fn put_block<A: Allocator, S: Sink>(
 ) -> Result<(), WriteFault>
     ensures { Puts (S.state sink.old) (S.state sink.new) result (name.now ++ codes "\t" ++ decimal start ++ codes "\t" ++ decimal block.now.stop ++ block.now.results ++ codes "\n") }
 {
-    let results = block.results();
-    if results.is_empty() {
-        return put_interval(name, u64::from(start), u64::from(block.stop()), sink);
+    let (start, stop, results) = (u64::from(start), u64::from(block.stop()), block.results());
+    let mut end = RowBuffer::new();
+    if results.len() > MOST_TOGETHER {
+        end.put_after_numbers(name, start, stop, sink)?;
+        return put_pieces(sink, &[results, b"\n"]);
     }
-    let mut starts = itoa::Buffer::new();
-    let mut stops = itoa::Buffer::new();
-    put_pieces(
-        sink,
-        &[
-            name,
-            b"\t",
-            starts.format(start).as_bytes(),
-            b"\t",
-            stops.format(block.stop()).as_bytes(),
-            results,
-            b"\n",
-        ],
-    )
+    end.prepend_byte(b'\n');
+    end.prepend(results);
+    end.put_after_numbers(name, start, stop, sink)
 }

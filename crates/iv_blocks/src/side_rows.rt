@@ -1,5 +1,5 @@
 //! The rows of blocks, with the results over their records.
-ghost use Rattle.std.specs.Prelude.{◌≤◌, ◌++◌, codes, decimal, length, filter, vec_capacity};
+ghost use Rattle.std.specs.Prelude.{◌≤◌, length, filter, vec_capacity};
 ghost use Rattle.iv_bytes.specs.Sinks.{Puts};
 ghost use Rattle.iv_blocks.specs.Groups.{listed};
 ghost use Rattle.iv_blocks.specs.Sides.{is_on};
@@ -9,9 +9,10 @@ ghost use Rattle.iv_cover.specs.Results.{HasRoom};
 use crate::options::Options;
 use crate::side_blocks::{SideBlock, SideBlocks};
 use crate::side_records::Side;
-use iv_bytes::{Sink, WriteFault, put_all, put_pieces};
+use iv_bytes::{Sink, WriteFault, put_all};
 use iv_cover::{ColumnSummary, Value, put_results};
 use iv_index::TextRecords;
+use iv_text::RowBuffer;
 use std::alloc::Allocator;
 
 /// Puts the rows of the blocks of records of one sequence, side by side.
@@ -65,25 +66,8 @@ fn put_block<'t, A: Allocator, S: Sink>(
     ensures text { Puts (S.state sink.old) (S.state sink.new) result (group_row name.now summaries.now found.now) }
     ensures room { vec_capacity values.old ≤ vec_capacity values.new }
 {
-    put_place(name, found.block.start, found.block.stop, sink)?;
+    let (start, stop) = (u64::from(found.block.start), u64::from(found.block.stop));
+    RowBuffer::new().put_after_numbers(name, start, stop, sink)?;
     put_results(summaries, name, &found.members, values, sink)?;
     put_all(sink, b"\n")
-}
-
-/// Puts the first three columns of a row.
-fn put_place<S: Sink>(name: &[u8], start: u32, stop: u32, sink: &mut S) -> Result<(), WriteFault>
-    ensures { Puts (S.state sink.old) (S.state sink.new) result (name.now ++ codes "\t" ++ decimal start ++ codes "\t" ++ decimal stop) }
-{
-    let mut starts = itoa::Buffer::new();
-    let mut stops = itoa::Buffer::new();
-    put_pieces(
-        sink,
-        &[
-            name,
-            b"\t",
-            starts.format(start).as_bytes(),
-            b"\t",
-            stops.format(stop).as_bytes(),
-        ],
-    )
 }
