@@ -1,9 +1,9 @@
 -- What the entries of a list of chunks are, at a place and after an edit of one chunk.
-use Rattle.std.proofs.Common.{◌≡◌, ℕ, suc, ◌+◌, ◌<◌, ◌≤◌, List, ◌∷◌, ◌++◌, length, take, drop, get_or, set, sym, ap, ◌∙◌, append_assoc, arith}
+use Rattle.std.proofs.Common.{◌≡◌, ℕ, suc, ◌+◌, ◌<◌, ◌≤◌, List, [], ◌∷◌, ◌++◌, length, take, drop, get_or, set, sym, ap, ◌∙◌, append_assoc, arith}
 use Rattle.std.specs.Vec.{vec_items}
 use Rattle.std.specs.List.{insert, remove}
 use Rattle.std.specs.declared.vec.Vec.{Vec}
-use Rattle.std.proofs.lemmas.List.{take-append-drop, drop_more, drop-append-le, take-append-le, set_split, length-drop, drop-drop}
+use Rattle.std.proofs.lemmas.List.{take-append-drop, drop_more, drop-append-le, take-append-le, set_split, length-drop, drop-drop, take_more}
 use Rattle.std.proofs.lemmas.List.Concat.{flat_map-append}
 use Rattle.std.proofs.lemmas.List.Elements.{All-append, All-take, All-drop, All-cons, All-set}
 use Rattle.iv_track.specs.Chunks.{joined, before, from, IsFilled, AreFilled}
@@ -99,19 +99,14 @@ module _ {X Z : Type 0} (cs : List (Vec X Z)) where
           ∙ ap (λ z. z ∷ (drop (suc i) (vec_items x) ++ joined (drop (c + 1) cs))) (sym same)
           ∙ ap (λ xs. e ∷ xs) (sym (from_next within))
 
-  -- without a chunk
-  pub joined-remove : (c : ℕ) → joined (remove cs c) ≡ joined (take c cs) ++ joined (drop (c + 1) cs)
-  joined-remove c =
-      let e : suc c ≡ c + 1 = omega arith in
-      flat_map-append vec_items (take c cs) (drop (suc c) cs) ∙ ap (λ n. joined (take c cs) ++ joined (drop n cs)) e
-
-  -- with a further one
-  pub joined-insert : (c : ℕ) (y : Vec X Z) → joined (insert cs c y) ≡ joined (take c cs) ++ (vec_items y ++ joined (drop c cs))
-  joined-insert c y = flat_map-append vec_items (take c cs) (y ∷ drop c cs)
-
-  pub filled-remove : (c : ℕ) → AreFilled cs → AreFilled (remove cs c)
-  filled-remove c h =
-      All-append IsFilled (take c cs) (drop (suc c) cs) (All-take IsFilled c cs h) (All-drop IsFilled (suc c) cs h)
+      -- the entries before the next place
+      pub before_next : (e : X) → i < length (vec_items x) → e ≡ get_or (vec_items x) i e → (m : ℕ) → m ≡ i + 1 → before cs (record { chunk = c; index = m }) ≡ before cs (record { chunk = c; index = i }) ++ e ∷ []
+      before_next e within same m next =
+          ap (λ n. before cs (record { chunk = c; index = n })) next
+          ∙ before_at (i + 1) (omega arith)
+          ∙ ap (λ xs. joined (take c cs) ++ xs) (take_more (vec_items x) i e within ∙ ap (λ f. take i (vec_items x) ++ f ∷ []) (sym same))
+          ∙ sym (append_assoc (joined (take c cs)) (take i (vec_items x)) (e ∷ []))
+          ∙ ap (λ xs. xs ++ e ∷ []) (sym (before_at i (omega arith)))
 
   pub filled-insert : (c : ℕ) (y : Vec X Z) → IsFilled y → AreFilled cs → AreFilled (insert cs c y)
   filled-insert c y some h =

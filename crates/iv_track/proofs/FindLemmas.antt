@@ -21,7 +21,7 @@ use Rattle.iv_track.specs.Chunks.{joined, before, from, AreChunks, IsGap, IsFoun
 use Rattle.iv_track.specs.Entries.{IsLedger}
 use Rattle.iv_track.specs.declared.places.Place.{Place}
 use Rattle.iv_track.proofs.Splits.{IsBelow, IsAbove, all_front, all_back, all_both, weaken, around_below, ledger_head, ledger_tail, ledger_nil, ledger_cons}
-use Rattle.iv_track.proofs.ChunkLemmas.{joined-split, joined-parts, before_at, from_at, from_here, before-from}
+use Rattle.iv_track.proofs.ChunkLemmas.{joined-split, joined-parts, before_at, from_at, from_here, before_next, before-from}
 
 less_from_not_ge : (r : Ordering) → is_ge r ≡ false → r ≡ Less
 less_from_not_ge Less h = refl
@@ -44,14 +44,6 @@ found_near cmp k cs c x lt read i bound equal = record {
   inside = record { chunk_in_range = lt; index_in_range = at_read cs (λ y. i < vec_len y) c x lt read (omega (arith, x.ok.0, bound)) };
   has_key = at_read cs (λ y. HoldsAt (λ e. cmp k e.0 ≡ Equal) (vec_items y) i) c x lt read equal;
 }
-
--- what a search in one chunk answers
-module _ {K V : Type 0} (cmp : K → K → Ordering) (k : K) (i : ℕ) where
-  abbrev pub HoldsKeyAt : List (K × V) → Type 0
-  HoldsKeyAt xs = HoldsAt (λ e. cmp e.0 k ≡ Equal) xs i
-
-  abbrev pub PartsAt : List (K × V) → Type 0
-  PartsAt xs = IsNonDecreasingBy (λ e. ordering_index (cmp e.0 k)) xs → IsPartitionPoint (λ e. cmp e.0 k ≡ Less) (λ e. cmp e.0 k ≡ Greater) xs i
 
 module _ {K : Type 0} {cmp : K → K → Ordering} (o : IsTotalOrder cmp) where
   turned : (x y : K) (r : Ordering) → cmp x y ≡ r → cmp y x ≡ ordering_reverse r
@@ -171,7 +163,7 @@ module _ {K V : Type 0} {cmp : K → K → Ordering} (o : IsTotalOrder cmp) wher
           }
 
           -- the last chunk that starts at k or before it
-          module _ (c : ℕ) (is : n ≡ c + 1) (x : Vec (K × V) Z) (read : x ≡ get_or cs c x) where
+          module _ (c : ℕ) (is : n ≡ c + 1) {x : Vec (K × V) Z} (read : x ≡ get_or cs c x) where
             lt : c < length cs
             lt = omega arith
 
@@ -187,15 +179,16 @@ module _ {K V : Type 0} {cmp : K → K → Ordering} (o : IsTotalOrder cmp) wher
             sorted_here : IsLedger cmp (vec_items x)
             sorted_here = ledger_front (vec_items x) (joined (drop (c + 1) cs)) (ledger_back (joined (take c cs)) (vec_items x ++ joined (drop (c + 1) cs)) sorted)
 
-            pub found : (i : ℕ) → i < length (vec_items x) → HoldsAt (λ e. cmp e.0 k ≡ Equal) (vec_items x) i → IsFound cmp cs k (record { chunk = c; index = i })
-            found i within equal = record {
-              inside = record { chunk_in_range = lt; index_in_range = at_read cs (λ y. i < vec_len y) c x lt read (omega (arith, x.ok.0)) };
-              has_key = at_read cs (λ y. HoldsAt (λ e. cmp k e.0 ≡ Equal) (vec_items y) i) c x lt read (λ d. tied_back o _ k (equal d));
-            }
+            -- what a search in it answers
+            module _ {xs : List (K × V)} (items : xs ≡ vec_items x) (i : ℕ) where
+              pub found : i < length xs → HoldsAt (λ e. cmp e.0 k ≡ Equal) xs i → IsFound cmp cs k (record { chunk = c; index = i })
+              found bound equal = found_near cmp k cs c x lt read i (subst (λ ys. i < length ys) items bound) (λ d. tied_back o _ k (subst (λ ys. HoldsAt (λ e. cmp e.0 k ≡ Equal) ys i) items equal d))
 
-            pub gap : (i : ℕ) → i ≤ length (vec_items x) → (IsNonDecreasingBy (λ e. ordering_index (cmp e.0 k)) (vec_items x) → IsPartitionPoint (λ e. cmp e.0 k ≡ Less) (λ e. cmp e.0 k ≡ Greater) (vec_items x) i) → IsGap cmp cs k (record { chunk = c; index = i })
-            gap i within by_order =
-                let halves = by_order (rises (vec_items x) sorted_here) in
+              pub gap : i ≤ length xs → (IsNonDecreasingBy (λ e. ordering_index (cmp e.0 k)) xs → IsPartitionPoint (λ e. cmp e.0 k ≡ Less) (λ e. cmp e.0 k ≡ Greater) xs i) → IsGap cmp cs k (record { chunk = c; index = i })
+              gap bound by_order =
+                let within = subst (λ ys. i ≤ length ys) items bound in
+                let parts = subst (λ ys. IsNonDecreasingBy (λ e. ordering_index (cmp e.0 k)) ys → IsPartitionPoint (λ e. cmp e.0 k ≡ Less) (λ e. cmp e.0 k ≡ Greater) ys i) items by_order in
+                let halves = parts (rises (vec_items x) sorted_here) in
                 record {
                   within = record { chunk_in_range = λ _. lt; index_in_range = λ _. at_read cs (λ y. i ≤ vec_len y) c x lt read (omega (arith, x.ok.0)) };
                   first_is_first = λ first. absurd (not_first (vec_items x) some starts (subst (λ m. AllWithin (λ e. cmp e.0 k ≡ Greater) (vec_items x) m (length (vec_items x))) first halves.1));
@@ -219,14 +212,9 @@ module _ {K V : Type 0} {cmp : K → K → Ordering} (o : IsTotalOrder cmp) wher
 
           pub below_place : (i : ℕ) → i ≡ j + 1 → All (IsBelow cmp k) (before cs (record { chunk = c; index = i }))
           below_place i next =
-              let bound : j + 1 ≤ length (vec_items x) = omega (arith, within) in
-              let parts : before cs (record { chunk = c; index = i }) ≡ before cs (record { chunk = c; index = j }) ++ e ∷ [] =
-              ap (λ m. before cs (record { chunk = c; index = m })) next
-              ∙ before_at cs c x lt read (j + 1) bound
-              ∙ ap (λ es. joined (take c cs) ++ es) (take_more (vec_items x) j e within ∙ ap (λ f. take j (vec_items x) ++ f ∷ []) (sym here))
-              ∙ sym (append_assoc (joined (take c cs)) (take j (vec_items x)) (e ∷ []))
-              ∙ ap (λ es. es ++ e ∷ []) (sym (before_at cs c x lt read j (omega (arith, within)))) in
-              subst (All (IsBelow cmp k)) (sym parts) (All-append (IsBelow cmp k) (before cs (record { chunk = c; index = j })) (e ∷ []) below_last (All-cons (IsBelow cmp k) e [] less (All-nil (IsBelow cmp k))))
+              subst (All (IsBelow cmp k)) (sym (before_next cs c x lt read x j e within here i next)) (
+              All-append (IsBelow cmp k) (before cs (record { chunk = c; index = j })) (e ∷ []) below_last (All-cons (IsBelow cmp k) e [] less (All-nil (IsBelow cmp k)))
+              )
 
         -- a place where the entry at it is above k, or there is none
         pub above_place : (p : Place) → IfSome (slice_get (from cs p) 0) (IsAbove cmp k) → All (IsAbove cmp k) (from cs p)

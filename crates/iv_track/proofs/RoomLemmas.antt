@@ -1,12 +1,12 @@
 -- A place in a list of chunks of which one was split.
-use Rattle.std.proofs.Common.{◌≡◌, ℕ, suc, ◌+◌, ◌<◌, ◌≤◌, List, [], ◌∷◌, ◌++◌, length, take, drop, get_or, set, sym, ap, ◌∙◌, subst, append_assoc, arith, vec_len, Result, Ok, Err}
+use Rattle.std.proofs.Common.{◌≡◌, ℕ, suc, ◌+◌, ◌-◌, ◌/◌, ◌<◌, ◌≤◌, List, [], ◌∷◌, ◌++◌, length, take, drop, get_or, set, sym, ap, ◌∙◌, subst, append_assoc, arith, vec_len, Result, Ok, Err}
 use Rattle.std.specs.Result.{OnErr}
 use Rattle.std.specs.Vec.{vec_items}
 use Rattle.std.specs.declared.vec.Vec.{Vec}
 use Rattle.std.proofs.Math.Seq.{take-add}
 use Rattle.std.proofs.lemmas.List.{take-append-drop, take-append-le, drop-append-le, take_at, drop_at, get_or_at, take_more_set, drop-set-lt, take-take, drop-drop, append-nil, length-append, length-take-le, length-drop, length_push}
 use Rattle.std.proofs.lemmas.List.Concat.{flat_map-append}
-use Rattle.iv_track.specs.Chunks.{joined, before, from, IsFilled, AreFilled, IsSplit, IsPlaceWithRoom, most_in_chunk}
+use Rattle.iv_track.specs.Chunks.{joined, before, from, IsFilled, AreFilled, IsSplit, IsWithin, IsPlaceWithRoom, most_in_chunk}
 use Rattle.iv_track.proofs.ChunkLemmas.{before_at, from_at, filled-insert, filled-set}
 
 -- a place in a chunk between others
@@ -20,8 +20,12 @@ module _ {X Z : Type 0} (p : List (Vec X Z)) (y : Vec X Z) (q : List (Vec X Z)) 
   from_part : from (p ++ y ∷ q) (record { chunk = m; index = i }) ≡ drop i (vec_items y) ++ joined q
   from_part = ap (λ cs. drop i (joined cs)) (drop_at p (y ∷ q) m at) ∙ drop-append-le i (vec_items y) (joined q) within
 
-module _ {X Z : Type 0} (old : List (Vec X Z)) (c n : ℕ) (new : List (Vec X Z)) (split : IsSplit old c n new)
-    (x : Vec X Z) (lt : c < length old) (is : x ≡ get_or old c x) (some : 0 < n) (half : n < vec_len x) (left_room : n < most_in_chunk) (right_room : vec_len x < n + most_in_chunk) where
+-- a chunk that is full is split in its middle
+module _ {X Z : Type 0} {old : List (Vec X Z)} {c n size : ℕ} {new : List (Vec X Z)} {x : Vec X Z} (split : IsSplit old c n new)
+    (is : x ≡ get_or old c x) (counted : size ≡ vec_len x) (lt : c < length old) (filled : AreFilled old) (middle : n ≡ size / 2) (large : most_in_chunk ≤ size) where
+  sizes : (0 < n) × (n < vec_len x) × (n < most_in_chunk) × (vec_len x < n + most_in_chunk)
+  sizes = let full : IsFilled x = subst IsFilled (sym is) (filled c x lt) in (omega (arith, full), omega (arith, full), omega (arith, full), omega (arith, full))
+
   first : vec_items split.left ≡ take n (vec_items x)
   first = subst (λ y. vec_items split.left ≡ take n (vec_items y)) (sym is) (split.first x)
 
@@ -32,15 +36,15 @@ module _ {X Z : Type 0} (old : List (Vec X Z)) (c n : ℕ) (new : List (Vec X Z)
   len = x.ok.0
 
   left_len : length (vec_items split.left) ≡ n
-  left_len = ap length first ∙ length-take-le n (vec_items x) (omega (arith, len))
+  left_len = ap length first ∙ length-take-le n (vec_items x) (omega (arith, sizes, len))
 
   right_len : length (vec_items split.right) + n ≡ length (vec_items x)
-  right_len = omega (arith, ap length others, length-drop n (vec_items x), len)
+  right_len = omega (arith, sizes, ap length others, length-drop n (vec_items x), len)
 
-  pub filled_split : AreFilled old → AreFilled new
-  filled_split filled =
-      let l : IsFilled split.left = (omega (arith, left_len, split.left.ok.0), omega (arith, left_len, split.left.ok.0)) in
-      let r : IsFilled split.right = (omega (arith, right_len, split.right.ok.0, len), omega (arith, right_len, split.right.ok.0, len)) in
+  pub filled_split : AreFilled new
+  filled_split =
+      let l : IsFilled split.left = (omega (arith, sizes, left_len, split.left.ok.0), omega (arith, sizes, left_len, split.left.ok.0)) in
+      let r : IsFilled split.right = (omega (arith, sizes, right_len, split.right.ok.0, len), omega (arith, sizes, right_len, split.right.ok.0, len)) in
       subst AreFilled (sym split.are) (filled-insert (set old c split.left) (c + 1) split.right r (filled-set old c split.left l filled))
 
   parts : new ≡ (take c old ++ split.left ∷ []) ++ split.right ∷ drop (c + 1) old
@@ -72,52 +76,57 @@ module _ {X Z : Type 0} (old : List (Vec X Z)) (c n : ℕ) (new : List (Vec X Z)
   room_left i le =
       let rest_items = joined (drop (c + 1) old) in
       record {
-        chunk_in_range = omega (arith, new_len);
-        index_in_range = λ d. subst (λ y. i ≤ vec_len y) (sym (left_at d)) (omega (arith, left_len, split.left.ok.0));
-        has_room = λ d. subst (λ y. vec_len y < most_in_chunk) (sym (left_at d)) (omega (arith, left_len, split.left.ok.0));
+        chunk_in_range = omega (arith, sizes, new_len);
+        index_in_range = λ d. subst (λ y. i ≤ vec_len y) (sym (left_at d)) (omega (arith, sizes, left_len, split.left.ok.0));
+        has_room = λ d. subst (λ y. vec_len y < most_in_chunk) (sym (left_at d)) (omega (arith, sizes, left_len, split.left.ok.0));
         same_before =
             ap (λ cs. before cs (record { chunk = c; index = i })) parts_left
-            ∙ before_part (take c old) split.left (split.right ∷ drop (c + 1) old) c i front_len (omega (arith, left_len))
+            ∙ before_part (take c old) split.left (split.right ∷ drop (c + 1) old) c i front_len (omega (arith, sizes, left_len))
             ∙ ap (λ ys. joined (take c old) ++ take i ys) first
             ∙ ap (λ ys. joined (take c old) ++ ys) (take-take i n (vec_items x) le)
-            ∙ sym (before_at old c x lt is i (omega (arith, len)));
+            ∙ sym (before_at old c x lt is i (omega (arith, sizes, len)));
         same_from =
             ap (λ cs. from cs (record { chunk = c; index = i })) parts_left
-            ∙ from_part (take c old) split.left (split.right ∷ drop (c + 1) old) c i front_len (omega (arith, left_len))
+            ∙ from_part (take c old) split.left (split.right ∷ drop (c + 1) old) c i front_len (omega (arith, sizes, left_len))
             ∙ ap (λ ys. drop i ys ++ (vec_items split.right ++ rest_items)) first
             ∙ ap (λ ys. drop i (take n (vec_items x)) ++ (ys ++ rest_items)) others
             ∙ sym (append_assoc (drop i (take n (vec_items x))) (drop n (vec_items x)) rest_items)
             ∙ ap (λ ys. ys ++ rest_items) (
-            sym (drop-append-le i (take n (vec_items x)) (drop n (vec_items x)) (omega (arith, length-take-le n (vec_items x) (omega (arith, len)))))
+            sym (drop-append-le i (take n (vec_items x)) (drop n (vec_items x)) (omega (arith, sizes, length-take-le n (vec_items x) (omega (arith, sizes, len)))))
             ∙ ap (drop i) (take-append-drop n (vec_items x))
             )
-            ∙ sym (from_at old c x lt is i (omega (arith, len)));
+            ∙ sym (from_at old c x lt is i (omega (arith, sizes, len)));
       }
 
   -- a place in the second
-  pub room_right : (j : ℕ) → n + j ≤ vec_len x → IsPlaceWithRoom old (record { chunk = c; index = n + j }) new (record { chunk = c + 1; index = j })
-  room_right j le =
+  room_after : (j : ℕ) → n + j ≤ vec_len x → IsPlaceWithRoom old (record { chunk = c; index = n + j }) new (record { chunk = c + 1; index = j })
+  room_after j le =
       let rest_items = joined (drop (c + 1) old) in
       record {
-        chunk_in_range = omega (arith, new_len);
-        index_in_range = λ d. subst (λ y. j ≤ vec_len y) (sym (right_at d)) (omega (arith, right_len, split.right.ok.0, len));
-        has_room = λ d. subst (λ y. vec_len y < most_in_chunk) (sym (right_at d)) (omega (arith, right_len, split.right.ok.0, len));
+        chunk_in_range = omega (arith, sizes, new_len);
+        index_in_range = λ d. subst (λ y. j ≤ vec_len y) (sym (right_at d)) (omega (arith, sizes, right_len, split.right.ok.0, len));
+        has_room = λ d. subst (λ y. vec_len y < most_in_chunk) (sym (right_at d)) (omega (arith, sizes, right_len, split.right.ok.0, len));
         same_before =
             ap (λ cs. before cs (record { chunk = c + 1; index = j })) parts
-            ∙ before_part (take c old ++ split.left ∷ []) split.right (drop (c + 1) old) (c + 1) j both_len (omega (arith, right_len, len))
+            ∙ before_part (take c old ++ split.left ∷ []) split.right (drop (c + 1) old) (c + 1) j both_len (omega (arith, sizes, right_len, len))
             ∙ ap (λ ys. ys ++ take j (vec_items split.right)) (flat_map-append vec_items (take c old) (split.left ∷ []) ∙ ap (λ ys. joined (take c old) ++ ys) (append-nil (vec_items split.left)))
             ∙ append_assoc (joined (take c old)) (vec_items split.left) (take j (vec_items split.right))
             ∙ ap (λ ys. joined (take c old) ++ (ys ++ take j (vec_items split.right))) first
             ∙ ap (λ ys. joined (take c old) ++ (take n (vec_items x) ++ take j ys)) others
             ∙ ap (λ ys. joined (take c old) ++ ys) (sym (take-add n j (vec_items x)))
-            ∙ sym (before_at old c x lt is (n + j) (omega (arith, len)));
+            ∙ sym (before_at old c x lt is (n + j) (omega (arith, sizes, len)));
         same_from =
             ap (λ cs. from cs (record { chunk = c + 1; index = j })) parts
-            ∙ from_part (take c old ++ split.left ∷ []) split.right (drop (c + 1) old) (c + 1) j both_len (omega (arith, right_len, len))
+            ∙ from_part (take c old ++ split.left ∷ []) split.right (drop (c + 1) old) (c + 1) j both_len (omega (arith, sizes, right_len, len))
             ∙ ap (λ ys. drop j ys ++ rest_items) others
             ∙ ap (λ ys. ys ++ rest_items) (drop-drop j n (vec_items x))
-            ∙ sym (from_at old c x lt is (n + j) (omega (arith, len)));
+            ∙ sym (from_at old c x lt is (n + j) (omega (arith, sizes, len)));
       }
+
+  pub room_right : (i : ℕ) → n ≤ i → IsWithin old (record { chunk = c; index = i }) → IsPlaceWithRoom old (record { chunk = c; index = i }) new (record { chunk = c + 1; index = i - n })
+  room_right i above within =
+      let bound = subst (λ y. i ≤ vec_len y) (sym is) (within.index_in_range (omega arith) x) in
+      subst (λ (m : ℕ). IsPlaceWithRoom old (record { chunk = c; index = m }) new (record { chunk = c + 1; index = i - n })) (omega arith) (room_after (i - n) (omega (arith, bound)))
 
 -- what holds anyway
 pub always_on_err : {T E P : Type 0} (r : Result T E) → P → OnErr r P

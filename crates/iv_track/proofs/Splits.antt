@@ -31,9 +31,6 @@ module _ {X : Type 0} (p : X → Bool) where
       ∙ ap (λ xs. xs ++ filter p back) (filter_none front (recursion_from_All (λ x. p x ≡ false) front h))
       ∙ filter_all back (recursion_from_All (λ x. p x ≡ true) back g)
 
-  pub find_from : (front back : List X) → All (λ x. p x ≡ false) front → All (λ x. p x ≡ true) back → find p (front ++ back) ≡ slice_get back 0
-  find_from front back h g = find-filter p (front ++ back) ∙ ap (λ xs. slice_get xs 0) (filter_from front back h g)
-
   -- the last that passes, where none after it does
   pub find_last : (front : List X) (x : X) (back : List X) → p x ≡ true → All (λ y. p y ≡ false) back → find p (reverse (front ++ x ∷ back)) ≡ Some x
   find_last front x back here h =

@@ -18,10 +18,6 @@ takes_one_more old now new m h e = subst (λ n. TakesUpTo old n (m + 1)) (sym e)
 pub takes_within : (old new m n : ℕ) → m ≤ n → TakesUpTo old new m → TakesUpTo old new n
 takes_within old new m n le h = record { no_less = h.no_less; at_most = omega arith }
 
--- two calls, one after another
-pub takes_both : (old now new m n : ℕ) → TakesUpTo old now m → TakesUpTo now new n → TakesUpTo old new (m + n)
-takes_both old now new m n g h = record { no_less = omega arith; at_most = omega arith }
-
 -- nothing is done yet
 pub each_none : (n all : ℕ) → TakesForEach n n all all
 each_none n all = record { no_less = omega arith; at_most = omega arith }

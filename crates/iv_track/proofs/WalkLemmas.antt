@@ -40,15 +40,6 @@ module _ {K : Type 0} where
         | false ↦ rest
       ]
 
-  -- one copy is handed out, and the others are held
-  pub again-more : (r : Bor K) (n : ℕ) (rest : List K) → 0 < n → again (Some (r, n)) ++ rest ≡ r.now ∷ (again (Some (r, n - 1)) ++ rest)
-  again-more r zero rest h = absurd (omega arith)
-  again-more r (suc n) rest h = let e : suc n - 1 ≡ n = omega arith in rw e
-
-  pub again-none : (r : Bor K) (n : ℕ) → n ≤ 0 → again (Some (r, n)) ≡ []
-  again-none r zero h = refl
-  again-none r (suc n) h = absurd (omega arith)
-
 -- from the first base of the first sequence on there is every record
 pub filter-from_first : (rows : List Row) → filter (is_from 0 0) rows ≡ rows
 filter-from_first [] = refl
