@@ -1,5 +1,5 @@
 -- What a search finds in a list of chunks.
-use Rattle.std.proofs.Common.{◌≡◌, ℕ, zero, suc, ◌+◌, ◌<◌, ◌≤◌, true, false, List, [], ◌∷◌, ◌++◌, length, take, drop, get_or, refl, sym, ap, ◌∙◌, subst, append_assoc, arith, vec_len}
+use Rattle.std.proofs.Common.{◌≡◌, ℕ, zero, suc, ◌+◌, ◌<◌, ◌≤◌, true, false, List, [], ◌∷◌, ◌++◌, length, take, drop, get_or, refl, sym, ap, ◌∙◌, subst, arith, vec_len}
 use mathlib.Core.Bool.{true≢false}
 use Rattle.std.specs.Prelude.{All, IfSome}
 use Rattle.std.specs.Vec.{vec_items}
@@ -13,7 +13,7 @@ use Rattle.std.specs.declared.vec.Vec.{Vec}
 use Rattle.std.proofs.lemmas.Cmp.{tied_back}
 use Rattle.std.specs.Map.{keys_of}
 use Rattle.std.specs.Ordering.{is_lt}
-use Rattle.std.proofs.lemmas.List.{length-take-le, length-drop, length-map, get_or-take, get_or-drop, get_or-map, take_more}
+use Rattle.std.proofs.lemmas.List.{length-take-le, length-drop, length-map, get_or-take, get_or-drop, get_or-map}
 use Rattle.std.proofs.lemmas.List.Sorted.{searchable_from_sorted}
 use Rattle.std.proofs.lemmas.Map.Keys.{Less-from_sorted}
 use Rattle.std.proofs.lemmas.List.Elements.{All-from_recursion, recursion_from_All, All-nil, All-cons, All-append, at_read}
@@ -139,10 +139,13 @@ module _ {K V : Type 0} {cmp : K → K → Ordering} (o : IsTotalOrder cmp) wher
         some_items : (j : ℕ) (d : Vec (K × V) Z) → j < length cs → 0 < length (vec_items (get_or cs j d))
         some_items j d lt = let x = get_or cs j d in let h = (ok.filled j d lt).0 in omega (arith, x.ok.0)
 
-        pub partitioned : IsPartitionedBy (λ c. starts_by cmp k (vec_items c)) cs
+        partitioned : IsPartitionedBy (λ c. starts_by cmp k (vec_items c)) cs
         partitioned i j d le lt starts = are_split cs ok.ordered some_items i j d le lt starts
 
-        module _ (n : ℕ) (bound : n ≤ length cs) (point : IsPartitionPoint (λ c. starts_by cmp k (vec_items c) ≡ true) (λ c. starts_by cmp k (vec_items c) ≡ false) cs n) where
+        module _ (n : ℕ) (bound : n ≤ length cs) (by_tests : IsPartitionedBy (λ c. starts_by cmp k (vec_items c)) cs → IsPartitionPoint (λ c. starts_by cmp k (vec_items c) ≡ true) (λ c. starts_by cmp k (vec_items c) ≡ false) cs n) where
+          point : IsPartitionPoint (λ c. starts_by cmp k (vec_items c) ≡ true) (λ c. starts_by cmp k (vec_items c) ≡ false) cs n
+          point = by_tests partitioned
+
           -- all entries of the chunks from there on are above k
           rest_above : All (IsAbove cmp k) (joined (drop n cs))
           rest_above =
@@ -186,20 +189,20 @@ module _ {K V : Type 0} {cmp : K → K → Ordering} (o : IsTotalOrder cmp) wher
 
               pub gap : i ≤ length xs → (IsNonDecreasingBy (λ e. ordering_index (cmp e.0 k)) xs → IsPartitionPoint (λ e. cmp e.0 k ≡ Less) (λ e. cmp e.0 k ≡ Greater) xs i) → IsGap cmp cs k (record { chunk = c; index = i })
               gap bound by_order =
-                let within = subst (λ ys. i ≤ length ys) items bound in
-                let parts = subst (λ ys. IsNonDecreasingBy (λ e. ordering_index (cmp e.0 k)) ys → IsPartitionPoint (λ e. cmp e.0 k ≡ Less) (λ e. cmp e.0 k ≡ Greater) ys i) items by_order in
-                let halves = parts (rises (vec_items x) sorted_here) in
-                record {
-                  within = record { chunk_in_range = λ _. lt; index_in_range = λ _. at_read cs (λ y. i ≤ vec_len y) c x lt read (omega (arith, x.ok.0)) };
-                  first_is_first = λ first. absurd (not_first (vec_items x) some starts (subst (λ m. AllWithin (λ e. cmp e.0 k ≡ Greater) (vec_items x) m (length (vec_items x))) first halves.1));
-                  some_before = λ _. lt;
-                  below = subst (All (IsBelow cmp k)) (sym (before_at cs c x lt read i within)) (
-                      All-append (IsBelow cmp k) (joined (take c cs)) (take i (vec_items x)) (earlier_below (joined (take c cs)) (vec_items x) (joined (drop (c + 1) cs)) some starts sorted) (front_below (vec_items x) i within halves.0)
-                      );
-                  above = subst (All (IsAbove cmp k)) (sym (from_at cs c x lt read i within)) (
-                      All-append (IsAbove cmp k) (drop i (vec_items x)) (joined (drop (c + 1) cs)) (back_above (vec_items x) i within halves.1) (subst (λ m. All (IsAbove cmp k) (joined (drop m cs))) is rest_above)
-                      );
-                }
+                  let within = subst (λ ys. i ≤ length ys) items bound in
+                  let parts = subst (λ ys. IsNonDecreasingBy (λ e. ordering_index (cmp e.0 k)) ys → IsPartitionPoint (λ e. cmp e.0 k ≡ Less) (λ e. cmp e.0 k ≡ Greater) ys i) items by_order in
+                  let halves = parts (rises (vec_items x) sorted_here) in
+                  record {
+                    within = record { chunk_in_range = λ _. lt; index_in_range = λ _. at_read cs (λ y. i ≤ vec_len y) c x lt read (omega (arith, x.ok.0)) };
+                    first_is_first = λ first. absurd (not_first (vec_items x) some starts (subst (λ m. AllWithin (λ e. cmp e.0 k ≡ Greater) (vec_items x) m (length (vec_items x))) first halves.1));
+                    some_before = λ _. lt;
+                    below = subst (All (IsBelow cmp k)) (sym (before_at cs c x lt read i within)) (
+                        All-append (IsBelow cmp k) (joined (take c cs)) (take i (vec_items x)) (earlier_below (joined (take c cs)) (vec_items x) (joined (drop (c + 1) cs)) some starts sorted) (front_below (vec_items x) i within halves.0)
+                        );
+                    above = subst (All (IsAbove cmp k)) (sym (from_at cs c x lt read i within)) (
+                        All-append (IsAbove cmp k) (drop i (vec_items x)) (joined (drop (c + 1) cs)) (back_above (vec_items x) i within halves.1) (subst (λ m. All (IsAbove cmp k) (joined (drop m cs))) is rest_above)
+                        );
+                  }
 
         -- a place where the entry before it is below k
         module _ (c j : ℕ) (x : Vec (K × V) Z) (read : x ≡ get_or cs c x) (lt : c < length cs) (within : j < length (vec_items x)) (e : K × V) (here : e ≡ get_or (vec_items x) j e) (less : cmp k e.0 ≡ Greater) where
