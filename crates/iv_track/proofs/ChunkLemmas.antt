@@ -18,6 +18,7 @@ module _ {X Z : Type 0} (cs : List (Vec X Z)) where
       ∙ sym (flat_map-append vec_items (take p.chunk cs) (drop p.chunk cs))
       ∙ ap joined (take-append-drop p.chunk cs)
 
+  -- the entries of the first chunks and those of the others are all
   pub joined-split : (n : ℕ) → joined cs ≡ joined (take n cs) ++ joined (drop n cs)
   joined-split n = ap joined (sym (take-append-drop n cs)) ∙ flat_map-append vec_items (take n cs) (drop n cs)
 
@@ -26,6 +27,7 @@ module _ {X Z : Type 0} (cs : List (Vec X Z)) where
     pub joined-drop : joined (drop c cs) ≡ vec_items x ++ joined (drop (c + 1) cs)
     joined-drop = ap joined (drop_more cs c x in_range) ∙ ap (λ y. vec_items y ++ joined (drop (c + 1) cs)) (sym is)
 
+    -- the entries before a chunk, its own, and those after it are all
     pub joined-parts : joined cs ≡ joined (take c cs) ++ (vec_items x ++ joined (drop (c + 1) cs))
     joined-parts =
         ap joined (sym (take-append-drop c cs))
@@ -49,12 +51,14 @@ module _ {X Z : Type 0} (cs : List (Vec X Z)) where
         ∙ flat_map-append vec_items (take c cs) (y ∷ drop (suc c) cs)
         ∙ ap (λ n. joined (take c cs) ++ (vec_items y ++ joined (drop n cs))) e
 
+    -- with a chunk of the same entries in its place nothing changes
     pub joined-set_same : (y : Vec X Z) → vec_items y ≡ vec_items x → joined (set cs c y) ≡ joined cs
     joined-set_same y same =
         joined-set y ∙ ap (λ xs. joined (take c cs) ++ (xs ++ joined (drop (c + 1) cs))) same ∙ sym joined-parts
 
     -- the chunk has other entries from an index on
     module _ (y : Vec X Z) (i : ℕ) (within : i ≤ length (vec_items x)) (zs : List X) (has : vec_items y ≡ take i (vec_items x) ++ zs) where
+      -- all entries then
       pub joined-set_from : joined (set cs c y) ≡ before cs (record { chunk = c; index = i }) ++ (zs ++ joined (drop (c + 1) cs))
       joined-set_from =
           let rest = joined (drop (c + 1) cs) in
@@ -65,6 +69,7 @@ module _ {X Z : Type 0} (cs : List (Vec X Z)) where
           ∙ ap (λ xs. xs ++ (zs ++ rest)) (sym (before_at i within))
 
     module _ (y : Vec X Z) (i : ℕ) where
+      -- with an entry put in
       pub joined-set_inserted : (e : X) → i ≤ length (vec_items x) → vec_items y ≡ insert (vec_items x) i e → joined (set cs c y) ≡ before cs (record { chunk = c; index = i }) ++ e ∷ from cs (record { chunk = c; index = i })
       joined-set_inserted e within has =
           joined-set_from y i within (e ∷ drop i (vec_items x)) has
@@ -79,11 +84,13 @@ module _ {X Z : Type 0} (cs : List (Vec X Z)) where
           ∙ drop-append-le 1 (drop i (vec_items x)) (joined (drop (c + 1) cs)) some
           ∙ ap (λ xs. xs ++ joined (drop (c + 1) cs)) (drop-drop 1 i (vec_items x) ∙ ap (λ n. drop n (vec_items x)) e)
 
+      -- without an entry
       pub joined-set_removed : i < length (vec_items x) → vec_items y ≡ remove (vec_items x) i → joined (set cs c y) ≡ before cs (record { chunk = c; index = i }) ++ drop 1 (from cs (record { chunk = c; index = i }))
       joined-set_removed within has =
           joined-set_from y i (omega arith) (drop (suc i) (vec_items x)) has
           ∙ ap (λ xs. before cs (record { chunk = c; index = i }) ++ xs) (sym (from_next within))
 
+      -- with another entry in the place of one
       pub joined-set_written : (e : X) → i < length (vec_items x) → vec_items y ≡ set (vec_items x) i e → joined (set cs c y) ≡ before cs (record { chunk = c; index = i }) ++ e ∷ drop 1 (from cs (record { chunk = c; index = i }))
       joined-set_written e within has =
           joined-set_from y i (omega arith) (e ∷ drop (suc i) (vec_items x)) (has ∙ set_split (vec_items x) i e within)
@@ -108,9 +115,11 @@ module _ {X Z : Type 0} (cs : List (Vec X Z)) where
           ∙ sym (append_assoc (joined (take c cs)) (take i (vec_items x)) (e ∷ []))
           ∙ ap (λ xs. xs ++ e ∷ []) (sym (before_at i (omega arith)))
 
+  -- a further chunk that has some entries
   pub filled-insert : (c : ℕ) (y : Vec X Z) → IsFilled y → AreFilled cs → AreFilled (insert cs c y)
   filled-insert c y some h =
       All-append IsFilled (take c cs) (y ∷ drop c cs) (All-take IsFilled c cs h) (All-cons IsFilled y (drop c cs) some (All-drop IsFilled c cs h))
 
+  -- another chunk that has some entries, in the place of one
   pub filled-set : (c : ℕ) (y : Vec X Z) → IsFilled y → AreFilled cs → AreFilled (set cs c y)
   filled-set c y some h = All-set IsFilled cs c y some h

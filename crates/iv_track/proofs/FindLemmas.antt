@@ -23,16 +23,19 @@ use Rattle.iv_track.specs.declared.places.Place.{Place}
 use Rattle.iv_track.proofs.Splits.{IsBelow, IsAbove, all_front, all_back, all_both, weaken, around_below, ledger_head, ledger_tail, ledger_nil, ledger_cons}
 use Rattle.iv_track.proofs.ChunkLemmas.{joined-split, joined-parts, before_at, from_at, from_here, before_next, before-from}
 
+-- what is not at or after is before
 less_from_not_ge : (r : Ordering) → is_ge r ≡ false → r ≡ Less
 less_from_not_ge Less h = refl
 less_from_not_ge Equal h = absurd (true≢false h)
 less_from_not_ge Greater h = absurd (true≢false h)
 
+-- the test for before
 pub less_from_lt : (r : Ordering) → is_lt r ≡ true → r ≡ Less
 less_from_lt Less h = refl
 less_from_lt Equal h = absurd (true≢false (sym h))
 less_from_lt Greater h = absurd (true≢false (sym h))
 
+-- the test for after
 pub greater_from_gt : (r : Ordering) → is_gt r ≡ true → r ≡ Greater
 greater_from_gt Greater h = refl
 greater_from_gt Equal h = absurd (true≢false (sym h))
@@ -46,6 +49,7 @@ found_near cmp k cs c x lt read i bound equal = record {
 }
 
 module _ {K : Type 0} {cmp : K → K → Ordering} (o : IsTotalOrder cmp) where
+  -- a comparison the other way round
   turned : (x y : K) (r : Ordering) → cmp x y ≡ r → cmp y x ≡ ordering_reverse r
   turned x y r h = o.antisymm y x ∙ ap ordering_reverse h
 
@@ -56,11 +60,13 @@ module _ {K : Type 0} {cmp : K → K → Ordering} (o : IsTotalOrder cmp) where
   past k e f Greater is ge less = turned e k Less (o.trans e f k less (turned k f Greater is))
 
 module _ {K V : Type 0} {cmp : K → K → Ordering} (o : IsTotalOrder cmp) where
+  -- the first of some entries in order are in order
   ledger_front : (front back : List (K × V)) → IsLedger cmp (front ++ back) → IsLedger cmp front
   ledger_front [] back s = ledger_nil K V cmp
   ledger_front (e ∷ front) back s =
       ledger_cons o e front (all_front (λ f. cmp e.0 f.0 ≡ Less) front back (ledger_head o e (front ++ back) s)) (ledger_front front back (ledger_tail o e (front ++ back) s))
 
+  -- and so are the last ones
   ledger_back : (front back : List (K × V)) → IsLedger cmp (front ++ back) → IsLedger cmp back
   ledger_back [] back s = s
   ledger_back (e ∷ front) back s = ledger_back front back (ledger_tail o e (front ++ back) s)
@@ -86,20 +92,24 @@ module _ {K V : Type 0} {cmp : K → K → Ordering} (o : IsTotalOrder cmp) wher
         let next = get_or-map (λ (e : K × V). e.0) xs (i + 1) d d.0 lt in
         ap is_lt (turned o (get_or xs i d).0 (get_or xs (i + 1) d).0 Less (ap (λ y. cmp y (get_or xs (i + 1) d).0) (sym here) ∙ ap (cmp (get_or (keys_of xs) i d.0)) (sym next) ∙ below)))
 
+    -- the entries before the index where the search in a chunk ends are below k
     front_below : (xs : List (K × V)) (i : ℕ) → i ≤ length xs → AllWithin (λ e. cmp e.0 k ≡ Less) xs 0 i → All (IsBelow cmp k) (take i xs)
     front_below xs i within h j d lt =
         let less : j < i = omega (arith, length-take-le i xs within) in
         subst (IsBelow cmp k) (sym (get_or-take i xs j d less)) (turned o _ k Less (h j d (omega arith) less))
 
+    -- and those from there on are above k
     back_above : (xs : List (K × V)) (i : ℕ) → i ≤ length xs → AllWithin (λ e. cmp e.0 k ≡ Greater) xs i (length xs) → All (IsAbove cmp k) (drop i xs)
     back_above xs i within h j d lt =
         subst (IsAbove cmp k) (sym (get_or-drop i xs j d)) (turned o _ k Greater (h (i + j) d (omega arith) (omega (arith, length-drop i xs))))
 
+    -- the entries of the chunks before one that starts by k are below k
     earlier_below : (front xs back : List (K × V)) → 0 < length xs → starts_by cmp k xs ≡ true → IsLedger cmp (front ++ (xs ++ back)) → All (IsBelow cmp k) front
     earlier_below front [] back some starts s = absurd (omega arith)
     earlier_below front (e ∷ xs) back some starts s =
         All-from_recursion (IsBelow cmp k) front (weaken (λ f. cmp f.0 e.0 ≡ Less) (IsBelow cmp k) (λ f less. past o k f.0 e.0 (cmp k e.0) refl starts less) front (around_below o front e (xs ++ back) s))
 
+    -- k is not above all entries of a chunk that starts by k
     not_first : (xs : List (K × V)) → 0 < length xs → starts_by cmp k xs ≡ true → AllWithin (λ e. cmp e.0 k ≡ Greater) xs 0 (length xs) → ⊥
     not_first [] some starts h = omega arith
     not_first (e ∷ xs) some starts h = true≢false (sym starts ∙ ap is_ge (turned o e.0 k Greater (h 0 e (omega arith) some)))
@@ -110,6 +120,7 @@ module _ {K V : Type 0} {cmp : K → K → Ordering} (o : IsTotalOrder cmp) wher
     above_first (f ∷ es) s h = All-from_recursion (IsAbove cmp k) (f ∷ es) (chunk_above (f ∷ es) s (ap is_ge h))
 
     module _ {Z : Type 0} where
+      -- the entries of chunks that start above k are above k
       later_above : (cs : List (Vec (K × V) Z)) → IsLedger cmp (joined cs) → AllByRecursion (λ c. starts_by cmp k (vec_items c) ≡ false) cs → AllByRecursion (IsAbove cmp k) (joined cs)
       later_above [] s h = tt
       later_above (c ∷ cs) s h =
@@ -121,11 +132,13 @@ module _ {K V : Type 0} {cmp : K → K → Ordering} (o : IsTotalOrder cmp) wher
       chunk_of_all P (c ∷ cs) zero d lt h = all_front P (vec_items c) (joined cs) h
       chunk_of_all P (c ∷ cs) (suc j) d lt h = chunk_of_all P cs j d (omega arith) (all_back P (vec_items c) (joined cs) h)
 
+      -- an entry before a chunk that starts by k is before k
       first_before : (xs : List (K × V)) (cs : List (Vec (K × V) Z)) (j : ℕ) (d : Vec (K × V) Z) → j < length cs → 0 < length (vec_items (get_or cs j d)) → IsLedger cmp (xs ++ joined cs) → starts_by cmp k (vec_items (get_or cs j d)) ≡ true → starts_by cmp k xs ≡ true
       first_before [] cs j d lt some s starts = refl
       first_before (e ∷ xs) cs j d lt some s starts =
           first_past e (vec_items (get_or cs j d)) some (chunk_of_all (λ f. cmp e.0 f.0 ≡ Less) cs j d lt (all_back (λ f. cmp e.0 f.0 ≡ Less) xs (joined cs) (ledger_head o e (xs ++ joined cs) s))) starts
 
+      -- if a chunk starts by k then so do those before it
       are_split : (cs : List (Vec (K × V) Z)) → IsLedger cmp (joined cs) → ((j : ℕ) (d : Vec (K × V) Z) → j < length cs → 0 < length (vec_items (get_or cs j d)))
           → (i j : ℕ) (d : Vec (K × V) Z) → i ≤ j → j < length cs → starts_by cmp k (vec_items (get_or cs j d)) ≡ true → starts_by cmp k (vec_items (get_or cs i d)) ≡ true
       are_split [] s some i j d le lt starts = absurd (omega arith)
@@ -136,13 +149,16 @@ module _ {K V : Type 0} {cmp : K → K → Ordering} (o : IsTotalOrder cmp) wher
           are_split cs (ledger_back (vec_items c) (joined cs) s) (λ m e less. some (suc m) e (omega arith)) i j d (omega arith) (omega arith) starts
 
       module _ (cs : List (Vec (K × V) Z)) (ok : AreChunks cmp cs) where
+        -- no chunk is empty
         some_items : (j : ℕ) (d : Vec (K × V) Z) → j < length cs → 0 < length (vec_items (get_or cs j d))
         some_items j d lt = let x = get_or cs j d in let h = (ok.filled j d lt).0 in omega (arith, x.ok.0)
 
+        -- the chunks that start by k come before the others
         partitioned : IsPartitionedBy (λ c. starts_by cmp k (vec_items c)) cs
         partitioned i j d le lt starts = are_split cs ok.ordered some_items i j d le lt starts
 
         module _ (n : ℕ) (bound : n ≤ length cs) (by_tests : IsPartitionedBy (λ c. starts_by cmp k (vec_items c)) cs → IsPartitionPoint (λ c. starts_by cmp k (vec_items c) ≡ true) (λ c. starts_by cmp k (vec_items c) ≡ false) cs n) where
+          -- so the search for the first of the others finds it
           point : IsPartitionPoint (λ c. starts_by cmp k (vec_items c) ≡ true) (λ c. starts_by cmp k (vec_items c) ≡ false) cs n
           point = by_tests partitioned
 
@@ -156,6 +172,7 @@ module _ {K V : Type 0} {cmp : K → K → Ordering} (o : IsTotalOrder cmp) wher
               let sorted = ledger_back (joined (take n cs)) (joined (drop n cs)) (subst (IsLedger cmp) (joined-split cs n) ok.ordered) in
               All-from_recursion (IsAbove cmp k) (joined (drop n cs)) (later_above (drop n cs) sorted (recursion_from_All Q (drop n cs) chunks))
 
+          -- if no chunk starts by k then k would go before all entries
           pub no_chunk : n ≡ 0 → IsGap cmp cs k (record { chunk = 0; index = 0 })
           no_chunk none = record {
             within = record { chunk_in_range = λ some. some; index_in_range = λ some d. omega arith };
@@ -167,26 +184,33 @@ module _ {K V : Type 0} {cmp : K → K → Ordering} (o : IsTotalOrder cmp) wher
 
           -- the last chunk that starts at k or before it
           module _ (c : ℕ) (is : n ≡ c + 1) {x : Vec (K × V) Z} (read : x ≡ get_or cs c x) where
+            -- it is one of the chunks
             lt : c < length cs
             lt = omega arith
 
+            -- it starts by k
             starts : starts_by cmp k (vec_items x) ≡ true
             starts = subst (λ y. starts_by cmp k (vec_items y) ≡ true) (sym read) (point.0 c x (omega arith) (omega arith))
 
+            -- it is not empty
             some : 0 < length (vec_items x)
             some = subst (λ y. 0 < length (vec_items y)) (sym read) (some_items c x lt)
 
+            -- all entries in order, with its own between others
             sorted : IsLedger cmp (joined (take c cs) ++ (vec_items x ++ joined (drop (c + 1) cs)))
             sorted = subst (IsLedger cmp) (joined-parts cs c x lt read) ok.ordered
 
+            -- its entries are in order
             sorted_here : IsLedger cmp (vec_items x)
             sorted_here = ledger_front (vec_items x) (joined (drop (c + 1) cs)) (ledger_back (joined (take c cs)) (vec_items x ++ joined (drop (c + 1) cs)) sorted)
 
             -- what a search in it answers
             module _ {xs : List (K × V)} (items : xs ≡ vec_items x) (i : ℕ) where
+              -- it has k at an index
               pub found : i < length xs → HoldsAt (λ e. cmp e.0 k ≡ Equal) xs i → IsFound cmp cs k (record { chunk = c; index = i })
               found bound equal = found_near cmp k cs c x lt read i (subst (λ ys. i < length ys) items bound) (λ d. tied_back o _ k (subst (λ ys. HoldsAt (λ e. cmp e.0 k ≡ Equal) ys i) items equal d))
 
+              -- or else k would go before an index of it
               pub gap : i ≤ length xs → (IsNonDecreasingBy (λ e. ordering_index (cmp e.0 k)) xs → IsPartitionPoint (λ e. cmp e.0 k ≡ Less) (λ e. cmp e.0 k ≡ Greater) xs i) → IsGap cmp cs k (record { chunk = c; index = i })
               gap bound by_order =
                   let within = subst (λ ys. i ≤ length ys) items bound in
@@ -206,6 +230,7 @@ module _ {K V : Type 0} {cmp : K → K → Ordering} (o : IsTotalOrder cmp) wher
 
         -- a place where the entry before it is below k
         module _ (c j : ℕ) (x : Vec (K × V) Z) (read : x ≡ get_or cs c x) (lt : c < length cs) (within : j < length (vec_items x)) (e : K × V) (here : e ≡ get_or (vec_items x) j e) (less : cmp k e.0 ≡ Greater) where
+          -- the entries before that one are below k too
           below_last : All (IsBelow cmp k) (before cs (record { chunk = c; index = j }))
           below_last =
               let p : Place = record { chunk = c; index = j } in
@@ -213,6 +238,7 @@ module _ {K V : Type 0} {cmp : K → K → Ordering} (o : IsTotalOrder cmp) wher
               let sorted = subst (IsLedger cmp) all ok.ordered in
               All-from_recursion (IsBelow cmp k) (before cs p) (weaken (λ f. cmp f.0 e.0 ≡ Less) (IsBelow cmp k) (λ f h. turned o f.0 k Less (o.trans f.0 e.0 k h (turned o k e.0 Greater less))) (before cs p) (around_below o (before cs p) e (drop 1 (from cs p)) sorted))
 
+          -- so are all before the place
           pub below_place : (i : ℕ) → i ≡ j + 1 → All (IsBelow cmp k) (before cs (record { chunk = c; index = i }))
           below_place i next =
               subst (All (IsBelow cmp k)) (sym (before_next cs c x lt read x j e within here i next)) (

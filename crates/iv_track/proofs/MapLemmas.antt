@@ -44,9 +44,11 @@ first_found again same all t p passing first =
     ∙ ap (λ xs. slice_get xs 0) (passing ∙ ap (λ hs. filter t (joined hs)) same ∙ ap (filter t) all)
     ∙ sym (find-filter t _)
 
+-- what holds of all holds of the last one
 last_of : {X : Type 0} (Q : X → Type 0) (front : List X) (x : X) → All Q (front ++ x ∷ []) → Q x
 last_of Q front x h = subst Q (get_or_push front x x (length front) refl) (h (length front) x (omega (arith, length_push front x)))
 
+-- the first item, or else another one
 abbrev head_or : {X : Type 0} → X → List X → X
 head_or d [] = d
 head_or d (x ∷ xs) = x
@@ -62,47 +64,56 @@ pub record IsEntry {K V Z : Type 0} (cmp : K → K → Ordering) (k : K) (cs : L
   pub here : cmp k e.0 ≡ Equal
 
 module _ {K V Z : Type 0} {cmp : K → K → Ordering} {k : K} {cs : List (Vec (K × V) Z)} {es : List (K × V)} {p : Place} {e : K × V} (entry : IsEntry cmp k cs es p e) where
+  -- all entries: those before it, itself, and those after it
   parts : es ≡ before cs p ++ e ∷ drop 1 (from cs p)
   parts = sym entry.all ∙ sym (before-from cs p) ∙ ap (λ xs. before cs p ++ xs) entry.first
 
+  -- these ascend
   in_order : IsLedger cmp (before cs p ++ e ∷ drop 1 (from cs p))
   in_order = subst (IsLedger cmp) parts entry.sorted
 
+  -- the keys before it are below its key
   below : All (IsBelow cmp k) (before cs p)
   below = below_present entry.total k (before cs p) e (drop 1 (from cs p)) entry.here in_order
 
+  -- the keys after it are above its key
   above : All (IsAbove cmp k) (drop 1 (from cs p))
   above = above_present entry.total k (before cs p) e (drop 1 (from cs p)) entry.here in_order
 
+  -- its value is the one at the key
   pub found_value : value_at cmp es k ≡ Some e.1
   found_value = ap (λ xs. value_at cmp xs k) parts ∙ value_present cmp k (before cs p) e (drop 1 (from cs p)) below entry.here
 
+  -- a set of the key writes its value
   pub found_set : (w : V) → set_value (is_at (cmp k)) es w ≡ before cs p ++ (e.0, w) ∷ drop 1 (from cs p)
   found_set w = ap (λ xs. set_value (is_at (cmp k)) xs w) parts ∙ set_present cmp k (before cs p) e (drop 1 (from cs p)) below entry.here w
 
+  -- and so does an insertion of the key
   pub found_insert : (w : V) → insert_entry cmp es k w ≡ before cs p ++ (e.0, w) ∷ drop 1 (from cs p)
   found_insert w = ap (λ xs. insert_entry cmp xs k w) parts ∙ insert_present cmp k (before cs p) e (drop 1 (from cs p)) below entry.here w
 
+  -- a removal of the key leaves it out
   pub found_remove : remove_entry (is_at (cmp k)) es ≡ before cs p ++ drop 1 (from cs p)
   found_remove = ap (remove_entry (is_at (cmp k))) parts ∙ remove_present cmp k (before cs p) e (drop 1 (from cs p)) below entry.here
 
+  -- it is the last one at or before the key
   pub found_last : last_until cmp es k ≡ Some e
   found_last =
       ap (λ xs. last_until cmp xs k) parts
       ∙ find_last (λ f. is_ge (cmp k f.0)) (before cs p) e (drop 1 (from cs p)) (ap is_ge entry.here) (All-weaker (IsAbove cmp k) (λ f. is_ge (cmp k f.0) ≡ false) (λ f h. ap is_ge h) (drop 1 (from cs p)) above)
 
-  -- the entries from the key on
-  found_walk : filter (λ f. is_le (cmp k f.0)) es ≡ from cs p
-  found_walk =
+  -- the entries from its key on
+  from_entry : filter (λ f. is_le (cmp k f.0)) es ≡ from cs p
+  from_entry =
       ap (filter (λ f. is_le (cmp k f.0))) parts
       ∙ filter_from (λ f. is_le (cmp k f.0)) (before cs p) (e ∷ drop 1 (from cs p)) (
       All-weaker (IsBelow cmp k) (λ f. is_le (cmp k f.0) ≡ false) (λ f h. ap is_le h) (before cs p) below
       ) (All-cons (λ f. is_le (cmp k f.0) ≡ true) e (drop 1 (from cs p)) (ap is_le entry.here) (All-weaker (IsAbove cmp k) (λ f. is_le (cmp k f.0) ≡ true) (λ f h. ap is_le h) (drop 1 (from cs p)) above))
       ∙ sym entry.first
 
-  -- the entries after the key
-  found_after : filter (λ f. is_lt (cmp k f.0)) es ≡ drop 1 (from cs p)
-  found_after =
+  -- the entries after its key
+  after_entry : filter (λ f. is_lt (cmp k f.0)) es ≡ drop 1 (from cs p)
+  after_entry =
       ap (filter (λ f. is_lt (cmp k f.0))) (parts ∙ sym (append_assoc (before cs p) (e ∷ []) (drop 1 (from cs p))))
       ∙ filter_from (λ f. is_lt (cmp k f.0)) (before cs p ++ e ∷ []) (drop 1 (from cs p)) (
       All-append (λ f. is_lt (cmp k f.0) ≡ false) (before cs p) (e ∷ []) (
@@ -111,9 +122,11 @@ module _ {K V Z : Type 0} {cmp : K → K → Ordering} {k : K} {cs : List (Vec (
       ) (All-weaker (IsAbove cmp k) (λ f. is_lt (cmp k f.0) ≡ true) (λ f h. ap is_lt h) (drop 1 (from cs p)) above)
 
   module _ {len : ℕ} (whole : IsWhole cmp cs len) where
+    -- the number of entries, by the same parts
     counted_found : len ≡ length (before cs p) + (1 + length (drop 1 (from cs p)))
     counted_found = omega (arith, whole.counted, ap length entry.all, ap length parts, length-append (before cs p) (e ∷ drop 1 (from cs p)))
 
+    -- there is an entry at least
     pub some_entry : 1 ≤ len
     some_entry = omega (arith, counted_found)
 
@@ -126,9 +139,11 @@ module _ {K V Z : Type 0} {cmp : K → K → Ordering} {k : K} {cs : List (Vec (
 -- where a search found a key there is an entry with it
 module _ {K V Z : Type 0} {cmp : K → K → Ordering} (o : IsTotalOrder cmp) {k : K} {cs ds : List (Vec (K × V) Z)} {es : List (K × V)} {p : Place}
     (found : IsFound cmp ds k p) (same : ds ≡ cs) (ok : AreChunks cmp cs) (all : joined cs ≡ es) where
+  -- so the search says of the chunks themselves
   there : IsFound cmp cs k p
   there = subst (λ ys. IsFound cmp ys k p) same found
 
+  -- the index is one of the chunk
   in_chunk : (x : Vec (K × V) Z) → x ≡ get_or cs p.chunk x → p.index < length (vec_items x)
   in_chunk x is = omega (arith, x.ok.0, subst (λ y. p.index < vec_len y) (sym is) (there.inside.index_in_range x))
 
@@ -143,19 +158,23 @@ module _ {K V Z : Type 0} {cmp : K → K → Ordering} (o : IsTotalOrder cmp) {k
       here = ap (λ f. cmp k f.0) (read ∙ ap (λ y. get_or (vec_items y) p.index e) is) ∙ there.has_key x e;
     }
 
-    -- with another value
+    -- ---- another value is written
     module _ {w v : V} (writes : w ≡ v) where
+      -- all entries then
       written_all : joined (set cs p.chunk (with_item x p.index (e.0, w))) ≡ before cs p ++ (e.0, v) ∷ drop 1 (from cs p)
       written_all =
           joined-set_written cs p.chunk x there.inside.chunk_in_range is (with_item x p.index (e.0, w)) p.index (e.0, w) (in_chunk x is) refl
           ∙ ap (λ u. before cs p ++ (e.0, u) ∷ drop 1 (from cs p)) writes
 
+      -- they are those after an insertion of the key
       pub written_insert : joined (set cs p.chunk (with_item x p.index (e.0, w))) ≡ insert_entry cmp es k v
       written_insert = written_all ∙ sym (found_insert entry_read v)
 
+      -- and those after a set of the key
       pub written_set : joined (set cs p.chunk (with_item x p.index (e.0, w))) ≡ set_value (is_at (cmp k)) es v
       written_set = written_all ∙ sym (found_set entry_read v)
 
+      -- the chunks are whole as before
       pub whole_written : {len : ℕ} → IsWhole cmp cs len → IsWhole cmp (set cs p.chunk (with_item x p.index (e.0, w))) len
       whole_written {len = len} whole =
           let full : IsFilled x = subst IsFilled (sym is) (ok.filled p.chunk x there.inside.chunk_in_range) in
@@ -170,6 +189,7 @@ module _ {K V Z : Type 0} {cmp : K → K → Ordering} (o : IsTotalOrder cmp) {k
       let is = get_or_default cs p.chunk c (get_or cs p.chunk c) there.inside.chunk_in_range in
       some_of (get_or cs p.chunk c) is (vec_items (get_or cs p.chunk c)) refl
     where
+      -- it is the one at the index, as its chunk is not empty
       some_of : (x : Vec (K × V) Z) → x ≡ get_or cs p.chunk x → (xs : List (K × V)) → vec_items x ≡ xs → (e : K × V) × IsEntry cmp k cs es p e
       some_of x is [] none = absurd (omega (arith, in_chunk x is, ap length none))
       some_of x is (d ∷ xs) some = (get_or (vec_items x) p.index d, entry_read is (get_or_default (vec_items x) p.index d (get_or (vec_items x) p.index d) (in_chunk x is)))
@@ -180,26 +200,33 @@ module _ {K V Z : Type 0} {cmp : K → K → Ordering} (o : IsTotalOrder cmp) {k
       let one = entry_there cs refl in
       subst (IsEntry cmp k cs es p) (ap (head_or e) (sym one.1.first ∙ first)) one.1
 
-  pub found_walk_any : filter (λ f. is_le (cmp k f.0)) es ≡ from cs p
-  found_walk_any = found_walk (entry_there cs refl).1
+  -- the place is where the entries from the key on begin
+  pub found_walk : filter (λ f. is_le (cmp k f.0)) es ≡ from cs p
+  found_walk = from_entry (entry_there cs refl).1
 
-  pub found_after_any : filter (λ f. is_lt (cmp k f.0)) es ≡ from cs (record { chunk = p.chunk; index = p.index + 1 })
-  found_after_any = found_after (entry_there cs refl).1 ∙ drop-drop 1 p.index (joined (drop p.chunk cs))
+  -- and the next place is where those after the key begin
+  pub found_after : filter (λ f. is_lt (cmp k f.0)) es ≡ from cs (record { chunk = p.chunk; index = p.index + 1 })
+  found_after = after_entry (entry_there cs refl).1 ∙ drop-drop 1 p.index (joined (drop p.chunk cs))
 
 -- ---- the key is not there
 module _ {K V Z : Type 0} {cmp : K → K → Ordering} {k : K} {cs ds : List (Vec (K × V) Z)} {es : List (K × V)} {p : Place} (missing : IsGap cmp ds k p) (same : ds ≡ cs) (all : joined cs ≡ es) where
+  -- so the search says of the chunks themselves
   gap : IsGap cmp cs k p
   gap = subst (λ ys. IsGap cmp ys k p) same missing
 
+  -- all entries: those before the place and those from it on
   around : before cs p ++ from cs p ≡ es
   around = before-from cs p ∙ all
 
+  -- the key has no value
   pub gap_value : value_at cmp es k ≡ None
   gap_value = ap (λ xs. value_at cmp xs k) (sym around) ∙ value_absent cmp k (before cs p) (from cs p) gap.below gap.above
 
+  -- a removal of the key changes nothing
   pub gap_remove : remove_entry (is_at (cmp k)) es ≡ es
   gap_remove = ap (remove_entry (is_at (cmp k))) (sym around) ∙ remove_absent cmp k (before cs p) (from cs p) gap.below gap.above ∙ around
 
+  -- an insertion of the key puts its entry in at the place
   pub gap_insert : (v : V) → insert_entry cmp es k v ≡ before cs p ++ (k, v) ∷ from cs p
   gap_insert v = ap (λ xs. insert_entry cmp xs k v) (sym around) ∙ insert_absent cmp k (before cs p) (from cs p) gap.below gap.above v
 
@@ -210,6 +237,7 @@ module _ {K V Z : Type 0} {cmp : K → K → Ordering} {k : K} {cs ds : List (Ve
       ∙ filter_from (λ f. t (cmp k f.0)) (before cs p) (from cs p)
       (All-weaker (IsBelow cmp k) (λ f. t (cmp k f.0) ≡ false) (λ f h. ap t h ∙ below_not) (before cs p) gap.below) (All-weaker (IsAbove cmp k) (λ f. t (cmp k f.0) ≡ true) (λ f h. ap t h ∙ above_so) (from cs p) gap.above)
 
+  -- no key from the place on is at or before the key
   not_above : All (λ f. is_ge (cmp k f.0) ≡ false) (from cs p)
   not_above = All-weaker (IsAbove cmp k) (λ f. is_ge (cmp k f.0) ≡ false) (λ f h. ap is_ge h) (from cs p) gap.above
 
@@ -220,11 +248,13 @@ module _ {K V Z : Type 0} {cmp : K → K → Ordering} {k : K} {cs ds : List (Ve
       ap (λ xs. last_until cmp xs k) (sym around ∙ ap (λ xs. xs ++ from cs p) none)
       ∙ find_no_last (λ f. is_ge (cmp k f.0)) (from cs p) not_above
 
-  -- else there is the entry before it
+  -- ---- else there is an entry before it
   module _ {x : Vec (K × V) Z} (is : x ≡ get_or cs p.chunk x) (j : ℕ) (next : p.index ≡ j + 1) where
+    -- its index is one of the chunk
     pub gap_within : j < vec_len x
     gap_within = omega (arith, next, subst (λ y. p.index ≤ vec_len y) (sym is) (gap.within.index_in_range (omega (arith, gap.some_before (omega (arith, next)))) x))
 
+    -- it is the last one at or before the key
     pub gap_last : {e : K × V} → e ≡ get_or (vec_items x) j e → last_until cmp es k ≡ Some e
     gap_last {e = e} read =
         let lt : p.chunk < length cs = gap.some_before (omega (arith, next)) in

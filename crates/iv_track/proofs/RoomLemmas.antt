@@ -11,63 +11,79 @@ use Rattle.iv_track.proofs.ChunkLemmas.{before_at, from_at, filled-insert, fille
 
 -- a place in a chunk between others
 module _ {X Z : Type 0} (p : List (Vec X Z)) (y : Vec X Z) (q : List (Vec X Z)) (m i : ℕ) (at : length p ≡ m) (within : i ≤ length (vec_items y)) where
+  -- the entries before it
   before_part : before (p ++ y ∷ q) (record { chunk = m; index = i }) ≡ joined p ++ take i (vec_items y)
   before_part =
       ap (λ cs. joined cs ++ take i (joined (drop m (p ++ y ∷ q)))) (take_at p (y ∷ q) m at)
       ∙ ap (λ cs. joined p ++ take i (joined cs)) (drop_at p (y ∷ q) m at)
       ∙ ap (λ xs. joined p ++ xs) (take-append-le i (vec_items y) (joined q) within)
 
+  -- and those from it on
   from_part : from (p ++ y ∷ q) (record { chunk = m; index = i }) ≡ drop i (vec_items y) ++ joined q
   from_part = ap (λ cs. drop i (joined cs)) (drop_at p (y ∷ q) m at) ∙ drop-append-le i (vec_items y) (joined q) within
 
 -- a chunk that is full is split in its middle
 module _ {X Z : Type 0} {old : List (Vec X Z)} {c n size : ℕ} {new : List (Vec X Z)} {x : Vec X Z} (split : IsSplit old c n new)
     (is : x ≡ get_or old c x) (counted : size ≡ vec_len x) (lt : c < length old) (filled : AreFilled old) (middle : n ≡ size / 2) (large : most_in_chunk ≤ size) where
+  -- the middle is neither the start nor the end, and both parts have room
   sizes : (0 < n) × (n < vec_len x) × (n < most_in_chunk) × (vec_len x < n + most_in_chunk)
   sizes = let full : IsFilled x = subst IsFilled (sym is) (filled c x lt) in (omega (arith, full), omega (arith, full), omega (arith, full), omega (arith, full))
 
+  -- the entries of the first part
   first : vec_items split.left ≡ take n (vec_items x)
   first = subst (λ y. vec_items split.left ≡ take n (vec_items y)) (sym is) (split.first x)
 
+  -- the entries of the second
   others : vec_items split.right ≡ drop n (vec_items x)
   others = subst (λ y. vec_items split.right ≡ drop n (vec_items y)) (sym is) (split.others x)
 
+  -- the number of entries in the chunk
   len : vec_len x ≡ length (vec_items x)
   len = x.ok.0
 
+  -- the number in the first part
   left_len : length (vec_items split.left) ≡ n
   left_len = ap length first ∙ length-take-le n (vec_items x) (omega (arith, sizes, len))
 
+  -- the number in the second
   right_len : length (vec_items split.right) + n ≡ length (vec_items x)
   right_len = omega (arith, sizes, ap length others, length-drop n (vec_items x), len)
 
+  -- no chunk is empty or too full then
   pub filled_split : AreFilled new
   filled_split =
       let l : IsFilled split.left = (omega (arith, sizes, left_len, split.left.ok.0), omega (arith, sizes, left_len, split.left.ok.0)) in
       let r : IsFilled split.right = (omega (arith, sizes, right_len, split.right.ok.0, len), omega (arith, sizes, right_len, split.right.ok.0, len)) in
       subst AreFilled (sym split.are) (filled-insert (set old c split.left) (c + 1) split.right r (filled-set old c split.left l filled))
 
+  -- the chunks: those before, the first part, the second, and those after
   parts : new ≡ (take c old ++ split.left ∷ []) ++ split.right ∷ drop (c + 1) old
   parts =
       split.are
       ∙ ap (λ cs. cs ++ split.right ∷ drop (c + 1) (set old c split.left)) (take_more_set old c split.left lt)
       ∙ ap (λ cs. (take c old ++ split.left ∷ []) ++ split.right ∷ cs) (drop-set-lt (c + 1) old c split.left (omega arith))
 
+  -- the same with the two parts together
   parts_left : new ≡ take c old ++ split.left ∷ split.right ∷ drop (c + 1) old
   parts_left = parts ∙ append_assoc (take c old) (split.left ∷ []) (split.right ∷ drop (c + 1) old)
 
+  -- the number of chunks before
   front_len : length (take c old) ≡ c
   front_len = length-take-le c old (omega arith)
 
+  -- the number of chunks up to the first part
   both_len : length (take c old ++ split.left ∷ []) ≡ c + 1
   both_len = length_push (take c old) split.left ∙ ap (λ m. m + 1) front_len
 
+  -- the number of all chunks
   new_len : length new ≡ c + 1 + suc (length (drop (c + 1) old))
   new_len = ap length parts ∙ length-append (take c old ++ split.left ∷ []) (split.right ∷ drop (c + 1) old) ∙ ap (λ m. m + suc (length (drop (c + 1) old))) both_len
 
+  -- the first part is where the chunk was
   left_at : (d : Vec X Z) → get_or new c d ≡ split.left
   left_at d = ap (λ cs. get_or cs c d) parts_left ∙ get_or_at (take c old) split.left (split.right ∷ drop (c + 1) old) d c front_len
 
+  -- and the second is after it
   right_at : (d : Vec X Z) → get_or new (c + 1) d ≡ split.right
   right_at d = ap (λ cs. get_or cs (c + 1) d) parts ∙ get_or_at (take c old ++ split.left ∷ []) split.right (drop (c + 1) old) d (c + 1) both_len
 
@@ -123,6 +139,7 @@ module _ {X Z : Type 0} {old : List (Vec X Z)} {c n size : ℕ} {new : List (Vec
             ∙ sym (from_at old c x lt is (n + j) (omega (arith, sizes, len)));
       }
 
+  -- an index after the middle is a place in the second
   pub room_right : (i : ℕ) → n ≤ i → IsWithin old (record { chunk = c; index = i }) → IsPlaceWithRoom old (record { chunk = c; index = i }) new (record { chunk = c + 1; index = i - n })
   room_right i above within =
       let bound = subst (λ y. i ≤ vec_len y) (sym is) (within.index_in_range (omega arith) x) in

@@ -1,13 +1,12 @@
 -- A walk over the entries of a track's map, seen as rows.
-use Rattle.std.proofs.Common.{◌≡◌, ℕ, ◌-◌, ◌<◌, ◌≤◌, Bool, true, false, cond, List, [], ◌∷◌, ◌++◌, Some, refl, sym, ap, ◌∙◌, arith, zero, suc}
-use denote.Ref.{Bor}
+use Rattle.std.proofs.Common.{◌≡◌, ℕ, ◌<◌, Bool, true, false, cond, List, [], ◌∷◌, ◌++◌, refl, sym, ap, ◌∙◌, zero, suc}
 use Rattle.std.specs.Prelude.{All, filter, replicate}
 use Rattle.std.specs.Map.{values_of}
 use Rattle.std.specs.Ordering.{nat_cmp}
 use Rattle.std.proofs.lemmas.Bool.{cond-true}
 use Rattle.std.proofs.lemmas.List.Elements.{filter-append, All-head, All-tail, All-cons}
 use Rattle.iv_text.specs.Row.{Row}
-use Rattle.iv_track.specs.Copies.{expanded, again}
+use Rattle.iv_track.specs.Copies.{expanded}
 use Rattle.iv_track.specs.Tracked.{is_from}
 use Rattle.iv_track.proofs.PlaceLemmas.{le_then, zero_le}
 

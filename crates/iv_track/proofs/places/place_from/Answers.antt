@@ -1,10 +1,10 @@
 use Rattle.std.proofs.Common.{sym, refl}
 use Rattle.std.specs.Ordering.{is_le}
-use Rattle.iv_track.proofs.MapLemmas.{found_walk_any, gap_filter}
+use Rattle.iv_track.proofs.MapLemmas.{found_walk, gap_filter}
 use Rattle.iv_track.proofs.places.place_from.Goals as goal
 
 pub returns-in-Ok-clause-entries : goal.returns-in-Ok-clause-entries
-returns-in-Ok-clause-entries g c = sym (found_walk_any g.met.K.Ord.total c.in-Ok.ensures.found refl c.requires refl)
+returns-in-Ok-clause-entries g c = sym (found_walk g.met.K.Ord.total c.in-Ok.ensures.found refl c.requires refl)
 
 pub returns-in-Err-clause-entries : goal.returns-in-Err-clause-entries
 returns-in-Err-clause-entries g c = sym (gap_filter c.in-Err.ensures.absent refl refl is_le refl refl)
