@@ -2,6 +2,7 @@
 ghost use Rattle.std.specs.Prelude.{◌≡◌};
 ghost use Rattle.iv_fasta.specs.Complement.{complement as complement_of};
 
+// A table, because a `match` takes three times as long, for each base of a record on `-`.
 /// The complement of each byte.
 const COMPLEMENTS: [u8; 256] = [
     0, 1, 2, 3, 4, 5, 6, 7, 8, 9, 10, 11, 12, 13, 14, 15, 16, 17, 18, 19, 20, 21, 22, 23, 24, 25,

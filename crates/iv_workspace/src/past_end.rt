@@ -15,6 +15,7 @@ fn reaches_past<R: BedRecord>(row: &R, seq: u32, length: u64) -> bool
     row.seq() == seq && length < row.stop()
 }
 
+// The track has no counts of lengths, as the second file has, that would say where a search has to begin.
 /// Whether a record of the track does: a walk over its records on the sequence, up to the first that does.
 pub(crate) fn track_reaches_past<A: Allocator + Copy>(
     track: &Track<A>,
