@@ -13,7 +13,6 @@ use std::alloc::{AllocError, Allocator, Global};
 use std::marker::Model;
 use std::ops::{Index, IndexMut};
 
-// Keys are plain vectors: a key type of our own would need an `Equivalent`, which the toolchain asks not to write.
 /// Values, each under a name, in the order in which they came.
 ///
 /// No name is twice. Its model is the list of the names with their values.

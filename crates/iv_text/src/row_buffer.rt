@@ -10,7 +10,6 @@ use std::marker::Model;
 /// How many bytes there is room for.
 const ROOM: usize = 192;
 
-// It is lent to the functions that lay a row. To hand it over would copy its array.
 /// The back of a row, laid from its last byte towards its first: at most 192 bytes, on the stack.
 ///
 /// So a number is written where it is, and a row is put as a whole.
