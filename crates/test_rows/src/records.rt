@@ -358,13 +358,33 @@ fn is_read_as(rt: &HostRuntime, name: &[u8]) -> Result<bool, Fail> {
     })
 }
 
+/// Whether this name refuses its line.
+fn is_bad(rt: &HostRuntime, name: &[u8]) -> Result<bool, Fail> {
+    let bad = LoadFault {
+        line: 2,
+        cause: LoadCause::Record(RecordFault::Name),
+    };
+    Ok(match second_name(rt, name)? {
+        Ok(_) => false,
+        Err(fault) => fault == bad,
+    })
+}
+
+/// A name of so many bytes, with this byte at a place.
+fn name_with(rt: &HostRuntime, size: usize, place: usize, byte: u8) -> Result<Vec<u8>, Fail> {
+    let mut name = Vec::new(rt.alloc());
+    for at in 0..size {
+        name.push(if at == place { byte } else { b'a' })?;
+    }
+    Ok(name)
+}
+
 /// Names of 1 to 20 bytes, with each of these bytes at each place.
 fn have_bytes(rt: &HostRuntime, bytes: &[u8]) -> Result<bool, Fail> {
-    let letters = b"abcdefghijklmnopqrst".as_slice();
-    for place in 0..letters.len() {
+    for place in 0..20 {
         for byte in bytes {
-            let short = joined(rt, &[&letters[..place], &[*byte]])?;
-            let long = joined(rt, &[short.as_slice(), &letters[place + 1..]])?;
+            let short = name_with(rt, place + 1, place, *byte)?;
+            let long = name_with(rt, 20, place, *byte)?;
             if !is_read_as(rt, short.as_slice())? || !is_read_as(rt, long.as_slice())? {
                 return Ok(false);
             }
@@ -375,15 +395,9 @@ fn have_bytes(rt: &HostRuntime, bytes: &[u8]) -> Result<bool, Fail> {
 
 /// Each of these bytes at each place of a name refuses its line.
 fn refuse_bytes(rt: &HostRuntime, bytes: &[u8]) -> Result<bool, Fail> {
-    let bad = LoadFault {
-        line: 2,
-        cause: LoadCause::Record(RecordFault::Name),
-    };
-    let letters = b"abcdefghijklmnopqrst".as_slice();
-    for place in 0..letters.len() {
+    for place in 0..20 {
         for byte in bytes {
-            let name = joined(rt, &[&letters[..place], &[*byte], &letters[place + 1..]])?;
-            if second_name(rt, name.as_slice())?.err() != Some(bad) {
+            if !is_bad(rt, name_with(rt, 20, place, *byte)?.as_slice())? {
                 return Ok(false);
             }
         }
