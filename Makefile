@@ -33,21 +33,21 @@ help:
 	@echo 'make install     put the built program, its man page, its completions and the Python package below PREFIX (/usr/local)'
 	@echo 'make uninstall   take them away again'
 	@echo 'make dist    build it, then leave an archive and a Debian package of a release in build/'
-	@echo 'make test    the whole gate: searches, every proof from nothing, the wrong bodies, the tests, the stored run, a run through pipes, every exit, the examples, the Python package, the steps of the guide, the options in the man page and the completions, random scripts while something goes wrong'
-	@echo 'make wrong-bodies   the wrong bodies that the gate leaves out, an hour or more'
+	@echo 'make test    all proofs from nothing, the mutants of must-fail/, and all tests; about an hour'
+	@echo 'make wrong-bodies   the mutants that make test leaves out, an hour or more'
 	@echo 'make clean   remove all that builds and proofs left behind'
 	@echo 'make help    this list'
 
 # The script of a session comes on standard input: make try ARGS='session -g sizes -i genes.bed' < script
 try:
-	@RT=$(RT) scripts/try.sh $(ARGS)
+	@RT=$(RT) scripts/test/try.sh $(ARGS)
 
 build:
-	RT=$(RT) scripts/build.sh
+	RT=$(RT) scripts/prove/build.sh
 	mkdir -p build && cp crates/bedkeep/out/bedkeep $(PROGRAM)
 
 demo: build
-	scripts/examples.sh --show $(PROGRAM)
+	scripts/test/examples.sh --show $(PROGRAM)
 
 # It builds nothing, so that it can run as another user than the one who built.
 install:
@@ -72,27 +72,31 @@ uninstall:
 
 # It builds for itself, since a release is linked from the object file of the program.
 dist:
-	RT=$(RT) scripts/build.sh --object
+	RT=$(RT) scripts/prove/build.sh --object
 	mkdir -p build && cp crates/bedkeep/out/bedkeep $(PROGRAM)
-	RT=$(RT) scripts/dist.sh
+	RT=$(RT) scripts/release/pack.sh
 
 # rt ci leaves the program that it proved and built beside the crate.
 test:
-	python3 scripts/searches.py --try
-	python3 scripts/searches.py
-	RT=$(RT) scripts/ci.sh
+	python3 scripts/test/lint.py --try
+	python3 scripts/test/lint.py
+	python3 scripts/test/words.py
+	python3 scripts/prove/reached.py --check
+	RT=$(RT) scripts/prove/check.sh
 	mkdir -p build && cp crates/bedkeep/out/bedkeep $(PROGRAM)
-	scripts/answers_at_once.sh $(PROGRAM)
-	scripts/exits.sh $(PROGRAM)
-	scripts/examples.sh $(PROGRAM)
-	scripts/at_scale.sh $(PROGRAM)
-	scripts/python.sh $(PROGRAM)
-	python3 scripts/options_agree.py $(PROGRAM)
-	python3 scripts/guide.py $(PROGRAM)
-	python3 scripts/hostile.py $(PROGRAM) --seed 1 --seconds 20
+	scripts/test/interactive.sh $(PROGRAM)
+	scripts/test/command_line.sh $(PROGRAM)
+	python3 scripts/test/transcripts.py $(PROGRAM)
+	scripts/test/examples.sh $(PROGRAM)
+	scripts/test/at_scale.sh $(PROGRAM)
+	scripts/test/python.sh $(PROGRAM)
+	python3 scripts/test/options.py $(PROGRAM)
+	python3 scripts/test/hints.py $(PROGRAM)
+	python3 scripts/test/pages.py $(PROGRAM)
+	python3 scripts/test/fuzz.py $(PROGRAM) --seed 1 --seconds 20
 
 wrong-bodies:
-	RT=$(RT) scripts/wrong_bodies.sh
+	RT=$(RT) scripts/prove/mutants.sh
 
 clean:
 	rm -rf build crates/*/out

@@ -14,7 +14,7 @@ _bedkeep_options() {
     esac
 }
 
-# What the value of an option is, for a kind of run; nothing where it takes none.
+# What the value of an option is, for a kind of run; nothing if it takes none.
 _bedkeep_value() {
     case $1:$2 in
         *:-g | *:-i | *:-a | *:-bed | *:-fi | session:-b | intersect:-b | subtract:-b) echo file ;;
@@ -34,7 +34,7 @@ _bedkeep_taken() {
     esac
 }
 
-# The options that can still come after these words of a kind of run.
+# The options that can still come after these arguments of a kind of run.
 _bedkeep_left() {
     local subcommand=$1 option word taken=' '
     shift
@@ -74,5 +74,5 @@ _bedkeep() {
     mapfile -t COMPREPLY < <(compgen -W "$choices" -- "$word")
 }
 
-# What isn't a word of bedkeep, such as the file after <, is completed as the shell does.
+# What isn't an argument of bedkeep, such as the file after <, is completed as the shell does.
 complete -o bashdefault -o default -F _bedkeep bedkeep

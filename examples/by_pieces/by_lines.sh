@@ -15,7 +15,7 @@ for ((at = 1; at + 1 < $#; at++)); do
     esac
 done
 
-# in_order: the records of the track by the place of their sequence in the genome file, start, stop, and then the other columns
+# in_order: the records of the track by the place of their sequence in the genome file, start, end, and then the other columns
 in_order() {
     awk -F '\t' '{ sub(/\r$/, "") }
         NR == FNR { if (!/^#/ && !($1 in place)) place[$1] = NR; next }

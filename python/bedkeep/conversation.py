@@ -83,7 +83,7 @@ class Exchange:
 
 
 class Conversation:
-    """The program, started with the words of a session."""
+    """The program, started with the arguments of a session."""
 
     def __init__(self, words: Sequence[str]) -> None:
         # A process group of its own gets no interrupt from the terminal.

@@ -38,7 +38,7 @@ class Curator:
         self._leaving = False
 
     def run(self, line: str) -> bool:
-        """Carries out a line, and says whether more are to come."""
+        """Carries out a line, and says whether the prompt goes on."""
         line = line.strip()
         word, _, rest = line.partition(" ")
         try:
@@ -142,7 +142,7 @@ def main(words: Optional[Sequence[str]] = None) -> int:
     parser = argparse.ArgumentParser(prog="python -m bedkeep.curate", description="A prompt for corrections of a BED file.")
     parser.add_argument("genome", metavar="GENOME")
     parser.add_argument("bed", metavar="BED")
-    parser.add_argument("second", metavar="SECOND", nargs="?", help="a second BED file, for intersect and subtract")
+    parser.add_argument("second", metavar="SECOND", nargs="?", help="the second file, for intersect and subtract")
     parser.add_argument("--fasta", metavar="FASTA", help="for getfasta")
     given = parser.parse_args(words)
     try:

@@ -15,7 +15,7 @@ class NotFound(Error):
 class Refused(Error):
     """A line was refused, and changed nothing.
 
-    reason: why, in the program's words, such as `no such record`
+    reason: why, as the program says it, such as `no such record`
     number: the line's number in the script that was handed to `edit`, from 1; 1 for a call that sends one line
     line:   the line as it was sent, its fields separated by TABs
     """
@@ -55,7 +55,7 @@ class Damaged(Ended):
 
     file:   the file's name as it was given
     line:   the line's number, from 1
-    reason: why, in the program's words
+    reason: why, as the program says it
     """
 
     def __init__(self, status: int, message: str) -> None:

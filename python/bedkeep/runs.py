@@ -71,7 +71,7 @@ def getfasta(genome: Path, bed: Path, fasta: Path, *, s: bool = False, width: Op
 
 
 def _words(kind: str, **options: Value) -> list[str]:
-    """The words of a view: options that are None, False or an empty list are left out."""
+    """A view's subcommand and options: options that are None, False or an empty list are left out."""
     words = [kind]
     for option, value in options.items():
         if value is True:

@@ -22,7 +22,7 @@ BLOCK = re.compile(rb"\t[0-9]+\n")
 class Session:
     """A track over a genome file, edited by lines of a script, and views of it.
 
-    genome, bed: the files; second: a second BED file, for intersect, subtract and the edits of it; fasta: for getfasta;
+    genome, bed: the files; second: the second file, for intersect, subtract and the edits of it; fasta: for getfasta;
     width: the number of columns of a BED file without a record. No file is ever changed.
 
     Records are columns, `add("chr1", 10, 20)`, or one sequence of them, `add(("chr1", 10, 20))`: as many as the file has,
@@ -193,7 +193,7 @@ class Session:
         return next(width for width, why in zip(widths, refused) if why.reason != "wrong number of columns")
 
     def _view(self, words: str) -> str:
-        """The name of the view of these words, which is opened if it isn't yet."""
+        """The name of the view with these options, which is opened if it isn't yet."""
         mine = [name for name in self._named if name.startswith(OPENED)]
         for name in mine:
             if self._named[name] == _words(words):
@@ -211,7 +211,7 @@ class Session:
 
 
 def _words(words: str) -> list[str]:
-    """The words of a view. The rows of getfasta are a line each."""
+    """A view's subcommand and options. The rows of getfasta are a line each."""
     listed = [word for word in words.split(" ") if word]
     if listed[:1] == ["getfasta"] and "-tab" not in listed:
         listed.append("-tab")

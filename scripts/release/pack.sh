@@ -1,0 +1,151 @@
+#!/usr/bin/env bash
+# Makes a release from the built program: build/bedkeep-VERSION-linux-x86_64.tar.gz, and if dpkg-deb is there also
+# build/bedkeep_VERSION_amd64.deb, with their checksums in build/SHA256SUMS. The program in them needs no shared library.
+# The same sources give the same bytes with the same tools: files have the time of SOURCE_DATE_EPOCH, or else the date
+# of the man page.
+#
+#   scripts/release/pack.sh
+set -eu
+umask 022
+cd "$(dirname "$0")/../.."
+program=build/static/bedkeep
+scripts/release/link_static.sh "$program"
+if readelf --program-headers "$program" | grep -q INTERP || readelf --dynamic "$program" | grep -q NEEDED; then
+    echo "$program needs a shared library" >&2
+    exit 1
+fi
+# Releases of the toolchain have names of their own; what a proof rests on is their logic.
+toolchain=$("${RT:-rt}" version)
+logic="logic ${toolchain##* logic }"
+if ! "$program" --version | grep -q "^proved with .* $logic\$" || ! grep -qF "$logic" README.md; then
+    echo '--version or the README names another logic than rt version' >&2
+    exit 1
+fi
+scripts/test/interactive.sh "$program"
+scripts/test/command_line.sh "$program"
+python3 scripts/test/transcripts.py "$program"
+scripts/test/examples.sh "$program"
+python3 scripts/test/options.py "$program"
+
+version=$("$program" --version | sed -n '1s/^bedkeep //p')
+epoch=${SOURCE_DATE_EPOCH:-$(date --utc --date="$(sed -n 's/^\.Dd //p' man/bedkeep.1)" +%s)}
+export SOURCE_DATE_EPOCH=$epoch
+stage=$(mktemp -d)
+trap 'rm -rf "$stage"' EXIT
+
+# install_to FOLDER WORD..: puts what a release has below the folder
+install_to() {
+    local folder=$1
+    shift
+    make --silent --no-print-directory install PROGRAM="$program" DESTDIR="$folder" "$@"
+}
+
+# noted FILE: says what else is in the program
+noted() {
+    cat > "$1" << 'END'
+The program of this release is linked with parts of the GNU C library, which is under the GNU Lesser General Public
+License, version 2.1 or later, and of GCC's runtime library, which is under the GNU General Public License, version 3 or
+later, with the GCC Runtime Library Exception, version 3.1. scripts/release/link_static.sh of the sources links it again.
+END
+}
+
+# changed: what Debian wants to know of the version
+changed() {
+    printf 'bedkeep (%s) unstable; urgency=low\n\n  * CHANGELOG.md says what changed.\n\n' "$version"
+    printf ' -- the bedkeep authors <bedkeep@example.invalid>  %s\n' "$(LC_ALL=C date --utc --rfc-email --date="@$epoch")"
+}
+
+# linked FOLDER: in the pages below it, a link to a page that is in the sources alone becomes its words
+linked() {
+    python3 - "$1" << 'END'
+import os, re, sys
+
+for folder, _, names in os.walk(sys.argv[1]):
+    for path in (os.path.join(folder, name) for name in names if name.endswith(".md")):
+        def leads(target):
+            return "://" in target or os.path.exists(os.path.join(folder, target.split("#")[0]))
+
+        with open(path, encoding="utf-8") as page:
+            text = page.read()
+        with open(path, "w", encoding="utf-8") as page:
+            page.write(re.sub(r"(?<!!)\[([^]]*)\]\(([^)\s]+)\)", lambda link: link[0] if leads(link[2]) else link[1], text))
+END
+}
+
+# dated FOLDER: gives all below it, and itself, the time of the release
+dated() {
+    find "$1" -exec touch --no-dereference --date="@$epoch" {} +
+}
+
+name=bedkeep-$version-linux-x86_64
+install_to "$stage/$name" PREFIX=
+noted "$stage/$name/share/doc/bedkeep/NOTICE"
+linked "$stage/$name/share/doc/bedkeep"
+dated "$stage/$name"
+# only files, so that unpacking changes no folder that is there
+(cd "$stage" && find "$name" -type f | LC_ALL=C sort) |
+    tar --create --format=gnu --owner=0 --group=0 --numeric-owner --directory="$stage" --files-from=- |
+    gzip --no-name --best > "build/$name.tar.gz"
+made=("$name.tar.gz")
+
+# The unpacked program and documents: the first session of the README without an environment, the steps of the README and of
+# the guide, the examples, and the tests of the Python package.
+mkdir "$stage/unpacked"
+tar --extract --gzip --file="build/$name.tar.gz" --directory="$stage/unpacked"
+documents=$stage/unpacked/$name/share/doc/bedkeep
+for document in README.md CHANGELOG.md LICENSE NOTICE docs/{GUIDE,BEDTOOLS,bedtools-report,FORMAT,PROMISES}.md examples/{in_git,by_pieces,at_scale}/README.md; do
+    if [ ! -s "$documents/$document" ]; then
+        echo "the release lacks $document" >&2
+        exit 1
+    fi
+done
+python3 scripts/test/pages.py "$stage/unpacked/$name/bin/bedkeep" "$documents"
+scripts/test/examples.sh "$stage/unpacked/$name/bin/bedkeep" "$documents/examples"
+scripts/test/python.sh "$stage/unpacked/$name/bin/bedkeep" "$stage/unpacked/$name/share/bedkeep/python"
+printf 'chr1\t100\n' > "$stage/sizes"
+printf 'open\tm\tmerge\nadd\tchr1\t10\t20\nadd\tchr1\t15\t30\nprint\tm\n' > "$stage/script"
+said=$(env --ignore-environment "$stage/unpacked/$name/bin/bedkeep" session -g "$stage/sizes" -i /dev/null < "$stage/script")
+if [ "$said" != $'chr1\t10\t30' ]; then
+    echo "the unpacked program printed: $said" >&2
+    exit 1
+fi
+
+if command -v dpkg-deb > /dev/null; then
+    root=$stage/deb
+    install_to "$root" PREFIX=/usr zshdir=/usr/share/zsh/vendor-completions
+    gzip --no-name --best "$root/usr/share/man/man1/bedkeep.1"
+    noted "$root/usr/share/doc/bedkeep/NOTICE"
+    echo 'On Debian these licenses are /usr/share/common-licenses/LGPL-2.1 and /usr/share/common-licenses/GPL-3.' >> "$root/usr/share/doc/bedkeep/NOTICE"
+    (cd "$root/usr/share/doc/bedkeep" && cat LICENSE NOTICE > copyright && rm LICENSE NOTICE)
+    linked "$root/usr/share/doc/bedkeep"
+    changed | gzip --no-name --best > "$root/usr/share/doc/bedkeep/changelog.gz"
+    mkdir "$root/DEBIAN"
+    (cd "$root" && find usr -type f | LC_ALL=C sort | xargs md5sum > DEBIAN/md5sums)
+    cat > "$root/DEBIAN/control" << END
+Package: bedkeep
+Version: $version
+Architecture: amd64
+Maintainer: the bedkeep authors <bedkeep@example.invalid>
+Installed-Size: $(find "$root/usr" -type f -printf '%s\n' | awk '{ sum += int(($1 + 1023) / 1024) } END { print sum }')
+Section: science
+Priority: optional
+Description: keeps a track of genome intervals correct while you edit it
+ bedkeep reads a BED file and carries out a script of corrections, one a line.
+ Each is done, or refused with its line number and the reason. At any point it
+ prints what the bedtools subcommands merge, cluster, complement, genomecov,
+ intersect, subtract and getfasta print for the records as they are then.
+END
+    dated "$root"
+    dpkg-deb --root-owner-group -Zxz --threads-max=1 --build "$root" "build/bedkeep_${version}_amd64.deb" > /dev/null
+    made+=("bedkeep_${version}_amd64.deb")
+    if command -v lintian > /dev/null; then
+        # The program is static, so that it needs nothing, for which lintian has two words; all else that it says is to be mended.
+        said=$(lintian --allow-root "build/bedkeep_${version}_amd64.deb" | grep -v -e statically-linked-binary -e shared-library-lacks-prerequisites || true)
+        if [ -n "$said" ]; then
+            echo "$said" >&2
+            exit 1
+        fi
+    fi
+fi
+
+(cd build && sha256sum "${made[@]}" > SHA256SUMS && cat SHA256SUMS)

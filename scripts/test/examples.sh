@@ -1,0 +1,142 @@
+#!/usr/bin/env bash
+# Runs the examples. What the scripts print, their messages and their status are compared with examples/expected, by_pieces with
+# one run, and a track that was written out with the session that wrote it. at_scale.sh runs examples/at_scale.
+# With --show it prints what the scripts print, and compares nothing.
+#
+#     scripts/test/examples.sh build/bedkeep [FOLDER]     FOLDER has the examples, for instance those of an unpacked release
+#     scripts/test/examples.sh --show build/bedkeep
+set -u
+show=false
+if [ "$1" = --show ]; then
+    show=true
+    shift
+fi
+program=$(realpath "$1")
+cd "${2:-$(dirname "$0")/../../examples}" || exit 1
+found=$(mktemp -d)
+trap 'rm -rf "$found"' EXIT
+mkdir "$found/path" && ln -s "$program" "$found/path/bedkeep"
+export PATH=$found/path:$PATH
+failed=0
+
+fails() {
+    echo "$*" >&2
+    failed=1
+}
+
+# wanted NAME STATUS FOUND: compares what is in the files of this name with what is expected
+wanted() {
+    [ "$3" -eq "$2" ] || fails "example $1: status $3 instead of $2"
+    for stream in out err; do
+        diff "expected/$1.$stream" "$found/$1.$stream" >&2 || fails "example $1: the lines with < are wanted on its std$stream"
+    done
+}
+
+# example NAME STATUS WORD ..: a session of these words over the script on standard input
+example() {
+    local name=$1 status=$2
+    shift 2
+    if $show; then
+        bedkeep session "$@"
+        return
+    fi
+    bedkeep session "$@" > "$found/$name.out" 2> "$found/$name.err"
+    wanted "$name" "$status" $?
+}
+
+# The first example and the one of corrections have refused lines.
+example first 1 -g first/sizes -i first/genes.bed < <(cat first/corrections first/views)
+example corrections 1 -g human.genome -i genes.bed < corrections.script
+example mask 0 -g human.genome -i genes.bed -b mask.bed < mask.script
+example correct_mask 0 -g human.genome -i genes.bed -b mask.bed < correct_mask.script
+example write_out 0 -g human.genome -i genes.bed -b /dev/null < write_out.script
+example sequences 0 -g contigs.genome -i coding.bed -fi contigs.fa < sequences.script
+$show && exit
+
+# silent_make WORD ..: make without its own lines, and then its status
+silent_make() {
+    env -u MAKEFLAGS -u MAKELEVEL -u MFLAGS make --silent "$@" 2>&1 | grep -v '^make'
+    echo "make $*: status ${PIPESTATUS[0]}"
+}
+
+# in_git: the steps of its README, in a copy
+in_git() {
+    cp -R in_git "$found/in_git"
+    (
+        cd "$found/in_git" || exit
+        silent_make
+        cat corrected.bed
+        ./edited_by_hand.sh corrected.bed edited.bed | tee -a corrections
+        silent_make
+        cmp corrected.bed edited.bed
+        silent_make check
+        silent_make check BED=next_release.bed
+        ./replay.sh next_release.bed | uniq -d
+    ) > "$found/in_git.out" 2> "$found/in_git.err"
+    wanted in_git 0 $?
+}
+
+# pieces SCRIPT WORD ..: the script prints what one run prints
+pieces() {
+    local script=$PWD/by_pieces/$1
+    shift
+    (
+        cd "$found" && bedkeep "$@" > one 2>&1 && [ -s one ] && PIECE=700 WINDOW=30000 "$script" "$@" > many && cmp one many
+    ) || fails "$script $*: other rows than those of one run"
+}
+
+by_pieces() {
+    printf 'b\t9000\na\t20000\nnone\t500\nfar\t4000000000\nempty\t0\n' > "$found/sizes"
+    awk -v files="$found/" 'BEGIN {
+        srand(7)
+        low["far"] = 3999999000
+        for (number = 0; number < 3000; number++) {
+            name = substr("a  b  a  far", 1 + 3 * int(rand() * 4), 3)
+            sub(/ +/, "", name)
+            start = low[name] + int(rand() * (name == "far" ? 900 : 8900))
+            row = sprintf("%s\t%.0f\t%.0f", name, start, start + 1 + int(rand() * 90))
+            print row "\tn" number % 7 "\t" number % 11 "\t" substr("+-.", 1 + number % 3, 1) > (files "a.bed")
+            if (number % 9 == 0) print row > (files "b.bed")
+        }
+        for (number = 0; number < 900; number++) bases = bases "ACGTTGACNA"
+        print ">b\n" bases > (files "bases.fa")
+    }'
+    pieces in_rounds.sh merge -g sizes -i a.bed
+    pieces in_rounds.sh merge -g sizes -i a.bed -d 7
+    pieces in_rounds.sh complement -g sizes -i a.bed
+    pieces in_rounds.sh complement -g sizes -i a.bed -L
+    for options in '' -wa -wb '-wa -wb' -u -v -c; do
+        # shellcheck disable=SC2086 # the options are to be separated
+        pieces by_lines.sh intersect -g sizes -a a.bed -b b.bed $options
+    done
+    pieces by_lines.sh subtract -g sizes -a a.bed -b b.bed
+    pieces by_lines.sh subtract -A -b b.bed -a a.bed -g sizes
+    pieces by_lines.sh getfasta -g sizes -bed a.bed -fi bases.fa -s
+    pieces by_windows.sh genomecov -g sizes -i a.bed -bg
+}
+
+# round_trip BED EDITS VIEWS WORD ..: `cluster` without its last column is the track. It is written out beside the views, and loaded
+# again it prints the same views.
+round_trip() {
+    local track=$1 edits=$2 views=$3
+    shift 3
+    { printf '%b' "$edits" && printf 'open\tall\tcluster\nprint\tall\n'; } |
+        bedkeep session -i "$track" "$@" | sed 's/\t[0-9]*$//' > "$found/written.bed"
+    { printf '%b' "$edits" && printf 'open\t%s\nprintall\n' "$views"; } | sed 's/|/\nopen\t/g' > "$found/views"
+    bedkeep session -i "$track" "$@" < "$found/views" > "$found/edited"
+    grep -Ev '^(add|remove|replace|resize)' "$found/views" | bedkeep session -i "$found/written.bed" "$@" > "$found/loaded"
+    if [ ! -s "$found/edited" ] || ! cmp "$found/edited" "$found/loaded"; then
+        fails "$track: written out and loaded again, it prints other views"
+    fi
+}
+
+in_git
+by_pieces
+views=$'blocks\tmerge -d 9|each\tcluster|free\tcomplement -L|depth\tgenomecov -bga|other\tintersect -wa -wb|left\tsubtract|count\tintersect -c'
+round_trip genes.bed 'add\tchrX\t5\t9\nadd\tchrX\t5\t9\nremove\tchr21\t31659600\t31668900\n' "$views" -g human.genome -b mask.bed
+round_trip mask.bed 'add\tchr22\t7\t8\tgap\nreplace\tchr20\t4690000\t4690500\tgap\tchr20\t4690000\t4690500\trepeat\n' \
+    "$views"$'|why\tmerge -d 1000000 -c 4 -o distinct' -g human.genome -b genes.bed
+round_trip coding.bed 'add\tcontig_a\t30\t60\talpha\t0\t+\nremove\tcontig_b\t10\t40\tdelta\t0\t+\n' \
+    $'strand\tmerge -s -c 5,4 -o sum,collapse|bases\tgetfasta -s|each\tcluster -d 3' -g contigs.genome -fi contigs.fa
+[ "$failed" -ne 0 ] || echo 'the examples print what they are to print'
+exit "$failed"

@@ -1,0 +1,105 @@
+#!/usr/bin/env python3
+"""Runs the steps of README.md and of GUIDE.md, and compares what they print with what the pages show.
+
+    scripts/test/pages.py PROGRAM [FOLDER]
+
+FOLDER has README.md, GUIDE.md or docs/GUIDE.md, and examples/: the sources, which is the default, or the documents of a
+release that was unpacked. A step is a block of commands, ```sh, and after it what it prints, ```text; a step without that
+prints nothing. The steps of a page run in their order, each by a bash of its own, in a temporary folder that has examples/,
+with the program on the path as bedkeep and the Python package on that of Python. Standard output and standard error go into
+one pipe, as they would to a terminal. A block of Python is the text of a file of examples/, and a block without a language is
+a picture. Status 1 if anything differs.
+"""
+import difflib
+import os
+import re
+import shutil
+import signal
+import subprocess
+import sys
+import tempfile
+from pathlib import Path
+
+BLOCK = re.compile(r"^```(\w*)\n(.*?)^```$", re.M | re.S)
+SECONDS = 20
+
+
+def main():
+    if len(sys.argv) not in (2, 3):
+        sys.exit("usage: scripts/test/pages.py PROGRAM [FOLDER]")
+    program = Path(sys.argv[1]).resolve()
+    if not program.is_file():
+        sys.exit(f"{sys.argv[1]} is not there: run `make build` first")
+    top = Path(sys.argv[2] if len(sys.argv) == 3 else Path(__file__).parent.parent.parent).resolve()
+    guide = top / "docs" / "GUIDE.md"
+    done, faults = [], []
+    for page in top / "README.md", guide if guide.is_file() else top / "GUIDE.md":
+        if not page.is_file():
+            faults.append(f"{page} is not there")
+            continue
+        steps, wrong = read_page(page, top / "examples")
+        faults += wrong + run_page(page.name, steps, program, top)
+        done.append(f"{len(steps)} steps of {page.relative_to(top)}")
+    for fault in faults:
+        print(fault, file=sys.stderr)
+    if faults:
+        sys.exit(1)
+    print(f"{' and '.join(done)} print what the pages show")
+
+
+def read_page(page, examples):
+    """The steps of a page, each with its line number, its commands and what it prints; and what is wrong with the page."""
+    steps, faults = [], []
+    text = page.read_text()
+    programs = {file.read_text() for file in examples.glob("*.py")}
+    for block in BLOCK.finditer(text):
+        line = text.count("\n", 0, block.start()) + 1
+        language, shown = block.groups()
+        between = text[text.rfind("```", 0, block.start()) + 3 : block.start()]
+        if language == "sh":
+            steps.append([line, shown, ""])
+        elif language == "text" and steps and not steps[-1][2] and not between.strip():
+            steps[-1][2] = shown
+        elif language and (language != "python" or shown not in programs):
+            faults.append(f"{page.name}, line {line}: neither commands, nor what they print, nor a file of examples/")
+    if not steps:
+        faults.append(f"{page.name} has no steps")
+    return steps, faults
+
+
+def run_page(name, steps, program, top):
+    """Runs the steps of a page in a folder of their own, and says which of them print something else."""
+    faults = []
+    with tempfile.TemporaryDirectory() as here, tempfile.TemporaryDirectory() as path:
+        shutil.copytree(top / "examples", Path(here) / "examples")
+        (Path(path) / "bedkeep").symlink_to(program)
+        packages = f"{top / 'python'}:{top.parent.parent / 'bedkeep' / 'python'}"  # of the sources, or of a release
+        environment = {**os.environ, "PATH": f"{path}:{os.environ['PATH']}",
+                       "PYTHONPATH": packages, "PYTHONDONTWRITEBYTECODE": "1"}
+        for line, commands, shown in steps:
+            faults += differences(f"{name}, the step at line {line}:", shown, run(commands, here, environment))
+    return faults
+
+
+def run(commands, folder, environment):
+    """What the commands print, or that they take too long."""
+    bash = subprocess.Popen(["bash", "-c", commands], cwd=folder, env=environment, stdin=subprocess.DEVNULL,
+                            stdout=subprocess.PIPE, stderr=subprocess.STDOUT, start_new_session=True)
+    try:
+        return bash.communicate(timeout=SECONDS)[0].decode(errors="replace")
+    except subprocess.TimeoutExpired:
+        os.killpg(bash.pid, signal.SIGKILL)
+        bash.communicate()
+        return f"no end within {SECONDS} seconds\n"
+
+
+def differences(where, shown, printed):
+    """Which lines of a step differ, under the place of the page where it begins."""
+    rows = list(difflib.unified_diff(shown.splitlines(), printed.splitlines(), "shown", "printed", lineterm="", n=1))
+    if shown.splitlines() == printed.splitlines() and shown != printed:
+        rows = ["its last line has no end"]
+    return ["\n".join([where, *rows])] if rows else []
+
+
+if __name__ == "__main__":
+    main()
