@@ -1,16 +1,23 @@
 //! `bedkeep session -g GENOME -i RECORDS [-b RECORDS] [-fi FASTA]`: keeps a track of records by a script on standard input.
 //! `bedkeep SUBCOMMAND ..`: prints one view of its files.
 //!
-//! It hands the words, the files and the standard streams over, and exits. What a run does is in `iv_program`.
+//! It hands the words, the files and the standard streams over, and exits. What a run does is in `iv_program`. If standard error is
+//! a terminal, a hint of `iv_hints` follows.
 #![tactic(auto)]
+
+mod seen_files;
 
 ghost use Rattle.std.specs.Prelude.{None};
 
-use iv_bytes::{ReadFault, Source, StdSink, StdSource};
+use crate::seen_files::SeenFiles;
+use iv_bytes::{ReadFault, Source, StdSink, StdSource, put_all};
 use iv_cli::Ending;
+use iv_hints::{Hint, hint_of, hint_of_no_words, hint_of_session};
 use iv_program::{InputFiles, run_program, tell};
+use std::alloc::AllocError;
 use std::env;
 use std::fs::File;
+use std::io::IsTerminal;
 use std::process::ExitCode;
 use std::str::from_utf8;
 
@@ -43,24 +50,51 @@ impl InputFiles for StdFiles<'_> {
     }
 }
 
+/// Writes a hint, if there is memory for one. It is no loss if that fails.
+fn show(rt: &HostRuntime, hint: Result<Hint, AllocError>) {
+    if let Ok(hint) = hint {
+        let _ = put_all(&mut StdSink::new(rt.stderr()), hint.bytes());
+    }
+}
+
 /// Runs what the words of the command line ask for.
 fn run(rt: &HostRuntime) -> Result<u8, Ending> {
     let words: Vec<String> = env::args(rt)?.collect(rt.alloc())?;
     let after_program = words.iter().skip(1).map(|word| word.as_bytes());
     let names: Vec<&[u8]> = after_program.collect(rt.alloc())?;
-    Ok(run_program(
+    let has_reader = rt.stderr().is_terminal();
+    if has_reader && rt.stdin().is_terminal() {
+        show(rt, hint_of_session(rt.alloc(), names.as_slice()));
+    }
+    let ended = run_program(
         rt.alloc(),
         names.as_slice(),
         &mut StdFiles { rt, failed: false },
         &mut StdSource::new(rt.stdin()),
         &mut StdSink::new(rt.stdout()),
         &mut StdSink::new(rt.stderr()),
-    ))
+    );
+    if has_reader {
+        let files = &mut SeenFiles { rt };
+        let (ending, line) = (ended.ending, ended.line);
+        let hint = hint_of(rt.alloc(), names.as_slice(), ending, line, files);
+        show(rt, hint);
+    }
+    Ok(ended.status())
+}
+
+/// Ends a run whose words the system doesn't give.
+fn end(rt: &HostRuntime, ending: Ending) -> u8 {
+    let status = tell(ending, b"", &mut StdSink::new(rt.stderr()));
+    if rt.stderr().is_terminal() {
+        show(rt, hint_of_no_words(rt.alloc(), ending));
+    }
+    status
 }
 
 fn main(rt: HostRuntime) -> ExitCode {
     ExitCode::from(match run(&rt) {
         Ok(status) => status,
-        Err(ending) => tell(ending, b"", &mut StdSink::new(rt.stderr())),
+        Err(ending) => end(&rt, ending),
     })
 }

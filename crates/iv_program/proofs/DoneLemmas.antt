@@ -35,6 +35,7 @@ use Rattle.iv_program.specs.Outcomes.{DoesAll, DoesAllWith, RunsAll}
 use Rattle.iv_program.specs.Program.{Asked, Shown, Planned, Wrong, Ask, Flushes, Gives, Runs, Serves}
 use Rattle.iv_program.specs.Runs.{DoesWith, PrintsView, RunsOver, RunsPlan, RunsScript, World, ending_of_shot}
 use Rattle.iv_program.specs.Texts.{Texts}
+use Rattle.iv_program.specs.declared.ended.Ended.{Ended}
 
 -- only a run that is done has the status 0
 done-status : (e : Ending) → 0 ≡ status_of e → e ≡ ending.Done
@@ -106,9 +107,9 @@ view-done plan texts o0 o1 ended prints is = by prints.0 prints.1 (sym is ∙ pr
     by (Err k) shows e = absurd (no-fault k e)
 
 -- a script that is done was run to its end, and no line refused
-script-done : (plan : RunPlan) (texts : Texts) (before reached after : Streams) (ended : Ending) → RunsScript plan texts before reached ended
+script-done : (plan : RunPlan) (texts : Texts) (before reached after : Streams) (ended : Ending) (line : ℕ) → RunsScript plan texts before reached ended line
     → ended ≡ ending.Done → Takes reached.output after.output [] → RunsAll plan texts before after
-script-done plan texts before reached after ended runs is flushed = by runs.0 runs.1 runs.2
+script-done plan texts before reached after ended line runs is flushed = by runs.0 runs.1 runs.2
   where
     over : (s new : State) (run : Result Summary RunFault) → loaded plan.width texts.sizes texts.first texts.other texts.bases most_records ≡ Ok s
         → Ran s new before reached most_lines most_line_bytes run → ending.Done ≡ ending_of_run run → RunsAll plan texts before after
@@ -125,42 +126,42 @@ script-done plan texts before reached after ended runs is flushed = by runs.0 ru
     }
 
     by : (session : Result State CliFault) → IsReport session (loaded plan.width texts.sizes texts.first texts.other texts.bases most_records)
-        → RunsOver session before reached ended → RunsAll plan texts before after
+        → RunsOver session before reached ended line → RunsAll plan texts before after
     by (Err k) report none = absurd (no-fault k (sym is ∙ none.1))
     by (Ok s) report ran = over s ran.0 ran.1 report ran.2 (sym is ∙ ran.3)
 
 -- what is done with the texts of a plan is done whole
-does-done : (session : Bool) (plan : RunPlan) (texts : Texts) (before reached after : Streams) (ended : Ending) → DoesWith session plan texts before reached ended
+does-done : (session : Bool) (plan : RunPlan) (texts : Texts) (before reached after : Streams) (ended : Ending) (line : ℕ) → DoesWith session plan texts before reached ended line
     → ended ≡ ending.Done → Takes reached.output after.output [] → DoesAllWith session plan texts before after
-does-done true plan texts before reached after ended does is flushed = script-done plan texts before reached after ended does is flushed
-does-done false plan texts before reached after ended does is flushed =
+does-done true plan texts before reached after ended line does is flushed = script-done plan texts before reached after ended line does is flushed
+does-done false plan texts before reached after ended line does is flushed =
     let printed = view-done plan texts before.output reached.output ended does.0 is in
     (printed.0, printed.1, then-flushed before.output reached.output after.output printed.0 printed.2 flushed)
 
-plan-done : (plan : RunPlan) (before reached after : World) (ended : Ending) → RunsPlan plan before reached ended → ended ≡ ending.Done
+plan-done : (plan : RunPlan) (before reached after : World) (ended : Ending) (line : ℕ) → RunsPlan plan before reached ended line → ended ≡ ending.Done
     → Takes reached.streams.output after.streams.output [] → DoesAll plan before after
-plan-done plan before reached after ended (inl read) is flushed = record {
+plan-done plan before reached after ended line (inl read) is flushed = record {
   texts = read.texts;
   are = read.are;
-  does = does-done (is_session plan.run) plan read.texts before.streams reached.streams after.streams ended read.does is flushed;
+  does = does-done (is_session plan.run) plan read.texts before.streams reached.streams after.streams ended line read.does is flushed;
 }
-plan-done plan before reached after ended (inr stopped) is flushed = absurd (no-file-fault stopped.slot stopped.fault (sym is ∙ stopped.ended_is))
+plan-done plan before reached after ended line (inr stopped) is flushed = absurd (no-file-fault stopped.slot stopped.fault (sym is ∙ stopped.ended_is))
 
 -- the output of a run with the status 0 was flushed, and what was asked for was done
-finished : (words : List (List ℕ)) (before after : World) (ran : Runs words before after 0)
+finished : (words : List (List ℕ)) (before after : World) (answer : Ended) (ran : Runs words before after answer) → status_of answer.ending ≡ 0
     → (ran.ended ≡ ending.Done) × Takes ran.reached.streams.output after.streams.output []
-finished words before after ran =
-    let ends = done-flushed ran.finishes.flushed ran.ended (done-status (ending_after ran.finishes.flushed ran.ended) ran.finishes.status_is) in
+finished words before after answer ran none =
+    let ends = done-flushed ran.finishes.flushed ran.ended (sym ran.finishes.reported_is ∙ done-status answer.ending (sym none)) in
     (ends.1, subst (λ (b : Bool). Flushes b ran.reached.streams.output after.streams.output) ends.0 ran.finishes.flush)
 
-pub notice-done : (words : List (List ℕ)) (before after : World) (notice : Notice) → notice_of words ≡ Some notice → Runs words before after 0
-    → Takes before.streams.output after.streams.output (notice_text notice)
-notice-done words before after notice is ran = by ran.asked ran.ask ran.serves
+pub notice-done : (words : List (List ℕ)) (before after : World) (notice : Notice) (answer : Ended) → notice_of words ≡ Some notice → Runs words before after answer
+    → status_of answer.ending ≡ 0 → Takes before.streams.output after.streams.output (notice_text notice)
+notice-done words before after notice answer is ran zero = by ran.asked ran.ask ran.serves
   where
     ends : (ran.ended ≡ ending.Done) × Takes ran.reached.streams.output after.streams.output []
-    ends = finished words before after ran
+    ends = finished words before after answer ran zero
 
-    by : (asked : Asked) → Ask words asked → Serves asked before ran.reached ran.ended → Takes before.streams.output after.streams.output (notice_text notice)
+    by : (asked : Asked) → Ask words asked → Serves asked before ran.reached ran.ended answer.line → Takes before.streams.output after.streams.output (notice_text notice)
     by (Shown said) ask serves =
         let same : said ≡ notice = cc (sym ask ∙ is) in
         given said same serves.0
@@ -210,15 +211,15 @@ one-plan words p q a b =
     cc (run, sizes, first, other, bases, width, view) in
     same
 
-pub plan-all-done : (words : List (List ℕ)) (before after : World) (plan : RunPlan) → notice_of words ≡ None → IsPlan words plan → Runs words before after 0
-    → DoesAll plan before after
-plan-all-done words before after plan none is ran = by ran.asked ran.ask ran.serves
+pub plan-all-done : (words : List (List ℕ)) (before after : World) (plan : RunPlan) (answer : Ended) → notice_of words ≡ None → IsPlan words plan → Runs words before after answer
+    → status_of answer.ending ≡ 0 → DoesAll plan before after
+plan-all-done words before after plan answer none is ran zero = by ran.asked ran.ask ran.serves
   where
     ends : (ran.ended ≡ ending.Done) × Takes ran.reached.streams.output after.streams.output []
-    ends = finished words before after ran
+    ends = finished words before after answer ran zero
 
-    by : (asked : Asked) → Ask words asked → Serves asked before ran.reached ran.ended → DoesAll plan before after
+    by : (asked : Asked) → Ask words asked → Serves asked before ran.reached ran.ended answer.line → DoesAll plan before after
     by (Shown said) ask serves = absurd (cc (sym none ∙ ask))
     by (Planned other) ask serves =
-        subst (λ (p : RunPlan). DoesAll p before after) (one-plan words other plan ask.1 is) (plan-done other before ran.reached after ran.ended serves ends.0 ends.1)
+        subst (λ (p : RunPlan). DoesAll p before after) (one-plan words other plan ask.1 is) (plan-done other before ran.reached after ran.ended answer.line serves ends.0 ends.1)
     by (Wrong why) ask serves = absurd (no-word-fault why (sym ends.0 ∙ serves.1))

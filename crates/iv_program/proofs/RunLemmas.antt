@@ -1,5 +1,5 @@
 -- Files that were read, and what a run does with them.
-use Rattle.std.proofs.Common.{◌≡◌, ◌⊎◌, inl, inr, ◌<◌, ◌≤◌, ◌^◌, ℕ, Bool, true, false, List, [], length, Option, None, Some, Result, Ok, Err, IfOk, IfErr, IfSome, refl, sym, ◌∙◌, subst, arith}
+use Rattle.std.proofs.Common.{◌≡◌, ◌⊎◌, inl, inr, ◌<◌, ◌≤◌, ◌^◌, ℕ, List, [], length, Option, None, Some, Result, Ok, Err, IfOk, IfErr, IfSome, refl, sym, ◌∙◌, subst, arith}
 use Rattle.iv_bytes.specs.Sinks.{SinkState}
 use Rattle.iv_bytes.specs.Sources.{SourceState}
 use Rattle.iv_text.specs.declared.fault.Fault.{Fault}
@@ -9,12 +9,12 @@ use Rattle.iv_session.specs.Endings.{Ran}
 use Rattle.iv_session.specs.Running.{Runs as LineRuns, RunsLast}
 use Rattle.iv_session.specs.Scripts.{Done}
 use Rattle.iv_session.specs.Stops.{Stopped}
-use Rattle.iv_session.specs.Streams.{Streams, streams}
+use Rattle.iv_session.specs.Streams.{Streams}
 use Rattle.iv_session.specs.declared.script.RunFault.{RunFault}
 use Rattle.iv_session.specs.declared.script.Summary.{Summary}
 use Rattle.iv_args.specs.Notices.{notice_of}
 use Rattle.iv_args.specs.Texts.{notice_text}
-use Rattle.iv_args.specs.Words.{RunPlan, IsPlan, is_session}
+use Rattle.iv_args.specs.Words.{RunPlan, IsPlan}
 use Rattle.iv_args.specs.declared.notice.Notice.{Notice}
 use Rattle.iv_args.specs.declared.plan.Slot.{Slot}
 use Rattle.iv_args.specs.declared.plan.Slot.TheVariants.{Sizes, First, Other, Bases}
@@ -23,13 +23,14 @@ use Rattle.iv_cli.specs.Loading.{loaded}
 use Rattle.iv_run.specs.SoFar.{SaysSecond, SoFar}
 use Rattle.iv_run.specs.declared.fault.CliFault.{CliFault}
 use Rattle.iv_run.specs.declared.fault.FileFault.{FileFault}
-use Rattle.iv_cli.specs.Endings.{ending_of_file, ending_of_words, name_meant}
+use Rattle.iv_cli.specs.Endings.{ending_of_words, name_meant}
 use Rattle.iv_cli.specs.declared.ending.Ending.{Ending}
 use Rattle.iv_program.specs.Files.{FilesState, IsText, StopsFile}
 use Rattle.iv_program.specs.Limits.{most_file_bytes, most_records}
 use Rattle.iv_program.specs.Program.{Shown, Planned, Wrong, Ask, Finishes, Gives, Runs, world}
-use Rattle.iv_program.specs.Runs.{DoesWith, PrintsView, RunsPlan, RunsScript, Says, World}
+use Rattle.iv_program.specs.Runs.{RunsPlan, Says}
 use Rattle.iv_program.specs.Texts.{Texts, AreTexts, IsTextIfNamed, StopsAt}
+use Rattle.iv_program.specs.declared.ended.Ended.{Ended}
 
 -- ---- files that were read
 
@@ -44,7 +45,7 @@ pub stops-sizes : (plan : RunPlan) (f0 f1 : FilesState) (slot : Slot) (why : Fil
 stops-sizes plan f0 f1 slot why is =
     subst (λ (s : Slot). StopsAt plan f0 f1 s why) (sym is.0) (record { name = plan.sizes; named = refl; before = tt; stops = is.1 })
 
--- the first BED file was not
+-- the first file was not
 pub stops-first : (plan : RunPlan) (f0 f1 f2 : FilesState) (sizes : List ℕ) (slot : Slot) (why : FileFault) → IsText f0 plan.sizes sizes → f1 ≡ f0
     → slot ≡ First → StopsFile f1 plan.first why f2 → StopsAt plan f0 f2 slot why
 stops-first plan f0 f1 f2 sizes slot why read same is stops =
@@ -128,72 +129,47 @@ pub ran-of : (old new : State) (before after : Streams) (lines most : ℕ) (r : 
 ran-of old new before after lines most (Ok summary) done stopped = done
 ran-of old new before after lines most (Err why) done stopped = stopped
 
--- ---- runs of a plan
-
-pub ran-script : (plan : RunPlan) (before after : World) (ended : Ending) → is_session plan.run ≡ true
-    → (texts : Texts) × AreTexts before.files plan texts × RunsScript plan texts before.streams after.streams ended
-    → after.files ≡ before.files → RunsPlan plan before after ended
-ran-script plan before after ended is read same = inl (record {
-  texts = read.0;
-  are = read.1;
-  same = same;
-  does = subst (λ (b : Bool). DoesWith b plan read.0 before.streams after.streams ended) (sym is) read.2;
-})
-
-pub ran-view : (plan : RunPlan) (f0 f1 : FilesState) (input : SourceState) (o0 o1 said : SinkState) (ended : Ending) → is_session plan.run ≡ false
-    → (texts : Texts) × AreTexts f0 plan texts × PrintsView plan texts o0 o1 ended
-    → f1 ≡ f0 → RunsPlan plan (world f0 input o0 said) (world f1 input o1 said) ended
-ran-view plan f0 f1 input o0 o1 said ended is read same = inl (record {
-  texts = read.0;
-  are = read.1;
-  same = same;
-  does = subst (λ (b : Bool). DoesWith b plan read.0 (streams input o0 said) (streams input o1 said) ended) (sym is) (read.2, refl);
-})
-
-pub ran-not : (plan : RunPlan) (before after : World) (ended : Ending) (slot : Slot) (why : FileFault) → StopsAt plan before.files after.files slot why
-    → after.streams ≡ before.streams → ended ≡ ending_of_file slot why → RunsPlan plan before after ended
-ran-not plan before after ended slot why stops same is = inr (record { slot = slot; fault = why; stops = stops; same = same; ended_is = is })
-
 -- ---- the program
 
-module _ (words : List (List ℕ)) (status : ℕ) where
+module _ (words : List (List ℕ)) (answer : Ended) where
   pub gave-notice : (notice : Notice) (files : FilesState) (input : SourceState) (o0 o1 o2 s0 s1 : SinkState) (ended : Ending) → notice_of words ≡ Some notice
-      → Gives o0 o1 (notice_text notice) ended → Finishes ended [] o1 o2 s0 s1 status
-      → Runs words (world files input o0 s0) (world files input o2 s1) status
-  gave-notice notice files input o0 o1 o2 s0 s1 ended is gives finishes = record {
+      → Gives o0 o1 (notice_text notice) ended → Finishes ended [] o1 o2 s0 s1 answer.ending → answer.line ≡ 0
+      → Runs words (world files input o0 s0) (world files input o2 s1) answer
+  gave-notice notice files input o0 o1 o2 s0 s1 ended is gives finishes no_line = record {
     asked = Shown notice;
     ask = is;
     reached = world files input o1 s0;
     ended = ended;
-    serves = (gives, refl);
+    serves = (gives, refl, no_line);
     finishes = finishes;
     files = refl;
     input = refl;
   }
 
-  pub ran-plan : (plan : RunPlan) (f0 f1 : FilesState) (i0 i1 : SourceState) (o0 o1 o2 s0 s1 s2 : SinkState) (ended : Ending) (name : List ℕ) → notice_of words ≡ None
-      → IsPlan words plan → RunsPlan plan (world f0 i0 o0 s0) (world f1 i1 o1 s1) ended → name ≡ name_meant plan ended → Finishes ended name o1 o2 s1 s2 status
-      → Runs words (world f0 i0 o0 s0) (world f1 i1 o2 s2) status
-  ran-plan plan f0 f1 i0 i1 o0 o1 o2 s0 s1 s2 ended name none is runs named finishes = record {
+  pub ran-plan : (plan : RunPlan) (f0 f1 : FilesState) (i0 i1 : SourceState) (o0 o1 o2 s0 s1 s2 : SinkState) (ended : Ending) (line : ℕ) (name : List ℕ) → notice_of words ≡ None
+      → IsPlan words plan → RunsPlan plan (world f0 i0 o0 s0) (world f1 i1 o1 s1) ended line → name ≡ name_meant plan ended
+      → Finishes ended name o1 o2 s1 s2 answer.ending → answer.line ≡ line
+      → Runs words (world f0 i0 o0 s0) (world f1 i1 o2 s2) answer
+  ran-plan plan f0 f1 i0 i1 o0 o1 o2 s0 s1 s2 ended line name none is runs named finishes same_line = record {
     asked = Planned plan;
     ask = (none, is);
     reached = world f1 i1 o1 s1;
     ended = ended;
-    serves = runs;
-    finishes = subst (λ (n : List ℕ). Finishes ended n o1 o2 s1 s2 status) named finishes;
+    serves = subst (λ (n : ℕ). RunsPlan plan (world f0 i0 o0 s0) (world f1 i1 o1 s1) ended n) (sym same_line) runs;
+    finishes = subst (λ (n : List ℕ). Finishes ended n o1 o2 s1 s2 answer.ending) named finishes;
     files = refl;
     input = refl;
   }
 
   pub had-no-plan : (why : Fault) (files : FilesState) (input : SourceState) (o0 o1 s0 s1 : SinkState) (ended : Ending) → notice_of words ≡ None
       → (why ≡ refused.NoMemory) ⊎ ((why ≡ refused.Words) × ((plan : RunPlan) → ¬ IsPlan words plan)) → ended ≡ ending_of_words why
-      → Finishes ended [] o0 o1 s0 s1 status → Runs words (world files input o0 s0) (world files input o1 s1) status
-  had-no-plan why files input o0 o1 s0 s1 ended none is ended_is finishes = record {
+      → Finishes ended [] o0 o1 s0 s1 answer.ending → answer.line ≡ 0 → Runs words (world files input o0 s0) (world files input o1 s1) answer
+  had-no-plan why files input o0 o1 s0 s1 ended none is ended_is finishes no_line = record {
     asked = Wrong why;
     ask = by why is;
     reached = world files input o0 s0;
     ended = ended;
-    serves = (refl, ended_is);
+    serves = (refl, ended_is, no_line);
     finishes = finishes;
     files = refl;
     input = refl;

@@ -21,6 +21,7 @@ use Rattle.iv_program.specs.Outcomes.{AreSound, HasBytes, Hold, PrintsJust}
 use Rattle.iv_program.specs.Program.{Asked, Shown, Planned, Wrong, Ask, Finishes, Flushes, Runs, Serves, Tells, name_told}
 use Rattle.iv_program.specs.Runs.{DoesWith, RunsPlan, World, ending_of_shot}
 use Rattle.iv_program.specs.Texts.{Texts, AreTexts, IsTextIfNamed}
+use Rattle.iv_program.specs.declared.ended.Ended.{Ended}
 use Rattle.iv_program.proofs.DoneLemmas.{one-plan, then-flushed}
 
 -- ---- files
@@ -62,7 +63,7 @@ not-long files name bytes has long =
 sound-failed : (b : Bool) → b ≡ true → b ≡ false → ⊥
 sound-failed b t f = true≢false (sym t ∙ f)
 
-module _ (ended : Ending) (name : List ℕ) (out0 out1 said0 said1 : SinkState) (status : ℕ) (finishes : Finishes ended name out0 out1 said0 said1 status)
+module _ (ended : Ending) (name : List ℕ) (out0 out1 said0 said1 : SinkState) (reported : Ending) (finishes : Finishes ended name out0 out1 said0 said1 reported)
     (sound : out1.failed ≡ false) (heard : said1.failed ≡ false) where
   flushed-true : finishes.flushed ≡ true
   flushed-true = by finishes.flushed finishes.flush
@@ -87,17 +88,17 @@ module _ (ended : Ending) (name : List ℕ) (out0 out1 said0 said1 : SinkState) 
   same-ending ending.Output = refl
   same-ending ending.Memory = refl
 
-  ending-is : ending_after finishes.flushed ended ≡ ended
-  ending-is = ap (λ (b : Bool). ending_after b ended) flushed-true ∙ same-ending ended
+  ending-is : reported ≡ ended
+  ending-is = finishes.reported_is ∙ ap (λ (b : Bool). ending_after b ended) flushed-true ∙ same-ending ended
 
-  status-of : status ≡ status_of ended
-  status-of = finishes.status_is ∙ ap status_of ending-is
+  status-of : status_of reported ≡ status_of ended
+  status-of = ap status_of ending-is
 
   -- its line was put
   told : Takes said0 said1 (line_of name ended)
   told = subst (λ (e : Ending). Takes said0 said1 (line_of name e)) ending-is (by finishes.told)
     where
-      by : Tells said0 said1 (line_of name (ending_after finishes.flushed ended)) → Takes said0 said1 (line_of name (ending_after finishes.flushed ended))
+      by : Tells said0 said1 (line_of name reported) → Takes said0 said1 (line_of name reported)
       by (inl took) = took
       by (inr failed) = absurd (sound-failed said1.failed failed.failed heard)
 
@@ -107,37 +108,37 @@ module _ (ended : Ending) (name : List ℕ) (out0 out1 said0 said1 : SinkState) 
 
 -- ---- a view
 
-module _ (plan : RunPlan) (before reached after : Streams) (status : ℕ) (ended : Ending)
-    (finishes : Finishes ended (name_meant plan ended) reached.output after.output reached.messages after.messages status)
-    (sound : after.output.failed ≡ false) (heard : after.messages.failed ≡ false) (had_memory : status ≡ 5 → ⊥)
+module _ (plan : RunPlan) (before reached after : Streams) (reported : Ending) (ended : Ending)
+    (finishes : Finishes ended (name_meant plan ended) reached.output after.output reached.messages after.messages reported)
+    (sound : after.output.failed ≡ false) (heard : after.messages.failed ≡ false) (had_memory : status_of reported ≡ 5 → ⊥)
     (only : reached ≡ record before { output = reached.output }) where
   out : Takes reached.output after.output []
-  out = flushed ended (name_meant plan ended) reached.output after.output reached.messages after.messages status finishes sound heard
+  out = flushed ended (name_meant plan ended) reached.output after.output reached.messages after.messages reported finishes sound heard
 
   same-messages : reached.messages ≡ before.messages
   same-messages = ap (λ (s : Streams). s.messages) only
 
   line-told : Takes before.messages after.messages (line_of (name_meant plan ended) ended)
   line-told = subst (λ (m : SinkState). Takes m after.messages (line_of (name_meant plan ended) ended)) same-messages
-      (told ended (name_meant plan ended) reached.output after.output reached.messages after.messages status finishes sound heard)
+      (told ended (name_meant plan ended) reached.output after.output reached.messages after.messages reported finishes sound heard)
 
-  is-status : status ≡ status_of ended
-  is-status = status-of ended (name_meant plan ended) reached.output after.output reached.messages after.messages status finishes sound heard
+  is-status : status_of reported ≡ status_of ended
+  is-status = status-of ended (name_meant plan ended) reached.output after.output reached.messages after.messages reported finishes sound heard
 
   is-quiet : ended ≡ ending.Done → after.messages ≡ before.messages
-  is-quiet is = quiet ended (name_meant plan ended) reached.output after.output reached.messages after.messages status finishes sound heard is ∙ same-messages
+  is-quiet is = quiet ended (name_meant plan ended) reached.output after.output reached.messages after.messages reported finishes sound heard is ∙ same-messages
 
-  -- the fault of files or of words is told, and nothing was printed
-  tells : (k : CliFault) → ended ≡ ending_of k → reached.output ≡ before.output → (said : Result (List ℕ) CliFault) → said ≡ Err k → PrintsJust plan said before after status
-  tells k is same said e = subst (λ (r : Result (List ℕ) CliFault). PrintsJust plan r before after status) (sym e) (
+  -- the fault of files or of words is reported, and nothing was printed
+  tells : (k : CliFault) → ended ≡ ending_of k → reached.output ≡ before.output → (said : Result (List ℕ) CliFault) → said ≡ Err k → PrintsJust plan said before after (status_of reported)
+  tells k is same said e = subst (λ (r : Result (List ℕ) CliFault). PrintsJust plan r before after (status_of reported)) (sym e) (
     subst (λ (o : SinkState). Takes o after.output []) same out,
     subst (λ (e : Ending). Takes before.messages after.messages (line_of (name_meant plan e) e)) is line-told,
     is-status ∙ ap status_of is,
   )
 
   pub shows-just : (done : Result (Unit {0}) CliFault) (said : Result (List ℕ) CliFault) → Shows before.output reached.output done said → ended ≡ ending_of_shot done
-      → PrintsJust plan said before after status
-  shows-just (Ok done) said shows is = subst (λ (r : Result (List ℕ) CliFault). PrintsJust plan r before after status) (sym shows.1) (
+      → PrintsJust plan said before after (status_of reported)
+  shows-just (Ok done) said shows is = subst (λ (r : Result (List ℕ) CliFault). PrintsJust plan r before after (status_of reported)) (sym shows.1) (
     then-flushed before.output reached.output after.output shows.0 shows.2 out,
     is-quiet is,
     is-status ∙ ap status_of is,
@@ -149,23 +150,23 @@ module _ (plan : RunPlan) (before reached after : Streams) (status : ℕ) (ended
 
 -- ---- the program
 
-pub prints-just : (words : List (List ℕ)) (before after : World) (plan : RunPlan) (texts : Texts) (status : ℕ) → notice_of words ≡ None → IsPlan words plan
-    → is_session plan.run ≡ false → Hold before.files plan texts → Runs words before after status → AreSound after → (status ≡ 5 → ⊥)
-    → PrintsJust plan (shown plan texts.sizes texts.first texts.other texts.bases most_records) before.streams after.streams status
-prints-just words before after plan texts status none is view hold ran sound had_memory = by ran.asked ran.ask ran.serves ran.finishes
+pub prints-just : (words : List (List ℕ)) (before after : World) (plan : RunPlan) (texts : Texts) (answer : Ended) → notice_of words ≡ None → IsPlan words plan
+    → is_session plan.run ≡ false → Hold before.files plan texts → Runs words before after answer → AreSound after → (status_of answer.ending ≡ 5 → ⊥)
+    → PrintsJust plan (shown plan texts.sizes texts.first texts.other texts.bases most_records) before.streams after.streams (status_of answer.ending)
+prints-just words before after plan texts answer none is view hold ran sound had_memory = by ran.asked ran.ask ran.serves ran.finishes
   where
     Goal : Type 0
-    Goal = PrintsJust plan (shown plan texts.sizes texts.first texts.other texts.bases most_records) before.streams after.streams status
+    Goal = PrintsJust plan (shown plan texts.sizes texts.first texts.other texts.bases most_records) before.streams after.streams (status_of answer.ending)
 
-    of_plan : (name : List ℕ) → name ≡ name_meant plan ran.ended → RunsPlan plan before ran.reached ran.ended
-        → Finishes ran.ended name ran.reached.streams.output after.streams.output ran.reached.streams.messages after.streams.messages status → Goal
+    of_plan : (name : List ℕ) → name ≡ name_meant plan ran.ended → RunsPlan plan before ran.reached ran.ended answer.line
+        → Finishes ran.ended name ran.reached.streams.output after.streams.output ran.reached.streams.messages after.streams.messages answer.ending → Goal
     of_plan name named (inl read) finishes =
         let same : read.texts ≡ texts = texts-known before.files plan read.texts texts read.are hold in
-        let does : DoesWith false plan read.texts before.streams ran.reached.streams ran.ended =
-        subst (λ (b : Bool). DoesWith b plan read.texts before.streams ran.reached.streams ran.ended) view read.does in
-        subst (λ (t : Texts). PrintsJust plan (shown plan t.sizes t.first t.other t.bases most_records) before.streams after.streams status) same
-        (shows-just plan before.streams ran.reached.streams after.streams status ran.ended
-        (subst (λ (n : List ℕ). Finishes ran.ended n ran.reached.streams.output after.streams.output ran.reached.streams.messages after.streams.messages status) named finishes)
+        let does : DoesWith false plan read.texts before.streams ran.reached.streams ran.ended answer.line =
+        subst (λ (b : Bool). DoesWith b plan read.texts before.streams ran.reached.streams ran.ended answer.line) view read.does in
+        subst (λ (t : Texts). PrintsJust plan (shown plan t.sizes t.first t.other t.bases most_records) before.streams after.streams (status_of answer.ending)) same
+        (shows-just plan before.streams ran.reached.streams after.streams answer.ending ran.ended
+        (subst (λ (n : List ℕ). Finishes ran.ended n ran.reached.streams.output after.streams.output ran.reached.streams.messages after.streams.messages answer.ending) named finishes)
         sound.output sound.messages had_memory does.1 does.0.0
         (shown plan read.texts.sizes read.texts.first read.texts.other read.texts.bases most_records) does.0.1 does.0.2)
     of_plan name named (inr stopped) finishes = absurd (never stopped.fault stopped.stops.stops stopped.ended_is)
@@ -177,15 +178,15 @@ prints-just words before after plan texts status none is view hold ran sound had
             let has = slot-known before.files plan texts stopped.slot stopped.stops.name hold stopped.stops.named in
             not-long before.files stopped.stops.name has.0 has.1 stops.0
         never file.Memory stops e = had_memory
-            (status-of ran.ended name ran.reached.streams.output after.streams.output ran.reached.streams.messages after.streams.messages status finishes sound.output sound.messages ∙ ap status_of e)
+            (status-of ran.ended name ran.reached.streams.output after.streams.output ran.reached.streams.messages after.streams.messages answer.ending finishes sound.output sound.messages ∙ ap status_of e)
 
-    by : (asked : Asked) → Ask words asked → Serves asked before ran.reached ran.ended
-        → Finishes ran.ended (name_told asked ran.ended) ran.reached.streams.output after.streams.output ran.reached.streams.messages after.streams.messages status → Goal
+    by : (asked : Asked) → Ask words asked → Serves asked before ran.reached ran.ended answer.line
+        → Finishes ran.ended (name_told asked ran.ended) ran.reached.streams.output after.streams.output ran.reached.streams.messages after.streams.messages answer.ending → Goal
     by (Shown notice) ask serves finishes = absurd (cc (sym none ∙ ask))
     by (Planned other) ask serves finishes =
         let same : other ≡ plan = one-plan words other plan ask.1 is in
-        of_plan (name_meant other ran.ended) (ap (λ (p : RunPlan). name_meant p ran.ended) same) (subst (λ (p : RunPlan). RunsPlan p before ran.reached ran.ended) same serves) finishes
+        of_plan (name_meant other ran.ended) (ap (λ (p : RunPlan). name_meant p ran.ended) same) (subst (λ (p : RunPlan). RunsPlan p before ran.reached ran.ended answer.line) same serves) finishes
     by (Wrong refused.Words) ask serves finishes = absurd (ask.1 plan is)
     by (Wrong refused.NoMemory) ask serves finishes = absurd (had_memory
-        (status-of ran.ended [] ran.reached.streams.output after.streams.output ran.reached.streams.messages after.streams.messages status finishes sound.output sound.messages ∙ ap status_of serves.1))
+        (status-of ran.ended [] ran.reached.streams.output after.streams.output ran.reached.streams.messages after.streams.messages answer.ending finishes sound.output sound.messages ∙ ap status_of serves.1))
     by (Wrong why) ask serves finishes = absurd ask

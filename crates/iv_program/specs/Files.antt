@@ -5,7 +5,7 @@ use Rattle.iv_run.specs.declared.fault.FileFault.{FileFault}
 use Rattle.iv_run.specs.declared.fault.FileFault.TheVariants.{Input, TooLong, Memory}
 use Rattle.iv_program.specs.Limits.{most_file_bytes}
 
--- the bytes of the file of each name, where those are known, and whether a file could not be opened or read
+-- the bytes of the file of each name, if those are known, and whether a file could not be opened or read
 pub record FilesState : Type 0 where
   pub contents : List ℕ → Option (List ℕ)
   pub failed : Bool
@@ -23,7 +23,7 @@ abbrev pub IsText : FilesState → List ℕ → List ℕ → Type 0
 IsText files name text = IfSome (files.contents name) (λ known. known ≡ text) × (length text ≤ most_file_bytes)
 
 -- why the file of this name was not read to its end, and the files afterwards: one of them failed; or it has too many bytes; or
--- memory was refused
+-- an allocation failed
 abbrev pub StopsFile : FilesState → List ℕ → FileFault → FilesState → Type 0
 StopsFile old name Input new = new ≡ record old { failed = true }
 StopsFile old name TooLong new = IfSome (old.contents name) (λ known. most_file_bytes < length known) × (new ≡ old)

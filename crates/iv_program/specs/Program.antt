@@ -9,16 +9,17 @@ use Rattle.iv_args.specs.Notices.{notice_of}
 use Rattle.iv_args.specs.Texts.{notice_text}
 use Rattle.iv_args.specs.Words.{RunPlan, IsPlan}
 use Rattle.iv_args.specs.declared.notice.Notice.{Notice}
-use Rattle.iv_cli.specs.Endings.{ending_after, ending_of_words, is_through, line_of, name_meant, status_of}
+use Rattle.iv_cli.specs.Endings.{ending_after, ending_of_words, is_through, line_of, name_meant}
 use Rattle.iv_cli.specs.declared.ending.Ending.{Ending}
 use Rattle.iv_cli.specs.declared.ending.Ending.TheVariants as ending
 use Rattle.iv_program.specs.Files.{FilesState}
 use Rattle.iv_program.specs.Runs.{World, RunsPlan}
+use Rattle.iv_program.specs.declared.ended.Ended.{Ended}
 
 abbrev pub world : FilesState → SourceState → SinkState → SinkState → World
 world files input output messages = record { files = files; streams = streams input output messages }
 
--- what words ask for: a notice; a run of a plan; or neither, for wrong words or out of memory
+-- what words ask for: a notice; a run of a plan; or neither, for bad options or out of memory
 pub data Asked : Type 0 where
   Shown : Notice → Asked
   Planned : RunPlan → Asked
@@ -36,13 +37,14 @@ Ask words (Wrong other) = ⊥
 abbrev pub Gives : SinkState → SinkState → List ℕ → Ending → Type 0
 Gives old new text ended = ((ended ≡ ending.Done) × Takes old new text) ⊎ ((ended ≡ ending.Output) × FailsIn old new text)
 
--- what was asked for was done, and ended so
-abbrev pub Serves : Asked → World → World → Ending → Type 0
-Serves (Shown notice) before after ended =
+-- what was asked for was done, and ended so, at this line of its script if it ended early at one
+abbrev pub Serves : Asked → World → World → Ending → ℕ → Type 0
+Serves (Shown notice) before after ended line =
     Gives before.streams.output after.streams.output (notice_text notice) ended
     × (after ≡ record before { streams = record before.streams { output = after.streams.output } })
-Serves (Planned plan) before after ended = RunsPlan plan before after ended
-Serves (Wrong fault) before after ended = (after ≡ before) × (ended ≡ ending_of_words fault)
+    × (line ≡ 0)
+Serves (Planned plan) before after ended line = RunsPlan plan before after ended line
+Serves (Wrong fault) before after ended line = (after ≡ before) × (ended ≡ ending_of_words fault) × (line ≡ 0)
 
 -- the name of the file that an ending speaks of
 abbrev pub name_told : Asked → Ending → List ℕ
@@ -55,26 +57,26 @@ abbrev pub Flushes : Bool → SinkState → SinkState → Type 0
 Flushes true old new = Takes old new []
 Flushes false old new = FailsIn old new []
 
--- a text was told: all of it, or the messages failed in it
+-- a text was reported: all of it, or the messages failed in it
 abbrev pub Tells : SinkState → SinkState → List ℕ → Type 0
 Tells old new text = Takes old new text ⊎ FailsIn old new text
 
--- the end of a run: the output is flushed, the messages get the line of the ending, and the status is that of the ending
-pub record Finishes (ended : Ending) (name : List ℕ) (out0 out1 said0 said1 : SinkState) (status : ℕ) : Type 0 where
+-- the end of a run: the output is flushed, and the messages get the line of the ending that this leads to
+pub record Finishes (ended : Ending) (name : List ℕ) (out0 out1 said0 said1 : SinkState) (reported : Ending) : Type 0 where
   pub flushed : Bool
   pub flush : Flushes flushed out0 out1
-  pub told : Tells said0 said1 (line_of name (ending_after flushed ended))
-  pub quiet : is_through (ending_after flushed ended) ≡ true → said1 ≡ said0
-  pub status_is : status ≡ status_of (ending_after flushed ended)
+  pub reported_is : reported ≡ ending_after flushed ended
+  pub told : Tells said0 said1 (line_of name reported)
+  pub quiet : is_through reported ≡ true → said1 ≡ said0
 
--- the program was run with these words, and gave this status
-pub record Runs (words : List (List ℕ)) (before after : World) (status : ℕ) : Type 0 where
+-- the program was run with these words, and ended so
+pub record Runs (words : List (List ℕ)) (before after : World) (answer : Ended) : Type 0 where
   pub asked : Asked
   pub ask : Ask words asked
   pub reached : World
   pub ended : Ending
-  pub serves : Serves asked before reached ended
+  pub serves : Serves asked before reached ended answer.line
   pub finishes : Finishes ended (name_told asked ended) reached.streams.output after.streams.output
-      reached.streams.messages after.streams.messages status
+      reached.streams.messages after.streams.messages answer.ending
   pub files : after.files ≡ reached.files
   pub input : after.streams.input ≡ reached.streams.input

@@ -32,21 +32,26 @@ abbrev pub ending_of_shot : Result (Unit {0}) CliFault → Ending
 ending_of_shot (Ok done) = ending.Done
 ending_of_shot (Err fault) = ending_of fault
 
--- a script was run over a session; or there is none, and nothing was read or written
-abbrev pub RunsOver : Result State CliFault → Streams → Streams → Ending → Type 0
-RunsOver (Err fault) before after ended = (after ≡ before) × (ended ≡ ending_of fault)
-RunsOver (Ok session) before after ended =
-    (new : State) × (run : Result Summary RunFault) × Ran session new before after most_lines most_line_bytes run × (ended ≡ ending_of_run run)
+-- the line at which a script stopped; 0 if it was run to its end
+abbrev pub stopped_at : Result Summary RunFault → ℕ
+stopped_at (Ok summary) = 0
+stopped_at (Err stopped) = stopped.line
 
--- the script was run over the session that the texts of a plan begin, or the fault of the first damaged file is told, or out of
+-- a script was run over a session, and stopped at this line; or there is none, and nothing was read or written
+abbrev pub RunsOver : Result State CliFault → Streams → Streams → Ending → ℕ → Type 0
+RunsOver (Err fault) before after ended line = (after ≡ before) × (ended ≡ ending_of fault) × (line ≡ 0)
+RunsOver (Ok session) before after ended line =
+    (new : State) × (run : Result Summary RunFault) × Ran session new before after most_lines most_line_bytes run × (ended ≡ ending_of_run run) × (line ≡ stopped_at run)
+
+-- the script was run over the session that the texts of a plan begin, or the fault of the first damaged file is reported, or out of
 -- memory
-abbrev pub RunsScript : RunPlan → Texts → Streams → Streams → Ending → Type 0
-RunsScript plan texts before after ended =
+abbrev pub RunsScript : RunPlan → Texts → Streams → Streams → Ending → ℕ → Type 0
+RunsScript plan texts before after ended line =
     (session : Result State CliFault)
     × IsReport session (loaded plan.width texts.sizes texts.first texts.other texts.bases most_records)
-    × RunsOver session before after ended
+    × RunsOver session before after ended line
 
--- the view of a plan was printed for its texts, or its first fault is told
+-- the view of a plan was printed for its texts, or its first fault is reported
 abbrev pub PrintsView : RunPlan → Texts → SinkState → SinkState → Ending → Type 0
 PrintsView plan texts old new ended =
     (done : Result (Unit {0}) CliFault)
@@ -54,29 +59,30 @@ PrintsView plan texts old new ended =
     × (ended ≡ ending_of_shot done)
 
 -- what is done with the texts of a plan: its script is run, or its view is printed
-abbrev pub DoesWith : Bool → RunPlan → Texts → Streams → Streams → Ending → Type 0
-DoesWith true plan texts before after ended = RunsScript plan texts before after ended
-DoesWith false plan texts before after ended =
-    PrintsView plan texts before.output after.output ended × (after ≡ record before { output = after.output })
+abbrev pub DoesWith : Bool → RunPlan → Texts → Streams → Streams → Ending → ℕ → Type 0
+DoesWith true plan texts before after ended line = RunsScript plan texts before after ended line
+DoesWith false plan texts before after ended line =
+    PrintsView plan texts before.output after.output ended × (after ≡ record before { output = after.output }) × (line ≡ 0)
 
 -- all files of a plan were read, and this was done with their texts
-pub record HasRead (plan : RunPlan) (before after : World) (ended : Ending) : Type 0 where
+pub record HasRead (plan : RunPlan) (before after : World) (ended : Ending) (line : ℕ) : Type 0 where
   pub texts : Texts
   pub are : AreTexts before.files plan texts
   pub same : after.files ≡ before.files
-  pub does : DoesWith (is_session plan.run) plan texts before.streams after.streams ended
+  pub does : DoesWith (is_session plan.run) plan texts before.streams after.streams ended line
 
 -- a file of a plan was not read to its end, and nothing was read or written
-pub record HasNotRead (plan : RunPlan) (before after : World) (ended : Ending) : Type 0 where
+pub record HasNotRead (plan : RunPlan) (before after : World) (ended : Ending) (line : ℕ) : Type 0 where
   pub slot : Slot
   pub fault : FileFault
   pub stops : StopsAt plan before.files after.files slot fault
   pub same : after.streams ≡ before.streams
   pub ended_is : ended ≡ ending_of_file slot fault
+  pub no_line : line ≡ 0
 
--- a run of a plan ended so
-abbrev pub RunsPlan : RunPlan → World → World → Ending → Type 0
-RunsPlan plan before after ended = HasRead plan before after ended ⊎ HasNotRead plan before after ended
+-- a run of a plan ended so, at this line of its script if it ended early at one
+abbrev pub RunsPlan : RunPlan → World → World → Ending → ℕ → Type 0
+RunsPlan plan before after ended line = HasRead plan before after ended line ⊎ HasNotRead plan before after ended line
 
 -- what is known of the files of a plan, and the bytes of its FASTA file, are what these texts say. No part of what is promised
 pub record Says (kept : Row → Row) (plan : RunPlan) (texts : Texts) (known : SoFar) (bases : Option (List ℕ)) : Type 0 where

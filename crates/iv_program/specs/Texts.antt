@@ -6,14 +6,14 @@ use Rattle.iv_args.specs.declared.plan.Slot.TheVariants.{Sizes, First, Other, Ba
 use Rattle.iv_run.specs.declared.fault.FileFault.{FileFault}
 use Rattle.iv_program.specs.Files.{FilesState, IsText, StopsFile}
 
--- the bytes of the genome file, of the first BED file, and of the second and the FASTA file, where there are any
+-- the bytes of the genome file, of the first file, and of the second and the FASTA file, if there are any
 pub record Texts : Type 0 where
   pub sizes : List ℕ
   pub first : List ℕ
   pub other : Option (List ℕ)
   pub bases : Option (List ℕ)
 
--- there is a text where a file is named, and it is that of this file
+-- there is a text if a file is named, and it is that of this file
 abbrev pub IsTextIfNamed : FilesState → Option (List ℕ) → Option (List ℕ) → Type 0
 IsTextIfNamed files None None = Unit {0}
 IsTextIfNamed files None (Some text) = ⊥
@@ -27,11 +27,11 @@ pub record AreTexts (files : FilesState) (plan : RunPlan) (texts : Texts) : Type
   pub other : IsTextIfNamed files plan.other texts.other
   pub bases : IsTextIfNamed files plan.bases texts.bases
 
--- a file has a text that is not too long, where one is named
+-- a file has a text that is not too long, if one is named
 abbrev pub HasText : FilesState → Option (List ℕ) → Type 0
 HasText files name = (text : Option (List ℕ)) × IsTextIfNamed files name text
 
--- so have the files of a plan that are read before the one of this slot
+-- the files of a plan that are read before the one of this slot have such texts
 abbrev pub HaveTextsBefore : FilesState → RunPlan → Slot → Type 0
 HaveTextsBefore files plan Sizes = Unit {0}
 HaveTextsBefore files plan First = HasText files (Some plan.sizes)

@@ -25,7 +25,7 @@ pub trait InputFiles {
     /// A file that is open.
     type File: Source + Drop;
 
-    /// The bytes of the file of each name, where those are known, and whether a file could not be opened or read.
+    /// The bytes of the file of each name, if those are known, and whether a file could not be opened or read.
     ghost state: { Self → FilesState };
 
     /// Opens the file of this name at its front.
@@ -34,7 +34,7 @@ pub trait InputFiles {
         ensures same { OnOk result (state self.new ≡ state self.old) }
         ensures err { OnErr result (state self.new ≡ record (state self.old) { failed = true }) };
 
-    /// Takes a file back that is not needed any more. That it failed is kept.
+    /// Takes back a file that is no longer needed. If it failed, that is remembered.
     fn close(&mut self, file: Self::File)
         ensures { state self.new ≡ after_closing (Self.File.state file).failed (state self.old) };
 }
@@ -75,7 +75,7 @@ fn read_named<A: Allocator + Copy, F: InputFiles>(
     }
 }
 
-/// The bytes of a file of a plan, where it names one.
+/// The bytes of a file of a plan, if it names one.
 fn read_slot<A: Allocator + Copy, F: InputFiles>(
     alloc: A,
     files: &mut F,
@@ -200,7 +200,7 @@ fn load_second<K: FromRecord<A>, A: Allocator + Copy, F: InputFiles>(
     read
 }
 
-/// Reads the first BED file of a plan.
+/// Reads the first file of a plan.
 fn read_first<K: FromRecord<A>, A: Allocator + Copy, F: InputFiles>(
     files: &mut F,
     plan: &Plan<'_, A>,
@@ -219,7 +219,7 @@ fn read_first<K: FromRecord<A>, A: Allocator + Copy, F: InputFiles>(
     }
 }
 
-/// Reads the second BED file of a plan, where it names one.
+/// Reads the second file of a plan, if it names one.
 fn read_second<K: FromRecord<A>, A: Allocator + Copy, F: InputFiles>(
     files: &mut F,
     plan: &Plan<'_, A>,

@@ -13,7 +13,7 @@ pub struct NamedBytes<'a> {
     pub bytes: &'a [u8],
 }
 
-/// The bytes of the first file of this name, where there is one.
+/// The bytes of the first file of this name, if there is one.
 fn bytes_of<'a>(files: &[NamedBytes<'a>], name: &[u8]) -> Option<&'a [u8]>
     ensures { option_copied result ≡ bytes_named files.now name.now }
 {

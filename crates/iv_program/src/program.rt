@@ -10,6 +10,7 @@ ghost use Rattle.iv_program.specs.Program.{Finishes, Gives, Runs, Tells, world};
 ghost use Rattle.iv_program.specs.Runs.{PrintsView, RunsPlan, Says, ending_of_shot};
 ghost use Rattle.iv_program.specs.Texts.{Texts, AreTexts, StopsAt};
 
+use crate::ended::Ended;
 use crate::files::{FileTexts, InputFiles, MOST_RECORDS, ReadFiles, SlotFault};
 use crate::script_run::run_session;
 use iv_args::{Notice, Plan};
@@ -96,44 +97,50 @@ fn run_plan<A: Allocator + Copy, F: InputFiles, R: Source, W: Sink, E: Sink>(
     input: &mut R,
     output: &mut W,
     messages: &mut E,
-) -> Ending
+) -> Ended
     ensures { RunsPlan plan.now
         (world (F.state files.old) (R.state input.old) (W.state output.old) (E.state messages.old))
-        (world (F.state files.new) (R.state input.new) (W.state output.new) (E.state messages.new)) result }
+        (world (F.state files.new) (R.state input.new) (W.state output.new) (E.state messages.new)) result.ending result.line }
 {
     if plan.is_script() {
         return match run_session(alloc, files, plan, input, output, messages) {
             Ok(ended) => ended,
-            Err(why) => Ending::from(why),
+            Err(why) => Ended::at_no_line(Ending::from(why)),
         };
     }
     match print_view(alloc, files, plan, output) {
-        Ok(ended) => ended,
-        Err(why) => Ending::from(why),
+        Ok(ending) => Ended::at_no_line(ending),
+        Err(why) => Ended::at_no_line(Ending::from(why)),
     }
 }
 
-/// Tells of an ending, with the name of the file that is meant, and gives its status.
+/// Reports an ending, with the name of the file that is meant, and gives its status.
 pub fn tell<E: Sink>(ending: Ending, name: &[u8], messages: &mut E) -> u8
     ensures told { Tells (E.state messages.old) (E.state messages.new) (line_of name.now ending) }
     ensures quiet { is_through ending ≡ true → messages.new ≡ messages.old }
     ensures status { result ≡ status_of ending }
 {
-    // Where the messages take no more, the status alone tells.
+    // If the messages take no more, the status alone tells.
     let _ = ending.put_line(name, messages);
     ending.status()
 }
 
-/// Ends a run: the output hands on what it holds, and the ending is told.
-fn finish<W: Flush, E: Sink>(ended: Ending, name: &[u8], output: &mut W, messages: &mut E) -> u8
-    ensures { Finishes ended name.now (W.state output.old) (W.state output.new) (E.state messages.old) (E.state messages.new) result }
+/// Ends a run: the output hands on what it holds, and the ending is reported.
+fn finish<W: Flush, E: Sink>(ended: Ended, name: &[u8], output: &mut W, messages: &mut E) -> Ended
+    ensures ending { Finishes ended.ending name.now (W.state output.old) (W.state output.new) (E.state messages.old) (E.state messages.new) result.ending }
+    ensures line { result.line ≡ ended.line }
 {
     let flushed = output.flush().is_ok();
-    tell(ended.after_flush(flushed), name, messages)
+    let ending = ended.ending.after_flush(flushed);
+    tell(ending, name, messages);
+    Ended {
+        ending,
+        line: ended.line,
+    }
 }
 
-/// Runs the program: does what the words after its name ask for, with these files, this input, output and messages, and gives
-/// the exit status.
+/// Runs the program: does what the words after its name ask for, with these files, this input, output and messages, and says how
+/// that ended.
 pub fn run_program<A: Allocator + Copy, F: InputFiles, R: Source, W: Flush, E: Sink>(
     alloc: A,
     words: &[&[u8]],
@@ -141,20 +148,23 @@ pub fn run_program<A: Allocator + Copy, F: InputFiles, R: Source, W: Flush, E: S
     input: &mut R,
     output: &mut W,
     messages: &mut E,
-) -> u8
+) -> Ended
     ensures { Runs (map (λ word. word.now) words.now)
         (world (F.state files.old) (R.state input.old) (W.state output.old) (E.state messages.old))
         (world (F.state files.new) (R.state input.new) (W.state output.new) (E.state messages.new)) result }
 {
     if let Some(notice) = Notice::of(words) {
-        let ended = print_notice(notice, output);
+        let ended = Ended::at_no_line(print_notice(notice, output));
         return finish(ended, b"", output, messages);
     }
     match Plan::read(alloc, words) {
         Ok(plan) => {
             let ended = run_plan(alloc, &plan, files, input, output, messages);
-            finish(ended, ended.file_meant(&plan), output, messages)
+            finish(ended, ended.ending.file_meant(&plan), output, messages)
         }
-        Err(fault) => finish(Ending::from(fault), b"", output, messages),
+        Err(fault) => {
+            let ended = Ended::at_no_line(Ending::from(fault));
+            finish(ended, b"", output, messages)
+        }
     }
 }

@@ -4,14 +4,15 @@ ghost use Rattle.std.specs.Option.{option_map};
 ghost use Rattle.iv_session.specs.Streams.{streams};
 ghost use Rattle.iv_args.specs.Words.{RunPlan};
 ghost use Rattle.iv_program.specs.Limits.{most_records};
-ghost use Rattle.iv_program.specs.Runs.{RunsScript, Says};
+ghost use Rattle.iv_program.specs.Runs.{RunsScript, Says, stopped_at};
 ghost use Rattle.iv_program.specs.Texts.{Texts, AreTexts, StopsAt};
 
+use crate::ended::Ended;
 use crate::files::{InputFiles, ReadFiles, SlotFault};
 use iv_args::Plan;
 use iv_bytes::{Sink, Source};
 use iv_cli::{Ending, begin_session};
-use iv_session::{ScriptLimits, run_script};
+use iv_session::{RunFault, ScriptLimits, Summary, run_script};
 use iv_text::Record;
 use std::alloc::Allocator;
 use std::mem;
@@ -22,6 +23,16 @@ const SCRIPT_LIMITS: ScriptLimits = ScriptLimits {
     line_bytes: 1_048_576,
 };
 
+/// The line at which a script stopped, counted from 1; 0 if it was run to its end.
+fn line_of_stop(done: &Result<Summary, RunFault>) -> u64
+    ensures { result ≡ stopped_at done.now }
+{
+    match done {
+        Ok(_) => 0,
+        Err(fault) => fault.line,
+    }
+}
+
 /// Runs the script on the input over the session that the files of a plan begin.
 fn run_over<A: Allocator + Copy, R: Source, W: Sink, E: Sink>(
     alloc: A,
@@ -29,22 +40,25 @@ fn run_over<A: Allocator + Copy, R: Source, W: Sink, E: Sink>(
     input: &mut R,
     output: &mut W,
     messages: &mut E,
-) -> Ending
+) -> Ended
     requires { read.loading.limit ≡ most_records }
     ensures { (plan : RunPlan) (texts : Texts) → Says (λ r. r) plan texts read.loading (option_map (λ bytes. bytes.items) read.bases)
         → RunsScript plan texts
         (streams (R.state input.old) (W.state output.old) (E.state messages.old))
-        (streams (R.state input.new) (W.state output.new) (E.state messages.new)) result }
+        (streams (R.state input.new) (W.state output.new) (E.state messages.new)) result.ending result.line }
 {
     let ReadFiles { loading, bases } = read;
     let mut session = match begin_session(loading, bases) {
         Ok(session) => session,
-        Err(fault) => return Ending::from(fault),
+        Err(fault) => return Ended::at_no_line(Ending::from(fault)),
     };
     let done = run_script(alloc, &mut session, &SCRIPT_LIMITS, input, output, messages);
-    // The process ends soon, and the system takes its memory at once, where a drop would free record by record.
+    // The process ends soon, and the system takes its memory at once. A drop would free record by record.
     mem::forget(session);
-    Ending::of_run(&done)
+    Ended {
+        ending: Ending::of_run(&done),
+        line: line_of_stop(&done),
+    }
 }
 
 /// Reads the files of a plan, and runs the script on the input over the session that they begin.
@@ -55,11 +69,11 @@ pub(crate) fn run_session<A: Allocator + Copy, F: InputFiles, R: Source, W: Sink
     input: &mut R,
     output: &mut W,
     messages: &mut E,
-) -> Result<Ending, SlotFault>
+) -> Result<Ended, SlotFault>
     ensures ok { IfOk result (λ ended. (texts : Texts) × AreTexts (F.state files.old) plan.now texts
         × RunsScript plan.now texts
         (streams (R.state input.old) (W.state output.old) (E.state messages.old))
-        (streams (R.state input.new) (W.state output.new) (E.state messages.new)) ended) }
+        (streams (R.state input.new) (W.state output.new) (E.state messages.new)) ended.ending ended.line) }
     ensures same { OnOk result (F.state files.new ≡ F.state files.old) }
     ensures err { IfErr result (λ why. StopsAt plan.now (F.state files.old) (F.state files.new) why.0 why.1) }
     ensures nothing { OnErr result (streams (R.state input.new) (W.state output.new) (E.state messages.new)

@@ -1,4 +1,4 @@
-use Rattle.std.proofs.Common.{Ok, Err, refl}
+use Rattle.std.proofs.Common.{Ok, Err, refl, ◌∙◌}
 use Rattle.std.specs.Option.{option_map}
 use Rattle.iv_session.specs.Streams.{streams}
 use Rattle.iv_program.specs.Limits.{most_lines, most_line_bytes}
@@ -9,7 +9,7 @@ pub returns-in-Err : goal.returns-in-Err
 returns-in-Err g c = λ plan texts says. (
   Err c.in-Err.fault,
   report-of plan texts c.args.read.loading (option_map (λ bytes. bytes.items) c.args.read.bases) (Err c.in-Err.fault) says c.in-Err.ensures,
-  (refl, c.from.ensures),
+  (refl, c.at_no_line.ensures.0 ∙ c.from.ensures, c.at_no_line.ensures.1),
 )
 
 pub returns : goal.returns
@@ -24,5 +24,6 @@ returns g c = λ plan texts says. (
         (streams (g.R.Source.state c.run_script-done.new.input) (g.W.Sink.state c.run_script-done.new.output) (g.E.Sink.state c.run_script-done.new.messages))
         most_lines most_line_bytes c.run_script-done.result c.run_script-done.ensures.done c.run_script-done.ensures.stopped,
     c.of_run.ensures,
+    c.line_of_stop.ensures,
   ),
 )

@@ -1,0 +1,40 @@
+//! The files of the system, as hints look at them.
+use iv_bytes::StdSource;
+use iv_hints::{HintFiles, NoFile};
+use std::fs::{File, metadata};
+use std::io::ErrorKind;
+use std::str::from_utf8;
+
+/// Files that are read again. A pipe is left alone: it could wait for ever.
+#[derive(Drop)]
+pub(crate) struct SeenFiles<'a> {
+    pub(crate) rt: &'a HostRuntime,
+}
+
+/// Why a file is not looked at, by the kind of the system's error.
+fn no_file(kind: ErrorKind) -> NoFile {
+    match kind {
+        ErrorKind::NotFound | ErrorKind::NotADirectory => NoFile::Missing,
+        ErrorKind::PermissionDenied => NoFile::Forbidden,
+        _ => NoFile::Other,
+    }
+}
+
+impl HintFiles for SeenFiles<'_> {
+    type File = StdSource<File>;
+
+    fn open(&mut self, name: &[u8]) -> Result<StdSource<File>, NoFile> {
+        let Ok(path) = from_utf8(name) else {
+            return Err(NoFile::Other);
+        };
+        match metadata(self.rt, path) {
+            Ok(known) if known.is_dir() => Err(NoFile::Directory),
+            Ok(known) if !known.is_file() => Err(NoFile::Other),
+            Ok(_) => match File::open(self.rt, path) {
+                Ok(file) => Ok(StdSource::new(file)),
+                Err(error) => Err(no_file(error.kind())),
+            },
+            Err(error) => Err(no_file(error.kind())),
+        }
+    }
+}

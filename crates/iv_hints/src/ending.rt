@@ -1,0 +1,192 @@
+//! The hint on how a run has ended.
+use crate::damage::{Damage, IN_PARTS, put_too_many};
+use crate::files::{FRONT_BYTES, HintFiles, NoFile, front_of, line_of};
+use crate::hint::Hint;
+use crate::losses::put_loss;
+use crate::records::{count_columns, first_record};
+use crate::words::put_words;
+use itoa::Buffer;
+use iv_args::{Plan, Slot};
+use iv_cli::Ending;
+use iv_text::{LoadCause, LoadFault};
+use std::alloc::{AllocError, Global};
+
+/// The hint below the line of an ending, given the words after the program's name, the line of the script at which the run ended
+/// early (0 if at none), and the files, which are read again.
+///
+/// # Errors
+///
+/// An allocation failed.
+pub fn hint_of<F: HintFiles>(
+    alloc: Global,
+    words: &[&[u8]],
+    ending: Ending,
+    line: u64,
+    files: &mut F,
+) -> Result<Hint, AllocError> {
+    let mut hint = Hint::new(alloc);
+    match (ending, Plan::read(alloc, words)) {
+        (Ending::Refused, _) => {}
+        (Ending::Words(16), _) => put_words(alloc, words, &mut hint)?,
+        (Ending::InputUnreadable, _) => {
+            put_script_line(line, b": the input failed there", &mut hint)?;
+        }
+        (Ending::InputTooLong, _) => put_script_line(
+            line,
+            b": a script has at most 4000000 lines of at most 1048576 bytes",
+            &mut hint,
+        )?,
+        (Ending::Output, _) => put_output(line, &mut hint)?,
+        (Ending::Memory, _) => hint.line(&[IN_PARTS])?,
+        (_, Ok(plan)) => put_of_plan(alloc, &plan, ending, files, &mut hint)?,
+        (_, Err(_)) => {}
+    }
+    Ok(hint)
+}
+
+/// The hint if the system doesn't give the words.
+///
+/// # Errors
+///
+/// An allocation failed.
+pub fn hint_of_no_words(alloc: Global, ending: Ending) -> Result<Hint, AllocError> {
+    let mut hint = Hint::new(alloc);
+    if matches!(ending, Ending::Words(_)) {
+        hint.line(&[b"a word of the command line isn't UTF-8 text: give the file another name"])?;
+    }
+    Ok(hint)
+}
+
+/// The hint at the start of a session, for a person who types its script.
+///
+/// # Errors
+///
+/// An allocation failed.
+pub fn hint_of_session(alloc: Global, words: &[&[u8]]) -> Result<Hint, AllocError> {
+    let mut hint = Hint::new(alloc);
+    if Plan::read(alloc, words).is_ok_and(|plan| plan.is_script()) {
+        hint.line(&[
+            b"a session reads its script here; python3 -m bedkeep.curate is made for typing (see bedkeep session --help)",
+        ])?;
+    }
+    Ok(hint)
+}
+
+/// Puts the line of a script.
+fn put_script_line(line: u64, text: &[u8], hint: &mut Hint) -> Result<(), AllocError> {
+    let mut digits = Buffer::new();
+    hint.line(&[
+        b"line ",
+        digits.format(line).as_bytes(),
+        b" of the script",
+        text,
+    ])
+}
+
+/// Puts how far the output came.
+fn put_output(line: u64, hint: &mut Hint) -> Result<(), AllocError> {
+    if line > 0 {
+        put_script_line(line, b": the lines before it were carried out", hint)?;
+    }
+    hint.line(&[
+        b"if the reader of a pipe has ended, as head does, it got all rows before; otherwise the disk may be full",
+    ])
+}
+
+/// Puts the hint of a run whose words ask for a plan.
+fn put_of_plan<F: HintFiles>(
+    alloc: Global,
+    plan: &Plan<'_>,
+    ending: Ending,
+    files: &mut F,
+    hint: &mut Hint,
+) -> Result<(), AllocError> {
+    let name = ending.file_meant(plan);
+    match ending {
+        Ending::Done => put_loss(alloc, plan, files, hint),
+        Ending::Damaged(slot, fault) if fault.cause == LoadCause::TooMany => {
+            put_too_many(slot, hint)
+        }
+        Ending::Damaged(slot, fault) => put_damage(alloc, plan, slot, fault, files, hint),
+        Ending::Unreadable(_) if matches!(name, b"-" | b"stdin") => put_stdin(plan, hint),
+        Ending::Unreadable(_) => put_unreadable(name, files, hint),
+        Ending::TooLong(_) => {
+            hint.line(&[b"a file has at most 4294967295 bytes"])?;
+            hint.line(&[IN_PARTS])
+        }
+        _ => put_columns(alloc, plan, files, hint),
+    }
+}
+
+/// Puts how many columns the records have, if an option needs more.
+fn put_columns<F: HintFiles>(
+    alloc: Global,
+    plan: &Plan<'_>,
+    files: &mut F,
+    hint: &mut Hint,
+) -> Result<(), AllocError> {
+    let front = front_of(alloc, files, plan.first_file(), 65536)?;
+    let mut digits = Buffer::new();
+    match first_record(front.bytes.as_slice()) {
+        Some(record) => hint.line(&[
+            b"the records of ",
+            plan.first_file(),
+            b" have so many columns: ",
+            digits.format(count_columns(record)).as_bytes(),
+            b"; -c counts from 1, and -s needs six",
+        ]),
+        None => hint.line(&[
+            b"the file has no record: -width 6 says that records of it would have six columns",
+        ]),
+    }
+}
+
+/// A line without the carriage return at its end.
+fn without_return(line: &[u8]) -> &[u8] {
+    line.strip_suffix(b"\r").unwrap_or(line)
+}
+
+/// Puts what a damaged file looks like.
+fn put_damage<F: HintFiles>(
+    alloc: Global,
+    plan: &Plan<'_>,
+    slot: Slot,
+    fault: LoadFault,
+    files: &mut F,
+    hint: &mut Hint,
+) -> Result<(), AllocError> {
+    let name = plan.file(slot).unwrap_or(b"");
+    let line = line_of(alloc, files, name, fault.line)?;
+    let front = front_of(alloc, files, name, 65536)?;
+    let genome = front_of(alloc, files, plan.sizes_file(), FRONT_BYTES)?;
+    let damage = Damage {
+        slot,
+        fault,
+        line: without_return(line.as_slice()),
+        front: front.bytes.as_slice(),
+        genome: genome.bytes.as_slice(),
+    };
+    damage.put(hint)
+}
+
+/// Puts how standard input is named.
+fn put_stdin(plan: &Plan<'_>, hint: &mut Hint) -> Result<(), AllocError> {
+    if plan.is_script() {
+        return hint.line(&[b"standard input is the script: <(..) of bash is a file too"]);
+    }
+    hint.line(&[b"standard input as a file is /dev/stdin"])
+}
+
+/// Puts why a file can't be read.
+fn put_unreadable<F: HintFiles>(
+    name: &[u8],
+    files: &mut F,
+    hint: &mut Hint,
+) -> Result<(), AllocError> {
+    hint.line(&[match files.open(name) {
+        Err(NoFile::Missing) => b"there is no such file",
+        Err(NoFile::Directory) => b"it is a directory, and no file",
+        Err(NoFile::Forbidden) => b"the system doesn't allow to read it: ls -l shows whose it is",
+        _ => b"the system failed to read it to its end",
+    }])
+}

@@ -1,0 +1,159 @@
+//! What a file looks like that is none of those which are read.
+use crate::hint::Hint;
+use crate::records::{column, count_columns, count_of, is_number};
+use std::alloc::AllocError;
+
+/// What a file looks like.
+#[derive(Clone, Copy, Debug, PartialEq, Eq)]
+pub(crate) enum FileKind {
+    Gzip,
+    Mark,
+    Binary,
+    Returns,
+    Vcf,
+    Gff,
+    Fasta,
+    Spaces,
+    Commas,
+    Quotes,
+    Heading,
+    Blank,
+    MoreColumns,
+}
+
+/// What a file that gzip has compressed begins with.
+pub(crate) const GZIP: &[u8] = b"\x1f\x8b";
+
+/// What some editors put at the front of a file.
+pub(crate) const BYTE_ORDER_MARK: &[u8] = b"\xef\xbb\xbf";
+
+/// Whether a byte is in no text.
+fn is_binary(byte: u8) -> bool {
+    byte < 9 || (byte > 13 && byte < 32)
+}
+
+/// Whether a line has a carriage return that is not at its end.
+fn has_inner_return(line: &[u8]) -> bool {
+    match line {
+        [inner @ .., b'\r'] => inner.contains(&b'\r'),
+        _ => line.contains(&b'\r'),
+    }
+}
+
+/// Whether a line looks like a heading.
+fn is_heading(line: &[u8]) -> bool {
+    matches!(column(line, 1), Some([first, ..]) if first.is_ascii_alphabetic())
+        && matches!(column(line, 2), Some([first, ..]) if first.is_ascii_alphabetic())
+}
+
+impl FileKind {
+    /// What a BED file looks like, given its front and its damaged line.
+    pub(crate) fn of_bed(front: &[u8], line: &[u8]) -> Option<FileKind> {
+        FileKind::of_any(front, line).or_else(|| FileKind::of_line(front, line))
+    }
+
+    /// What any file looks like, given its front and its damaged line.
+    pub(crate) fn of_any(front: &[u8], line: &[u8]) -> Option<FileKind> {
+        if front.starts_with(GZIP) {
+            Some(FileKind::Gzip)
+        } else if line.starts_with(BYTE_ORDER_MARK) {
+            Some(FileKind::Mark)
+        } else if line.iter().any(|byte| is_binary(*byte)) {
+            Some(FileKind::Binary)
+        } else if has_inner_return(line) {
+            Some(FileKind::Returns)
+        } else if count_columns(line) < 2 && count_of(line, b' ') > 0 && !line.starts_with(b">") {
+            Some(FileKind::Spaces)
+        } else if count_columns(line) < 2 && count_of(line, b',') > 0 {
+            Some(FileKind::Commas)
+        } else {
+            None
+        }
+    }
+
+    /// What a BED file looks like that is text.
+    fn of_line(front: &[u8], line: &[u8]) -> Option<FileKind> {
+        if front.starts_with(b"##fileformat=VCF") || front.starts_with(b"#CHROM") {
+            Some(FileKind::Vcf)
+        } else if count_columns(line) >= 8
+            && is_number(line, 3)
+            && is_number(line, 4)
+            && !is_number(line, 1)
+        {
+            Some(FileKind::Gff)
+        } else if line.starts_with(b">") {
+            Some(FileKind::Fasta)
+        } else if line.starts_with(b"\"") {
+            Some(FileKind::Quotes)
+        } else if !line.is_empty() && line.iter().all(|byte| *byte == b'\t') {
+            Some(FileKind::Blank)
+        } else if is_heading(line) {
+            Some(FileKind::Heading)
+        } else if count_columns(line) > 6 && is_number(line, 1) && is_number(line, 2) {
+            Some(FileKind::MoreColumns)
+        } else {
+            None
+        }
+    }
+
+    /// What it is, and what to do.
+    fn text(self) -> (&'static [u8], &'static [u8]) {
+        match self {
+            FileKind::Gzip => (
+                b"the file is compressed by gzip",
+                b"zcat FILE, with /dev/stdin as the file, or <(zcat FILE)",
+            ),
+            FileKind::Mark => (
+                b"the line begins with a byte order mark",
+                b"sed '1s/^\\xEF\\xBB\\xBF//' FILE takes it away",
+            ),
+            FileKind::Binary => (
+                b"the file isn't text",
+                b"a file is TAB-separated text, as in bedkeep --help",
+            ),
+            FileKind::Returns => (
+                b"lines end in CR alone",
+                b"tr '\\r' '\\n' < FILE mends them",
+            ),
+            FileKind::Vcf => (
+                b"the file looks like VCF",
+                b"write BED: awk -F '\\t' -v OFS='\\t' '!/^#/ { print $1, $2 - 1, $2 - 1 + length($4) }' FILE",
+            ),
+            FileKind::Gff => (
+                b"the file looks like GFF or GTF",
+                b"write BED: awk -F '\\t' -v OFS='\\t' '!/^#/ { print $1, $4 - 1, $5, $3, \".\", $7 }' FILE",
+            ),
+            FileKind::Fasta => (
+                b"the file looks like FASTA",
+                b"a BED file has a sequence, a start and an end on each line",
+            ),
+            FileKind::Spaces => (
+                b"the line has spaces and no TAB",
+                b"sed 's/  */\\t/g' FILE writes TABs",
+            ),
+            FileKind::Commas => (
+                b"the line has commas and no TAB",
+                b"tr ',' '\\t' < FILE writes TABs",
+            ),
+            FileKind::Quotes => (b"the line has quotes", b"tr -d '\"' < FILE takes them away"),
+            FileKind::Heading => (
+                b"the line looks like a heading",
+                b"sed 1d FILE deletes the first line, or begin it with #",
+            ),
+            FileKind::Blank => (
+                b"the line has TABs alone",
+                b"sed '/^\\t*$/d' FILE deletes such lines",
+            ),
+            FileKind::MoreColumns => (
+                b"the line has more than six columns, as BED12 and narrowPeak have",
+                b"cut -f1-6 FILE keeps six",
+            ),
+        }
+    }
+
+    /// Puts it, in a line.
+    pub(crate) fn put(self, hint: &mut Hint) -> Result<(), AllocError> {
+        let (what, remedy) = self.text();
+        hint.line(&[what, b": ", remedy])
+    }
+}

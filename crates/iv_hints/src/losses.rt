@@ -1,0 +1,237 @@
+//! What a run that ended well has lost in silence.
+use crate::files::{FRONT_BYTES, HintFiles, front_of};
+use crate::hint::Hint;
+use crate::mistake::value_after;
+use crate::records::{alike_in, column, is_digits, is_record, length_in};
+use iv_args::{Plan, Run, Slot};
+use iv_text::{lines_of, split_first_column};
+use std::alloc::{AllocError, Global};
+
+/// How many lines of a file are looked at, and how many bytes at least.
+const LINES: usize = 1000;
+
+const BYTES: usize = 65_536;
+
+/// How many names are looked for in a FASTA file.
+const NAMES: usize = 20;
+
+/// Puts a loss of a run that ended well, if its files show one.
+pub(crate) fn put_loss<F: HintFiles>(
+    alloc: Global,
+    plan: &Plan<'_>,
+    files: &mut F,
+    hint: &mut Hint,
+) -> Result<(), AllocError> {
+    let genome = front_of(alloc, files, plan.sizes_file(), BYTES)?;
+    if is_bed(genome.bytes.as_slice()) {
+        return hint.line(&[
+            b"all lengths of the genome file are 0; it looks like a BED file: cut -f1,3 makes a genome file of it",
+        ]);
+    }
+    match plan.run() {
+        Run::Merge => put_fraction(alloc, plan, files, hint),
+        Run::Getfasta => put_no_bases(alloc, plan, files, hint),
+        _ => Ok(()),
+    }
+}
+
+/// Whether the lines of a genome file have the length 0 and a number after it.
+fn is_bed(genome: &[u8]) -> bool {
+    let mut has_line = false;
+    for line in lines_of(genome).take(LINES) {
+        if is_record(line) {
+            let is_zero = column(line, 1).is_some_and(|length| length == b"0".as_slice());
+            if !is_zero || !column(line, 2).is_some_and(is_digits) {
+                return false;
+            }
+            has_line = true;
+        }
+    }
+    has_line
+}
+
+/// Whether `sum`, `min` and `max` read a value.
+fn is_whole(value: &[u8]) -> bool {
+    let digits = value.strip_prefix(b"-").unwrap_or(value);
+    value == b".".as_slice() || (is_digits(digits) && digits.len() <= 15)
+}
+
+/// A value in a column that is no whole number, if most of the first lines have one.
+fn fraction_in(text: &[u8], place: usize) -> Option<&[u8]> {
+    let mut found = None;
+    let mut whole: usize = 0;
+    let mut others: usize = 0;
+    for line in lines_of(text).take(LINES) {
+        match column(line, place) {
+            Some(value) if is_record(line) && is_whole(value) => whole = whole.saturating_add(1),
+            Some(value) if is_record(line) => {
+                others = others.saturating_add(1);
+                found = Some(value);
+            }
+            _ => {}
+        }
+    }
+    if others > whole { found } else { None }
+}
+
+/// The item of a list at this place, or the only one.
+fn item(list: &[u8], place: usize) -> Option<&[u8]> {
+    if list.contains(&b',') {
+        list.split(|byte| *byte == b',').nth(place)
+    } else {
+        Some(list)
+    }
+}
+
+/// The place of a column that a word says.
+fn place_of(word: &[u8]) -> Option<usize> {
+    match word {
+        [digit @ b'1'..=b'6'] => Some((*digit - b'1') as usize),
+        _ => None,
+    }
+}
+
+/// Puts a value that a summary doesn't read, if most values are such.
+fn put_fraction<F: HintFiles>(
+    alloc: Global,
+    plan: &Plan<'_>,
+    files: &mut F,
+    hint: &mut Hint,
+) -> Result<(), AllocError> {
+    let Some(columns) = value_after(plan.view_words(), b"-c") else {
+        return Ok(());
+    };
+    let operations = value_after(plan.view_words(), b"-o").unwrap_or(b"sum");
+    let front = front_of(alloc, files, plan.first_file(), BYTES)?;
+    for number in 0..16usize {
+        let (Some(asked), Some(operation)) = (item(columns, number), item(operations, number))
+        else {
+            return Ok(());
+        };
+        let value = place_of(asked).and_then(|place| fraction_in(front.bytes.as_slice(), place));
+        if let (Some(value), true) = (value, reads_numbers(operation)) {
+            return put_unread(operation, asked, value, hint);
+        }
+    }
+    Ok(())
+}
+
+/// Whether an operation reads numbers.
+fn reads_numbers(operation: &[u8]) -> bool {
+    matches!(operation, b"sum" | b"min" | b"max")
+}
+
+/// Puts a value that an operation doesn't read.
+fn put_unread(
+    operation: &[u8],
+    asked: &[u8],
+    value: &[u8],
+    hint: &mut Hint,
+) -> Result<(), AllocError> {
+    hint.line(&[
+        b"column ",
+        asked,
+        b" has ",
+        value.get(..40).unwrap_or(value),
+        b": ",
+        operation,
+        b" reads whole numbers alone, and prints . for a block with another value",
+    ])
+}
+
+/// The name of a header of a FASTA file, if the line is one.
+fn header_name(line: &[u8]) -> Option<&[u8]> {
+    let header = line.strip_prefix(b">")?;
+    header.split(|byte| *byte == b' ' || *byte == b'\t').next()
+}
+
+/// Whether a FASTA file has a sequence of this name.
+fn has_header(fasta: &[u8], name: &[u8]) -> bool {
+    for line in lines_of(fasta) {
+        if header_name(line).is_some_and(|found| found == name) {
+            return true;
+        }
+    }
+    false
+}
+
+/// The name of the first sequence of a FASTA file.
+fn first_header(fasta: &[u8]) -> &[u8] {
+    for line in lines_of(fasta) {
+        if let Some(name) = header_name(line) {
+            return name;
+        }
+    }
+    b"none"
+}
+
+/// The sequence of the first record, if a FASTA file has none of the sequences of the first records.
+fn missing_name<'a>(bed: &'a [u8], fasta: &[u8]) -> Option<&'a [u8]> {
+    let mut first: Option<&'a [u8]> = None;
+    let mut last: &'a [u8] = b"";
+    let mut left = NAMES;
+    for line in lines_of(bed).take(LINES) {
+        let (name, _) = split_first_column(line);
+        if is_record(line) && name != last && left > 0 {
+            if has_header(fasta, name) {
+                return None;
+            }
+            first = first.or(Some(name));
+            last = name;
+            left -= 1;
+        }
+    }
+    first
+}
+
+/// Puts that the FASTA file has no sequence of the records.
+fn put_no_bases<F: HintFiles>(
+    alloc: Global,
+    plan: &Plan<'_>,
+    files: &mut F,
+    hint: &mut Hint,
+) -> Result<(), AllocError> {
+    let fasta_name = plan.file(Slot::Bases).unwrap_or(b"");
+    let fasta = front_of(alloc, files, fasta_name, FRONT_BYTES)?;
+    let bed = front_of(alloc, files, plan.first_file(), BYTES)?;
+    let genome = front_of(alloc, files, plan.sizes_file(), FRONT_BYTES)?;
+    put_missing(
+        bed.bytes.as_slice(),
+        fasta.bytes.as_slice(),
+        fasta.is_whole,
+        genome.bytes.as_slice(),
+        hint,
+    )
+}
+
+/// Puts which sequence is missing in the front of a FASTA file, which may be all of it.
+fn put_missing(
+    bed: &[u8],
+    fasta: &[u8],
+    is_whole: bool,
+    genome: &[u8],
+    hint: &mut Hint,
+) -> Result<(), AllocError> {
+    let Some(name) = missing_name(bed, fasta) else {
+        return Ok(());
+    };
+    let header = first_header(fasta);
+    // Of a longer file only the front is known: its first name decides.
+    let is_other = length_in(genome, header).is_none() && alike_in(genome, header).is_some();
+    if is_whole || is_other {
+        put_names(name, header, hint)?;
+    }
+    Ok(())
+}
+
+/// Puts that a FASTA file lacks a name.
+fn put_names(name: &[u8], header: &[u8], hint: &mut Hint) -> Result<(), AllocError> {
+    hint.line(&[
+        b"the FASTA file has no ",
+        name,
+        b" (its first sequence is ",
+        header,
+        b"), and getfasta prints nothing for it",
+    ])?;
+    hint.line(&[b"names have to be the same: sed 's/^>/>chr/' or sed 's/^>chr/>/'"])
+}
