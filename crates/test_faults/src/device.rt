@@ -22,7 +22,7 @@ pub struct Device<'a> {
 }
 
 impl<'a> Device<'a> {
-    /// Over this text, going wrong at the call of this number; at none, where it is 0.
+    /// Over this text, going wrong at the call of this number; at none, if it is 0.
     pub fn new(text: &'a [u8], number: u32, bad: Bad) -> Device<'a> {
         Device {
             text,

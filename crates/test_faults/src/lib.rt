@@ -1,4 +1,4 @@
-//! For tests: an allocator that refuses one growth, a reader and writer that goes wrong at one call, and words of a line.
+//! For tests: an allocator that refuses one allocation, a reader and writer that goes wrong at one call, and words of a line.
 #![tactic(auto)]
 
 ghost use Rattle.std.specs.Prelude.{IfSome, ◌≡◌, ◌<◌};
@@ -12,22 +12,22 @@ use std::cell::Cell;
 use std::test::Fail;
 pub use words::words_of;
 
-/// Passes every call on to the allocator inside it, but refuses one growth, that of the given number.
+/// Passes every call on to the allocator inside it, but refuses one allocation, that of the given number.
 ///
-/// A test that runs with 1, 2, 3 and so on, until no growth is refused any more, has met each place
+/// A test that runs with 1, 2, 3 and so on, until no allocation is refused any more, has met each place
 /// where the code under test can run out of memory. It lends the allocator out as a `&`, which is an
 /// allocator too, and asks at the end whether the refusal came.
 #[derive(Drop)]
 pub struct RefusesNth<B> {
     inner: B,
-    /// How many growths are to come up to the one that is refused, which counts; none after it.
+    /// How many allocations there are up to the one that is refused, which counts; none after it.
     left: Cell<u64>,
-    /// How many growths were refused.
+    /// How many allocations were refused.
     refused: Cell<u64>,
 }
 
 impl<B> RefusesNth<B> {
-    /// Growths count from 1.
+    /// Allocations count from 1.
     pub fn new(inner: B, number: u64) -> RefusesNth<B>
         requires { 0 < number }
     {
@@ -38,24 +38,24 @@ impl<B> RefusesNth<B> {
         }
     }
 
-    /// Refuses one more growth, that of the given number from here on, which counts from 1.
+    /// Refuses one more allocation, that of the given number from here on, which counts from 1.
     pub fn again(&self, number: u64)
         requires { 0 < number }
     {
         self.left.set(number);
     }
 
-    /// How many growths were refused.
+    /// How many allocations were refused.
     pub fn refusals(&self) -> u64 {
         self.refused.get()
     }
 
-    /// Whether a growth was refused.
+    /// Whether an allocation failed.
     pub fn has_refused(&self) -> bool {
         self.refusals() > 0
     }
 
-    /// The allocator inside, unless this growth is the one to be refused.
+    /// The allocator inside, unless this allocation is the one to be refused.
     fn open(&self) -> Option<&B>
         ensures { IfSome result (λ inner. inner.now ≡ self.now.inner) }
     {
@@ -90,13 +90,13 @@ unsafe impl<B: Allocator> Allocator for RefusesNth<B> {
     }
 }
 
-/// Makes a run with its first growth refused, one with its second, and so on, until one meets no refusal. The sum of what
-/// the runs give: how many of their calls were answered with out of memory. That is never more than growths were refused in
+/// Makes a run with its first allocation refused, one with its second, and so on, until one meets no refusal. The sum of what
+/// the runs give: how many of their calls were answered with out of memory. That is never more than allocations were refused in
 /// the run, so it is 0 in the last one.
 ///
 /// # Errors
 ///
-/// That of the first run that has one; and one where a run gives more than that, or where there is no end of growths.
+/// That of the first run that has one; and one if a run gives more than that, or if there is no end of allocations.
 pub fn refuse_each<B, F>(inner: B, run: F) -> Result<u32, Fail>
 where
     B: Allocator + Copy,

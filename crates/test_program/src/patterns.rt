@@ -174,11 +174,11 @@ pub(crate) fn place_cases() -> [Case<'static>; 5] {
 /// The texts of a run.
 #[derive(Drop)]
 pub(crate) struct Texts {
-    /// The first BED file, the last record first.
+    /// The first file, the last record first.
     first: String,
-    /// The second one, empty where there is none.
+    /// The second one, empty if there is none.
     second: String,
-    /// The FASTA file, empty where there is none.
+    /// The FASTA file, empty if there is none.
     bases: String,
     /// What is printed.
     printed: String,
@@ -199,7 +199,7 @@ impl Texts {
         self.printed.as_bytes()
     }
 
-    /// The FASTA file, where there is one.
+    /// The FASTA file, if there is one.
     pub(crate) fn bases(&self) -> Option<&[u8]> {
         some_of(self.bases.as_bytes())
     }
@@ -217,7 +217,7 @@ fn rows_back(rt: &HostRuntime, pattern: Pattern<'_>) -> Result<String, Fail> {
     Ok(text)
 }
 
-/// Puts the rows of a pattern in order at the end of a text, and another text after them, which is alone where there is no
+/// Puts the rows of a pattern in order at the end of a text, and another text after them, which is alone if there is no
 /// pattern.
 fn push_rows_of(
     rt: &HostRuntime,

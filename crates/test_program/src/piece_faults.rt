@@ -1,4 +1,4 @@
-//! Runs that read their BED file in pieces, where it is damaged or too long, or can't be read, or their output fails.
+//! Runs that read their BED file in pieces, if it is damaged or too long, or can't be read, or their output fails.
 use crate::patterns::{Case, Texts, place_cases, texts_of};
 use crate::piece_fixtures::{
     DONE, Ended, SHORT, Setting, TOO_LONG, UNREAD, damaged, ends, ends_over,
@@ -61,7 +61,7 @@ fn stops_at_each(rt: &HostRuntime, sizes: &[u8], text: &[u8], reads: u32) -> Res
 /// A genome file whose only line is damaged.
 const NO_GENOME: &[u8] = b"chr1\tx\n";
 
-/// A read that fails or is interrupted is reported also where damage has come before it, of either file.
+/// A read that fails or is interrupted is reported even if damage has come before it, of either file.
 #[test]
 fn each_read_fails(rt: HostRuntime) -> Result<(), Fail> {
     for (sizes, text, reads) in [
@@ -105,7 +105,7 @@ fn each_read_gives_nothing(rt: HostRuntime) -> Result<(), Fail> {
     Ok(())
 }
 
-/// A merge reads its file to the end, also where damage has come, and no further. Of two damaged files the genome file is
+/// A merge reads its file to the end, even if damage has come, and no further. Of two damaged files the genome file is
 /// reported.
 #[test]
 fn no_read_fails(rt: HostRuntime) -> Result<(), Fail> {
@@ -141,7 +141,7 @@ fn is_limited(
     Ok(true)
 }
 
-/// A file of just as many bytes as the limit is read, and one of one more is too long, also where damage has come or the source
+/// A file of just as many bytes as the limit is read, and one of one more is too long, even if damage has come or the source
 /// fails after that. A source that fails before, or at the end, can't be read.
 #[test]
 fn as_many_bytes_as_the_limit(rt: HostRuntime) -> Result<(), Fail> {
@@ -181,7 +181,7 @@ fn as_many_records_as_the_limit(rt: HostRuntime) -> Result<(), Fail> {
     Ok(())
 }
 
-/// Whether a run of these words into room for so many bytes prints just what has room of these rows, and reports where that is
+/// Whether a run of these words into room for so many bytes prints just what has room of these rows, and reports it if that is
 /// not all.
 fn fills(
     rt: &HostRuntime,

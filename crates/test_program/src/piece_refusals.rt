@@ -1,4 +1,4 @@
-//! Each growth of a run that reads its BED file in pieces, refused in turn.
+//! Each allocation of a run that reads its BED file in pieces, refused in turn.
 use crate::patterns::{Case, Texts, place_cases, texts_of};
 use crate::piece_fixtures::{Ended, SHORT, Setting, UNREAD, run_over};
 use crate::shot_fixtures::times_refused;
@@ -10,7 +10,7 @@ use std::alloc::Global;
 use std::test::Fail;
 use test_faults::{Bad, Device, FAILURES, RefusesNth, refuse_each, words_of};
 
-/// Whether a run of a plan, over a text in pieces of so many bytes, is refused memory.
+/// Whether a run of a plan, over a text in pieces of so many bytes, runs out of memory.
 fn is_refused<'a>(
     alloc: &'a RefusesNth<Global>,
     plan: &Plan<'_, &'a RefusesNth<Global>>,
@@ -61,7 +61,7 @@ fn refused_run(
     times_refused(is_refused, sink.bytes(), texts.printed())
 }
 
-/// How many runs of a case ended so, each of their growths refused in turn.
+/// How many runs of a case ended so, each of their allocations refused in turn.
 fn refused_runs(
     rt: &HostRuntime,
     words: &[&[u8]],
@@ -74,7 +74,7 @@ fn refused_runs(
     )
 }
 
-/// Whether a case takes some growths with its BED file at once, and more in pieces of a few bytes, of which a line has several.
+/// Whether a case makes allocations with its BED file at once, and more in pieces of a few bytes, several to a line.
 fn pieces_take_more(rt: &HostRuntime, words: &[&[u8]], texts: &Texts) -> Result<bool, Fail> {
     let whole = refused_runs(rt, words, texts, 10_000)?;
     let more = refused_runs(rt, words, texts, 3)?;
@@ -107,7 +107,7 @@ fn ended<'a>(
     run_over(alloc, plan, SHORT, &mut StdSource::new(&mut device), sink)
 }
 
-/// Runs such a merge, and says 0: that memory was refused is never reported.
+/// Runs such a merge, and says 0: that an allocation failed is never reported.
 fn lost_by<'a>(
     rt: &HostRuntime,
     alloc: &'a RefusesNth<Global>,
@@ -123,14 +123,14 @@ fn lost_by<'a>(
     }
 }
 
-/// The same from its words on, whose memory is not refused.
+/// The same from its words on, whose allocations do not fail.
 fn lost_run(rt: &HostRuntime, alloc: &RefusesNth<Global>, bad: Bad) -> Result<u32, Fail> {
     let granting = RefusesNth::new(rt.alloc(), u64::MAX);
     let plan = Plan::read(&granting, &[b"merge", b"-g", b"g", b"-i", b"a"])?;
     lost_by(rt, alloc, &plan, bad)
 }
 
-/// A file that can't be read is reported, also where memory was refused before.
+/// A file that can't be read is reported, even if an allocation failed before.
 #[test]
 fn reads_that_fail_without_memory(rt: HostRuntime) -> Result<(), Fail> {
     for bad in FAILURES {

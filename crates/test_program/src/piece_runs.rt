@@ -1,8 +1,8 @@
 //! Runs that read their BED file in pieces, and print what a run prints that has its bytes.
-use crate::piece_fixtures::{DONE, SHORT, Setting, damage, ends, plan_of};
+use crate::piece_fixtures::{DONE, SHORT, damage, ends, plan_of};
 use crate::shot_fixtures::{alone, beside, ends as ends_at_once, prints};
 use iv_args::Slot;
-use iv_run::{Inputs, PlacesView};
+use iv_run::PlacesView;
 use iv_text::{LoadCause, RecordFault};
 use std::test::Fail;
 
@@ -56,15 +56,9 @@ fn runs_that_read_in_pieces(rt: HostRuntime) -> Result<(), Fail> {
 }
 
 /// Whether a run of these words prints these rows of a file, in whatever pieces it comes.
-fn prints_each(
-    rt: &HostRuntime,
-    words: &[u8],
-    setting: Setting<'_>,
-    text: &[u8],
-    rows: &[u8],
-) -> Result<bool, Fail> {
+fn prints_each(rt: &HostRuntime, words: &[u8], text: &[u8], rows: &[u8]) -> Result<bool, Fail> {
     for piece in [1, 2, 3, 7, 1_000] {
-        if !ends(rt, words, setting, text, piece, (DONE, rows))? {
+        if !ends(rt, words, SHORT, text, piece, (DONE, rows))? {
             return Ok(false);
         }
     }
@@ -72,19 +66,9 @@ fn prints_each(
 }
 
 /// Whether a run of these words prints these rows of a file, in pieces and at once.
-fn prints_both(
-    rt: &HostRuntime,
-    words: &[u8],
-    setting: Setting<'_>,
-    text: &[u8],
-    rows: &[u8],
-) -> Result<bool, Fail> {
-    let inputs = Inputs {
-        sizes: setting.sizes,
-        ..alone(text)
-    };
-    let in_pieces = prints_each(rt, words, setting, text, rows)?;
-    Ok(in_pieces && prints(rt, words, &inputs, rows)?)
+fn prints_both(rt: &HostRuntime, words: &[u8], text: &[u8], rows: &[u8]) -> Result<bool, Fail> {
+    let in_pieces = prints_each(rt, words, text, rows)?;
+    Ok(in_pieces && prints(rt, words, &alone(text), rows)?)
 }
 
 /// Records of two sequences, out of order, with a header and an empty line and without a last LF: two share some bases, and one
@@ -92,82 +76,24 @@ fn prints_both(
 const UNSORTED: &[u8] =
     b"track x\r\nchr2\t5\t9\tn\r\nchr1\t40\t50\tm\r\n\r\nchr1\t30\t40\tl\r\nchr1\t10\t40\tk";
 
-/// Two records that are book-ended, and one that is a base away.
-const THREE: &[u8] = b"chr1\t10\t20\nchr1\t20\t30\nchr1\t31\t40\n";
-
-/// Two copies of a record and one within it, of six columns.
-const COPIES: &[u8] = b"chr1\t10\t20\tn\t0\t+\nchr1\t12\t15\tm\t1\t-\nchr1\t10\t20\tn\t0\t+\n#";
-
 /// Whether each run of these words prints these rows of this file, in pieces and at once.
 fn print_both(rt: &HostRuntime, runs: &[(&[u8], &[u8], &[u8])]) -> Result<bool, Fail> {
     for (words, text, rows) in runs {
-        if !prints_both(rt, words, SHORT, text, rows)? {
+        if !prints_both(rt, words, text, rows)? {
             return Ok(false);
         }
     }
     Ok(true)
 }
 
-/// The words of merges, their files, and what they print.
-const MERGES: [(&[u8], &[u8], &[u8]); 7] = [
+/// Runs over that file, and what they print.
+const RUNS: [(&[u8], &[u8], &[u8]); 4] = [
     (b"merge -g g -i a", UNSORTED, b"chr1\t10\t50\nchr2\t5\t9\n"),
-    (b"merge -g g -i a", THREE, b"chr1\t10\t30\nchr1\t31\t40\n"),
-    (b"merge -d 1 -g g -i a", THREE, b"chr1\t10\t40\n"),
-    (b"merge -d 0 -g g -i a", COPIES, b"chr1\t10\t20\n"),
-    (
-        b"merge -d 99 -g g -i a",
-        UNSORTED,
-        b"chr1\t10\t50\nchr2\t5\t9\n",
-    ),
-    (b"merge -g g -i a", b"", b""),
-    (b"merge -width 6 -g g -i a", b"#\n\n", b""),
-];
-
-#[test]
-fn rows_of_merges(rt: HostRuntime) -> Result<(), Fail> {
-    assert!(rt; print_both(&rt, &MERGES)?);
-    Ok(())
-}
-
-/// What a complement prints where no record is.
-const WHOLE: &[u8] = b"chr1\t0\t100\nchr2\t0\t50\n";
-
-/// The same of complements.
-const COMPLEMENTS: [(&[u8], &[u8], &[u8]); 8] = [
     (
         b"complement -g g -i a",
         UNSORTED,
         b"chr1\t0\t10\nchr1\t50\t100\nchr2\t0\t5\nchr2\t9\t50\n",
     ),
-    (
-        b"complement -g g -i a",
-        THREE,
-        b"chr1\t0\t10\nchr1\t30\t31\nchr1\t40\t100\nchr2\t0\t50\n",
-    ),
-    (
-        b"complement -L -g g -i a",
-        THREE,
-        b"chr1\t0\t10\nchr1\t30\t31\nchr1\t40\t100\n",
-    ),
-    (
-        b"complement -L -g g -i a",
-        COPIES,
-        b"chr1\t0\t10\nchr1\t20\t100\n",
-    ),
-    (b"complement -g g -i a", b"chr1\t0\t100\nchr2\t0\t50", b""),
-    (b"complement -g g -i a", b"", WHOLE),
-    (b"complement -g g -i a", b"track", WHOLE),
-    (b"complement -L -g g -i a", b"", b""),
-];
-
-#[test]
-fn rows_of_complements(rt: HostRuntime) -> Result<(), Fail> {
-    assert!(rt; print_both(&rt, &COMPLEMENTS)?);
-    Ok(())
-}
-
-/// The same of depths.
-const DEPTHS: [(&[u8], &[u8], &[u8]); 6] = [
     (
         b"genomecov -bg -g g -i a",
         UNSORTED,
@@ -178,48 +104,11 @@ const DEPTHS: [(&[u8], &[u8], &[u8]); 6] = [
         UNSORTED,
         b"chr1\t0\t10\t0\nchr1\t10\t30\t1\nchr1\t30\t40\t2\nchr1\t40\t50\t1\nchr1\t50\t100\t0\nchr2\t0\t5\t0\nchr2\t5\t9\t1\nchr2\t9\t50\t0\n",
     ),
-    (
-        b"genomecov -bg -g g -i a",
-        COPIES,
-        b"chr1\t10\t12\t2\nchr1\t12\t15\t3\nchr1\t15\t20\t2\n",
-    ),
-    (
-        b"genomecov -bga -g g -i a",
-        THREE,
-        b"chr1\t0\t10\t0\nchr1\t10\t30\t1\nchr1\t30\t31\t0\nchr1\t31\t40\t1\nchr1\t40\t100\t0\nchr2\t0\t50\t0\n",
-    ),
-    (b"genomecov -bg -g g -i a", b"", b""),
-    (
-        b"genomecov -bga -g g -i a",
-        b"\n",
-        b"chr1\t0\t100\t0\nchr2\t0\t50\t0\n",
-    ),
 ];
 
 #[test]
-fn rows_of_depths(rt: HostRuntime) -> Result<(), Fail> {
-    assert!(rt; print_both(&rt, &DEPTHS)?);
-    Ok(())
-}
-
-#[test]
-fn rows_of_each_position(rt: HostRuntime) -> Result<(), Fail> {
-    let small = Setting {
-        sizes: b"t\t4\nempty\t0\nu\t1\n",
-        ..SHORT
-    };
-    for (text, rows) in [
-        (
-            b"t\t2\t3\tx\nt\t1\t3\ty\n".as_slice(),
-            b"t\t1\t0\nt\t2\t1\nt\t3\t2\nt\t4\t0\nu\t1\t0\n".as_slice(),
-        ),
-        (
-            b"u\t0\t1\r\nt\t0\t4",
-            b"t\t1\t1\nt\t2\t1\nt\t3\t1\nt\t4\t1\nu\t1\t1\n",
-        ),
-    ] {
-        assert!(rt; prints_both(&rt, b"genomecov -d -g g -i a", small, text, rows)?);
-    }
+fn rows_in_pieces(rt: HostRuntime) -> Result<(), Fail> {
+    assert!(rt; print_both(&rt, &RUNS)?);
     Ok(())
 }
 

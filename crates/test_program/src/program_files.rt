@@ -6,9 +6,9 @@ use std::test::Fail;
 #[derive(Clone, Copy)]
 struct Version<'a> {
     name: &'a [u8],
-    /// What is told where it can't be read.
+    /// What is reported if it can't be read.
     unreadable: &'a [u8],
-    /// What is told where it can be read: nothing, unless it is damaged.
+    /// What is reported if it can be read: nothing, unless it is damaged.
     damage: &'a [u8],
 }
 
@@ -93,15 +93,15 @@ const BASES: Versions<'static> = Versions {
     },
 };
 
-/// A run, and what it prints where its files are sound.
+/// A run, and what it prints if its files are sound.
 #[derive(Clone, Copy)]
 struct Kind<'a> {
     word: &'a [u8],
     /// The options before the names of the files, in the order in which the files are read.
     options: [&'a [u8]; 4],
-    /// How many files it has: the genome file, the first BED file, the second one, and the FASTA file.
+    /// How many files it has: the genome file, the first file, the second one, and the FASTA file.
     count: usize,
-    /// Whether the FASTA file comes in place of the second BED file.
+    /// Whether the FASTA file comes instead of the second file.
     is_third_bases: bool,
     /// In how many ways versions of the files can be chosen.
     ways: u32,
@@ -189,7 +189,7 @@ fn chosen(kind: &Kind<'_>, number: u32) -> [Version<'static>; 4] {
     ]
 }
 
-/// Whether a file can't be read where so many of its bytes can be: its end is seen after all of them alone.
+/// Whether a file can't be read if so many of its bytes can be: its end is seen after all of them alone.
 fn is_unreadable(version: &Version<'_>, good: usize) -> bool {
     match FILES.iter().find(|file| file.name == version.name) {
         Some(file) => file.bytes.len() >= good,
@@ -220,7 +220,7 @@ fn end_of<'a>(kind: &Kind<'a>, files: &[Version<'a>], good: usize) -> End<'a> {
     }
 }
 
-/// Whether a run of these files ends as it is to, where so many bytes of each can be read.
+/// Whether a run of these files ends as it is to, if so many bytes of each can be read.
 fn ends_so(
     rt: &HostRuntime,
     kind: &Kind<'_>,

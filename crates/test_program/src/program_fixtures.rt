@@ -6,7 +6,7 @@ use std::test::Fail;
 use test_faults::words_of;
 
 /// The files that there are.
-pub(crate) const FILES: [NamedBytes<'static>; 12] = [
+pub(crate) const FILES: [NamedBytes<'static>; 11] = [
     NamedBytes {
         name: b"sizes",
         bytes: b"chr1\t100\nchr2\t50\n",
@@ -14,10 +14,6 @@ pub(crate) const FILES: [NamedBytes<'static>; 12] = [
     NamedBytes {
         name: b"first",
         bytes: b"chr1\t10\t20\nchr1\t15\t30\n",
-    },
-    NamedBytes {
-        name: b"other",
-        bytes: b"chr1\t12\t18\n",
     },
     NamedBytes {
         name: b"damaged",
@@ -114,7 +110,7 @@ pub(crate) fn run_in<A: Allocator + Copy>(
     let mut input = MemSource::new(script, devices.script, 5);
     let mut output = MemSink::new(rt.alloc(), devices.room, 7)?;
     let mut messages = MemSink::new(rt.alloc(), devices.told, 2)?;
-    let status = run_program(
+    let ended = run_program(
         alloc,
         words,
         &mut files,
@@ -123,7 +119,7 @@ pub(crate) fn run_in<A: Allocator + Copy>(
         &mut messages,
     );
     Ok(Left {
-        status,
+        status: ended.status(),
         output,
         messages,
         is_script_lost: input.failed(),

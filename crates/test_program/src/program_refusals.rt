@@ -1,10 +1,10 @@
-//! Each growth of a whole run refused in turn: of its words, of its files, and of what is done with them.
+//! Each allocation of a whole run refused in turn: of its words, of its files, and of what is done with them.
 use crate::program_fixtures::{End, Left, SOUND, run_in};
 use std::alloc::Global;
 use std::test::Fail;
 use test_faults::{RefusesNth, refuse_each, words_of};
 
-/// A run, how it ends where all memory is granted, and all ways in which it ends where a growth is refused.
+/// A run, how it ends if all memory is granted, and all ways in which it ends if an allocation fails.
 #[derive(Clone, Copy)]
 struct Asked<'a> {
     words: &'a [u8],
@@ -132,8 +132,8 @@ const RUNS: [Asked<'static>; 9] = [
     },
 ];
 
-/// How often a run ended so, once or never. It has ended as where all memory is granted, or in one of the ways in which it ends
-/// where a growth is refused.
+/// How often a run ended so, once or never. It has ended as when all memory is granted, or in one of the ways in which it ends
+/// if an allocation fails.
 fn times_ended(left: &Left, asked: &Asked<'_>, counted: &End<'_>) -> Result<u32, Fail> {
     if left.is(counted) {
         return Ok(1);
@@ -161,7 +161,7 @@ fn times_ended_in(
     times_ended(&left, asked, counted)
 }
 
-/// How many runs ended so, each of their growths refused in turn.
+/// How many runs ended so, each of their allocations refused in turn.
 fn ended_so(
     rt: &HostRuntime,
     words: &[&[u8]],

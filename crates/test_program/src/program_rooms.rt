@@ -4,7 +4,7 @@ use crate::program_fixtures::{Devices, Left, SOUND, run_by};
 use std::alloc::AllocError;
 use std::test::Fail;
 
-/// A line of a script with what it prints and what is told of it, or all that a run without a script prints.
+/// A line of a script with what it prints and what is reported of it, or all that a run without a script prints.
 #[derive(Clone, Copy)]
 struct Step<'a> {
     line: &'a [u8],
@@ -12,17 +12,17 @@ struct Step<'a> {
     message: &'a [u8],
 }
 
-/// A run, its steps, and how it ends where there is room for all.
+/// A run, its steps, and how it ends if there is room for all.
 #[derive(Clone, Copy)]
 struct Run<'a> {
     words: &'a [u8],
     steps: &'a [Step<'a>],
     status: u8,
-    /// What is told of its end.
+    /// What is reported of its end.
     told: &'a [u8],
 }
 
-/// What is told of an output that fails.
+/// What is reported of an output that fails.
 const OUTPUT_FAILS: &[u8] = b"bedkeep: output cannot be written\n";
 
 /// Runs of each status.
@@ -181,8 +181,8 @@ struct Reached {
     is_all: bool,
 }
 
-/// How far steps come where there is room for so many bytes of each. The first that lacks room fills it, and is the last: a line
-/// prints before anything is told of it.
+/// How far steps come if there is room for so many bytes of each. The first that lacks room fills it, and is the last: a line
+/// prints before anything is reported of it.
 fn reached_by(steps: &[Step<'_>], room: usize, told: usize) -> Reached {
     let mut reached = Reached {
         output: 0,
@@ -220,7 +220,7 @@ fn back(text: &[u8], count: usize) -> &[u8] {
     text.get(count..).unwrap_or(b"")
 }
 
-/// Whether a run that came so far left that, and ended so. Of its end there is told what there is room for.
+/// Whether a run that came so far left that, and ended so. Of its end there is reported what there is room for.
 fn is_left(
     left: &Left,
     texts: &Texts,
@@ -237,7 +237,7 @@ fn is_left(
     (left.status == status) & (left.output.bytes() == output) & is_told
 }
 
-/// Whether a run ends as it is to, where there is room for so many bytes.
+/// Whether a run ends as it is to, if there is room for so many bytes.
 fn ends_within(
     rt: &HostRuntime,
     run: &Run<'_>,
@@ -293,7 +293,7 @@ fn outputs_and_messages_that_fail_after_each_byte(rt: HostRuntime) -> Result<(),
 }
 
 /// How far a script comes of which so many bytes can be read: its lines that end within them are done. The last has no LF, so it is
-/// cut off where all of it can be read, too, but not the end after it.
+/// cut off if all of it can be read, too, but not the end after it.
 fn reached_in(steps: &[Step<'_>], good: usize) -> Reached {
     let mut reached = Reached {
         output: 0,

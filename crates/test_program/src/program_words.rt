@@ -1,6 +1,6 @@
-//! Runs by words that ask for a notice, and by words that ask for nothing. None looks at a file or at the script.
-use crate::program_fixtures::{Devices, End, Left, SOUND, run_by, run_in};
-use crate::words_notices::{NO_NOTICE, NOTICES};
+//! Runs by words that ask for a notice. None looks at a file or at the script.
+use crate::program_fixtures::{Devices, End, Left, SOUND, run_by};
+use crate::words_notices::NOTICES;
 use std::test::Fail;
 
 /// No file, and a script that can't be read.
@@ -11,7 +11,7 @@ const NOTHING: Devices<'static> = Devices {
     ..SOUND
 };
 
-/// What is told of an output that fails.
+/// What is reported of an output that fails.
 const OUTPUT_FAILS: &[u8] = b"bedkeep: output cannot be written\n";
 
 /// Whether a run ended so, and didn't ask for the script.
@@ -58,57 +58,5 @@ fn words_that_ask_for_notices(rt: HostRuntime) -> Result<(), Fail> {
     for (words, notice) in &NOTICES {
         assert!(rt; prints(&rt, words, notice.text())?);
     }
-    Ok(())
-}
-
-/// How a run of wrong words is to end.
-const BAD_OPTIONS: End<'static> = End {
-    status: 2,
-    output: b"",
-    messages: b"bedkeep: bad options\n",
-};
-
-/// Words of runs that ask for nothing: what is missing, what is there twice, what the run doesn't take, and no value.
-const WRONG: [&[u8]; 12] = [
-    b"sort -g sizes -i first",
-    b"session",
-    b"session -g sizes",
-    b"session -i first",
-    b"merge -i first",
-    b"merge -g sizes -g sizes -i first",
-    b"merge -g sizes -i first -b other",
-    b"intersect -g sizes -a first",
-    b"getfasta -g sizes -bed first",
-    b"genomecov -g sizes -i first",
-    b"cluster -g sizes -i first -width 7",
-    b"cluster -g sizes -i first -d",
-];
-
-/// How many of these words are not answered as wrong words are.
-fn otherwise_answered(rt: &HostRuntime, texts: &[&[u8]]) -> Result<u32, Fail> {
-    let mut count = 0u32;
-    for words in texts {
-        let left = run_by(rt, words, b"", NOTHING)?;
-        count = count.saturating_add(u32::from(!is_end(&left, &BAD_OPTIONS)));
-    }
-    Ok(count)
-}
-
-#[test]
-fn words_that_ask_for_nothing(rt: HostRuntime) -> Result<(), Fail> {
-    assert!(rt; otherwise_answered(&rt, &NO_NOTICE)? == 0);
-    assert!(rt; otherwise_answered(&rt, &WRONG)? == 0);
-    Ok(())
-}
-
-/// Whether a run without words is answered as wrong words are.
-fn is_no_word_wrong(rt: &HostRuntime) -> Result<bool, Fail> {
-    let left = run_in(rt, rt.alloc(), &[], b"", NOTHING)?;
-    Ok(is_end(&left, &BAD_OPTIONS))
-}
-
-#[test]
-fn no_words(rt: HostRuntime) -> Result<(), Fail> {
-    assert!(rt; is_no_word_wrong(&rt)?);
     Ok(())
 }

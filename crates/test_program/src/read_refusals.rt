@@ -1,4 +1,4 @@
-//! Each growth of reading a file, of reading the words of a run and of beginning a session, refused in turn.
+//! Each allocation of reading a file, of reading the words of a run and of beginning a session, refused in turn.
 use crate::shot_fixtures::times_refused;
 use iv_args::{Plan, Slot};
 use iv_bytes::{MemSink, MemSource};
@@ -16,7 +16,7 @@ fn is_read(alloc: &RefusesNth<Global>, text: &[u8], piece: usize) -> Result<bool
     Ok(bytes.as_slice() == text)
 }
 
-/// Reads a text in pieces of so many bytes, and says how often memory was refused, once or never.
+/// Reads a text in pieces of so many bytes, and says how often an allocation failed, once or never.
 fn refused_read(alloc: &RefusesNth<Global>, text: &[u8], piece: usize) -> Result<u32, Fail> {
     match is_read(alloc, text, piece) {
         Ok(true) => Ok(0),
@@ -26,7 +26,7 @@ fn refused_read(alloc: &RefusesNth<Global>, text: &[u8], piece: usize) -> Result
     }
 }
 
-/// How many reads were refused memory, each growth in turn.
+/// How many reads ran out of memory, each allocation in turn.
 fn refused_reads(rt: &HostRuntime, text: &[u8], piece: usize) -> Result<u32, Fail> {
     refuse_each(rt.alloc(), |alloc| refused_read(alloc, text, piece))
 }
@@ -79,7 +79,7 @@ fn is_plan_read(alloc: &RefusesNth<Global>) -> Result<bool, Fault> {
     Ok(is_merge(&plan))
 }
 
-/// Reads those words, and says how often memory was refused, once or never.
+/// Reads those words, and says how often an allocation failed, once or never.
 fn refused_plan(alloc: &RefusesNth<Global>) -> Result<u32, Fail> {
     match is_plan_read(alloc) {
         Ok(true) => Ok(0),
@@ -115,7 +115,7 @@ fn rows(rt: &HostRuntime, tail: &str, back: bool) -> Result<String, Fail> {
     Ok(text)
 }
 
-/// A session of two copies of a file, which are in memory that is not refused; none where memory is refused.
+/// A session of two copies of a file, which are in memory that does not run out; none if an allocation fails.
 fn session_of<'a>(
     alloc: &'a RefusesNth<Global>,
     granting: &'a RefusesNth<Global>,
@@ -131,7 +131,7 @@ fn session_of<'a>(
     Session::new(alloc, genome, first, Some(second), None, COUNT).ok()
 }
 
-/// Whether memory is refused where a view of a session is opened and printed.
+/// Whether an allocation fails when a view of a session is opened and printed.
 fn is_print_refused<'a>(
     session: &mut Session<&'a RefusesNth<Global>>,
     sink: &mut MemSink,
@@ -148,7 +148,7 @@ fn is_print_refused<'a>(
     }
 }
 
-/// Prints a session, and says how often memory was refused, once or never.
+/// Prints a session, and says how often an allocation failed, once or never.
 fn refused_print<'a>(
     rt: &HostRuntime,
     session: &mut Session<&'a RefusesNth<Global>>,
@@ -159,7 +159,7 @@ fn refused_print<'a>(
     times_refused(is_refused, sink.bytes(), printed)
 }
 
-/// The same from the session's making on. A file that can't be read would count as a refusal where none was.
+/// The same from the session's making on. A file that can't be read would count as a refusal if none was.
 fn refused_session<'a>(
     rt: &HostRuntime,
     alloc: &'a RefusesNth<Global>,
@@ -173,7 +173,7 @@ fn refused_session<'a>(
     }
 }
 
-/// How many sessions were refused memory, each growth in turn.
+/// How many sessions ran out of memory, each allocation in turn.
 fn refused_sessions(rt: &HostRuntime, text: &[u8], printed: &[u8]) -> Result<u32, Fail> {
     let granting = RefusesNth::new(rt.alloc(), u64::MAX);
     refuse_each(
@@ -182,7 +182,7 @@ fn refused_sessions(rt: &HostRuntime, text: &[u8], printed: &[u8]) -> Result<u32
     )
 }
 
-/// A tree of each file splits, so each takes two growths at least.
+/// A tree of each file splits, so each takes two allocations at least.
 #[test]
 fn each_growth_of_a_session_refused(rt: HostRuntime) -> Result<(), Fail> {
     let text = rows(&rt, "", true)?;

@@ -1,4 +1,4 @@
-//! Each growth of loading, refused in turn: from the bytes of the BED files, and from files that come in pieces.
+//! Each allocation of loading, refused in turn: from the bytes of the BED files, and from files that come in pieces.
 use crate::session_pieces::load_in_pieces;
 use iv_args::Plan;
 use iv_cli::load;
@@ -21,7 +21,7 @@ fn bed_text(rt: &HostRuntime) -> Result<String, Fail> {
     Ok(text)
 }
 
-/// How many records the track of a session holds, `None` where memory is refused.
+/// How many records the track of a session holds, `None` if an allocation fails.
 fn records_of(loaded: Result<Session<&RefusesNth<Global>>, CliFault>) -> Result<Option<u32>, Fail> {
     match loaded {
         Ok(session) => Ok(Some(session.len())),
@@ -30,7 +30,7 @@ fn records_of(loaded: Result<Session<&RefusesNth<Global>>, CliFault>) -> Result<
     }
 }
 
-/// How many records the track of a plan's files holds, `None` where memory is refused. The BED files come in pieces of so many bytes,
+/// How many records the track of a plan's files holds, `None` if an allocation fails. The BED files come in pieces of so many bytes,
 /// or as they are for 0.
 fn loaded_by<'a>(
     alloc: &'a RefusesNth<Global>,
@@ -46,7 +46,7 @@ fn loaded_by<'a>(
     records_of(load_in_pieces(alloc, plan, inputs, bases, COUNT, (whole, piece))?)
 }
 
-/// The bytes of a FASTA file, where there is one, in memory that is not refused.
+/// The bytes of a FASTA file, if there is one, in memory that does not run out.
 fn copied<'a>(
     granting: &'a RefusesNth<Global>,
     bases: Option<&[u8]>,
@@ -57,7 +57,7 @@ fn copied<'a>(
     }
 }
 
-/// How many records the track of the files holds, `None` where memory is refused. That of the words isn't.
+/// How many records the track of the files holds, `None` if an allocation fails. That of the words isn't.
 fn loaded(
     rt: &HostRuntime,
     alloc: &RefusesNth<Global>,
@@ -74,7 +74,7 @@ fn loaded(
     loaded_by(alloc, &plan, inputs, bases, piece)
 }
 
-/// Loads the files, and says how often that was out of memory, once or never. Else they are loaded whole, though a growth was
+/// Loads the files, and says how often that was out of memory, once or never. Else they are loaded whole, though an allocation was
 /// refused: it may have been tried again at another size.
 fn refused_load(
     rt: &HostRuntime,
@@ -90,7 +90,7 @@ fn refused_load(
     }
 }
 
-/// How many loads ended so, each of their growths refused in turn.
+/// How many loads ended so, each of their allocations refused in turn.
 fn refused_loads(
     rt: &HostRuntime,
     inputs: &Inputs<'_>,

@@ -157,7 +157,7 @@ fn is_damage(
     Ok(loaded(rt, WORDS, inputs, bases, None)? == Err(damage(slot, line, cause)))
 }
 
-/// Whether it is reported of the first two files, also where the second BED file and the FASTA file are damaged too.
+/// Whether it is reported of the first two files, even if the second file and the FASTA file are damaged too.
 fn is_damage_of_two(
     rt: &HostRuntime,
     inputs: &Inputs<'_>,
@@ -225,45 +225,6 @@ fn second_files_that_are_damaged(rt: HostRuntime) -> Result<(), Fail> {
             other: Some(other),
         };
         assert!(rt; is_damage(&rt, &inputs, None, Slot::Other, line, cause)?);
-    }
-    Ok(())
-}
-
-/// Whether a FASTA file has this damage, which is reported after that of a second file.
-fn is_damage_of_bases(
-    rt: &HostRuntime,
-    bases: &[u8],
-    line: u64,
-    cause: LoadCause,
-) -> Result<bool, Fail> {
-    let order = LoadCause::Record(RecordFault::Order);
-    for (other, slot, line, cause) in [
-        (None, Slot::Bases, line, cause),
-        (Some(b"s\t0\t4\n".as_slice()), Slot::Bases, line, cause),
-        (Some(b"#\ns\t2\t1\n"), Slot::Other, 2, order),
-    ] {
-        let inputs = Inputs {
-            sizes: b"s\t4\nu\t2\n",
-            first: b"s\t1\t2\n",
-            other,
-        };
-        if !is_damage(rt, &inputs, Some(bases), slot, line, cause)? {
-            return Ok(false);
-        }
-    }
-    Ok(true)
-}
-
-#[test]
-fn fasta_files_that_are_damaged(rt: HostRuntime) -> Result<(), Fail> {
-    for (bases, line, cause) in [
-        (b"ACGT".as_slice(), 1, LoadCause::BasesFirst),
-        (b">u\nAC\n> x\n", 3, LoadCause::Name),
-        (b">s\r\nAC\r\nG T\r\n", 3, LoadCause::Base),
-        (b">q\nA\n>q", 3, LoadCause::Repeated),
-        (b">u\nAC\n\n>s\nACGTA\n", 4, LoadCause::WrongLength),
-    ] {
-        assert!(rt; is_damage_of_bases(&rt, bases, line, cause)?);
     }
     Ok(())
 }

@@ -13,7 +13,7 @@ use iv_workspace::Session;
 use std::alloc::Allocator;
 use std::test::Fail;
 
-/// Reads the second BED file, where there is one, which comes up to so many bytes in pieces of so many.
+/// Reads the second file, if there is one, which comes up to so many bytes in pieces of so many.
 fn read_second<A: Allocator + Copy>(
     loading: &mut Loading<Record<A>, A>,
     text: Option<&[u8]>,

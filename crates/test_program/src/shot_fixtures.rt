@@ -46,7 +46,7 @@ fn is_short(text: &[u8]) -> bool
     text.len() <= u32::MAX as usize
 }
 
-/// The bytes of a FASTA file, where there is one.
+/// The bytes of a FASTA file, if there is one.
 pub(crate) fn copied<A: Allocator + Copy>(
     alloc: A,
     bases: Option<&[u8]>,
@@ -133,8 +133,8 @@ pub(crate) fn is_reported(
     ends(rt, text, inputs, None, Some(fault), b"")
 }
 
-/// How often a run was refused memory that has printed these bytes, once or never. It has printed nothing then, and else these
-/// rows, though a growth was refused: it may have been tried again at another size.
+/// How often a run ran out of memory that has printed these bytes, once or never. It has printed nothing then, and else these
+/// rows, though an allocation failed: it may have been tried again at another size.
 pub(crate) fn times_refused(is_refused: bool, bytes: &[u8], rows: &[u8]) -> Result<u32, Fail> {
     match is_refused {
         true if bytes.is_empty() => Ok(1),

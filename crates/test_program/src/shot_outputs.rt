@@ -6,7 +6,7 @@ use iv_args::Plan;
 use iv_run::{CliFault, Inputs};
 use std::test::Fail;
 
-/// Whether a run into room for so many bytes prints just what has room of these, and reports where that is not all.
+/// Whether a run into room for so many bytes prints just what has room of these, and reports it if that is not all.
 fn fills(
     rt: &HostRuntime,
     plan: &Plan<'_>,

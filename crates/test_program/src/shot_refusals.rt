@@ -1,4 +1,4 @@
-//! Each growth of a run of one subcommand, refused in turn.
+//! Each allocation of a run of one subcommand, refused in turn.
 use crate::patterns::{Case, cases, texts_of};
 use crate::shot_fixtures::{are_short, copied, times_refused};
 use iv_args::Plan;
@@ -17,7 +17,7 @@ struct Shot<'a> {
     rows: &'a [u8],
 }
 
-/// Whether a run of a plan is refused memory.
+/// Whether a run of a plan runs out of memory.
 fn is_refused<'a>(
     alloc: &'a RefusesNth<Global>,
     plan: &Plan<'_, &'a RefusesNth<Global>>,
@@ -35,7 +35,7 @@ fn is_refused<'a>(
     }
 }
 
-/// Whether a run is refused memory, from its words on.
+/// Whether a run runs out of memory, from its words on.
 fn run<'a>(
     alloc: &'a RefusesNth<Global>,
     words: &[&[u8]],
@@ -50,7 +50,7 @@ fn run<'a>(
     }
 }
 
-/// The same, and what it prints. The FASTA file is in memory that is not refused.
+/// The same, and what it prints. The FASTA file is in memory that does not run out.
 fn refused_run<'a>(
     rt: &HostRuntime,
     alloc: &'a RefusesNth<Global>,
@@ -64,7 +64,7 @@ fn refused_run<'a>(
     times_refused(is_refused, sink.bytes(), run_of.rows)
 }
 
-/// How many runs ended so, each of their growths refused in turn.
+/// How many runs ended so, each of their allocations refused in turn.
 fn refused_runs_by(rt: &HostRuntime, words: &[&[u8]], run_of: Shot<'_>) -> Result<u32, Fail> {
     let granting = RefusesNth::new(rt.alloc(), u64::MAX);
     refuse_each(

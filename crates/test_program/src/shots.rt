@@ -71,58 +71,8 @@ fn merge_without_values(rt: HostRuntime) -> Result<(), Fail> {
     Ok(())
 }
 
-/// Names of sequences and positions are values too; a block has the values of its own records.
-#[test]
-fn merge_with_places(rt: HostRuntime) -> Result<(), Fail> {
-    let inputs = alone(b"chr2\t5\t9\nchr1\t10\t20\nchr1\t9\t12\nchr1\t9\t10\nchr1\t90\t91\n");
-    let rows = b"chr1\t9\t20\tchr1\t10,9\t20\nchr1\t90\t91\tchr1\t90\t91\nchr2\t5\t9\tchr2\t5\t9\n";
-    assert!(rt;
-        prints(
-            &rt,
-            b"merge -c 1,2,3 -o distinct,distinct,max -g g -i a",
-            &inputs,
-            rows
-        )?
-    );
-    let rows = b"chr1\t9\t91\t9,9,10,90\nchr2\t5\t9\t5\n";
-    assert!(rt;
-        prints(
-            &rt,
-            b"merge -d 70 -c 2 -o collapse -g g -i a",
-            &inputs,
-            rows
-        )?
-    );
-    Ok(())
-}
-
-/// `+` before `-` on each sequence, and a record with `.` is in no block.
-#[test]
-fn merge_with_strands_apart(rt: HostRuntime) -> Result<(), Fail> {
-    let inputs = alone(
-        b"chr2\t0\t5\tg\t0\t-\nchr1\t25\t35\te\t0\t-\nchr1\t10\t20\ta\t0\t+\nchr1\t12\t40\td\t0\t.\nchr1\t15\t25\tb\t0\t-\nchr1\t20\t30\tc\t0\t+\n",
-    );
-    for (words, rows) in [
-        (
-            b"merge -s -g g -i a".as_slice(),
-            b"chr1\t10\t30\nchr1\t15\t35\nchr2\t0\t5\n".as_slice(),
-        ),
-        (
-            b"merge -s -c 6,4 -o distinct,collapse -g g -i a",
-            b"chr1\t10\t30\t+\ta,c\nchr1\t15\t35\t-\tb,e\nchr2\t0\t5\t-\tg\n",
-        ),
-        (
-            b"merge -c 4 -o collapse -g g -i a",
-            b"chr1\t10\t40\ta,d,b,c,e\nchr2\t0\t5\tg\n",
-        ),
-    ] {
-        assert!(rt; prints(&rt, words, &inputs, rows)?);
-    }
-    Ok(())
-}
-
 /// Records, their depth where they cover, and everywhere.
-const DEPTHS: [(&[u8], &[u8], &[u8]); 6] = [
+const DEPTHS: [(&[u8], &[u8], &[u8]); 3] = [
     (
         b"chr1\t10\t20\nchr1\t20\t30\n",
         b"chr1\t10\t30\t1\n",
@@ -138,18 +88,6 @@ const DEPTHS: [(&[u8], &[u8], &[u8]); 6] = [
         b"chr1\t0\t50\t1\nchr1\t50\t100\t2\n",
         b"chr1\t0\t50\t1\nchr1\t50\t100\t2\nchr2\t0\t50\t0\n",
     ),
-    (
-        b"chr1\t10\t20\nchr1\t10\t20\n",
-        b"chr1\t10\t20\t2\n",
-        b"chr1\t0\t10\t0\nchr1\t10\t20\t2\nchr1\t20\t100\t0\nchr2\t0\t50\t0\n",
-    ),
-    // Records of two sequences, out of order: two share some bases, and one begins where two others end.
-    (
-        b"chr2\t5\t9\nchr1\t40\t50\nchr1\t30\t40\nchr1\t10\t40\n",
-        b"chr1\t10\t30\t1\nchr1\t30\t40\t2\nchr1\t40\t50\t1\nchr2\t5\t9\t1\n",
-        b"chr1\t0\t10\t0\nchr1\t10\t30\t1\nchr1\t30\t40\t2\nchr1\t40\t50\t1\nchr1\t50\t100\t0\nchr2\t0\t5\t0\nchr2\t5\t9\t1\nchr2\t9\t50\t0\n",
-    ),
-    (b"", b"", b"chr1\t0\t100\t0\nchr2\t0\t50\t0\n"),
 ];
 
 /// Whether records have these depths.
@@ -172,17 +110,6 @@ fn have_depths(rt: &HostRuntime, files: &[(&[u8], &[u8], &[u8])]) -> Result<bool
 #[test]
 fn genomecov(rt: HostRuntime) -> Result<(), Fail> {
     assert!(rt; have_depths(&rt, &DEPTHS)?);
-    Ok(())
-}
-
-#[test]
-fn genomecov_of_each_position(rt: HostRuntime) -> Result<(), Fail> {
-    let inputs = Inputs {
-        sizes: b"t\t4\n",
-        ..alone(b"t\t2\t3\tx\nt\t1\t3\ty\n")
-    };
-    let rows = b"t\t1\t0\nt\t2\t1\nt\t3\t2\nt\t4\t0\n";
-    assert!(rt; prints(&rt, b"genomecov -d -g g -i a", &inputs, rows)?);
     Ok(())
 }
 
@@ -286,14 +213,5 @@ fn files_that_are_damaged(rt: HostRuntime) -> Result<(), Fail> {
     ] {
         assert!(rt; is_reported(&rt, words, &inputs, damage(slot, 2, past_end))?);
     }
-    Ok(())
-}
-
-#[test]
-fn fasta_files_that_are_damaged(rt: HostRuntime) -> Result<(), Fail> {
-    let words = b"getfasta -g g -bed a -fi f -s";
-    let bases = Some(b">chr9\nAC GT\n".as_slice());
-    let fault = Some(damage(Slot::Bases, 2, LoadCause::Base));
-    assert!(rt; ends(&rt, words, &alone(b"chr1\t1\t2\n"), bases, fault, b"")?);
     Ok(())
 }

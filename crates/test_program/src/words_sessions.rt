@@ -1,6 +1,6 @@
 //! Words of a run.
 use crate::piece_fixtures::plan_of;
-use crate::words_subcommands::{are_refused, has_files, is_no_plan};
+use crate::words_subcommands::has_files;
 use std::test::Fail;
 
 /// Whether these words, separated by spaces, are those of a plan with files of these names and with this width.
@@ -9,7 +9,7 @@ fn reads(rt: &HostRuntime, text: &[u8], files: &[u8], width: u8) -> Result<bool,
     Ok((plan.width() == width) & has_files(rt, &plan, files)?)
 }
 
-/// Words, the names of their files, with `none` where there is none, and the width.
+/// Words, the names of their files, with `none` if there is none, and the width.
 const SESSIONS: [(&[u8], &[u8], u8); 17] = [
     (b"session -g g -i -g", b"g -g none none", 3),
     (b"session -i -g -g g", b"g -g none none", 3),
@@ -43,37 +43,5 @@ fn are_read(rt: &HostRuntime, sessions: &[(&[u8], &[u8], u8)]) -> Result<bool, F
 #[test]
 fn words_of_sessions(rt: HostRuntime) -> Result<(), Fail> {
     assert!(rt; are_read(&rt, &SESSIONS)?);
-    Ok(())
-}
-
-/// Words that are those of no session.
-const NO_SESSION: [&[u8]; 22] = [
-    b"session",
-    b"",
-    b"session -g g",
-    b"session -g g -i",
-    b"session -g g -i a -g",
-    b"session -g g -i a -g g",
-    b"session -b g -i a",
-    b"session -g g -b b",
-    b"session -g g -i a -b",
-    b"session -b b -g g -i a -b b",
-    b"session -b b -g g -b c -i a",
-    b"session -g g -i a -fi",
-    b"session -fi f -g g -i a -fi f",
-    b"session -g g -fi f",
-    b"session -g g -i a -f f",
-    b"session -width 3 -g g -width 3 -i a",
-    b"session -width 3 -g g -width 3",
-    b"session -width 2 -g g -i a",
-    b"session -width 7 -g g -i a",
-    b"session -width 03 -g g -i a",
-    b"session -width  -g g -i a",
-    b"session -width x -g g -i a",
-];
-
-#[test]
-fn words_that_are_no_session(rt: HostRuntime) -> Result<(), Fail> {
-    assert!(rt; is_no_plan(&rt, &[]) && are_refused(&rt, &NO_SESSION)?);
     Ok(())
 }

@@ -1,4 +1,4 @@
-//! Lists in vectors of at most three items, and each of their growths refused.
+//! Lists in vectors of at most three items, and each of their allocations refused.
 ghost use Rattle.std.specs.Prelude.{◌<◌};
 
 use crate::fixtures::holds;
@@ -92,7 +92,7 @@ fn order_of_batches(rt: HostRuntime) -> Result<(), Fail> {
     holds(are_orders_seen(&rt))
 }
 
-/// Adds a number to the batches of those below it, again if memory is refused. Whether it was, which must leave the batches as
+/// Adds a number to the batches of those below it, again if an allocation fails. Whether one did, which must leave the batches as
 /// they are.
 fn is_push_refused(
     batches: &mut Batches<u32, &RefusesNth<Global>>,
@@ -108,7 +108,7 @@ fn is_push_refused(
     Ok(true)
 }
 
-/// Adds ten numbers to batches and moves them into one vector, and says how often memory was refused.
+/// Adds ten numbers to batches and moves them into one vector, and says how often an allocation failed.
 pub(crate) fn refused_batches(alloc: &RefusesNth<Global>) -> Result<u32, Fail> {
     let mut batches = Batches::new(alloc);
     let mut refused = 0u32;

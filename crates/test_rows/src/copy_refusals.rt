@@ -1,4 +1,4 @@
-//! Each growth of copying a record and of making a sink, refused in turn.
+//! Each allocation of copying a record and of making a sink, refused in turn.
 use crate::fixtures::{genome, holds};
 use crate::growths::{Run, growths};
 use iv_bytes::{MemSink, Sink};
@@ -7,7 +7,7 @@ use std::alloc::{Allocator, Global};
 use std::test::Fail;
 use test_faults::RefusesNth;
 
-/// Gives 0 where a record has this name and this score.
+/// Gives 0 if a record has this name and this score.
 fn check_texts<A: Allocator>(record: &Record<A>, texts: (&[u8], &[u8])) -> Result<u32, Fail> {
     if (record.name(), record.score()) == texts {
         Ok(0)
@@ -16,7 +16,7 @@ fn check_texts<A: Allocator>(record: &Record<A>, texts: (&[u8], &[u8])) -> Resul
     }
 }
 
-/// Copies a record with these texts, and says how often memory was refused, once or never.
+/// Copies a record with these texts, and says how often an allocation failed, once or never.
 pub(crate) fn refused_copy(
     alloc: &RefusesNth<Global>,
     row: &RecordRef<'_>,
@@ -28,7 +28,7 @@ pub(crate) fn refused_copy(
     }
 }
 
-/// How many growths the copy of the record of a line of five columns takes, which has these texts.
+/// How many allocations the copy of the record of a line of five columns takes, which has these texts.
 fn growths_of_line(
     rt: &HostRuntime,
     genome: &Genome,
@@ -63,7 +63,7 @@ fn growths_of_copy(
     growths_of_texts(rt, genome, &name, &score)
 }
 
-/// Whether copies take as many growths as they are to.
+/// Whether copies take as many allocations as they are to.
 fn take_growths(rt: &HostRuntime, genome: &Genome) -> Result<bool, Fail> {
     for (letters, digits, growths) in [
         (1, 1, 1),
@@ -83,14 +83,14 @@ fn take_growths(rt: &HostRuntime, genome: &Genome) -> Result<bool, Fail> {
     Ok(true)
 }
 
-/// One growth for a block of 24 bytes, which holds 22 bytes of texts, or of 40 bytes, which holds 38; two above that.
+/// One allocation for a block of 24 bytes, which holds 22 bytes of texts, or of 40 bytes, which holds 38; two above that.
 #[test]
 fn each_growth_of_a_copy_refused(rt: HostRuntime) -> Result<(), Fail> {
     let genome = genome(&rt)?;
     holds(take_growths(&rt, &genome))
 }
 
-/// Whether the copy of a record of three columns takes no growth.
+/// Whether the copy of a record of three columns takes no allocation.
 fn takes_no_growth(rt: &HostRuntime, genome: &Genome) -> Result<bool, Fail> {
     let row = read_record(genome, 3, b"chr1\t10\t20")?;
     Ok(growths(rt, Run::Copy(&row, (b"", b"")))? == 0)
@@ -113,7 +113,7 @@ fn takes_just<S: Sink>(sink: &mut S, room: usize) -> bool {
     sink.push(b"x").is_err()
 }
 
-/// Gives 0 where a sink has just this room.
+/// Gives 0 if a sink has just this room.
 fn check_room<S: Sink>(sink: &mut S, room: usize) -> Result<u32, Fail> {
     if takes_just(sink, room) {
         Ok(0)
@@ -122,7 +122,7 @@ fn check_room<S: Sink>(sink: &mut S, room: usize) -> Result<u32, Fail> {
     }
 }
 
-/// Makes a sink, and says how often memory was refused, once or never.
+/// Makes a sink, and says how often an allocation failed, once or never.
 pub(crate) fn refused_sink(alloc: &RefusesNth<Global>, room: usize) -> Result<u32, Fail> {
     match MemSink::new(alloc, room, 7) {
         Ok(mut sink) => check_room(&mut sink, room),

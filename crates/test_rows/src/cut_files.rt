@@ -1,6 +1,6 @@
 //! Files cut after each number of bytes.
 //!
-//! What is left of a sound file says the entries of its whole lines. Where it ends within a line, that line says one entry more,
+//! What is left of a sound file says the entries of its whole lines. If it ends within a line, that line says one entry more,
 //! or none, or it has a fault, which is reported with its number. No earlier line can have a fault.
 use crate::span_pieces::spans_of;
 use iv_index::BedText;
@@ -112,7 +112,7 @@ fn is_sound(rt: &HostRuntime, genome: &Genome, kind: Kind, text: &[u8], marks: &
     entries_of(rt, genome, kind, text) == Ok(all) && wrong_cuts(rt, genome, kind, text, marks) == 0
 }
 
-/// Whether that is so of genome files. Beside each file is a mark for each of its lines: `e` where it says an entry, `-` where it
+/// Whether that is so of genome files. Beside each file is a mark for each of its lines: `e` if it says an entry, `-` if it
 /// says none.
 fn are_genomes_sound(rt: &HostRuntime, genome: &Genome) -> bool {
     for (text, marks) in [

@@ -13,7 +13,7 @@ pub(crate) fn genome(rt: &HostRuntime) -> Result<Genome, LoadFault> {
     Genome::parse(rt.alloc(), SIZES)
 }
 
-/// No failure where something is so.
+/// Fails unless something is so.
 pub(crate) fn holds(is_so: Result<bool, Fail>) -> Result<(), Fail> {
     if is_so? {
         Ok(())
@@ -33,7 +33,7 @@ pub(crate) fn track_of<A: Allocator + Copy>(
     Ok(Track::from_records(alloc, width, 1_000_000, file.into_records()))
 }
 
-/// Adds a record to a track. The number of the fault, 0 where there is none.
+/// Adds a record to a track. The number of the fault, 0 if there is none.
 pub(crate) fn add<A: Allocator + Copy>(track: &mut Track<A>, row: Record<A>) -> u8
     requires { row.width ≡ track.old.width }
 {
@@ -43,7 +43,7 @@ pub(crate) fn add<A: Allocator + Copy>(track: &mut Track<A>, row: Record<A>) -> 
     }
 }
 
-/// Stages a record on a track. The number of the fault, 0 where there is none.
+/// Stages a record on a track. The number of the fault, 0 if there is none.
 pub(crate) fn stage<A: Allocator + Copy>(track: &mut Track<A>, row: Record<A>) -> u8
     requires room { length track.old.rows ≤ track.old.limit }
     requires width { row.width ≡ track.old.width }
@@ -54,7 +54,7 @@ pub(crate) fn stage<A: Allocator + Copy>(track: &mut Track<A>, row: Record<A>) -
     }
 }
 
-/// Replaces a record of a track. The number of the fault, 0 where there is none.
+/// Replaces a record of a track. The number of the fault, 0 if there is none.
 pub(crate) fn replace<A: Allocator + Copy>(
     track: &mut Track<A>,
     old: &Record<A>,

@@ -1,4 +1,4 @@
-//! Each growth of reading a genome file, refused in turn.
+//! Each allocation of reading a genome file, refused in turn.
 use crate::growths::{Run, growths, memory_of};
 use iv_text::{Genome, LoadCause, LoadFault};
 use std::alloc::{Allocator, Global};
@@ -33,7 +33,7 @@ fn has_sequence<A: Allocator + Copy>(
     )
 }
 
-/// Gives 0 where a genome has just the sequences of that file.
+/// Gives 0 if a genome has just the sequences of that file.
 fn check_sequences<A: Allocator + Copy>(
     rt: &HostRuntime,
     genome: &Genome<A>,
@@ -51,7 +51,7 @@ fn check_sequences<A: Allocator + Copy>(
     }
 }
 
-/// Reads that genome file, and says how often memory was refused, once or never.
+/// Reads that genome file, and says how often an allocation failed, once or never.
 pub(crate) fn refused_genome(
     rt: &HostRuntime,
     alloc: &RefusesNth<Global>,
@@ -64,13 +64,13 @@ pub(crate) fn refused_genome(
     }
 }
 
-/// How many growths the reading of that file takes.
+/// How many allocations the reading of that file takes.
 fn growths_of_genome(rt: &HostRuntime, count: u32) -> Result<u32, Fail> {
     let text = genome_file(rt, count)?;
     growths(rt, Run::Genome(text.as_bytes(), count))
 }
 
-/// A growth for each name at least, and one for the table of names.
+/// An allocation for each name at least, and one for the table of names.
 #[test]
 fn each_growth_of_a_genome_refused(rt: HostRuntime) -> Result<(), Fail> {
     for count in [1, COUNT] {
@@ -79,7 +79,7 @@ fn each_growth_of_a_genome_refused(rt: HostRuntime) -> Result<(), Fail> {
     Ok(())
 }
 
-/// Reads a damaged genome file, and says how often memory was refused, once or never.
+/// Reads a damaged genome file, and says how often an allocation failed, once or never.
 pub(crate) fn refused_damage(
     alloc: &RefusesNth<Global>,
     text: &[u8],
@@ -98,7 +98,7 @@ fn damaged_file(rt: &HostRuntime) -> Result<String, Fail> {
     Ok(text)
 }
 
-/// How often memory is refused before the damage of that line is reported.
+/// How often an allocation fails before the damage of that line is reported.
 fn growths_before_damage(rt: &HostRuntime) -> Result<u32, Fail> {
     let damage = LoadFault {
         line: 41,

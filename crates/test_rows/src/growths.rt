@@ -1,4 +1,4 @@
-//! Runs that ask for memory, each of whose growths is refused in turn.
+//! Runs that ask for memory, each of whose allocations is refused in turn.
 use crate::batches::refused_batches;
 use crate::copy_refusals::{refused_copy, refused_sink};
 use crate::genome_refusals::{refused_damage, refused_genome};
@@ -36,7 +36,7 @@ pub(crate) enum Run<'t> {
     Damage(&'t [u8], LoadFault),
     /// Gives the results of an operation, which are to be these.
     Results(Op, &'t [u8]),
-    /// Reads a BED file over a genome whose growths are all granted.
+    /// Reads a BED file over a genome whose allocations are all granted.
     Over(Reading<'t>),
 }
 
@@ -49,13 +49,13 @@ pub(crate) enum Reading<'t> {
     Pieces(&'t [u8], usize, u8, Option<LoadFault>),
     /// As places in its text.
     Places(&'t [u8]),
-    /// As places in its text, which are sorted. Only the sort may be refused memory.
+    /// As places in its text, which are sorted. Only the sort may run out of memory.
     Sorted(&'t [u8]),
-    /// As a track. Only its building may be refused memory.
+    /// As a track. Only its building may run out of memory.
     Track(&'t [u8]),
 }
 
-/// How often memory was refused, by the fault of a file: once where that is out of memory, which has no line, and never where it
+/// How often an allocation failed, by the fault of a file: once if that is out of memory, which has no line, and never if it
 /// is the damage that the file has.
 pub(crate) fn memory_of(fault: LoadFault, damage: Option<LoadFault>) -> Result<u32, Fail> {
     let memory = LoadFault {
@@ -71,7 +71,7 @@ pub(crate) fn memory_of(fault: LoadFault, damage: Option<LoadFault>) -> Result<u
     }
 }
 
-/// Reads a BED file over a genome in memory of the first allocator, and says how often the second one refused memory.
+/// Reads a BED file over a genome in memory of the first allocator, and says how often the second one refused an allocation.
 fn refused_over<'a>(
     granting: &'a RefusesNth<Global>,
     alloc: &'a RefusesNth<Global>,
@@ -91,7 +91,7 @@ fn refused_over<'a>(
     }
 }
 
-/// The same where that genome is read too.
+/// The same if that genome is read too.
 fn refused_beside<'a>(
     granting: &'a RefusesNth<Global>,
     alloc: &'a RefusesNth<Global>,
@@ -101,7 +101,7 @@ fn refused_beside<'a>(
     refused_over(granting, alloc, &genome, reading)
 }
 
-/// The same, where the first allocator grants all growths.
+/// The same, if the first allocator grants all allocations.
 fn refused_reading(
     rt: &HostRuntime,
     alloc: &RefusesNth<Global>,
@@ -111,7 +111,7 @@ fn refused_reading(
     refused_beside(&granting, alloc, reading)
 }
 
-/// How often memory was refused in a run.
+/// How often an allocation failed in a run.
 fn refused(rt: &HostRuntime, alloc: &RefusesNth<Global>, run: Run<'_>) -> Result<u32, Fail> {
     match run {
         Run::Three => Ok(refused_of_three(alloc)),
@@ -127,7 +127,7 @@ fn refused(rt: &HostRuntime, alloc: &RefusesNth<Global>, run: Run<'_>) -> Result
     }
 }
 
-/// How often memory was refused in a run, each of its growths in turn.
+/// How often an allocation failed in a run, each of its allocations in turn.
 pub(crate) fn growths(rt: &HostRuntime, run: Run<'_>) -> Result<u32, Fail> {
     refuse_each(rt.alloc(), |alloc| refused(rt, alloc, run))
 }

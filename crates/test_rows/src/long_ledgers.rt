@@ -107,7 +107,7 @@ fn next_number(state: &mut u64) -> u64 {
     *state >> 33
 }
 
-/// A number from 0 to one less than this, 0 where it is 0.
+/// A number from 0 to one less than this, 0 if it is 0.
 fn below(state: &mut u64, most: u32) -> u32 {
     let number = next_number(state).checked_rem(u64::from(most)).unwrap_or(0);
     u32::try_from(number).unwrap_or(0)

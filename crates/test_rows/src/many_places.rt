@@ -1,4 +1,4 @@
-//! Many places of a BED file, and each growth of reading some of them, refused in turn.
+//! Many places of a BED file, and each allocation of reading some of them, refused in turn.
 use crate::fixtures::holds;
 use crate::growths::{Reading, Run, growths, memory_of};
 use crate::places::{SIZES, bed_text};
@@ -87,7 +87,7 @@ fn end_of<'a>(
     }
 }
 
-/// Reads a text of forty records, and says how often memory was refused, once or never.
+/// Reads a text of forty records, and says how often an allocation failed, once or never.
 pub(crate) fn refused_reads<'a>(
     alloc: &'a RefusesNth<Global>,
     genome: &Genome<&'a RefusesNth<Global>>,
@@ -100,7 +100,7 @@ pub(crate) fn refused_reads<'a>(
     }
 }
 
-/// How many growths the reading of forty lines of many takes.
+/// How many allocations the reading of forty lines of many takes.
 fn growths_of_reads(rt: &HostRuntime) -> Result<u32, Fail> {
     let text = many_lines(rt)?;
     let (lines, _) = text.as_bytes().split_at(text.len().min(40 * 18));

@@ -1,4 +1,4 @@
-//! Each growth of reading a BED file, at once and in pieces, refused in turn.
+//! Each allocation of reading a BED file, at once and in pieces, refused in turn.
 use crate::growths::{Reading, Run, growths, memory_of};
 use crate::span_pieces::spans_of;
 use iv_index::Spans;
@@ -48,7 +48,7 @@ fn has_records<A: Allocator + Copy>(file: &BedFile<A>, count: u32, width: u8) ->
     start == u64::from(count) && file.width() == width
 }
 
-/// Reads a BED file of so many records over a genome, and says how often memory was refused, once or never.
+/// Reads a BED file of so many records over a genome, and says how often an allocation failed, once or never.
 pub(crate) fn refused_file<'a>(
     alloc: &'a RefusesNth<Global>,
     genome: &Genome<&'a RefusesNth<Global>>,
@@ -64,14 +64,14 @@ pub(crate) fn refused_file<'a>(
     }
 }
 
-/// How many growths the reading of a file of so many records of this width takes.
+/// How many allocations the reading of a file of so many records of this width takes.
 fn growths_of_file(rt: &HostRuntime, count: u32, width: u8) -> Result<u32, Fail> {
     let text = bed_file(rt, count, width)?;
     let reading = Reading::Records(text.as_bytes(), count, width, None);
     growths(rt, Run::Over(reading))
 }
 
-/// Records of three columns take no memory of their own, those of six columns one growth each.
+/// Records of three columns take no memory of their own, those of six columns one allocation each.
 #[test]
 fn each_growth_of_a_bed_file_refused(rt: HostRuntime) -> Result<(), Fail> {
     for (width, least) in [(3, 1), (6, COUNT)] {
@@ -102,7 +102,7 @@ const DAMAGE: LoadFault = LoadFault {
     cause: LoadCause::Record(RecordFault::Columns),
 };
 
-/// How often memory is refused before that fault is reported.
+/// How often an allocation fails before that fault is reported.
 fn growths_before_damage(rt: &HostRuntime) -> Result<u32, Fail> {
     let text = file_with_end(rt, "\nchr1\t1\t2\n")?;
     let reading = Reading::Records(text.as_bytes(), COUNT, 6, Some(DAMAGE));
@@ -127,7 +127,7 @@ fn has_places<A: Allocator + Copy>(file: &Spans<A>, width: u8) -> bool {
     start == COUNT && file.width() == width
 }
 
-/// Reads a BED file in pieces of so many bytes over a genome, and says how often memory was refused, once or never.
+/// Reads a BED file in pieces of so many bytes over a genome, and says how often an allocation failed, once or never.
 pub(crate) fn refused_spans<'a>(
     alloc: &'a RefusesNth<Global>,
     genome: &Genome<&'a RefusesNth<Global>>,
@@ -143,7 +143,7 @@ pub(crate) fn refused_spans<'a>(
     }
 }
 
-/// How often memory was refused, each growth in turn, where a file comes in pieces of so many bytes.
+/// How often an allocation failed, each allocation in turn, if a file comes in pieces of so many bytes.
 fn growths_of_pieces(
     rt: &HostRuntime,
     text: &[u8],
@@ -155,7 +155,7 @@ fn growths_of_pieces(
     growths(rt, Run::Over(reading))
 }
 
-/// Whether a file takes a growth at once, and more in pieces of a few bytes.
+/// Whether a file takes an allocation at once, and more in pieces of a few bytes.
 fn pieces_take_more(rt: &HostRuntime, text: &[u8], width: u8) -> Result<bool, Fail> {
     let whole = growths_of_pieces(rt, text, 10_000, width, None)?;
     for size in [1, 2, 3, 25] {
@@ -172,7 +172,7 @@ fn pieces_of_width(rt: &HostRuntime, width: u8) -> Result<bool, Fail> {
     pieces_take_more(rt, text.as_bytes(), width)
 }
 
-/// Places take growths of one vector, and what has come of a line that isn't ended yet some of another.
+/// Places take allocations of one vector, and what has come of a line that isn't ended yet some of another.
 #[test]
 fn each_growth_of_pieces_refused(rt: HostRuntime) -> Result<(), Fail> {
     for width in [3, 6] {

@@ -48,7 +48,7 @@ fn is_record_printed(
     is_printed_on(rt, sequence, &line)
 }
 
-/// The same where each of them has so many letters.
+/// The same if each of them has so many letters.
 fn is_row_printed(
     rt: &HostRuntime,
     sequence: usize,
@@ -76,7 +76,7 @@ fn rows_of_each_length(rt: HostRuntime) -> Result<(), Fail> {
     Ok(())
 }
 
-/// What is put where the greatest number is after a front.
+/// What is put if the greatest number is after a front.
 fn put_after(rt: &HostRuntime, front: &str) -> Result<MemSink, Fail> {
     let mut tail = RowBuffer::new();
     tail.prepend_number(u64::MAX);

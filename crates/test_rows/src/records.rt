@@ -130,7 +130,7 @@ fn check_fits(rt: &HostRuntime, genome: &Genome, small: &Genome) -> Result<(), F
     Ok(())
 }
 
-/// The same, where the smaller one is not read yet.
+/// The same, if the smaller one is not read yet.
 fn check_beside_small(rt: &HostRuntime, genome: &Genome) -> Result<(), Fail> {
     let small = Genome::parse(rt.alloc(), b"chr1\t19\n")?;
     check_fits(rt, genome, &small)
@@ -142,7 +142,7 @@ fn records_that_fit(rt: HostRuntime) -> Result<(), Fail> {
     check_beside_small(&rt, &genome)
 }
 
-/// What a text begins with, where it is known as a line of this width after one of `chr2`: rank, start, stop and how many bytes.
+/// What a text begins with, if it is known as a line of this width after one of `chr2`: rank, start, stop and how many bytes.
 fn short_line(genome: &Genome, width: u8, text: &[u8]) -> Option<(u32, u32, u32, usize)> {
     if width < 3 || width > 6 {
         return None;

@@ -1,4 +1,4 @@
-//! Each growth of vectors and of a ledger, refused in turn.
+//! Each allocation of vectors and of a ledger, refused in turn.
 use crate::growths::{Run, growths};
 use iv_track::{Ledger, Meter};
 use std::alloc::{AllocError, Allocator, Global};
@@ -8,7 +8,7 @@ use test_faults::RefusesNth;
 /// So many keys that chunks are split.
 const COUNT: u32 = 1_000;
 
-/// Whether a vector grows, and whether a growth was refused by then.
+/// Whether a vector grows, and whether an allocation failed by then.
 fn grown(alloc: &RefusesNth<Global>) -> (bool, bool) {
     let made: Result<Vec<u8, &RefusesNth<Global>>, AllocError> = Vec::with_capacity(alloc, 4);
     (made.is_ok(), alloc.has_refused())
@@ -21,7 +21,7 @@ fn one_growth_refused(rt: HostRuntime) {
     assert!(rt; seen == [(true, false), (false, true), (true, true)]);
 }
 
-/// How many of three growths are refused.
+/// How many of three allocations are refused.
 pub(crate) fn refused_of_three(alloc: &RefusesNth<Global>) -> u32 {
     let mut refused = 0u32;
     for _ in 0..3 {
@@ -50,7 +50,7 @@ fn holds_keys<A: Allocator + Clone + Drop>(ledger: &Ledger<u32, u32, A>, count: 
     walk.next(&mut meter).is_none() && ledger.len() == count as usize
 }
 
-/// Puts a key into the ledger of those below it, again where memory is refused. Whether it was, which must leave the ledger as
+/// Puts a key into the ledger of those below it, again if an allocation fails. Whether one did, which must leave the ledger as
 /// it is.
 fn is_put_refused(
     ledger: &mut Ledger<u32, u32, &RefusesNth<Global>>,

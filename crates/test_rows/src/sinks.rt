@@ -26,7 +26,7 @@ fn put_rows<S: Sink>(sink: &mut S) -> (bool, bool, bool) {
 
 const TEXT: &[u8] = b"chr1\t10\t30\nchr2\t5chr3\t10\t30\n";
 
-/// Whether a sink of this room takes what it can of the rows, and is failed where that is not all.
+/// Whether a sink of this room takes what it can of the rows, and is failed if that is not all.
 fn takes(sink: &mut MemSink, room: usize, want: (bool, bool, bool)) -> bool {
     let is_put = put_rows(sink) == want;
     let is_front = TEXT.starts_with(sink.bytes()) && sink.bytes().len() == room.min(28);

@@ -1,4 +1,4 @@
-//! The places of a BED file in the order of a track, and each growth of reading and sorting them, refused in turn.
+//! The places of a BED file in the order of a track, and each allocation of reading and sorting them, refused in turn.
 use crate::fixtures::holds;
 use crate::growths::{Reading, Run, growths};
 use crate::places::{SIZES, bed_text, has_cells};
@@ -195,7 +195,7 @@ fn records_in_the_order_of_a_track(rt: HostRuntime) -> Result<(), Fail> {
     holds(do_shuffled_sort(&rt, &genome))
 }
 
-/// Sorts the records of a text, and says how often memory was refused, once or never.
+/// Sorts the records of a text, and says how often an allocation failed, once or never.
 pub(crate) fn refused_sorts<'a>(
     granting: &'a RefusesNth<Global>,
     alloc: &'a RefusesNth<Global>,
@@ -206,13 +206,13 @@ pub(crate) fn refused_sorts<'a>(
     Ok(u32::from(bed.sort(alloc).is_err()))
 }
 
-/// How many growths a sort takes where many records of one place are out of order.
+/// How many allocations a sort takes if many records of one place are out of order.
 fn growths_of_named(rt: &HostRuntime) -> Result<u32, Fail> {
     let named = named_lines(rt, 40)?;
     growths(rt, Run::Over(Reading::Sorted(named.as_bytes())))
 }
 
-/// A sort takes memory once, where many records of one place are out of order, and else none.
+/// A sort takes memory once, if many records of one place are out of order, and else none.
 #[test]
 fn memory_of_a_sort_refused(rt: HostRuntime) -> Result<(), Fail> {
     let shuffled = growths(&rt, Run::Over(Reading::Sorted(SHUFFLED)))?;

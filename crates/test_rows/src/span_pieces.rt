@@ -224,7 +224,7 @@ const FAULTS: [(&[u8], u64, LoadCause); 18] = [
         2,
         LoadCause::Record(RecordFault::StartNumber),
     ),
-    // One record too many; where it is damaged, its own fault.
+    // One record too many; if it is damaged, its own fault.
     (
         b"chr1\t1\t2\nchr1\t1\t2\nchr1\t3\t4\n",
         3,

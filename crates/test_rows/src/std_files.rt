@@ -21,7 +21,7 @@ fn is_written(rt: &HostRuntime, name: &str, bytes: &[u8]) -> bool {
     }
 }
 
-/// All bytes of a source; none where it fails.
+/// All bytes of a source; none if it fails.
 fn pull_all<S: Source>(rt: &HostRuntime, source: &mut S) -> Option<Vec<u8>> {
     let mut bytes = Vec::new(rt.alloc());
     let mut piece = [0u8; 1000];

@@ -129,7 +129,7 @@ fn names_of_operations(rt: HostRuntime) -> Result<(), Fail> {
     Ok(())
 }
 
-/// The record of a line of six columns, `None` where memory is refused.
+/// The record of a line of six columns, `None` if an allocation fails.
 fn record<'a>(
     alloc: &'a RefusesNth<Global>,
     genome: &Genome<&'a RefusesNth<Global>>,
@@ -151,7 +151,7 @@ fn asked(op: Op) -> [ColumnSummary; 6] {
     .map(|column| ColumnSummary { column, op })
 }
 
-/// Whether the results of an operation over every column of records are these, `None` where memory is refused.
+/// Whether the results of an operation over every column of records are these, `None` if an allocation fails.
 fn are_results<'a>(
     alloc: &'a RefusesNth<Global>,
     records: &[&Record<&'a RefusesNth<Global>>],
@@ -174,7 +174,7 @@ fn are_results_over<'a>(
     are_results(alloc, &[&first, &second], op, want)
 }
 
-/// The same where the genome is read too.
+/// The same if the genome is read too.
 fn are_results_in(alloc: &RefusesNth<Global>, op: Op, want: &[u8]) -> Option<bool> {
     let genome = Genome::parse(alloc, b"chr1\t1000\n").ok()?;
     are_results_over(alloc, &genome, op, want)
@@ -193,7 +193,7 @@ const WANTED: [(Op, &[u8]); 6] = [
     (Op::Distinct, b"\tchr1\t100,9\t1000,250\ta,b\t0.5,7\t-,."),
 ];
 
-/// How often there were no results, once where a growth was refused and else never; then they are to be these.
+/// How often there were no results, once if an allocation failed and else never; then they are to be these.
 pub(crate) fn refused_results(
     alloc: &RefusesNth<Global>,
     op: Op,

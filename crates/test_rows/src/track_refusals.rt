@@ -1,4 +1,4 @@
-//! Each growth of a track's memory, refused in turn.
+//! Each allocation for a track, refused in turn.
 ghost use Rattle.std.specs.Prelude.{◌≡◌, ◌≤◌, IfOk, length};
 
 use crate::fixtures::{add, replace, stage};
@@ -54,7 +54,7 @@ fn line(rt: &HostRuntime, start: u32) -> Result<String, Fail> {
     Ok(format!(in rt.alloc(); "big\t{start}\t{stop}\tname\n")?)
 }
 
-/// The record at a start. Where its memory is refused it is made anew.
+/// The record at a start. If its allocation fails it is made again.
 fn record<'a>(
     rt: &HostRuntime,
     genome: &Genome,
@@ -71,7 +71,7 @@ fn record<'a>(
     }
 }
 
-/// Adds or stages the record at a start. The number of the fault, 0 where there is none.
+/// Adds or stages the record at a start. The number of the fault, 0 if there is none.
 fn put<'a>(
     rt: &HostRuntime,
     genome: &Genome,
@@ -90,7 +90,7 @@ fn put<'a>(
     }
 }
 
-/// Replaces the record at a start by the one as many bases on as there are records. The number of the fault, 0 where there is none.
+/// Replaces the record at a start by the one as many bases on as there are records. The number of the fault, 0 if there is none.
 fn move_on<'a>(
     rt: &HostRuntime,
     genome: &Genome,
@@ -106,7 +106,7 @@ fn move_on<'a>(
     Ok(replace(track, &old, new))
 }
 
-/// The number of the fault of an edit at a start, 0 where there is none.
+/// The number of the fault of an edit at a start, 0 if there is none.
 fn fault_of<'a>(
     rt: &HostRuntime,
     genome: &Genome,
@@ -124,7 +124,7 @@ fn fault_of<'a>(
     }
 }
 
-/// Does an edit at a start, unless memory is refused.
+/// Does an edit at a start, unless an allocation fails.
 fn is_done<'a>(
     rt: &HostRuntime,
     genome: &Genome,
@@ -140,7 +140,7 @@ fn is_done<'a>(
     }
 }
 
-/// Does an edit at a start, again where memory is refused. Whether it was, which must leave the track as it is.
+/// Does an edit at a start, again if an allocation fails. Whether one did, which must leave the track as it is.
 fn is_refused<'a>(
     rt: &HostRuntime,
     genome: &Genome,
@@ -192,7 +192,7 @@ fn lines(rt: &HostRuntime) -> Result<String, Fail> {
     Ok(text)
 }
 
-/// Gives 0 where a track holds all records.
+/// Gives 0 if a track holds all records.
 fn check_track<A: Allocator + Copy>(track: &Track<A>) -> Result<u32, Fail> {
     if holds_starts(track, 0, COUNT) {
         Ok(0)
@@ -201,7 +201,7 @@ fn check_track<A: Allocator + Copy>(track: &Track<A>) -> Result<u32, Fail> {
     }
 }
 
-/// Builds a track from the records of a text, which are read with no growth refused, and says how often memory was refused,
+/// Builds a track from the records of a text, which are read with no allocation refused, and says how often an allocation failed,
 /// once or never.
 pub(crate) fn refused_build<'a>(
     granting: &'a RefusesNth<Global>,
@@ -250,7 +250,7 @@ fn each_growth_of_an_edit_refused(rt: HostRuntime) -> Result<(), Fail> {
     Ok(())
 }
 
-/// How many growths the building of a track takes.
+/// How many allocations the building of a track takes.
 fn growths_of_build(rt: &HostRuntime) -> Result<u32, Fail> {
     let text = lines(rt)?;
     growths(rt, Run::Over(Reading::Track(text.as_bytes())))

@@ -22,7 +22,7 @@ fn record(rt: &HostRuntime, genome: &Genome, line: &[u8]) -> Result<Record, Fail
     Ok(read_record(genome, 4, line)?.to_record(rt.alloc())?)
 }
 
-/// Removes a record from a track. The number of the fault, 0 where there is none.
+/// Removes a record from a track. The number of the fault, 0 if there is none.
 fn remove(track: &mut Track, row: &Record) -> u8 {
     match track.remove(row, &mut Meter::new()) {
         Ok(()) => 0,
@@ -30,7 +30,7 @@ fn remove(track: &mut Track, row: &Record) -> u8 {
     }
 }
 
-/// Adds the record of a line. The number of the fault, 0 where there is none.
+/// Adds the record of a line. The number of the fault, 0 if there is none.
 fn add_line(rt: &HostRuntime, genome: &Genome, track: &mut Track, line: &[u8]) -> Result<u8, Fail>
     requires { track.old.width ≡ 4 }
 {
@@ -38,7 +38,7 @@ fn add_line(rt: &HostRuntime, genome: &Genome, track: &mut Track, line: &[u8]) -
     Ok(add(track, row))
 }
 
-/// Stages the record of a line. The number of the fault, 0 where there is none.
+/// Stages the record of a line. The number of the fault, 0 if there is none.
 fn stage_line(rt: &HostRuntime, genome: &Genome, track: &mut Track, line: &[u8]) -> Result<u8, Fail>
     requires room { length track.old.rows ≤ track.old.limit }
     requires width { track.old.width ≡ 4 }
@@ -47,7 +47,7 @@ fn stage_line(rt: &HostRuntime, genome: &Genome, track: &mut Track, line: &[u8])
     Ok(stage(track, row))
 }
 
-/// Replaces the record of a line by that of another one. The number of the fault, 0 where there is none.
+/// Replaces the record of a line by that of another one. The number of the fault, 0 if there is none.
 fn replace_line(
     rt: &HostRuntime,
     genome: &Genome,
@@ -63,7 +63,7 @@ fn replace_line(
     Ok(replace(track, &old, new))
 }
 
-/// Removes the record of a line. The number of the fault, 0 where there is none.
+/// Removes the record of a line. The number of the fault, 0 if there is none.
 fn remove_line(
     rt: &HostRuntime,
     genome: &Genome,
@@ -74,7 +74,7 @@ fn remove_line(
     Ok(remove(track, &row))
 }
 
-/// The number of an edit's fault, 0 where there is none.
+/// The number of an edit's fault, 0 if there is none.
 fn fault_of(
     rt: &HostRuntime,
     genome: &Genome,

@@ -2,7 +2,7 @@
 use crate::fixtures::{Example, check};
 use std::test::Fail;
 
-/// Blocks that join and part: plain, at a distance, and beside complement and cluster.
+/// Blocks that join and part: plain, at a distance, and beside complement.
 #[test]
 fn merges_under_edits(rt: HostRuntime) -> Result<(), Fail> {
     let examples = [
@@ -29,18 +29,6 @@ fn merges_under_edits(rt: HostRuntime) -> Result<(), Fail> {
             lines: 5,
             refused: 0,
             left: 2,
-        },
-        // A start that joins two blocks, and a removal that parts them again.
-        Example {
-            width: 3,
-            first: b"chr1\t10\t20\nchr1\t30\t40\nchr1\t50\t60\n",
-            limit: 9,
-            script: b"open\tm\tmerge\nopen\tn\tmerge -d 5\nopen\tk\tcluster\nadd\tchr1\t18\t52\nprintall\nreplace\tchr1\t18\t52\tchr1\t35\t45\nprintall\n",
-            output: b"#m\nchr1\t10\t60\n#n\nchr1\t10\t60\n#k\nchr1\t10\t20\t1\nchr1\t18\t52\t1\nchr1\t30\t40\t1\nchr1\t50\t60\t1\n#m\nchr1\t10\t20\nchr1\t30\t45\nchr1\t50\t60\n#n\nchr1\t10\t20\nchr1\t30\t60\n#k\nchr1\t10\t20\t1\nchr1\t30\t40\t2\nchr1\t35\t45\t2\nchr1\t50\t60\t3\n",
-            messages: b"",
-            lines: 7,
-            refused: 0,
-            left: 4,
         },
     ];
     check(&rt, &examples)
@@ -154,26 +142,6 @@ fn complements_and_clusters(rt: HostRuntime) -> Result<(), Fail> {
             lines: 6,
             refused: 0,
             left: 4,
-        },
-    ];
-    check(&rt, &examples)
-}
-
-/// Words with a fault, and two spellings of one view.
-#[test]
-fn words_of_views_over_blocks(rt: HostRuntime) -> Result<(), Fail> {
-    let examples = [
-        // Faults of words, in their order.
-        Example {
-            width: 3,
-            first: b"",
-            limit: 9,
-            script: b"open\ta\tmerge -s\nopen\ta\tmerge -s -c 7\nopen\ta\tmerge -c 0000000000\nopen\ta\tmerge -c 00000000001\nopen\ta\tmerge -o sum\nopen\ta\tmerge -d 1000000001\nopen\ta\tmerge -d 1 -d 1\nopen\ta\tmerge -c 1,,2\nopen\ta\tmerge -c 1 -o mean\nopen\ta\tcomplement -L -L\nopen\ta\tcluster -s\nopen\ta\tcluster -d\nopen\ta\tmerge -c 1,2,3 -o count,count\nopen\ta\tmerge -c 1,1,1,1,1,1,1,1,1,1,1,1,1,1,1,1,1\nopen\ta\tmerge -c 1,1,1,1,1,1,1,1,1,1,1,1,1,1,1,1\nopen\tb\tmerge -d 01000000000 -c 2,3 -o min\nopen\tb\tmerge -o max -d 1000000000 -c 2,3\nadd\tchr1\t10\t20\nadd\tchr1\t30\t40\nprintall\n",
-            output: b"#a\nchr1\t10\t20\t.\t.\t.\t.\t.\t.\t.\t.\t.\t.\t.\t.\t.\t.\t.\t.\nchr1\t30\t40\t.\t.\t.\t.\t.\t.\t.\t.\t.\t.\t.\t.\t.\t.\t.\t.\n#b\nchr1\t10\t40\t30\t40\n",
-            messages: b"line 1: strand needs six columns\nline 2: no such column\nline 3: no such column\nline 4: bad options\nline 5: bad options\nline 6: bad options\nline 7: bad options\nline 8: bad options\nline 9: bad options\nline 10: bad options\nline 11: bad options\nline 12: bad options\nline 13: bad options\nline 14: bad options\nline 16: bad options\n",
-            lines: 20,
-            refused: 15,
-            left: 2,
         },
     ];
     check(&rt, &examples)

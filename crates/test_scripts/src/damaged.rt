@@ -1,5 +1,5 @@
-//! Damaged records in lines of a script, while the session's next growth is refused: each is answered by its own fault, and asks
-//! for no growth.
+//! Damaged records in lines of a script, while the session's next allocation fails: each is answered by its own fault, and asks
+//! for no allocation.
 use crate::fixtures::{ALONE, Beside, joined, session_in};
 use iv_bytes::{MemSink, MemSource};
 use iv_session::{ScriptLimits, run_script};
@@ -15,7 +15,7 @@ pub(crate) struct Memory<'a> {
     pub(crate) lines: &'a RefusesNth<Global>,
 }
 
-/// An allocator that grants all growths.
+/// An allocator that grants all allocations.
 pub(crate) fn granting(rt: &HostRuntime) -> RefusesNth<Global> {
     RefusesNth::new(rt.alloc(), u64::MAX)
 }
@@ -51,7 +51,7 @@ pub(crate) fn written<'a>(
     Ok((output, messages))
 }
 
-/// Whether one line is answered by this fault and prints nothing, while the session's next growth is refused.
+/// Whether one line is answered by this fault and prints nothing, while the session's next allocation fails.
 fn is_reported<'a>(
     rt: &HostRuntime,
     memory: Memory<'a>,
@@ -65,7 +65,7 @@ fn is_reported<'a>(
     Ok(output.bytes().is_empty() && messages.bytes() == want.as_slice())
 }
 
-/// Whether each of these, between two texts, is answered by its fault and asks for no growth.
+/// Whether each of these, between two texts, is answered by its fault and allocates nothing.
 pub(crate) fn are_reported<'a>(
     rt: &HostRuntime,
     memory: Memory<'a>,
@@ -121,7 +121,7 @@ const EDITS: [Around<'static>; 8] = [
     (b"replaceb\tchr1\t10\t20\tn\t0\t+\t", b""),
 ];
 
-/// Whether the damaged records are answered by their faults in an edit, and a sound one by the growth that is refused.
+/// Whether the damaged records are answered by their faults in an edit, and a sound one by the allocation that is refused.
 fn is_edit_reported<'a>(
     rt: &HostRuntime,
     memory: Memory<'a>,

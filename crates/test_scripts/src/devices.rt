@@ -16,7 +16,7 @@ struct Recorder {
 }
 
 impl Recorder {
-    /// It goes wrong at the call of this number; at none, where it is 0.
+    /// It goes wrong at the call of this number; at none, if it is 0.
     fn new(rt: &HostRuntime, number: u32, bad: Bad) -> Recorder {
         Recorder {
             device: Device::new(b"", number, bad),
@@ -71,7 +71,7 @@ fn run_over(
     )
 }
 
-/// Runs a script over three devices, beside one record. The call of each number is bad, none where it is 0.
+/// Runs a script over three devices, beside one record. The call of each number is bad, none if it is 0.
 fn run_script_over(
     rt: &HostRuntime,
     script: &[u8],
@@ -163,7 +163,7 @@ const READS: [(u64, u32, u32); 13] = [
     (6, 2, 2),
 ];
 
-/// Whether the script ends so where a read fails, whichever it is.
+/// Whether the script ends so if a read fails, whichever it is.
 fn ends_at_each_read(rt: &HostRuntime, bad: Bad) -> Result<bool, Fail> {
     let mut number = 0u32;
     for (line, writes, reported) in READS {
@@ -185,7 +185,7 @@ fn each_read_fails(rt: HostRuntime) -> Result<(), Fail> {
     Ok(())
 }
 
-/// Whether the script ends where a write fails, or takes nothing, whichever it is.
+/// Whether the script ends if a write fails, or takes nothing, whichever it is.
 fn ends_at_each_write(rt: &HostRuntime, bad: Bad) -> Result<bool, Fail> {
     for (numbers, line, cause, calls) in [
         ((0, 1, 0), 3, RunCause::Output, (8, 1, 1)),
@@ -232,7 +232,7 @@ fn no_further_call(rt: HostRuntime) -> Result<(), Fail> {
     Ok(())
 }
 
-/// How many lines the script has, and what the last of them writes to the messages after what those before did, where each read in
+/// How many lines the script has, and what the last of them writes to the messages after what those before did, if each read in
 /// turn gives nothing: the script is at its end there, and the last line has none.
 const SHORT_READS: [(u64, &[u8]); 13] = [
     (0, b""),
@@ -250,7 +250,7 @@ const SHORT_READS: [(u64, &[u8]); 13] = [
     (5, b""),
 ];
 
-/// How many lines a run has done or refused, where it came to its end.
+/// How many lines a run has done or refused, if it came to its end.
 fn lines_of(ended: &Ended) -> Option<u64> {
     match ended.done {
         Ok(summary) => Some(summary.lines),
@@ -258,7 +258,7 @@ fn lines_of(ended: &Ended) -> Option<u64> {
     }
 }
 
-/// Whether the script, at its end after a read, has so many lines, of which the last one writes this to the messages. Where it
+/// Whether the script, at its end after a read, has so many lines, of which the last one writes this to the messages. If it
 /// writes nothing there, it is done. No read comes after that.
 fn ends_short(rt: &HostRuntime, number: u32, lines: u64, reported: &[u8]) -> Result<bool, Fail> {
     let run = run_script_over(rt, SCRIPT, (number, 0, 0), Bad::Nothing)?;
@@ -286,7 +286,7 @@ fn each_read_gives_nothing(rt: HostRuntime) -> Result<(), Fail> {
 /// Two views and a print of both, in 35 bytes.
 const PRINT_ALL: &[u8] = b"open\ta\tmerge\nopen\tb\tmerge\nprintall\n";
 
-/// Headings and texts of all views are one write together, where they are shorter than the buffer.
+/// Headings and texts of all views are one write together, if they are shorter than the buffer.
 #[test]
 fn writes_of_a_print_of_all_views(rt: HostRuntime) -> Result<(), Fail> {
     let run = run_script_over(&rt, PRINT_ALL, (0, 0, 0), Bad::Nothing)?;

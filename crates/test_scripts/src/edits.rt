@@ -2,61 +2,9 @@
 use crate::fixtures::{Example, check};
 use std::test::Fail;
 
+/// Refused edits change nothing; of the replacements the last ones are accepted.
 #[test]
-fn copies_and_columns(rt: HostRuntime) -> Result<(), Fail> {
-    let examples = [
-        // Copies go one by one.
-        Example {
-            width: 4,
-            first: b"",
-            limit: 9,
-            script: b"open\tm\tmerge\nadd\tchr1\t10\t20\ta\nadd\tchr1\t10\t20\ta\nremove\tchr1\t10\t20\ta\nprint\tm\nremove\tchr1\t10\t20\ta\nprint\tm\nremove\tchr1\t10\t20\ta\n",
-            output: b"chr1\t10\t20\n",
-            messages: b"line 8: no such record\n",
-            lines: 8,
-            refused: 1,
-            left: 0,
-        },
-        // A record is known by all its columns.
-        Example {
-            width: 3,
-            first: b"chr1\t10\t20\tn\t0\t+\n",
-            limit: 9,
-            script: b"remove\tchr1\t10\t20\tn\t0\t-\nremove\tchr1\t10\t20\tn\t00\t+\nremove\tchr1\t10\t20\tm\t0\t+\nremove\tchr1\t10\t21\tn\t0\t+\nremove\tchr2\t10\t20\tn\t0\t+\nremove\tchr1\t010\t20\tn\t0\t+\n",
-            output: b"",
-            messages: b"line 1: no such record\nline 2: no such record\nline 3: no such record\nline 4: no such record\nline 5: no such record\n",
-            lines: 6,
-            refused: 5,
-            left: 0,
-        },
-        Example {
-            width: 3,
-            first: b"chr1\t10\t20\tn\n",
-            limit: 9,
-            script: b"replace\tchr1\t10\t20\tm\tchr1\t30\t40\tm\nreplace\tchr1\t10\t20\tn\tchr1\t30\t40\tm\nremove\tchr1\t10\t20\tn\nopen\tm\tmerge\nprint\tm\n",
-            output: b"chr1\t30\t40\n",
-            messages: b"line 1: no such record\nline 3: no such record\n",
-            lines: 5,
-            refused: 2,
-            left: 1,
-        },
-        Example {
-            width: 3,
-            first: b"chr1\t10\t20\n",
-            limit: 9,
-            script: b"open\tm\tmerge\nreplace\tchr1\t10\t20\tchr2\t0\t50\nprint\tm\n",
-            output: b"chr2\t0\t50\n",
-            messages: b"",
-            lines: 3,
-            refused: 0,
-            left: 1,
-        },
-    ];
-    check(&rt, &examples)
-}
-
-#[test]
-fn refused_edits_change_nothing(rt: HostRuntime) -> Result<(), Fail> {
+fn edits_of_one_record(rt: HostRuntime) -> Result<(), Fail> {
     let examples = [
         Example {
             width: 3,
@@ -78,6 +26,17 @@ fn refused_edits_change_nothing(rt: HostRuntime) -> Result<(), Fail> {
             messages: b"line 2: no such record\nline 4: end past the sequence's end\nline 6: wrong number of columns\nline 8: wrong number of columns\nline 10: unknown sequence\nline 12: start is not a number\nline 14: wrong number of columns\n",
             lines: 17,
             refused: 7,
+            left: 1,
+        },
+        Example {
+            width: 3,
+            first: b"chr1\t10\t20\n",
+            limit: 9,
+            script: b"open\tm\tmerge\nreplace\tchr1\t10\t20\tchr2\t0\t50\nprint\tm\n",
+            output: b"chr2\t0\t50\n",
+            messages: b"",
+            lines: 3,
+            refused: 0,
             left: 1,
         },
     ];

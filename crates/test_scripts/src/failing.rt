@@ -105,7 +105,7 @@ impl Writer {
     }
 }
 
-/// The line at which a run ended for this cause, 0 where it ended otherwise.
+/// The line at which a run ended for this cause, 0 if it ended otherwise.
 fn line_of(ran: &Ran, cause: RunCause) -> u64 {
     match ran.done {
         Err(RunFault { line, cause: why }) if why == cause => line,
@@ -177,7 +177,7 @@ fn ends_at_input(
     Ok(is_there && begins(&ended, example) && is_same(&ended, &before))
 }
 
-/// Whether the example's script runs to its end where its outputs have room for all that it writes, and for no byte more.
+/// Whether the example's script runs to its end if its outputs have room for all that it writes, and for no byte more.
 fn ends_well(
     rt: &HostRuntime,
     beside: Beside<'_>,

@@ -32,7 +32,7 @@ pub(crate) const ALONE: Beside<'static> = Beside {
     bases: None,
 };
 
-/// What a FASTA file says, where there is one.
+/// What a FASTA file says, if there is one.
 fn fasta_of<A: Allocator + Copy>(
     alloc: A,
     genome: &Genome<A>,
@@ -47,7 +47,7 @@ fn fasta_of<A: Allocator + Copy>(
     }
 }
 
-/// What a second BED file says, where there is one.
+/// What a second file says, if there is one.
 fn second_of<A: Allocator + Copy>(
     alloc: A,
     genome: &Genome<A>,
@@ -65,7 +65,7 @@ fn second_of<A: Allocator + Copy>(
     Ok(Some(BedFile::parse(alloc, genome, width, limit, text)?))
 }
 
-/// A session of a BED file and what is beside it, in memory of the allocator. Where a BED file has no record, it has the width.
+/// A session of a BED file and what is beside it, in memory of the allocator. If a BED file has no record, it has the width.
 pub(crate) fn session_in<A: Allocator + Copy>(
     alloc: A,
     width: u8,
@@ -94,7 +94,7 @@ pub(crate) fn session_beside(
     session_in(rt.alloc(), width, first, beside, limit)
 }
 
-/// A session of a genome file and a BED file. Where that has no record, it has the width.
+/// A session of a genome file and a BED file. If that has no record, it has the width.
 pub(crate) fn session_of(
     rt: &HostRuntime,
     sizes: &[u8],
@@ -185,7 +185,7 @@ pub(crate) fn run(
 /// A BED file, a script over the session of it, and what the script is to write.
 #[derive(Clone, Copy)]
 pub(crate) struct Example<'a> {
-    /// The width of the file where it has no record.
+    /// The width of the file if it has no record.
     pub(crate) width: u8,
     pub(crate) first: &'a [u8],
     pub(crate) limit: u32,

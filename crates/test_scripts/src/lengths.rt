@@ -38,24 +38,3 @@ fn lengths_beside_a_second_file(rt: HostRuntime) -> Result<(), Fail> {
     };
     check_beside(&rt, beside, &examples)
 }
-
-/// A FASTA file fixes the lengths of its sequences. Records past the new end are reported first.
-#[test]
-fn lengths_beside_bases(rt: HostRuntime) -> Result<(), Fail> {
-    let examples = [Example {
-        width: 3,
-        first: b"chr2\t45\t50\n",
-        limit: 9,
-        script: b"resize\tchr2\t49\nresize\tchr2\t51\nresize\tchr2\t50\nresize\tchr1\t7\nopen\tc\tcomplement\nprint\tc\n",
-        output: b"chr1\t0\t7\nchr2\t0\t45\n",
-        messages: b"line 1: records past the new end\nline 2: length fixed by the sequence file\n",
-        lines: 6,
-        refused: 2,
-        left: 1,
-    }];
-    let beside = Beside {
-        bases: Some(b">chr2 fifty bases\nACGTNacgtRACGTNacgtR\nACGTNacgtRACGTNacgtR\nACGTNacgtR\n"),
-        ..ALONE
-    };
-    check_beside(&rt, beside, &examples)
-}

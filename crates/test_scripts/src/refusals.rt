@@ -1,4 +1,4 @@
-//! Scripts while a growth of memory is refused: one of the line that is read, or one of the session.
+//! Scripts while an allocation fails: one of the line that is read, or one of the session.
 use crate::fixtures::SIZES;
 use iv_bytes::{MemSink, MemSource};
 use iv_session::{RunCause, RunFault, ScriptLimits, Summary, run_script};
@@ -8,7 +8,7 @@ use std::alloc::Global;
 use std::test::Fail;
 use test_faults::{RefusesNth, refuse_each};
 
-/// A session without a record, of four columns; none where memory is refused.
+/// A session without a record, of four columns; none if an allocation fails.
 fn session_in(alloc: &RefusesNth<Global>) -> Option<Session<&RefusesNth<Global>>> {
     let Ok(genome) = Genome::parse(alloc, SIZES) else {
         return None;
@@ -57,7 +57,7 @@ fn left_before(line: u64) -> (u32, &'static [u8]) {
     }
 }
 
-/// Runs the long script with a growth of its lines refused. Whether the run ended for that, and as it is to.
+/// Runs the long script with an allocation of its lines refused. Whether the run ended for that, and as it is to.
 fn ends_at_line<'a>(
     rt: &HostRuntime,
     alloc: &'a RefusesNth<Global>,
@@ -95,7 +95,7 @@ fn refused_beside(
     }
 }
 
-/// The same, where that allocator grants all growths.
+/// The same, if that allocator grants all allocations.
 fn refused_line(rt: &HostRuntime, alloc: &RefusesNth<Global>, script: &[u8]) -> Result<u32, Fail> {
     let granting = RefusesNth::new(rt.alloc(), u64::MAX);
     refused_beside(rt, alloc, &granting, script)
@@ -137,7 +137,7 @@ fn refused_by(output: &[u8], messages: &[u8]) -> Result<u32, Fail> {
     Err(Fail::new("something else was written"))
 }
 
-/// Runs the short script over a session in which a growth is refused. How many lines were answered so.
+/// Runs the short script over a session in which an allocation fails. How many lines were answered so.
 fn refused_in<'a>(
     rt: &HostRuntime,
     session: &mut Session<&'a RefusesNth<Global>>,
@@ -165,7 +165,7 @@ fn refused_making(
     }
 }
 
-/// The same, where the memory of the lines is granted.
+/// The same, if the memory of the lines is granted.
 fn refused_session(rt: &HostRuntime, alloc: &RefusesNth<Global>) -> Result<u32, Fail> {
     let granting = RefusesNth::new(rt.alloc(), u64::MAX);
     refused_making(rt, alloc, &granting)

@@ -1,5 +1,5 @@
-//! Lines that are refused for other reasons than a damaged record, while the session's next growth is refused: each is answered by
-//! its own fault, and asks for no growth.
+//! Lines that are refused for other reasons than a damaged record, while the session's next allocation fails: each is answered by
+//! its own fault, and allocates nothing.
 use crate::damaged::{Memory, Refusal, are_reported, granting, written};
 use crate::fixtures::{ALONE, Beside, session_in};
 use crate::many_views::open_all;
@@ -17,7 +17,7 @@ struct Setting<'a> {
     script: &'a [u8],
 }
 
-/// Whether a script is done over a session, and then each line is answered by its fault and asks for no growth. The session keeps
+/// Whether a script is done over a session, and then each line is answered by its fault and allocates nothing. The session keeps
 /// its record.
 fn are_lines_reported<'a>(
     rt: &HostRuntime,

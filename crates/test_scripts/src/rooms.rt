@@ -78,7 +78,7 @@ const TWO_BLOCKS: &[u8] =
 /// The rows of that print.
 const TWO_ROWS: &[u8] = b"chr1\t10\t40\nchr2\t5\t9\n";
 
-/// That script over an output with this room: how much it wrote, where that is a beginning of the rows, and how it ended.
+/// That script over an output with this room: how much it wrote, if that is a beginning of the rows, and how it ended.
 fn printed_into(rt: &HostRuntime, room: usize) -> Result<(usize, Result<Summary, RunFault>), Fail> {
     let script = Script {
         text: TWO_BLOCKS,

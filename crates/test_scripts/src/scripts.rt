@@ -39,17 +39,6 @@ fn commands_and_ends_of_lines(rt: HostRuntime) -> Result<(), Fail> {
             refused: 0,
             left: 2,
         },
-        Example {
-            width: 3,
-            first: b"",
-            limit: 9,
-            script: b"",
-            output: b"",
-            messages: b"",
-            lines: 0,
-            refused: 0,
-            left: 0,
-        },
     ];
     check(&rt, &examples)
 }
@@ -57,17 +46,6 @@ fn commands_and_ends_of_lines(rt: HostRuntime) -> Result<(), Fail> {
 #[test]
 fn refused_lines(rt: HostRuntime) -> Result<(), Fail> {
     let examples = [
-        Example {
-            width: 3,
-            first: b"",
-            limit: 9,
-            script: b"open\tb\nopen\t\tmerge\nopen\t0123456789abcdef0123456789abcdef0\tmerge\nopen\tb\t\nprint\tzz\nprint\t\nprint\nadd\nadd\tchr9\tx\ty\n",
-            output: b"",
-            messages: b"line 1: no such command or wrong fields\nline 2: bad view name\nline 3: bad view name\nline 4: bad options\nline 5: no such view\nline 6: no such view\nline 7: no such command or wrong fields\nline 8: wrong number of columns\nline 9: unknown sequence\n",
-            lines: 9,
-            refused: 9,
-            left: 0,
-        },
         Example {
             width: 3,
             first: b"",

@@ -7,31 +7,17 @@ const SECOND: &[u8] = b"chr1\t20\t30\nchr1\t15\t18\nchr1\t15\t18\n";
 
 #[test]
 fn views_of_two_files(rt: HostRuntime) -> Result<(), Fail> {
-    let examples = [
-        Example {
-            width: 3,
-            first: b"chr1\t10\t20\nchr1\t30\t40\n",
-            limit: 9,
-            script: b"open\tm\tmerge\nopen\tb\tintersect -wa -wb\nopen\tc\tintersect -c\nopen\ts\tsubtract\nprintall\nadd\tchr1\t17\t22\nprint\tb\nremove\tchr1\t10\t20\nprint\tc\nprint\ts\nclose\tb\nprint\tb\n",
-            output: b"#m\nchr1\t10\t20\nchr1\t30\t40\n#b\nchr1\t10\t20\tchr1\t15\t18\nchr1\t10\t20\tchr1\t15\t18\n#c\nchr1\t10\t20\t2\nchr1\t30\t40\t0\n#s\nchr1\t10\t15\nchr1\t18\t20\nchr1\t30\t40\nchr1\t10\t20\tchr1\t15\t18\nchr1\t10\t20\tchr1\t15\t18\nchr1\t17\t22\tchr1\t15\t18\nchr1\t17\t22\tchr1\t15\t18\nchr1\t17\t22\tchr1\t20\t30\nchr1\t17\t22\t3\nchr1\t30\t40\t0\nchr1\t18\t20\nchr1\t30\t40\n",
-            messages: b"line 12: no such view\n",
-            lines: 12,
-            refused: 1,
-            left: 2,
-        },
-        // Words that ask for no view.
-        Example {
-            width: 3,
-            first: b"",
-            limit: 9,
-            script: b"open\ta\tintersect -u -v\nopen\ta\tintersect -c -wb\nopen\ta\tintersect -wa  -wa\nopen\ta\tsubtract -a\nopen\ta\tsubtract  -A \nprintall\n",
-            output: b"#a\n",
-            messages: b"line 1: bad options\nline 2: bad options\nline 3: bad options\nline 4: bad options\n",
-            lines: 6,
-            refused: 4,
-            left: 0,
-        },
-    ];
+    let examples = [Example {
+        width: 3,
+        first: b"chr1\t10\t20\nchr1\t30\t40\n",
+        limit: 9,
+        script: b"open\tm\tmerge\nopen\tb\tintersect -wa -wb\nopen\tc\tintersect -c\nopen\ts\tsubtract\nprintall\nadd\tchr1\t17\t22\nprint\tb\nremove\tchr1\t10\t20\nprint\tc\nprint\ts\nclose\tb\nprint\tb\n",
+        output: b"#m\nchr1\t10\t20\nchr1\t30\t40\n#b\nchr1\t10\t20\tchr1\t15\t18\nchr1\t10\t20\tchr1\t15\t18\n#c\nchr1\t10\t20\t2\nchr1\t30\t40\t0\n#s\nchr1\t10\t15\nchr1\t18\t20\nchr1\t30\t40\nchr1\t10\t20\tchr1\t15\t18\nchr1\t10\t20\tchr1\t15\t18\nchr1\t17\t22\tchr1\t15\t18\nchr1\t17\t22\tchr1\t15\t18\nchr1\t17\t22\tchr1\t20\t30\nchr1\t17\t22\t3\nchr1\t30\t40\t0\nchr1\t18\t20\nchr1\t30\t40\n",
+        messages: b"line 12: no such view\n",
+        lines: 12,
+        refused: 1,
+        left: 2,
+    }];
     let beside = Beside {
         second: Some(SECOND),
         ..ALONE
@@ -91,51 +77,6 @@ fn no_second_file_to_edit(rt: HostRuntime) -> Result<(), Fail> {
     check(&rt, &examples)
 }
 
-/// The files have three columns and six.
-#[test]
-fn widths_that_differ(rt: HostRuntime) -> Result<(), Fail> {
-    let examples = [Example {
-        width: 6,
-        first: b"chr1\t10\t20\tx\t7\t-\n",
-        limit: 9,
-        script: b"open\ti\tintersect\nopen\tb\tintersect -wb\nopen\ta\tintersect -wa\nopen\tab\tintersect -wa -wb\nopen\tu\tintersect -u\nopen\tv\tintersect -v\nopen\tc\tintersect -c\nprintall\n",
-        output: b"#i\nchr1\t10\t12\tx\t7\t-\nchr1\t15\t20\tx\t7\t-\n#b\nchr1\t10\t12\tx\t7\t-\tchr1\t0\t12\tz\nchr1\t15\t20\tx\t7\t-\tchr1\t15\t30\ty\n#a\nchr1\t10\t20\tx\t7\t-\nchr1\t10\t20\tx\t7\t-\n#ab\nchr1\t10\t20\tx\t7\t-\tchr1\t0\t12\tz\nchr1\t10\t20\tx\t7\t-\tchr1\t15\t30\ty\n#u\nchr1\t10\t20\tx\t7\t-\n#v\n#c\nchr1\t10\t20\tx\t7\t-\t2\n",
-        messages: b"",
-        lines: 8,
-        refused: 0,
-        left: 1,
-    }];
-    let beside = Beside {
-        second: Some(b"chr1\t15\t30\ty\nchr1\t0\t12\tz\n"),
-        ..ALONE
-    };
-    check_beside(&rt, beside, &examples)
-}
-
-/// A record of all the sequence, eleven short ones in its midst, and one on another sequence.
-const LONG: &[u8] =
-    b"chr1\t0\t100\nchr1\t11\t12\nchr1\t13\t14\nchr1\t15\t16\nchr1\t17\t18\nchr1\t19\t20\nchr1\t21\t22\nchr1\t23\t24\nchr1\t25\t26\nchr1\t27\t28\nchr1\t29\t30\nchr1\t31\t32\nchr2\t40\t45\n";
-
-#[test]
-fn record_that_begins_long_before(rt: HostRuntime) -> Result<(), Fail> {
-    let examples = [Example {
-        width: 3,
-        first: b"chr1\t5\t6\nchr1\t31\t33\nchr1\t80\t90\nchr2\t0\t40\nchr2\t44\t50\n",
-        limit: 20,
-        script: b"open\ti\tintersect\nopen\tc\tintersect -c\nopen\ts\tsubtract\nopen\ta\tsubtract -A\nprintall\n",
-        output: b"#i\nchr1\t5\t6\nchr1\t31\t33\nchr1\t31\t32\nchr1\t80\t90\nchr2\t44\t45\n#c\nchr1\t5\t6\t1\nchr1\t31\t33\t2\nchr1\t80\t90\t1\nchr2\t0\t40\t0\nchr2\t44\t50\t1\n#s\nchr2\t0\t40\nchr2\t45\t50\n#a\nchr2\t0\t40\n",
-        messages: b"",
-        lines: 5,
-        refused: 0,
-        left: 5,
-    }];
-    let beside = Beside {
-        second: Some(LONG),
-        ..ALONE
-    };
-    check_beside(&rt, beside, &examples)
-}
-
 /// A record within one that begins long before it, with another between the two starts.
 #[test]
 fn record_within_a_long_one(rt: HostRuntime) -> Result<(), Fail> {
@@ -157,27 +98,6 @@ fn record_within_a_long_one(rt: HostRuntime) -> Result<(), Fail> {
     check_beside(&rt, beside, &examples)
 }
 
-/// Each copy of a record has its rows.
-#[test]
-fn copies_of_the_first_file(rt: HostRuntime) -> Result<(), Fail> {
-    let examples = [Example {
-        width: 3,
-        first: b"chr1\t10\t20\nchr1\t10\t20\n",
-        limit: 9,
-        script: b"open\ti\tintersect\nopen\ts\tsubtract\nprintall\n",
-        output: b"#i\nchr1\t12\t14\nchr1\t12\t14\n#s\nchr1\t10\t12\nchr1\t14\t20\nchr1\t10\t12\nchr1\t14\t20\n",
-        messages: b"",
-        lines: 3,
-        refused: 0,
-        left: 2,
-    }];
-    let beside = Beside {
-        second: Some(b"chr1\t12\t14\n"),
-        ..ALONE
-    };
-    check_beside(&rt, beside, &examples)
-}
-
 /// What second files leave of one record, by its parts and as a whole.
 #[test]
 fn both_ways_of_subtract(rt: HostRuntime) -> Result<(), Fail> {
@@ -188,17 +108,7 @@ fn both_ways_of_subtract(rt: HostRuntime) -> Result<(), Fail> {
             b"#s\nchr1\t10\t12\tx\t7\t-\nchr1\t16\t20\tx\t7\t-\n#a\n".as_slice(),
         ),
         (b"chr1\t20\t30\n", whole),
-        (b"chr1\t0\t10\nchr2\t10\t20\n", whole),
         (b"chr1\t0\t100\n", b"#s\n#a\n"),
-        (
-            b"chr1\t12\t13\nchr1\t12\t13\n",
-            b"#s\nchr1\t10\t12\tx\t7\t-\nchr1\t13\t20\tx\t7\t-\n#a\n",
-        ),
-        (
-            b"chr1\t0\t15\nchr1\t11\t12\nchr1\t15\t18\n",
-            b"#s\nchr1\t18\t20\tx\t7\t-\n#a\n",
-        ),
-        (b"chr1\t0\t19\nchr1\t19\t20\n", b"#s\n#a\n"),
     ] {
         let example = Example {
             width: 6,
@@ -218,27 +128,6 @@ fn both_ways_of_subtract(rt: HostRuntime) -> Result<(), Fail> {
         check_beside(&rt, beside, &[example])?;
     }
     Ok(())
-}
-
-/// A second file without a record is one too.
-#[test]
-fn second_file_without_a_record(rt: HostRuntime) -> Result<(), Fail> {
-    let examples = [Example {
-        width: 6,
-        first: b"chr1\t10\t20\tx\t7\t-\n",
-        limit: 9,
-        script: b"open\ti\tintersect\nopen\tv\tintersect -v\nopen\ts\tsubtract -A\nprintall\n",
-        output: b"#i\n#v\nchr1\t10\t20\tx\t7\t-\n#s\nchr1\t10\t20\tx\t7\t-\n",
-        messages: b"",
-        lines: 4,
-        refused: 0,
-        left: 1,
-    }];
-    let beside = Beside {
-        second: Some(b""),
-        ..ALONE
-    };
-    check_beside(&rt, beside, &examples)
 }
 
 #[test]

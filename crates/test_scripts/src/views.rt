@@ -22,18 +22,6 @@ fn views_by_their_names(rt: HostRuntime) -> Result<(), Fail> {
             refused: 0,
             left: 1,
         },
-        // A view that was closed and opened again is the last.
-        Example {
-            width: 3,
-            first: b"chr1\t10\t20\n",
-            limit: 9,
-            script: b"open\tb\tmerge\nopen\ta\tmerge\nprintall\nclose\tb\nopen\tb\tmerge\nprintall\n",
-            output: b"#b\nchr1\t10\t20\n#a\nchr1\t10\t20\n#a\nchr1\t10\t20\n#b\nchr1\t10\t20\n",
-            messages: b"",
-            lines: 6,
-            refused: 0,
-            left: 1,
-        },
         Example {
             width: 3,
             first: b"",
@@ -49,21 +37,10 @@ fn views_by_their_names(rt: HostRuntime) -> Result<(), Fail> {
     check(&rt, &examples)
 }
 
-/// Depth in two views, one opened before the records and one after them, over a sequence of length 0 too.
+/// Depth in two views, over a sequence of length 0 too.
 #[test]
 fn depth_of_records(rt: HostRuntime) -> Result<(), Fail> {
     let examples = [
-        Example {
-            width: 3,
-            first: b"",
-            limit: 9,
-            script: b"open\tg\tgenomecov -bg\nadd\tchr1\t10\t20\nadd\tchr1\t15\t30\nadd\tchr1\t15\t30\nopen\ta\tgenomecov -bga\nprintall\nremove\tchr1\t15\t30\nreplace\tchr1\t15\t30\tchr2\t0\t50\nprintall\n",
-            output: b"#g\nchr1\t10\t15\t1\nchr1\t15\t20\t3\nchr1\t20\t30\t2\n#a\nchr1\t0\t10\t0\nchr1\t10\t15\t1\nchr1\t15\t20\t3\nchr1\t20\t30\t2\nchr1\t30\t100\t0\nchr2\t0\t50\t0\n#g\nchr1\t10\t20\t1\nchr2\t0\t50\t1\n#a\nchr1\t0\t10\t0\nchr1\t10\t20\t1\nchr1\t20\t100\t0\nchr2\t0\t50\t1\n",
-            messages: b"",
-            lines: 9,
-            refused: 0,
-            left: 2,
-        },
         // Book-ended records are one row, and what is left of them is another.
         Example {
             width: 3,
@@ -87,18 +64,6 @@ fn depth_of_records(rt: HostRuntime) -> Result<(), Fail> {
             lines: 5,
             refused: 0,
             left: 2,
-        },
-        // Copies, taken out one by one.
-        Example {
-            width: 3,
-            first: b"chr1\t10\t20\nchr1\t10\t20\n",
-            limit: 9,
-            script: b"open\tg\tgenomecov -bg\nopen\ta\tgenomecov -bga\nprint\tg\nremove\tchr1\t10\t20\nprint\tg\nremove\tchr1\t10\t20\nprintall\n",
-            output: b"chr1\t10\t20\t2\nchr1\t10\t20\t1\n#g\n#a\nchr1\t0\t100\t0\nchr2\t0\t50\t0\n",
-            messages: b"",
-            lines: 7,
-            refused: 0,
-            left: 0,
         },
     ];
     check(&rt, &examples)
@@ -219,46 +184,13 @@ fn words_of_getfasta(rt: HostRuntime) {
     }
 }
 
-/// The first fault of words of getfasta: bad words, then no strands, then no FASTA file.
-#[test]
-fn faults_of_getfasta(rt: HostRuntime) {
-    for (words, width, has_bases, want) in [
-        (
-            [b"getfasta".as_slice()].as_slice(),
-            3,
-            false,
-            ViewFault::NoFasta,
-        ),
-        (&[b"getfasta", b"-s"], 6, false, ViewFault::NoFasta),
-        (&[b"getfasta", b"-s"], 5, false, ViewFault::NoStrand),
-        (&[b"getfasta", b"-tab", b"-s"], 5, true, ViewFault::NoStrand),
-        (&[b"getfasta", b"-s", b"-s"], 5, false, ViewFault::Words),
-        (&[b"getfasta", b"-tab", b"-tab"], 3, true, ViewFault::Words),
-        (&[b"getfasta", b"-name"], 6, false, ViewFault::Words),
-    ] {
-        // A second file is no FASTA file.
-        let read = ViewWords::read(rt.alloc(), width, true, has_bases, words);
-        assert!(rt; read == Err(want));
-    }
-}
-
 #[test]
 fn words_that_ask_for_no_view(rt: HostRuntime) {
     for (words, want) in [
-        ([b"Merge".as_slice()].as_slice(), ViewFault::Words),
-        (&[b"merge", b"-s"], ViewFault::NoStrand),
-        (&[b"merge", b"-c", b"4"], ViewFault::Column),
-        (&[b"cluster", b"-s"], ViewFault::Words),
-        (&[b"genomecov"], ViewFault::Words),
-        (&[b"genomecov", b"-dz"], ViewFault::Words),
-        (&[b"genomecov", b"-bg", b"-d"], ViewFault::Words),
-        (&[b"-bg", b"genomecov"], ViewFault::Words),
-        (&[b"genomecov", b"-bg", b"-bg"], ViewFault::Words),
+        ([b"genomecov".as_slice()].as_slice(), ViewFault::Words),
         (&[b"intersect", b"-u", b"-v"], ViewFault::Words),
         (&[b"intersect", b"-c", b"-wb"], ViewFault::Words),
-        (&[b"intersect", b"-wa", b"-wa"], ViewFault::Words),
-        (&[b"subtract", b"-a"], ViewFault::Words),
-        (&[], ViewFault::Words),
+        (&[b"merge", b"-s"], ViewFault::NoStrand),
     ] {
         assert!(rt; view_of(&rt, words) == Err(want));
     }

@@ -28,7 +28,7 @@ struct Before {
     count: u32,
 }
 
-/// The row that a view has for the record at a start; `None` where it has none.
+/// The row that a view has for the record at a start; `None` if it has none.
 fn row(rt: &HostRuntime, view: View, start: u32, before: Before) -> Result<Option<String>, Fail> {
     let stop = start.saturating_add(10);
     let number = before.count.saturating_add(1);

@@ -1,9 +1,9 @@
 //! Sessions with a FASTA file: views that show the bases of records.
 use crate::around::{Around, edit_without_steps, print_around_edits};
-use crate::fixtures::{Edit, answer, holds, prints};
+use crate::fixtures::{Edit, holds};
 use crate::lengths::answers;
 use iv_fasta::Fasta;
-use iv_text::{BedFile, Genome, RecordFault};
+use iv_text::{BedFile, Genome};
 use iv_workspace::{ResizeFault, Session};
 use std::test::Fail;
 
@@ -95,21 +95,6 @@ fn bases_around_edits(rt: HostRuntime) -> Result<(), Fail> {
         &rt,
         |session| print_around_edits(&rt, session, &VIEWS, &EDITS),
     )
-}
-
-/// Opens a view, and adds a record that passes the end of its sequence, which is refused. The view prints what it printed
-/// before.
-fn check_refused_edit(rt: &HostRuntime, session: &mut Session) -> Result<(), Fail> {
-    session.open_view(b"f", &[b"getfasta", b"-tab"])?;
-    if answer(session, Edit::Add(b"s\t9\t11\tn\t0\t+")).err() != Some(RecordFault::PastEnd) {
-        return Err(Fail::new("another answer to an edit"));
-    }
-    holds(prints(rt, session, Some(b"f"), b"s:2-6\tGTNa\ns:9-10\tR\n")?)
-}
-
-#[test]
-fn bases_after_a_refused_edit(rt: HostRuntime) -> Result<(), Fail> {
-    in_session(&rt, |session| check_refused_edit(&rt, session))
 }
 
 /// Views of bases add no step to an edit.

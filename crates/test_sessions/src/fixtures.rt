@@ -17,7 +17,7 @@ pub(crate) const SIZES: &[u8] = b"chr1\t100\nchr2\t50\nchr3\t0\n";
 pub(crate) struct Files<'a> {
     pub(crate) sizes: &'a [u8],
     pub(crate) first: &'a [u8],
-    /// The second BED file.
+    /// The second file.
     pub(crate) second: Option<&'a [u8]>,
     pub(crate) width: u8,
     pub(crate) limit: u32,
@@ -34,7 +34,7 @@ pub(crate) fn alone(first: &[u8], limit: u32) -> Files<'_> {
     }
 }
 
-/// What the second BED file says, where there is one; `None` where it has a fault or memory is refused.
+/// What the second file says, if there is one; `None` if it has a fault or an allocation fails.
 fn second_of<A: Allocator + Copy>(
     alloc: A,
     genome: &Genome<A>,
@@ -55,7 +55,7 @@ fn second_of<A: Allocator + Copy>(
     }
 }
 
-/// The session of files; `None` where one has a fault or memory is refused.
+/// The session of files; `None` if one has a fault or an allocation fails.
 pub(crate) fn session_of<A: Allocator + Copy>(alloc: A, files: Files<'_>) -> Option<Session<A>> {
     let (width, limit) = (files.width, files.limit);
     if limit > 4_000_000 || width < 3 || width > 6 {

@@ -1,5 +1,5 @@
 //! Corrections of lengths, call by call.
-use crate::fixtures::{Files, alone, holds, in_session, prints};
+use crate::fixtures::{alone, holds, in_session, prints};
 use iv_workspace::{ResizeFault, Session};
 use std::test::Fail;
 
@@ -27,14 +27,17 @@ fn corrects(session: &mut Session) -> bool {
             return false;
         }
     }
-    session.is_current(b"c")
+    session.is_current(b"c") && session.is_current(b"g")
 }
 
-/// Opens a view, does all that, and prints the view.
+/// Opens two views, does all that, and prints them.
 fn check_corrections(rt: &HostRuntime, session: &mut Session) -> Result<(), Fail> {
     session.open_view(b"c", &[b"complement"])?;
-    let is_so = corrects(session) && prints(rt, session, Some(b"c"), b"chr1\t0\t10\nchr3\t0\t5\n")?;
-    holds(is_so)
+    session.open_view(b"g", &[b"genomecov", b"-bga"])?;
+    holds(corrects(session))?;
+    holds(prints(rt, session, Some(b"c"), b"chr1\t0\t10\nchr3\t0\t5\n")?)?;
+    let depth = b"chr1\t0\t10\t0\nchr1\t10\t20\t1\nchr3\t0\t5\t0\n";
+    holds(prints(rt, session, Some(b"g"), depth)?)
 }
 
 #[test]
@@ -53,23 +56,6 @@ fn fits_no_more(session: &mut Session) -> Result<bool, Fail> {
 #[test]
 fn records_read_before(rt: HostRuntime) -> Result<(), Fail> {
     in_session(&rt, alone(b"", 9), |session| holds(fits_no_more(session)?))
-}
-
-/// Corrects lengths of a session whose second file has a record that ends at 50 on the second sequence.
-fn corrects_beside(session: &mut Session) -> bool {
-    answers(session, b"chr2", 49, Some(ResizeFault::Shorter))
-        && answers(session, b"chr2", 50, None)
-        && answers(session, b"chr2", 60, None)
-        && answers(session, b"chr1", 1, None)
-}
-
-#[test]
-fn lengths_beside_a_second_file(rt: HostRuntime) -> Result<(), Fail> {
-    let files = Files {
-        second: Some(b"chr2\t40\t50\n"),
-        ..alone(b"", 9)
-    };
-    in_session(&rt, files, |session| holds(corrects_beside(session)))
 }
 
 #[test]

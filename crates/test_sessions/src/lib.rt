@@ -1,4 +1,4 @@
-//! Tests of the calls of a session: examples whose answers were worked out by hand, and growths that are refused.
+//! Tests of the calls of a session: examples whose answers were worked out by hand, and allocations that are refused.
 #![tactic(auto)]
 
 #[cfg(test)]
@@ -33,3 +33,5 @@ mod stale_views;
 mod state_refusals;
 #[cfg(test)]
 mod states;
+#[cfg(test)]
+mod two_stale;

@@ -1,4 +1,4 @@
-//! Each growth of a session's memory, refused in turn.
+//! Each allocation for a session, refused in turn.
 use crate::fixtures::{Edit as Call, Files, alone, answer, holds, session_of};
 use iv_track::{EditFault, Meter};
 use iv_workspace::Session;
@@ -56,7 +56,7 @@ fn holds_lines(session: &Session<&RefusesNth<Global>>, first: u32, count: u32) -
     rows.next(&mut meter).is_none() && session.len() == count
 }
 
-/// Adds the record of a line, or replaces it by that of another one, or removes that, unless memory is refused.
+/// Adds the record of a line, or replaces it by that of another one, or removes that, unless an allocation fails.
 fn is_done(
     session: &mut Session<&RefusesNth<Global>>,
     edit: Edit,
@@ -75,7 +75,7 @@ fn is_done(
     }
 }
 
-/// Does an edit by the records of two lines, again where memory is refused. Whether it was, which must leave the session as
+/// Does an edit by the records of two lines, again if an allocation fails. Whether one did, which must leave the session as
 /// it is: that before so many edits of the kind.
 fn is_refused(
     session: &mut Session<&RefusesNth<Global>>,
@@ -97,7 +97,7 @@ fn is_refused(
     Ok(true)
 }
 
-/// Does an edit at a start. Whether memory was refused for it.
+/// Does an edit at a start. Whether an allocation failed for it.
 fn is_refused_at(
     rt: &HostRuntime,
     session: &mut Session<&RefusesNth<Global>>,
@@ -129,7 +129,7 @@ fn refused_edits(
     Ok(refused)
 }
 
-/// The session of files, begun again where memory is refused, and how many calls met the refusal.
+/// The session of files, begun again if an allocation fails, and how many calls met the refusal.
 fn begun_again<'a>(
     alloc: &'a RefusesNth<Global>,
     files: Files<'_>,
@@ -140,7 +140,7 @@ fn begun_again<'a>(
     }
 }
 
-/// What is made of the session of files, which is begun again where memory is refused, and how many calls met the refusal.
+/// What is made of the session of files, which is begun again if an allocation fails, and how many calls met the refusal.
 pub(crate) fn in_refusing<T, F>(
     alloc: &RefusesNth<Global>,
     files: Files<'_>,
@@ -171,7 +171,7 @@ fn refused_in(
     }
 }
 
-/// Begins a session of a text, and edits it where it begins without a record. How many calls met the refusal.
+/// Begins a session of a text, and edits it if it begins without a record. How many calls met the refusal.
 fn refused_calls(rt: &HostRuntime, alloc: &RefusesNth<Global>, text: &[u8]) -> Result<u32, Fail> {
     let files = Files {
         width: 4,
@@ -182,7 +182,7 @@ fn refused_calls(rt: &HostRuntime, alloc: &RefusesNth<Global>, text: &[u8]) -> R
     Ok(begun.saturating_add(met?))
 }
 
-/// Whether some growth was refused, and none is any more after the last one.
+/// Whether some allocation was refused, and none is any more after the last one.
 fn is_refused_in_turn(rt: &HostRuntime, text: &[u8]) -> Result<bool, Fail> {
     let met = refuse_each(rt.alloc(), |alloc| refused_calls(rt, alloc, text))?;
     Ok(met > 0)
@@ -209,7 +209,7 @@ fn each_growth_of_a_file_refused(rt: HostRuntime) -> Result<(), Fail> {
     holds(is_refused_in_turn(&rt, text.as_bytes())?)
 }
 
-/// The answers of a session of no record to the first edits: an `add` and a `remove` with the first growth refused, and the
+/// The answers of a session of no record to the first edits: an `add` and a `remove` with the first allocation refused, and the
 /// `remove` with memory. Whether all is as before after each, and the view current.
 fn first_answers(
     alloc: &RefusesNth<Global>,

@@ -1,4 +1,4 @@
-//! Prints of a session whose memory may be refused.
+//! Prints of a session whose allocations may fail.
 use iv_bytes::MemSink;
 use iv_text::Fault;
 use iv_workspace::{PrintFault, Session};
@@ -6,7 +6,7 @@ use std::alloc::Global;
 use std::test::Fail;
 use test_faults::RefusesNth;
 
-/// Whether a print that wrote these bytes was refused memory, and has written nothing then; else it has to write this text.
+/// Whether a print that wrote these bytes ran out of memory, and has written nothing then; else it has to write this text.
 fn is_refused(done: Result<(), PrintFault>, bytes: &[u8], want: &[u8]) -> Result<bool, Fail> {
     match done {
         Ok(()) if bytes == want => Ok(false),
@@ -15,7 +15,7 @@ fn is_refused(done: Result<(), PrintFault>, bytes: &[u8], want: &[u8]) -> Result
     }
 }
 
-/// Prints a view, or all, into an output that has room for just this text. Whether memory was refused; then nothing is written.
+/// Prints a view, or all, into an output that has room for just this text. Whether an allocation failed; then nothing is written.
 pub(crate) fn is_print_refused(
     rt: &HostRuntime,
     session: &mut Session<&RefusesNth<Global>>,
@@ -38,8 +38,9 @@ fn is_current(session: &Session<&RefusesNth<Global>>, name: Option<&[u8]>) -> bo
     }
 }
 
-/// Prints a view, or all, with the growth of a number refused, and again if the print was. Whether it was: only a stale view needs
-/// memory, and it is stale as before then. A refused growth may be made up for at another size.
+/// Prints a view, or all, with the n-th allocation refused, and again if the print was. Whether it was, and whether there was such
+/// an allocation: only a stale view needs memory, and it is stale as before if the print was refused, else current. A refused
+/// allocation may be made up for at another size.
 pub(crate) fn is_print_refused_once(
     rt: &HostRuntime,
     alloc: &RefusesNth<Global>,
@@ -47,18 +48,21 @@ pub(crate) fn is_print_refused_once(
     name: Option<&[u8]>,
     growth: u64,
     want: &[u8],
-) -> Result<bool, Fail> {
+) -> Result<(bool, bool), Fail> {
     let was_current = is_current(session, name);
     let before = alloc.refusals();
     alloc.again(growth.max(1));
     let refused = is_print_refused(rt, session, name, want)?;
     let is_met = alloc.refusals() != before;
-    let is_current = is_current(session, name);
-    if refused && (!is_met || is_current) || is_met && was_current {
+    let is_repaired = is_current(session, name);
+    if refused && (!is_met || is_repaired) || is_met && was_current {
         return Err(Fail::new("another answer to a refused print"));
     }
     if refused && is_print_refused(rt, session, name, want)? {
         return Err(Fail::new("refused twice"));
     }
-    Ok(refused)
+    if name.is_some() && !is_current(session, name) {
+        return Err(Fail::new("stale after its print"));
+    }
+    Ok((refused, is_met))
 }

@@ -1,4 +1,4 @@
-//! Edits of a track of no record, of 15, 300 and a thousand beside open views, with each growth of the edit refused in turn.
+//! Edits of a track of no record, of 15, 300 and a thousand beside open views, with each allocation of the edit refused in turn.
 use crate::apart::{SECOND, SIZES, View, apart, text};
 use crate::fixtures::{Edit, Files, alone, answer};
 use crate::refusals::in_refusing;
@@ -10,17 +10,24 @@ use std::alloc::Global;
 use std::test::Fail;
 use test_faults::RefusesNth;
 
-/// A view that is open: its name, its words, what it prints, and which growth of a print is refused.
-type Open<'a> = (&'a [u8], &'a [&'a [u8]], View, u64);
+/// A view that is open: its name, its words, and what it prints.
+type Open<'a> = (&'a [u8], &'a [&'a [u8]], View);
 
-/// The views that are open. The first growth of a print that makes blocks anew is made up for at another size.
+/// The views that are open.
 const VIEWS: [Open<'static>; 5] = [
-    (b"m", &[b"merge"], View::Merge, 2),
-    (b"k", &[b"cluster"], View::Cluster, 1),
-    (b"c", &[b"complement"], View::Complement, 1),
-    (b"g", &[b"genomecov", b"-bg"], View::Depth, 1),
-    (b"u", &[b"intersect", b"-u"], View::Shared, 1),
+    (b"m", &[b"merge"], View::Merge),
+    (b"k", &[b"cluster"], View::Cluster),
+    (b"c", &[b"complement"], View::Complement),
+    (b"g", &[b"genomecov", b"-bg"], View::Depth),
+    (b"u", &[b"intersect", b"-u"], View::Shared),
 ];
+
+/// Which allocations are refused, counted from 1: one of the edit, and one of each print after it.
+#[derive(Clone, Copy)]
+struct Refused {
+    edit: u64,
+    print: u64,
+}
 
 /// An edit, and the starts of the records before it and after it.
 #[derive(Clone, Copy)]
@@ -30,21 +37,25 @@ struct Case<'a> {
     after: &'a [u32],
 }
 
-/// How often an edit was refused, how often it left the views of blocks or that of depth stale, and how often a print of a
-/// stale view was refused.
+/// How often an edit had an allocation to refuse and was refused, how often it left the views of blocks or that of depth stale, and
+/// how often a print of a stale view had an allocation to refuse and was refused.
 #[derive(Clone, Copy, PartialEq, Eq)]
 struct Seen {
+    met: u32,
     refused: u32,
     blocks: u32,
     depth: u32,
+    met_prints: u32,
     prints: u32,
 }
 
 /// Nothing yet.
 const NOTHING: Seen = Seen {
+    met: 0,
     refused: 0,
     blocks: 0,
     depth: 0,
+    met_prints: 0,
     prints: 0,
 };
 
@@ -52,9 +63,11 @@ impl Seen {
     /// With this added.
     fn and(self, more: Seen) -> Seen {
         Seen {
+            met: self.met.saturating_add(more.met),
             refused: self.refused.saturating_add(more.refused),
             blocks: self.blocks.saturating_add(more.blocks),
             depth: self.depth.saturating_add(more.depth),
+            met_prints: self.met_prints.saturating_add(more.met_prints),
             prints: self.prints.saturating_add(more.prints),
         }
     }
@@ -63,7 +76,7 @@ impl Seen {
 /// How many of these views are open on blocks, and how many of those are stale; whether the view of depth is stale.
 fn stale_views(session: &Session<&RefusesNth<Global>>, views: &[Open<'_>]) -> (u32, u32, bool) {
     let (mut open, mut blocks, mut depth) = (0u32, 0u32, false);
-    for (name, _, view, _) in views {
+    for (name, _, view) in views {
         let is_stale = !session.is_current(name);
         match view {
             View::Merge | View::Cluster | View::Complement => {
@@ -76,7 +89,7 @@ fn stale_views(session: &Session<&RefusesNth<Global>>, views: &[Open<'_>]) -> (u
     (open, blocks, depth)
 }
 
-/// Does the edit of a case with the growth of a number refused. Whether it was done, and what was seen. Views of the same blocks
+/// Does the edit of a case with the n-th allocation refused. Whether it was done, and what was seen. Views of the same blocks
 /// are stale together.
 fn edited(
     alloc: &RefusesNth<Global>,
@@ -85,57 +98,76 @@ fn edited(
     case: Case<'_>,
     number: u64,
 ) -> Result<(bool, Seen), Fail> {
-    let len = session.len();
     alloc.again(number.max(1));
     let done = answer(session, case.edit)?;
     let (open, blocks, depth) = stale_views(session, views);
     let stale = blocks.saturating_add(u32::from(depth));
+    let is_met = alloc.has_refused();
     let seen = Seen {
+        met: u32::from(is_met),
         refused: u32::from(done.is_err()),
         blocks: u32::from(blocks > 0),
         depth: u32::from(depth),
-        prints: 0,
+        ..NOTHING
     };
-    let is_met = alloc.has_refused();
+    let wanted = if done.is_ok() {
+        case.after
+    } else {
+        case.before
+    };
+    if usize::try_from(session.len()) != Ok(wanted.len()) {
+        return Err(Fail::new("another number of records"));
+    }
     match done {
         Ok(done) if done.stale == 0 && stale == 0 => Ok((true, seen)),
         Ok(done) if is_met && done.stale == stale && (blocks == 0 || blocks == open) => Ok((
             true, seen,
         )),
-        Err(EditFault::NoMemory) if is_met && session.len() == len && stale == 0 => Ok((
-            false, seen,
-        )),
+        Err(EditFault::NoMemory) if is_met && stale == 0 => Ok((false, seen)),
         _ => Err(Fail::new("another answer to an edit")),
     }
 }
 
-/// Prints a view, which must have the rows of the records at these starts. Whether the print was refused.
-fn is_refused_print(
+/// Prints a view with the n-th allocation refused. It must have the rows of the records at these starts.
+fn refused_print(
     rt: &HostRuntime,
     alloc: &RefusesNth<Global>,
     session: &mut Session<&RefusesNth<Global>>,
     open: Open<'_>,
     starts: &[u32],
-) -> Result<bool, Fail> {
-    let (name, _, view, growth) = open;
+    number: u64,
+) -> Result<Seen, Fail> {
+    let (name, _, view) = open;
     let want = text(rt, view, starts)?;
-    is_print_refused_once(rt, alloc, session, Some(name), growth, want.as_bytes())
+    let (is_refused, is_met) = is_print_refused_once(
+        rt,
+        alloc,
+        session,
+        Some(name),
+        number,
+        want.as_bytes(),
+    )?;
+    Ok(Seen {
+        met_prints: u32::from(is_met),
+        prints: u32::from(is_refused),
+        ..NOTHING
+    })
 }
 
-/// Prints each view, which must have the rows of the records at these starts. How many prints were refused.
+/// The same for each view. Each state that is stale is rebuilt once, so no more prints have an allocation to refuse.
 fn refused_prints(
     rt: &HostRuntime,
     alloc: &RefusesNth<Global>,
     session: &mut Session<&RefusesNth<Global>>,
     views: &[Open<'_>],
     starts: &[u32],
-) -> Result<u32, Fail> {
-    let mut refused = 0u32;
+    number: u64,
+) -> Result<Seen, Fail> {
+    let mut seen = NOTHING;
     for view in views {
-        let met = is_refused_print(rt, alloc, session, *view, starts)?;
-        refused = refused.saturating_add(u32::from(met));
+        seen = seen.and(refused_print(rt, alloc, session, *view, starts, number)?);
     }
-    Ok(refused)
+    Ok(seen)
 }
 
 /// Adds the records at these starts, one after the other.
@@ -153,26 +185,29 @@ fn add_each(
     Ok(())
 }
 
-/// Opens the views of a session, does the edit of a case with the growth of a number refused, and prints. Where the file has no
-/// record, those before the edit are added first.
+/// Opens the views of a session, does the edit of a case with an allocation refused, and prints, with one refused too. If the file
+/// has no record, those before the edit are added first.
 fn edited_and_printed(
     rt: &HostRuntime,
     alloc: &RefusesNth<Global>,
     session: &mut Session<&RefusesNth<Global>>,
     views: &[Open<'_>],
     case: Case<'_>,
-    number: u64,
+    refused: Refused,
 ) -> Result<Seen, Fail> {
-    for (name, words, _, _) in views {
+    for (name, words, _) in views {
         session.open_view(name, words)?;
     }
     if session.len() == 0 {
         add_each(rt, session, case.before)?;
     }
-    let (is_done, seen) = edited(alloc, session, views, case, number)?;
+    let (is_done, seen) = edited(alloc, session, views, case, refused.edit)?;
     let starts = if is_done { case.after } else { case.before };
-    let prints = refused_prints(rt, alloc, session, views, starts)?;
-    Ok(Seen { prints, ..seen })
+    let prints = refused_prints(rt, alloc, session, views, starts, refused.print)?;
+    if prints.met_prints > seen.blocks.saturating_add(seen.depth) {
+        return Err(Fail::new("a print without a stale state wants memory"));
+    }
+    Ok(seen.and(prints))
 }
 
 /// The same in a session of its own, of the records of a case.
@@ -182,7 +217,7 @@ fn run(
     views: &[Open<'_>],
     case: Case<'_>,
     first: &[u8],
-    number: u64,
+    refused: Refused,
 ) -> Result<Seen, Fail> {
     let files = Files {
         sizes: SIZES,
@@ -190,7 +225,7 @@ fn run(
         ..alone(first, 2000)
     };
     let (seen, _) = in_refusing(alloc, files, |session| {
-        edited_and_printed(rt, alloc, session, views, case, number)
+        edited_and_printed(rt, alloc, session, views, case, refused)
     })?;
     seen
 }
@@ -201,13 +236,33 @@ fn run_alone(
     views: &[Open<'_>],
     case: Case<'_>,
     first: &[u8],
-    number: u64,
+    refused: Refused,
 ) -> Result<Seen, Fail> {
     let alloc = RefusesNth::new(rt.alloc(), u64::MAX);
-    run(rt, &alloc, views, case, first, number)
+    run(rt, &alloc, views, case, first, refused)
 }
 
-/// Does the edit of a case with each of its growths refused in turn, until it meets none.
+/// Does the edit of a case with the n-th allocation refused, in one run for each allocation of the prints that is refused then,
+/// until no print has one.
+fn prints_in_turn(
+    rt: &HostRuntime,
+    views: &[Open<'_>],
+    case: Case<'_>,
+    first: &[u8],
+    edit: u64,
+) -> Result<Seen, Fail> {
+    let mut seen = NOTHING;
+    for print in 1..1000u64 {
+        let more = run_alone(rt, views, case, first, Refused { edit, print })?;
+        seen = seen.and(more);
+        if more.met_prints == 0 {
+            return Ok(seen);
+        }
+    }
+    Err(Fail::new("no end of growths"))
+}
+
+/// Does the edit of a case with each of its allocations refused in turn, until one run has none to refuse.
 fn run_in_turn(
     rt: &HostRuntime,
     views: &[Open<'_>],
@@ -216,8 +271,8 @@ fn run_in_turn(
 ) -> Result<Seen, Fail> {
     let mut seen = NOTHING;
     for number in 1..1000u64 {
-        let more = run_alone(rt, views, case, first, number)?;
-        if more == NOTHING {
+        let more = prints_in_turn(rt, views, case, first, number)?;
+        if more.met == 0 {
             return Ok(seen);
         }
         seen = seen.and(more);
@@ -231,7 +286,7 @@ fn refused_in_turn(rt: &HostRuntime, views: &[Open<'_>], case: Case<'_>) -> Resu
     run_in_turn(rt, views, case, first.as_bytes())
 }
 
-/// Merge, cluster and complement keep the same blocks, so one print of the three is refused where they are stale.
+/// An edit of an empty track leaves the blocks stale, or the depth, and each is refused at its print.
 #[test]
 fn first_record(rt: HostRuntime) -> Result<(), Fail> {
     let case = Case {
@@ -240,8 +295,7 @@ fn first_record(rt: HostRuntime) -> Result<(), Fail> {
         after: &[500],
     };
     let seen = refused_in_turn(&rt, &VIEWS, case)?;
-    let stale = seen.blocks.saturating_add(seen.depth);
-    assert!(rt; seen.refused > 0 && seen.blocks > 0 && seen.depth > 0 && seen.prints == stale);
+    assert!(rt; seen.refused > 0 && seen.blocks > 0 && seen.depth > 0 && seen.prints > 1);
     Ok(())
 }
 
@@ -285,7 +339,7 @@ fn thousand_records(rt: HostRuntime) -> Result<(), Fail> {
     Ok(())
 }
 
-/// What is seen at one more record, where so many were added one after the other.
+/// What is seen at one more record, if so many were added one after the other.
 fn add_after_adds(rt: &HostRuntime, count: u32) -> Result<Seen, Fail> {
     let before = apart(rt, count, None, None)?;
     let after = apart(rt, count, None, Some(500))?;

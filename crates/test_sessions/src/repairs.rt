@@ -1,11 +1,14 @@
 //! Steps of edits beside open views, with ample memory, so that no view becomes stale.
-use crate::apart::SIZES;
+use crate::apart::{SECOND, SIZES};
 use crate::fixtures::{Edit, Files, alone, answer, holds, in_session, prints};
 use iv_workspace::Session;
 use std::test::Fail;
 
-/// The views that are open: the name and the words of each.
-const VIEWS: [(&[u8], &[&[u8]]); 5] = [
+/// A view that is open: its name and its words.
+type Open<'a> = (&'a [u8], &'a [&'a [u8]]);
+
+/// Views of two distances.
+const VIEWS: [Open<'static>; 5] = [
     (b"m", &[b"merge"]),
     (b"d", &[b"merge", b"-d", b"100"]),
     (b"k", &[b"cluster"]),
@@ -13,32 +16,49 @@ const VIEWS: [(&[u8], &[&[u8]]); 5] = [
     (b"g", &[b"genomecov", b"-bg"]),
 ];
 
-/// The most steps of an edit beside these views: 8 of the track, 8 of the depth, and for the blocks of each of the two
-/// distances, which are kept once, 16 and 8 more for each record around the edit.
-fn most_steps(around: u32) -> u64 {
-    8 + 8 + 2 * (16 + 8 * u64::from(around))
+/// Views of one distance, and one that is written beside the second file.
+const BESIDE: [Open<'static>; 5] = [
+    (b"m", &[b"merge"]),
+    (b"c", &[b"complement"]),
+    (b"k", &[b"cluster"]),
+    (b"g", &[b"genomecov", b"-bg"]),
+    (b"u", &[b"intersect", b"-u"]),
+];
+
+/// The most steps of an edit beside views: 8 of the track, 8 of the depth, and for the blocks of each distance, which are kept
+/// once, 16 and 8 more for each record around the edit.
+fn most_steps(distances: u64, around: u32) -> u64 {
+    distances
+        .saturating_mul(16 + 8 * u64::from(around))
+        .saturating_add(8 + 8)
 }
 
-/// A BED file over one sequence of a million bases.
+/// A BED file over one sequence of a million bases, and a second file of one record.
 fn files_of(text: &[u8]) -> Files<'_> {
     Files {
         sizes: SIZES,
+        second: Some(SECOND),
         ..alone(text, 2000)
     }
 }
 
-/// Opens the views.
-fn open_views(session: &mut Session) -> Result<(), Fail> {
-    for (name, words) in VIEWS {
+/// Opens views.
+fn open_views(session: &mut Session, views: &[Open<'_>]) -> Result<(), Fail> {
+    for (name, words) in views {
         session.open_view(name, words)?;
     }
     Ok(())
 }
 
 /// Whether an edit takes at most this number of steps and leaves all views current.
-fn repairs_within(session: &mut Session, edit: Edit<'_>, most: u64) -> Result<bool, Fail> {
+fn repairs_within(
+    session: &mut Session,
+    views: &[Open<'_>],
+    edit: Edit<'_>,
+    most: u64,
+) -> Result<bool, Fail> {
     let done = answer(session, edit)??;
-    for (name, _) in VIEWS {
+    for (name, _) in views {
         if !session.is_current(name) {
             return Ok(false);
         }
@@ -61,10 +81,15 @@ fn print_as(
 }
 
 /// Opens the views and does edits, each of which takes at most this number of steps and leaves all views current.
-fn repair_within(session: &mut Session, edits: &[Edit<'_>], most: u64) -> Result<(), Fail> {
-    open_views(session)?;
+fn repair_within(
+    session: &mut Session,
+    views: &[Open<'_>],
+    edits: &[Edit<'_>],
+    most: u64,
+) -> Result<(), Fail> {
+    open_views(session, views)?;
     for edit in edits {
-        holds(repairs_within(session, *edit, most)?)?;
+        holds(repairs_within(session, views, *edit, most)?)?;
     }
     Ok(())
 }
@@ -77,7 +102,7 @@ fn repair_to(
     most: u64,
     texts: &[(&[u8], &[u8])],
 ) -> Result<(), Fail> {
-    repair_within(session, edits, most)?;
+    repair_within(session, &VIEWS, edits, most)?;
     holds(print_as(rt, session, texts)?)
 }
 
@@ -95,7 +120,7 @@ fn removal_that_splits_a_block(rt: HostRuntime) -> Result<(), Fail> {
     in_session(
         &rt,
         files,
-        |session| repair_to(&rt, session, &edits, most_steps(3), &texts),
+        |session| repair_to(&rt, session, &edits, most_steps(2, 3), &texts),
     )
 }
 
@@ -133,11 +158,14 @@ where
 #[test]
 fn edits_of_a_thousand_records(rt: HostRuntime) -> Result<(), Fail> {
     let edits = [Edit::Add(b"big\t500\t510"), Edit::Remove(b"big\t0\t10")];
-    in_a_thousand(
-        &rt,
-        1000,
-        |session| repair_within(session, &edits, most_steps(1)),
-    )
+    for (views, distances) in [(&VIEWS, 2), (&BESIDE, 1)] {
+        in_a_thousand(
+            &rt,
+            1000,
+            |session| repair_within(session, views, &edits, most_steps(distances, 1)),
+        )?;
+    }
+    Ok(())
 }
 
 /// A thousand copies of one record; one more, and two less: the blocks stay, the depth changes.
@@ -151,13 +179,13 @@ fn edits_of_a_thousand_copies(rt: HostRuntime) -> Result<(), Fail> {
         (b"g", b"big\t0\t10\t999\n"),
     ];
     in_a_thousand(&rt, 0, |session| {
-        repair_to(&rt, session, &edits, most_steps(1001), &texts)
+        repair_to(&rt, session, &edits, most_steps(2, 1001), &texts)
     })
 }
 
 /// Opens the views, closes all but those of these names, and gives the steps of an edit beside them.
 fn steps_of(session: &mut Session, names: &[&[u8]]) -> Result<u64, Fail> {
-    open_views(session)?;
+    open_views(session, &VIEWS)?;
     for (name, _) in VIEWS {
         if !names.contains(&name) {
             session.close_view(name)?;
@@ -199,7 +227,7 @@ fn edit_without(
 
 /// Opens the views, and closes some one after another, with an edit after each. Those that are left print their texts.
 fn close_in_turn(rt: &HostRuntime, session: &mut Session) -> Result<(), Fail> {
-    open_views(session)?;
+    open_views(session, &VIEWS)?;
     let texts: [(&[u8], &[u8]); 2] = [
         (b"k", b"big\t0\t100\t1\nbig\t200\t300\t2\n"),
         (b"c", b"big\t100\t200\nbig\t300\t1000000\n"),
@@ -219,5 +247,27 @@ fn views_that_are_closed(rt: HostRuntime) -> Result<(), Fail> {
         &rt,
         files_of(b"big\t0\t100\n"),
         |session| close_in_turn(&rt, session),
+    )
+}
+
+/// Adds a record without a strand beside a view of strands, which takes no steps but those of the edit and of its place.
+fn add_without_a_strand(rt: &HostRuntime, session: &mut Session) -> Result<(), Fail> {
+    let views: [Open<'_>; 1] = [(b"s", &[b"merge", b"-s"])];
+    repair_within(
+        session,
+        &views,
+        &[Edit::Add(b"big\t15\t30\tb\t0\t.")],
+        8 + 16,
+    )?;
+    holds(prints(rt, session, Some(b"s"), b"big\t10\t20\n")?)
+}
+
+/// It stands in no block.
+#[test]
+fn record_without_a_strand(rt: HostRuntime) -> Result<(), Fail> {
+    in_session(
+        &rt,
+        files_of(b"big\t10\t20\ta\t0\t+\n"),
+        |session| add_without_a_strand(&rt, session),
     )
 }

@@ -1,6 +1,6 @@
 //! Sessions beside a second file: views that are written from the records of both.
 use crate::around::{Around, edit_without_steps, print_around_edits};
-use crate::fixtures::{Edit, Files, alone, answer_beside, holds, in_session, prints};
+use crate::fixtures::{Edit, Files, alone, answer_beside, holds, in_session};
 use iv_track::EditFault;
 use iv_workspace::{SecondFault, Session};
 use std::test::Fail;
@@ -117,35 +117,6 @@ fn edits_beside_written_views(rt: HostRuntime) -> Result<(), Fail> {
     in_session(&rt, beside(FIRST, SECOND), |session| {
         edit_without_steps(session, views, &EDITS)
     })
-}
-
-/// Prints views of a record of six columns beside records of three.
-fn check_two_widths(rt: &HostRuntime, session: &mut Session) -> Result<(), Fail> {
-    for (name, words, want) in [
-        (
-            b"s".as_slice(),
-            [b"subtract".as_slice()].as_slice(),
-            b"chr1\t10\t12\tx\t7\t-\nchr1\t16\t20\tx\t7\t-\n".as_slice(),
-        ),
-        (b"a", &[b"subtract", b"-A"], b""),
-        (
-            b"b",
-            &[b"intersect", b"-wb"],
-            b"chr1\t12\t14\tx\t7\t-\tchr1\t12\t14\nchr1\t13\t16\tx\t7\t-\tchr1\t13\t16\n",
-        ),
-    ] {
-        session.open_view(name, words)?;
-        if !prints(rt, session, Some(name), want)? {
-            return Err(Fail::new("another print"));
-        }
-    }
-    Ok(())
-}
-
-#[test]
-fn files_of_two_widths(rt: HostRuntime) -> Result<(), Fail> {
-    let files = beside(b"chr1\t10\t20\tx\t7\t-\n", b"chr1\t12\t14\nchr1\t13\t16\n");
-    in_session(&rt, files, |session| check_two_widths(&rt, session))
 }
 
 /// Edits of a second file of two records, of which it may have two, and why each is refused.

@@ -1,4 +1,4 @@
-//! Edits of a second file beside open views, while each growth of memory is refused in turn.
+//! Edits of a second file beside open views, while each allocation fails in turn.
 use crate::fixtures::{Edit, Files, alone, answer_beside};
 use crate::refusals::in_refusing;
 use iv_bytes::MemSink;
@@ -27,7 +27,7 @@ fn line(rt: &HostRuntime, start: u32) -> Result<String, Fail> {
     Ok(format!(in rt.alloc(); "chr1\t{start}\t{stop}\tname")?)
 }
 
-/// Opens the views, each again where memory is refused. How often it was.
+/// Opens the views, each again if an allocation fails. How often one did.
 fn refused_openings(session: &mut Session<&RefusesNth<Global>>) -> Result<u32, Fail> {
     let mut refused = 0u32;
     for (name, words) in VIEWS {
@@ -71,7 +71,7 @@ fn prints_all(
     Ok(sink.bytes() == want)
 }
 
-/// Does an edit. Whether memory was refused for it.
+/// Does an edit. Whether an allocation failed for it.
 fn is_refused(session: &mut Session<&RefusesNth<Global>>, edit: Edit<'_>) -> Result<bool, Fail> {
     match answer_beside(session, edit)? {
         Ok(_) => Ok(false),
@@ -80,8 +80,8 @@ fn is_refused(session: &mut Session<&RefusesNth<Global>>, edit: Edit<'_>) -> Res
     }
 }
 
-/// Does an edit where all views print this, again where memory is refused, which must leave all prints as they were. How often
-/// it was.
+/// Does an edit while all views print this, again if an allocation fails, which must leave all prints as they were. How often
+/// one did.
 fn refused_from(
     rt: &HostRuntime,
     session: &mut Session<&RefusesNth<Global>>,
@@ -118,8 +118,8 @@ enum Kind {
     Remove,
 }
 
-/// Does an edit at a start: adds the record there, or replaces it by one at a later start, or takes that out. How often memory
-/// was refused.
+/// Does an edit at a start: adds the record there, or replaces it by one at a later start, or takes that out. How often an
+/// allocation failed.
 fn refused_at(
     rt: &HostRuntime,
     session: &mut Session<&RefusesNth<Global>>,
@@ -136,7 +136,7 @@ fn refused_at(
     refused_edit(rt, session, edit)
 }
 
-/// Does each edit at each start. How often memory was refused.
+/// Does each edit at each start. How often an allocation failed.
 fn refused_edits(
     rt: &HostRuntime,
     session: &mut Session<&RefusesNth<Global>>,

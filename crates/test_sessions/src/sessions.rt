@@ -99,34 +99,6 @@ fn session_of_a_file(rt: HostRuntime) -> Result<(), Fail> {
     })
 }
 
-/// The fault of an opening in a session without views.
-fn fault_of_opening(rt: &HostRuntime, name: &[u8], word: &[u8]) -> Result<Option<ViewFault>, Fail> {
-    in_session(
-        rt,
-        alone(b"", 2),
-        |session| Ok(session.open_view(name, &[word]).err()),
-    )
-}
-
-#[test]
-fn names_of_views(rt: HostRuntime) -> Result<(), Fail> {
-    for (name, word, want) in [
-        (b"m".as_slice(), b"merge".as_slice(), None),
-        (b"!0123456789abcdef0123456789abcd~", b"merge", None),
-        (b"", b"merge", Some(ViewFault::BadName)),
-        (
-            b"0123456789abcdef0123456789abcdef0",
-            b"merge",
-            Some(ViewFault::BadName),
-        ),
-        (b"a b", b"merge", Some(ViewFault::BadName)),
-        (b"m", b"paint", Some(ViewFault::Words)),
-    ] {
-        assert!(rt; fault_of_opening(&rt, name, word)? == want);
-    }
-    Ok(())
-}
-
 /// A file of three records.
 const THREE: &[u8] = b"chr1\t31\t40\nchr1\t20\t30\nchr1\t10\t20\n";
 

@@ -1,4 +1,4 @@
-//! Open views, while each growth of memory is refused in turn.
+//! Open views, while each allocation fails in turn.
 use crate::around::{Around, all_texts};
 use crate::fixtures::{Edit, Files, alone, answer};
 use crate::refusals::in_refusing;
@@ -80,7 +80,7 @@ fn count_stale(session: &Session<&RefusesNth<Global>>) -> u32 {
     count
 }
 
-/// Opens a view, whether or not memory is refused; then it isn't open. Whether it was refused.
+/// Opens a view, whether or not an allocation fails; then it isn't open. Whether one failed.
 fn is_opening_refused(
     session: &mut Session<&RefusesNth<Global>>,
     name: &[u8],
@@ -94,7 +94,7 @@ fn is_opening_refused(
     }
 }
 
-/// Does an edit, and gives how many views are stale after it; `None` where memory is refused, and all is as before.
+/// Does an edit, and gives how many views are stale after it; `None` if an allocation fails, and all is as before.
 fn stale_after(
     session: &mut Session<&RefusesNth<Global>>,
     edit: Edit<'_>,
@@ -109,7 +109,7 @@ fn stale_after(
     }
 }
 
-/// Opens each view and prints it, each again where memory is refused. How often it was.
+/// Opens each view and prints it, each again if an allocation fails. How often one did.
 fn refused_openings(
     rt: &HostRuntime,
     session: &mut Session<&RefusesNth<Global>>,
@@ -129,7 +129,7 @@ fn refused_openings(
     Ok(refused)
 }
 
-/// Does each edit, again where memory is refused. How often it was, and the most views that were stale.
+/// Does each edit, again if an allocation fails. How often one did, and the most views that were stale.
 fn refused_edits(session: &mut Session<&RefusesNth<Global>>) -> Result<(u32, u32), Fail> {
     let mut refused = 0u32;
     let mut most = 0u32;
@@ -146,36 +146,53 @@ fn refused_edits(session: &mut Session<&RefusesNth<Global>>) -> Result<(u32, u32
     Ok((refused, most))
 }
 
-/// Prints all views at once, with a growth refused. Whether the print met the refusal.
+/// Prints all views at once, with the n-th allocation refused. Whether the print was, and whether there was such an allocation.
 fn is_refused_at_once(
     rt: &HostRuntime,
     alloc: &RefusesNth<Global>,
     session: &mut Session<&RefusesNth<Global>>,
-) -> Result<bool, Fail> {
+    number: u64,
+) -> Result<(bool, bool), Fail> {
     let all = all_texts(rt, &VIEWS, true)?;
-    is_print_refused_once(rt, alloc, session, None, 1, all.as_slice())
+    is_print_refused_once(rt, alloc, session, None, number, all.as_slice())
 }
 
-/// Prints all views at once, if that is asked for, and then each by itself, with a growth of each print refused. How many
-/// prints met the refusal.
+/// Prints all views at once, if that is asked for, and then each by itself, with the n-th allocation of each print refused. How many
+/// prints were, and how many had such an allocation.
 fn refused_prints(
     rt: &HostRuntime,
     alloc: &RefusesNth<Global>,
     session: &mut Session<&RefusesNth<Global>>,
-    at_once: bool,
-) -> Result<u32, Fail> {
-    let mut refused = 0u32;
-    if at_once {
-        refused = u32::from(is_refused_at_once(rt, alloc, session)?);
+    prints: Prints,
+) -> Result<(u32, u32), Fail> {
+    let (mut refused, mut met) = (0u32, 0u32);
+    if prints.at_once {
+        let (is_refused, is_met) = is_refused_at_once(rt, alloc, session, prints.number)?;
+        (refused, met) = (u32::from(is_refused), u32::from(is_met));
     }
     for (name, _, _, text) in VIEWS {
-        let met = is_print_refused_once(rt, alloc, session, Some(name), 1, text)?;
-        refused = refused.saturating_add(u32::from(met));
+        let (is_refused, is_met) = is_print_refused_once(
+            rt,
+            alloc,
+            session,
+            Some(name),
+            prints.number,
+            text,
+        )?;
+        refused = refused.saturating_add(u32::from(is_refused));
+        met = met.saturating_add(u32::from(is_met));
     }
     if count_stale(session) > 0 {
         return Err(Fail::new("stale after its print"));
     }
-    Ok(refused)
+    Ok((refused, met))
+}
+
+/// The prints of a run: whether all are printed at once first, and which allocation of each print is refused.
+#[derive(Clone, Copy)]
+struct Prints {
+    at_once: bool,
+    number: u64,
 }
 
 /// What a run met.
@@ -185,9 +202,10 @@ struct Met {
     calls: u32,
     /// The most views that were stale after an edit.
     stale: u32,
-    /// How many prints were refused.
+    /// How many prints were refused, and how many had an allocation to refuse.
     prints: u32,
-    /// Whether the growth to be refused came before the prints.
+    met_prints: u32,
+    /// Whether the allocation to be refused came before the prints.
     is_spent: bool,
 }
 
@@ -196,28 +214,33 @@ fn refused_work(
     rt: &HostRuntime,
     alloc: &RefusesNth<Global>,
     session: &mut Session<&RefusesNth<Global>>,
-    at_once: bool,
+    prints: Prints,
 ) -> Result<Met, Fail> {
     let opened = refused_openings(rt, session)?;
     let (edited, stale) = refused_edits(session)?;
     let is_spent = alloc.has_refused();
-    let prints = refused_prints(rt, alloc, session, at_once)?;
+    let (prints, met_prints) = refused_prints(rt, alloc, session, prints)?;
     Ok(Met {
         calls: opened.saturating_add(edited),
         stale,
         prints,
+        met_prints,
         is_spent,
     })
 }
 
 /// All that is done to a session, from its making on.
-fn refused_calls(rt: &HostRuntime, alloc: &RefusesNth<Global>, at_once: bool) -> Result<Met, Fail> {
+fn refused_calls(
+    rt: &HostRuntime,
+    alloc: &RefusesNth<Global>,
+    prints: Prints,
+) -> Result<Met, Fail> {
     let files = Files {
         second: Some(SECOND),
         ..alone(FIRST, LIMIT)
     };
     let (met, begun) = in_refusing(alloc, files, |session| {
-        refused_work(rt, alloc, session, at_once)
+        refused_work(rt, alloc, session, prints)
     })?;
     let met = met?;
     Ok(Met {
@@ -227,43 +250,56 @@ fn refused_calls(rt: &HostRuntime, alloc: &RefusesNth<Global>, at_once: bool) ->
 }
 
 impl Met {
-    /// How many growths were refused, as far as the answers show.
+    /// How many allocations were refused, as far as the answers show.
     fn growths(self) -> u32 {
         let stale = u32::from(self.stale > 0);
         self.calls.saturating_add(stale).saturating_add(self.prints)
     }
 
-    /// Whether a run met what it may: up to the prints one growth was refused, if any, which is the answer of one call, or
-    /// leaves views stale, or is made up for at another size; and then just the prints of stale views are refused.
-    fn is_sound(self) -> bool {
+    /// Whether a run met what it may: up to the prints one allocation was refused, if any, which is the answer of one call, or
+    /// leaves views stale, or is made up for at another size; and then just the prints of stale views have allocations.
+    fn is_sound(self, prints: Prints) -> bool {
         let answers = self.calls.saturating_add(u32::from(self.stale > 0));
-        answers <= u32::from(self.is_spent) && (self.prints > 0) == (self.stale > 0)
+        let has_met = self.met_prints > 0;
+        answers <= u32::from(self.is_spent)
+            && (has_met == (self.stale > 0) || prints.number > 1 && !has_met)
     }
 }
 
-/// Refuses each growth in turn, until none is refused any more. How many growths were, and the most views that were stale.
-fn refused_in_turn(rt: &HostRuntime, at_once: bool) -> Result<(u32, u32), Fail> {
-    let most = Cell::new(0u32);
+/// Refuses each allocation up to the prints in turn, until none is refused any more. Whether views were stale, one at most, and a
+/// print had an allocation to refuse.
+fn refused_in_turn(rt: &HostRuntime, prints: Prints) -> Result<bool, Fail> {
+    let (most, has_met) = (Cell::new(0u32), Cell::new(false));
     let refused = refuse_each(rt.alloc(), |alloc| {
-        let met = refused_calls(rt, alloc, at_once)?;
+        let met = refused_calls(rt, alloc, prints)?;
         most.set(most.get().max(met.stale));
-        if met.is_sound() {
+        has_met.set(has_met.get() || met.met_prints > 0);
+        if met.is_sound(prints) {
             Ok(met.growths())
         } else {
             Err(Fail::new("more was refused than the one growth"))
         }
     })?;
-    Ok((refused, most.get()))
+    if refused == 0 || most.get() != 1 {
+        return Err(Fail::new("no view was stale, or more than one"));
+    }
+    Ok(has_met.get())
+}
+
+/// How many allocations of prints are refused in turn, until there is none.
+fn refused_print_growths(rt: &HostRuntime, at_once: bool) -> Result<u64, Fail> {
+    for number in 1..1000u64 {
+        if !refused_in_turn(rt, Prints { at_once, number })? {
+            return Ok(number - 1);
+        }
+    }
+    Err(Fail::new("no end of growths"))
 }
 
 #[test]
 fn views_under_refused_growths(rt: HostRuntime) -> Result<(), Fail> {
     for at_once in [false, true] {
-        let (refused, stale) = refused_in_turn(&rt, at_once)?;
-        assert!(rt;
-            refused > 0 && stale == 1,
-            "{refused} refused, {stale} stale"
-        );
+        assert!(rt; refused_print_growths(&rt, at_once)? > 1);
     }
     Ok(())
 }

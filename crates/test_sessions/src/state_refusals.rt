@@ -1,4 +1,4 @@
-//! Growths of what is kept for views, each refused in turn while it is built or repaired.
+//! Allocations of what is kept for views, each refused in turn while it is built or repaired.
 ghost use Rattle.std.specs.Prelude.{◌≡◌};
 ghost use Rattle.iv_text.specs.Named.{names_of};
 ghost use Rattle.iv_view.specs.KeptStates.{built_for, state_key, IsRight};
@@ -23,14 +23,14 @@ struct Case<'a> {
     most: u64,
 }
 
-/// What is refused: a growth of the build, or of the repair after the edit.
+/// What is refused: an allocation of the build, or of the repair after the edit.
 #[derive(Clone, Copy)]
 struct Refused {
     is_build: bool,
     number: u64,
 }
 
-/// Whether what is built for the view of a case prints its text after the edit. Memory is at hand.
+/// Whether what is built for the view of a case prints its text after the edit. Memory is available.
 fn is_built_anew<'a>(
     rt: &HostRuntime,
     alloc: Refusing<'a>,
@@ -41,7 +41,7 @@ fn is_built_anew<'a>(
     prints(rt, session, case.view, &state, case.after, case.most)
 }
 
-/// Whether a growth was met, where what came of it is right.
+/// Whether the allocation was met, and what came of it is right.
 fn met_and_right(is_met: bool, is_right: bool) -> Result<bool, Fail> {
     if is_right {
         Ok(is_met)
@@ -50,8 +50,8 @@ fn met_and_right(is_met: bool, is_right: bool) -> Result<bool, Fail> {
     }
 }
 
-/// Does the edit of a case in a session and beside it, with the growth of a number refused in the repair. Whether the growth
-/// was met; after a refusal what is kept is built anew, and either way it prints the rows of the records.
+/// Does the edit of a case in a session and beside it, with the n-th allocation refused in the repair. Whether the allocation
+/// was met; after a refusal what is kept is rebuilt, and either way it prints the rows of the records.
 fn is_edit_refused<'a>(
     rt: &HostRuntime,
     alloc: Refusing<'a>,
@@ -90,7 +90,7 @@ fn is_repair_refused<'a>(
     is_edit_refused(rt, alloc, session, &mut state, case, number)
 }
 
-/// Looks at what was built of the records of a case while a growth was to be refused. Whether that was met; what is built prints
+/// Looks at what was built of the records of a case while an allocation was to fail. Whether that was met; what is built prints
 /// the rows of the records.
 fn is_met_by<'a>(
     rt: &HostRuntime,
@@ -110,7 +110,7 @@ fn is_met_by<'a>(
     )
 }
 
-/// Builds what is kept of the records of a case with the growth of a number refused. Whether that was met.
+/// Builds what is kept of the records of a case with the n-th allocation refused. Whether that was met.
 fn is_build_refused<'a>(
     rt: &HostRuntime,
     alloc: Refusing<'a>,
@@ -125,7 +125,7 @@ fn is_build_refused<'a>(
     }
 }
 
-/// Whether a growth is met over a session.
+/// Whether an allocation is met over a session.
 fn is_met_over<'a>(
     rt: &HostRuntime,
     alloc: Refusing<'a>,
@@ -140,7 +140,7 @@ fn is_met_over<'a>(
     }
 }
 
-/// Whether a growth is met over the session of a file.
+/// Whether an allocation is met over the session of a file.
 fn is_met(
     rt: &HostRuntime,
     alloc: &RefusesNth<Global>,
@@ -167,32 +167,23 @@ fn is_met_alone(
     is_met(rt, &alloc, first, case, refused)
 }
 
-/// How many growths the build or the repair of a case has that are refused, each of a step in turn.
-fn growths(
-    rt: &HostRuntime,
-    first: &[u8],
-    case: Case<'_>,
-    is_build: bool,
-    step: u64,
-) -> Result<u64, Fail> {
-    let mut number = 1u64;
-    for count in 0..1000u64 {
+/// How many allocations the build or the repair of a case has, each of which is refused in turn.
+fn growths(rt: &HostRuntime, first: &[u8], case: Case<'_>, is_build: bool) -> Result<u64, Fail> {
+    for number in 1..10_000u64 {
         if !is_met_alone(rt, first, case, Refused { is_build, number })? {
-            return Ok(count);
+            return Ok(number - 1);
         }
-        number = number.saturating_add(step);
     }
     Err(Fail::new("no end of growths"))
 }
 
-/// How many growths there are in the build, the addition and the removal for a view, between records without one and with it.
+/// How many allocations there are in the build, the addition and the removal for a view, between records without one and with it.
 fn growths_between(
     rt: &HostRuntime,
     view: KeptView,
     less: &Texts,
     more: &Texts,
     most: u64,
-    step: u64,
 ) -> Result<[u64; 3], Fail> {
     let add = Case {
         view,
@@ -208,22 +199,19 @@ fn growths_between(
         ..add
     };
     Ok([
-        growths(rt, less.file.as_bytes(), add, true, step)?,
-        growths(rt, less.file.as_bytes(), add, false, 1)?,
-        growths(rt, more.file.as_bytes(), remove, false, 1)?,
+        growths(rt, less.file.as_bytes(), add, true)?,
+        growths(rt, less.file.as_bytes(), add, false)?,
+        growths(rt, more.file.as_bytes(), remove, false)?,
     ])
 }
 
-/// How many growths there are in the build, the addition and the removal of a kind for so many records.
+/// How many allocations there are in the build, the addition and the removal of a kind for so many records.
 fn growths_of(rt: &HostRuntime, kind: Kind, count: u32) -> Result<[u64; 3], Fail> {
     let view = view_of(rt, kind.words())?;
     let most = kind.most_steps(count.saturating_add(1));
-    // Hundreds of blocks with results have thousands of growths.
-    let has_many = matches!(kind, Kind::Results) && count > 100;
-    let step = if has_many { 53 } else { 1 };
     let less = Texts::of(rt, kind, count, false)?;
     let more = Texts::of(rt, kind, count, true)?;
-    growths_between(rt, view, &less, &more, most, step)
+    growths_between(rt, view, &less, &more, most)
 }
 
 /// A first record grows what is kept. The removal of a record that is apart from all others takes no memory.

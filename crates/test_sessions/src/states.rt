@@ -18,11 +18,16 @@ use std::alloc::{AllocError, Allocator, Global};
 use std::test::Fail;
 use test_faults::{RefusesNth, words_of};
 
-/// The memory of a session and of what is kept in it: the growth of a number may be refused.
+/// The memory of a session and of what is kept in it: the n-th allocation may be refused.
 pub(crate) type Refusing<'a> = &'a RefusesNth<Global>;
 
-/// How many steps the repair of the depth takes at most, and that of blocks with one record each around the edit.
-const MOST_STEPS: u64 = 24;
+/// How many steps a repair takes at most: that of blocks with one record each around the edit.
+fn most_steps<A: Allocator + Copy>(state: &KeptState<A>) -> u64 {
+    match state {
+        KeptState::Depth(_) => 8,
+        KeptState::Blocks(_) => 24,
+    }
+}
 
 /// A view of which something is kept.
 fn kept(view: View) -> Result<KeptView, Fail> {
@@ -81,7 +86,7 @@ pub(crate) fn prints<A: Allocator + Copy>(
     Ok(done.is_ok() && sink.bytes() == want && meter.steps() <= most)
 }
 
-/// Repairs what is kept after a record was added, which takes few steps. Whether it was done; else memory was refused.
+/// Repairs what is kept after a record was added, which takes few steps. Whether it was done; else an allocation failed.
 fn is_added<A: Allocator + Copy>(
     session: &Session<A>,
     state: &mut KeptState<A>,
@@ -92,15 +97,16 @@ fn is_added<A: Allocator + Copy>(
     ensures built { IfOk result (λ done. done ≡ true → built_for state.new ≡ built_for state.old) }
     ensures right { IfOk result (λ done. done ≡ true → IsRight state.new (names_of session.now.genome) session.now.track.rows) }
 {
+    let most = most_steps(state);
     let mut meter = Meter::new();
     let done = state.added(session.track(), session.genome(), row, &mut meter);
-    if meter.steps() > MOST_STEPS {
+    if meter.steps() > most {
         return Err(Fail::new("too many steps"));
     }
     Ok(done.is_ok())
 }
 
-/// Repairs what is kept after a record was taken out, which takes few steps. Whether it was done; else memory was refused.
+/// Repairs what is kept after a record was taken out, which takes few steps. Whether it was done; else an allocation failed.
 fn is_removed<A: Allocator + Copy>(
     session: &Session<A>,
     state: &mut KeptState<A>,
@@ -111,15 +117,16 @@ fn is_removed<A: Allocator + Copy>(
     ensures built { IfOk result (λ done. done ≡ true → built_for state.new ≡ built_for state.old) }
     ensures right { IfOk result (λ done. done ≡ true → IsRight state.new (names_of session.now.genome) session.now.track.rows) }
 {
+    let most = most_steps(state);
     let mut meter = Meter::new();
     let done = state.removed(session.track(), session.genome(), row, &mut meter);
-    if meter.steps() > MOST_STEPS {
+    if meter.steps() > most {
         return Err(Fail::new("too many steps"));
     }
     Ok(done.is_ok())
 }
 
-/// Adds the record of a line to a session, and then to what is kept, with the growth of a number refused from there on. Whether
+/// Adds the record of a line to a session, and then to what is kept, with the n-th allocation refused from there on. Whether
 /// that was done.
 pub(crate) fn is_added_beside<'a>(
     alloc: Refusing<'a>,
@@ -138,7 +145,7 @@ pub(crate) fn is_added_beside<'a>(
     is_added(session, state, &row)
 }
 
-/// Takes the record of a line out of a session, and then out of what is kept, with the growth of a number refused from there
+/// Takes the record of a line out of a session, and then out of what is kept, with the n-th allocation refused from there
 /// on. Whether that was done.
 pub(crate) fn is_removed_beside<'a>(
     alloc: Refusing<'a>,

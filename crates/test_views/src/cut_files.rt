@@ -7,7 +7,7 @@ use iv_fasta::Fasta;
 use iv_text::{Genome, LoadCause, LoadFault};
 use std::test::Fail;
 
-/// Where a text ends: the number of its last line, the number of its last header's line, 0 where there is none, and whether the
+/// If a text ends: the number of its last line, the number of its last header's line, 0 if there is none, and whether the
 /// last line is cut.
 #[derive(Clone, Copy)]
 struct End {

@@ -14,7 +14,7 @@ pub(crate) fn genome(rt: &HostRuntime) -> Result<Genome, LoadFault> {
     Genome::parse(rt.alloc(), SIZES)
 }
 
-/// No failure where something is so.
+/// Fails unless something is so.
 pub(crate) fn holds(is_so: Result<bool, Fail>) -> Result<(), Fail> {
     if is_so? {
         Ok(())

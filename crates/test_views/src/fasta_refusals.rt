@@ -1,4 +1,4 @@
-//! Each growth of a FASTA file's memory, refused in turn.
+//! Each allocation for a FASTA file, refused in turn.
 use crate::fasta_fixtures::{SIZES, fasta_of, says};
 use crate::growths::{Run, growths};
 use iv_text::{Genome, LoadCause, LoadFault};
@@ -33,7 +33,7 @@ fn refused_beside<'a>(
     }
 }
 
-/// The same where a genome is read too.
+/// The same if a genome is read too.
 fn refused_over<'a>(
     granting: &'a RefusesNth<Global>,
     alloc: &'a RefusesNth<Global>,
@@ -43,7 +43,7 @@ fn refused_over<'a>(
     refused_beside(alloc, &genome, text)
 }
 
-/// The same, where all growths of the genome are granted.
+/// The same, if all allocations of the genome are granted.
 pub(crate) fn refused_bases(
     rt: &HostRuntime,
     alloc: &RefusesNth<Global>,
@@ -53,7 +53,7 @@ pub(crate) fn refused_bases(
     refused_over(&granting, alloc, text)
 }
 
-/// How often memory was refused, by the fault of a sound file: once, since it can have no other, and that at no line.
+/// How often an allocation failed, by the fault of a sound file: once, since it can have no other, and that at no line.
 fn memory_of(fault: LoadFault) -> Result<u32, Fail> {
     let memory = LoadFault {
         line: 0,
@@ -81,7 +81,7 @@ fn fault_beside<'a>(
     fasta_of(alloc, genome, b">s\nACGTNacgtR\n>x\nA C\n").err()
 }
 
-/// The same by the fault of the file whose last line is damaged: never, where the damage is reported.
+/// The same by the fault of the file whose last line is damaged: never, if the damage is reported.
 fn refusal_of(fault: LoadFault) -> Result<u32, Fail> {
     let damage = LoadFault {
         line: 4,
@@ -106,7 +106,7 @@ fn refused_damage_over<'a>(
     }
 }
 
-/// The same, where all growths of the genome are granted.
+/// The same, if all allocations of the genome are granted.
 pub(crate) fn refused_damage(rt: &HostRuntime, alloc: &RefusesNth<Global>) -> Result<u32, Fail> {
     let granting = RefusesNth::new(rt.alloc(), u64::MAX);
     refused_damage_over(&granting, alloc)

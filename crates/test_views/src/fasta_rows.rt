@@ -26,32 +26,6 @@ fn four_ways_of_getfasta(rt: HostRuntime) -> Result<(), Fail> {
     )
 }
 
-/// `+` and `.` are read forward.
-#[test]
-fn three_strands(rt: HostRuntime) -> Result<(), Fail> {
-    let records = b"s\t2\t6\tc\t0\t.\ns\t2\t6\ta\t0\t+\ns\t2\t6\tb\t0\t-\n";
-    check(
-        &rt,
-        Texts {
-            sizes: SIZES,
-            bases: BASES,
-            records,
-        },
-        Prints::Each(&[
-            (PLAIN, b">s:2-6\nGTNa\n>s:2-6\nGTNa\n>s:2-6\nGTNa\n"),
-            (TAB, b"s:2-6\tGTNa\ns:2-6\tGTNa\ns:2-6\tGTNa\n"),
-            (
-                STRANDED,
-                b">s:2-6(+)\nGTNa\n>s:2-6(-)\ntNAC\n>s:2-6(.)\nGTNa\n",
-            ),
-            (
-                STRANDED_TAB,
-                b"s:2-6(+)\tGTNa\ns:2-6(-)\ttNAC\ns:2-6(.)\tGTNa\n",
-            ),
-        ]),
-    )
-}
-
 /// Records without a strand are read forward and show none.
 #[test]
 fn records_of_three_columns(rt: HostRuntime) -> Result<(), Fail> {
@@ -74,7 +48,7 @@ fn records_of_three_columns(rt: HostRuntime) -> Result<(), Fail> {
     Ok(())
 }
 
-/// Bytes that are no letter of a base stay, also where the sequence is reversed.
+/// Bytes that are no letter of a base stay, even if the sequence is reversed.
 #[test]
 fn bases_without_a_complement(rt: HostRuntime) -> Result<(), Fail> {
     check(
@@ -89,71 +63,6 @@ fn bases_without_a_complement(rt: HostRuntime) -> Result<(), Fail> {
             (STRANDED, b">s:0-4(-)\nn*At\n"),
             (STRANDED_TAB, b"s:0-4(-)\tn*At\n"),
         ]),
-    )
-}
-
-/// All letters of bases, read backwards.
-#[test]
-fn letters_of_bases(rt: HostRuntime) -> Result<(), Fail> {
-    let bases = b">s\nACGTURYKMBVDHSWN\nacgturykmbvdhswn\n";
-    let want = b">s:0-32(-)\nnwsdhbvkmryaacgtNWSDHBVKMRYAACGT\n";
-    check(
-        &rt,
-        Texts {
-            sizes: b"s\t32\n",
-            bases,
-            records: b"s\t0\t32\tn\t0\t-\n",
-        },
-        Prints::Each(&[(STRANDED, want)]),
-    )
-}
-
-/// The examples of the manual of bedtools.
-#[test]
-fn examples_of_the_manual(rt: HostRuntime) -> Result<(), Fail> {
-    let bases = b">chr1\nAAAAAAAACCCCCCCCCCCCCGCTACTGGGGGGGGGGGGGGGGGG\n";
-    let records =
-        b"chr1\t5\t10\tmyseq\t1\t+\nchr1\t20\t25\tforward\t1\t+\nchr1\t20\t25\treverse\t1\t-\n";
-    check(
-        &rt,
-        Texts {
-            sizes: b"chr1\t45\n",
-            bases,
-            records,
-        },
-        Prints::Each(&[
-            (
-                PLAIN,
-                b">chr1:5-10\nAAACC\n>chr1:20-25\nCGCTA\n>chr1:20-25\nCGCTA\n",
-            ),
-            (
-                TAB,
-                b"chr1:5-10\tAAACC\nchr1:20-25\tCGCTA\nchr1:20-25\tCGCTA\n",
-            ),
-            (
-                STRANDED,
-                b">chr1:5-10(+)\nAAACC\n>chr1:20-25(+)\nCGCTA\n>chr1:20-25(-)\nTAGCG\n",
-            ),
-        ]),
-    )
-}
-
-/// Rows come in track order, that of the genome file and not that of the FASTA file; a copy has a row of its own.
-#[test]
-fn order_of_rows(rt: HostRuntime) -> Result<(), Fail> {
-    let bases = b">u\nTTTTA\n>x\nCC\n>s\nACGTNacgtR\n";
-    let records = b"u\t4\t5\ns\t0\t10\nu\t0\t5\ns\t0\t1\nu\t4\t5\n";
-    check(
-        &rt,
-        Texts {
-            sizes: SIZES,
-            bases,
-            records,
-        },
-        Prints::Each(&[(
-            TAB,
-            b"s:0-1\tA\ns:0-10\tACGTNacgtR\nu:0-5\tTTTTA\nu:4-5\tA\nu:4-5\tA\n",
-        )]),
     )
 }
 

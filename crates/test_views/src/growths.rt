@@ -1,4 +1,4 @@
-//! Runs that ask for memory, each of whose growths is refused in turn.
+//! Runs that ask for memory, each of whose allocations is refused in turn.
 use crate::fasta_refusals::{refused_bases, refused_damage};
 use crate::refused_edits::refused_from_nothing;
 use crate::second_refusals::refused_second;
@@ -19,7 +19,7 @@ pub(crate) enum Run<'t> {
     Edits,
 }
 
-/// How often memory was refused in a run.
+/// How often an allocation failed in a run.
 fn refused(rt: &HostRuntime, alloc: &RefusesNth<Global>, run: Run<'_>) -> Result<u32, Fail> {
     match run {
         Run::Bases(text) => refused_bases(rt, alloc, text),
@@ -29,7 +29,7 @@ fn refused(rt: &HostRuntime, alloc: &RefusesNth<Global>, run: Run<'_>) -> Result
     }
 }
 
-/// How often memory was refused in a run, each of its growths in turn.
+/// How often an allocation failed in a run, each of its allocations in turn.
 pub(crate) fn growths(rt: &HostRuntime, run: Run<'_>) -> Result<u32, Fail> {
     refuse_each(rt.alloc(), |alloc| refused(rt, alloc, run))
 }

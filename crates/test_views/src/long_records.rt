@@ -23,7 +23,7 @@ fn next_number(state: &mut u64) -> u64 {
     *state >> 33
 }
 
-/// A number from 0 to one less than this, 0 where it is 0.
+/// A number from 0 to one less than this, 0 if it is 0.
 fn below(state: &mut u64, most: u64) -> u64 {
     next_number(state).checked_rem(most).unwrap_or(0)
 }
@@ -147,7 +147,7 @@ fn prints_from(
     prints_of(rt, &genome, first.as_bytes(), second.as_bytes(), want)
 }
 
-/// How many bytes a look at each pair gives, where the print is the same.
+/// How many bytes a look at each pair gives, if the print is the same.
 fn compare(rt: &HostRuntime, first: &[Interval], second: &[Interval]) -> Result<usize, Fail> {
     let want = pairs_by_looking(rt, first, second)?;
     if prints_from(rt, first, second, want.as_bytes())? {

@@ -8,7 +8,7 @@ const PAIRS: [(&[u8], &[u8]); 3] = [
     (b"SWNswn", b"SWNswn"),
 ];
 
-/// What a byte gives, which is itself where it is no letter of a base.
+/// What a byte gives, which is itself if it is no letter of a base.
 fn opposite_of(base: u8) -> u8 {
     for (letters, opposites) in PAIRS {
         for (letter, opposite) in letters.iter().zip(opposites) {

@@ -1,4 +1,4 @@
-//! Each growth of an edit of a second file, refused in turn.
+//! Each allocation of an edit of a second file, refused in turn.
 use crate::growths::{Run, growths};
 use crate::hits::hits_are;
 use crate::second_edits::{Edit, answer_to};
@@ -19,7 +19,7 @@ fn line(rt: &HostRuntime, start: u32) -> Result<String, Fail> {
     Ok(format!(in rt.alloc(); "chr1\t{start}\t{stop}")?)
 }
 
-/// Does an edit, unless memory is refused.
+/// Does an edit, unless an allocation fails.
 fn is_done<'a>(
     alloc: &'a RefusesNth<Global>,
     genome: &Genome<&'a RefusesNth<Global>>,
@@ -33,7 +33,7 @@ fn is_done<'a>(
     }
 }
 
-/// Does an edit, again where memory is refused, which must leave so many records. How often it was.
+/// Does an edit, again if an allocation fails, which must leave so many records. How often one did.
 fn refused_edit<'a>(
     alloc: &'a RefusesNth<Global>,
     genome: &Genome<&'a RefusesNth<Global>>,
@@ -151,7 +151,7 @@ fn refused_edits<'a>(
     }
 }
 
-/// The same from an empty second file. Where its text met the refusal, no edit does.
+/// The same from an empty second file. If its text met the refusal, no edit does.
 fn refused_over<'a>(
     rt: &HostRuntime,
     alloc: &'a RefusesNth<Global>,
@@ -163,7 +163,7 @@ fn refused_over<'a>(
     }
 }
 
-/// The same where the genome is read too, which may meet the refusal.
+/// The same if the genome is read too, which may meet the refusal.
 pub(crate) fn refused_from_nothing(
     rt: &HostRuntime,
     alloc: &RefusesNth<Global>,

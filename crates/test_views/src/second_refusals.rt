@@ -1,4 +1,4 @@
-//! Each growth of a second file's memory, refused in turn.
+//! Each allocation for a second file, refused in turn.
 use crate::growths::{Run, growths};
 use crate::hits::hits_are;
 use crate::second_fixtures::{SIZES, second_of};
@@ -21,7 +21,7 @@ fn lines(rt: &HostRuntime) -> Result<String, Fail> {
     Ok(text)
 }
 
-/// How often memory was refused for a second file, which is to be that of the lines: never, where it is made.
+/// How often an allocation failed for a second file, which is to be that of the lines: never, if it is made.
 fn memory_of(made: Result<Second<&RefusesNth<Global>>, AllocError>) -> Result<u32, Fail> {
     match made {
         Ok(second) => check_second(&second),
@@ -29,7 +29,7 @@ fn memory_of(made: Result<Second<&RefusesNth<Global>>, AllocError>) -> Result<u3
     }
 }
 
-/// Gives 0 where the second file is that of the lines.
+/// Gives 0 if the second file is that of the lines.
 fn check_second(second: &Second<&RefusesNth<Global>>) -> Result<u32, Fail> {
     if second.len() == 30 && hits_are(second, 0, 2, 3, &[(1, 40), (2, 40)]) {
         Ok(0)
@@ -38,7 +38,7 @@ fn check_second(second: &Second<&RefusesNth<Global>>) -> Result<u32, Fail> {
     }
 }
 
-/// Makes the second file, and says how often it met the refusal, once or never; not where its lines did.
+/// Makes the second file, and says how often it met the refusal, once or never; not if its lines did.
 fn refused_beside<'a>(
     alloc: &'a RefusesNth<Global>,
     genome: &Genome<&'a RefusesNth<Global>>,
@@ -51,7 +51,7 @@ fn refused_beside<'a>(
     }
 }
 
-/// The same of a genome and the second file. Where the genome met the refusal the second file did not.
+/// The same of a genome and the second file. If the genome met the refusal the second file did not.
 pub(crate) fn refused_second(alloc: &RefusesNth<Global>, text: &[u8]) -> Result<u32, Fail> {
     match Genome::parse(alloc, SIZES) {
         Ok(genome) => refused_beside(alloc, &genome, text),

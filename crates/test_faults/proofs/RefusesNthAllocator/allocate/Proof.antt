@@ -1,4 +1,4 @@
--- It asks the allocator inside, and refuses where `open` hands none out. Assumes `Logic`.
+-- It asks the allocator inside, and refuses if `open` hands none out. Assumes `Logic`.
 use mathlib.Core.Path.{◌≡◌, refl}
 use mathlib.Core.Bool.{true, false}
 use Prim.Native.Nat.{ℕ, ◌<◌, ◌^◌}
