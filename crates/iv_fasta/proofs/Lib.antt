@@ -9,3 +9,4 @@ pub mod JoinLemmas
 pub mod OppositeLemmas
 pub mod RowLemmas
 pub mod Examples
+pub mod FastaLawLemmas

@@ -37,7 +37,7 @@ placed-at places bases seq place at =
     by (Some None) is = cc
     by (Some (Some p)) is = let same : place ≡ p = cc in ap {B = Option (List ℕ)} (λ (q : BaseRange). Some (bases_at bases q)) (sym same)
 
--- where each place is among so many bases, so is one of them
+-- if each place is among so many bases, so is one of them
 is_placed-at : (places : List (Option BaseRange)) (total seq : ℕ) (place : BaseRange) (o : Option (Option BaseRange)) → All (IsPlacedWithin total) places → slice_get places seq ≡ o
     → Some place ≡ unwrap_or o None → EndsWithin total place
 is_placed-at places total seq place None all at is = cc

@@ -65,7 +65,7 @@ abbrev pub headed : Sequences → List ℕ → Result Found LoadCause → Result
 headed g name (Err c) = Err c
 headed g name (Ok found) = Ok (record { found = found; named = is_some (rank_of g name) })
 
--- what is kept after a line of bases, or its first fault: nothing of it where the genome doesn't name the sequence
+-- what is kept after a line of bases, or its first fault: nothing of it if the genome doesn't name the sequence
 abbrev pub with_kept_line : Draft → List ℕ → Result Draft LoadCause
 with_kept_line d line =
     cond (length d.found == 0) (Err cause.BasesFirst)

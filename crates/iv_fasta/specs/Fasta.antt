@@ -78,7 +78,7 @@ differs g name count = is_some (rank_of g name) && not (count == length_of g nam
 abbrev pub has_wrong_length : Sequences → List ℕ × Stretch → Bool
 has_wrong_length g s = differs g s.0 (length s.1.bases)
 
--- the bases of a genome's sequences, by rank: `None` where the file lacks the sequence
+-- the bases of a genome's sequences, by rank: `None` if the file lacks the sequence
 abbrev pub Bases : Type 0
 Bases = List (Option (List ℕ))
 
@@ -102,7 +102,7 @@ bases_of fasta seq = unwrap_or (slice_get fasta seq) None
 abbrev pub HasLengthsOf : Sequences → Bases → Type 0
 HasLengthsOf g fasta = (seq : ℕ) (bases : List ℕ) → bases_of fasta seq ≡ Some bases → length_at g seq ≡ Some (length bases)
 
--- ---- words of the law on joined lines
+-- ---- words of the lemma on joined lines
 
 -- the line is the header of one more sequence: its name is good and new
 pub record IsNewHeader (found : Found) (line : List ℕ) : Type 0 where

@@ -9,12 +9,12 @@ use Rattle.iv_fasta.specs.Complement.{complement}
 use Rattle.iv_fasta.specs.Fasta.{Bases, bases_of}
 use Rattle.iv_fasta.specs.declared.rows.FastaRows.{FastaRows}
 
--- a strand in round brackets, nothing where a record has none
+-- a strand in round brackets, nothing if a record has none
 abbrev pub bracketed : Option Strand → List ℕ
 bracketed None = []
 bracketed (Some s) = codes "(" ++ strand_byte s ∷ codes ")"
 
--- the strand of a record where strands are shown
+-- the strand of a record if strands are shown
 abbrev pub shown_strand : FastaRows → Row → Option Strand
 shown_strand shown r = if shown.stranded then r.strand else None
 
@@ -43,7 +43,7 @@ framed shown heading bases =
     if shown.tab then heading ++ codes "\t" ++ bases ++ codes "\n"
     else codes ">" ++ heading ++ codes "\n" ++ bases ++ codes "\n"
 
--- the row of a record beside the bases of its sequence: nothing where there are none
+-- the row of a record beside the bases of its sequence: nothing if there are none
 abbrev pub row_beside : FastaRows → Sequences → Row → Option (List ℕ) → List ℕ
 row_beside shown g r None = []
 row_beside shown g r (Some bases) = framed shown (head shown g r) (shown_bases (shown_strand shown r) (slice_range bases r.start r.stop))

@@ -3,3 +3,4 @@ pub mod Fasta
 pub mod Places
 pub mod Drafts
 pub mod FastaRows
+pub mod FastaLaws

@@ -13,7 +13,7 @@ use std::marker::Model;
 /// The bases of those sequences of a genome that a FASTA file has, by rank.
 ///
 /// They lie in one vector. Its model is a list with an entry for each sequence of the genome, which holds its bases, each as
-/// its byte in the file, or nothing where the file lacks the sequence.
+/// its byte in the file, or nothing if the file lacks the sequence.
 #[derive(Drop)]
 pub struct Fasta<A: Allocator = Global> {
     places: Vec<Option<BaseRange>, A>,

@@ -37,7 +37,7 @@ fn differs<A: Allocator + Copy>(genome: &Genome<A>, name: &[u8], count: usize) -
 }
 
 impl<A: Allocator + Copy> FastaDraft<A> {
-    /// Nothing of a text.
+    /// The draft before any line is read.
     fn of(alloc: A, text: Vec<u8, A>) -> Self
         ensures draft { drafted result.headers result.text.kept result.named ≡ record { found = []; named = false } }
         ensures coming { result.text.coming ≡ text.items }
@@ -123,7 +123,7 @@ impl<A: Allocator + Copy> FastaDraft<A> {
         Ok(())
     }
 
-    /// Whether a line may stand here that is all bases, or its fault.
+    /// Whether a line of bases may come here, or its fault.
     fn check_bases(&self, line: &[u8]) -> Result<(), LoadCause>
         ensures ok { OnOk result (with_kept_line (drafted self.now.headers self.now.text.kept self.now.named) line.now
             ≡ Ok (drafted self.now.headers (self.now.text.kept ++ cond self.now.named line.now []) self.now.named)) }

@@ -14,11 +14,11 @@ use std::alloc::{AllocError, Allocator};
 use std::hash::{DefaultHasher, Hasher};
 use std::marker::Model;
 
-/// How many names are hashed before the headers to come are looked at. So few take no time, whether or not they collide.
+/// How many names are hashed before the next headers are looked at. So few take no time, whether or not they collide.
 const FEW: usize = 1000;
 
 /// A header: the number of its line, and where the bases after it start among all that are kept.
-#[derive(Clone, Copy, Debug, PartialEq, Eq)]
+#[derive(Clone, Copy)]
 pub(crate) struct Header {
     pub(crate) line: u64,
     pub(crate) start: usize,
@@ -61,7 +61,7 @@ impl<A: Allocator + Copy> Headers<A> {
         }
     }
 
-    /// Adds a header at the end, where a text begins with it that has all those to come. After a fault the headers are as before.
+    /// Adds a header at the end, if a text begins with it that has all those after it. After a fault the headers are as before.
     pub(crate) fn push(
         &mut self,
         alloc: A,

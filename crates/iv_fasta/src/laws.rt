@@ -1,10 +1,25 @@
-//! Laws of the definitions: functions that do nothing, whose contracts are the laws.
-ghost use Rattle.std.specs.Prelude.{◌≡◌, ◌+◌, ◌++◌, ◌∷◌, ℕ, List, All, length};
-ghost use Rattle.iv_fasta.specs.Fasta.{Found, after_fasta_lines, IsNewHeader, IsBaseLine, with_joined};
+//! Lemmas on the definitions: functions that do nothing, whose contracts are the lemmas.
+ghost use Rattle.std.specs.Prelude.{◌≡◌, ◌↔◌, ◌⊎◌, ◌+◌, ◌++◌, ◌∷◌, ℕ, List, Ok, Err, All, length};
+ghost use Rattle.iv_text.specs.FileLaws.{HaveNoCause, IsFirstFault};
+ghost use Rattle.iv_text.specs.Genome.{Sequences};
+ghost use Rattle.iv_text.specs.Lines.{lines};
+ghost use Rattle.iv_text.specs.declared.fault.LoadFault.{LoadFault};
+ghost use Rattle.iv_fasta.specs.Fasta.{Bases, Found, after_fasta_lines, by_rank, fasta_of, IsNewHeader, IsBaseLine, with_joined};
+ghost use Rattle.iv_fasta.specs.FastaLaws.{line_cause, sequences_said, HaveRightLengths, IsFirstWrongLength};
 
 /// The lines of bases after a header, joined in their order, are the bases of one more sequence.
 ///
 /// They may be of any number and of any lengths, also empty. The sequence has the header's name and the number of its line.
 pub fn joined_lines_are_a_sequence()
     ensures { (n : ℕ) (found : Found) (header : List ℕ) (base_lines rest : List (List ℕ)) → IsNewHeader found header → All IsBaseLine base_lines → after_fasta_lines n found (header ∷ (base_lines ++ rest)) ≡ after_fasta_lines (n + 1 + length base_lines) (with_joined n found header base_lines) rest }
+{}
+
+/// A FASTA file says its sequences exactly if no line has a cause to refuse it, and each that the genome names has the genome's
+/// length. A sequence has the bases of the lines between its header and the next one; those that the genome lacks are left out.
+///
+/// Else it has the fault of the first line that has a cause: the number of that line, counted from 1, and its first cause. If no
+/// line has one, it is the fault of the first sequence of another length, at the line of its header.
+pub fn fasta_or_first_fault()
+    ensures value { (g : Sequences) (text : List ℕ) (f : Bases) → (fasta_of g text ≡ Ok f) ↔ (HaveNoCause line_cause (lines text) × HaveRightLengths g (sequences_said (lines text)) × (f ≡ by_rank g (sequences_said (lines text)))) }
+    ensures fault { (g : Sequences) (text : List ℕ) (f : LoadFault) → (fasta_of g text ≡ Err f) ↔ (IsFirstFault line_cause (lines text) f ⊎ (HaveNoCause line_cause (lines text) × IsFirstWrongLength g (sequences_said (lines text)) f)) }
 {}

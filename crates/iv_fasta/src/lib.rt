@@ -13,5 +13,5 @@ mod rows;
 
 pub use base::complement;
 pub use fasta::Fasta;
-pub use laws::joined_lines_are_a_sequence;
+pub use laws::{fasta_or_first_fault, joined_lines_are_a_sequence};
 pub use rows::{FastaRows, print_fasta, put_fasta};

@@ -42,7 +42,7 @@ pub fn print_fasta<A: Allocator + Copy, S: Sink>(
     Ok(())
 }
 
-/// Puts the row of a record, as bedtools getfasta does: nothing where the FASTA file lacks the record's sequence.
+/// Puts the row of a record, as bedtools getfasta does: nothing if the FASTA file lacks the record's sequence.
 ///
 /// The head is the sequence's name, `:`, start, `-` and stop, with strands also the strand in round brackets. It is
 /// after a `>` on a line of its own, the bases on the next; or with `-tab` before them, separated by a TAB. With strands the
@@ -66,7 +66,7 @@ pub fn put_fasta<R: BedRecord, A: Allocator + Copy, S: Sink>(
     put_all(sink, b"\n")
 }
 
-/// The strand of a record where strands are shown.
+/// The strand of a record if strands are shown.
 fn shown_strand<R: BedRecord>(shown: FastaRows, row: &R) -> Option<Strand>
     ensures { result ≡ strand_of shown (R.as_row row.now) }
 {

@@ -150,7 +150,7 @@ module _ (width : ℕ) (stranded : Bool) (distance : ℕ) where
   abbrev with_summaries : List ColumnSummary → Options
   with_summaries summaries = record { distance = distance; stranded = stranded; summaries = filled summaries }
 
-  -- the options, where each column is there or one isn't
+  -- the options, if each column is there or one isn't
   abbrev if_there : Bool → List ColumnSummary → Result Options Fault
   if_there there summaries =
       if not there then Err fault.Column

@@ -22,7 +22,7 @@ none≢some a is = cc
 abbrev unless : Bool → MergeArgs → Option MergeArgs
 unless b next = cond b None (Some next)
 
--- what is said after an option, where it can be given
+-- what is said after an option, if it can be given
 abbrev taken : MergeOption → MergeArgs → Option MergeArgs
 taken (Distance value) said = unless_given said.distance (record said { distance = Some value })
 taken (Columns value) said = unless_given said.columns (record said { columns = Some value })

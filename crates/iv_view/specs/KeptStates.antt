@@ -24,7 +24,7 @@ state_key (kept.Cluster distance) = keep.Blocks (joined distance)
 state_key (kept.Complement limited) = keep.Blocks (joined 0)
 state_key (kept.Genomecov shown) = keep.Depth
 
--- the same of any view: nothing is kept for one that is written from the records
+-- the same for any view: nothing is kept for one that is written from the records
 abbrev pub state_key_of : View → Option StateKey
 state_key_of (view.Kept v) = Some (state_key v)
 state_key_of (view.Written v) = None
@@ -50,9 +50,10 @@ repair_steps_of (view.Kept v) rows r = repair_steps (state_key v) rows r
 repair_steps_of (view.Written v) rows r = 0
 
 -- how many steps lie between two readings at most while a view is printed from what is kept for it: two, and one more for each
--- block, or two more for each row of a depth above 0; `cluster`, which prints every record, may take as many as it needs
+-- block, or two more for each row of a depth above 0; of `cluster`, which prints every record, four, and one more for each record and
+-- each block
 abbrev pub PrintsWithin : KeptView → Sequences → List Row → ℕ → ℕ → Type 0
 PrintsWithin (kept.Merge options) g rows old new = TakesUpTo old new (2 + length (all_blocks options g rows))
-PrintsWithin (kept.Cluster distance) g rows old new = Unit {0}
+PrintsWithin (kept.Cluster distance) g rows old new = TakesUpTo old new (4 + length rows + length (all_blocks (joined distance) g rows))
 PrintsWithin (kept.Complement limited) g rows old new = TakesUpTo old new (2 + length (all_blocks (joined 0) g rows))
 PrintsWithin (kept.Genomecov shown) g rows old new = TakesUpTo old new (2 + 2 * length (all_covered_runs g rows))

@@ -34,7 +34,7 @@ zipped None second = None
 zipped (Some first) None = None
 zipped (Some first) (Some second) = Some (zip first second)
 
--- two lists paired off, one item with one, where a list of one item is repeated; they don't where else their lengths differ
+-- two lists paired off, item by item; a list of one item is repeated, and otherwise lists of two lengths have no pairs
 abbrev pub pairs : {A B : Type 0} → List A → List B → Option (List (A × B))
 pairs first second =
     let n = max (length first) (length second) in

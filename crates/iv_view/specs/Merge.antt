@@ -66,7 +66,7 @@ said_by (word ∷ next ∷ words) said =
     then option_and_then (said_by (next ∷ words)) (with_flag said)
     else option_and_then (said_by words) (with_value word next said)
 
--- the distance that a value says: a number up to 1,000,000,000, and 0 where there is none
+-- the distance that a value says: a number up to 1,000,000,000, and 0 if there is none
 abbrev pub distance_of : Option (List ℕ) → Option ℕ
 distance_of None = Some 0
 distance_of (Some value) = option_and_then (λ n. if nat_le n 1000000000 then Some n else None) (number value)
@@ -86,17 +86,17 @@ column_within width n = if nat_le n width then column_numbered n else None
 abbrev pub summary_within : ℕ → ℕ × Op → Option ColumnSummary
 summary_within width asked = option_map (λ column. record { column = column; op = asked.1 }) (column_within width asked.0)
 
--- the summaries in their places; a fault where one asks for a column that isn't there
+-- the summaries in their places; a fault if one asks for a column that isn't there
 abbrev pub filled_or_fault : Option (List ColumnSummary) → Result Summaries Fault
 filled_or_fault None = Err fault.Column
 filled_or_fault (Some summaries) = Ok (filled summaries)
 
--- the summaries that pairs of columns and operations ask for on a track of this width; bad words where they don't pair off
+-- the summaries that pairs of columns and operations ask for on a track of this width; bad words if they don't pair off
 abbrev pub asked_summaries : ℕ → Option (List (ℕ × Op)) → Result Summaries Fault
 asked_summaries width None = Err fault.Words
 asked_summaries width (Some asked) = filled_or_fault (all_some (map (summary_within width) asked))
 
--- the options with these summaries on a track of this width; a fault where there are no strands to keep apart
+-- the options with these summaries on a track of this width; a fault if there are no strands to keep apart
 abbrev pub options_within : ℕ → Bool → ℕ → Result Summaries Fault → Result Options Fault
 options_within width stranded distance (Err why) = Err why
 options_within width stranded distance (Ok summaries) =
@@ -104,7 +104,7 @@ options_within width stranded distance (Ok summaries) =
     then Err fault.NoStrand
     else Ok (record { distance = distance; stranded = stranded; summaries = summaries })
 
--- the same, where the distance may be missing
+-- the same, if the distance may be missing
 abbrev pub options_with : ℕ → Bool → Option ℕ → Result Summaries Fault → Result Options Fault
 options_with width stranded None summaries = Err fault.Words
 options_with width stranded (Some distance) summaries = options_within width stranded distance summaries

@@ -3,7 +3,7 @@ use Rattle.std.specs.Prelude.{ℕ, if◌then◌else◌, List, [], ◌∷◌, ◌
 use Rattle.std.specs.Option.{option_to_list}
 use Rattle.iv_view.specs.Merge.{MergeArgs}
 
--- an option, with its value where it takes one
+-- an option, with its value if it takes one
 pub data MergeOption : Type 0 where
   Distance : (value : List ℕ) → MergeOption
   Columns : (value : List ℕ) → MergeOption

@@ -27,7 +27,7 @@ number_of Strand = 6
 abbrev pub has_columns : ℕ → List ColumnSummary → Bool
 has_columns width summaries = list_all (λ asked. nat_le (number_of asked.column) width) summaries
 
--- the options of a merge of records of this width; a fault where they lack a column that is asked for, and then where there are no
+-- the options of a merge of records of this width; a fault if they lack a column that is asked for, and then if there are no
 -- strands to keep apart
 abbrev pub narrowed_options : ℕ → Options → Result Options Fault
 narrowed_options width options =

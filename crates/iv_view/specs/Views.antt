@@ -37,7 +37,7 @@ needs_second (view.Kept v) = false
 needs_second (view.Written (written.Paired rows)) = true
 needs_second (view.Written (written.Getfasta shown)) = false
 
--- the view of which a state is kept, or bad words where there is none
+-- the view of which a state is kept, or bad words if there is none
 abbrev pub or_bad_words : Option KeptView → Result View Fault
 or_bad_words asked = ok_or (option_map view.Kept asked) fault.Words
 
@@ -46,13 +46,13 @@ abbrev pub as_merge : Result Options Fault → Result View Fault
 as_merge (Err why) = Err why
 as_merge (Ok options) = Ok (view.Kept (kept.Merge options))
 
--- the view that needs a second file: bad words where there is none, and then a fault where there is no such file
+-- the view that needs a second file: bad words if there is none, and then a fault if there is no such file
 abbrev pub beside_second : Bool → Option PairRows → Result View Fault
 beside_second has_second None = Err fault.Words
 beside_second has_second (Some rows) = if has_second then Ok (view.Written (written.Paired rows)) else Err fault.NoSecond
 
--- the view that needs a FASTA file, on a track of this width: bad words where there is none, then a fault where there are no strands
--- to show, and then one where there is no such file
+-- the view that needs a FASTA file, on a track of this width: bad words if there is none, then a fault if there are no strands
+-- to show, and then one if there is no such file
 abbrev pub beside_fasta : ℕ → Bool → Option FastaRows → Result View Fault
 beside_fasta width has_bases None = Err fault.Words
 beside_fasta width has_bases (Some shown) =
@@ -91,7 +91,7 @@ second_rows None = []
 second_rows (Some second) = second.rows
 
 -- the text that a view means, on this genome for these records, beside the records of the second file and the bases of the
--- FASTA file, of each none where there is no such file
+-- FASTA file, of each none if there is no such file
 abbrev pub view_text : View → Sequences → List Row → List Row → Bases → List ℕ
 view_text (view.Kept v) g rows second bases = kept_text v g rows
 view_text (view.Written v) g rows second bases = written_text v g rows second bases

@@ -48,8 +48,8 @@ impl KeptView {
 
     /// Prints the view from what is kept for it. It takes no memory; on a fault the sink has taken a prefix of the text.
     ///
-    /// It takes two steps, and one for each block (`merge`, `complement`) or two for each row of a depth above 0 (`genomecov`).
-    /// `cluster` goes over all records.
+    /// It takes at most two steps, and one for each block (`merge`, `complement`) or two for each row of a depth above 0 (`genomecov`).
+    /// `cluster`, which goes over all records, takes at most four, and one for each record and each block.
     pub fn print<A: Allocator + Copy, S: Sink>(
         self,
         state: &KeptState<A>,
@@ -83,7 +83,7 @@ impl KeptView {
 }
 
 impl View {
-    /// What is kept for the view, `None` where it is written from the records.
+    /// What is kept for the view, `None` if it is written from the records.
     pub fn state_key(self) -> Option<StateKey>
         ensures { result ≡ state_key_of self }
     {

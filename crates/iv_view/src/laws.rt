@@ -1,9 +1,9 @@
-//! Laws of the definitions: functions that do nothing, whose contracts are the laws.
+//! Lemmas on the definitions: functions that do nothing, whose contracts are the lemmas.
 ghost use Rattle.std.specs.Prelude.{◌≡◌, ◌↔◌, ◌++◌, ◌∷◌, ℕ, List, Some, None, IsPermutation, slice_get};
 ghost use Rattle.iv_view.specs.Merge.{MergeArgs, said_by, nothing_said};
 ghost use Rattle.iv_view.specs.MergeOptions.{MergeOption, words_of, option_words, options_of};
 
-/// Words of `merge` and `cluster` say something exactly where they are those of options in some order, each of which comes once;
+/// Words of `merge` and `cluster` say something exactly if they are those of options in some order, each of which comes once;
 /// and then they say just these options.
 pub fn words_are_options()
     ensures { (words : List (List ℕ)) (said : MergeArgs) → (said_by words nothing_said ≡ Some said) ↔ ((options : List MergeOption) × (words ≡ option_words options) × IsPermutation options (options_of said)) }

@@ -74,7 +74,7 @@ fn copies_of<T: Item>(item: T, count: usize) -> ArrayVec<T, MOST_ITEMS>
     list
 }
 
-/// A copy of a list, `None` where it has more than 16 items.
+/// A copy of a list, `None` if it has more than 16 items.
 fn copy_of<T: Item>(items: &[T]) -> Option<ArrayVec<T, MOST_ITEMS>>
     ensures { option_map (λ list. list.items) result ≡ (if nat_le (length items.now) 16 then Some items.now else None) }
 {

@@ -40,7 +40,7 @@ pub(crate) fn read_merge(words: &[&[u8]]) -> Result<Options, ViewFault>
     })
 }
 
-/// The distance that a value says, 0 where there is none.
+/// The distance that a value says, 0 if there is none.
 pub(crate) fn read_distance(value: Option<&[u8]>) -> Option<u32>
     ensures { result ≡ distance_of (option_copied value.entry) }
 {
@@ -75,7 +75,7 @@ fn read_lists(columns: Option<&[u8]>, ops: Option<&[u8]>) -> Option<Lists>
     Some(Lists { columns, ops })
 }
 
-/// The operation that is meant where none is named.
+/// The default operation.
 fn usual_ops() -> ArrayVec<Op, MOST_ITEMS>
     ensures { result.items ≡ Op.Sum ∷ [] }
 {
@@ -110,7 +110,7 @@ fn summaries_of(columns: &[u64], ops: &[Op]) -> Option<Summaries>
     Some(summaries)
 }
 
-/// The options for records of this width, where they were read for records of six columns.
+/// The options for records of this width, if they were read for records of six columns.
 pub(crate) fn narrow_merge(width: u8, options: Options) -> Result<Options, ViewFault>
     ensures { result ≡ narrowed_options width options }
 {

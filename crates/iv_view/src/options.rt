@@ -83,7 +83,7 @@ impl<'a> MergeArgs<'a> {
 }
 
 /// An option that takes a value.
-#[derive(Clone, Copy, Debug, PartialEq, Eq)]
+#[derive(Clone, Copy)]
 enum ValuedOption {
     /// `-d`: the distance.
     Distance,

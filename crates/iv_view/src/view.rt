@@ -38,7 +38,7 @@ pub enum KeptView {
     Merge(Options),
     /// `cluster`: every record with the number of its block. Records at most this many bases apart are in one block.
     Cluster(u32),
-    /// `complement`: what no record covers; where this is true, only on sequences with a record.
+    /// `complement`: what no record covers; if this is true, only on sequences with a record.
     Complement(bool),
     /// `genomecov`: how many records cover each position.
     Genomecov(DepthRows),
@@ -49,7 +49,7 @@ impl View {
     ///
     /// # Errors
     ///
-    /// `Words` where they ask for no view, then `Column`, then `NoStrand`, then `NoSecond` or `NoFasta`. No other fault comes:
+    /// `Words` if they ask for no view, then `Column`, then `NoStrand`, then `NoSecond` or `NoFasta`. No other fault comes:
     /// reading words takes no memory.
     pub fn read<A: Allocator + Copy>(
         _alloc: A,
@@ -68,7 +68,7 @@ impl View {
     ///
     /// # Errors
     ///
-    /// `Words` where they ask for no view, then `Column`.
+    /// `Words` if they ask for no view, then `Column`.
     pub fn asked(words: &[&[u8]]) -> Result<View, ViewFault>
         ensures { result ≡ read_words 6 true true (map (λ word. word.now) words.now) }
     {
@@ -115,14 +115,14 @@ impl View {
     }
 }
 
-/// The view of which a state is kept, or a fault of the words where they ask for none.
+/// The view of which a state is kept, or a fault of the words if they ask for none.
 fn or_bad_words(view: Option<KeptView>) -> Result<View, ViewFault>
     ensures { result ≡ kept_or_bad_words view }
 {
     Ok(View::Kept(view.ok_or(ViewFault::Words)?))
 }
 
-/// The view that needs a second file: a fault of the words where they ask for none, and then one where there is no second
+/// The view that needs a second file: a fault of the words if they ask for none, and then one if there is no second
 /// file.
 fn beside_second(has_second: bool, asked: Option<PairRows>) -> Result<View, ViewFault>
     ensures { result ≡ beside_a_second has_second asked }
@@ -137,8 +137,8 @@ fn beside_second(has_second: bool, asked: Option<PairRows>) -> Result<View, View
     }
 }
 
-/// The view that needs a FASTA file, on a track of this width: a fault of the words where they ask for none, then one where the
-/// track has no strands to show, and then one where there is no FASTA file.
+/// The view that needs a FASTA file, on a track of this width: a fault of the words if they ask for none, then one if the
+/// track has no strands to show, and then one if there is no FASTA file.
 fn beside_fasta(width: u8, has_bases: bool, asked: Option<FastaRows>) -> Result<View, ViewFault>
     ensures { result ≡ beside_a_fasta width has_bases asked }
 {

@@ -3,4 +3,5 @@ mod SecondLemmas
 pub mod OpenViewLemmas
 mod StateLemmas
 mod PrintLemmas
+mod StepLemmas
 mod ResizeLemmas

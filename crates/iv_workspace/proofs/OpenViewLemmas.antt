@@ -158,7 +158,7 @@ pub all-back : {X : Type 0} (P : X → Type 0) (xs ys : List X) → AllByRecursi
 all-back P [] ys a = a
 all-back P (x ∷ xs) ys a = all-back P xs ys a.1
 
--- the view at a place, where all were right before
+-- the view at a place, if all were right before
 pub midway-at : {V : Type 0} (Done : List (List ℕ × V) → List (List ℕ × V) → Type 0) (P : V → Type 0) (old : List (List ℕ × V)) (es : List (List ℕ × V)) (place : ℕ) (v : V)
     → Midway Done old es place → slice_get (values_of es) place ≡ Some v → AllByRecursion (λ e. P e.1) old → P v
 midway-at {V} Done P old es place v mid found all =
@@ -166,7 +166,7 @@ midway-at {V} Done P old es place v mid found all =
     let old_is : old ≡ mid.front ++ (p.0, v) ∷ p.1 = mid.old_is ∙ ap (λ (l : List (List ℕ × V)). mid.front ++ l) p.2 in
     (all-back (λ e. P e.1) mid.front ((p.0, v) ∷ p.1) (subst (λ (l : List (List ℕ × V)). AllByRecursion (λ e. P e.1) l) old_is all)).0
 
--- ---- views that are built anew
+-- ---- views that are rebuilt
 
 pub stales-same : (views : List (List ℕ × Shown)) → Stales views views
 stales-same [] = tt

@@ -86,7 +86,7 @@ any-agree : {X : Type 0} (p t : X → Bool) (xs : List X) → ((q : X) → Mem q
 any-agree p t [] same = refl
 any-agree p t (x ∷ xs) same = ap₂ (λ a b. a || b) (same x (inl refl)) (any-agree p t xs (λ q m. same q (inr m)))
 
--- a record that stops at most at the end of its sequence is a hit of what is cut off exactly where it is past the new end
+-- a record that stops at most at the end of its sequence is a hit of what is cut off exactly if it is past the new end
 cut-overlaps : (seq n end : ℕ) (q : Row) → q.start < q.stop → (q.seq ≡ seq → q.stop ≤ end) → overlaps seq n end q ≡ reaches_past seq n q
 cut-overlaps seq n end q some within = elim (cases_eq q.seq seq) [
   | inl same ↦
@@ -107,7 +107,7 @@ any-some_left p xs ys y is =
     let there = mem-filter p xs y (subst (λ l. Mem y l) (sym is) (inl refl)) in
     any-at p xs y there.0 there.1
 
--- an iterator over what passes a test gives one exactly where some element passes
+-- an iterator over what passes a test gives one exactly if some element passes
 first-any : (p : Row → Bool) (rows left rest : List Row) (r : Option (Bor Row)) → left ≡ filter p rows → YieldsFirstRef (λ (h : List Row). h) left r rest → is_some r ≡ list_any p rows
 first-any p rows left rest None is gives = sym (any-none_left p rows (sym is ∙ gives.0))
 first-any p rows left rest (Some q) is gives = sym (any-some_left p rows rest q.now (sym is ∙ gives))
@@ -208,7 +208,7 @@ second-resized : (g : Sequences) (second : Option Tracked) (seq n : ℕ) → IfS
 second-resized g None seq n is none = tt
 second-resized g (Some t) seq n is none = track-resized g t seq n is none
 
--- where no record is past the new end, all records fit
+-- if no record is past the new end, all records fit
 pub session-resized : (inside s : State) (g : Sequences) (views : List (List ℕ × Shown)) (seq n : ℕ) → inside ≡ s → IsSession inside.genome inside.track inside.second views
     → g ≡ with_length inside.genome seq n → has_record_past s seq n ≡ false → IsSession g inside.track inside.second views
 session-resized inside s g views seq n same is new none =

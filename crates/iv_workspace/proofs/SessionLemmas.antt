@@ -27,7 +27,7 @@ use Rattle.iv_workspace.specs.States.{State, IsTrackOn, IsServed, AreServed, IsW
 pub fit-added : (g : Sequences) (t : Tracked) (r : Row) → IsTrackOn g t → Fits g t.width r → All (Fits g t.width) (added t.rows r)
 fit-added g t r is fits = All-added (Fits g t.width) t.rows r is.fit fits
 
--- with one more record that fits it is still a session's track, where there was room
+-- with one more record that fits it is still a session's track, if there was room
 pub track-added : (g : Sequences) (t : Tracked) (r : Row)
     → IsTrackOn g t → Fits g t.width r → length t.rows < t.limit → IsTrackOn g (record t { rows = added t.rows r })
 track-added g t r is fits room = record {

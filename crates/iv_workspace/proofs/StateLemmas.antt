@@ -34,7 +34,7 @@ among-back : (what : StateKey) (xs ys : List (Option StateKey)) → IsOwned what
 among-back what [] ys a = a
 among-back what (x ∷ xs) ys a = inr (among-back what xs ys a)
 
--- another state in the place of one, where what was kept there is kept still
+-- another state in the place of one, if what was kept there is kept still
 among-written : (what : StateKey) (xs ys : List (Option StateKey)) (o p : Option StateKey) → (o ≡ Some what → IsOwned what (xs ++ p ∷ ys))
     → IsOwned what (xs ++ o ∷ ys) → IsOwned what (xs ++ p ∷ ys)
 among-written what [] ys o p there (inl here) = there here
@@ -120,7 +120,7 @@ module _ {A : Type 0} (names : List (List ℕ)) (rows with_r : List Row) (r : Ro
         steps = record { no_less = omega (arith, all.steps.no_less, one.steps.no_less); at_most = omega (arith, all.steps.at_most, one.steps.at_most, steps_are) };
       }
 
-  -- where none was lost, the views are right
+  -- if none was lost, the views are right
   pub repaired-kept : (old new : List (List ℕ × OpenView A)) (before after : ℕ) → AreRepaired names rows with_r r true old new before after
       → HaveStates (all_owned old) (all_seen old) → AreRight new names rows
   repaired-kept old new before after all have =
@@ -357,7 +357,7 @@ module _ {A : Type 0} (old new : List (List ℕ × OpenView A)) (place : ℕ) (v
             (kept, (all-back Q (all_seen u.front) ((u.name, seen v) ∷ all_seen u.more) more).1)),
       )
 
--- a view that is built anew, with the state that was missing
+-- a view that is rebuilt, with the state that was missing
 abbrev pub renewed : {A : Type 0} → View → Option (KeptState A) → OpenView A
 renewed view state = record { view = view; stale = false; state = state }
 
@@ -376,7 +376,7 @@ missing-kept states more view names rows (Some k) missing grows own = by (state_
     by None is = tt
     by (Some what) is = own what is
 
--- a view that was stale is built anew
+-- a view that was stale is rebuilt
 pub renewed-right : {A : Type 0} (names : List (List ℕ)) (rows : List Row) (old new : List (List ℕ × OpenView A)) (place : ℕ) (v : OpenView A) (state : Option (KeptState A))
     → Written old new place v (renewed v.view state) → v.stale ≡ true → IsMissing (all_owned old) v.view names rows state → AreRight old names rows → AreRight new names rows
 renewed-right {A} names rows old new place v state u stale missing right =
@@ -442,7 +442,7 @@ unneeded states o (v ∷ views) what is none have = (λ fresh. by (state_key_of 
     by (Some x) same (inl here) not = absurd (not (same ∙ sym here ∙ is))
     by (Some x) same (inr there) not = there
 
--- and where there was none, nothing is lost
+-- and if there was none, nothing is lost
 pub have-tail : (states : List (Option StateKey)) (views : List (List ℕ × Shown)) → HaveStates (None ∷ states) views → HaveStates states views
 have-tail states views have = have-more (None ∷ states) states views (λ what a. by what a) have
   where
@@ -612,7 +612,7 @@ module _ {A : Type 0} (name : List ℕ) where
       by (e ∷ es) (suc place) first stale =
           subst (λ (b : Bool). IfSome (if b then Some (seen e.1) else lookup (bytes_eq name) (all_seen es)) (λ v. v.stale ≡ true)) (sym first.0) (by es place first.1 stale)
 
-  -- where no view has the name, none is made current
+  -- if no view has the name, none is made current
   pub unplaced : (es : List (List ℕ × OpenView A)) → place_of es name ≡ None → all_seen es ≡ with_current (all_seen es) name
   unplaced es is = by es (unnamed es name is)
     where
@@ -648,7 +648,7 @@ module _ {A : Type 0} (old : List (List ℕ × OpenView A)) (es : List (List ℕ
   pub stale-there : v.stale ≡ true → IfSome (slice_get (all_seen old) place) (λ u. u.1.stale ≡ true)
   stale-there stale = subst (λ (o : Option (List ℕ × Shown)). IfSome o (λ u. u.1.stale ≡ true)) (sym seen-at-place.1) stale
 
-  -- it is built anew
+  -- it is rebuilt
   module _ (w : OpenView A) (state : Option (KeptState A)) (is : w ≡ renewed v.view state) where
     pub renewed-in : (names : List (List ℕ)) (rows : List Row) → v.stale ≡ true → IsMissing (all_owned old) v.view names rows state → AreRight old names rows → AreRight (set_value_at es place w) names rows
     renewed-in names rows stale missing right =

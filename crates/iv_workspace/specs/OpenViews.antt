@@ -5,7 +5,7 @@ use Rattle.iv_text.specs.Row.{Row}
 use Rattle.iv_view.specs.KeptStates.{state_key_of, repair_steps_of}
 use Rattle.iv_view.specs.declared.view.View.{View}
 
--- an open view: which one it is, and whether it has to be built anew before it is printed
+-- an open view: which one it is, and whether it must be rebuilt before it is printed
 pub record Shown : Type 0 where
   pub view : View
   pub stale : Bool
@@ -23,7 +23,7 @@ abbrev pub with_current : List (List ℕ × Shown) → List ℕ → List (List �
 with_current [] name = []
 with_current (v ∷ views) name = if bytes_eq name v.0 then (v.0, current v.1) ∷ views else v ∷ with_current views name
 
--- the views are the same, but that some may have become stale, of which something is kept
+-- the views are the same, except that some may have become stale, of which something is kept
 abbrev pub Stales : List (List ℕ × Shown) → List (List ℕ × Shown) → Type 0
 Stales [] [] = Unit {0}
 Stales [] (w ∷ new) = ⊥
@@ -32,7 +32,7 @@ Stales (v ∷ old) (w ∷ new) =
     (w.0 ≡ v.0) × (w.1.view ≡ v.1.view) × (v.1.stale ≡ true → w.1.stale ≡ true)
     × (state_key_of v.1.view ≡ None → w.1.stale ≡ v.1.stale) × Stales old new
 
--- the views are the same, but that some that were stale may have become current
+-- the views are the same, except that some that were stale may have become current
 abbrev pub Freshens : List (List ℕ × Shown) → List (List ℕ × Shown) → Type 0
 Freshens [] [] = Unit {0}
 Freshens [] (w ∷ new) = ⊥

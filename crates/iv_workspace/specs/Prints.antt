@@ -1,8 +1,12 @@
 -- What prints of views leave.
-use Rattle.std.specs.Prelude.{◌≡◌, ◌<◌, ℕ, true, List, Result, Ok, Err, IsSome}
+use Rattle.std.specs.Prelude.{◌≡◌, ◌<◌, ℕ, true, false, List, [], ◌∷◌, Option, None, Some, Result, Ok, Err, IsSome}
 use Rattle.iv_bytes.specs.Sinks.{SinkState, Takes, FailsIn}
+use Rattle.iv_text.specs.Genome.{Sequences}
+use Rattle.iv_text.specs.Row.{Row}
 use Rattle.iv_text.specs.declared.fault.Fault.TheVariants as fault
-use Rattle.iv_view.specs.KeptStates.{state_key_of}
+use Rattle.iv_view.specs.KeptStates.{state_key_of, PrintsWithin}
+use Rattle.iv_view.specs.declared.view.View.{View}
+use Rattle.iv_view.specs.declared.view.View.TheVariants as view
 use Rattle.iv_workspace.specs.OpenViews.{Shown, Freshens, all_current, stale_count, with_current}
 use Rattle.iv_workspace.specs.States.{State}
 use Rattle.iv_workspace.specs.Views.{all_text, text_in}
@@ -17,12 +21,12 @@ with_printed s name = record s { views = with_current s.views name }
 abbrev pub with_all_printed : State → State
 with_all_printed s = record s { views = all_current s.views }
 
--- the session, but that some stale views may have become current
+-- the session, except that some stale views may have become current
 abbrev pub IsButCurrent : State → State → Type 0
 IsButCurrent old new = (new ≡ record old { views = new.views }) × Freshens old.views new.views
 
 -- what a print of the view of a name leaves: its text, or a prefix, and the view current;
--- or, where memory was refused for a stale view of which something is kept, all as before and nothing written
+-- or, if an allocation failed for a stale view of which something is kept, all as before and nothing written
 abbrev pub PrintedView : State → List ℕ → Shown → State → SinkState → SinkState → Result (Unit {0}) PrintFault → Type 0
 PrintedView old name v new out0 out1 (Ok done) = Takes out0 out1 (text_in old v.view) × (new ≡ with_printed old name)
 PrintedView old name v new out0 out1 (Err printing.Write) = FailsIn out0 out1 (text_in old v.view) × (new ≡ with_printed old name)
@@ -31,9 +35,25 @@ PrintedView old name v new out0 out1 (Err (printing.Refused fault.NoMemory)) =
 PrintedView old name v new out0 out1 (Err (printing.Refused other)) = ⊥
 
 -- what a print of all views leaves: their texts, or a prefix, and all current;
--- or, where memory for a stale view was refused, nothing written, and some views may have become current
+-- or, if an allocation for a stale view failed, nothing written, and some views may have become current
 abbrev pub PrintedAll : State → State → SinkState → SinkState → Result (Unit {0}) PrintFault → Type 0
 PrintedAll old new out0 out1 (Ok done) = Takes out0 out1 (all_text old) × (new ≡ with_all_printed old)
 PrintedAll old new out0 out1 (Err printing.Write) = FailsIn out0 out1 (all_text old) × (new ≡ with_all_printed old)
 PrintedAll old new out0 out1 (Err (printing.Refused fault.NoMemory)) = (0 < stale_count old.views) × (out1 ≡ out0) × IsButCurrent old new
 PrintedAll old new out0 out1 (Err (printing.Refused other)) = ⊥
+
+-- how many steps lie between two readings at most while a view is printed that is current: as many as `KeptView::print` takes for one
+-- of which something is kept; one that is written from the records may take as many as it needs
+abbrev pub ViewPrintsWithin : View → Sequences → List Row → ℕ → ℕ → Type 0
+ViewPrintsWithin (view.Kept v) g rows old new = PrintsWithin v g rows old new
+ViewPrintsWithin (view.Written v) g rows old new = Unit {0}
+
+-- the same of the view that a name has: no step if no view has it; a stale view is built again first, and may take as many as it needs
+abbrev pub NamedPrintsWithin : Option Shown → Sequences → List Row → ℕ → ℕ → Type 0
+NamedPrintsWithin None g rows old new = new ≡ old
+NamedPrintsWithin (Some v) g rows old new = v.stale ≡ false → ViewPrintsWithin v.view g rows old new
+
+-- the same of all these views, printed one after another: what each takes is within its own bound, and nothing else takes a step
+abbrev pub AllPrintWithin : List (List ℕ × Shown) → Sequences → List Row → ℕ → ℕ → Type 0
+AllPrintWithin [] g rows old new = new ≡ old
+AllPrintWithin (v ∷ views) g rows old new = (between : ℕ) × ViewPrintsWithin v.1.view g rows old between × AllPrintWithin views g rows between new

@@ -14,7 +14,7 @@ use Rattle.iv_workspace.specs.States.{State}
 abbrev pub reaches_past : ℕ → ℕ → Row → Bool
 reaches_past seq n r = (r.seq == seq) && nat_lt n r.stop
 
--- a record of the track or of the second file does
+-- there is such a record in the track or in the second file
 abbrev pub has_record_past : State → ℕ → ℕ → Bool
 has_record_past s seq n = list_any (reaches_past seq n) s.track.rows || list_any (reaches_past seq n) (second_rows s.second)
 

@@ -16,7 +16,7 @@ use Rattle.iv_view.specs.declared.view.View.{View}
 use Rattle.iv_workspace.specs.OpenViews.{Shown, Stales}
 
 -- the genome, the track, the second file as a track of its own, the bases of the FASTA file, and the open views with their
--- names, in order of opening; a stale view has to be built anew before it is printed
+-- names, in order of opening; a stale view must be rebuilt before it is printed
 pub record State : Type 0 where
   pub genome : Sequences
   pub track : Tracked
@@ -70,7 +70,7 @@ FitsSecond s r = IsSomeAnd s.second (λ t. Fits s.genome t.width r)
 abbrev pub IsServed : Option Tracked → View → Type 0
 IsServed second view = IsTrue (needs_second view) → IsSome second
 
--- each of the views does
+-- each view that needs a second file is beside one
 abbrev pub AreServed : Option Tracked → List (List ℕ × Shown) → Type 0
 AreServed second views = AllByRecursion (λ v. IsServed second v.1.view) views
 
@@ -78,7 +78,7 @@ AreServed second views = AllByRecursion (λ v. IsServed second v.1.view) views
 abbrev pub IsWrittenFresh : Shown → Type 0
 IsWrittenFresh v = state_key_of v.view ≡ None → v.stale ≡ false
 
--- none of the views is
+-- no such view is stale
 abbrev pub AreWrittenFresh : List (List ℕ × Shown) → Type 0
 AreWrittenFresh views = AllByRecursion (λ v. IsWrittenFresh v.1) views
 
@@ -89,6 +89,6 @@ pub record IsSession (genome : Sequences) (track : Tracked) (second : Option Tra
   pub served : AreServed second views
   pub fresh : AreWrittenFresh views
 
--- the session as it is to be, but that some views may have become stale
+-- the session as it is to be, except that some views may have become stale
 abbrev pub IsButStale : State → State → Type 0
 IsButStale done new = (new ≡ record done { views = new.views }) × Stales done.views new.views

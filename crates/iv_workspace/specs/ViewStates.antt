@@ -60,7 +60,7 @@ AreOwnRight views names rows = AllByRecursion (λ v. IsOwnRight v.1 names rows) 
 abbrev pub AreRight : {A : Type 0} → List (List ℕ × OpenView A) → List (List ℕ) → List Row → Type 0
 AreRight views names rows = AreOwnRight views names rows × HaveStates (all_owned views) (all_seen views)
 
--- an open view's own state was repaired: it is the same view, and stays stale where it was; where the state wasn't lost, nothing
+-- an open view's own state was repaired: it is the same view, and stays stale if it was; if the state wasn't lost, nothing
 -- else has changed; `with_r` are the records with r
 pub record IsRepaired {A : Type 0} (names : List (List ℕ)) (rows with_r : List Row) (r : Row) (kept : Bool) (old new : OpenView A) (before after : ℕ) : Type 0 where
   pub same : new.view ≡ old.view
@@ -70,7 +70,7 @@ pub record IsRepaired {A : Type 0} (names : List (List ℕ)) (rows with_r : List
   pub right : IsOwnRight new names rows
   pub steps : TakesUpTo before after (view_steps (seen old) with_r r)
 
--- the own states of open views were repaired; where none was lost, the views are seen as before
+-- the own states of open views were repaired; if none was lost, the views are seen as before
 pub record AreRepaired {A : Type 0} (names : List (List ℕ)) (rows with_r : List Row) (r : Row) (kept : Bool) (old new : List (List ℕ × OpenView A)) (before after : ℕ) : Type 0 where
   pub unless : kept ≡ true → (all_seen new ≡ all_seen old) × (all_owned new ≡ all_owned old)
   pub stales : Stales (all_seen old) (all_seen new)
@@ -83,7 +83,7 @@ pub record AreMarked {A : Type 0} (old new : List (List ℕ × OpenView A)) : Ty
   pub stales : Stales (all_seen old) (all_seen new)
   pub states : HaveStates (all_owned new) (all_seen new)
 
--- the state that a view needs and no view has: none where a view has it, or where nothing is kept of the view
+-- the state that a view needs and no view has: none if a view has it, or if nothing is kept of the view
 abbrev pub IsMissing : {A : Type 0} → List (Option StateKey) → View → List (List ℕ) → List Row → Option (KeptState A) → Type 0
 IsMissing states view names rows None = IsKept states view
 IsMissing states view names rows (Some k) = (state_key_of view ≡ Some (built_for k)) × IsRight k names rows

@@ -58,7 +58,7 @@ opened s name words = unless_fault (find (has_name_fault s name) name_faults) (w
 abbrev pub Opens : State → List ℕ → List (List ℕ) → State → Type 0
 Opens old name words new = (view : View) × (opened old name words ≡ Ok view) × (new ≡ with_view old name view)
 
--- why no view is opened: for the first fault; or memory was refused, where there is none
+-- why no view is opened: for the first fault; or an allocation failed, if there is none
 abbrev pub RefusesOpen : State → List ℕ → List (List ℕ) → Fault → Type 0
 RefusesOpen s name words f = (opened s name words ≡ Err f) ⊎ ((f ≡ fault.NoMemory) × IsOk (opened s name words))
 
@@ -66,7 +66,7 @@ RefusesOpen s name words f = (opened s name words ≡ Err f) ⊎ ((f ≡ fault.N
 abbrev pub text_in : State → View → List ℕ
 text_in s v = view_text v s.genome s.track.rows (second_rows s.second) (unwrap_or s.bases [])
 
--- the line above a view's text, where all views are printed
+-- the line above a view's text, if all views are printed
 abbrev pub heading : List ℕ → List ℕ
 heading name = codes "#" ++ name ++ codes "\n"
 
@@ -78,7 +78,7 @@ headed_text s v = heading v.0 ++ text_in s v.1.view
 abbrev pub all_text : State → List ℕ
 all_text s = flat_map (headed_text s) s.views
 
--- the number of the fault for which a print or a line is refused; none where the output failed
+-- the number of the fault for which a print or a line is refused; none if the output failed
 abbrev pub print_code : PrintFault → Option ℕ
 print_code (printing.Refused f) = Some (code_of f)
 print_code printing.Write = None

@@ -14,7 +14,7 @@ use iv_view::{KeptState, StateKey, View};
 use std::alloc::{AllocError, Allocator, Global};
 
 /// What an edit did to the records of a track.
-#[derive(Clone, Copy, Debug, PartialEq, Eq)]
+#[derive(Clone, Copy)]
 pub(crate) enum Change {
     /// A copy of a record was added.
     Added,
@@ -26,7 +26,7 @@ pub(crate) enum Change {
 #[derive(Drop)]
 pub(crate) struct OpenView<A: Allocator + Copy = Global> {
     pub(crate) view: View,
-    /// Whether it has to be built anew before it is printed.
+    /// Whether it must be rebuilt before it is printed.
     pub(crate) stale: bool,
     pub(crate) state: Option<KeptState<A>>,
 }
@@ -69,7 +69,7 @@ impl<A: Allocator + Copy> OpenView<A> {
         self.state = state;
     }
 
-    /// Takes a state over.
+    /// Takes over a state.
     pub(crate) fn take_over(&mut self, state: KeptState<A>)
         ensures { self.new ≡ record self.old { state = Some state } }
     {
@@ -78,7 +78,7 @@ impl<A: Allocator + Copy> OpenView<A> {
 
     /// Repairs the view's own state, if it has one, after an edit of the track.
     ///
-    /// `false` where memory was refused: the state is lost, and the view is stale.
+    /// `false` if an allocation failed: the state is lost, and the view is stale.
     pub(crate) fn repair(
         &mut self,
         change: Change,
@@ -104,7 +104,7 @@ impl<A: Allocator + Copy> OpenView<A> {
     }
 }
 
-/// Repairs a state after an edit of the track. After a refusal it has to be built anew.
+/// Repairs a state after an edit of the track. After a refusal it must be rebuilt.
 fn repair_state<A: Allocator + Copy>(
     state: &mut KeptState<A>,
     change: Change,

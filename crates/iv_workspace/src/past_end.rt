@@ -37,7 +37,7 @@ pub(crate) fn track_reaches_past<A: Allocator + Copy>(
     false
 }
 
-/// Whether a record of the second file does, where those on the sequence stop at most at its present end: whether one of
+/// Whether a record of the second file does, if those on the sequence stop at most at its present end: whether one of
 /// them shares a position with what is to be cut off.
 pub(crate) fn second_reaches_past<A: Allocator + Copy>(
     second: &Second<A>,

@@ -103,7 +103,7 @@ impl<A: Allocator + Copy> Session<A> {
     ///
     /// # Errors
     ///
-    /// Memory was refused.
+    /// An allocation failed.
     pub fn new(
         alloc: A,
         genome: Genome<A>,
@@ -128,7 +128,7 @@ impl<A: Allocator + Copy> Session<A> {
     ///
     /// # Errors
     ///
-    /// Memory was refused.
+    /// An allocation failed.
     pub fn from_batches(
         alloc: A,
         genome: Genome<A>,
@@ -199,7 +199,7 @@ impl<A: Allocator + Copy> Session<A> {
         &self.genome
     }
 
-    /// How many columns the records of the second file have, `None` exactly where there is none.
+    /// How many columns the records of the second file have, `None` exactly if there is none.
     pub fn second_width(&self) -> Option<u8>
         ensures value { result ≡ option_map (λ t. t.width) self.now.second }
         ensures known { IfSome result (λ width. (3 ≤ width) × (width ≤ 6)) }

@@ -25,7 +25,7 @@ impl<A: Allocator + Copy> Session<A> {
         }
     }
 
-    /// Does an edit to one of the two tracks, as [`Session::add`] and its kin do it.
+    /// Does an edit to one of the two tracks, as [`Session::add`] and the like do it.
     ///
     /// # Errors
     ///

@@ -11,15 +11,15 @@ use iv_track::Meter;
 use std::alloc::Allocator;
 
 impl<A: Allocator + Copy> Session<A> {
-    /// Corrects the length of the sequence of this name. No view is built anew or becomes stale: each prints by the new
+    /// Corrects the length of the sequence of this name. No view is rebuilt or becomes stale: each prints by the new
     /// length from then on. It takes no memory.
     ///
     /// A record that was read before may not fit any more; `fits` says whether it does.
     ///
     /// # Errors
     ///
-    /// `UnknownSeq`; then `Shorter`, where a record of the track or of the second file on the sequence has a stop above
-    /// the length; then `Fixed`, where the FASTA file has another number of bases of it. Nothing changes.
+    /// `UnknownSeq`; then `Shorter`, if a record of the track or of the second file on the sequence has a stop above
+    /// the length; then `Fixed`, if the FASTA file has another number of bases of it. Nothing changes.
     pub fn resize(&mut self, name: &[u8], length: u64) -> Result<(), ResizeFault>
         requires { length ≤ most_length }
         ensures ok { OnOk result (resized self.old name.now length ≡ Ok self.new) }

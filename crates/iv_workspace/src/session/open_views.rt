@@ -19,8 +19,8 @@ impl<A: Allocator + Copy> Session<A> {
     ///
     /// # Errors
     ///
-    /// `BadName`, `Taken`, `TooMany` where 64 views are open, then the fault of the words, of which `NoSecond` and `NoFasta` come
-    /// exactly where they ask for a view that needs a second file or a FASTA file, and there is none; then `NoMemory`.
+    /// `BadName`, `Taken`, `TooMany` if 64 views are open, then the fault of the words, of which `NoSecond` and `NoFasta` come
+    /// exactly if they ask for a view that needs a second file or a FASTA file, and there is none; then `NoMemory`.
     pub fn open_view(&mut self, name: &[u8], words: &[&[u8]]) -> Result<(), ViewFault>
         ensures ok { OnOk result (Opens self.old name.now (map (λ word. word.now) words.now) self.new) }
         ensures why { IfErr result (RefusesOpen self.old name.now (map (λ word. word.now) words.now)) }
@@ -49,7 +49,7 @@ impl<A: Allocator + Copy> Session<A> {
     ///
     /// # Errors
     ///
-    /// `NoView` exactly where no view of this name is open. Nothing changes.
+    /// `NoView` exactly if no view of this name is open. Nothing changes.
     pub fn close_view(&mut self, name: &[u8]) -> Result<(), Fault>
         ensures there { OnOk result (IsSome (view_named self.old.views name.now)) }
         ensures ok { OnOk result (self.new ≡ without_view self.old name.now) }
@@ -63,7 +63,7 @@ impl<A: Allocator + Copy> Session<A> {
         Ok(())
     }
 
-    /// Whether a view of this name is open, and needn't be built anew before it is printed.
+    /// Whether a view of this name is open, and needn't be rebuilt before it is printed.
     /// It is for callers outside this repository.
     pub fn is_current(&self, name: &[u8]) -> bool
         ensures { MatchOption (view_named self.now.views name.now) (result ≡ false) (λ v. result ≡ not v.stale) }

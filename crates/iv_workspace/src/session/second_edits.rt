@@ -18,7 +18,7 @@ impl<A: Allocator + Copy> Session<A> {
     ///
     /// # Errors
     ///
-    /// `NoSecond` exactly where there is no second file, or else the line's first fault.
+    /// `NoSecond` exactly if there is no second file, or else the line's first fault.
     pub fn read_second<'a>(&self, line: &'a [u8]) -> Result<RecordRef<'a>, SecondFault>
         ensures value { result ≡ read_second self.now line.now }
         ensures known { IfSome self.now.second (λ t. (3 ≤ t.width) × (t.width ≤ 6)) }
@@ -43,7 +43,7 @@ impl<A: Allocator + Copy> Session<A> {
 
     /// Adds a record to the second file, which there is. No view keeps anything of it, so none becomes stale. At most 16 steps.
     ///
-    /// `Full` comes exactly where the second file holds its limit, unless memory runs out. A record of width 3 needs no
+    /// `Full` comes exactly if the second file holds its limit, unless memory runs out. A record of width 3 needs no
     /// memory for its own copy, and the second file needs none for a record that is there. A refusal changes nothing.
     pub fn add_second(&mut self, row: &RecordRef<'_>) -> Result<Accepted, EditFault>
         requires { FitsSecond self.old row.now }
@@ -65,7 +65,7 @@ impl<A: Allocator + Copy> Session<A> {
 
     /// Takes one copy of a record out of the second file, which there is. No view becomes stale. At most 16 steps.
     ///
-    /// `Absent` comes exactly where there is no copy, unless memory runs out, which is reported only for the copy of
+    /// `Absent` comes exactly if there is no copy, unless memory runs out, which is reported only for the copy of
     /// the record that is searched for, never at width 3. A refusal changes nothing.
     pub fn remove_second(&mut self, row: &RecordRef<'_>) -> Result<Accepted, EditFault>
         requires { FitsSecond self.old row.now }
@@ -85,10 +85,10 @@ impl<A: Allocator + Copy> Session<A> {
         Ok(Accepted::of(&meter, &self.views))
     }
 
-    /// Takes one copy of the old record out of the second file, which there is, and adds the new one, where it is full too. No view
+    /// Takes one copy of the old record out of the second file, which there is, and adds the new one, if it is full too. No view
     /// becomes stale. At most 16 steps.
     ///
-    /// `Absent` comes exactly where there is no copy of the old record, unless memory runs out. A record that is
+    /// `Absent` comes exactly if there is no copy of the old record, unless memory runs out. A record that is
     /// there can be replaced by itself. A refusal changes nothing.
     pub fn replace_second(
         &mut self,

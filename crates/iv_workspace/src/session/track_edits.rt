@@ -14,9 +14,9 @@ use iv_track::{EditFault, Meter};
 use std::alloc::Allocator;
 
 impl<A: Allocator + Copy> Session<A> {
-    /// Adds a record, and then repairs each view. A view whose repair is refused memory becomes stale.
+    /// Adds a record, and then repairs each view. A view whose repair runs out of memory becomes stale.
     ///
-    /// `Full` comes exactly where the track holds its limit, unless memory runs out. A record of width 3 needs no
+    /// `Full` comes exactly if the track holds its limit, unless memory runs out. A record of width 3 needs no
     /// memory for its own copy, and the track needs none for a record that is there. A refusal changes nothing.
     pub fn add(&mut self, row: &RecordRef<'_>) -> Result<Accepted, EditFault>
         requires { Fits self.old.genome self.old.track.width row.now }
@@ -35,9 +35,9 @@ impl<A: Allocator + Copy> Session<A> {
         Ok(Accepted::of(&meter, &self.views))
     }
 
-    /// Takes one copy of a record out, and then repairs each view. A view whose repair is refused memory becomes stale.
+    /// Takes one copy of a record out, and then repairs each view. A view whose repair runs out of memory becomes stale.
     ///
-    /// `Absent` comes exactly where there is no copy, unless memory runs out, which is reported only for the copy of
+    /// `Absent` comes exactly if there is no copy, unless memory runs out, which is reported only for the copy of
     /// the record that is searched for, never at width 3. A refusal changes nothing.
     pub fn remove(&mut self, row: &RecordRef<'_>) -> Result<Accepted, EditFault>
         requires { Fits self.old.genome self.old.track.width row.now }
@@ -56,9 +56,9 @@ impl<A: Allocator + Copy> Session<A> {
     }
 
     /// Adds the new record, in a full track too, and repairs each view; then takes one copy of the old record out, and
-    /// repairs each view again. A view whose repair is refused memory becomes stale.
+    /// repairs each view again. A view whose repair runs out of memory becomes stale.
     ///
-    /// `Absent` comes exactly where there is no copy of the old record, unless memory runs out. A record that is
+    /// `Absent` comes exactly if there is no copy of the old record, unless memory runs out. A record that is
     /// there can be replaced by itself. A refusal changes nothing.
     pub fn replace(
         &mut self,

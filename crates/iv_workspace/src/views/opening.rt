@@ -21,7 +21,7 @@ impl<A: Allocator + Copy> Views<A> {
     ///
     /// # Errors
     ///
-    /// Memory was refused. Nothing changes.
+    /// An allocation failed. Nothing changes.
     pub(crate) fn open(
         &mut self,
         alloc: A,

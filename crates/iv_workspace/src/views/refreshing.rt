@@ -1,5 +1,5 @@
-//! Stale views are built anew.
-ghost use Rattle.std.specs.Prelude.{◌≡◌, ◌<◌, Some, IfOk, IfNone, IfSome, IsSomeAnd, OnOk, OnErr, All, length, option_map, true};
+//! Stale views are rebuilt.
+ghost use Rattle.std.specs.Prelude.{◌≡◌, ◌<◌, ◌⊎◌, Some, IfOk, IfNone, IfSome, IsSomeAnd, OnOk, OnErr, All, length, option_map, true};
 ghost use Rattle.std.specs.List.{slice_get};
 ghost use Rattle.iv_text.specs.Named.{names_of};
 ghost use Rattle.iv_text.specs.Read.{Fits};
@@ -14,11 +14,11 @@ use iv_view::View;
 use std::alloc::{AllocError, Allocator};
 
 impl<A: Allocator + Copy> Views<A> {
-    /// The view of a name, if there is one. If it is stale it is built anew first.
+    /// The view of a name, if there is one. If it is stale it is rebuilt first, and otherwise no step is taken.
     ///
     /// # Errors
     ///
-    /// It is stale, and memory was refused. Nothing changes.
+    /// It is stale, and an allocation failed. Nothing changes.
     pub(crate) fn refresh(
         &mut self,
         name: &[u8],
@@ -35,6 +35,7 @@ impl<A: Allocator + Copy> Views<A> {
         ensures none { IfOk result (λ found. IfNone found (self.new ≡ self.old)) }
         ensures err { OnErr result (self.new ≡ self.old) }
         ensures stale { OnErr result (IsSomeAnd (view_named (all_seen self.old) name.now) (λ v. v.stale ≡ true)) }
+        ensures steps { (meter.new ≡ meter.old) ⊎ IsSomeAnd (view_named (all_seen self.old) name.now) (λ v. v.stale ≡ true) }
     {
         let Some((place, opened)) = self.views.find(name) else {
             return Ok(None);
@@ -44,11 +45,11 @@ impl<A: Allocator + Copy> Views<A> {
         Ok(Some(view))
     }
 
-    /// Builds all stale views anew.
+    /// Rebuilds all stale views. If none is stale no step is taken.
     ///
     /// # Errors
     ///
-    /// A view is stale, and memory was refused. Those before it were built.
+    /// A view is stale, and an allocation failed. Those before it were built.
     pub(crate) fn refresh_all(
         &mut self,
         alloc: A,
@@ -62,6 +63,7 @@ impl<A: Allocator + Copy> Views<A> {
         ensures ok { OnOk result (all_seen self.new ≡ all_current (all_seen self.old)) }
         ensures err { OnErr result (Freshens (all_seen self.old) (all_seen self.new)) }
         ensures stale { OnErr result (0 < stale_count (all_seen self.old)) }
+        ensures steps { (meter.new ≡ meter.old) ⊎ (0 < stale_count (all_seen self.old)) }
     {
         for place in 0..self.views.len() {
             self.refresh_at(place, alloc, track, genome, meter)?;
@@ -69,11 +71,12 @@ impl<A: Allocator + Copy> Views<A> {
         Ok(())
     }
 
-    /// Builds the view at a place anew, if it is stale. Where another view has its state, nothing is built.
+    /// Rebuilds the view at a place, if it is stale. If another view has its state, nothing is built. No step is taken if it isn't
+    /// stale.
     ///
     /// # Errors
     ///
-    /// It is stale, and memory was refused. Nothing changes.
+    /// It is stale, and an allocation failed. Nothing changes.
     fn refresh_at(
         &mut self,
         place: usize,
@@ -89,6 +92,7 @@ impl<A: Allocator + Copy> Views<A> {
         ensures ok { OnOk result (all_seen self.new ≡ current_at place (all_seen self.old)) }
         ensures err { OnErr result (self.new ≡ self.old) }
         ensures stale { OnErr result (IfSome (slice_get (all_seen self.old) place) (λ v. v.1.stale ≡ true)) }
+        ensures steps { (meter.new ≡ meter.old) ⊎ IfSome (slice_get (all_seen self.old) place) (λ v. v.1.stale ≡ true) }
     {
         let opened = &self.views[place];
         if !opened.stale {

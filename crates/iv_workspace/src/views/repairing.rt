@@ -14,7 +14,7 @@ use iv_track::{Meter, Track};
 use std::alloc::Allocator;
 
 impl<A: Allocator + Copy> Views<A> {
-    /// Repairs the states after an edit of the track: a copy of the record was added or taken out. Where memory is refused, the
+    /// Repairs the states after an edit of the track: a copy of the record was added or taken out. If an allocation fails, the
     /// views that need the state become stale.
     pub(crate) fn repair(
         &mut self,

@@ -1,9 +1,11 @@
-use Rattle.std.proofs.Common.{drop}
+use Rattle.std.proofs.Common.{ℕ, drop}
 use Rattle.std.specs.List.{flat_map}
 use Rattle.iv_bytes.proofs.Putting.{Underway}
+use Rattle.iv_workspace.specs.Prints.{AllPrintWithin}
 use Rattle.iv_workspace.specs.Views.{all_text, headed_text}
 use Rattle.iv_workspace.proofs.session.Session.put_views.Given as goal
 
 abbrev pub invariant-loop-place : goal.invariant-loop-place
-invariant-loop-place g l = Underway (g.S.Sink.state l.fn.sink) (g.S.Sink.state l.sink)
-    (flat_map (headed_text l.self) (drop l.place l.self.views)) (all_text l.self)
+invariant-loop-place g l =
+    Underway (g.S.Sink.state l.fn.sink) (g.S.Sink.state l.sink) (flat_map (headed_text l.self) (drop l.place l.self.views)) (all_text l.self)
+    × ((m : ℕ) → AllPrintWithin (drop l.place l.self.views) l.self.genome l.self.track.rows l.meter m → AllPrintWithin l.self.views l.self.genome l.self.track.rows l.fn.meter m)

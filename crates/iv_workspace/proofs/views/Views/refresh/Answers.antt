@@ -1,4 +1,4 @@
-use Rattle.std.proofs.Common.{◌≡◌, ◌∙◌, true, slice_get, ap, sym, subst}
+use Rattle.std.proofs.Common.{◌≡◌, ◌∙◌, inl, inr, refl, true, slice_get, ap, sym, subst}
 use Rattle.std.specs.Prelude.{IfSome, IsSomeAnd}
 use Rattle.std.specs.Map.{lookup}
 use Rattle.std.specs.Option.{option_map}
@@ -36,3 +36,30 @@ returns-in_err-refresh_at-clause-stale g c =
     (subst (λ o. IfSome o (λ v. v.stale ≡ true) → IsSomeAnd o (λ v. v.stale ≡ true)) found (λ is. is)
     (subst (λ l. IfSome (slice_get (all_seen l) c.in-Some.place) (λ v. v.1.stale ≡ true) → IfSome (lookup (bytes_eq c.args.name.now) (all_seen l)) (λ v. v.stale ≡ true)) c.self.view_is stale
     c.in_err-refresh_at.ensures.stale))
+
+pub returns-in_default-clause-steps : goal.returns-in_default-clause-steps
+returns-in_default-clause-steps g c = inl refl
+
+pub returns-in_err-refresh_at-clause-steps : goal.returns-in_err-refresh_at-clause-steps
+returns-in_err-refresh_at-clause-steps g c =
+    let stale = placed-stale c.args.name.now c.self.inside.views c.in-Some.place (sym c.in-Some.ensures.place) in
+    let found = ap (option_map seen) (c.in-Some.ensures.value ∙ ap (lookup (bytes_eq c.args.name.now)) c.self.view_is) ∙ sym (seen-lookup c.args.name.now c.args.self.now) in
+    elim c.refresh_at.ensures.steps [
+      | inl same ↦ inl same
+      | inr is ↦ inr
+          (subst (λ o. IfSome o (λ v. v.stale ≡ true) → IsSomeAnd o (λ v. v.stale ≡ true)) found (λ is. is)
+          (subst (λ l. IfSome (slice_get (all_seen l) c.in-Some.place) (λ v. v.1.stale ≡ true) → IfSome (lookup (bytes_eq c.args.name.now) (all_seen l)) (λ v. v.stale ≡ true)) c.self.view_is stale
+          is))
+    ]
+
+pub returns-clause-steps : goal.returns-clause-steps
+returns-clause-steps g c =
+    let stale = placed-stale c.args.name.now c.self.inside.views c.in-Some.place (sym c.in-Some.ensures.place) in
+    let found = ap (option_map seen) (c.in-Some.ensures.value ∙ ap (lookup (bytes_eq c.args.name.now)) c.self.view_is) ∙ sym (seen-lookup c.args.name.now c.args.self.now) in
+    elim c.refresh_at.ensures.steps [
+      | inl same ↦ inl same
+      | inr is ↦ inr
+          (subst (λ o. IfSome o (λ v. v.stale ≡ true) → IsSomeAnd o (λ v. v.stale ≡ true)) found (λ is. is)
+          (subst (λ l. IfSome (slice_get (all_seen l) c.in-Some.place) (λ v. v.1.stale ≡ true) → IfSome (lookup (bytes_eq c.args.name.now) (all_seen l)) (λ v. v.stale ≡ true)) c.self.view_is stale
+          is))
+    ]

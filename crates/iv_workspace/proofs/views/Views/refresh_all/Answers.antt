@@ -1,9 +1,10 @@
-use Rattle.std.proofs.Common.{◌≡◌, ◌∙◌, true, add-one, ap, slice_get, subst, sym, length, arith}
+use Rattle.std.proofs.Common.{◌≡◌, ◌∙◌, inl, refl, true, add-one, ap, slice_get, subst, sym, length, arith}
 use Rattle.std.specs.Prelude.{IfSome}
 use Rattle.iv_bytes.proofs.Putting.{OnErr-all}
 use Rattle.iv_workspace.specs.ViewStates.{all_seen, current_at}
 use Rattle.iv_workspace.specs.OpenViews.{Freshens}
 use Rattle.iv_workspace.proofs.StateLemmas.{current_to, current-none, current-next, current-length, current-all, current-freshens, seen-length, stale-among}
+use Rattle.iv_workspace.proofs.StepLemmas.{either-stale}
 use Rattle.iv_workspace.proofs.views.Views.refresh_all.Goals as goal
 
 pub loop-place-init : goal.loop-place-init
@@ -11,6 +12,7 @@ loop-place-init g c = (
   c.requires.right,
   current-none (all_seen c.args.self.now),
   omega (arith, c.len-place-end.ensures.value, ap length c.self.view_is),
+  inl refl,
 )
 
 pub refresh_at-requires-clause-within : goal.refresh_at-requires-clause-within
@@ -34,7 +36,17 @@ loop-place-preserved g c = (
   c.in_ok-refresh_at.ensures.ok ∙ ap (current_at c.loop-place.place) c.loop-place.invariant.1 ∙ current-next c.loop-place.place (all_seen c.args.self.now)
       ∙ ap (λ k. current_to k (all_seen c.args.self.now)) (sym (add-one c.loop-place.place)),
   c.loop-place.invariant.2,
+  either-stale c.loop-place.meter c.refresh_at.new.meter c.args.meter.now c.loop-place.place c.args.self.now (all_seen c.loop-place.self) c.loop-place.invariant.1
+      (omega (arith, c.loop-place-test.true, c.loop-place.invariant.2, seen-length c.args.self.now)) c.loop-place.invariant.3 c.refresh_at.ensures.steps,
 )
 
 pub returns-clause-ok : goal.returns-clause-ok
 returns-clause-ok g c = c.loop-place.invariant.1 ∙ current-all c.loop-place.place (all_seen c.args.self.now) (omega (arith, c.loop-place-test.false, c.loop-place.invariant.2, seen-length c.args.self.now))
+
+pub returns-in_err-refresh_at-clause-steps : goal.returns-in_err-refresh_at-clause-steps
+returns-in_err-refresh_at-clause-steps g c =
+    either-stale c.loop-place.meter c.refresh_at.new.meter c.args.meter.now c.loop-place.place c.args.self.now (all_seen c.loop-place.self) c.loop-place.invariant.1
+    (omega (arith, c.loop-place-test.true, c.loop-place.invariant.2, seen-length c.args.self.now)) c.loop-place.invariant.3 c.refresh_at.ensures.steps
+
+pub returns-clause-steps : goal.returns-clause-steps
+returns-clause-steps g c = c.loop-place.invariant.3

@@ -1,6 +1,7 @@
-use Rattle.std.proofs.Common.{◌≡◌, length}
+use Rattle.std.proofs.Common.{◌≡◌, ◌⊎◌, ◌<◌, length}
 use Rattle.iv_text.specs.Named.{names_of}
 use Rattle.iv_workspace.specs.ViewStates.{AreRight, all_seen}
+use Rattle.iv_workspace.specs.OpenViews.{stale_count}
 use Rattle.iv_workspace.proofs.StateLemmas.{current_to}
 use Rattle.iv_workspace.proofs.views.Views.refresh_all.Given as goal
 
@@ -9,3 +10,4 @@ invariant-loop-place g l =
     AreRight l.self (names_of l.genome) l.track.rows
     × (all_seen l.self ≡ current_to l.place (all_seen l.fn.self))
     × (length l.fn.self ≡ l.place-end)
+    × ((l.meter ≡ l.fn.meter) ⊎ (0 < stale_count (all_seen l.fn.self)))

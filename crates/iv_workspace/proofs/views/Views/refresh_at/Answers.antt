@@ -1,4 +1,4 @@
-use Rattle.std.proofs.Common.{◌≡◌, true, subst, arith}
+use Rattle.std.proofs.Common.{◌≡◌, inl, inr, refl, true, subst, arith}
 use Rattle.iv_text.proofs.NamedLemmas.{length-set_value_at}
 use Rattle.iv_text.specs.Named.{names_of}
 use Rattle.iv_workspace.specs.ViewStates.{IsMissing, all_owned}
@@ -24,3 +24,12 @@ returns-clause-right g c =
 
 pub returns-clause-ok : goal.returns-clause-ok
 returns-clause-ok g c = renewed-seen _ _ c.self.view_is c.args.place _ c.index_mut-opened.ensures.value _ c.in_ok-state.state c.renew.ensures
+
+pub returns-then-not-opened-clause-steps : goal.returns-then-not-opened-clause-steps
+returns-then-not-opened-clause-steps g c = inl refl
+
+pub returns-in_err-state-clause-steps : goal.returns-in_err-state-clause-steps
+returns-in_err-state-clause-steps g c = inr (stale-there _ _ c.self.view_is c.args.place _ c.index-opened.ensures c.if-not-opened.false)
+
+pub returns-clause-steps : goal.returns-clause-steps
+returns-clause-steps g c = inr (stale-there _ _ c.self.view_is c.args.place _ c.index-opened.ensures c.if-not-opened.false)

@@ -9,18 +9,19 @@ use Rattle.iv_workspace.specs.States.{State, IsServed, IsWrittenFresh}
 use Rattle.iv_workspace.specs.Views.{view_named}
 use Rattle.iv_workspace.proofs.OpenViewLemmas.{all-named}
 use Rattle.iv_workspace.proofs.PrintLemmas.{match-none, match-some, view-found, view-none, some-and, current-found, same-text, Takes-text, FailsIn-text}
+use Rattle.iv_workspace.proofs.StepLemmas.{none-within, stale-within, named-within}
 use Rattle.iv_workspace.proofs.SessionLemmas.{session-printed, stale-kept, views-changed}
-use Rattle.iv_workspace.proofs.session.Session.print_view.Goals as goal
+use Rattle.iv_workspace.proofs.session.Session.print_view_counted.Goals as goal
 
-pub returns-in_default : goal.returns-in_default
-returns-in_default g c =
+pub returns-in_default-clause-printed : goal.returns-in_default-clause-printed
+returns-in_default-clause-printed g c =
     let none = view-none _ (sym c.in_default.is ∙ c.in_ok-view.ensures.view) in
     let same = subst (λ (o : Option View). IfNone o (c.refresh.new.self ≡ c.self.inside.views)) c.in_default.is c.in_ok-view.ensures.none in
     match-none _ _ _ (none ∙ ap (λ (s : State). view_named s.views c.args.name.now) c.self.view_is)
     (refl, refl, views-changed (λ views. views) _ c.args.self.now (all_seen c.refresh.new.self) c.self.view_is (ap all_seen same))
 
-pub returns-in_err-view : goal.returns-in_err-view
-returns-in_err-view g c =
+pub returns-in_err-view-clause-printed : goal.returns-in_err-view-clause-printed
+returns-in_err-view-clause-printed g c =
     let p = err_from_is_err_and c.from_residual.result c.from_residual.ensures.1 in
     let found = some-and _ (λ v. v.stale ≡ true) c.in_err-view.ensures.stale in
     let fresh = all-named IsWrittenFresh c.args.name.now (all_seen c.self.inside.views) found.0 (sym found.1) c.self.invariant.0.fresh in
@@ -45,12 +46,12 @@ put-requires-clause-served g c =
     (subst (IsServed inside.second) (sym found.2)
     (all-named (λ v. IsServed inside.second v.view) c.args.name.now (all_seen inside.views) found.0 (sym found.1) c.self.invariant.0.served))
 
-pub returns-in_err-finish : goal.returns-in_err-finish
-returns-in_err-finish g c =
+pub returns-in_err-finish-clause-printed : goal.returns-in_err-finish-clause-printed
+returns-in_err-finish-clause-printed g c =
     let p = err_from_is_err_and c.from_residual-in_err-finish.result c.from_residual-in_err-finish.ensures.1 in
     let found = view-found _ c.in-Some.view (sym c.in-Some.is ∙ c.in_ok-view.ensures.view) in
     let text = same-text _ c.args.self.now found.0 c.in-Some.view c.self.view_is found.2 in
-    let took = rw (c.new-buffer.ensures.same, c.new-buffer.ensures.empty) at c.in_ok-put.ensures in
+    let took = rw (c.new-buffer.ensures.same, c.new-buffer.ensures.empty) at c.in_ok-put.ensures.text in
     let names = took.moved.same in
     let named : c.put.new.sink.sink.ghost_name ≡ c.new-buffer.result.sink.ghost_name = cc names in
     let same = c.sink-2-1.given.1 (sym c.new-buffer.ensures.same_reference ∙ sym named) in
@@ -59,11 +60,11 @@ returns-in_err-finish g c =
     (match-some _ _ _ found.0 (found.1 ∙ ap (λ (s : State). view_named s.views c.args.name.now) c.self.view_is)
     (put, views-changed (λ views. with_current views c.args.name.now) _ c.args.self.now (all_seen c.refresh.new.self) c.self.view_is c.in_ok-view.ensures.ok))
 
-pub returns : goal.returns
-returns g c =
+pub returns-clause-printed : goal.returns-clause-printed
+returns-clause-printed g c =
     let found = view-found _ c.in-Some.view (sym c.in-Some.is ∙ c.in_ok-view.ensures.view) in
     let text = same-text _ c.args.self.now found.0 c.in-Some.view c.self.view_is found.2 in
-    let took = rw (c.new-buffer.ensures.same, c.new-buffer.ensures.empty) at c.in_ok-put.ensures in
+    let took = rw (c.new-buffer.ensures.same, c.new-buffer.ensures.empty) at c.in_ok-put.ensures.text in
     let names = took.moved.same in
     let named : c.put.new.sink.sink.ghost_name ≡ c.new-buffer.result.sink.ghost_name = cc names in
     let same = c.sink-2-1.given.1 (sym c.new-buffer.ensures.same_reference ∙ sym named) in
@@ -92,3 +93,30 @@ invariant_of-self-2 g c = (
       c.in_ok-view.ensures.ok,
   c.refresh.ensures.right,
 )
+
+-- ---- steps
+
+pub returns-in_default-clause-steps : goal.returns-in_default-clause-steps
+returns-in_default-clause-steps g c =
+    let none = view-none _ (sym c.in_default.is ∙ c.in_ok-view.ensures.view) ∙ ap (λ (s : State). view_named s.views c.args.name.now) c.self.view_is in
+    none-within _ _ _ _ _ _ (ap (λ (s : State). view_named s.views c.args.name.now) c.self.view_is) none c.refresh.ensures.steps
+
+pub returns-in_err-view-clause-steps : goal.returns-in_err-view-clause-steps
+returns-in_err-view-clause-steps g c =
+    let found = some-and _ (λ v. v.stale ≡ true) c.in_err-view.ensures.stale in
+    stale-within _ _ _ _ _ found.0 (found.1 ∙ ap (λ (s : State). view_named s.views c.args.name.now) c.self.view_is) found.2
+
+pub returns-in_err-put-clause-steps : goal.returns-in_err-put-clause-steps
+returns-in_err-put-clause-steps g c =
+    let found = view-found _ c.in-Some.view (sym c.in-Some.is ∙ c.in_ok-view.ensures.view) in
+    named-within _ c.args.self.now c.args.name.now _ _ _ found.0 c.in-Some.view c.self.view_is found.1 found.2 c.refresh.ensures.steps c.put.ensures.steps
+
+pub returns-in_err-finish-clause-steps : goal.returns-in_err-finish-clause-steps
+returns-in_err-finish-clause-steps g c =
+    let found = view-found _ c.in-Some.view (sym c.in-Some.is ∙ c.in_ok-view.ensures.view) in
+    named-within _ c.args.self.now c.args.name.now _ _ _ found.0 c.in-Some.view c.self.view_is found.1 found.2 c.refresh.ensures.steps c.put.ensures.steps
+
+pub returns-clause-steps : goal.returns-clause-steps
+returns-clause-steps g c =
+    let found = view-found _ c.in-Some.view (sym c.in-Some.is ∙ c.in_ok-view.ensures.view) in
+    named-within _ c.args.self.now c.args.name.now _ _ _ found.0 c.in-Some.view c.self.view_is found.1 found.2 c.refresh.ensures.steps c.put.ensures.steps

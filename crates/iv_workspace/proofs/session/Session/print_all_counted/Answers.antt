@@ -1,4 +1,4 @@
-use Rattle.std.proofs.Common.{◌≡◌, ◌∙◌, ◌<◌, refl, ap, sym, subst}
+use Rattle.std.proofs.Common.{◌≡◌, ◌∙◌, ◌<◌, refl, ap, sym, subst, arith}
 use Rattle.std.proofs.lemmas.Result.{err_from_is_err_and}
 use Rattle.iv_bytes.proofs.Putting.{Takes-finished, FailsIn-finished, FailsIn-given_up}
 use Rattle.iv_workspace.specs.ViewStates.{all_seen}
@@ -6,11 +6,12 @@ use Rattle.iv_workspace.specs.OpenViews.{Freshens, all_current, stale_count}
 use Rattle.iv_workspace.specs.States.{State}
 use Rattle.iv_workspace.specs.Views.{all_text}
 use Rattle.iv_workspace.proofs.PrintLemmas.{all-fresh, same-all_text, Takes-text, FailsIn-text}
+use Rattle.iv_workspace.proofs.StepLemmas.{printed-within}
 use Rattle.iv_workspace.proofs.SessionLemmas.{session-fresher, session-all_printed, views-changed}
-use Rattle.iv_workspace.proofs.session.Session.print_all.Goals as goal
+use Rattle.iv_workspace.proofs.session.Session.print_all_counted.Goals as goal
 
-pub returns-in_err-refresh_all : goal.returns-in_err-refresh_all
-returns-in_err-refresh_all g c =
+pub returns-in_err-refresh_all-clause-printed : goal.returns-in_err-refresh_all-clause-printed
+returns-in_err-refresh_all-clause-printed g c =
     let p = err_from_is_err_and c.from_residual.result c.from_residual.ensures.1 in
     let more = all_seen c.refresh_all.new.self in
     rw (p.1, p.2) (
@@ -22,30 +23,30 @@ returns-in_err-refresh_all g c =
 pub put_views-requires : goal.put_views-requires
 put_views-requires g c = all-fresh (all_seen c.self.inside.views) (all_seen c.refresh_all.new.self) c.in_ok-refresh_all.ensures.ok
 
-pub returns-in_err-put_views : goal.returns-in_err-put_views
-returns-in_err-put_views g c =
+pub returns-in_err-put_views-clause-printed : goal.returns-in_err-put_views-clause-printed
+returns-in_err-put_views-clause-printed g c =
     let p = err_from_is_err_and c.from_residual-in_err-put_views.result c.from_residual-in_err-put_views.ensures.1 in
     let new = views-changed all_current _ c.args.self.now (all_seen c.refresh_all.new.self) c.self.view_is c.in_ok-refresh_all.ensures.ok in
-    let failed = rw (c.new-buffer.ensures.same, c.new-buffer.ensures.empty) at c.in_err-put_views.ensures in
+    let failed = rw (c.new-buffer.ensures.same, c.new-buffer.ensures.empty) at c.in_err-put_views.ensures.text in
     let names = failed.same in
     let named : c.put_views.new.sink.sink.ghost_name ≡ c.new-buffer.result.sink.ghost_name = cc names in
     let same = c.in_err-put_views.sink-1-own.given.1 (sym c.new-buffer.ensures.same_reference ∙ sym named) in
     rw (p.1, p.2, same) (FailsIn-text _ _ _ _ (ap all_text new ∙ same-all_text c.args.self.now) (FailsIn-given_up _ _ _ _ _ _ failed), new)
 
-pub returns-in_err-finish : goal.returns-in_err-finish
-returns-in_err-finish g c =
+pub returns-in_err-finish-clause-printed : goal.returns-in_err-finish-clause-printed
+returns-in_err-finish-clause-printed g c =
     let p = err_from_is_err_and c.from_residual-in_err-finish.result c.from_residual-in_err-finish.ensures.1 in
     let new = views-changed all_current _ c.args.self.now (all_seen c.refresh_all.new.self) c.self.view_is c.in_ok-refresh_all.ensures.ok in
-    let took = rw (c.new-buffer.ensures.same, c.new-buffer.ensures.empty) at c.in_ok-put_views.ensures in
+    let took = rw (c.new-buffer.ensures.same, c.new-buffer.ensures.empty) at c.in_ok-put_views.ensures.text in
     let names = took.moved.same in
     let named : c.put_views.new.sink.sink.ghost_name ≡ c.new-buffer.result.sink.ghost_name = cc names in
     let same = c.sink-2-1.given.1 (sym c.new-buffer.ensures.same_reference ∙ sym named) in
     rw (p.1, p.2, same) (FailsIn-text _ _ _ _ (ap all_text new ∙ same-all_text c.args.self.now) (FailsIn-finished _ _ _ _ _ _ _ took c.in_err-finish.ensures), new)
 
-pub returns : goal.returns
-returns g c =
+pub returns-clause-printed : goal.returns-clause-printed
+returns-clause-printed g c =
     let new = views-changed all_current _ c.args.self.now (all_seen c.refresh_all.new.self) c.self.view_is c.in_ok-refresh_all.ensures.ok in
-    let took = rw (c.new-buffer.ensures.same, c.new-buffer.ensures.empty) at c.in_ok-put_views.ensures in
+    let took = rw (c.new-buffer.ensures.same, c.new-buffer.ensures.empty) at c.in_ok-put_views.ensures.text in
     let names = took.moved.same in
     let named : c.put_views.new.sink.sink.ghost_name ≡ c.new-buffer.result.sink.ghost_name = cc names in
     let same = c.sink-2-1.given.1 (sym c.new-buffer.ensures.same_reference ∙ sym named) in
@@ -64,3 +65,22 @@ invariant_of-self-2 g c = (
       c.in_ok-refresh_all.ensures.ok,
   c.refresh_all.ensures.right,
 )
+
+-- ---- steps
+
+pub returns-in_err-refresh_all-clause-steps : goal.returns-in_err-refresh_all-clause-steps
+returns-in_err-refresh_all-clause-steps g c =
+    let some = subst (λ (s : State). 0 < stale_count s.views) c.self.view_is c.in_err-refresh_all.ensures.stale in
+    λ fresh. absurd (omega (arith, some, fresh))
+
+pub returns-in_err-put_views-clause-steps : goal.returns-in_err-put_views-clause-steps
+returns-in_err-put_views-clause-steps g c =
+    printed-within _ c.args.self.now (all_seen c.refresh_all.new.self) _ _ _ c.self.view_is c.in_ok-refresh_all.ensures.ok c.refresh_all.ensures.steps c.put_views.ensures.steps
+
+pub returns-in_err-finish-clause-steps : goal.returns-in_err-finish-clause-steps
+returns-in_err-finish-clause-steps g c =
+    printed-within _ c.args.self.now (all_seen c.refresh_all.new.self) _ _ _ c.self.view_is c.in_ok-refresh_all.ensures.ok c.refresh_all.ensures.steps c.put_views.ensures.steps
+
+pub returns-clause-steps : goal.returns-clause-steps
+returns-clause-steps g c =
+    printed-within _ c.args.self.now (all_seen c.refresh_all.new.self) _ _ _ c.self.view_is c.in_ok-refresh_all.ensures.ok c.refresh_all.ensures.steps c.put_views.ensures.steps

@@ -1,0 +1,60 @@
+-- What a FASTA file says, line by line: its sequences if no line has a cause to refuse it, else the first fault.
+use Rattle.std.specs.Prelude.{◌≡◌, ℕ, ◌+◌, ◌==◌, ◌&&◌, Bool, false, not, cond, List, [], ◌∷◌, Option, None, Some, length, find}
+use Rattle.std.specs.List.{list_any, concat}
+use Rattle.std.specs.Option.{is_some}
+use Rattle.iv_text.specs.Genome.{Sequences}
+use Rattle.iv_text.specs.GenomeFile.{begins_with, bad_name}
+use Rattle.iv_text.specs.Named.{place_of}
+use Rattle.iv_text.specs.declared.fault.LoadCause.{LoadCause}
+use Rattle.iv_text.specs.declared.fault.LoadCause.TheVariants as cause
+use Rattle.iv_text.specs.declared.fault.LoadFault.{LoadFault}
+use Rattle.iv_fasta.specs.Fasta.{Found, Stretch, header_sign, header_name, is_no_base, has_wrong_length}
+
+-- the line is a header
+abbrev pub is_header : List ℕ → Bool
+is_header line = begins_with header_sign line
+
+-- the lines before the next header
+abbrev pub before_header : List (List ℕ) → List (List ℕ)
+before_header [] = []
+before_header (line ∷ lines) = cond (is_header line) [] (line ∷ before_header lines)
+
+-- the sequences that lines say of which the first has the number n: one for each header, with its name, the number of its line, and
+-- the bases of the lines between it and the next header
+abbrev pub sequences_from : ℕ → List (List ℕ) → Found
+sequences_from n [] = []
+sequences_from n (line ∷ lines) =
+    cond (is_header line)
+    ((header_name line, record { line = n; bases = concat (before_header lines) }) ∷ sequences_from (n + 1) lines)
+    (sequences_from (n + 1) lines)
+
+-- the sequences that the lines of a file say
+abbrev pub sequences_said : List (List ℕ) → Found
+sequences_said lines = sequences_from 1 lines
+
+-- whether a line after these lines has a cause: the name of a header is bad or came before; bases come before the first header, or a
+-- byte is no base
+abbrev pub has_line_cause : List (List ℕ) → List ℕ → LoadCause → Bool
+has_line_cause before line cause.Name = is_header line && bad_name (header_name line)
+has_line_cause before line cause.Repeated = is_header line && is_some (place_of (sequences_said before) (header_name line))
+has_line_cause before line cause.BasesFirst = not (is_header line) && (length (sequences_said before) == 0)
+has_line_cause before line cause.Base = not (is_header line) && list_any is_no_base line
+has_line_cause before line other = false
+
+-- these causes, in the order in which they are reported
+abbrev pub line_causes : List LoadCause
+line_causes = cause.Name ∷ cause.Repeated ∷ cause.BasesFirst ∷ cause.Base ∷ []
+
+-- the first cause of a line after these lines, unless it is empty
+abbrev pub line_cause : List (List ℕ) → List ℕ → Option LoadCause
+line_cause before line = cond (length line == 0) None (find (has_line_cause before line) line_causes)
+
+-- no sequence that the genome names has another length than the genome says
+abbrev pub HaveRightLengths : Sequences → Found → Type 0
+HaveRightLengths g found = find (has_wrong_length g) found ≡ None
+
+-- the fault is that of the first sequence that the genome names and that has another length: the number of its header's line
+pub record IsFirstWrongLength (g : Sequences) (found : Found) (f : LoadFault) : Type 0 where
+  pub wrong : List ℕ × Stretch
+  pub first : find (has_wrong_length g) found ≡ Some wrong
+  pub fault : f ≡ record { line = wrong.1.line; cause = cause.WrongLength }

@@ -1,0 +1,104 @@
+-- The steps of prints.
+use Rattle.std.proofs.lemmas.Option.{slice_get_within, get_or_from_slice_get}
+use Rattle.std.proofs.Common.{◌+◌, ◌<◌, ◌≡◌, ◌⊎◌, ◌∙◌, ℕ, true, false, List, [], ◌∷◌, Option, None, Some, add-one, ap, ap₂, arith, drop, drop-cons, get_or, inl, inr, length, refl, slice_get, subst, sym}
+use Rattle.std.specs.Prelude.{IfSome, IsSomeAnd}
+use Rattle.iv_text.specs.Genome.{Sequences}
+use Rattle.iv_text.specs.Row.{Row}
+use Rattle.iv_view.specs.declared.view.View.{View}
+use Rattle.iv_view.specs.declared.view.View.TheVariants as view
+use Rattle.iv_view.specs.declared.view.KeptView.TheVariants as kept
+use Rattle.iv_workspace.specs.declared.open_view.OpenView.{OpenView}
+use Rattle.iv_workspace.specs.OpenViews.{Shown, all_current, stale_count}
+use Rattle.iv_workspace.specs.Prints.{ViewPrintsWithin, NamedPrintsWithin, AllPrintWithin}
+use Rattle.iv_workspace.specs.States.{State}
+use Rattle.iv_workspace.specs.ViewStates.{all_seen}
+use Rattle.iv_workspace.specs.Views.{view_named}
+use Rattle.iv_workspace.proofs.StateLemmas.{current_to, stale-among}
+
+-- ---- one view
+
+-- no view has the name, and no step was taken
+pub none-within : (o p : Option Shown) (g : Sequences) (rows : List Row) (old new : ℕ) → o ≡ p → None ≡ p → (new ≡ old) ⊎ IsSomeAnd o (λ v. v.stale ≡ true) → NamedPrintsWithin p g rows old new
+none-within None None g rows old new same none (inl is) = is
+none-within None None g rows old new same none (inr is) = absurd is
+none-within None (Some w) g rows old new same none steps = absurd (cc same)
+none-within (Some v) None g rows old new same none steps = absurd (cc same)
+none-within (Some v) (Some w) g rows old new same none steps = absurd (cc none)
+
+-- a stale view may take as many as it needs
+pub stale-within : (p : Option Shown) (g : Sequences) (rows : List Row) (old new : ℕ) (v : Shown) → Some v ≡ p → v.stale ≡ true → NamedPrintsWithin p g rows old new
+stale-within p g rows old new v is stale = subst (λ (o : Option Shown). NamedPrintsWithin o g rows old new) is (λ fresh. absurd (cc (sym stale ∙ fresh)))
+
+-- a view was built again, or no step was taken before it was printed
+pub named-within : (inside s : State) (name : List ℕ) (old mid new : ℕ) (v : Shown) (view : View) → inside ≡ s → Some v ≡ view_named inside.views name → view ≡ v.view
+    → (mid ≡ old) ⊎ IsSomeAnd (view_named inside.views name) (λ v. v.stale ≡ true) → ViewPrintsWithin view inside.genome inside.track.rows mid new
+    → NamedPrintsWithin (view_named s.views name) s.genome s.track.rows old new
+named-within inside s name old mid new v view same found is steps within =
+    subst (λ (t : State). NamedPrintsWithin (view_named t.views name) t.genome t.track.rows old new) same
+    (subst (λ (o : Option Shown). NamedPrintsWithin o inside.genome inside.track.rows old new) found (by steps))
+  where
+    by : (mid ≡ old) ⊎ IsSomeAnd (view_named inside.views name) (λ v. v.stale ≡ true) → v.stale ≡ false → ViewPrintsWithin v.view inside.genome inside.track.rows old new
+    by (inl begun) fresh =
+        subst (λ (n : ℕ). ViewPrintsWithin v.view inside.genome inside.track.rows n new) begun
+        (subst (λ (w : View). ViewPrintsWithin w inside.genome inside.track.rows mid new) is within)
+    by (inr stale) fresh = absurd (cc (sym (subst (λ (o : Option Shown). IsSomeAnd o (λ v. v.stale ≡ true)) (sym found) stale) ∙ fresh))
+
+-- ---- all views
+
+none-taken : (v : View) (g : Sequences) (rows : List Row) (n : ℕ) → ViewPrintsWithin v g rows n n
+none-taken (view.Kept (kept.Merge options)) g rows n = record { no_less = omega arith; at_most = omega arith }
+none-taken (view.Kept (kept.Cluster distance)) g rows n = record { no_less = omega arith; at_most = omega arith }
+none-taken (view.Kept (kept.Complement limited)) g rows n = record { no_less = omega arith; at_most = omega arith }
+none-taken (view.Kept (kept.Genomecov shown)) g rows n = record { no_less = omega arith; at_most = omega arith }
+none-taken (view.Written v) g rows n = tt
+
+-- a print that ends before them takes nothing for these
+pub nothing-taken : (views : List (List ℕ × Shown)) (g : Sequences) (rows : List Row) (n : ℕ) → AllPrintWithin views g rows n n
+nothing-taken [] g rows n = refl
+nothing-taken (v ∷ views) g rows n = (n, none-taken v.1.view g rows n, nothing-taken views g rows n)
+
+-- the view at a place is printed
+pub next-within : (inside s : State) (i : ℕ) (v : List ℕ × Shown) (first old mid : ℕ) → inside ≡ s → Some v ≡ slice_get inside.views i
+    → ((m : ℕ) → AllPrintWithin (drop i s.views) s.genome s.track.rows old m → AllPrintWithin s.views s.genome s.track.rows first m)
+    → ViewPrintsWithin v.1.view inside.genome inside.track.rows old mid
+    → (m : ℕ) → AllPrintWithin (drop (i + 1) s.views) s.genome s.track.rows mid m → AllPrintWithin s.views s.genome s.track.rows first m
+next-within inside s i v first old mid same found so_far one m rest =
+    let at : Some v ≡ slice_get s.views i = found ∙ ap (λ (t : State). slice_get t.views i) same in
+    let low = slice_get_within s.views i v (sym at) in
+    let is : get_or s.views i v ≡ v = get_or_from_slice_get s.views i v v (sym at) in
+    let split : drop i s.views ≡ v ∷ drop (i + 1) s.views = drop-cons s.views i v low ∙ ap₂ (λ (q : List ℕ × Shown) (k : ℕ). q ∷ drop k s.views) is (sym (add-one i)) in
+    let here : ViewPrintsWithin v.1.view s.genome s.track.rows old mid = subst (λ (t : State). ViewPrintsWithin v.1.view t.genome t.track.rows old mid) same one in
+    so_far m (subst (λ (l : List (List ℕ × Shown)). AllPrintWithin l s.genome s.track.rows old m) (sym split) (mid, here, rest))
+
+-- views take as much once they are current
+current-within : (views : List (List ℕ × Shown)) (g : Sequences) (rows : List Row) (old new : ℕ) → AllPrintWithin (all_current views) g rows old new → AllPrintWithin views g rows old new
+current-within [] g rows old new within = within
+current-within (v ∷ views) g rows old new within = (within.0, within.1, current-within views g rows within.0 new within.2)
+
+-- views were built again, or no step was taken before all were printed
+pub printed-within : (inside s : State) (more : List (List ℕ × Shown)) (old mid new : ℕ) → inside ≡ s → more ≡ all_current inside.views
+    → (mid ≡ old) ⊎ (0 < stale_count inside.views) → AllPrintWithin more inside.genome inside.track.rows mid new
+    → stale_count s.views ≡ 0 → AllPrintWithin s.views s.genome s.track.rows old new
+printed-within inside s more old mid new same are steps within fresh =
+    subst (λ (t : State). AllPrintWithin t.views t.genome t.track.rows old new) same
+    (current-within inside.views inside.genome inside.track.rows old new (by steps))
+  where
+    none : stale_count inside.views ≡ 0
+    none = ap (λ (t : State). stale_count t.views) same ∙ fresh
+
+    by : (mid ≡ old) ⊎ (0 < stale_count inside.views) → AllPrintWithin (all_current inside.views) inside.genome inside.track.rows old new
+    by (inl begun) =
+        subst (λ (n : ℕ). AllPrintWithin (all_current inside.views) inside.genome inside.track.rows n new) begun
+        (subst (λ (l : List (List ℕ × Shown)). AllPrintWithin l inside.genome inside.track.rows mid new) are within)
+    by (inr some) = absurd (omega (arith, some, none))
+
+-- ---- building again
+
+-- one more view was looked at: a step was taken only if some view is stale
+pub either-stale : {A : Type 0} (before after first place : ℕ) (old : List (List ℕ × OpenView A)) (now : List (List ℕ × Shown)) → now ≡ current_to place (all_seen old) → place < length (all_seen old)
+    → (before ≡ first) ⊎ (0 < stale_count (all_seen old)) → (after ≡ before) ⊎ IfSome (slice_get now place) (λ v. v.1.stale ≡ true)
+    → (after ≡ first) ⊎ (0 < stale_count (all_seen old))
+either-stale before after first place old now is within (inr some) later = inr some
+either-stale before after first place old now is within (inl same) (inl next) = inl (next ∙ same)
+either-stale before after first place old now is within (inl same) (inr stale) =
+    inr (stale-among place place (all_seen old) (subst (λ l. IfSome (slice_get l place) (λ v. v.1.stale ≡ true)) is stale) within)
