@@ -91,7 +91,7 @@ said_of said option.Width = said.width
 abbrev pub listed : PartialPlan → RunOption → List (List ℕ)
 listed said asked = option_to_list (said_of said asked)
 
--- the value of a setting, where it is of this option
+-- the value of a setting, if it is of this option
 abbrev one_of : RunOption → RunOption → List ℕ → List (List ℕ)
 one_of asked given value = values_of asked ((given, value) ∷ [])
 
@@ -114,7 +114,7 @@ unless-some : (o : Option (List ℕ)) (said new : PartialPlan) → unless_given 
 unless-some None said new h = (refl, cc)
 unless-some (Some value) said new h = absurd (none≢some new h)
 
--- where a value can be given there was none before
+-- if a value can be given there was none before
 set-new : (asked : RunOption) (old new : PartialPlan) (value : List ℕ) → with_value asked value old ≡ Some new → (said_of old asked ≡ None) × (new ≡ set_to asked value old)
 set-new option.Sizes old new value h = unless-some old.sizes (record old { sizes = Some value }) new h
 set-new option.First old new value h = unless-some old.first (record old { first = Some value }) new h

@@ -19,7 +19,7 @@ begun-says run word option.Other = refl
 begun-says run word option.Bases = refl
 begun-says run word option.Width = refl
 
--- where a file is needed it is named
+-- if a file is needed it is named
 needed-of : (other bases other_needed bases_needed : Bool) → ((other || not other_needed) && (bases || not bases_needed)) ≡ true
     → (other_needed ≡ true → other ≡ true) × (bases_needed ≡ true → bases ≡ true)
 needed-of true true o b h = (λ _. refl, λ _. refl)

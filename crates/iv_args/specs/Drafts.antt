@@ -24,7 +24,7 @@ abbrev pub unless_given : Option (List ℕ) → PartialPlan → Option PartialPl
 unless_given None said = Some said
 unless_given (Some value) said = None
 
--- what is said after a value for an option, where it can be given
+-- what is said after a value for an option, if it can be given
 abbrev pub with_value : RunOption → List ℕ → PartialPlan → Option PartialPlan
 with_value option.Sizes value said = unless_given said.sizes (record said { sizes = Some value })
 with_value option.First value said = unless_given said.first (record said { first = Some value })
@@ -36,18 +36,18 @@ with_value option.Width value said = unless_given said.width (record said { widt
 abbrev pub viewed : List (List ℕ) → PartialPlan → PartialPlan
 viewed words said = record said { view = said.view ++ words }
 
--- what is said after the last word, where it can be taken
+-- what is said after the last word, if it can be taken
 abbrev pub last_drafted : Option RunOption → List ℕ → PartialPlan → Option PartialPlan
 last_drafted None word said = Some (viewed (word ∷ []) said)
 last_drafted (Some asked) word said = None
 
--- what is said after a word, the next one where it is a value, and those after
+-- what is said after a word, the next one if it is a value, and those after
 abbrev pub next_drafted : Option RunOption → Bool → List ℕ → List ℕ → (PartialPlan → Option PartialPlan) → (PartialPlan → Option PartialPlan) → PartialPlan → Option PartialPlan
 next_drafted (Some asked) takes word next after_both later said = option_and_then after_both (with_value asked next said)
 next_drafted None true word next after_both later said = after_both (viewed (word ∷ next ∷ []) said)
 next_drafted None false word next after_both later said = later (viewed (word ∷ []) said)
 
--- what is said after words, where they can be taken
+-- what is said after words, if they can be taken
 abbrev pub drafted : Run → List (List ℕ) → PartialPlan → Option PartialPlan
 drafted run [] said = Some said
 drafted run (word ∷ []) said = last_drafted (option_of run word) word said

@@ -14,8 +14,8 @@ is_help_command word = bytes_eq word (codes "--help") || bytes_eq word (codes "h
 abbrev pub is_help_option : List ℕ → Bool
 is_help_option word = bytes_eq word (codes "--help") || bytes_eq word (codes "-h")
 
--- the notice that words ask for: help where one of these words is alone; help on one kind of run where its word comes after the
--- first word that asks for help, or before the option; and the version where `--version` is alone
+-- the notice that words ask for: help if one of these words is alone; help on one kind of run if its word comes after the
+-- first word that asks for help, or before the option; and the version if `--version` is alone
 abbrev pub notice_of : List (List ℕ) → Option Notice
 notice_of [] = None
 notice_of (word ∷ []) =

@@ -1,4 +1,4 @@
--- The words of a run in pieces: a word, with the value after it where it takes one.
+-- The words of a run in pieces: a word, with the value after it if it takes one.
 use Rattle.std.specs.Prelude.{◌≡◌, ℕ, ◌++◌, ◌||◌, List, [], ◌∷◌, Option}
 use Rattle.std.specs.Option.{is_some, option_to_list}
 use Rattle.iv_args.specs.declared.run.Run.{Run}
@@ -14,6 +14,6 @@ abbrev pub piece_words : List Piece → List (List ℕ)
 piece_words [] = []
 piece_words (piece ∷ pieces) = (piece.word ∷ option_to_list piece.value) ++ piece_words pieces
 
--- it has a value exactly where its word is an option of this kind of run, or a word of the view that takes one
+-- it has a value exactly if its word is an option of this kind of run, or a word of the view that takes one
 abbrev pub IsPiece : Run → Piece → Type 0
 IsPiece run piece = is_some piece.value ≡ (is_some (option_of run piece.word) || takes_value run piece.word)

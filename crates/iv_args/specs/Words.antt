@@ -13,7 +13,7 @@ use Rattle.iv_args.specs.declared.run.RunOption.TheVariants as option
 use Rattle.iv_args.specs.declared.plan.Slot.{Slot}
 use Rattle.iv_args.specs.declared.plan.Slot.TheVariants.{Sizes, First, Other, Bases}
 
--- what the words of a run say: its kind; the names of its files, the second BED file's and the FASTA file's where there is one;
+-- what the words of a run say: its kind; the names of its files, the second file's and the FASTA file's if there is one;
 -- the width of a BED file without a record; and the words of the view that is printed, the subcommand first, none for a session
 pub record RunPlan : Type 0 where
   pub run : Run
@@ -63,7 +63,7 @@ takes_other kind.Intersect = true
 takes_other kind.Subtract = true
 takes_other run = false
 
--- whether it has to be
+-- whether one has to be named
 abbrev pub needs_other : Run → Bool
 needs_other kind.Intersect = true
 needs_other kind.Subtract = true
@@ -75,7 +75,7 @@ takes_bases kind.Session = true
 takes_bases kind.Getfasta = true
 takes_bases run = false
 
--- whether it has to be
+-- whether one has to be named
 abbrev pub needs_bases : Run → Bool
 needs_bases kind.Getfasta = true
 needs_bases run = false
@@ -151,7 +151,7 @@ width_of [] = None
 width_of (b ∷ []) = cond (nat_le 51 b && nat_le b 54) (Some (b - 48)) None
 width_of (b ∷ c ∷ bs) = None
 
--- the width that the values given for it say: 3 where there is none
+-- the width that the values given for it say: 3 if there is none
 abbrev pub width_said : List (List ℕ) → Option ℕ
 width_said [] = Some 3
 width_said (value ∷ []) = width_of value
@@ -175,8 +175,8 @@ are_view_words kind.Session (word ∷ words) = false
 are_view_words run words = are_understood (read_words 6 true true words)
 
 -- the words are those of the plan: the first is that of its kind, and the others are separated into settings and the words of its view;
--- `-g` and the file of the records are once, `-width` once at most, and the second file and the FASTA file once where the kind needs
--- them, and at most once else
+-- `-g` and the file of the records are once, `-width` once at most, and the second file and the FASTA file once if the kind needs
+-- them, and at most once otherwise
 pub record IsPlan (words : List (List ℕ)) (plan : RunPlan) : Type 0 where
   pub word : List ℕ
   pub rest : List (List ℕ)

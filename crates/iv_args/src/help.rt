@@ -1,4 +1,4 @@
-//! How the program is used, in words.
+//! The help texts.
 ghost use Rattle.std.specs.Prelude.{◌≡◌};
 ghost use Rattle.iv_args.specs.Texts.{help_text};
 
@@ -71,7 +71,7 @@ examples:
   printf 'open\\tm\\tmerge\\nadd\\tchr1\\t10\\t20\\nprint\\tm\\n' |
     bedkeep session -g chrom.sizes -i genes.bed
 
-exit status: 0 all done, 1 lines of the script were refused, 2 wrong words,
+exit status: 0 all done, 1 lines of the script were refused, 2 bad options,
 3 a damaged file, 4 a file, the input or an output fails, 5 no memory.
 ";
 
@@ -139,7 +139,7 @@ prints:
 const MERGE: &[u8] =
     b"usage: bedkeep merge -g GENOME -i BED [-d N] [-s] [-c LIST [-o LIST]] [-width N]
 
-Prints a row for each block: its sequence, start and stop, and its summaries.
+Prints a row for each block: its sequence, start and end, and its summaries.
 Records that overlap or are book-ended are one block.
   -g GENOME   names and lengths of the sequences, two columns
   -i BED      the records, three to six columns, in any order
@@ -246,7 +246,7 @@ part that both share.
   -width N    columns of a BED without a record, 3 to 6 (default 3)
 
 Different from bedtools: the genome file is needed, and rows come in its order.
-The overlaps of one record come by start and stop of the second file's records.
+The overlaps of one record come by start and end of the second file's records.
 At most one of -u, -v and -c can be given, and none of them beside -wb.
 Standard input is /dev/stdin.
 

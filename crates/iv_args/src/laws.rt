@@ -1,4 +1,4 @@
-//! Laws of the definitions: functions that do nothing, whose contracts are the laws.
+//! Lemmas on the definitions: functions that do nothing, whose contracts are the lemmas.
 ghost use Rattle.std.specs.Prelude.{◌≡◌, ◌≢◌, ◌↔◌, ◌++◌, ◌∷◌, [], ℕ, List, Some, All};
 ghost use Rattle.iv_args.specs.Pieces.{Piece, IsPiece, piece_words};
 ghost use Rattle.iv_args.specs.Words.{IsPlan, RunPlan, option_of};

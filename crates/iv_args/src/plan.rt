@@ -52,7 +52,7 @@ impl<'a, A: Allocator + Copy> Model for Plan<'a, A> {
     ghost invariant = { λ p. (3 ≤ p.width) × (p.width ≤ 6) × (p.view ≡ read_words 6 true true (map (λ word. word.now) p.words.items)) };
 }
 
-/// The plan of what the words have said, where that is one.
+/// The plan of what the words have said, if that is one.
 fn plan_of<'a, A: Allocator + Copy>(run: Run, draft: PlanDraft<'a, A>) -> Result<Plan<'a, A>, Fault>
     ensures ok { IfOk result (λ plan. Makes run draft.entry plan) }
     ensures err { IfErr result (λ fault. (fault ≡ Fault.Words) × ((plan : RunPlan) → ¬ Makes run draft.entry plan)) }
@@ -81,9 +81,9 @@ impl<'a, A: Allocator + Copy> Plan<'a, A> {
     /// What the words after the program's name ask for.
     ///
     /// The first is `session` or a subcommand. After it come, in any order and each once, the options that name files,
-    /// `-width N` where it is wanted, and the options of the subcommand: `-g GENOME` for all; `-i RECORDS`, but for
+    /// `-width N` if it is wanted, and the options of the subcommand: `-g GENOME` for all; `-i RECORDS`, but for
     /// `intersect` and `subtract` `-a RECORDS -b RECORDS`, and for `getfasta` `-bed RECORDS -fi FASTA`; a session takes
-    /// `-b` and `-fi` too where they are wanted. The word after an option that takes a value is its value, whatever it is;
+    /// `-b` and `-fi` too if they are wanted. The word after an option that takes a value is its value, whatever it is;
     /// `N` is one digit from 3 to 6.
     ///
     /// # Errors

@@ -11,7 +11,7 @@ use iv_view::{View, ViewFault};
 use std::alloc::{AllocError, Allocator, Global};
 use std::marker::Model;
 
-/// The width of a BED file without a record, where none is asked for.
+/// The width of a BED file without a record, if none is asked for.
 const USUAL_WIDTH: u8 = 3;
 
 /// The width that a value says: one digit from 3 to 6.
@@ -87,7 +87,7 @@ impl<'a, A: Allocator + Copy> PlanDraft<'a, A> {
         Ok(())
     }
 
-    /// Takes one more word, and the first of the others where that is its value. It says how many of the others it has
+    /// Takes one more word, and the first of the others if that is its value. It says how many of the others it has
     /// taken: one or none.
     fn take(&mut self, run: Run, word: &'a [u8], others: &[&'a [u8]]) -> Result<usize, Fault>
         ensures ok { IfOk result (λ values. drafted run (word.now ∷ map (λ word. word.now) others.now) self.old
@@ -183,7 +183,7 @@ impl<'a, A: Allocator + Copy> PlanDraft<'a, A> {
         }
     }
 
-    /// The width of a BED file without a record, 3 where none is given, and `None` where what is given says none.
+    /// The width of a BED file without a record, 3 if none is given, and `None` if what is given says none.
     pub(crate) fn width(&self) -> Option<u8>
         ensures { result ≡ width_said (option_to_list self.now.width) }
     {

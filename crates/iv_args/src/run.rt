@@ -16,13 +16,13 @@ pub enum Run {
 }
 
 /// An option that names a file, or the one of the width.
-#[derive(Clone, Copy, Debug, PartialEq, Eq)]
+#[derive(Clone, Copy)]
 pub(crate) enum RunOption {
     /// The genome file.
     Sizes,
-    /// The first BED file.
+    /// The first file.
     First,
-    /// The second BED file.
+    /// The second file.
     Other,
     /// The FASTA file.
     Bases,

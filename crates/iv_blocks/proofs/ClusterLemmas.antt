@@ -64,7 +64,7 @@ later-rows r [] all q m = absurd m
 later-rows r (x ∷ rows) all q (inl at) = subst (λ y. Precedes r y) at (precedes-from r x all.0)
 later-rows r (x ∷ rows) all q (inr m) = later-rows r rows all.1 q m
 
--- these are the blocks that the walk has gone past: each starts up to each record that is still to come
+-- these are the blocks that the walk has gone past: each starts up to each record that remains
 pub record IsPassed (number : ℕ) (all left : List Block) (rows : List Row) : Type 0 where
   pub passed : List Block
   pub whole : all ≡ passed ++ left

@@ -35,7 +35,7 @@ open_members (Some b) = b.members
 abbrev pub members_of : List Group → List Row
 members_of blocks = flat_map (λ b. b.members) blocks
 
--- each record that is left is in one of the blocks to come, in order
+-- each record that is left is in one of the remaining blocks, in order
 pub coming-members : (d : ℕ) (rows : List Row) (current : Option Group) → members_of (coming d current rows) ≡ open_members current ++ rows
 coming-members d [] None = refl
 coming-members d [] (Some b) = refl

@@ -21,7 +21,7 @@ module _ {K : Type 0} (cmp : K → K → Ordering) (total : IsTotalOrder cmp) wh
   not_equal_back : (q x : K) → cmp x q ≡ Less → is_at (cmp q) x ≡ false
   not_equal_back q x e = ap is_eq (total.antisymm q x ∙ ap ordering_reverse e)
 
-  -- keys differ where a test of how k compares with them differs
+  -- keys differ if a test of how k compares with them differs
   apart : (test : Ordering → Bool) (k q x : K) → test (cmp k q) ≡ true → test (cmp k x) ≡ false → is_at (cmp q) x ≡ false
   apart test k q x yes_q no_x = go (cmp q x) refl
     where

@@ -46,7 +46,7 @@ then-tests Greater b c d same = refl
 next-key : (s : ℕ) (t : Bool) (p : ℕ) (x : Key) → is_lt (key_cmp (s, t, p) x) ≡ is_le (key_cmp (s, t, p + 1) x)
 next-key s t p x = then-tests (nat_cmp s x.0) (bool_cmp t x.1) (nat_cmp p x.2) (nat_cmp (p + 1) x.2) (next-cmp p x.2)
 
--- where no key from p on is on the first side, the next is on the other
+-- if no key from p on is on the first side, the next is on the other
 next-side : (s p : ℕ) (x : Key) → (x.0 ≡ s → x.1 ≡ false → p ≤ x.2 → ⊥) → is_le (key_cmp (s, false, p) x) ≡ is_le (key_cmp (s, true, 0) x)
 next-side s p x none = go (nat_cmp s x.0) refl x.1 refl
   where
@@ -59,7 +59,7 @@ next-side s p x none = go (nat_cmp s x.0) refl x.1 refl
         let same : s ≡ x.0 = ranked s x.0 Equal is in
         false_from_ne_true _ (λ e. none (sym same) side (le_from_is_le p x.2 e))
 
--- and where none is on the other side, it is on the next sequence
+-- and if none is on the other side, it is on the next sequence
 next-rank : (s p : ℕ) (x : Key) → (x.0 ≡ s → x.1 ≡ true → p ≤ x.2 → ⊥) → is_le (key_cmp (s, true, p) x) ≡ is_le (key_cmp (s + 1, false, 0) x)
 next-rank s p x none = go (nat_cmp s x.0) refl x.1 refl
   where

@@ -32,7 +32,7 @@ module _ (G : List Row) (f : ℕ → ℕ) (s to : ℕ) (lasting : Lasting start_
   abbrev pub is_placed : ℕ → Option Block
   is_placed x = option_map (λ (b : ℕ × List Row). record { sequence = s; start = x; stop = b.0 }) (block_at start_of stop_of 0 G x)
 
-  -- the blocks from position p on, where all others stop at `from` or before
+  -- the blocks from position p on, if all others stop at `from` or before
   pub gaps-are : (k p from : ℕ) → p + k ≡ to → from ≤ to → ((q : ℕ) → from ≤ q → q < p → f q ≡ 0)
       → ((q : ℕ) → p ≤ q → q < from → is_block_start start_of stop_of 0 G q ≡ false)
       → ((x t : ℕ) → x < p → IsBlock start_of stop_of 0 G x t → t ≤ from)

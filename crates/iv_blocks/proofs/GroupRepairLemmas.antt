@@ -98,7 +98,7 @@ kept-beside : (o : Options) (names : List (List ℕ)) (less rows : List Row) (r 
 kept-beside o names less rows r k more beside =
     ap (λ (l : List Row). option_map (kept_block (name_of names k.0) (listed o.summaries)) (block_at start_of stop_of o.distance l k.2)) (more.others (is_in_group o.stranded k.0 k.1) beside)
 
--- so nothing changes where the record is in no group
+-- so nothing changes if the record is in no group
 right-beside : (o : Options) (names : List (List ℕ)) (less rows : List Row) (r : Row) → HasOneMore less r rows → ((minus : Bool) → is_on_side o.stranded minus r ≡ false) → (k : Key) → kept_at o names rows k ≡ kept_at o names less k
 right-beside o names less rows r more beside k =
     kept-beside o names less rows r k more (false_from_ne_true _ (λ e. both_ways _ (beside k.1) (and_parts (r.seq == k.0) (is_on_side o.stranded k.1 r) e).1))
@@ -138,7 +138,7 @@ edit-removed o p g r rows genome width same known fit fits =
     let more = added-more rows r in
     edit-of o p g r rows (added rows r) same known more (fits-last_more genome width rows (added rows r) r more fit fits)
 
--- blocks stay right where the record is in no group
+-- blocks stay right if the record is in no group
 pub beside-added : (o p : Options) (names : List (List ℕ)) (less rows : List Row) (r : Row) (entries : Entries) → p ≡ o → ((minus : Bool) → is_on_side p.stranded minus r ≡ false)
     → rows ≡ added less r → AreBlocksOf o names less entries → AreBlocksOf o names rows entries
 beside-added o p names less rows r entries same beside rows_are right =

@@ -287,7 +287,7 @@ module _ (o : KeptBlocks) (genome : Sequences) (rows : List Row) (g : Group) (fr
           others = step_others now next start stop [] s is;
         }
 
-    -- where there is no member, nothing is put
+    -- if there is no member, nothing is put
     pub sweep-none : g.stranded ≡ o.options.stranded → members_between g from to rows ≡ [] → IsLedger key_cmp o.entries → ArePut g (names_of genome) (between from to rows) o o
     sweep-none apart none ledger = record {
       options = refl;

@@ -235,7 +235,7 @@ module _ (look : Key → Option Kept) (long : ℕ → ℕ) where
             ∙ ap (value_at key_cmp (rank_entries look long n)) key ∙ rank-found n k.1 k.2 here ∙ ap look (sym key)
       ]
 
-  -- and what is found among them is what is looked up, where that is nothing past the ends
+  -- and what is found among them is what is looked up, if that is nothing past the ends
   pub all-look : (n : ℕ) → ((s : ℕ) (t : Bool) (p : ℕ) → long s ≤ p → look (s, t, p) ≡ None) → ((s : ℕ) (t : Bool) (p : ℕ) → n ≤ s → look (s, t, p) ≡ None)
       → (k : Key) → value_at key_cmp (all_entries look long n) k ≡ look k
   all-look n past none k = elim (cases_lt k.0 n) [

@@ -175,7 +175,7 @@ here-records rank to r rows at below =
     ap length (cond-true ((r.seq == rank) && starts_between 0 to r) (r ∷ between_on rank 0 to rows) (between_on rank 0 to rows)
     (and_from _ _ (eq-eqb _ _ at) (between-from 0 to r (omega arith) below))) ∙ omega arith
 
--- and a member where it is in the group
+-- and a member if it is in the group
 pub here-member : (g : Group) (to : ℕ) (r : Row) (rows : List Row) → r.start < to → is_in_group g.stranded g.rank g.minus r ≡ true
     → members_between g 0 to (r ∷ rows) ≡ r ∷ members_between g 0 to rows
 here-member g to r rows below in_group =

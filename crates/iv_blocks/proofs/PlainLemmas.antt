@@ -77,7 +77,7 @@ module _ (o : Options) (g : Sequences) (width : ℕ) (rows : List Row) (fit : Al
   kept-found k = ap (λ (l : Entries). value_at key_cmp l k) kept-all
       ∙ all-look (kept_at o (names_of g) rows) (sequence_length g) (seq_count g) (none-past o g width rows fit) (none-later o g width rows fit) k
 
-  -- so are the entries without summaries, where there are none
+  -- so are the entries without summaries, if there are none
   module _ (none : listed o.summaries ≡ []) where
     plain-kept : (bs : List Group) → map plain_entry bs ≡ map (kept_entry g (listed o.summaries)) bs
     plain-kept [] = refl

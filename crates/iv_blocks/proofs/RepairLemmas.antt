@@ -40,7 +40,7 @@ module _ (d : ℕ) (name : List ℕ) (summaries : List ColumnSummary) where
     | inr none ↦ absurd (none-some b (sym (shown-none G x none) ∙ e))
   ]
 
-  -- where nothing is kept no block starts
+  -- if nothing is kept no block starts
   pub none-shown_is : (G : List Row) (x : ℕ) → Lasting start_of stop_of d G → shown G x ≡ None → is_block_start start_of stop_of d G x ≡ false
   none-shown_is G x lasting e = elim (cases_Bool (is_block_start start_of stop_of d G x)) [
     | inl starts ↦

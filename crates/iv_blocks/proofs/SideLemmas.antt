@@ -27,7 +27,7 @@ off-first p r rs e = cond-false (p r) (r ∷ filter p rs) (filter p rs) e
 pub on-both : (rows : List Row) → filter (is_on Both) rows ≡ rows
 on-both rows = filter-all (is_on Both) rows (λ q m. refl)
 
--- where the first passes, it is the first of those that pass
+-- if the first passes, it is the first of those that pass
 pub first-on : (p : Row → Bool) (rows : List Row) → ((r : Row) (rs : List Row) → rows ≡ r ∷ rs → p r ≡ true) → slice_get (filter p rows) 0 ≡ slice_get rows 0
 first-on p [] on = refl
 first-on p (r ∷ rs) on = ap (λ (l : List Row). slice_get l 0) (on-first p r rs (on r rs refl))

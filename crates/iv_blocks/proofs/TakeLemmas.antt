@@ -16,7 +16,7 @@ use Rattle.iv_blocks.specs.declared.group.Group.{Group}
 use Rattle.iv_blocks.proofs.EntriesLemmas.{value_at-remove_entry}
 use Rattle.iv_blocks.proofs.Keys.{keys_total, keys_exact}
 
--- keys of a group tie where their starts are one
+-- keys of a group tie if their starts are one
 at-group : (g : Group) (x y : ℕ) → is_at (key_cmp (key_of g x)) (key_of g y) ≡ (y == x)
 at-group g x y = same_tests _ _
     (λ e. eq-eqb y x (sym (ap (λ (k : Key). k.2) (keys_exact (key_of g x) (key_of g y) ((Equal-is (key_cmp (key_of g x) (key_of g y))).0 e)))))

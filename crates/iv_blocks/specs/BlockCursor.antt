@@ -43,7 +43,7 @@ pub record TakesForEach (before after : ℕ) (all left : List Block) : Type 0 wh
 abbrev pub gap_between : ℕ → ℕ → List Run
 gap_between from to = if nat_lt from to then record { start = from; stop = to; value = 0 } ∷ [] else []
 
--- the gaps in front of blocks, between them and after them, from one position to another; none where there is no block, unless `shown`
+-- the gaps in front of blocks, between them and after them, from one position to another; none if there is no block, unless `shown`
 abbrev pub gaps_between : Bool → ℕ → ℕ → List Block → List Run
 gaps_between shown from to [] = if shown then gap_between from to else []
 gaps_between shown from to (b ∷ blocks) = gap_between from b.start ++ gaps_between true b.stop to blocks
@@ -52,7 +52,7 @@ gaps_between shown from to (b ∷ blocks) = gap_between from b.start ++ gaps_bet
 abbrev pub sequence_text : Bool → Sequences → ℕ → List Block → List ℕ
 sequence_text wanted g rank blocks = flat_map (gap_row (sequence_name g rank)) (gaps_between wanted 0 (sequence_length g rank) blocks)
 
--- the rows of the gaps of so many sequences from this rank on, with the blocks that are still to come
+-- the rows of the gaps of so many sequences from this rank on, with the blocks that remain
 unfoldable pub texts : Bool → Sequences → ℕ → ℕ → List Block → List ℕ
 texts wanted g rank zero blocks = []
 texts wanted g rank (suc n) blocks =

@@ -10,7 +10,7 @@ use Rattle.iv_cover.specs.Runs.{Run, empty_runs}
 abbrev pub gap_row : List ℕ → Run → List ℕ
 gap_row name gap = name ++ codes "\t" ++ decimal gap.start ++ codes "\t" ++ decimal gap.stop ++ codes "\n"
 
--- the sequence of this rank is shown: each is, or where only some are, those with a record
+-- the sequence of this rank is shown: each is, or if only some are, those with a record
 abbrev pub is_shown : Bool → List Row → ℕ → Bool
 is_shown limited rows rank = not limited || list_any (λ r. r.seq == rank) rows
 

@@ -29,7 +29,7 @@ pub record Kept : Type 0 where
 abbrev pub Entries : Type 0
 Entries = List (Key × Kept)
 
--- the name at a rank, empty where there is none
+-- the name at a rank, empty if there is none
 abbrev pub name_of : List (List ℕ) → ℕ → List ℕ
 name_of names rank = unwrap_or (slice_get names rank) []
 
@@ -62,7 +62,7 @@ within_block d own rows r =
     let stop = block_stop start_of stop_of d own x in
     length (filter (λ q. (q.seq == r.seq) && (nat_le x q.start && nat_lt q.start stop)) rows)
 
--- how many records there are around r: those on its sequence that start within its block; none where r is in no block
+-- how many records there are around r: those on its sequence that start within its block; none if r is in no block
 abbrev pub around : Options → List Row → Row → ℕ
 around o rows r =
     if is_on_side o.stranded false r then within_block o.distance (group o.stranded r.seq false rows) rows r

@@ -13,7 +13,7 @@ use Rattle.iv_blocks.specs.KeptBlocks.{Key, Kept, Entries, kept_block}
 abbrev pub kept_entry : Sequences → List ColumnSummary → Group → Key × Kept
 kept_entry g summaries b = ((b.sequence, false, b.start), kept_block (sequence_name g b.sequence) summaries (b.stop, b.members))
 
--- the entries of these records' blocks at a distance, where the block is open and has some members, after entries that were made before
+-- the entries of these records' blocks at a distance, if the block is open and has some members, after entries that were made before
 abbrev pub entries_with : Sequences → List ColumnSummary → ℕ → Entries → Block → List Row → List Row → Entries
 entries_with g summaries distance entries block members rows = entries ++ map (kept_entry g summaries) (coming distance (Some (with_members block members)) rows)
 
@@ -21,6 +21,6 @@ entries_with g summaries distance entries block members rows = entries ++ map (k
 abbrev pub plain_entry : Group → Key × Kept
 plain_entry b = ((b.sequence, false, b.start), record { stop = b.stop; results = [] })
 
--- a call gave the first of these blocks as it is kept, or none where none is left
+-- a call gave the first of these blocks as it is kept, or none if none is left
 abbrev pub GivesKept : List Group → Option (Key × Kept) → List Group → Type 0
 GivesKept old given new = YieldsFirst (map plain_entry) old given new

@@ -12,7 +12,7 @@ use iv_track::{Meter, Walk};
 use std::alloc::Allocator;
 use std::marker::Model;
 
-/// The blocks that are still to come, in order.
+/// The blocks that remain, in order.
 ///
 /// Its model is the list of them.
 #[derive(Drop)]

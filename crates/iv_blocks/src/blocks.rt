@@ -13,7 +13,7 @@ use iv_track::{Ledger, Meter, Track};
 use std::alloc::{AllocError, Allocator, Global};
 use std::marker::Model;
 
-/// Where a block is kept: the rank of its sequence, whether its records are those on `-` where strands are apart, and its start.
+/// Where a block is kept: the rank of its sequence, whether its records are those on `-` if strands are apart, and its start.
 pub(crate) type Key = (u32, bool, u32);
 
 /// The blocks of a track's records: where each stops and its results, by the rank of its sequence, its side, and its start.
@@ -43,8 +43,8 @@ impl<A: Allocator + Copy> Kept<A> for Blocks<A> {
 
     ghost repair_steps = { block_steps };
 
-    /// Nothing grows but the ledger, the results that are kept, and, while it is built, its entries and the members of a block.
-    /// Where strands are together, the ledger is built at once from one walk over the track; else the blocks are put one by one.
+    /// It allocates only the ledger, the results that are kept, and, while it is built, its entries and the members of a block.
+    /// If strands are together, the ledger is built at once from one walk over the track; else the blocks are put one by one.
     fn build(
         alloc: A,
         options: Options,

@@ -18,7 +18,7 @@ use iv_track::{Meter, Track};
 use std::alloc::Allocator;
 
 impl<A: Allocator + Copy> Blocks<A> {
-    /// Prints a `complement`: a row for each maximal interval that no block covers, of all sequences, or where `limited`, of
+    /// Prints a `complement`: a row for each maximal interval that no block covers, of all sequences, or if `limited`, of
     /// those with a block.
     ///
     /// One walk over the blocks: at most two steps more than there are, and no memory. Lengths are those of this genome.

@@ -14,14 +14,14 @@ use iv_text::{Batches, Genome, Record};
 use iv_track::{Meter, Track};
 use std::alloc::{AllocError, Allocator};
 
-/// So many entries are kept in one vector while they are made: 64 KiB.
+/// How many entries one vector holds while they are made: 64 KiB.
 const MOST_IN_BATCH: usize = 2_048;
 
 /// The blocks of all records, strands together, each as it is kept, by key.
 ///
 /// # Errors
 ///
-/// Memory was refused.
+/// An allocation failed.
 pub(crate) fn entries_of<A: Allocator + Copy>(
     alloc: A,
     options: &Options,
@@ -79,7 +79,7 @@ pub(crate) fn entries_of<A: Allocator + Copy>(
 ///
 /// # Errors
 ///
-/// Memory was refused.
+/// An allocation failed.
 fn put_entry<A: Allocator + Copy>(
     alloc: A,
     options: &Options,

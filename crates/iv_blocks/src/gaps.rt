@@ -12,9 +12,9 @@ use iv_cover::Block;
 use iv_text::{Genome, put_interval};
 use std::alloc::Allocator;
 
-/// Blocks in order, of which the next is taken where it starts early enough.
+/// Blocks in order, of which the next is taken if it starts early enough.
 pub(crate) trait BlocksAhead {
-    /// What counts the steps of calls.
+    /// Counts the steps of calls.
     type Meter;
 
     /// The blocks that are left.
@@ -22,15 +22,15 @@ pub(crate) trait BlocksAhead {
     /// How many steps are counted.
     ghost steps: { Self.Meter → ℕ };
 
-    /// The next block, where it starts at this position of the sequence of this rank, or before it.
+    /// The next block, if it starts at this position of the sequence of this rank, or before it.
     ///
-    /// At most one step for a block, and none where there is no such block.
+    /// At most one step for a block, and none if there is no such block.
     fn next_until(&mut self, rank: u32, position: u64, counter: &mut Self::Meter) -> Option<Block>
         ensures next { GivesPassing (starts_until rank position) (left self.old) result (left self.new) }
         ensures steps { TakesForEach (steps counter.old) (steps counter.new) (left self.old) (left self.new) };
 }
 
-/// Puts the gaps between blocks, of all sequences, or where `limited`, of those with a block, and goes past the blocks.
+/// Puts the gaps between blocks, of all sequences, or if `limited`, of those with a block, and goes past the blocks.
 pub(crate) fn put_gaps<B: BlocksAhead, A: Allocator + Copy, S: Sink>(
     limited: bool,
     genome: &Genome<A>,
@@ -49,7 +49,7 @@ pub(crate) fn put_gaps<B: BlocksAhead, A: Allocator + Copy, S: Sink>(
     Ok(())
 }
 
-/// Puts the gaps of one sequence, and goes past its blocks. Where it has no block, it is one gap, if `empty_wanted`.
+/// Puts the gaps of one sequence, and goes past its blocks. If it has no block, it is one gap, if `empty_wanted`.
 fn put_sequence<B: BlocksAhead, S: Sink>(
     empty_wanted: bool,
     name: &[u8],

@@ -6,18 +6,18 @@ use iv_text::{Record, RecordRef, Strand};
 use std::alloc::Allocator;
 
 /// Records that may be in one block with one another: those of a sequence, or of one strand of it.
-#[derive(Clone, Copy, Debug, PartialEq, Eq, Drop)]
+#[derive(Clone, Copy, Drop)]
 pub(crate) struct Group {
     /// The rank of the sequence.
     pub(crate) rank: u32,
     /// Whether the two strands are apart.
     pub(crate) stranded: bool,
-    /// Where they are, whether these are the records on `-`.
+    /// If so, whether these are the records on `-`.
     pub(crate) minus: bool,
 }
 
 impl Group {
-    /// The group that the record is in; with strands apart, `None` where it is on neither of them.
+    /// The group that the record is in; with strands apart, `None` if it is on neither of them.
     pub(crate) fn of(stranded: bool, row: &RecordRef<'_>) -> Option<Group>
         ensures { MatchOption result
             ((minus : Bool) → is_on_side stranded minus row.now ≡ false)
@@ -54,7 +54,7 @@ impl Group {
     }
 }
 
-/// Whether the strand is `-`, `None` where it isn't `+` either.
+/// Whether the strand is `-`, `None` if it isn't `+` either.
 fn is_minus(strand: Option<Strand>) -> Option<bool>
     ensures { MatchOption result ((minus : Bool) → is_strand minus strand ≡ false) (λ minus. is_strand minus strand ≡ true) }
 {

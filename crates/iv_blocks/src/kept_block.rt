@@ -44,7 +44,7 @@ impl Model for ShortBlock {
 }
 
 impl ShortBlock {
-    /// The results copied.
+    /// A copy of the results.
     fn copy_of(stop: u32, results: &[u8]) -> ShortBlock
         requires { length results.now ≤ 19 }
         ensures { result ≡ record { stop = stop; results = results.now } }
@@ -82,7 +82,7 @@ impl<A: Allocator> Model for LongBlock<A> {
 }
 
 impl<A: Allocator> LongBlock<A> {
-    /// The results copied.
+    /// A copy of the results.
     fn copy_of(alloc: A, stop: u32, results: &[u8]) -> Result<LongBlock<A>, AllocError>
         ensures { IfOk result (λ b. b ≡ record { stop = stop; results = results.now }) }
     {
@@ -125,7 +125,7 @@ impl<A: Allocator> KeptBlock<A> {
         }
     }
 
-    /// Its results, empty where there are no summaries.
+    /// Its results, empty if there are no summaries.
     pub(crate) fn results(&self) -> &[u8]
         ensures { result.now ≡ self.now.results }
     {
@@ -143,7 +143,7 @@ impl<A: Allocator + Copy> KeptBlock<A> {
     ///
     /// # Errors
     ///
-    /// Memory was refused.
+    /// An allocation failed.
     pub(crate) fn copy_of(alloc: A, stop: u32, results: &[u8]) -> Result<Self, AllocError>
         ensures { IfOk result (λ b. b ≡ record { stop = stop; results = results.now }) }
     {

@@ -1,4 +1,4 @@
-//! Laws of the definitions: functions that do nothing, whose contracts are the laws.
+//! Lemmas on the definitions: functions that do nothing, whose contracts are the lemmas.
 ghost use Rattle.std.specs.Prelude.{◌≡◌, ◌↔◌, ◌<◌, ◌≤◌, ℕ, List, All, Contains};
 ghost use Rattle.iv_text.specs.Genome.{Sequences};
 ghost use Rattle.iv_text.specs.Read.{IsOnGenome};
@@ -19,7 +19,7 @@ pub fn gaps_are_maximal()
     ensures once { (rows : List Row) (rank length : ℕ) (a b : Run) → Contains (empty_runs (depth rows rank) 0 length) a → Contains (empty_runs (depth rows rank) 0 length) b → a.start ≡ b.start → a ≡ b }
 {}
 
-/// Two records of a cluster have one number exactly where they are in one block.
+/// Two records of a cluster have one number exactly if they are in one block.
 pub fn numbers_are_of_blocks()
     ensures { (d : ℕ) (g : Sequences) (rows : List Row) (q r : Row) → All (IsOnGenome g) rows → Contains rows q → Contains rows r → (block_number d g rows q ≡ block_number d g rows r) ↔ ((q.seq ≡ r.seq) × ((x : ℕ) × BelongsTo d (on r.seq rows) x q × BelongsTo d (on r.seq rows) x r)) }
 {}

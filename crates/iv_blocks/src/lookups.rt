@@ -42,7 +42,7 @@ impl<A: Allocator + Copy> Blocks<A> {
     }
 }
 
-/// Start and stop of the block that is kept at a key, where it is one of the group.
+/// Start and stop of the block that is kept at a key, if it is one of the group.
 fn of_group<A: Allocator>(group: Group, key: Key, block: &KeptBlock<A>) -> Option<(u32, u32)>
     ensures { MatchOption result (key.0 ≡ group.rank → key.1 ≢ group.minus)
         (λ b. (key ≡ (group.rank, group.minus, b.0)) × (b.1 ≡ block.now.stop)) }

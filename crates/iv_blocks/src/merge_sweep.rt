@@ -14,7 +14,7 @@ use iv_text::Genome;
 use std::alloc::{AllocError, Allocator, Global};
 use std::marker::Model;
 
-/// The options of a merge, the records of a text, and where a summary is `distinct`, room for a value of each.
+/// The options of a merge, the records of a text, and if a summary is `distinct`, room for a value of each.
 #[derive(Drop)]
 pub struct MergeSweep<'t, A: Allocator = Global> {
     options: Options,
@@ -38,7 +38,7 @@ impl<'t, A: Allocator> Model for MergeSweep<'t, A> {
 }
 
 impl<'t, A: Allocator + Copy> MergeSweep<'t, A> {
-    /// A sweep over the records. It takes all the memory that it needs: none where no summary is `distinct`.
+    /// A sweep over the records. It takes all the memory that it needs: none if no summary is `distinct`.
     pub fn new(alloc: A, options: Options, records: TextRecords<'t>) -> Result<Self, AllocError>
         ensures { IfOk result (λ s. s ≡ (options, records.entry)) }
     {

@@ -14,7 +14,7 @@ pub struct Summaries {
 }
 
 impl Summaries {
-    /// None.
+    /// No summaries.
     pub fn none() -> Summaries
         ensures { result ≡ filled [] }
     {

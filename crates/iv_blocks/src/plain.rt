@@ -1,4 +1,4 @@
-//! The blocks of a walk, as the entries of a ledger where no results are kept.
+//! The blocks of a walk, as the entries of a ledger if no results are kept.
 ghost use Rattle.std.specs.Prelude.{◌≡◌};
 ghost use Rattle.std.specs.Iterator.{item_count};
 ghost use Rattle.iv_blocks.specs.Plain.{GivesKept};

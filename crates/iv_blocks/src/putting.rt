@@ -52,7 +52,7 @@ impl<A: Allocator + Copy> Blocks<A> {
     ///
     /// # Errors
     ///
-    /// Memory was refused. Some of the blocks may be put.
+    /// An allocation failed. Some of the blocks may be put.
     pub(crate) fn put_blocks(
         &mut self,
         track: &Track<A>,
@@ -68,7 +68,7 @@ impl<A: Allocator + Copy> Blocks<A> {
         ensures ok { OnOk result (ArePut group (names_of genome.now) (between from to track.now.rows) self.old self.new) }
         ensures steps { TakesUpTo meter.old meter.new (2 + 5 * length (between_on group.rank from to track.now.rows)) }
     {
-        // The keys of the ledger ascend, also where nothing is put.
+        // The keys of the ledger ascend, even if nothing is put.
         let _ordered = self.ledger.len();
         let distance = u64::from(self.options.distance);
         let mut members = Members::of(track, group, from, to, meter);
@@ -94,7 +94,7 @@ impl<A: Allocator + Copy> Blocks<A> {
     ///
     /// # Errors
     ///
-    /// Memory was refused. The blocks are as before.
+    /// An allocation failed. The blocks are as before.
     pub(crate) fn put_block(
         &mut self,
         track: &Track<A>,

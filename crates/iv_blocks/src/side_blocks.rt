@@ -29,7 +29,7 @@ impl<'t> Model for SideBlock<'t> {
     ghost view = { λ b. with_members b.block b.members };
 }
 
-/// The blocks that are still to come of a sweep over records of a text, of those on one side: an iterator.
+/// The blocks that remain of a sweep over records of a text, of those on one side: an iterator.
 ///
 /// Records of one sequence that overlap, are book-ended or are at most `distance` bases apart are in one
 /// block. Blocks come by the sequence's rank, and then by start. The model is the list of those that are left, each with its

@@ -10,7 +10,7 @@ use iv_text::Strand;
 use std::marker::Model;
 
 /// Which records of a sequence may be in one block with one another: all, or those of one strand.
-#[derive(Clone, Copy, Debug, PartialEq, Eq)]
+#[derive(Clone, Copy, PartialEq, Eq)]
 pub(crate) enum Side {
     Both,
     Plus,
@@ -18,7 +18,7 @@ pub(crate) enum Side {
 }
 
 impl Side {
-    /// Whether the record is on this side. Where both are one, its line isn't looked at.
+    /// Whether the record is on this side. If both are one, its line isn't looked at.
     pub(crate) fn has(self, row: &TextRecord<'_>) -> bool
         ensures { result ≡ is_on self row.now }
     {
@@ -33,7 +33,7 @@ impl Side {
 /// Records of a text on one side, in their order: an iterator. Its model is the list of those that are left.
 ///
 /// Those of the other side are between them and are passed over. No call takes memory.
-#[derive(Debug, Drop)]
+#[derive(Drop)]
 pub(crate) struct SideRecords<'t> {
     records: TextRecords<'t>,
     side: Side,

@@ -14,7 +14,7 @@ use iv_cover::Block;
 use iv_index::Span;
 use std::marker::Model;
 
-/// The blocks that are still to come of a sweep over places: an iterator.
+/// The blocks that remain of a sweep over places: an iterator.
 ///
 /// Places of one sequence that overlap, are book-ended or are at most `distance` bases apart are in one block. Blocks come by
 /// the sequence's rank, and then by start. The model is the list of those that are left. No call takes memory.
@@ -50,7 +50,7 @@ impl<'s> SpanBlocks<'s> {
         }
     }
 
-    /// Where the next block starts: the rank of its sequence, and the position. `None` where no block is left.
+    /// Where the next block starts: the rank of its sequence, and the position. `None` if no block is left.
     fn next_start(&self) -> Option<(u32, u32)>
         ensures { result ≡ next_start self.now }
     {

@@ -93,7 +93,7 @@ fn put_members<A: Allocator + Copy, S: Sink>(
     Ok(())
 }
 
-/// Puts a row for each maximal interval that no record covers, of all sequences, or where `limited`, of those with a record.
+/// Puts a row for each maximal interval that no record covers, of all sequences, or if `limited`, of those with a record.
 ///
 /// The places of the records are in the order of a track and are on the genome. One sweep over them, and no memory. On a
 /// fault the sink has taken a prefix of the text.

@@ -66,7 +66,7 @@ Puts-back old mid new (Err e) a b first puts = FailsIn-back old mid new a b firs
 pub Puts-err : {T E : Type 0} (old new : SinkState) (result : Result T E) (text : List ℕ) → IsErr result → FailsIn old new text → Puts old new result text
 Puts-err old new result text is fails = MatchResult-from_err result (λ _. Takes old new text) (λ _. FailsIn old new text) is (λ _. fails)
 
--- in the midst of putting the whole text: what is taken since the start, and what is to come, are the whole
+-- while the whole text is put: what is taken since the start, and what remains, are the whole
 pub record Underway (start now : SinkState) (to_come whole : List ℕ) : Type 0 where
   pub done : List ℕ
   pub took : Takes start now done
@@ -120,7 +120,7 @@ pub laid-length : (row copied : List ℕ) (at n : ℕ) → at + n ≤ length row
     → length (put_mid at ((at + n) - at) row copied) ≡ length row
 laid-length row copied at n within long = grind (arith, common_steps)
 
--- the same, where its result is returned
+-- the same, if its result is returned
 pub Underway-last : {T E : Type 0} (start mid now : SinkState) (to_come : List ℕ) (result : Result T E) (whole : List ℕ)
     → Underway start mid to_come whole → Puts mid now result to_come → Puts start now result whole
 Underway-last start mid now to_come (Ok x) whole u puts = rw u.all (Takes-append start mid now u.done to_come u.took puts)
@@ -130,7 +130,7 @@ Underway-last start mid now to_come (Err e) whole u puts = rw u.all (FailsIn-bac
 pub tail_is : (n : ℕ) (xs : List ℕ) → take (length xs - n) (drop n xs) ≡ drop n xs
 tail_is n xs = take_all (length xs - n) (drop n xs) (omega (arith, length-drop n xs))
 
--- the sink took the first n bytes of what is to come
+-- the sink took the first n bytes of what remains
 pub Underway-pushed : (start mid now : SinkState) (n : ℕ) (to_come whole : List ℕ)
     → Underway start mid to_come whole → Takes mid now (take n to_come) → Underway start now (take (length to_come - n) (drop n to_come)) whole
 Underway-pushed start mid now n to_come whole u took =
@@ -229,7 +229,7 @@ FailsIn-given_up old mid name after held text fails =
       failed = fails.failed;
     }
 
--- the same, where what is held afterwards is known by an equation, in the midst of handing on
+-- the same, if what is held afterwards is known by an equation, while handing on
 pub Takes-sent : (start old new : SinkState) (name : GName) (n : ℕ) (held later shown : List ℕ)
     → Takes start (buffered old name held) [] → shown ≡ held → Takes old new (take n shown) → later ≡ drop n held
     → Takes start (buffered new name later) []

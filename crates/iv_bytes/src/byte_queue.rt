@@ -53,7 +53,7 @@ impl ByteQueue {
         self.start += n;
     }
 
-    /// Adds as many of the bytes as there is room for: at least one, where nothing is held.
+    /// Adds as many of the bytes as there is room for: at least one, if nothing is held.
     pub fn add(&mut self, bytes: &[u8]) -> usize
         ensures within { result ≤ length bytes.now }
         ensures some { self.old ≡ [] → 0 < length bytes.now → 0 < result }

@@ -9,7 +9,7 @@ use crate::source::{ReadFault, Source};
 use std::alloc::{AllocError, Allocator, Global};
 
 /// A sink in memory, for tests: it has room for `room` bytes, takes at most `piece` of them at a time, never grows,
-/// and fails only where its room is used up.
+/// and fails only if its room is used up.
 #[derive(Drop)]
 pub struct MemSink<A: Allocator = Global> {
     bytes: Vec<u8, A>,

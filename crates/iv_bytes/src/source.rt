@@ -12,7 +12,7 @@ pub struct ReadFault;
 
 /// Gives bytes.
 pub trait Source {
-    /// What is still to come, and whether it is failed.
+    /// What remains, and whether it is failed.
     ghost state: { Self → SourceState };
 
     /// Writes the next bytes to the front and says how many; none only at the end. A fault gives nothing and fails the source for good.

@@ -32,7 +32,7 @@ status_of ending.InputTooLong = 4
 status_of ending.Output = 4
 status_of ending.Memory = 5
 
--- the ending where the system does not give the words, by the kind of its error
+-- the ending if the system does not give the words, by the kind of its error
 abbrev pub ending_of_kind : ErrorKind → Ending
 ending_of_kind OutOfMemory = ending.Memory
 ending_of_kind kind = ending.Words 16
@@ -101,12 +101,12 @@ slot_meant ending.InputTooLong = None
 slot_meant ending.Output = None
 slot_meant ending.Memory = None
 
--- the name of a file of a plan, empty where the plan has none
+-- the name of a file of a plan, empty if the plan has none
 abbrev pub name_at : RunPlan → Option Slot → List ℕ
 name_at plan None = []
 name_at plan (Some slot) = unwrap_or (file_of plan slot) []
 
--- the name of the file that an ending speaks of, empty where it speaks of none
+-- the name of the file that an ending speaks of, empty if it speaks of none
 abbrev pub name_meant : RunPlan → Ending → List ℕ
 name_meant plan before = name_at plan (slot_meant before)
 
@@ -122,7 +122,7 @@ said_of name text = said (name ++ codes ": " ++ text)
 abbrev pub said_of_line : List ℕ → ℕ → List ℕ → List ℕ
 said_of_line name number text = said_of name (codes "line " ++ decimal number ++ codes ": " ++ text)
 
--- the line that tells of an ending, given the name of the file that is meant; none where all was carried out
+-- the line that reports an ending, given the name of the file that is meant; none if all was carried out
 abbrev pub line_of : List ℕ → Ending → List ℕ
 line_of name ending.Done = []
 line_of name ending.Refused = []

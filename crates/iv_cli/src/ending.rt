@@ -33,7 +33,7 @@ pub enum Ending {
     InputTooLong,
     /// Standard output or standard error cannot be written.
     Output,
-    /// Memory was refused.
+    /// An allocation failed.
     Memory,
 }
 
@@ -48,7 +48,7 @@ impl From<AllocError> for Ending {
     }
 }
 
-/// The ending where the system does not give the words: they are no text, or memory was refused.
+/// The ending if the system does not give the words: they are no text, or an allocation failed.
 impl From<io::Error> for Ending {
     ghost use Rattle.std.specs.Prelude.{◌≡◌};
     ghost use Rattle.std.specs.IoError.{error_kind};
@@ -64,7 +64,7 @@ impl From<io::Error> for Ending {
     }
 }
 
-/// The ending where the words are no plan, or memory was refused.
+/// The ending if the words are no plan, or an allocation failed.
 impl From<Fault> for Ending {
     ghost use Rattle.std.specs.Prelude.{◌≡◌};
     ghost use Rattle.iv_cli.specs.Endings.{ending_of_words};
@@ -145,7 +145,7 @@ impl Ending {
         }
     }
 
-    /// The exit status: 0 where all was done and 1 where lines of the script were refused; 2 for wrong words, 3 for a
+    /// The exit status: 0 if all was done and 1 if lines of the script were refused; 2 for bad options, 3 for a
     /// damaged file, 4 for a file, an input or an output that fails or is too long, 5 for out of memory.
     pub fn status(self) -> u8
         ensures { result ≡ status_of self }
@@ -161,7 +161,7 @@ impl Ending {
         }
     }
 
-    /// Puts the line that tells of the ending, `bedkeep: TEXT` or `bedkeep: FILE: TEXT`, and nothing where all was
+    /// Puts the line that reports the ending, `bedkeep: TEXT` or `bedkeep: FILE: TEXT`, and nothing if all was
     /// done or the messages name each refused line. The name is that of the file that is meant.
     pub fn put_line<S: Sink>(self, name: &[u8], sink: &mut S) -> Result<(), WriteFault>
         ensures line { Puts (S.state sink.old) (S.state sink.new) result (line_of name.now self) }
@@ -182,7 +182,7 @@ impl Ending {
         }
     }
 
-    /// The name of the file of a plan that the ending speaks of, nothing where it speaks of none.
+    /// The name of the file of a plan that the ending speaks of, nothing if it speaks of none.
     pub fn file_meant<'a, A: Allocator + Copy>(self, plan: &Plan<'a, A>) -> &'a [u8]
         ensures { result.now ≡ name_meant plan.now self }
     {

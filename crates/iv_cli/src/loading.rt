@@ -27,7 +27,7 @@ fn into_bed<A: Allocator + Copy>(file: Option<KeptFile<Record<A>, A>>) -> Option
 ///
 /// # Errors
 ///
-/// Memory was refused.
+/// An allocation failed.
 fn session_of<A: Allocator + Copy>(files: LoadedFiles<Record<A>, A>) -> Result<Session<A>, CliFault>
     requires { files.limit ≤ most_records }
     ensures ok { IfOk result (λ session. session ≡ begun files.genome files.first files.second files.bases files.limit) }
@@ -46,7 +46,7 @@ fn session_of<A: Allocator + Copy>(files: LoadedFiles<Record<A>, A>) -> Result<S
 }
 
 /// The session that the files of a run begin, with no view open, once the BED files are read; or the fault of the first damaged
-/// file. `bases` are the bytes of the FASTA file, where there is one. They are taken: the bases stay in their memory.
+/// file. `bases` are the bytes of the FASTA file, if there is one. They are taken: the bases stay in their memory.
 pub fn begin_session<A: Allocator + Copy>(
     loading: Loading<Record<A>, A>,
     bases: Option<Vec<u8, A>>,
@@ -62,7 +62,7 @@ pub fn begin_session<A: Allocator + Copy>(
 /// It is for callers outside this repository.
 ///
 /// A BED file without a record has the width that the plan says, and each may have at most `limit` records. `bases` are the bytes of
-/// the FASTA file, where the plan names one; they are taken.
+/// the FASTA file, if the plan names one; they are taken.
 pub fn load<A: Allocator + Copy>(
     alloc: A,
     plan: &Plan<'_, A>,

@@ -87,7 +87,7 @@ different-moved old new moved =
 pub sorted-rise : (values : List (List ℕ)) → IsSorted cmp values → InOrder cmp values
 sorted-rise values up = in_order-sorted cmp nat_list_cmp_total values up
 
--- what a sort says of its closure, where each call compares two values
+-- what a sort says of its closure, if each call compares two values
 pub sorted-by-bytes : {F : Type 0} {g : Mut F (Bor (List ℕ) × (Bor (List ℕ) × Unit {0})) Ordering} {f : F} (values : List (List ℕ))
     → ((lt : List ℕ → List ℕ → Bool) → IsStrictWeakOrder lt → ComparesAs g lt f → IsSortedBy lt values)
     → ((a : Bor (List ℕ) × (Bor (List ℕ) × Unit {0})) (r : Ordering) (f' : F) → Called g f a r f' → (r ≡ cmp a.0.now a.1.0.now) × (f' ≡ f))

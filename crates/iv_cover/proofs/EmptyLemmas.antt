@@ -6,7 +6,7 @@ use Rattle.iv_cover.specs.Runs.{Run}
 use Rattle.iv_cover.specs.Runs.{joined, runs_over, empty_runs}
 use Rattle.iv_cover.proofs.RunsLemmas.{runs-none, runs-run}
 
--- where there is no position there is no run
+-- if there is no position there is no run
 pub empty_runs-none : (f : ℕ → ℕ) (from to : ℕ) → to ≤ from → empty_runs f from to ≡ []
 empty_runs-none f from to h = rw (runs-none f from to h) refl
 

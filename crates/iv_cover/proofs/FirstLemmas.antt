@@ -1,4 +1,4 @@
--- A first piece of a text, and what is to come after it.
+-- A first piece of a text, and what remains after it.
 use Rattle.std.proofs.Common.{◌≡◌, ℕ, List, ◌++◌, sym, subst}
 use Rattle.iv_bytes.specs.Sinks.{SinkState, Takes, FailsIn}
 use Rattle.iv_bytes.proofs.Putting.{Underway, FailsIn-front, Underway-more, Underway-fails}
@@ -9,7 +9,7 @@ Underway-first start now piece to_come whole is took = record { done = piece; to
 pub FailsIn-first : (start now : SinkState) (piece to_come whole : List ℕ) → whole ≡ piece ++ to_come → FailsIn start now piece → FailsIn start now whole
 FailsIn-first start now piece to_come whole is fails = subst (FailsIn start now) (sym is) (FailsIn-front start now piece to_come fails)
 
--- the next piece of what is to come
+-- the next piece of what remains
 pub Underway-step : (start mid now : SinkState) (left piece to_come whole : List ℕ) → left ≡ piece ++ to_come → Underway start mid left whole → Takes mid now piece → Underway start now to_come whole
 Underway-step start mid now left piece to_come whole is u took =
     Underway-more start mid now piece to_come whole (subst (λ (l : List ℕ). Underway start mid l whole) is u) took

@@ -88,7 +88,7 @@ Tiles-joined f p to (x ∷ xs) h =
       | inr differ ↦ rw differ.0 (refl, omega arith, λ q low high. let e : q ≡ p = omega arith in ap f e, differ.1, h)
     ]
 
--- the runs keep the law
+-- the runs keep the rule
 pub Tiles-runs_over : (f : ℕ → ℕ) (p n : ℕ) → Tiles f p (p + n) (runs_over f p n)
 unfolding runs_over
 Tiles-runs_over f p zero = omega arith

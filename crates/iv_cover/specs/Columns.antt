@@ -19,7 +19,7 @@ column_numbered n =
     else if n == 6 then Some Strand
     else None
 
--- the value of a record's column, where its sequence has this name; empty beyond the record's width
+-- the value of a record's column, if its sequence has this name; empty beyond the record's width
 abbrev pub column_value : List ℕ → Column → Row → List ℕ
 column_value sequence Sequence r = sequence
 column_value sequence Start r = decimal r.start

@@ -32,12 +32,12 @@ abbrev pub still_open : Option Group → List Group
 still_open None = []
 still_open (Some block) = block ∷ []
 
--- the open block, where the record closes it
+-- the open block, if the record closes it
 abbrev pub closed_by : ℕ → Option Group → Row → List Group
 closed_by d None r = []
 closed_by d (Some block) r = if is_joined d block r then [] else block ∷ []
 
--- the blocks that are still to come, with this one open and these records left
+-- the blocks that remain, with this one open and these records left
 abbrev pub coming : ℕ → Option Group → List Row → List Group
 coming d current [] = still_open current
 coming d current (r ∷ rs) = closed_by d current r ++ coming d (Some (open_after d current r)) rs

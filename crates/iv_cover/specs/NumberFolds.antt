@@ -1,4 +1,4 @@
--- How two numbers are taken together.
+-- How two numbers are combined.
 use Rattle.std.specs.Prelude.{ℕ, ℤ, ◌+ℤ◌, unsigned_abs, fold, List, Option, None, Some}
 use Rattle.std.specs.Int.{int_min, int_max}
 use Rattle.std.specs.Option.{option_and_then}
@@ -22,11 +22,11 @@ abbrev pub size : Option ℤ → ℕ
 size None = 0
 size (Some number) = unsigned_abs number
 
--- numbers to come, taken together with what was taken before
+-- remaining numbers, combined with what was combined before
 abbrev pub from_taken : (ℤ → ℤ → ℤ) → Option ℤ → List ℤ → Option ℤ
 from_taken both None numbers = taken_together both numbers
 from_taken both (Some taken) numbers = Some (fold both taken numbers)
 
--- the numbers among values to come, taken together with what was taken before; none where some value is no number
+-- the numbers among remaining values, combined with what was combined before; none if some value is no number
 abbrev pub going : (ℤ → ℤ → ℤ) → Option ℤ → List (List ℕ) → Option ℤ
 going both taken values = option_and_then (from_taken both taken) (numbers_of values)

@@ -11,7 +11,7 @@ use Rattle.iv_cover.specs.declared.op.Op.TheVariants.{Distinct}
 abbrev pub results_of : (Column → List (List ℕ)) → List ColumnSummary → List ℕ
 results_of values summaries = flat_map (λ s. codes "\t" ++ summary_of s.op (values s.column)) summaries
 
--- where the different ones of so many values are asked for, there is room for so many
+-- if the different ones of so many values are asked for, there is room for so many
 abbrev pub HasRoom : ℕ → ℕ → List ColumnSummary → Type 0
 HasRoom room count summaries = All (λ s. s.op ≡ Distinct → count ≤ room) summaries
 

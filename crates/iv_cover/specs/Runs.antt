@@ -7,7 +7,7 @@ pub record Run : Type 0 where
   pub stop : ℕ
   pub value : ℕ
 
--- one more position in front of runs: it joins the first of them exactly where the two have one value
+-- one more position in front of runs: it joins the first of them exactly if the two have one value
 abbrev pub joined : ℕ → ℕ → List Run → List Run
 joined p value [] = record { start = p; stop = p + 1; value = value } ∷ []
 joined p value (run ∷ runs) =

@@ -10,7 +10,7 @@ abbrev pub spelled_as : Option ℤ → Spelled
 spelled_as None = Other
 spelled_as (Some number) = Number number
 
--- what a value spells: nothing where it is a full stop, a number, or neither
+-- what a value spells: nothing if it is a full stop, a number, or neither
 abbrev pub spelled : List ℕ → Spelled
 spelled value = if bytes_eq value (codes ".") then Missing else spelled_as (number_of value)
 
@@ -20,7 +20,7 @@ IsShort Missing = ⊤
 IsShort (Number number) = unsigned_abs number < 10 ^ 15
 IsShort Other = ⊤
 
--- a call told what the first of these values spells, and left the others; or there was none
+-- a call gave what the first of these values spells, and left the others; or there was none
 abbrev pub SpellsFirst : {V : Type 0} → (V → List (List ℕ)) → V → Option Spelled → V → Type 0
 SpellsFirst values old None new = values old ≡ []
 SpellsFirst values old (Some found) new = (value : List ℕ) × (values old ≡ value ∷ values new) × (found ≡ spelled value)

@@ -31,7 +31,7 @@ number_of (byte ∷ bytes) =
     if byte == minus_sign then option_map (λ n. neg_ℤ (pos n)) (number_up_to 15 bytes)
     else option_map pos (number_up_to 15 (byte ∷ bytes))
 
--- the numbers among the values, without each value that is a full stop; none where some other value is no number
+-- the numbers among the values, without each value that is a full stop; none if some other value is no number
 abbrev pub numbers_of : List (List ℕ) → Option (List ℤ)
 numbers_of [] = Some []
 numbers_of (value ∷ values) =
@@ -39,12 +39,12 @@ numbers_of (value ∷ values) =
     then numbers_of values
     else option_and_then (λ number. option_map (λ numbers. number ∷ numbers) (numbers_of values)) (number_of value)
 
--- numbers taken together two by two, if there are any
+-- numbers combined two by two, if there are any
 abbrev pub taken_together : (ℤ → ℤ → ℤ) → List ℤ → Option ℤ
 taken_together both [] = None
 taken_together both (number ∷ numbers) = Some (fold both number numbers)
 
--- a number in decimal; a full stop where there is none
+-- a number in decimal; a full stop if there is none
 abbrev pub number_text : Option ℤ → List ℕ
 number_text None = codes "."
 number_text (Some number) = signed_decimal number

@@ -11,7 +11,7 @@ use iv_track::{Meter, Rows};
 use std::alloc::{Allocator, Global};
 use std::marker::Model;
 
-/// The blocks that are still to come of a walk over a track.
+/// The blocks that remain of a walk over a track.
 ///
 /// Records of one sequence that overlap, are book-ended or lie at most `distance` bases apart are in one
 /// block. Blocks come by the sequence's rank, and then by start. The model is the list of those that are left,

@@ -35,7 +35,7 @@ pub(crate) fn put_distinct<'t, V: Values<'t>, A: Allocator, S: Sink>(
     put_sorted(room, sink)
 }
 
-/// Fills a vector that has room for them with the values of a column, in place of what it held.
+/// Fills a vector that has room for them with the values of a column, instead of what it held.
 fn fill<'t, V: Values<'t>, A: Allocator>(
     name: &'t [u8],
     column: Column,

@@ -6,11 +6,11 @@ ghost use Rattle.iv_bytes.specs.Sinks.{in_memory};
 use iv_bytes::{Sink, WriteFault};
 use std::alloc::{AllocError, Allocator};
 
-/// A sink whose text grows. It fails where a growth is refused.
+/// A sink whose text grows. It fails if an allocation fails.
 #[derive(Drop)]
 pub(crate) struct GrowingText<A: Allocator> {
     text: Vec<u8, A>,
-    // What the growth answered that was refused.
+    // The error of the allocation that failed.
     refused: Option<AllocError>,
 }
 
@@ -31,7 +31,7 @@ impl<A: Allocator> GrowingText<A> {
     ///
     /// # Errors
     ///
-    /// A growth was refused.
+    /// An allocation failed.
     pub(crate) fn finish(self) -> Result<Vec<u8, A>, AllocError>
         ensures { IfOk result (λ text. (text.items ≡ self.text.items) × (self.refused ≡ None)) }
     {

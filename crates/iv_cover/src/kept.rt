@@ -37,7 +37,7 @@ pub trait Kept<A: Allocator + Copy> {
         ensures right { IfOk result (λ s. is_right s (names_of genome.now) track.now.rows) }
         ensures built_for { IfOk result (λ s. built_for s ≡ settings) };
 
-    /// Repairs the state after the record was added to the track. After a refusal it has to be built anew.
+    /// Repairs the state after the record was added to the track. After a refusal it must be rebuilt.
     fn added(
         &mut self,
         track: &Track<A>,
@@ -52,7 +52,7 @@ pub trait Kept<A: Allocator + Copy> {
         ensures built_for { OnOk result (built_for self.new ≡ built_for self.old) }
         ensures steps { TakesUpTo meter.old meter.new (repair_steps (built_for self.old) track.now.rows row.now) };
 
-    /// Repairs the state after one copy of the record was taken out of the track. After a refusal it has to be built anew.
+    /// Repairs the state after one copy of the record was taken out of the track. After a refusal it must be rebuilt.
     fn removed(
         &mut self,
         track: &Track<A>,

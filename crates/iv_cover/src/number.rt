@@ -48,7 +48,7 @@ impl Spelled {
         }
     }
 
-    /// What the value of a record's column spells, where its sequence has this name. A position isn't written first.
+    /// What the value of a record's column spells, if its sequence has this name. A position isn't written first.
     pub fn of_column<'a>(column: Column, sequence: &'a [u8], row: &RecordRef<'a>) -> Spelled
         ensures value { result ≡ spelled (column_value sequence.now column row.now) }
         ensures short { IsShort result }

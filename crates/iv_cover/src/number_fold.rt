@@ -1,4 +1,4 @@
-//! Numbers taken together two by two.
+//! Numbers combined two by two.
 ghost use Rattle.std.specs.Prelude.{◌≡◌, ◌≤◌, ◌+◌, ◌<◌, ◌^◌, ◌∷◌, List, ℕ, None, unsigned_abs, IfOk, OnErr};
 ghost use Rattle.std.specs.Option.{option_and_then};
 ghost use Rattle.iv_cover.specs.Summaries.{numbers_of, taken_together};
@@ -8,8 +8,8 @@ use crate::column::Column;
 use crate::number::Spelled;
 use crate::values::Values;
 
-/// How two numbers are taken together.
-#[derive(Clone, Copy, Debug, PartialEq, Eq)]
+/// How two numbers are combined.
+#[derive(Clone, Copy)]
 pub(crate) enum NumberFold {
     Sum,
     Least,
@@ -17,8 +17,8 @@ pub(crate) enum NumberFold {
 }
 
 impl NumberFold {
-    /// The numbers of a column taken together, where the records' sequence has this name; `None` where there is no number,
-    /// and where a value other than a full stop is none.
+    /// The numbers of a column combined, if the records' sequence has this name; `None` if there is no number,
+    /// and if a value other than a full stop is none.
     pub(crate) fn total<'t, V: Values<'t>>(
         self,
         name: &'t [u8],
@@ -40,7 +40,7 @@ impl NumberFold {
         taken
     }
 
-    /// What was taken together before, if anything was, with one number more.
+    /// The result so far, if there is one, combined with one more number.
     fn with_number(self, before: Option<i128>, number: i128) -> i128
         requires { size before + unsigned_abs number < 2 ^ 127 }
         ensures value { result ≡ with_number (both_of self) before number }

@@ -7,7 +7,7 @@ ghost use Rattle.iv_cover.specs.Summaries.{op_named};
 pub enum Op {
     /// How many values there are.
     Count,
-    /// The sum of the numbers among them. It is meant where no operation is named.
+    /// The sum of the numbers among them. It is the default.
     #[default]
     Sum,
     /// The least of the numbers.

@@ -20,7 +20,7 @@ use std::alloc::Allocator;
 
 /// Puts all results over records on a sequence of this name, each with a TAB in front of it.
 ///
-/// There is room for all values where `distinct` is asked, and so it takes no memory.
+/// There is room for all values if `distinct` is asked, and so it takes no memory.
 pub fn put_results<'t, V: Values<'t>, A: Allocator, S: Sink>(
     summaries: &[ColumnSummary],
     name: &'t [u8],
@@ -39,7 +39,7 @@ pub fn put_results<'t, V: Values<'t>, A: Allocator, S: Sink>(
     Ok(())
 }
 
-/// Puts the result over records on a sequence of this name. There is room for all values where `distinct` is asked.
+/// Puts the result over records on a sequence of this name. There is room for all values if `distinct` is asked.
 pub(crate) fn put_result<'t, V: Values<'t>, A: Allocator, S: Sink>(
     asked: ColumnSummary,
     name: &'t [u8],
@@ -70,7 +70,7 @@ fn put_count<'t, V: Values<'t>, S: Sink>(values: &V, sink: &mut S) -> Result<(),
     put_all(sink, itoa::Buffer::new().format(values.count()).as_bytes())
 }
 
-/// Puts a number in decimal, or a full stop where there is none.
+/// Puts a number in decimal, or a full stop if there is none.
 fn put_number<S: Sink>(number: Option<i128>, sink: &mut S) -> Result<(), WriteFault>
     ensures { Puts (S.state sink.old) (S.state sink.new) result (number_text number) }
 {

@@ -31,7 +31,7 @@ impl<'a> Model for Value<'a> {
 }
 
 impl<'a> Value<'a> {
-    /// The value of a record's column, where its sequence has this name.
+    /// The value of a record's column, if its sequence has this name.
     pub fn of(column: Column, sequence: &'a [u8], row: &RecordRef<'a>) -> Value<'a>
         ensures { result ≡ column_value sequence.now column row.now }
     {

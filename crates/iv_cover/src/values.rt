@@ -17,7 +17,7 @@ use std::alloc::Allocator;
 pub trait Values<'t>: Drop {
     /// How many values are left.
     ghost size: { Self → ℕ };
-    /// The values that are left of a column, where the records' sequence has this name.
+    /// The values that are left of a column, if the records' sequence has this name.
     ghost left: { List ℕ → Column → Self → List (List ℕ) };
 
     /// The same values once more.
@@ -28,16 +28,16 @@ pub trait Values<'t>: Drop {
     fn count(&self) -> u64
         ensures { result ≡ size self.now };
 
-    /// The next value of a column, where the records' sequence has this name; `None` after the last.
+    /// The next value of a column, if the records' sequence has this name; `None` after the last.
     fn next_value(&mut self, name: &'t [u8], column: Column) -> Option<Value<'t>>
         ensures { YieldsFirst (left name.now column) self.old result self.new };
 
-    /// What the next value of a column spells, where the records' sequence has this name; `None` after the last.
+    /// What the next value of a column spells, if the records' sequence has this name; `None` after the last.
     fn next_number(&mut self, name: &'t [u8], column: Column) -> Option<Spelled>
         ensures value { SpellsFirst (left name.now column) self.old result self.new }
         ensures short { IfSome result IsShort };
 
-    /// A law for callers' proofs: 64 bits count the values of a column. The call does nothing.
+    /// A lemma for callers' proofs: 64 bits count the values of a column. The call does nothing.
     fn law_of_size(&self)
         ensures few { size self.now < 2 ^ 64 }
         ensures each { (name : List ℕ) (column : Column) → length (left name column self.now) ≡ size self.now };

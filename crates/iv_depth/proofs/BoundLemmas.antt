@@ -49,7 +49,7 @@ total-found k (e ∷ entries) z sorted found = go (λ there. total-found k entri
         rw is (omega (arith, ints, value, rest))
     go further false is = let rest = further (rw is at found) in rw is (omega (arith, ints, rest))
 
--- a place elsewhere is reached by the next position where it is by this one
+-- a place elsewhere is reached by the next position if it is by this one
 reaches-elsewhere : (s p : ℕ) (place : Place) → is_at (pair_cmp (s, p + 1)) place ≡ false → reaches s (p + 1) place ≡ reaches s p place
 reaches-elsewhere s p place is = go (eqb_tells place.0 s)
   where

@@ -106,7 +106,7 @@ level-unrisen from (b ∷ breaks) p h low =
     let later : leb b.0 p ≡ false = lt-leb b.0 p (omega arith) in
     rw (later, rest) refl
 
--- where the sum stays the same from `to` on, no change is past it
+-- if the sum stays the same from `to` on, no change is past it
 AreBreaks-rising : (from to : ℕ) (value : ℤ) (breaks : List (ℕ × ℤ)) → Rising from breaks → from ≤ to + 1
     → ((p : ℕ) → to ≤ p → level breaks p ≡ value) → AreBreaks from to breaks
 AreBreaks-rising from to value [] h low same = low

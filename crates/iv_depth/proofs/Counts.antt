@@ -14,7 +14,7 @@ use Rattle.iv_depth.proofs.Stretches.{runs-one, runs-split}
 use Rattle.iv_depth.specs.Walks.{on, AreBreaks, Follows}
 use Rattle.iv_depth.proofs.Breaks.{Follows-end, Step-at}
 
--- 1 where a run above 0 is open
+-- 1 if a run above 0 is open
 abbrev open_runs : ℤ → ℕ
 open_runs (pos zero) = 0
 open_runs (pos (suc n)) = 1

@@ -95,7 +95,7 @@ module _ (g : Sequences) (f : ℕ → ℕ → ℕ) where
         },
       )
 
-  -- where no entry is on the sequence any more
+  -- if no entry is on the sequence any more
   pub AreAhead-past : (rank from d : ℕ) (entries : Entries) → BeginsElsewhere rank entries → AreAhead g f rank from d entries
       → ((q : ℕ) → from ≤ q → f rank q ≡ d) × AreAhead g f (rank + 1) 0 0 entries
   AreAhead-past rank from d entries other h =

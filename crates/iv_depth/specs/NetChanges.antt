@@ -24,7 +24,7 @@ pub record AreEdgesOf (rows : List Row) (starts stops : List ℕ) : Type 0 where
   pub stops_rise : Rise 0 stops
   pub depths : (rank p : ℕ) → depth rows rank p + reached rank p stops ≡ reached rank p starts
 
--- the keys of starts and of stops that are to come
+-- the keys of starts and of stops that remain
 pub record Keys : Type 0 where
   pub starts : List ℕ
   pub stops : List ℕ

@@ -9,7 +9,7 @@ use iv_track::{Meter, Walk};
 use std::alloc::Allocator;
 use std::marker::Model;
 
-/// The changes that are still to come, by the sequence's rank, and then by position.
+/// The changes that remain, by the sequence's rank, and then by position.
 ///
 /// Its model is the list of their entries.
 #[derive(Drop)]

@@ -63,7 +63,7 @@ fn shift<A: Allocator + Copy>(
 ///
 /// # Errors
 ///
-/// Memory was refused, which happens for a place without a change alone. The changes are as before.
+/// An allocation failed, which happens for a place without a change alone. The changes are as before.
 fn bump<A: Allocator + Copy>(
     changes: &mut Changes<A>,
     place: (u32, u32),

@@ -42,7 +42,7 @@ impl<A: Allocator + Copy> Kept<A> for Depth<A> {
 
     ghost repair_steps = { λ _ _ _. 8 };
 
-    /// One entry for each place where the depth changes, all put at once. Nothing grows but the ledger, and while it is built
+    /// One entry for each place where the depth changes, all put at once. It allocates only the ledger, and while it is built
     /// 16 bytes for each record: where it starts and where it stops.
     fn build(
         alloc: A,

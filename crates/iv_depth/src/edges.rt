@@ -5,7 +5,7 @@ ghost use Rattle.iv_depth.specs.Edges.{BeginsElse, IsEdge, PassesEdge, Rise, sta
 use crate::depth_changes::DepthChanges;
 use iv_index::Span;
 
-/// Records of one sequence by their starts and, beside these, by their stops: those that are to come.
+/// Records of one sequence by their starts and, beside these, by their stops: those that remain.
 #[derive(Drop)]
 pub(crate) struct Edges<'a> {
     pub(crate) starts: &'a [Span],
@@ -84,7 +84,7 @@ impl Positioned for u64 {
     }
 }
 
-/// How many are at the position, where it is the least, and those after it.
+/// How many are at the position, if it is the least, and those after it.
 pub(crate) fn pass<T: Positioned>(items: &[T], position: u64) -> (usize, &[T])
     ensures passed { Rise position (map T.at items.now) → PassesEdge position result.0 (map T.at items.now) (map T.at result.1.now) }
     ensures none { result.0 ≡ 0 → BeginsElse position (map T.at items.now) }

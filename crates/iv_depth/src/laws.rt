@@ -1,4 +1,4 @@
-//! Laws of the definitions: functions that do nothing, whose contracts are the laws.
+//! Lemmas on the definitions: functions that do nothing, whose contracts are the lemmas.
 ghost use Rattle.std.specs.Prelude.{◌≡◌, ◌<◌, ◌≤◌, ℕ, List, Contains};
 ghost use Rattle.iv_text.specs.Row.{Row};
 ghost use Rattle.iv_cover.specs.Depth.{depth};

@@ -1,11 +1,10 @@
 //! Net changes of depth, from where the records of a track start and stop.
 ghost use Rattle.std.specs.Prelude.{◌≡◌, [], IfOk, MatchOption};
 ghost use Rattle.std.specs.Iterator.{at_most};
-ghost use Rattle.std.specs.List.Sorted.{IsPermutation};
 ghost use Rattle.iv_depth.specs.NetChanges.{AreEdgesOf, GivesChange, IsLeast, key_of, place_of};
 
 use crate::edges::pass;
-use iv_index::order_nearly;
+use iv_index::order_neighbors;
 use iv_track::{Meter, Track};
 use std::alloc::{AllocError, Allocator};
 use std::marker::Model;
@@ -34,16 +33,9 @@ pub(crate) fn edges_of<A: Allocator + Copy>(
         stops.push(packed(row.seq(), row.stop() as u32))?;
     }
     starts.sort_unstable();
-    order_neighbors(&mut stops);
+    order_neighbors(&mut stops, |before, here| *before > *here);
     stops.sort_unstable();
     Ok((starts, stops))
-}
-
-/// Moves keys past a few neighbors that belong after them.
-fn order_neighbors<A: Allocator>(keys: &mut Vec<u64, A>)
-    ensures { IsPermutation keys.old.items keys.new.items }
-{
-    order_nearly(keys.as_mut_slice(), |before, here| *before > *here);
 }
 
 /// A place as one number: keys ascend as places do, and sort faster.

@@ -18,7 +18,7 @@ use std::alloc::Allocator;
 
 /// Puts the rows of the positions from `start` to `stop`, 0-based and half-open, which are all of this depth.
 ///
-/// There are none where `stop` is not after `start`.
+/// There are none if `stop` is not after `start`.
 ///
 /// # Errors
 ///

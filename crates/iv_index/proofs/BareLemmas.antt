@@ -33,7 +33,7 @@ on_genome-bare g rows lie = All-from_recursion (IsOnGenome g) (map bare rows) (b
     by [] all = tt
     by (r ∷ rows) all = (record { some = all.0.some; within = all.0.within }, by rows all.1)
 
--- so is what is kept of records that fit it, where only their places are
+-- so is what is kept of records that fit it, if only their places are
 pub kept-on_genome : (g : Sequences) (w : ℕ) (rows : List Row) → All (IsKept bare g w) rows → All (IsOnGenome g) rows
 kept-on_genome g w rows kept k e within =
     let one : IsKept bare g w (get_or rows k e) = kept k e within in
@@ -62,7 +62,7 @@ in_order-bare (r ∷ rows) up = (by rows up.0, in_order-bare rows up.1)
     by [] all = tt
     by (x ∷ xs) all = (bare-le r x all.0, by xs all.1)
 
--- records in order pass a test as often as they did
+-- as many records in order pass a test as did before
 module _ (p : Row → Bool) where
   count-cons : (x : Row) (xs : List Row) → count_by p (x ∷ xs) ≡ cond (p x) 1 0 + count_by p xs
   count-cons x xs = sum_by-cons (λ r. cond (p r) 1 0) x xs
@@ -86,7 +86,7 @@ pub count-bare : (p : Row → Bool) (rows : List Row) → count_by p (map bare r
 count-bare p [] = refl
 count-bare p (r ∷ rows) = omega (arith, count-cons p (bare r) (map bare rows), count-cons (λ x. p (bare x)) r rows, count-bare p rows)
 
--- it is all one whether columns are let go before records are put in order or after
+-- it is all one whether columns are dropped before records are put in order or after
 pub ordered-bare : (rows : List Row) → ordered (map bare rows) ≡ map bare (ordered rows)
 ordered-bare rows = rows-alone (ordered (map bare rows)) (map bare (ordered rows)) (ordered-in_order (map bare rows)) (in_order-bare (ordered rows) (ordered-in_order rows))
     (λ r. count-ordered (λ q. is_eq (row_cmp r q)) (map bare rows)

@@ -1,4 +1,4 @@
--- What `dedup_by` leaves where its closure joins places.
+-- What `dedup_by` leaves if its closure joins places.
 use Rattle.std.proofs.Common.{◌≡◌, Bool, true, false, cond, List, [], ◌∷◌, MatchBool, ap, subst, ◌∙◌}
 use Rattle.std.specs.List.Retain.{DedupsFrom, IsDeduped}
 use Rattle.iv_index.specs.Joins.{touches, grown, joined, joined_from}

@@ -60,7 +60,7 @@ pub sorted-rows : {X : Type 0} (row : X → Row) (e : X) (old new : List X) → 
 sorted-rows row e old new moved up =
     ordered-sorted (map row old) (map row new) (IsPermutation-map row old new moved) (sorted-map row_cmp row e new up)
 
--- what a sort by records says of its closure, where each call compares the records of two things
+-- what a sort by records says of its closure, if each call compares the records of two things
 pub sorted-by-rows : {X F : Type 0} {g : Mut F (Bor X × (Bor X × Unit {0})) Ordering} {f : F} (row : X → Row) (ps : List X)
     → ((lt : X → X → Bool) → IsStrictWeakOrder lt → ComparesAs g lt f → IsSortedBy lt ps)
     → ((a : Bor X × (Bor X × Unit {0})) (r : Ordering) (f' : F) → Called g f a r f' → (r ≡ row_cmp (row a.0.now) (row a.1.0.now)) × (f' ≡ f))
@@ -69,7 +69,7 @@ sorted-by-rows {g = g} {f = f} row ps up h =
     up (λ x y. is_lt (row_cmp (row x) (row y))) (ranks_by rows_total row)
     (always_returns_same g (λ a r. is_lt r ≡ is_lt (row_cmp (row a.0.now) (row a.1.0.now))) f (λ a r f' k. (ap is_lt (h a r f' k).0, (h a r f' k).1)))
 
--- what `is_sorted_by` says of its closure, where each call tells that the second doesn't belong in front of the first
+-- what `is_sorted_by` says of its closure, if each call tells that the second doesn't belong in front of the first
 pub in-order : {X F : Type 0} {g : Mut F (Bor X × (Bor X × Unit {0})) Bool} {f : F} (d : X) (lt : X → X → Bool) (ps : List X) (r : Bool)
     → ((e : X → X → Bool) → ComputesOnPairs g e f → IsAllAdjacentAnswer (λ x y b. b ≡ e x y) ps r)
     → ((a : Bor X × (Bor X × Unit {0})) (s : Bool) (f' : F) → Called g f a s f' → (s ≡ not (lt a.1.0.now a.0.now)) × (f' ≡ f))

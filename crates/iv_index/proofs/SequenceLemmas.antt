@@ -33,7 +33,7 @@ module _ {X : Type 0} (row : X → Row) (rank : ℕ) where
   parted (p ∷ places) order (suc i) zero d le lt e = absurd (omega arith)
   parted (p ∷ places) order (suc i) (suc j) d le lt e = parted places order.1 i j d (omega arith) (omega arith) e
 
-  -- where none is below the rank, they are the records on it, and those after them are on later ones
+  -- if none is below the rank, they are the records on it, and those after them are on later ones
   split-here : (places : List X) (n : ℕ) → n ≤ length places
       → IsPartitionPoint (λ place. nat_le (row place).seq rank ≡ true) (λ place. nat_le (row place).seq rank ≡ false) places n
       → All (λ r. rank ≤ r.seq) (map row places)

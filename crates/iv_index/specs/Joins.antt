@@ -10,12 +10,12 @@ touches last place = (last.seq == place.seq) && nat_le place.start last.stop
 abbrev pub grown : Place → Place → Place
 grown last place = record last { stop = max last.stop place.stop }
 
--- the first of places in order, and those after it, each joined to the one before it where they touch
+-- the first of places in order, and those after it, each joined to the one before it if they touch
 abbrev pub joined_from : Place → List Place → List Place
 joined_from last [] = last ∷ []
 joined_from last (place ∷ places) = cond (touches last place) (joined_from (grown last place) places) (last ∷ joined_from place places)
 
--- places in order, each joined to the one before it where they touch
+-- places in order, each joined to the one before it if they touch
 abbrev pub joined : List Place → List Place
 joined [] = []
 joined (place ∷ places) = joined_from place places

@@ -17,7 +17,7 @@ use std::marker::Model;
 
 /// The records of a BED file, in the order of the file or of a track, all of one width.
 ///
-/// A record takes 16 bytes. Its columns after the third stay in the text, and are cut from it where they
+/// A record takes 16 bytes. Its columns after the third stay in the text, and are cut from it if they
 /// are asked for.
 #[derive(Drop)]
 pub struct BedText<'t, A: Allocator = Global> {
@@ -85,7 +85,7 @@ impl<'t, A: Allocator + Copy> BedText<'t, A> {
         TextRecords::of_places(self.text, self.places.as_slice(), self.width)
     }
 
-    /// Lets go of the columns after the third: of each record only its place is kept.
+    /// Drops the columns after the third: of each record only its place is kept.
     ///
     /// The text isn't looked at, here or by a sort after this call.
     pub fn drop_columns(&mut self)
@@ -94,14 +94,14 @@ impl<'t, A: Allocator + Copy> BedText<'t, A> {
         self.width = 3;
     }
 
-    /// Sorts the records in the order of a track, in one pass where they are sorted, or at most three where they are but for a
-    /// few records of one start. Lines are looked at only for records of one place, and none at width 3.
+    /// Sorts the records in the order of a track, in one pass if they are sorted, or at most three if only a
+    /// few records of one start are out of order. Lines are looked at only for records of one place, and none at width 3.
     ///
-    /// Memory is taken only where many records of one place are out of order: 24 bytes for each record, while it sorts.
+    /// Memory is taken only if many records of one place are out of order: 24 bytes for each record, while it sorts.
     ///
     /// # Errors
     ///
-    /// Memory was refused.
+    /// An allocation failed.
     pub fn sort(&mut self, alloc: A) -> Result<(), AllocError>
         ensures { OnOk result (self.new ≡ record self.old { rows = ordered self.old.rows }) }
     {
@@ -132,7 +132,7 @@ impl<'t, A: Allocator + Copy> BedText<'t, A> {
         self.drop_columns();
     }
 
-    /// A law for callers' proofs: each record has a base. The call does nothing.
+    /// A lemma for callers' proofs: each record has a base. The call does nothing.
     pub fn law_of_bases(&self)
         ensures { All (λ r. r.start < r.stop) self.now.rows }
     {

@@ -10,19 +10,19 @@ use std::alloc::{AllocError, Allocator};
 use std::cmp::Ordering;
 
 /// A place, with a few bytes of its record's name as a number: of two names, the one with the lesser number is first.
-#[derive(Clone, Copy, Debug)]
+#[derive(Clone, Copy)]
 pub(crate) struct Headed {
     head: u64,
     place: Place,
 }
 
-/// Sorts places by where they are, and then by a few bytes of their names, so that hardly any comparison looks at two lines.
+/// Sorts places by interval, and then by a few bytes of their names, so that hardly any comparison looks at two lines.
 ///
 /// It takes 24 bytes for each place while it sorts.
 ///
 /// # Errors
 ///
-/// Memory was refused. The places are as they were.
+/// An allocation failed. The places are as they were.
 pub(crate) fn sort_by_heads<A: Allocator + Copy>(
     alloc: A,
     text: &[u8],
@@ -57,7 +57,7 @@ fn with_heads<A: Allocator + Copy>(
     Ok(headed)
 }
 
-/// With how many bytes all names begin alike.
+/// How many bytes all names have in common at the front.
 fn shared_by_all(text: &[u8], width: u8, places: &[Place]) -> usize {
     let Some((first, others)) = places.split_first() else {
         return 0;
@@ -70,7 +70,7 @@ fn shared_by_all(text: &[u8], width: u8, places: &[Place]) -> usize {
     shared
 }
 
-/// With how many bytes two names begin alike, at most so many.
+/// How many bytes two names have in common at the front, at most so many.
 fn shared_by_two(first: &[u8], second: &[u8], most: usize) -> usize {
     let most = most.min(first.len()).min(second.len());
     for at in 0..most {
@@ -91,14 +91,14 @@ fn head_of(name: &[u8], from: usize) -> u64 {
     head
 }
 
-/// By where they are, then by their heads, then by all columns.
+/// By interval, then by head, then by all columns.
 fn compare_headed(text: &[u8], width: u8, first: &Headed, second: &Headed) -> Ordering {
     compare_places(&first.place, &second.place)
         .then(first.head.cmp(&second.head))
         .then_with(|| compare(text, width, &first.place, &second.place))
 }
 
-/// Puts the places of these in place of as many others.
+/// Puts the places of these instead of as many others.
 fn put_places<A: Allocator>(places: &mut Vec<Place, A>, headed: &[Headed])
     requires { length places.old.items ≡ length headed.now }
     ensures { places.new.items ≡ map place_of headed.now }

@@ -16,7 +16,7 @@ mod text_record;
 mod text_records;
 
 pub use bed_text::BedText;
-pub use nearly::order_nearly;
+pub use nearly::{order_nearly, order_neighbors};
 pub use place::Place;
 pub use span::Span;
 pub use span_sequence::split_sequence;

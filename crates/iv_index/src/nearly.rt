@@ -1,6 +1,8 @@
-//! Items that are in order, but for a few.
+//! Items that are in order, except for a few.
 ghost use Rattle.std.specs.Prelude.{◌≡◌, ◌<◌, length};
 ghost use Rattle.std.specs.List.Sorted.{IsPermutation};
+
+use std::alloc::Allocator;
 
 /// The most items that one is moved past.
 const MOST_MOVES: usize = 16;
@@ -20,6 +22,17 @@ pub fn order_nearly<T: Copy, F: Fn(&T, &T) -> bool>(items: &mut [T], belongs_aft
         }
     }
     true
+}
+
+/// Moves the items of a vector past a few neighbors that belong after them, as [`order_nearly`] does.
+pub fn order_neighbors<T: Copy, A: Allocator, F: Fn(&T, &T) -> bool>(
+    items: &mut Vec<T, A>,
+    belongs_after: F,
+)
+    requires { F.IsAlwaysCallable belongs_after }
+    ensures { IsPermutation items.old.items items.new.items }
+{
+    order_nearly(items.as_mut_slice(), belongs_after);
 }
 
 /// Moves the item at an index past a few before it that belong after it, and says whether that was enough.

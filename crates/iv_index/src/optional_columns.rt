@@ -8,8 +8,8 @@ ghost use Rattle.iv_index.specs.Places.{line_at, row_at};
 use crate::place::Place;
 use iv_text::{Fields, Strand, columns, read_strand, split_line};
 
-/// The columns of a record beside its place. Those beyond the width are empty.
-#[derive(Clone, Copy, Debug)]
+/// The columns of a record besides its place. Those beyond the width are empty.
+#[derive(Clone, Copy)]
 pub(crate) struct OptionalColumns<'t> {
     pub(crate) name: &'t [u8],
     pub(crate) score: &'t [u8],

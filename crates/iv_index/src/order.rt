@@ -37,7 +37,7 @@ fn compare_beside(text: &[u8], width: u8, first: &Place, second: &Place) -> Orde
     )
 }
 
-/// By where they are alone.
+/// By interval alone.
 pub(crate) fn compare_places(first: &Place, second: &Place) -> Ordering {
     let stops = first.stop.cmp(&second.stop);
     let starts = first.start.cmp(&second.start);
@@ -60,7 +60,7 @@ pub(crate) fn compare(text: &[u8], width: u8, first: &Place, second: &Place) -> 
     compare_beside(text, width, first, second)
 }
 
-/// Whether places stand in the order of a track.
+/// Whether places are in the order of a track.
 pub(crate) fn are_in_order(text: &[u8], width: u8, places: &[Place]) -> bool
     ensures { IsTrue result ↔ AreInOrder width text.now places.now }
 {
@@ -70,11 +70,11 @@ pub(crate) fn are_in_order(text: &[u8], width: u8, places: &[Place]) -> bool
 /// Brings places into the order of a track, or near to it: what is left to a sort is mostly to see that they are in order.
 ///
 /// Records of one place are the slow part of a sort, since each comparison cuts two lines. A few of them are moved past each
-/// other. Where there are many of one place, they are sorted by a few bytes of their names, which takes memory.
+/// other. If there are many of one place, they are sorted by a few bytes of their names, which takes memory.
 ///
 /// # Errors
 ///
-/// Memory was refused.
+/// An allocation failed.
 pub(crate) fn order_places<A: Allocator + Copy>(
     alloc: A,
     text: &[u8],
@@ -94,7 +94,7 @@ pub(crate) fn order_places<A: Allocator + Copy>(
     sort_by_heads(alloc, text, width, places)
 }
 
-/// Moves each place past a few others of its start that belong after it. So files that are in order but for records of
+/// Moves each place past a few others of its start that belong after it. So files that are in order except for records of
 /// one start, as most tools leave them, are then in the order of a track. It stops if there are more than a few, and says
 /// whether it came to the end.
 fn order_ties<A: Allocator>(text: &[u8], width: u8, places: &mut Vec<Place, A>) -> bool

@@ -11,9 +11,9 @@ use std::alloc::{AllocError, Allocator};
 pub struct Place {
     /// The rank of its sequence in the genome.
     pub seq: u32,
-    /// Where it starts, from 0.
+    /// The start, from 0.
     pub start: u32,
-    /// Where it stops, not included.
+    /// The end, not included.
     pub stop: u32,
     /// The byte of the text at which its line begins.
     pub line: u32,

@@ -1,4 +1,4 @@
-//! Where a record is, and nothing beside.
+//! Where a record is, and nothing else.
 
 ghost use Rattle.std.specs.Prelude.{refl};
 ghost use Rattle.iv_index.specs.Places.{bare};
@@ -12,9 +12,9 @@ use std::alloc::{AllocError, Allocator};
 pub struct Span {
     /// The rank of its sequence in the genome.
     pub seq: u32,
-    /// Where it starts, from 0.
+    /// The start, from 0.
     pub start: u32,
-    /// Where it stops, not included.
+    /// The end, not included.
     pub stop: u32,
 }
 

@@ -1,13 +1,11 @@
 //! The order of a track among places alone.
 ghost use Rattle.std.specs.Prelude.{◌≡◌, ◌↔◌, IsTrue};
-ghost use Rattle.std.specs.List.Sorted.{IsPermutation, IsSortedBy};
+ghost use Rattle.std.specs.List.Sorted.{IsSortedBy};
 ghost use Rattle.std.specs.Ordering.{is_lt};
 ghost use Rattle.iv_text.specs.Row.{row_cmp};
 ghost use Rattle.iv_index.specs.Spans.{row_of_span, span_lt};
 
-use crate::nearly::order_nearly;
 use crate::span::Span;
-use std::alloc::Allocator;
 use std::cmp::Ordering;
 
 /// The records of two places in the order of a track.
@@ -23,19 +21,9 @@ pub(crate) fn compare_spans(first: &Span, second: &Span) -> Ordering
     first.stop.cmp(&second.stop)
 }
 
-/// Whether places stand in the order of a track.
+/// Whether places are in the order of a track.
 pub(crate) fn are_in_order(spans: &[Span]) -> bool
     ensures { IsTrue result ↔ IsSortedBy span_lt spans.now }
 {
     spans.is_sorted_by(|first, second| !compare_spans(second, first).is_lt())
-}
-
-/// Moves places past a few neighbors that belong after them. So places that are in order but for a few of one start, as most tools
-/// leave them, are then in order.
-pub(crate) fn order_neighbors<A: Allocator>(spans: &mut Vec<Span, A>)
-    ensures { IsPermutation spans.old.items spans.new.items }
-{
-    order_nearly(spans.as_mut_slice(), |before, here| {
-        compare_spans(before, here).is_gt()
-    });
 }

@@ -5,8 +5,9 @@ ghost use Rattle.iv_text.specs.Read.{IsOnGenome};
 ghost use Rattle.iv_text.specs.declared.fault.LoadCause.TheVariants as cause;
 ghost use Rattle.iv_index.specs.Spans.{bare_bed_of, span_rows};
 
+use crate::nearly::order_neighbors;
 use crate::span::Span;
-use crate::span_order::{are_in_order, compare_spans, order_neighbors};
+use crate::span_order::{are_in_order, compare_spans};
 use iv_text::{Genome, KeptDraft, LoadFault};
 use std::alloc::{Allocator, Global};
 use std::marker::Model;
@@ -76,15 +77,17 @@ impl<A: Allocator + Copy> Spans<A> {
         self.spans.as_slice()
     }
 
-    /// Sorts the places in the order of a track: in one pass where they are sorted, or in few where they are but for records of
-    /// one start. It takes no memory.
+    /// Sorts the places in the order of a track: in one pass if they are sorted, or in few if only records of
+    /// one start are out of order. It takes no memory.
     pub fn sort(&mut self)
         ensures { self.new ≡ record self.old { rows = ordered self.old.rows } }
     {
         if are_in_order(&self.spans) {
             return;
         }
-        order_neighbors(&mut self.spans);
+        order_neighbors(&mut self.spans, |before, here| {
+            compare_spans(before, here).is_gt()
+        });
         self.spans
             .sort_unstable_by(|first, second| compare_spans(first, second));
     }

@@ -1,4 +1,4 @@
-//! A record whose columns are read from its line where they are wanted.
+//! A record whose columns are read from its line when they are wanted.
 ghost use Rattle.std.specs.Prelude.{◌≡◌, ◌<◌};
 ghost use Rattle.iv_text.specs.Row.{IsPlaced};
 ghost use Rattle.iv_index.specs.Places.{HasBase, row_at};
@@ -57,14 +57,14 @@ impl<'t> TextRecord<'t> {
         self.place.seq
     }
 
-    /// Where it starts, from 0.
+    /// The start, from 0.
     pub fn start(&self) -> u64
         ensures { result ≡ self.now.start }
     {
         u64::from(self.place.start)
     }
 
-    /// Where it stops, not included.
+    /// The end, not included.
     pub fn stop(&self) -> u64
         ensures value { result ≡ self.now.stop }
         ensures some { self.now.start < result }
@@ -72,7 +72,7 @@ impl<'t> TextRecord<'t> {
         u64::from(self.place.stop)
     }
 
-    /// A law for callers' proofs: the record has a base, and its rank and its stop are numbers of 32 bits.
+    /// A lemma for callers' proofs: the record has a base, and its rank and its stop are numbers of 32 bits.
     /// The call does nothing.
     pub fn law_of_place(&self)
         ensures { IsPlaced self.now }
@@ -82,7 +82,7 @@ impl<'t> TextRecord<'t> {
         let _stop = self.place.stop;
     }
 
-    /// Its columns beside its place.
+    /// The columns besides its place.
     fn optional_columns(&self) -> OptionalColumns<'t>
         ensures name { result.name.now ≡ self.now.name }
         ensures score { result.score.now ≡ self.now.score }

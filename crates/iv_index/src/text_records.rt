@@ -1,4 +1,4 @@
-//! Records of a text in a row.
+//! Consecutive records of a text.
 ghost use Rattle.std.specs.Prelude.{◌≡◌, ◌≤◌, ◌==◌, nat_lt, [], ◌∷◌, All, MatchOption, filter, length, map, slice_get, take, drop};
 ghost use Rattle.std.specs.Iterator.{YieldsFirst, item_count};
 ghost use Rattle.iv_text.specs.Ordered.{AreInOrder};
@@ -9,7 +9,7 @@ use crate::place::Place;
 use crate::text_record::TextRecord;
 use std::marker::Model;
 
-/// Records of a text in a row, all of one width: lent, as a slice is. No call takes memory.
+/// Consecutive records of a text, all of one width: lent, as a slice is. No call takes memory.
 #[derive(Debug, Drop)]
 pub struct TextRecords<'t> {
     text: &'t [u8],
@@ -82,7 +82,7 @@ impl<'t> TextRecords<'t> {
         self.get(0)
     }
 
-    /// The first record and those after it, `None` where there is no record.
+    /// The first record and those after it, `None` if there is no record.
     pub fn split_first(&self) -> Option<(TextRecord<'t>, TextRecords<'t>)>
         ensures { MatchOption result (self.now ≡ []) (λ p. self.now ≡ p.0 ∷ p.1) }
     {

@@ -136,7 +136,7 @@ alike-passed seq start b xs bs old begun not h = λ s t stop on.
 
 -- ---- from the root
 
--- where no record is longer than n, the hits from a place on are among the records from its start less n on
+-- if no record is longer than n, the hits from a place on are among the records from its start less n on
 pub alike-anew : (rows : List Row) (seq start from n : ℕ) → AreUpTo seq n rows → from ≤ start + 1 - n → HitAlike seq start (filter (is_from seq from) rows) rows
 alike-anew rows seq start from n up low = λ s t stop on.
     filter-implied (overlaps s t stop) (is_from seq from) rows (λ q m is.

@@ -93,7 +93,7 @@ none-same b ys e = cc
 some-same : (a : Spot) (xs : List Spot) → a ∷ xs ≡ [] → ⊥
 some-same a xs e = cc
 
--- what holds of each place holds of each record, where it is said of where they are
+-- what holds of each place holds of each record, if it is said of where they are
 all-rows : (P : Spot → Type 0) (places : List Place) (rows : List Row) → LieAs places rows → All (λ place. P (spot_of_place place)) places → All (λ r. P (spot_of_row r)) rows
 all-rows P [] [] e h = All-nil (λ r. P (spot_of_row r))
 all-rows P [] (r ∷ rows) e h = absurd (none-same _ _ e)

@@ -22,7 +22,7 @@ use Rattle.iv_pair.proofs.HitsLemmas.{overlap-means}
 use Rattle.iv_pair.specs.CoverAlone.{HaveBases, CoverAlike, DependsOnCoverAlone, needs_cover_alone}
 use Rattle.iv_pair.proofs.EmptyAlike.{empty-alike}
 
--- two tests are one where each implies the other
+-- two tests are one if each implies the other
 same_tests : (b c : Bool) → (b ≡ true → c ≡ true) → (c ≡ true → b ≡ true) → b ≡ c
 same_tests true true f h = refl
 same_tests true false f h = sym (f refl)
@@ -60,7 +60,7 @@ hits-alike : (second other : List Row) (a : Row) → a.start < a.stop → HaveBa
 hits-alike second other a some bases others alike =
     same_tests (has_hit second a) (has_hit other a) (hit-alike second other a some bases others alike) (hit-alike other second a some others bases (λ seq p. sym (alike seq p)))
 
--- a position has depth 0 exactly where no record covers it
+-- a position has depth 0 exactly if no record covers it
 depth-zero : (rows : List Row) (seq p : ℕ) → (depth rows seq p == 0) ≡ not (is_covered rows seq p)
 depth-zero [] seq p = refl
 depth-zero (q ∷ rows) seq p =

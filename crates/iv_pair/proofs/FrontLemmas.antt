@@ -10,7 +10,7 @@ use Rattle.std.proofs.lemmas.List.Sums.{sum_by-cons, count_by-le-length, prefix_
 
 -- ---- counts of two lists
 
--- where each that passes p passes q, as many pass q at least
+-- if each that passes p passes q, as many pass q at least
 pub count-implied : {X : Type 0} (p q : X → Bool) (xs : List X) → ((x : X) → p x ≡ true → q x ≡ true) → count_by p xs ≤ count_by q xs
 count-implied p q [] h = omega arith
 count-implied {X} p q (x ∷ xs) h =

@@ -51,7 +51,7 @@ overlap-means seq start stop q some long = (
 
 -- ---- where a search begins
 
--- where no record is longer than n, the hits are among the records from the start less n on
+-- if no record is longer than n, the hits are among the records from the start less n on
 pub hits_from : (rows : List Row) (seq start stop from n : ℕ) → AreUpTo seq n rows → from ≤ start + 1 - n → hits (filter (is_from seq from) rows) seq start stop ≡ hits rows seq start stop
 hits_from rows seq start stop from n up low = filter-implied (overlaps seq start stop) (is_from seq from) rows (λ q m is.
     let parts = overlaps_parts seq start stop q is in

@@ -14,7 +14,7 @@ use Rattle.iv_pair.specs.declared.intersect.IntersectRows.TheVariants.{Shared, S
 use Rattle.iv_pair.proofs.HitsLemmas.{hits-overlap}
 use Rattle.iv_pair.proofs.YieldLemmas.{ended, went}
 
--- where a line is shown for each hit, they are the rows
+-- if a line is shown for each hit, they are the rows
 lines-rows : (shown : IntersectRows) (g : Sequences) (a : Row) (found : List Row)
     → (shown ≡ Shared) ⊎ ((shown ≡ SharedAndHit) ⊎ ((shown ≡ Whole) ⊎ (shown ≡ WholeAndHit)))
     → flat_map (hit_line shown g a) found ≡ intersect_rows shown g a found
@@ -33,7 +33,7 @@ Puts-hits shown g a second old new result put which =
 -- ---- hit by hit, as an iterator gives them
 
 module _ {S T : Type 0} (steps : S → Option T → S → Type 0) (row_of : T → Row) (a : Row) (line : Row → List ℕ) where
-  -- the lines of the hits before are put, and those of the hits that are left are to come
+  -- the lines of the hits before are put, and those of the hits that are left remain to be put
   pub record LinesLeft (s : S) (begun now : SinkState) (all : List ℕ) : Type 0 where
     pub found : List Row
     pub given : AlwaysYields steps row_of s found

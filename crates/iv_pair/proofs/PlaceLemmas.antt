@@ -75,7 +75,7 @@ from_next seq p x y h le =
           pair_le seq y.seq p y.start (omega arith) (λ e. let m : p ≤ x.start = a.1 (omega (arith, e, rank)) in omega arith)
     ]
 
--- where the first of records in order is from there on, all are
+-- if the first of records in order is from there on, all are
 pub from_all : (seq p : ℕ) (r : Row) (rows : List Row) → AreInOrder (r ∷ rows) → is_from seq p r ≡ true → (q : Row) → Mem q (r ∷ rows) → is_from seq p q ≡ true
 from_all seq p r rows o h q (inl is) = ap (is_from seq p) (sym is) ∙ h
 from_all seq p r rows o h q (inr m) = from_next seq p r q h (all-mem (λ y. is_le (row_cmp r y) ≡ true) rows (All-from_recursion (λ y. is_le (row_cmp r y) ≡ true) rows o.0) q m)

@@ -6,7 +6,7 @@ use Rattle.iv_text.specs.Row.{Row}
 abbrev pub overlaps : ℕ → ℕ → ℕ → Row → Bool
 overlaps seq start stop q = (q.seq == seq) && (nat_lt q.start stop && nat_lt start q.stop)
 
--- the records that do, in their order, a copy again
+-- those records, in their order, copies repeated
 abbrev pub hits : List Row → ℕ → ℕ → ℕ → List Row
 hits rows seq start stop = filter (overlaps seq start stop) rows
 

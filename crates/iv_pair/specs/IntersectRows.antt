@@ -19,12 +19,12 @@ pair_line g a b = record_text g a ++ (codes "\t" ++ record_line g b)
 abbrev pub shared : Row → Row → Row
 shared a b = part a (max a.start b.start) (min a.stop b.stop)
 
--- a record where it has a hit
+-- a record if it has a hit
 abbrev pub any_line : Sequences → Row → List Row → List ℕ
 any_line g a [] = []
 any_line g a (b ∷ found) = record_line g a
 
--- a record where it has none
+-- a record if it has none
 abbrev pub none_line : Sequences → Row → List Row → List ℕ
 none_line g a [] = record_line g a
 none_line g a (b ∷ found) = []

@@ -16,7 +16,7 @@ Overlaps a b = overlaps a.seq a.start a.stop b ≡ true
 abbrev pub AllOverlap : Row → List Row → Type 0
 AllOverlap a found = AllByRecursion (Overlaps a) found
 
--- the line of a record and one hit, empty where there is not a line for each hit
+-- the line of a record and one hit, empty if there is not a line for each hit
 abbrev pub hit_line : IntersectRows → Sequences → Row → Row → List ℕ
 hit_line Shared g a b = record_line g (shared a b)
 hit_line SharedAndHit g a b = pair_line g (shared a b) b

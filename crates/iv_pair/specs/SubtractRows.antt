@@ -13,6 +13,6 @@ abbrev pub uncovered_rows : Sequences → Row → List Row → List ℕ
 uncovered_rows g a second =
     flat_map (λ run. record_line g (part a run.start run.stop)) (empty_runs (depth second a.seq) a.start a.stop)
 
--- the rows of a record: where only whole records are taken away, the record if it has no hit
+-- the rows of a record: if only whole records are taken away, the record if it has no hit
 abbrev pub subtract_rows : Bool → Sequences → Row → List Row → List ℕ
 subtract_rows whole g a second = if whole then none_line g a (hits_of second a) else uncovered_rows g a second

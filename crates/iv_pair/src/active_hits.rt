@@ -33,7 +33,7 @@ impl<'a, 't> Model for ActiveHits<'a, 't> {
 }
 
 impl<'a, 't> ActiveHits<'a, 't> {
-    /// A law for callers' proofs: 64 bits count those that are left. The call does nothing.
+    /// A lemma for callers' proofs: 64 bits count those that are left. The call does nothing.
     pub(crate) fn law_of_few(&self)
         ensures { length self.now < 2 ^ 64 }
     {

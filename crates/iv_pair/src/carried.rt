@@ -31,7 +31,7 @@ impl<'a, A: Allocator + Copy> Model for Carried<'a, A> {
 }
 
 impl<'a, A: Allocator + Copy> Carried<'a, A> {
-    /// None.
+    /// No records.
     pub(crate) fn none() -> Self
         ensures { result ≡ [] }
     {
@@ -40,7 +40,7 @@ impl<'a, A: Allocator + Copy> Carried<'a, A> {
         }
     }
 
-    /// They, each in a slot.
+    /// The records, each in a slot.
     pub(crate) fn slots(&self) -> &[Option<&'a Record<A>>]
         ensures held { held result.now ≡ self.now }
         ensures few { length result.now ≤ 64 }
@@ -48,7 +48,7 @@ impl<'a, A: Allocator + Copy> Carried<'a, A> {
         self.slots.as_slice()
     }
 
-    /// Lets them all go.
+    /// Drops them all.
     pub(crate) fn clear(&mut self)
         ensures { self.new ≡ [] }
     {
@@ -67,7 +67,7 @@ impl<'a, A: Allocator + Copy> Carried<'a, A> {
         true
     }
 
-    /// Lets those go that don't have this position.
+    /// Drops those that don't have this position.
     pub(crate) fn keep(&mut self, seq: u32, position: u64)
         ensures { self.new ≡ filter (covers seq position) self.old }
     {

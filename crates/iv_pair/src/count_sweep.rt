@@ -45,7 +45,7 @@ impl<'t, A: Allocator + Copy> CountSweep<'t, A> {
     ///
     /// # Errors
     ///
-    /// Memory was refused.
+    /// An allocation failed.
     pub fn new(
         alloc: A,
         first: &TextRecords<'t>,
@@ -89,7 +89,7 @@ impl<'t, A: Allocator + Copy> CountSweep<'t, A> {
 }
 
 /// Where a record ends. Ends are in order by the rank of the sequence, and then by the stop.
-#[derive(Clone, Copy, Debug, PartialEq, Eq, PartialOrd, Ord)]
+#[derive(Clone, Copy, PartialEq, Eq, PartialOrd, Ord)]
 struct End {
     /// The rank of the sequence in the genome.
     seq: u32,
@@ -113,7 +113,7 @@ fn ends_of<A: Allocator>(alloc: A, places: &[Place]) -> Result<Vec<End, A>, Allo
     Ok(ends)
 }
 
-/// How many of the ends are at a position or before it, where it is known that so many are.
+/// How many of the ends are at a position or before it, if it is known that so many are.
 fn pass_ends(ends: &[End], from: usize, seq: u32, at: u64) -> usize
     requires ordered { EndsAscend ends.now }
     requires from { from ≤ count_by (end_by seq at) ends.now }
@@ -136,9 +136,9 @@ fn is_by(end: &End, seq: u32, at: u64) -> bool
     end.seq < seq || end.seq == seq && u64::from(end.stop) <= at
 }
 
-/// How many places begin before a position, where it is known that so many do.
+/// How many places begin before a position, if it is known that so many do.
 ///
-/// The next few are looked at one after another. Where all of them begin before it, the others are searched.
+/// The next few are looked at one after another. If all of them begin before it, the others are searched.
 fn count_starts(places: &[Place], from: usize, seq: u32, at: u64) -> usize
     requires ordered { StartsAscend places.now }
     requires from { from ≤ count_by (place_before seq at) places.now }
@@ -153,7 +153,7 @@ fn count_starts(places: &[Place], from: usize, seq: u32, at: u64) -> usize
     passed + others.partition_point(|place| begins_before(place, seq, at))
 }
 
-/// Passes places that begin before a position, where it is known that so many do. It goes no further than to an index.
+/// Passes places that begin before a position, if it is known that so many do. It goes no further than to an index.
 fn pass_starts(places: &[Place], from: usize, until: usize, seq: u32, at: u64) -> usize
     requires ordered { StartsAscend places.now }
     requires from { from ≤ count_by (place_before seq at) places.now }

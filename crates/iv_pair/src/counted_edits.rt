@@ -16,7 +16,7 @@ use std::alloc::{AllocError, Allocator};
 ///
 /// # Errors
 ///
-/// Memory was refused, which happens for a record without a copy alone. The track is unchanged. Where it is the track that is
+/// An allocation failed, which happens for a record without a copy alone. The track is unchanged. If it is the track that is
 /// refused, the length was counted before, and is counted no more, which takes no memory.
 pub(crate) fn stage<A: Allocator + Copy>(
     track: &mut Track<A>,
@@ -50,7 +50,7 @@ pub(crate) fn stage<A: Allocator + Copy>(
 ///
 /// # Errors
 ///
-/// E11 exactly where no copy is there. The track is unchanged.
+/// E11 exactly if no copy is there. The track is unchanged.
 pub(crate) fn take<A: Allocator + Copy>(
     track: &mut Track<A>,
     lengths: &mut Lengths<A>,

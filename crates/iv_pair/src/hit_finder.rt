@@ -16,7 +16,7 @@ use std::marker::Model;
 ///
 /// A search goes on from where the one before was, as long as intervals come in the order of a track. It carries the records
 /// that it has passed and that reach past the place where it is, as many as it has room for, and doesn't go on where it has
-/// none: so what is carried and what is ahead have all hits. Where the next place is far ahead it begins at the root, from
+/// none: so what is carried and what is ahead have all hits. If the next place is far ahead it begins at the root, from
 /// the longest length before that place.
 #[derive(Drop)]
 pub(crate) struct HitFinder<'a, A: Allocator + Copy> {
@@ -124,7 +124,7 @@ fn is_onward(seq: u32, at: u64, to_seq: u32, to: u64) -> bool
     seq < to_seq || seq == to_seq && at <= to
 }
 
-/// Begins a search at a place: it goes on from where the search is, where it may and the place is near, and else begins at
+/// Begins a search at a place: it goes on from where the search is, if it may and the place is near, and else begins at
 /// the root.
 fn place<'a, A: Allocator + Copy>(
     second: &'a Second<A>,
@@ -156,7 +156,7 @@ fn place<'a, A: Allocator + Copy>(
     *rows = second.walk(seq, from, meter);
 }
 
-/// Whether the first of the records is from a start on. Where it does, to begin at the root would lead no further.
+/// Whether the first of the records is from a start on. If it does, to begin at the root would lead no further.
 fn begins_from<A: Allocator + Copy>(
     rows: &Rows<'_, A>,
     seq: u32,
@@ -170,7 +170,7 @@ fn begins_from<A: Allocator + Copy>(
 }
 
 /// Goes on over records that start at this place or before it, at most so many, and carries those that reach past it. It stops
-/// at one of them where there is no room.
+/// at one of them if there is no room.
 fn take_begun<'a, A: Allocator + Copy>(
     carried: &mut Carried<'a, A>,
     rows: &mut Rows<'a, A>,

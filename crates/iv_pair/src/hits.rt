@@ -63,7 +63,7 @@ impl<'a, A: Allocator + Copy> Hits<'a, A> {
         }
     }
 
-    /// A law for callers' proofs: 33 bits count those that are left. The call does nothing.
+    /// A lemma for callers' proofs: 33 bits count those that are left. The call does nothing.
     pub(crate) fn law_of_few(&self)
         ensures { length self.now < 2 ^ 33 }
     {

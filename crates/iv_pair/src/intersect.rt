@@ -36,7 +36,7 @@ pub enum IntersectRows {
 
 /// Puts the rows of one record and its hits, which any iterator may give.
 ///
-/// The other columns of the record are read once at most, and not where it puts no row. On a fault the sink has taken a
+/// The other columns of the record are read once at most, and not if it puts no row. On a fault the sink has taken a
 /// prefix of their text.
 pub fn put_intersect<
     A: Allocator + Copy,
@@ -105,7 +105,7 @@ fn put_each_hit<A: Allocator + Copy, T: BedRecord, H: Iterator<Item = T>, S: Sin
     Ok(())
 }
 
-/// Puts the line of one hit, and nothing where there is not a line for each.
+/// Puts the line of one hit, and nothing if there is not a line for each.
 fn put_hit<A: Allocator + Copy, T: BedRecord, S: Sink>(
     shown: IntersectRows,
     genome: &Genome<A>,
@@ -130,7 +130,7 @@ fn put_hit<A: Allocator + Copy, T: BedRecord, S: Sink>(
     }
 }
 
-/// The part of a record that it shares with a hit, `None` where it shares none.
+/// The part of a record that it shares with a hit, `None` if it shares none.
 fn shared<'a, T: BedRecord>(row: &RecordRef<'a>, hit: &T) -> Option<RecordRef<'a>>
     ensures { Overlaps row.now (T.as_row hit.now) → IsSomeAnd result (λ part. part ≡ shared row.now (T.as_row hit.now)) }
 {

@@ -1,4 +1,4 @@
-//! Laws of the definitions: functions that do nothing, whose contracts are the laws.
+//! Lemmas on the definitions: functions that do nothing, whose contracts are the lemmas.
 ghost use Rattle.std.specs.Prelude.{◌≡◌, ◌↔◌, ◌<◌, ◌≤◌, ℕ, List, Contains, IsTrue};
 ghost use Rattle.iv_text.specs.Row.{Row};
 ghost use Rattle.iv_text.specs.Covering.{covers};
@@ -6,7 +6,7 @@ ghost use Rattle.iv_cover.specs.Depth.{depth};
 ghost use Rattle.iv_cover.specs.Runs.{Run, empty_runs};
 ghost use Rattle.iv_pair.specs.Hits.{overlaps};
 
-/// A record is a hit of an interval exactly where some position of the interval is covered by it.
+/// A record is a hit of an interval exactly if it covers some position of the interval.
 pub fn overlap_is_a_shared_position()
     ensures { (seq start stop : ℕ) (q : Row) → start < stop → q.start < q.stop → IsTrue (overlaps seq start stop q) ↔ ((p : ℕ) × (start ≤ p) × (p < stop) × IsTrue (covers seq p q)) }
 {}

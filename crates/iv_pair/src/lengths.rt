@@ -27,7 +27,7 @@ pub(crate) fn length_of<A: Allocator + Copy>(row: &Record<A>) -> (u32, u32)
 ///
 /// # Errors
 ///
-/// Memory was refused, which happens only where no record has this length. The lengths are unchanged.
+/// An allocation failed, which happens only if no record has this length. The lengths are unchanged.
 pub(crate) fn raise<A: Allocator + Copy>(
     lengths: &mut Lengths<A>,
     key: (u32, u32),
@@ -67,7 +67,7 @@ pub(crate) fn lower<A: Allocator + Copy>(
     }
 }
 
-/// The lengths of a track's records. Nothing grows but the ledger.
+/// The lengths of a track's records. Only the ledger is allocated.
 pub(crate) fn lengths_of<A: Allocator + Copy>(
     alloc: A,
     track: &Track<A>,

@@ -22,14 +22,14 @@ use std::alloc::Allocator;
 pub enum PairRows {
     /// Those of an intersect.
     Intersect(IntersectRows),
-    /// Those of a subtract; where this is true, only whole records are taken away: `-A`.
+    /// Those of a subtract; if this is true, only whole records are taken away: `-A`.
     Subtract(bool),
 }
 
 /// Whether these rows depend on the second list only by which positions its records cover. They do for each subtract, and
 /// for an intersect that only asks whether a record has a hit: `-u` and `-v`.
 ///
-/// Where it is true, another second list that covers the same positions gives the same text.
+/// If it is true, another second list that covers the same positions gives the same text.
 pub fn needs_cover_alone(rows: PairRows) -> bool
     ensures value { result ≡ needs_cover_alone rows }
     ensures alone { IsTrue result → DependsOnCoverAlone rows }

@@ -14,7 +14,7 @@ use iv_text::Genome;
 use std::alloc::{AllocError, Allocator, Global};
 use std::marker::Model;
 
-/// Two lists of records in order, before or in the midst of one sweep over both.
+/// Two lists of records in order, before or during one sweep over both.
 ///
 /// Its model is what is left of the first list, the second list, and the hits of the record that was given last.
 #[derive(Drop)]
@@ -51,7 +51,7 @@ impl<'t, A: Allocator + Copy> PairSweep<'t, A> {
     ///
     /// # Errors
     ///
-    /// Memory was refused.
+    /// An allocation failed.
     pub fn new(
         alloc: A,
         first: &TextRecords<'t>,
@@ -94,7 +94,7 @@ impl<'t, A: Allocator + Copy> PairSweep<'t, A> {
         Ok(())
     }
 
-    /// A law for callers' proofs: the second list is in order. The call does nothing.
+    /// A lemma for callers' proofs: the second list is in order. The call does nothing.
     fn law_of_order(&self)
         ensures { AreInOrder self.now.second }
     {

@@ -42,7 +42,7 @@ impl<A: Allocator + Copy> Second<A> {
     ///
     /// # Errors
     ///
-    /// Memory was refused.
+    /// An allocation failed.
     pub fn new(
         alloc: A,
         width: u8,
@@ -62,7 +62,7 @@ impl<A: Allocator + Copy> Second<A> {
     ///
     /// # Errors
     ///
-    /// Memory was refused.
+    /// An allocation failed.
     pub fn from_batches(
         alloc: A,
         width: u8,
@@ -108,7 +108,7 @@ impl<A: Allocator + Copy> Second<A> {
     ///
     /// # Errors
     ///
-    /// E12 exactly where there are as many records as the limit, else E22, and that only for a record without a copy.
+    /// E12 exactly if there are as many records as the limit, else E22, and that only for a record without a copy.
     /// All is as before.
     pub fn add(&mut self, row: Record<A>, meter: &mut Meter) -> Result<(), EditFault>
         requires { row.width ≡ self.old.width }
@@ -129,7 +129,7 @@ impl<A: Allocator + Copy> Second<A> {
     ///
     /// # Errors
     ///
-    /// E11 exactly where no copy is there. All is as before.
+    /// E11 exactly if no copy is there. All is as before.
     pub fn remove(&mut self, row: &Record<A>, meter: &mut Meter) -> Result<(), EditFault>
         ensures there { OnOk result (0 < copies self.old.rows row.now) }
         ensures ok { OnOk result (self.new ≡ without_record row.now self.old) }
@@ -143,11 +143,11 @@ impl<A: Allocator + Copy> Second<A> {
 
     /// Adds the new record, of the width, and takes one copy of the old one. At most 16 steps.
     ///
-    /// It is not refused where there are as many records as the limit.
+    /// It is not refused if there are as many records as the limit.
     ///
     /// # Errors
     ///
-    /// E11 exactly where no copy of the old record is there, else E22, and that only for a new record without a copy.
+    /// E11 exactly if no copy of the old record is there, else E22, and that only for a new record without a copy.
     /// All is as before.
     pub fn replace(
         &mut self,
@@ -172,7 +172,7 @@ impl<A: Allocator + Copy> Second<A> {
         }
     }
 
-    /// The records on the sequence of this rank that share a position with an interval, in the order of a track, copies again.
+    /// The records on the sequence of this rank that share a position with an interval, in the order of a track, copies repeated.
     ///
     /// The interval is 0-based and half-open, and has a position. Records that end where it starts, or start where it ends,
     /// are none of them. It copies no record, and takes no memory.
@@ -208,7 +208,7 @@ impl<A: Allocator + Copy> Second<A> {
     }
 }
 
-/// A start that no record starts before which reaches past a position, where none has more than `longest` positions.
+/// A start that no record starts before which reaches past a position, if none has more than `longest` positions.
 ///
 /// It is one that a walk may begin at.
 pub(crate) fn first_start(position: u64, longest: u64) -> u64

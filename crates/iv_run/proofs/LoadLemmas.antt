@@ -37,7 +37,7 @@ reported cause.TooMany damaged = inr refl
 abbrev pub IsWhy : {T : Type 0} → LoadFault → Result T LoadFault → Type 0
 IsWhy f said = (f ≡ record { line = 0; cause = cause.Memory }) ⊎ (said ≡ Err f)
 
--- a fault of one file is out of memory, or what holds of the damage that the text shows, where that is the reason, holds of it
+-- a fault of one file is out of memory, or what holds of the damage that the text shows, if that is the reason, holds of it
 pub reported-by : {W : Type 0} (slot : Slot) (f : LoadFault) (P : CliFault → Type 0)
     → (W → P (Damaged slot f)) → (f ≡ record { line = 0; cause = cause.Memory }) ⊎ W → (damage_of slot f ≡ Memory) ⊎ P (damage_of slot f)
 reported-by slot f P leads (inl memory) = inl (ap (damage_of slot) memory)
@@ -61,7 +61,7 @@ module _ (width : ℕ) (sizes text : List ℕ) (limit : ℕ) where
     pub first-damaged : (f : LoadFault) → IsWhy f (bed_of g width limit text) → (damage_of First f ≡ Memory) ⊎ IsFault (damage_of First f)
     first-damaged f why = reported-by First f IsFault (λ is other bases. past-genome other bases ∙ ap (with_first g width other bases limit) is) why
 
-    -- the first BED file is sound
+    -- the first file is sound
     module _ (bed : Bed) (sound : bed_of g width limit text ≡ Ok bed) (other : Option (List ℕ)) where
       past-first : (bases : Option (List ℕ)) → parsed width sizes text other bases limit ≡ with_second g bed bases limit (second_of g width limit other)
       past-first bases = past-genome other bases ∙ ap (with_first g width other bases limit) sound
@@ -72,7 +72,7 @@ module _ (width : ℕ) (sizes text : List ℕ) (limit : ℕ) where
       pub second-damaged : (f : LoadFault) → IsWhy f (second_of g width limit other) → (damage_of Other f ≡ Memory) ⊎ IsLaterFault (damage_of Other f)
       second-damaged f why = reported-by Other f IsLaterFault (λ is bases. past-first bases ∙ ap (with_second g bed bases limit) is) why
 
-      -- the second BED file is sound, or there is none
+      -- the second file is sound, or there is none
       module _ (second : Option Bed) (whole : second_of g width limit other ≡ Ok second) (bases : Option (List ℕ)) where
         pub past-second : parsed width sizes text other bases limit ≡ with_bases g bed second limit (bases_said g bases)
         past-second = past-first bases ∙ ap (with_second g bed bases limit) whole
@@ -107,7 +107,7 @@ says-no_sizes sizes known k is why = subst (SaysSizesBy sizes known) (sym is) (s
     Reports j = (j ≡ Memory) ⊎ Damages j
 
 module _ (kept : Row → Row) (sizes text : List ℕ) (old : SoFar) where
-  -- the first BED file was read too
+  -- the first file was read too
   pub says-first : (said : Result Bed LoadFault) → SaysSizes sizes old → IsAnswer said (kept_bed_of kept old.genome old.width old.limit text) → SaysFirst kept sizes text (taken_first old said)
   says-first said says answer = by old.damage refl says said answer
     where
@@ -127,7 +127,7 @@ module _ (kept : Row → Row) (sizes text : List ℕ) (old : SoFar) where
       by (Some k) e (inr all) (Err f) is =
           subst (λ (d : Option CliFault). SaysFirstBy kept sizes text (record old { damage = noted old.damage (damage_of First f) }) (noted d (damage_of First f))) (sym e) (inr (all text))
 
-  -- there is no second BED file
+  -- there is no second file
   pub says-no_second : SaysFirst kept sizes text old → old.second ≡ None → SaysSecond kept sizes text None old
   says-no_second says none = by old.damage says
     where

@@ -78,7 +78,7 @@ module _ (d : ℕ) (rows : List Row) where
 
 -- ---- merge
 
--- the row of a block of which nothing is asked, where there is one
+-- the row of a block of which nothing is asked, if there is one
 abbrev row_if : List ℕ → Option (ℕ × (ℕ × List Row)) → List ℕ
 row_if name None = []
 row_if name (Some b) = block_row name [] b

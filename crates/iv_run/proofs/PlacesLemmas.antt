@@ -63,7 +63,7 @@ needs-places (places.Merge distance) = of-merge distance NeedsPlacesAlone (λ o 
 needs-places (places.Complement limited) = of-complement limited NeedsPlacesAlone (λ g rows. complement-bare limited g rows)
 needs-places (places.Genomecov asked) = of-genomecov asked NeedsPlacesAlone (λ g rows. genomecov-bare asked g rows)
 
--- a merge is a view of places where it is plain
+-- a merge is a view of places if it is plain
 module _ (b : Bool) (o : Options) (plain : (b ≡ true) ↔ IsPlain o.distance o) where
   pub merge-places : IfSome (then_some b (places.Merge o.distance)) (λ v. IsViewOf v (kept.Merge o))
   merge-places = by b plain.0
@@ -121,7 +121,7 @@ narrowed-kept width b c (view.Written (written.Paired rows)) asked is = absurd (
 narrowed-kept width b c (view.Written (written.Getfasta rows)) asked is = absurd (fasta-never (rows.stranded && nat_lt width 6) c rows asked is)
 
 module _ (words : List (List ℕ)) where
-  -- where no view of places is asked for on six columns, none is on fewer
+  -- if no view of places is asked for on six columns, none is on fewer
   asks-none : ((k : KeptView) → read_words 6 true true words ≡ Ok (view.Kept k) → NeedsColumns k) → AskForColumns words
   asks-none none asked width b c is = by (read_words 6 true true words) refl
     where

@@ -66,7 +66,7 @@ front-few old new front text known given = by new (subst (λ (o : Option (List �
         let size : length text ≡ length front + length back = ap length is ∙ length-append front back in
         omega (arith, size)
 
--- a file whose bytes are known is too long exactly where it has more bytes than the limit, where nothing else ended it
+-- a file whose bytes are known is too long exactly if it has more bytes than the limit, if nothing else ended it
 pub too_long-exact : (old new : SourceState) (limit : ℕ) (text : List ℕ) (ended : Result (List ℕ) FileFault) → old.coming ≡ Some text
     → EndsReading old new limit ended → new.failed ≡ false → HadMemory ended → IsTooLong ended ↔ (limit < length text)
 too_long-exact old new limit text (Ok bytes) known came sound memory =

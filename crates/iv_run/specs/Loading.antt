@@ -47,11 +47,11 @@ pub record Parsed : Type 0 where
   pub bases : Option fasta.Bases
   pub limit : ℕ
 
--- what a BED file says that may be left out
+-- what a BED file that may be left out says
 abbrev pub second_of : Sequences → ℕ → ℕ → Option (List ℕ) → Result (Option Bed) LoadFault
 second_of g width limit text = option_transpose (option_map (bed_of g width limit) text)
 
--- what a FASTA file says that may be left out
+-- what a FASTA file that may be left out says
 abbrev pub bases_said : Sequences → Option (List ℕ) → Result (Option fasta.Bases) LoadFault
 bases_said g text = option_transpose (option_map (fasta.fasta_of g) text)
 
@@ -60,12 +60,12 @@ abbrev pub with_bases : Sequences → Bed → Option Bed → ℕ → Result (Opt
 with_bases g first second limit (Err f) = Err (Damaged Bases f)
 with_bases g first second limit (Ok bases) = Ok (record { genome = g; first = first; second = second; bases = bases; limit = limit })
 
--- the files once the second BED file is read, or the fault of the first damaged one from there on
+-- the files once the second file is read, or the fault of the first damaged one from there on
 abbrev pub with_second : Sequences → Bed → Option (List ℕ) → ℕ → Result (Option Bed) LoadFault → Result Parsed CliFault
 with_second g first bases limit (Err f) = Err (Damaged Other f)
 with_second g first bases limit (Ok second) = with_bases g first second limit (bases_said g bases)
 
--- the files once the first BED file is read, or the fault of the first damaged one from there on
+-- the files once the first file is read, or the fault of the first damaged one from there on
 abbrev pub with_first : Sequences → ℕ → Option (List ℕ) → Option (List ℕ) → ℕ → Result Bed LoadFault → Result Parsed CliFault
 with_first g width other bases limit (Err f) = Err (Damaged First f)
 with_first g width other bases limit (Ok first) = with_second g first bases limit (second_of g width limit other)
@@ -75,7 +75,7 @@ abbrev pub with_genome : ℕ → List ℕ → Option (List ℕ) → Option (List
 with_genome width first other bases limit (Err f) = Err (Damaged Sizes f)
 with_genome width first other bases limit (Ok g) = with_first g width other bases limit (bed_of g width limit first)
 
--- what the bytes of the genome file, of the first BED file, and of the second and the FASTA file, where there are any, say: a
+-- what the bytes of the genome file, of the first file, and of the second and the FASTA file, if there are any, say: a
 -- BED file without a record has this width, and a track holds at most as many records as the limit; or the fault of the first
 -- damaged file
 abbrev pub parsed : ℕ → List ℕ → List ℕ → Option (List ℕ) → Option (List ℕ) → ℕ → Result Parsed CliFault

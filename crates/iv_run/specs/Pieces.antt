@@ -1,4 +1,4 @@
--- What a BED file says of which bytes are still to come. No part of what is promised.
+-- What a BED file says of which some bytes are not read yet. No part of what is promised.
 use Rattle.std.specs.Prelude.{◌≡◌, ◌≤◌, ◌⊎◌, ℕ, ◌+◌, ◌++◌, List, Result, Ok, Err, length}
 use Rattle.iv_text.specs.Genome.{Sequences}
 use Rattle.iv_text.specs.KeptDrafts.{AreSound, Reading, begun, coming, size_of}

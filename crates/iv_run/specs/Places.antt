@@ -6,6 +6,6 @@ use Rattle.iv_index.specs.Places.{bare}
 use Rattle.iv_view.specs.Views.{kept_text}
 use Rattle.iv_view.specs.declared.view.KeptView.{KeptView}
 
--- on each genome and for each list of records, the text stays as it is where only the places of the records are kept
+-- on each genome and for each list of records, the text stays as it is if only the places of the records are kept
 abbrev pub NeedsPlacesAlone : KeptView → Type 0
 NeedsPlacesAlone view = (g : Sequences) (rows : List Row) → kept_text view g (map bare rows) ≡ kept_text view g rows

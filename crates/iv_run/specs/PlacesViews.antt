@@ -25,6 +25,6 @@ pub record AskForPlaces (words : List (List ℕ)) (shown : PlacesView) : Type 0 
   pub is_view : IsViewOf shown asked
   pub reads : (width : ℕ) (has_second has_bases : Bool) → read_words width has_second has_bases words ≡ Ok (view.Kept asked)
 
--- a view of which a state is kept is none of places, where these words ask for it at some width and beside some files
+-- a view of which a state is kept is none of places, if these words ask for it at some width and beside some files
 abbrev pub AskForColumns : List (List ℕ) → Type 0
 AskForColumns words = (asked : KeptView) (width : ℕ) (has_second has_bases : Bool) → read_words width has_second has_bases words ≡ Ok (view.Kept asked) → NeedsColumns asked

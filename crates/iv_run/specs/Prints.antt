@@ -4,7 +4,7 @@ use Rattle.iv_bytes.specs.Sinks.{SinkState, Takes, FailsIn}
 use Rattle.iv_run.specs.declared.fault.CliFault.{CliFault}
 use Rattle.iv_run.specs.declared.fault.CliFault.TheVariants as fault
 
--- where this is the text: the sink has taken all of it; or a prefix of it, and is failed; or nothing, for out of memory
+-- if this is the text: the sink has taken all of it; or a prefix of it, and is failed; or nothing, for out of memory
 abbrev pub Prints : SinkState → SinkState → Result (Unit {0}) CliFault → List ℕ → Type 0
 Prints old new (Ok done) text = Takes old new text
 Prints old new (Err fault.Output) text = FailsIn old new text

@@ -36,13 +36,13 @@ abbrev pub shown_of : List (List ℕ) → Result Parsed CliFault → Result (Lis
 shown_of words (Err damaged) = Err damaged
 shown_of words (Ok files) = text_or_fault files (view_beside files words)
 
--- what a run of the plan prints for the bytes of the genome file, of the first BED file, and of the second and the FASTA file, where
+-- what a run of the plan prints for the bytes of the genome file, of the first file, and of the second and the FASTA file, if
 -- there are any; or its first fault: that of a damaged file, and then that of the words of the view
 abbrev pub shown : RunPlan → List ℕ → List ℕ → Option (List ℕ) → Option (List ℕ) → ℕ → Result (List ℕ) CliFault
 shown plan sizes first other bases limit = shown_of plan.view (parsed plan.width sizes first other bases limit)
 
--- what a run leaves of its output, where this is what it is to print: all of the text; or a prefix of it, the output failed;
--- or nothing, for a fault that it is to tell, or for out of memory
+-- what a run leaves of its output, if this is what it is to print: all of the text; or a prefix of it, the output failed;
+-- or nothing, for a fault that it is to report, or for out of memory
 abbrev pub Shows : SinkState → SinkState → Result (Unit {0}) CliFault → Result (List ℕ) CliFault → Type 0
 Shows old new (Ok done) said = (text : List ℕ) × (said ≡ Ok text) × Takes old new text
 Shows old new (Err fault.Output) said = (text : List ℕ) × (said ≡ Ok text) × FailsIn old new text

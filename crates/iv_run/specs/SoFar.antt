@@ -36,12 +36,12 @@ abbrev pub noted : Option CliFault → CliFault → Option CliFault
 noted None fault = Some fault
 noted (Some before) fault = Some before
 
--- once the first BED file is read
+-- once the first file is read
 abbrev pub taken_first : SoFar → Result Bed LoadFault → SoFar
 taken_first known (Ok file) = record known { first = file }
 taken_first known (Err f) = record known { damage = noted known.damage (damage_of First f) }
 
--- once the second BED file is read
+-- once the second file is read
 abbrev pub taken_second : SoFar → Result Bed LoadFault → SoFar
 taken_second known (Ok file) = record known { second = Some file }
 taken_second known (Err f) = record known { damage = noted known.damage (damage_of Other f) }
@@ -56,7 +56,7 @@ SaysSizesBy sizes known (Some k) =
 abbrev pub SaysSizes : List ℕ → SoFar → Type 0
 SaysSizes sizes known = SaysSizesBy sizes known known.damage
 
--- both the genome file and the first BED file are sound
+-- both the genome file and the first file are sound
 pub record IsFirst (kept : Row → Row) (sizes text : List ℕ) (known : SoFar) : Type 0 where
   pub genome_is : genome_of sizes ≡ Ok known.genome
   pub bed : Bed
@@ -69,11 +69,11 @@ SaysFirstBy kept sizes text known None = IsFirst kept sizes text known
 SaysFirstBy kept sizes text known (Some k) =
     (k ≡ Memory) ⊎ ((other bases : Option (List ℕ)) → parsed known.width sizes text other bases known.limit ≡ Err k)
 
--- what is known is what the genome file and the first BED file of these bytes say
+-- what is known is what the genome file and the first file of these bytes say
 abbrev pub SaysFirst : (Row → Row) → List ℕ → List ℕ → SoFar → Type 0
 SaysFirst kept sizes text known = SaysFirstBy kept sizes text known known.damage
 
--- so is the second BED file, where there is one
+-- so is the second file, if there is one
 pub record AreBoth (kept : Row → Row) (sizes text : List ℕ) (other : Option (List ℕ)) (known : SoFar) : Type 0 where
   pub first : IsFirst kept sizes text known
   pub beside : Option Bed

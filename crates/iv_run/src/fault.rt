@@ -14,7 +14,7 @@ pub enum FileFault {
     /// It has more bytes than the limit.
     #[error("too long")]
     TooLong,
-    /// Memory was refused.
+    /// An allocation failed.
     #[error("no memory")]
     Memory,
 }
@@ -53,7 +53,7 @@ pub enum CliFault {
     /// The output failed.
     #[error("output cannot be written")]
     Output,
-    /// Memory was refused.
+    /// An allocation failed.
     #[error("no memory")]
     Memory,
 }

@@ -19,17 +19,17 @@ use std::marker::Model;
 pub struct Inputs<'a> {
     /// The genome file.
     pub sizes: &'a [u8],
-    /// The first BED file.
+    /// The first file.
     pub first: &'a [u8],
-    /// The second BED file, where the plan names one.
+    /// The second file, if the plan names one.
     pub other: Option<&'a [u8]>,
 }
 
 /// The files of a run while they are read: what they say so far, or the fault of the first damaged one. Of each record of a BED
 /// file is kept what `K` says: all of it ([`Record`](iv_text::Record)), or its place ([`Span`](iv_index::Span)).
 ///
-/// The genome file comes first, then the first BED file, the second, where there is one, and the FASTA file. A file that can't be
-/// read is reported before a damaged one, so each is read to its end, whatever the others said: where the genome file is damaged,
+/// The genome file comes first, then the first file, the second, if there is one, and the FASTA file. A file that can't be
+/// read is reported before a damaged one, so each is read to its end, whatever the others said: if the genome file is damaged,
 /// the BED files are read on a genome of no sequence.
 #[derive(Drop)]
 pub struct Loading<K: FromRecord<A>, A: Allocator + Copy = Global> {
@@ -123,7 +123,7 @@ impl<K: FromRecord<A>, A: Allocator + Copy> Loading<K, A> {
         }
     }
 
-    /// The first BED file was read, and says this.
+    /// The first file was read, and says this.
     fn take_first(&mut self, said: Result<KeptFile<K, A>, LoadFault>)
         requires { IfOk said (AreKept K.kept self.old.genome self.old.limit) }
         ensures { self.new ≡ taken_first self.old said }
@@ -134,7 +134,7 @@ impl<K: FromRecord<A>, A: Allocator + Copy> Loading<K, A> {
         }
     }
 
-    /// The second BED file was read, and says this.
+    /// The second file was read, and says this.
     fn take_second(&mut self, said: Result<KeptFile<K, A>, LoadFault>)
         requires { IfOk said (AreKept K.kept self.old.genome self.old.limit) }
         ensures { self.new ≡ taken_second self.old said }
@@ -145,7 +145,7 @@ impl<K: FromRecord<A>, A: Allocator + Copy> Loading<K, A> {
         }
     }
 
-    /// Reads the first BED file from a source to its end, at most `most` bytes.
+    /// Reads the first file from a source to its end, at most `most` bytes.
     ///
     /// # Errors
     ///
@@ -165,7 +165,7 @@ impl<K: FromRecord<A>, A: Allocator + Copy> Loading<K, A> {
         Ok(())
     }
 
-    /// Reads the second BED file from a source to its end, at most `most` bytes.
+    /// Reads the second file from a source to its end, at most `most` bytes.
     ///
     /// # Errors
     ///
@@ -184,7 +184,7 @@ impl<K: FromRecord<A>, A: Allocator + Copy> Loading<K, A> {
         Ok(())
     }
 
-    /// Takes the first BED file, given all its bytes.
+    /// Takes the first file, given all its bytes.
     fn parse_first(&mut self, text: &[u8])
         ensures says { (sizes : List ℕ) → SaysSizes sizes self.old → SaysFirst K.kept sizes text.now self.new }
         ensures same { IsOfOneRun self.old self.new }
@@ -195,7 +195,7 @@ impl<K: FromRecord<A>, A: Allocator + Copy> Loading<K, A> {
         self.take_first(said);
     }
 
-    /// Takes the second BED file, given all its bytes.
+    /// Takes the second file, given all its bytes.
     fn parse_second(&mut self, other: &[u8])
         ensures says { (sizes text : List ℕ) → SaysFirst K.kept sizes text self.old → SaysSecond K.kept sizes text (Some other.now) self.new }
         ensures same { IsOfOneRun self.old self.new }
@@ -220,7 +220,7 @@ impl<K: FromRecord<A>, A: Allocator + Copy> Loading<K, A> {
     }
 
     /// What all files say, once the BED files are read, or the fault of the first damaged one. `bases` are the bytes of the FASTA
-    /// file, where there is one. They are taken: the bases stay in their memory.
+    /// file, if there is one. They are taken: the bases stay in their memory.
     pub fn finish(self, bases: Option<Vec<u8, A>>) -> Result<LoadedFiles<K, A>, CliFault>
         ensures says { (sizes text : List ℕ) (other : Option (List ℕ)) → SaysSecond K.kept sizes text other self
             → ReportsKept K.kept result (parsed self.width sizes text other (option_map (λ text. text.items) bases) self.limit) }

@@ -50,7 +50,7 @@ impl<'t, A: Allocator + Copy> Model for TextFiles<'t, A> {
     ghost invariant = { λ files. All (IsOnGenome files.genome) files.first.rows };
 }
 
-/// What the second BED file says, where there is one, or its first fault.
+/// What the second file says, if there is one, or its first fault.
 fn parse_second<'t, A: Allocator + Copy>(
     alloc: A,
     genome: &Genome<A>,
@@ -71,7 +71,7 @@ fn parse_second<'t, A: Allocator + Copy>(
 }
 
 impl<'t, A: Allocator + Copy> TextFiles<'t, A> {
-    /// What the files say, or the fault of the first damaged one, in the order genome file, first BED file, second BED file,
+    /// What the files say, or the fault of the first damaged one, in the order genome file, first file, second file,
     /// FASTA file.
     pub(crate) fn read(
         alloc: A,
@@ -196,7 +196,7 @@ impl<'t, A: Allocator + Copy> TextFiles<'t, A> {
 
 /// Prints what the plan's subcommand shows of the files, given their bytes: all of it, and nothing else.
 ///
-/// Each BED file has fewer than 2^32 bytes. `bases` are the bytes of the FASTA file, where the plan names one; they are taken.
+/// Each BED file has fewer than 2^32 bytes. `bases` are the bytes of the FASTA file, if the plan names one; they are taken.
 /// Every byte of memory is had before the first byte is printed.
 ///
 /// # Errors

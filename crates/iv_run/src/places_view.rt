@@ -29,14 +29,14 @@ use std::alloc::Allocator;
 pub enum PlacesView {
     /// `merge` of both strands together, without summaries: records at most this many bases apart are in one block.
     Merge(u32),
-    /// `complement`; where this is true, only of sequences with a record.
+    /// `complement`; if this is true, only of sequences with a record.
     Complement(bool),
     /// `genomecov`.
     Genomecov(DepthRows),
 }
 
 impl PlacesView {
-    /// The view of a plan, where it is such a one.
+    /// The view of a plan, if it is such a one.
     pub fn of_plan<A: Allocator + Copy>(plan: &Plan<'_, A>) -> Option<PlacesView>
         ensures some { IfSome result (λ shown. AskForPlaces plan.now.view shown) }
         ensures none { result ≡ None → AskForColumns plan.now.view }
@@ -47,7 +47,7 @@ impl PlacesView {
         }
     }
 
-    /// A view of which a state is kept, where it is such a one.
+    /// A view of which a state is kept, if it is such a one.
     fn of_view(view: &KeptView) -> Option<PlacesView>
         ensures some { IfSome result (λ shown. IsViewOf shown view.now) }
         ensures none { result ≡ None → NeedsColumns view.now }
@@ -65,7 +65,7 @@ impl PlacesView {
 
     /// Prints the text of the view, for places in the order of a track that are on the genome, through one buffer.
     ///
-    /// All memory is had before the first byte is printed: room for a stop of each record for `genomecov`, and none for the others.
+    /// All memory is allocated before the first byte is printed: room for a stop of each record for `genomecov`, else none.
     ///
     /// # Errors
     ///
@@ -87,7 +87,7 @@ impl PlacesView {
         Ok(())
     }
 
-    /// Puts the text of the view straight into the sink. Where memory is refused the sink is not touched.
+    /// Puts the text of the view straight into the sink. If an allocation fails the sink is not touched.
     fn put<A: Allocator + Copy, S: Sink>(
         self,
         alloc: A,
@@ -110,7 +110,7 @@ impl PlacesView {
     }
 }
 
-/// Sorts the places of the first BED file, and prints a view of them.
+/// Sorts the places of the first file, and prints a view of them.
 fn print_files<A: Allocator + Copy, S: Sink>(
     view: PlacesView,
     files: LoadedFiles<Span, A>,
@@ -132,8 +132,8 @@ fn print_files<A: Allocator + Copy, S: Sink>(
 }
 
 impl<A: Allocator + Copy> Loading<Span, A> {
-    /// Prints a view of the first BED file, once the BED files are read: all of its text, and nothing else. `bases` are the bytes of
-    /// the FASTA file, where there is one.
+    /// Prints a view of the first file, once the BED files are read: all of its text, and nothing else. `bases` are the bytes of
+    /// the FASTA file, if there is one.
     ///
     /// # Errors
     ///

@@ -18,7 +18,7 @@ use iv_text::{Batches, BedBatches, FromRecord, Genome, KeptDraft, LoadFault, Rec
 use std::alloc::{AllocError, Allocator, Global};
 use std::marker::Model;
 
-/// Adds a piece to the bytes. They may come to this limit in all.
+/// Adds a piece to the bytes, up to this limit in all.
 fn take_piece<A: Allocator>(
     bytes: &mut Vec<u8, A>,
     piece: &[u8],
@@ -104,7 +104,7 @@ impl<A: Allocator + Copy> KeptFile<Span, A> {
     ///
     /// # Errors
     ///
-    /// Memory was refused.
+    /// An allocation failed.
     pub(crate) fn into_spans(self) -> Result<Spans<A>, AllocError>
         ensures { IfOk result (λ spans. spans ≡ self) }
     {
@@ -136,7 +136,7 @@ fn take_next<K: FromRecord<A>, A: Allocator + Copy>(
 }
 
 impl<K: FromRecord<A>, A: Allocator + Copy> BedDraft<K, A> {
-    /// A file of which all bytes are at hand.
+    /// A file of which all bytes are in memory.
     pub(crate) fn of_text(alloc: A, genome: &Genome<A>, limit: u32, text: &[u8]) -> Self
         ensures says { SaysSoFar K.kept genome.now limit text.now result.said }
         ensures sound { IfOk result.said (λ d. AreSound K.kept genome.now limit d.read) }
@@ -207,7 +207,7 @@ pub(crate) fn in_slot<T: Drop>(slot: Slot, said: Result<T, LoadFault>) -> Result
     }
 }
 
-/// What the FASTA file says, where there is one, or its first fault.
+/// What the FASTA file says, if there is one, or its first fault.
 pub(crate) fn parse_fasta<A: Allocator + Copy>(
     alloc: A,
     genome: &Genome<A>,

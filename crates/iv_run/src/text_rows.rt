@@ -24,7 +24,7 @@ use std::alloc::{AllocError, Allocator};
 
 /// Puts the text of a view that needs the columns of records: cluster, or a merge of each strand or with summaries.
 ///
-/// All memory is had before the first byte is put: room for a value of each record where a merge asks for `distinct`. Else it
+/// All memory is allocated before the first byte is put: room for a value of each record if a merge asks for `distinct`. Else it
 /// takes none.
 pub(crate) fn put_kept<'t, A: Allocator + Copy, S: Sink>(
     alloc: A,
@@ -49,7 +49,7 @@ pub(crate) fn put_kept<'t, A: Allocator + Copy, S: Sink>(
     Ok(())
 }
 
-/// Sorts the records of a second file in the order of a track, for one print of these rows. Where the rows depend only on the
+/// Sorts the records of a second file in the order of a track, for one print of these rows. If the rows depend only on the
 /// positions that it covers, its records are joined, so that few are gone over however many there are at one place.
 pub(crate) fn sort_beside<'t, A: Allocator + Copy>(
     alloc: A,
@@ -79,9 +79,9 @@ fn join_sorted<'t, A: Allocator + Copy>(rows: PairRows, file: &mut BedText<'t, A
     file.law_of_bases();
 }
 
-/// Puts these rows of two lists of records: intersect or subtract. All memory is had before the first byte is put.
+/// Puts these rows of two lists of records: intersect or subtract. All memory is allocated before the first byte is put.
 ///
-/// Where only the number of hits is wanted, no hit is looked at.
+/// If only the number of hits is wanted, no hit is looked at.
 pub(crate) fn put_pairs<'t, A: Allocator + Copy, S: Sink>(
     alloc: A,
     rows: PairRows,

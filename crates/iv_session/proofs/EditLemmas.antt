@@ -15,7 +15,7 @@ use Rattle.iv_workspace.specs.declared.edit.Target.{Target}
 use Rattle.iv_workspace.specs.declared.edit.Target.TheVariants as target
 use Rattle.iv_session.proofs.ColumnLemmas.{fields-after, miscounted}
 
--- a record is read of what is after a command as of its fields: where there are none, the empty text has too few as well
+-- a record is read of what is after a command as of its fields: if there are none, the empty text has too few as well
 pub after-read : (g : Sequences) (width : ℕ) (fields : Option (Bor (List ℕ))) (after empty : Bor (List ℕ)) → empty.now ≡ [] → after ≡ unwrap_or fields empty → 3 ≤ width
     → read g width after.now ≡ read_columns g width (fields_left 9 fields)
 after-read g width fields after empty none is low = elim (fields-after fields after empty none is) [

@@ -126,7 +126,7 @@ printed-all s new out0 out1 (Err (printing.Refused other)) it = absurd it
 
 -- ---- how a run ends at a line
 
--- a print leaves the session as before, but that some views may have become current
+-- a print leaves the session as before, except that some views may have become current
 fresher-done : (asks : Result Request Fault) (old new : State) (text : List ℕ) → AsksToPrint asks → DoesAsked asks old new text → IsButCurrent old new
 fresher-done (Ok (request.Print name)) old new text print (v, named, is, same) =
     subst (IsButCurrent old) (sym is) (refl, freshens-one old.views name)

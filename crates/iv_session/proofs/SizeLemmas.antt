@@ -140,7 +140,7 @@ grows-step false xs ys g = record {
   low = omega (arith, g.low);
 }
 
--- a line only grows where more comes after it
+-- a line only grows if more comes after it
 sizes-grow : (b : ℕ) (bs more : List ℕ) → Grows (line_sizes (b ∷ bs)) (line_sizes ((b ∷ bs) ++ more))
 sizes-grow b [] more = by (b == 10)
   where

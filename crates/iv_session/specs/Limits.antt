@@ -2,7 +2,7 @@
 use Rattle.std.specs.Prelude.{◌≡◌, ℕ, ◌+◌, ◌≤◌, ◌<◌, ◌==◌, ◌||◌, ◌++◌, ◌∷◌, [], ◌⊎◌, ⊤, All, List, Bool, nat_lt, cond, Option, None, Some, length}
 use Rattle.iv_text.specs.Bytes.{line_feed}
 
--- one byte more in the first of these lines; where there is none, it is a line of its own
+-- one byte more in the first of these lines; if there is none, it is a line of its own
 abbrev pub one_longer : List ℕ → List ℕ
 one_longer [] = 1 ∷ []
 one_longer (size ∷ sizes) = (size + 1) ∷ sizes
@@ -20,7 +20,7 @@ AreWholeLines bytes = (bytes ≡ []) ⊎ ((front : List ℕ) × (bytes ≡ front
 abbrev pub AreWithin : ℕ → ℕ → List ℕ → Type 0
 AreWithin most_lines most sizes = (length sizes ≤ most_lines) × All (λ size. size ≤ most) sizes
 
--- the first of these lines, which has the number n, keeps both limits; where there is none, there is nothing to keep
+-- the first of these lines, which has the number n, keeps both limits; if there is none, there is nothing to keep
 abbrev pub Keeps : ℕ → ℕ → ℕ → List ℕ → Type 0
 Keeps most_lines most n [] = ⊤
 Keeps most_lines most n (size ∷ sizes) = (n ≤ most_lines) × (size ≤ most)

@@ -86,7 +86,7 @@ asked_by s word fields =
     else if bytes_eq word (codes "resize") then of_fields (λ pair. request.Resize pair.0 pair.1) (name_and_length (two_fields fields))
     else Err fault.Command
 
--- what a line asks for in a session: nothing, where it is empty or a comment; else what its first column says, with the others
+-- what a line asks for in a session: nothing, if it is empty or a comment; else what its first column says, with the others
 -- as fields
 abbrev pub asked : State → List ℕ → Result Request Fault
 asked s text =

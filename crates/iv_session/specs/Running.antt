@@ -32,7 +32,7 @@ Does (request.Print name) old new text =
     (v : Shown) × (view_named old.views name ≡ Some v) × (new ≡ with_printed old name) × (text ≡ text_in old v.view)
 Does request.PrintAll old new text = (new ≡ with_all_printed old) × (text ≡ all_text old)
 
--- why a request is refused: a print for out of memory only where a view to be printed is stale
+-- why a request is refused: a print for out of memory only if a view to be printed is stale
 abbrev pub Refuses : Request → State → Fault → Type 0
 Refuses (request.Edit target e) s f = RefusesIn target e s f
 Refuses (request.Resize name n) s f = resized s name n ≡ Err f
@@ -53,7 +53,7 @@ abbrev pub RefusesAsked : Result Request Fault → State → Fault → Type 0
 RefusesAsked (Ok asks) s f = Refuses asks s f
 RefusesAsked (Err reported) s f = f ≡ reported
 
--- what a refused line leaves: all as before, but that a print of all views may have made some of them current
+-- what a refused line leaves: all as before, except that a print of all views may have made some of them current
 abbrev pub Leaves : Result Request Fault → State → State → Type 0
 Leaves (Ok request.PrintAll) old new = IsButCurrent old new
 Leaves other old new = new ≡ old
@@ -76,7 +76,7 @@ AsksToPrint (Ok request.PrintAll) = Unit {0}
 AsksToPrint other = ⊥
 
 -- the line with which a run ends at a sink: at the output only a print that isn't refused, at the messages only a refused line. The
--- session is as before, but that some views may have become current
+-- session is as before, except that some views may have become current
 abbrev pub EndsAt : RunCause → Result Request Fault → State → State → Written → Type 0
 EndsAt cause.Output asks old new written = AsksToPrint asks × (written.refusal ≡ None) × IsButCurrent old new
 EndsAt cause.Messages asks old new written = IsSome written.refusal × IsButCurrent old new

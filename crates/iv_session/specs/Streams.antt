@@ -2,7 +2,7 @@
 use Rattle.iv_bytes.specs.Sources.{SourceState}
 use Rattle.iv_bytes.specs.Sinks.{SinkState}
 
--- what is still to come of the input, and what the output and the messages have taken
+-- what remains of the input, and what the output and the messages have taken
 pub record Streams : Type 0 where
   pub input : SourceState
   pub output : SinkState

@@ -3,7 +3,7 @@ use Rattle.std.specs.Prelude.{ℕ, ◌+◌, ◌++◌, List, [], ◌∷◌, Optio
 use Rattle.std.specs.List.{flat_map}
 use Rattle.iv_text.specs.Fault.{fault_text}
 
--- what a line writes: a text to the output, and where it is refused the reason to the messages
+-- what a line writes: a text to the output, and if it is refused the reason to the messages
 pub record Written : Type 0 where
   pub output : List ℕ
   pub refusal : Option (List ℕ)

@@ -12,7 +12,7 @@ use iv_workspace::Edit;
 use std::alloc::Allocator;
 
 /// What an edit does, whatever its records are.
-#[derive(Clone, Copy, Debug, PartialEq, Eq)]
+#[derive(Clone, Copy)]
 pub(crate) enum EditKind {
     Add,
     Remove,

@@ -35,7 +35,7 @@ impl<'a> Field<'a> {
     }
 }
 
-/// No field is after a command that takes none.
+/// There is no field after a command that takes none.
 pub(crate) fn no_field(fields: Option<&[u8]>) -> Result<(), Fault>
     ensures { result ≡ no_fields (fields_left tab fields.entry) }
 {

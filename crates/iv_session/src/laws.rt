@@ -1,4 +1,4 @@
-//! Laws of the definitions: functions that do nothing, whose contracts are the laws.
+//! Lemmas on the definitions: functions that do nothing, whose contracts are the lemmas.
 ghost use Rattle.std.specs.Prelude.{◌≡◌, ◌↔◌, ◌⊎◌, ℕ, ◌+◌, ◌≤◌, ◌<◌, ◌++◌, ◌∷◌, [], List, Some, None, Result, Ok, Err, length};
 ghost use Rattle.iv_text.specs.Bytes.{line_feed};
 ghost use Rattle.iv_text.specs.Lines.{lines, HasNoFeed};
@@ -18,13 +18,13 @@ pub fn sizes_are_of_lines()
     ensures as_many { (text : List ℕ) → length (line_sizes text) ≡ length (lines text) }
 {}
 
-/// The first line that passes a limit is the one after lines that pass none; where no line passes one, there is none.
+/// The first line that passes a limit is the one after lines that pass none; if no line passes one, there is none.
 pub fn first_over_is_first()
     ensures none { (most_lines most : ℕ) (sizes : List ℕ) → AreWithin most_lines most sizes → first_over most_lines most 1 sizes ≡ None }
     ensures first { (most_lines most : ℕ) (front back : List ℕ) → AreWithin most_lines most front → Passes most_lines most (length front + 1) back → first_over most_lines most 1 (front ++ back) ≡ Some (length front + 1) }
 {}
 
-/// A run that ended neither by a stream nor out of memory is called too long exactly where some line passes a limit, and at the first.
+/// A run that ended neither by a stream nor out of memory is called too long exactly if some line passes a limit, and at the first.
 ///
 /// A run that is done has no such line, and no run goes on after one, whatever ends it.
 pub fn too_long_is_exact()

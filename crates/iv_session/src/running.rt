@@ -15,14 +15,14 @@ use iv_workspace::{PrintFault, Session};
 use std::alloc::Allocator;
 
 /// What became of a line.
-#[derive(Clone, Copy, Debug, PartialEq, Eq)]
+#[derive(Clone, Copy)]
 pub(crate) enum Outcome {
     Done,
     Refused,
 }
 
 impl Outcome {
-    /// How many refusals it is.
+    /// How many refusals it counts as.
     pub(crate) fn refusals(self) -> u64
         ensures { result ≡ refusals_of self }
     {
@@ -65,7 +65,7 @@ fn run_request<A: Allocator + Copy, W: Sink>(
     }
 }
 
-/// Does what a line asks for, where it is a request.
+/// Does what a line asks for, if it is a request.
 fn answer_line<A: Allocator + Copy, W: Sink>(
     session: &mut Session<A>,
     line: &[u8],
@@ -77,7 +77,7 @@ fn answer_line<A: Allocator + Copy, W: Sink>(
     run_request(session, request, output)
 }
 
-/// Tells of a line that was not done.
+/// Reports a line that was not done.
 fn tell<E: Sink>(messages: &mut E, number: u64, fault: PrintFault) -> Result<Outcome, RunCause>
     ensures { Tells (print_code fault) number (E.state messages.old) (E.state messages.new) result }
 {

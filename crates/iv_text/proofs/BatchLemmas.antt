@@ -24,7 +24,7 @@ module _ {X : Type 0} (cmp : X → X → Ordering) where
   up-append before (x ∷ xs) ys =
       up-step (comes_below cmp x before) (ascends cmp (Some x) (xs ++ ys)) (ascends cmp (Some x) xs) (ascends cmp (last_of (Some x) xs) ys) (up-append (Some x) xs ys)
 
-  -- where the first list ascends it is as if the second came after its last item, and else neither do both
+  -- if the first list ascends it is as if the second came after its last item, and else neither do both
   pub ups-on : (before : Option X) (xs ys : List X) → ascends cmp before xs ≡ true → ascends cmp before (xs ++ ys) ≡ ascends cmp (last_of before xs) ys
   ups-on before xs ys e = up-append before xs ys ∙ ap (λ (b : Bool). cond b (ascends cmp (last_of before xs) ys) false) e
 

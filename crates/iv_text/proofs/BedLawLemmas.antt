@@ -1,4 +1,4 @@
--- A BED file read line by line has the records of its lines where none has a cause, else the first fault.
+-- A BED file read line by line has the records of its lines if none has a cause, else the first fault.
 use Rattle.std.proofs.Common.{◌≡◌, ◌↔◌, ℕ, ◌+◌, ◌++◌, nat_le, Bool, true, false, not, cond, List, [], ◌∷◌, Option, None, Some, Result, Ok, Err, length, map, find, option_map, slice_get, refl, sym, ◌∙◌, ap}
 use Rattle.std.specs.Option.{unwrap_or, option_or}
 use Rattle.std.proofs.lemmas.Bool.{cond-true, cond-false, not_from_true, not_from_false}

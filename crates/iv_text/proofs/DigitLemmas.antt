@@ -60,7 +60,7 @@ others-mask bytes long =
     ∙ ap (map (ltb 9)) (zip2_splat (λ (a b : ℕ). (a + (2 ^ 8 - b)) % 2 ^ 8) bytes 16 48 long)
     ∙ map-map (ltb 9) value_of bytes)
 
--- where the mask is empty, all of the sixteen are digits
+-- if the mask is empty, all of the sixteen are digits
 pub digits-in-all : (text : List ℕ) → 16 ≤ length text → ((k : ℕ) → get_or text k 0 < 256) → mask_l (map is_other (take 16 text)) ≡ 0
     → (k : ℕ) → k < 16 → is_ascii_digit (get_or text k 0) ≡ true
 digits-in-all text long bytes none k lt = value-digit (get_or text k 0) (bytes k) (none_from_empty_mask is_other text 0 16 0 long none k (omega arith) lt)
@@ -176,7 +176,7 @@ word-byte text at word byte is (suc (suc zero)) lt = let low = byte at in let ne
 word-byte text at word byte is (suc (suc (suc zero))) lt = let low = byte at in let next = byte (at + 1) in let third = byte (at + 2) in let last = byte (at + 3) in omega arith
 word-byte text at word byte is (suc (suc (suc (suc k)))) lt = absurd (omega arith)
 
--- where two words are equal, so are their bytes
+-- if two words are equal, so are their bytes
 pub words-same : (xs ys : List ℕ) (at n m : ℕ) → ((k : ℕ) → k < 4 → get_or xs (at + k) 0 ≡ n / 256 ^ k % 256) → ((k : ℕ) → k < 4 → get_or ys (at + k) 0 ≡ m / 256 ^ k % 256) → n ≡ m
     → (k : ℕ) → at ≤ k → k < at + 4 → get_or xs k 0 ≡ get_or ys k 0
 words-same xs ys at n m of_xs of_ys same k from to =

@@ -413,7 +413,7 @@ module _ {K : Type 0} (kept_of : Row → ℕ → K) (g : Sequences) (limit : ℕ
         → (rest : List (List ℕ)) → after kept g limit (shown as_row old) (lines text ++ rest) ≡ Err f
     refused-so old text f refuses = refuses kept as_row (stands-so old.at text)
 
--- where all of each record is kept, records are as they were
+-- if all of each record is kept, records are as they were
 pub rows-all : (rows : List Row) → map (λ r. r) rows ≡ rows
 rows-all [] = refl
 rows-all (r ∷ rows) = ap (λ (rest : List Row). r ∷ rest) (rows-all rows)
@@ -430,7 +430,7 @@ fit-all g w (k ∷ rows) all =
     let first : IsKept (λ r. r) g w k = All-head (IsKept (λ r. r) g w) k rows all in
     All-cons (Fits g w) k rows (subst (Fits g w) (sym first.2) first.1) (fit-all g w rows (All-tail (IsKept (λ r. r) g w) k rows all))
 
--- what follows from an error follows where it is handed on
+-- what follows from an error follows if it is handed on
 pub handed-on : {T E : Type 0} (r : Result T E) (f : E) (P : E → Type 0) → IsErrAnd r (λ e. e ≡ f) → P f → IfErr r P
 handed-on (Ok x) f P is holds = absurd is
 handed-on (Err e) f P is holds = subst P (sym is) holds

@@ -1,4 +1,4 @@
--- What genome files and BED files say, line by line: a value where no line has a cause to refuse it, else the first fault.
+-- What genome files and BED files say, line by line: a value if no line has a cause to refuse it, else the first fault.
 use Rattle.std.specs.Prelude.{◌≡◌, ℕ, ◌+◌, ◌++◌, nat_le, not, Bool, false, cond, List, [], ◌∷◌, Option, None, Some, length, map, filter, find, slice_get, option_map, unwrap_or}
 use Rattle.iv_text.specs.Fields.{columns}
 use Rattle.iv_text.specs.Genome.{Sequences}
@@ -44,11 +44,11 @@ first_width lines = option_map (λ line. length (columns line)) (slice_get (reco
 abbrev pub rows_of : Sequences → List (List ℕ) → List Row
 rows_of g lines = map (λ line. row g (unwrap_or (first_width lines) 0) (columns line)) (record_lines lines)
 
--- the BED file that lines say; where none says a record, its width is the one handed in
+-- the BED file that lines say; if none says a record, its width is the one handed in
 abbrev pub bed_from : Sequences → ℕ → List (List ℕ) → Bed
 bed_from g empty lines = record { width = unwrap_or (first_width lines) empty; rows = rows_of g lines }
 
--- the width for a line after these lines: theirs, or the number of its own columns where none of them says a record
+-- the width for a line after these lines: theirs, or the number of its own columns if none of them says a record
 abbrev pub width_after : List (List ℕ) → List ℕ → ℕ
 width_after before line = unwrap_or (first_width before) (length (columns line))
 

@@ -81,7 +81,7 @@ pub record Held (K : Type 0) : Type 0 where
 abbrev pub none_held : {K : Type 0} → Held K
 none_held = record { number = 1; at = 0; width = None; kept = [] }
 
--- the same lines, where this is the record that something kept stands for
+-- the same lines, if this is the record that something kept stands for
 abbrev pub shown : {K : Type 0} → (K → Row) → Held K → LinesRead
 shown row_of h = record { number = h.number; width = h.width; rows = map row_of h.kept }
 
@@ -131,7 +131,7 @@ pub record Reading : Type 0 where
 abbrev pub begun : Reading
 begun = record { read = record { number = 1; width = None; rows = [] }; tail = [] }
 
--- what the file says where these bytes are still to come, with its records as they are kept, or its first fault
+-- what the file says if these bytes remain, with its records as they are kept, or its first fault
 abbrev pub coming : (Row → Row) → Sequences → ℕ → Reading → List ℕ → Result Draft LoadFault
 coming kept g limit r more = after kept g limit r.read (lines (r.tail ++ more))
 

@@ -7,7 +7,7 @@ use std::hash::{BuildHasher, DefaultHasher, FoldHasher, Hasher};
 /// A text below this size has so few names that it does no harm if they all collide.
 const SHORT: usize = 32768;
 
-/// Hashes a name: fast, where names may be made to collide, or slower and after a text.
+/// Hashes a name: fast, if names may be made to collide, or slower and after a text.
 #[derive(Clone, Copy)]
 pub enum NameHasher {
     /// Names may be made to collide.

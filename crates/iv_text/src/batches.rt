@@ -163,7 +163,7 @@ impl<T: Drop, A: Allocator + Copy> Batches<T, A> {
     ///
     /// # Errors
     ///
-    /// Memory was refused, and the list is as it was.
+    /// An allocation failed, and the list is as it was.
     pub fn push(&mut self, most: usize, one: T) -> Result<(), AllocError>
         ensures ok { OnOk result (self.new ≡ self.old ++ one ∷ []) }
         ensures err { OnErr result (self.new ≡ self.old) }
@@ -182,7 +182,7 @@ impl<T: Drop, A: Allocator + Copy> Batches<T, A> {
     ///
     /// # Errors
     ///
-    /// Memory was refused. There is no such fault if there is one batch only.
+    /// An allocation failed. There is no such fault if there is one batch only.
     pub fn into_vec(self) -> Result<Vec<T, A>, AllocError>
         ensures { IfOk result (λ v. v.items ≡ self) }
     {

@@ -6,7 +6,7 @@ use crate::record::Record;
 use crate::record_ref::RecordRef;
 use std::alloc::Allocator;
 
-/// A checked record. Its place is at hand; its other columns may have to be cut from its line.
+/// A checked record. Its place is known; its other columns may have to be cut from its line.
 pub trait BedRecord: Drop {
     /// The row that it is.
     ghost as_row: { Self → Row };
@@ -15,11 +15,11 @@ pub trait BedRecord: Drop {
     fn seq(&self) -> u32
         ensures { result ≡ (as_row self.now).seq };
 
-    /// Where it starts, from 0.
+    /// The start, from 0.
     fn start(&self) -> u64
         ensures { result ≡ (as_row self.now).start };
 
-    /// Where it stops, not included.
+    /// The end, not included.
     fn stop(&self) -> u64
         ensures value { result ≡ (as_row self.now).stop }
         ensures some { (as_row self.now).start < result };

@@ -22,7 +22,7 @@ impl<const N: usize> Model for BoundedTexts<N> {
 }
 
 impl<const N: usize> BoundedTexts<N> {
-    /// The two copied.
+    /// A copy of both.
     pub(crate) fn copy_of(name: &[u8], score: &[u8]) -> Self
         requires fit { length name.now + length score.now ≤ N }
         requires lengths { N < 2 ^ 8 }

@@ -46,7 +46,7 @@ fn count_cell(text: &[u8]) -> usize
     ends.trailing_zeros() as usize
 }
 
-/// What is after a TAB and a name or a score, where a text begins with them.
+/// What follows a TAB and a name or a score, if a text begins with them.
 #[inline(always)]
 fn after_text(text: &[u8]) -> Option<&[u8]>
     ensures { IfSome result (λ rest. BeginsWithCell (λ cell. bad_text cell ≡ false) text.now rest.now) }
@@ -66,7 +66,7 @@ fn is_strand(byte: u8) -> bool
     byte == b'+' || byte == b'-' || byte == b'.'
 }
 
-/// What is after a TAB and the byte of a strand, where a text begins with them.
+/// What follows a TAB and the byte of a strand, if a text begins with them.
 fn after_strand(text: &[u8]) -> Option<&[u8]>
     ensures { IfSome result (λ rest. BeginsWithCell (λ cell. IsSome (strand_of cell)) text.now rest.now) }
 {
@@ -77,7 +77,7 @@ fn after_strand(text: &[u8]) -> Option<&[u8]>
     }
 }
 
-/// What is after the cells of a record of this width, where a text begins with them.
+/// What follows the cells of a record of this width, if a text begins with them.
 pub(crate) fn after_cells(width: u8, text: &[u8]) -> Option<&[u8]>
     requires { (3 ≤ width) × (width ≤ 6) }
     ensures { IfSome result (λ rest. BeginsWithCells width text.now rest.now) }

@@ -17,12 +17,12 @@ pub trait FromRecord<A: Allocator + Copy>: Sized + Drop {
     /// What is kept of a record whose line begins at this byte.
     ghost kept_of: { Row → ℕ → Self };
 
-    /// What is kept of a record whose line begins at this byte of its file. Bytes are counted with 32 bits: anew from 0 after
+    /// What is kept of a record whose line begins at this byte of its file. Bytes are counted with 32 bits: again from 0 after
     /// 4 GiB.
     ///
     /// # Errors
     ///
-    /// Memory was refused.
+    /// An allocation failed.
     fn from_record(alloc: A, read: &RecordRef<'_>, at: u32) -> Result<Self, AllocError>
         ensures { IfOk result (λ one. one ≡ kept_of read.now at) };
 

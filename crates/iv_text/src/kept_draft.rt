@@ -85,7 +85,7 @@ impl<K: FromRecord<A>, A: Allocator + Copy> KeptDraft<K, A> {
     ///
     /// # Errors
     ///
-    /// The file's first fault, or memory was refused. Nothing is said of the draft then.
+    /// The file's first fault, or an allocation failed. Nothing is said of the draft then.
     pub fn take_piece(
         &mut self,
         genome: &Genome<A>,
@@ -142,7 +142,7 @@ impl<K: FromRecord<A>, A: Allocator + Copy> KeptDraft<K, A> {
     ///
     /// # Errors
     ///
-    /// The fault of the last line, or memory was refused.
+    /// The fault of the last line, or an allocation failed.
     pub fn finish(
         self,
         genome: &Genome<A>,

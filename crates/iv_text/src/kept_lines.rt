@@ -97,7 +97,7 @@ impl<K: FromRecord<A>, A: Allocator + Copy> KeptLines<K, A> {
         Ok(())
     }
 
-    /// Takes the first line of a text where a width is known, the reader reads the line in one pass, and the place of its record is
+    /// Takes the first line of a text if a width is known, the reader reads the line in one pass, and the place of its record is
     /// all that is kept of it, and answers the line's size.
     #[inline(always)]
     fn take_short(
@@ -171,7 +171,7 @@ impl<K: FromRecord<A>, A: Allocator + Copy> KeptLines<K, A> {
     ///
     /// # Errors
     ///
-    /// The first fault, or memory was refused. Nothing is said of the lines then.
+    /// The first fault, or an allocation failed. Nothing is said of the lines then.
     pub fn take_lines(
         &mut self,
         alloc: A,

@@ -1,4 +1,4 @@
-//! Genome files, BED lines and records. The sinks and sources of `iv_bytes` are passed on.
+//! Genome files, BED lines and records. The sinks and sources of `iv_bytes` are re-exported.
 #![tactic(auto)]
 
 mod after_text;

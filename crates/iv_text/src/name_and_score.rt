@@ -6,7 +6,7 @@ use crate::long_texts::LongTexts;
 use std::alloc::{AllocError, Allocator, Global};
 use std::marker::Model;
 
-/// A name and a score. It has 16 bytes, so that a record has 32. No bytes take no memory.
+/// A name and a score. It has 16 bytes, so that a record has 32. Without bytes it takes no memory.
 #[derive(Drop)]
 pub(crate) struct NameAndScore<A: Allocator = Global> {
     place: Storage<A>,
@@ -73,7 +73,7 @@ impl<A: Allocator> NameAndScore<A> {
 
 // Long texts take two allocations, so the allocator is used twice.
 impl<A: Allocator + Copy> NameAndScore<A> {
-    /// The two copied, in one allocation where they have at most 38 bytes together.
+    /// A copy of both, in one allocation if they have at most 38 bytes together.
     pub(crate) fn copy_of(alloc: A, name: &[u8], score: &[u8]) -> Result<Self, AllocError>
         ensures ok { IfOk result (λ t. t ≡ (name.now, score.now)) }
         ensures free { name.now ≡ [] → score.now ≡ [] → IsOk result }

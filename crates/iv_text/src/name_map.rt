@@ -18,6 +18,7 @@ use std::ops::{Index, IndexMut};
 /// No name is twice. Its model is the list of the names with their values.
 #[derive(Drop)]
 pub struct NameMap<V, A: Allocator = Global> {
+    // The keys are plain vectors: for lookups by slices a key type of our own would need an `Equivalent` of its own.
     named: IndexMap<Vec<u8, A>, V, AfterText, A>,
 }
 
@@ -30,7 +31,7 @@ impl<V, A: Allocator> Model for NameMap<V, A> {
 }
 
 impl<V: Drop, A: Allocator + Copy> NameMap<V, A> {
-    /// No name yet; nothing grows. The names will be hashed by `hasher`.
+    /// No name yet; nothing is allocated. The names will be hashed by `hasher`.
     pub fn new(alloc: A, hasher: AfterText) -> Self
         ensures { result ≡ [] }
     {
@@ -39,18 +40,18 @@ impl<V: Drop, A: Allocator + Copy> NameMap<V, A> {
         }
     }
 
-    /// Hashes the names anew. They stay as they are, also after a fault.
+    /// Hashes the names again. They stay as they are, also after a fault.
     ///
     /// # Errors
     ///
-    /// Memory was refused.
+    /// An allocation failed.
     pub fn rehash(&mut self, alloc: A, hasher: AfterText) -> Result<(), AllocError>
         ensures ok { OnOk result (self.new ≡ self.old) }
         ensures err { OnErr result (self.new ≡ self.old) }
     {
-        let mut anew = IndexMap::with_capacity_and_hasher(alloc, self.named.len(), hasher)?;
-        anew.append(&mut self.named)?;
-        self.named = anew;
+        let mut again = IndexMap::with_capacity_and_hasher(alloc, self.named.len(), hasher)?;
+        again.append(&mut self.named)?;
+        self.named = again;
         Ok(())
     }
 
@@ -58,7 +59,7 @@ impl<V: Drop, A: Allocator + Copy> NameMap<V, A> {
     ///
     /// # Errors
     ///
-    /// Memory was refused. Nothing changes.
+    /// An allocation failed. Nothing changes.
     pub fn push(&mut self, alloc: A, name: &[u8], value: V) -> Result<(), AllocError>
         requires fresh { place_of self.old name.now ≡ None }
         ensures ok { OnOk result (self.new ≡ self.old ++ (name.now, value) ∷ []) }
@@ -117,7 +118,7 @@ impl<V: Drop, A: Allocator + Copy> NameMap<V, A> {
         self.named.len()
     }
 
-    /// A law for callers' proofs: no name is twice. The call does nothing.
+    /// A lemma for callers' proofs: no name is twice. The call does nothing.
     pub fn law_of_names(&self)
         ensures { AreApart self.now }
     {

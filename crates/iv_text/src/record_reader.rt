@@ -25,24 +25,24 @@ use std::marker::Model;
 pub struct ShortLine {
     /// The rank of its sequence in the genome.
     pub seq: u32,
-    /// Where it starts, from 0.
+    /// The start, from 0.
     pub start: u32,
-    /// Where it stops, not included.
+    /// The end, not included.
     pub stop: u32,
     /// How many bytes the line has, its LF with them.
     pub size: usize,
 }
 
 /// A sequence as a line names it, with its rank and its length.
-#[derive(Clone, Copy, Debug)]
+#[derive(Clone, Copy)]
 struct Named<'t> {
     name: &'t [u8],
     rank: u32,
     length: u32,
 }
 
-/// The columns that a text begins with: where a record is, and what is after.
-#[derive(Clone, Copy, Debug)]
+/// The columns that a text begins with: where a record is, and what follows.
+#[derive(Clone, Copy)]
 struct Front<'a> {
     rank: u32,
     start: u32,
@@ -50,7 +50,7 @@ struct Front<'a> {
     rest: &'a [u8],
 }
 
-/// Reads the records of lines one after another, faster where a line names the sequence of the line before.
+/// Reads the records of lines one after another, faster if a line names the sequence of the line before.
 ///
 /// Its value is that of its genome: what it answers doesn't depend on the lines that it read.
 #[derive(Drop)]
@@ -80,7 +80,7 @@ fn word_at(text: &[u8], at: usize) -> u32
     u32::from_le_bytes([text[at], text[at + 1], text[at + 2], text[at + 3]])
 }
 
-/// What is after a name that a line begins with.
+/// What follows a name that a line begins with.
 ///
 /// A name of 4 to 8 bytes, as most are, is compared without a call: its first four bytes, and its last four.
 #[inline(always)]
@@ -104,7 +104,7 @@ fn after_name<'t>(line: &'t [u8], name: &[u8]) -> Option<&'t [u8]>
     Some(&line[size..])
 }
 
-/// The sequence that a line names, whose rank is known. `None` where the name holds a LF, or is a header by itself.
+/// The sequence that a line names, whose rank is known. `None` if the name holds a LF, or is a header by itself.
 fn named_by<'t, A: Allocator + Copy>(
     genome: &Genome<A>,
     line: &'t [u8],
@@ -132,7 +132,7 @@ impl<'g, 't, A: Allocator + Copy> RecordReader<'g, 't, A> {
         }
     }
 
-    /// The three columns that a text begins with, where they name the sequence of the line before and lie on it.
+    /// The three columns that a text begins with, if they name the sequence of the line before and lie on it.
     ///
     /// `None` says nothing.
     #[inline(always)]
@@ -156,7 +156,7 @@ impl<'g, 't, A: Allocator + Copy> RecordReader<'g, 't, A> {
         })
     }
 
-    /// The first line of a text, where it names the sequence of the line before and means a record of this width
+    /// The first line of a text, if it names the sequence of the line before and means a record of this width
     /// that ends at a LF: read in one pass, which finds the line's end too.
     ///
     /// `None` says nothing: [`read`](Self::read) answers for every line.

@@ -12,7 +12,8 @@ const ROOM: usize = 192;
 
 /// The back of a row, laid from its last byte towards its first: at most 192 bytes, on the stack.
 ///
-/// So a number is written where it is, and a row is put as a whole.
+/// So a number is written where it is, and a row is put as a whole. It is lent to who writes a row: handing it over would copy its
+/// array.
 #[derive(Drop)]
 pub struct RowBuffer {
     // They stand at the end, from `start` on.
@@ -83,7 +84,7 @@ impl RowBuffer {
         self.bytes[self.start..end].copy_from_slice(piece);
     }
 
-    /// Puts a front and what is laid after it, as a whole where there is room for both.
+    /// Puts a front and what is laid after it, as a whole if there is room for both.
     ///
     /// On a fault the sink has taken a prefix of them. The buffer's bytes afterwards are unspecified.
     pub fn put_after<S: Sink>(&mut self, front: &[u8], sink: &mut S) -> Result<(), WriteFault>
@@ -98,7 +99,7 @@ impl RowBuffer {
     }
 
     /// Puts a name, two numbers, such as the start and the stop of an interval, and what is laid: with a TAB between two of the
-    /// three, and as a whole where there is room for all.
+    /// three, and as a whole if there is room for all.
     ///
     /// On a fault the sink has taken a prefix of them. The buffer's bytes afterwards are unspecified.
     pub fn put_after_numbers<S: Sink>(

@@ -136,7 +136,7 @@ module _ {K V Z : Type 0} {cmp : K → K → Ordering} {k : K} {cs : List (Vec (
         whole_gathered new (before cs p ++ drop 1 (from cs p)) (len - 1) all (sorted_remove entry.total (before cs p) e (drop 1 (from cs p)) in_order) filled
         (omega (arith, counted_found, length-append (before cs p) (drop 1 (from cs p)))) (omega (arith, whole.small))
 
--- where a search found a key there is an entry with it
+-- if a search found a key there is an entry with it
 module _ {K V Z : Type 0} {cmp : K → K → Ordering} (o : IsTotalOrder cmp) {k : K} {cs ds : List (Vec (K × V) Z)} {es : List (K × V)} {p : Place}
     (found : IsFound cmp ds k p) (same : ds ≡ cs) (ok : AreChunks cmp cs) (all : joined cs ≡ es) where
   -- so the search says of the chunks themselves

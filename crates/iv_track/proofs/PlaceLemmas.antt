@@ -66,7 +66,7 @@ find-nothing : (es : List (Row × ℕ)) → find (λ (e : Row × ℕ). false) es
 find-nothing [] = refl
 find-nothing (e ∷ es) = find-nothing es
 
--- where it begins nowhere there is none
+-- if it begins nowhere there is none
 pub find-nowhere : (seq start : ℕ) (es : List (Row × ℕ)) → BeginsFrom seq start None → All IsPlaced (keys_of es) → find (λ e. is_from seq start e.0) es ≡ None
 find-nowhere seq start es begins h = find-placed (is_from seq start) (λ q. false) begins es h ∙ find-nothing es
 

@@ -24,14 +24,14 @@ module _ {X : Type 0} (p : X → Bool) where
   filter_none [] h = refl
   filter_none (x ∷ xs) h = rw h.0 (filter_none xs h.1)
 
-  -- what passes, where all after a place pass and none before it
+  -- what passes, if all after a place pass and none before it
   pub filter_from : (front back : List X) → All (λ x. p x ≡ false) front → All (λ x. p x ≡ true) back → filter p (front ++ back) ≡ back
   filter_from front back h g =
       filter-append p front back
       ∙ ap (λ xs. xs ++ filter p back) (filter_none front (recursion_from_All (λ x. p x ≡ false) front h))
       ∙ filter_all back (recursion_from_All (λ x. p x ≡ true) back g)
 
-  -- the last that passes, where none after it does
+  -- the last that passes, if none after it does
   pub find_last : (front : List X) (x : X) (back : List X) → p x ≡ true → All (λ y. p y ≡ false) back → find p (reverse (front ++ x ∷ back)) ≡ Some x
   find_last front x back here h =
       let none = filter_none back (recursion_from_All (λ y. p y ≡ false) back h) in

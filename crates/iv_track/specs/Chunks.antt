@@ -13,7 +13,7 @@ use Rattle.iv_track.specs.declared.places.Place.{Place}
 abbrev pub most_in_chunk : ℕ
 most_in_chunk = 256
 
--- the most that one has where all entries are given at once
+-- the most that one has if all entries are given at once
 abbrev pub most_at_once : ℕ
 most_at_once = 240
 

@@ -5,7 +5,7 @@ use Rattle.std.specs.declared.cmp.Ordering.{Ordering}
 use Rattle.std.specs.Ordering.{is_eq}
 
 module _ {K : Type 0} (cmp : K → K → Ordering) where
-  -- the list with one x less
+  -- the list with one x fewer
   abbrev pub removed_by : List K → K → List K
   removed_by [] x = []
   removed_by (q ∷ xs) x = cond (is_eq (cmp x q)) xs (q ∷ removed_by xs x)

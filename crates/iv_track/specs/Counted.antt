@@ -22,6 +22,6 @@ abbrev pub left : {K : Type 0} → Option K → List K → List K
 left None ks = ks
 left (Some k) ks = k ∷ ks
 
--- a call gave the first of the entries, whose record is placed, or none where none was left
+-- a call gave the first of the entries, whose record is placed, or none if none was left
 abbrev pub GivesEntry : List (Row × ℕ) → Option (Row × ℕ) → List (Row × ℕ) → Type 0
 GivesEntry old given new = YieldsFirst (λ es. es) old given new × IfSome given (λ e. IsPlaced e.0)

@@ -10,11 +10,11 @@ use Rattle.iv_text.specs.declared.fault.Fault.TheVariants as fault
 abbrev pub with_record : Row → Tracked → Tracked
 with_record r t = record t { rows = added t.rows r }
 
--- the track with one copy of a record less
+-- the track with one copy of a record fewer
 abbrev pub without_record : Row → Tracked → Tracked
 without_record r t = record t { rows = removed t.rows r }
 
--- the track with one copy of r less, and one more of q
+-- the track with one copy of r fewer, and one more of q
 abbrev pub with_replaced : Row → Row → Tracked → Tracked
 with_replaced r q t = with_record q (without_record r t)
 
@@ -30,7 +30,7 @@ abbrev pub RefusesRemove : Tracked → Row → Fault → Type 0
 RefusesRemove t r fault.Absent = copies t.rows r ≡ 0
 RefusesRemove t r other = ⊥
 
--- why r is not replaced by q in a track: r is not there; or memory ran out, for the track grows only where r is there, and only
+-- why r is not replaced by q in a track: r is not there; or memory ran out, for the track grows only if r is there, and only
 -- for a q that is not
 abbrev pub RefusesReplace : Tracked → Row → Row → Fault → Type 0
 RefusesReplace t r q fault.Absent = copies t.rows r ≡ 0

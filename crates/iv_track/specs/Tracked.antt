@@ -17,7 +17,7 @@ pub record Tracked : Type 0 where
   pub width : ℕ
   pub limit : ℕ
 
--- the rows with one copy of r less
+-- the rows with one copy of r fewer
 abbrev pub removed : List Row → Row → List Row
 removed = removed_by row_cmp
 

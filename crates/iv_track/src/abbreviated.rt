@@ -1,4 +1,4 @@
-//! A number in place of a key, by which a search begins.
+//! A number instead of a key, by which a search begins.
 use iv_text::Record;
 use std::alloc::Allocator;
 

@@ -46,7 +46,7 @@ impl<K: Ord, V, A: Allocator> Model for SortedChunks<K, V, A> {
 }
 
 impl<K: Ord + Abbreviated + Drop, V: Drop, A: Allocator + Clone + Drop> SortedChunks<K, V, A> {
-    /// No entry yet; nothing grows.
+    /// No entry yet; nothing is allocated.
     pub(crate) fn new(alloc: A) -> Self
         ensures { result ≡ [] }
     {
@@ -61,7 +61,7 @@ impl<K: Ord + Abbreviated + Drop, V: Drop, A: Allocator + Clone + Drop> SortedCh
     ///
     /// # Errors
     ///
-    /// Memory was refused.
+    /// An allocation failed.
     pub(crate) fn from_ascending<I: Iterator<Item = (K, V)>>(
         alloc: A,
         entries: I,
@@ -113,7 +113,7 @@ impl<K: Ord + Abbreviated + Drop, V: Drop, A: Allocator + Clone + Drop> SortedCh
     ///
     /// # Errors
     ///
-    /// Memory was refused, which happens for a new key alone. Nothing is changed.
+    /// An allocation failed, which happens for a new key alone. Nothing is changed.
     pub(crate) fn insert(&mut self, key: K, value: V) -> Result<Option<V>, AllocError>
         ensures before { IfOk result (λ before. before ≡ value_at K.cmp self.old key) }
         ensures ok { OnOk result (self.new ≡ insert_entry K.cmp self.old key value) }

@@ -1,4 +1,4 @@
-//! Laws of the definitions: functions that do nothing, whose contracts are the laws.
+//! Lemmas on the definitions: functions that do nothing, whose contracts are the lemmas.
 ghost use Rattle.std.specs.Prelude.{◌≡◌, ◌≢◌, ◌+◌, ◌<◌, List};
 ghost use Rattle.iv_text.specs.Ordered.{added, copies, AreInOrder};
 ghost use Rattle.iv_text.specs.Row.{Row};
@@ -11,7 +11,7 @@ pub fn one_record_added()
     ensures others { (rows : List Row) (r q : Row) → q ≢ r → copies (added rows r) q ≡ copies rows q }
 {}
 
-/// A record that is removed is one copy less of just that record, and the records stay in order.
+/// A record that is removed is one copy fewer of just that record, and the records stay in order.
 ///
 /// If it has no copy, nothing changes.
 pub fn one_record_removed()

@@ -35,7 +35,7 @@ impl<K: Ord, V, A: Allocator> Model for Ledger<K, V, A> {
 }
 
 impl<K: Ord + Abbreviated + Drop, V: Drop, A: Allocator + Clone + Drop> Ledger<K, V, A> {
-    /// No entry yet; nothing grows. It keeps the allocator for its entries.
+    /// No entry yet; nothing is allocated. It keeps the allocator for its entries.
     pub fn new(alloc: A) -> Self
         ensures { result ≡ [] }
     {
@@ -50,7 +50,7 @@ impl<K: Ord + Abbreviated + Drop, V: Drop, A: Allocator + Clone + Drop> Ledger<K
     ///
     /// # Errors
     ///
-    /// Memory was refused.
+    /// An allocation failed.
     pub fn from_entries<I: Iterator<Item = (K, V)>>(
         alloc: A,
         entries: I,
@@ -88,7 +88,7 @@ impl<K: Ord + Abbreviated + Drop, V: Drop, A: Allocator + Clone + Drop> Ledger<K
     ///
     /// # Errors
     ///
-    /// Memory was refused, which happens for a new key alone. The ledger is unchanged.
+    /// An allocation failed, which happens for a new key alone. The ledger is unchanged.
     pub fn put(&mut self, key: K, value: V, meter: &mut Meter) -> Result<Option<V>, AllocError>
         ensures before { IfOk result (λ before. before ≡ value_at K.cmp self.old key) }
         ensures ok { OnOk result (self.new ≡ insert_entry K.cmp self.old key value) }
@@ -160,7 +160,7 @@ impl<K: Ord + Abbreviated + Drop, V: Drop, A: Allocator + Clone + Drop> Ledger<K
         self.map.after(key)
     }
 
-    /// The entries from a key on, in order. To begin is one step, and each call of the walk's `next` another.
+    /// The entries from a key on, in order. Beginning is one step, and each call of the walk's `next` another.
     pub fn walk(&self, key: &K, meter: &mut Meter) -> Walk<'_, K, V, A>
         ensures entries { result ≡ filter (λ e. is_le (K.cmp key.now e.0)) self.now }
         ensures ordered { IsLedger K.cmp self.now }

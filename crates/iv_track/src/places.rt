@@ -10,10 +10,10 @@ use std::alloc::{AllocError, Allocator};
 use std::cmp::Ordering;
 use std::mem;
 
-/// At most so many entries are in one chunk.
+/// The most entries that one chunk has.
 pub(crate) const MOST_IN_CHUNK: usize = 256;
 
-/// So many entries are in each chunk except the last if all entries are given at once: there is room for later ones.
+/// How many entries each chunk except the last has if all are given at once: there is room for later ones.
 pub(crate) const MOST_AT_ONCE: usize = 240;
 
 /// A place in a list of chunks: the index of a chunk, and an index in it.
@@ -253,7 +253,7 @@ pub(crate) fn first_from<T, A: Allocator>(chunks: &[Vec<T, A>], at: Place) -> Op
 ///
 /// # Errors
 ///
-/// Memory was refused: the entries are as before.
+/// An allocation failed: the entries are as before.
 pub(crate) fn insert_at<T: Drop, A: Allocator + Clone + Drop>(
     chunks: &mut Vec<Vec<T, A>, A>,
     at: Place,
@@ -280,7 +280,7 @@ pub(crate) fn insert_at<T: Drop, A: Allocator + Clone + Drop>(
 ///
 /// # Errors
 ///
-/// Memory was refused.
+/// An allocation failed.
 pub(crate) fn append<T: Drop, A: Allocator + Clone + Drop>(
     chunks: &mut Vec<Vec<T, A>, A>,
     last: &mut Vec<T, A>,
@@ -309,7 +309,7 @@ pub(crate) fn append<T: Drop, A: Allocator + Clone + Drop>(
 ///
 /// # Errors
 ///
-/// Memory was refused.
+/// An allocation failed.
 pub(crate) fn with_last<T: Drop, A: Allocator + Drop>(
     mut chunks: Vec<Vec<T, A>, A>,
     last: Vec<T, A>,
@@ -330,7 +330,7 @@ pub(crate) fn with_last<T: Drop, A: Allocator + Drop>(
 ///
 /// # Errors
 ///
-/// Memory was refused: nothing is changed.
+/// An allocation failed: nothing is changed.
 fn with_room<T: Drop, A: Allocator + Clone + Drop>(
     chunks: &mut Vec<Vec<T, A>, A>,
     at: Place,
@@ -361,7 +361,7 @@ fn with_room<T: Drop, A: Allocator + Clone + Drop>(
 ///
 /// # Errors
 ///
-/// Memory was refused: nothing is changed.
+/// An allocation failed: nothing is changed.
 fn halve<T: Drop, A: Allocator + Clone + Drop>(
     chunks: &mut Vec<Vec<T, A>, A>,
     chunk: usize,

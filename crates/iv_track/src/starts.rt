@@ -14,7 +14,7 @@ pub(crate) struct Starts<A: Allocator> {
 }
 
 impl<A: Allocator + Clone + Drop> Starts<A> {
-    /// None yet; nothing grows.
+    /// None yet; nothing is allocated.
     pub(crate) fn new() -> Self {
         Starts { list: None }
     }
@@ -23,7 +23,7 @@ impl<A: Allocator + Clone + Drop> Starts<A> {
     ///
     /// # Errors
     ///
-    /// Memory was refused.
+    /// An allocation failed.
     pub(crate) fn of<K: Abbreviated, V>(
         alloc: A,
         chunks: &[Vec<(K, V), A>],
@@ -45,11 +45,11 @@ impl<A: Allocator + Clone + Drop> Starts<A> {
         }
     }
 
-    /// Has room for one more if an entry at this place will make a new chunk.
+    /// Makes room for one more if an entry at this place will make a new chunk.
     ///
     /// # Errors
     ///
-    /// Memory was refused.
+    /// An allocation failed.
     pub(crate) fn make_room<T>(
         &mut self,
         chunks: &Vec<Vec<T, A>, A>,

@@ -46,9 +46,9 @@ impl<A: Allocator + Copy> Model for Track<A> {
 impl<A: Allocator + Copy> Track<A> {
     ghost use Rattle.iv_track.specs.Tracked.{Tracked, next_from, next_after, is_from};
 
-    /// A track without a record; nothing grows. It keeps the allocator for its records.
+    /// A track without a record; nothing is allocated. It keeps the allocator for its records.
     ///
-    /// Each record to come has this width, 3 to 6. The limit is at most 4,000,000 records.
+    /// Each later record has this width, 3 to 6. The limit is at most 4,000,000 records.
     pub fn new(alloc: A, width: u8, limit: u32) -> Self
         requires { limit ≤ most_records }
         ensures { result ≡ record { rows = []; width = width; limit = limit } }
@@ -69,7 +69,7 @@ impl<A: Allocator + Copy> Track<A> {
     ///
     /// # Errors
     ///
-    /// Memory was refused.
+    /// An allocation failed.
     pub fn from_records(
         alloc: A,
         width: u8,
@@ -91,7 +91,7 @@ impl<A: Allocator + Copy> Track<A> {
     ///
     /// # Errors
     ///
-    /// Memory was refused.
+    /// An allocation failed.
     pub fn from_batches(
         alloc: A,
         width: u8,
@@ -158,7 +158,7 @@ impl<A: Allocator + Copy> Track<A> {
     ///
     /// # Errors
     ///
-    /// E22: memory was refused, which happens for a record without a copy alone. The track is unchanged.
+    /// E22: an allocation failed, which happens for a record without a copy alone. The track is unchanged.
     pub fn stage(&mut self, row: Record<A>, meter: &mut Meter) -> Result<(), AllocError>
         requires room { length self.old.rows ≤ self.old.limit }
         requires width { row.width ≡ self.old.width }
@@ -218,7 +218,7 @@ impl<A: Allocator + Copy> Track<A> {
         Some((next, *count))
     }
 
-    /// The records on this sequence from this start on, and on later sequences, each as often as it is.
+    /// The records on this sequence from this start on, and on later sequences, copies repeated.
     ///
     /// The start is below 2^32 - 1, which a caller tests. To begin is one step, and each call of the walk's `next` at
     /// most another.
@@ -305,7 +305,7 @@ fn least_from<A: Allocator + Copy>(alloc: A, seq: u32, start: u64) -> Option<Rec
     Some(Record::least_at(alloc, next, 0))
 }
 
-/// These records in the order of a track. If they are in it they stay as they are, and no memory is taken.
+/// These records in the order of a track. If they are already, they stay as they are, and no memory is taken.
 fn in_order<A: Allocator + Copy>(
     rows: Batches<Record<A>, A>,
 ) -> Result<Batches<Record<A>, A>, AllocError>

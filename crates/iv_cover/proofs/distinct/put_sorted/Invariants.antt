@@ -10,7 +10,7 @@ use Rattle.iv_cover.specs.Results.{after_commas}
 use Rattle.iv_cover.proofs.DistinctLemmas.{begun}
 use Rattle.iv_cover.proofs.distinct.put_sorted.Given as goal
 
--- what differs from the last value is to come
+-- what differs from the last value remains
 abbrev pub invariant-loop-value : goal.invariant-loop-value
 invariant-loop-value g l = record {
   rise : InOrder (slice_cmp nat_cmp) (l.last ∷ drop l.value-index l.others);

@@ -3,7 +3,7 @@ use Rattle.iv_bytes.proofs.Putting.{Underway}
 use Rattle.iv_cover.specs.Results.{results_of}
 use Rattle.iv_cover.proofs.putting.put_results.Given as goal
 
--- the results of the summaries that are left are to come
+-- the results of the summaries that are left remain to be put
 abbrev pub invariant-loop-asked : goal.invariant-loop-asked
 invariant-loop-asked g l = record {
   put : Underway (g.S.Sink.state l.fn.sink) (g.S.Sink.state l.sink)

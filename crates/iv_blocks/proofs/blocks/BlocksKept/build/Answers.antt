@@ -17,7 +17,7 @@ use Rattle.iv_blocks.proofs.Builds.{built-none, built-next, built-all}
 use Rattle.iv_blocks.proofs.PlainLemmas.{all-lie, drained, drained-items, kept-ordered, kept-found, plain-ordered, plain-found}
 use Rattle.iv_blocks.proofs.blocks.BlocksKept.build.Goals as goal
 
--- ---- where the options are plain
+-- ---- if the options are plain
 
 pub of-sweep-requires : goal.of-sweep-requires
 of-sweep-requires g c =
@@ -51,7 +51,7 @@ returns-then-is_plain-clause-right g c =
           ∙ plain-found c.args.options s c.args.track.now.width rows c.requires.fit plain.together plain.nothing k;
     }
 
--- ---- where strands are together
+-- ---- if strands are together
 
 pub from_entries-requires-then-not-options-clause-ascend : goal.from_entries-requires-then-not-options-clause-ascend
 from_entries-requires-then-not-options-clause-ascend g c es run =
@@ -79,7 +79,7 @@ returns-then-not-options-clause-right g c =
           ∙ kept-found o s c.args.track.now.width rows c.requires.fit c.if-not-options.true k;
     }
 
--- ---- where they are apart
+-- ---- if they are apart
 
 pub loop-rank-init : goal.loop-rank-init
 loop-rank-init g c = built-none c.args.genome.now c.args.track.now.rows (record { options = c.args.options; entries = c.new.result }) c.new.ensures

@@ -23,7 +23,7 @@ returns-then-are_in_order g c =
 pub returns : goal.returns
 returns g c =
     let spans = c.self.inside.spans.items in
-    let moved = IsPermutation-trans spans c.order_neighbors.new.spans.items c.sort_unstable_by.new.self.items c.order_neighbors.ensures c.sort_unstable_by.ensures.permutation in
+    let moved = IsPermutation-trans spans c.order_neighbors.new.items.items c.sort_unstable_by.new.self.items c.order_neighbors.ensures c.sort_unstable_by.ensures.permutation in
     let with_rows : List Row → Bed = λ rows. record { width = c.self.inside.width; rows = rows } in
     let in_order : Bed → Bed = λ b. record { width = b.width; rows = ordered b.rows } in
     ap with_rows (sorted-rows row_of_span none spans c.sort_unstable_by.new.self.items moved
