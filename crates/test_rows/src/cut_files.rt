@@ -2,12 +2,13 @@
 //!
 //! What is left of a sound file says the entries of its whole lines. If it ends within a line, that line says one entry more,
 //! or none, or it has a fault, which is reported with its number. No earlier line can have a fault.
+use crate::sizes::bed_file;
 use crate::span_pieces::spans_of;
 use iv_index::BedText;
 use iv_text::{BedFile, Genome, LoadCause, LoadFault, RecordFault};
 use std::test::Fail;
 
-const SIZES: &[u8] = b"chr1\t100\nchr2\t50\nchr3\t0\n";
+const SIZES: &[u8] = b"chr1\t100\nchr2\t50\nchr3\t0\ns\t10\nu\t5\nbig\t1000000\n";
 
 /// How a file is read.
 #[derive(Clone, Copy)]
@@ -116,7 +117,10 @@ fn is_sound(rt: &HostRuntime, genome: &Genome, kind: Kind, text: &[u8], marks: &
 /// says none.
 fn are_genomes_sound(rt: &HostRuntime, genome: &Genome) -> bool {
     for (text, marks) in [
-        (SIZES, b"eee".as_slice()),
+        (SIZES, b"eeeeee".as_slice()),
+        (b"chr1\t100\nchr2\t50\nchr3\t0\n", b"eee"),
+        (b"s\t10\nu\t5\n", b"ee"),
+        (b"big\t1000000\n", b"e"),
         (b"chr1\t100\t6\t60\t61\n", b"e"),
         (b"chrom\tsize\nchr1\t100", b"-e"),
         (
@@ -162,6 +166,18 @@ fn are_files_sound(rt: &HostRuntime, genome: &Genome, kind: Kind) -> bool {
             b"chr1\t10\t20\ta\t0\t+\nchr1\t12\t40\td\t0\t.\nchr1\t25\t35\te\t0\t-",
             b"eee",
         ),
+        (
+            b"chr1\t10\t20\ta\t5\nchr1\t11\t20\tb\t.\nchr1\t12\t20\ta\t-7\nchr1\t13\t20\tc\t007\n",
+            b"eeee",
+        ),
+        (b"chr1\t10\t20\tx\t7\t-\n", b"e"),
+        (b"chr1\t12\t14\nchr1\t13\t16\n", b"ee"),
+        (
+            b"s\t2\t6\tn\t0\t-\ns\t9\t10\tn\t0\t-\nu\t0\t5\tn\t0\t+\n",
+            b"eee",
+        ),
+        (b"big\t0\t5\n", b"e"),
+        (b"chr2\t5\t9\nchr1\t30\t40\nchr1\t10\t35\n", b"eee"),
         (b"track name=x\nbrowser\n\n#c", b"----"),
         (b"", b""),
     ] {
@@ -172,10 +188,11 @@ fn are_files_sound(rt: &HostRuntime, genome: &Genome, kind: Kind) -> bool {
     true
 }
 
-/// Whether that is so in each way to read them.
-fn are_sound_in_each_way(rt: &HostRuntime, genome: &Genome) -> bool {
+/// Whether that is so in each way to read them, and of a file of a hundred records.
+fn are_sound_in_each_way(rt: &HostRuntime, genome: &Genome, long: &[u8]) -> bool {
+    let marks = [b'e'; 100];
     for kind in BED_KINDS {
-        if !are_files_sound(rt, genome, kind) {
+        if !are_files_sound(rt, genome, kind) || !is_sound(rt, genome, kind, long, &marks) {
             return false;
         }
     }
@@ -185,7 +202,8 @@ fn are_sound_in_each_way(rt: &HostRuntime, genome: &Genome) -> bool {
 #[test]
 fn cut_bed_files(rt: HostRuntime) -> Result<(), Fail> {
     let genome = Genome::parse(rt.alloc(), SIZES)?;
-    assert!(rt; are_sound_in_each_way(&rt, &genome));
+    let long = bed_file(&rt, 100, 1_000, 10)?;
+    assert!(rt; are_sound_in_each_way(&rt, &genome, long.as_bytes()));
     Ok(())
 }
 

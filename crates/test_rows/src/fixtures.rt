@@ -33,11 +33,14 @@ pub(crate) fn track_of<A: Allocator + Copy>(
     Ok(Track::from_records(alloc, width, 1_000_000, file.into_records()))
 }
 
-/// Adds a record to a track. The number of the fault, 0 if there is none.
+/// Adds a record to a track. The number of the fault, 0 if there is none, and 99 if it took more than eight steps.
 pub(crate) fn add<A: Allocator + Copy>(track: &mut Track<A>, row: Record<A>) -> u8
     requires { row.width ≡ track.old.width }
 {
-    match track.add(row, &mut Meter::new()) {
+    let mut meter = Meter::new();
+    let done = track.add(row, &mut meter);
+    match done {
+        _ if meter.steps() > 8 => 99,
         Ok(()) => 0,
         Err(fault) => fault.code(),
     }

@@ -7,7 +7,7 @@ use crate::parse_refusals::{refused_file, refused_spans};
 use crate::places::SIZES;
 use crate::refusals::{refused_keys, refused_of_three};
 use crate::sorted_places::refused_sorts;
-use crate::summaries::refused_results;
+use crate::summaries::{refused_results, refused_summary};
 use crate::track_refusals::{Call, refused_build, refused_calls};
 use iv_cover::Op;
 use iv_text::{Genome, LoadCause, LoadFault, RecordRef};
@@ -34,6 +34,8 @@ pub(crate) enum Run<'t> {
     Genome(&'t [u8], u32),
     /// Reads a genome file with a fault.
     Damage(&'t [u8], LoadFault),
+    /// Gives the result of an operation over values, which is to be this.
+    Summary(Op, &'t [u8]),
     /// Gives the results of an operation, which are to be these.
     Results(Op, &'t [u8]),
     /// Reads a BED file over a genome whose allocations are all granted.
@@ -122,6 +124,7 @@ fn refused(rt: &HostRuntime, alloc: &RefusesNth<Global>, run: Run<'_>) -> Result
         Run::Sink(room) => refused_sink(alloc, room),
         Run::Genome(text, count) => refused_genome(rt, alloc, text, count),
         Run::Damage(text, damage) => refused_damage(alloc, text, damage),
+        Run::Summary(op, want) => refused_summary(alloc, op, want),
         Run::Results(op, want) => refused_results(alloc, op, want),
         Run::Over(reading) => refused_reading(rt, alloc, reading),
     }

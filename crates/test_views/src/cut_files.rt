@@ -100,7 +100,10 @@ fn are_sound(rt: &HostRuntime, genome: &Genome) -> Result<bool, Fail> {
             return Ok(false);
         }
     }
-    Ok(true)
+    // One of the three sequences alone.
+    let text = b">s test\nACGT\nNacg\ntR\n".as_slice();
+    let alone = reads(rt, genome, text, [Some(b"ACGTNacgtR"), None, None])?;
+    Ok(alone && wrong_cuts(rt, genome, text) == 0)
 }
 
 #[test]
