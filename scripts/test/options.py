@@ -63,7 +63,7 @@ def in_files(page):
 
 def in_views(page):
     """The options of each view in the man page, by the line of the view and by the list under it."""
-    part = page.partition(".Sh VIEWS\n")[2].partition("\n.Ss ")[0]
+    part = page.partition(".Sh OPTIONS OF A VIEW\n")[2].partition("\n.Ss ")[0]
     found = {}
     for view in re.split(r"^\.It Cm (?=\w)", part, flags=re.M)[1:]:
         lines = view.splitlines()
