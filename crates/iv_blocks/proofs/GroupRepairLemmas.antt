@@ -8,8 +8,8 @@ use Rattle.iv_text.specs.Named.{names_of}
 use Rattle.iv_text.specs.Ordered.{added}
 use Rattle.iv_text.specs.Read.{Fits}
 use Rattle.iv_text.specs.Row.{Row, row_cmp}
-use Rattle.iv_text.specs.declared.strand.Strand.{Strand}
-use Rattle.iv_text.specs.declared.strand.Strand.TheVariants.{Plus, Minus, Dot}
+use Rattle.iv_text.specs.declared.record_ref.Strand.{Strand}
+use Rattle.iv_text.specs.declared.record_ref.Strand.TheVariants.{Plus, Minus, Dot}
 use Rattle.iv_track.specs.Entries.{IsLedger, value_at}
 use Rattle.iv_track.specs.Steps.{TakesUpTo}
 use Rattle.iv_cover.specs.TrackBlocks.{start_of, stop_of}

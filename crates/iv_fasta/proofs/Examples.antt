@@ -5,8 +5,8 @@ use Rattle.std.specs.Prelude.{codes}
 use Rattle.iv_text.specs.Genome.{Sequences}
 use Rattle.iv_text.specs.Row.{Row}
 use Rattle.iv_text.specs.declared.fault.LoadCause.TheVariants as cause
-use Rattle.iv_text.specs.declared.strand.Strand.{Strand}
-use Rattle.iv_text.specs.declared.strand.Strand.TheVariants.{Plus, Minus, Dot}
+use Rattle.iv_text.specs.declared.record_ref.Strand.{Strand}
+use Rattle.iv_text.specs.declared.record_ref.Strand.TheVariants.{Plus, Minus, Dot}
 use Rattle.iv_fasta.specs.Complement.{complement}
 use Rattle.iv_fasta.specs.Fasta.{Bases, after_fasta_line, fasta_of}
 use Rattle.iv_fasta.specs.FastaRows.{fasta_text}

@@ -3,8 +3,8 @@ use Rattle.std.specs.Prelude.{ℕ, ◌++◌, Bool, true, false, if◌then◌else
 use Rattle.std.specs.List.{flat_map}
 use Rattle.iv_text.specs.Genome.{Sequences, sequence_name}
 use Rattle.iv_text.specs.Row.{Row, strand_byte}
-use Rattle.iv_text.specs.declared.strand.Strand.{Strand}
-use Rattle.iv_text.specs.declared.strand.Strand.TheVariants.{Plus, Minus, Dot}
+use Rattle.iv_text.specs.declared.record_ref.Strand.{Strand}
+use Rattle.iv_text.specs.declared.record_ref.Strand.TheVariants.{Plus, Minus, Dot}
 use Rattle.iv_fasta.specs.Complement.{complement}
 use Rattle.iv_fasta.specs.Fasta.{Bases, bases_of}
 use Rattle.iv_fasta.specs.declared.rows.FastaRows.{FastaRows}

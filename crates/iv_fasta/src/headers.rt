@@ -5,7 +5,7 @@ ghost use Rattle.std.specs.Option.{option_map};
 ghost use Rattle.iv_text.specs.GenomeFile.{begins_with};
 ghost use Rattle.iv_text.specs.Lines.{lines};
 ghost use Rattle.iv_text.specs.Named.{place_of};
-ghost use Rattle.iv_text.specs.declared.after_text.NameHasher.TheVariants as hasher;
+ghost use Rattle.iv_text.specs.declared.name_map.NameHasher.TheVariants as hasher;
 ghost use Rattle.iv_fasta.specs.Drafts.{end_at};
 ghost use Rattle.iv_fasta.specs.Fasta.{header_sign};
 

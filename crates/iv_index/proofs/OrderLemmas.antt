@@ -19,7 +19,7 @@ use Rattle.std.specs.Option.{option_cmp}
 use Rattle.iv_text.proofs.OrderedLemmas.{ordered-sorted}
 use Rattle.iv_text.specs.Ordered.{ordered}
 use Rattle.iv_text.specs.Row.{Row, beside_cmp, row_cmp, rows_total, strand_cmp}
-use Rattle.iv_text.specs.declared.strand.Strand.{Strand}
+use Rattle.iv_text.specs.declared.record_ref.Strand.{Strand}
 
 pub then_equal : (o : Ordering) → ordering_then o Equal ≡ o
 then_equal Less = refl

@@ -12,7 +12,7 @@ use Rattle.iv_text.specs.Fields.{columns, is_separator}
 use Rattle.iv_text.specs.Number.{number, decimal_from}
 use Rattle.iv_text.specs.Fields.{HasNoTab}
 use Rattle.iv_text.specs.OnePass.{AreBehind, BeginsWithNumber, BeginsWithPlace, IsNamed}
-use Rattle.iv_text.specs.declared.strand.Strand.{Strand}
+use Rattle.iv_text.specs.declared.record_ref.Strand.{Strand}
 use Rattle.std.specs.Borrow.{Bor}
 use Rattle.std.specs.Prelude.{MatchOption, IfSome, IsSome}
 use Rattle.std.specs.Option.{is_none}

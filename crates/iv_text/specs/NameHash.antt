@@ -2,8 +2,8 @@
 use Rattle.std.specs.Prelude.{◌≡◌, ℕ, List}
 use Rattle.std.specs.Hash.DefaultHasher as sip
 use Rattle.std.specs.Hash.FoldHasher as folding
-use Rattle.iv_text.specs.declared.after_text.NameHasher.{NameHasher}
-use Rattle.iv_text.specs.declared.after_text.NameHasher.TheVariants.{Fast, Seeded}
+use Rattle.iv_text.specs.declared.name_map.NameHasher.{NameHasher}
+use Rattle.iv_text.specs.declared.name_map.NameHasher.TheVariants.{Fast, Seeded}
 
 -- the hasher after these bytes were written to it
 abbrev pub written : NameHasher → List ℕ → NameHasher

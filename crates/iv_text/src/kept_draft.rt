@@ -6,9 +6,8 @@ ghost use Rattle.iv_text.specs.KeptDrafts.{AreSound, IsKept, IsEnded, EndsAtFeed
 
 use crate::batches::Batches;
 use crate::fault::LoadFault;
-use crate::from_record::FromRecord;
 use crate::genome::Genome;
-use crate::kept_lines::KeptLines;
+use crate::kept_lines::{FromRecord, KeptLines};
 use std::alloc::Allocator;
 use std::marker::Model;
 

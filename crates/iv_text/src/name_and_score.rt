@@ -1,8 +1,6 @@
 //! The bytes of a record's name and score, in one allocation.
-ghost use Rattle.std.specs.Prelude.{◌≡◌, [], IfOk, IsOk};
+ghost use Rattle.std.specs.Prelude.{◌≡◌, ◌≤◌, ◌<◌, ◌+◌, ◌^◌, length, IfOk, [], IsOk};
 
-use crate::bounded_texts::BoundedTexts;
-use crate::long_texts::LongTexts;
 use std::alloc::{AllocError, Allocator, Global};
 use std::marker::Model;
 
@@ -85,5 +83,100 @@ impl<A: Allocator + Copy> NameAndScore<A> {
             _ => Storage::Long(Box::new(alloc, LongTexts::copy_of(alloc, name, score)?)?),
         };
         Ok(NameAndScore { place })
+    }
+}
+
+/// A name and a score of at most `N` bytes together, one after the other. The bytes beyond are 0.
+#[derive(Drop)]
+pub(crate) struct BoundedTexts<const N: usize> {
+    bytes: [u8; N],
+    name_len: u8,
+    score_len: u8,
+}
+
+impl<const N: usize> Model for BoundedTexts<N> {
+    ghost use Rattle.std.specs.Prelude.{List, ℕ, take, drop, ◌+◌, ◌≤◌};
+
+    ghost Value = { List ℕ × List ℕ };
+
+    ghost view = { λ t. (take t.name_len t.bytes, take t.score_len (drop t.name_len t.bytes)) };
+
+    ghost invariant = { λ t. t.name_len + t.score_len ≤ N };
+}
+
+impl<const N: usize> BoundedTexts<N> {
+    /// A copy of both.
+    pub(crate) fn copy_of(name: &[u8], score: &[u8]) -> Self
+        requires fit { length name.now + length score.now ≤ N }
+        requires lengths { N < 2 ^ 8 }
+        ensures { result ≡ (name.now, score.now) }
+    {
+        let mut bytes = [0; N];
+        let (first, rest) = bytes.split_at_mut(name.len());
+        let (second, _beyond) = rest.split_at_mut(score.len());
+        first.copy_from_slice(name);
+        second.copy_from_slice(score);
+        BoundedTexts {
+            bytes,
+            name_len: name.len() as u8,
+            score_len: score.len() as u8,
+        }
+    }
+
+    pub(crate) fn name(&self) -> &[u8]
+        ensures { result.now ≡ self.now.0 }
+    {
+        &self.bytes[..usize::from(self.name_len)]
+    }
+
+    pub(crate) fn score(&self) -> &[u8]
+        ensures { result.now ≡ self.now.1 }
+    {
+        let bytes = &self.bytes[..];
+        let start = usize::from(self.name_len);
+        &bytes[start..start + usize::from(self.score_len)]
+    }
+}
+
+/// A name and a score, one after the other.
+#[derive(Drop)]
+pub(crate) struct LongTexts<A: Allocator> {
+    bytes: Vec<u8, A>,
+    name_len: usize,
+}
+
+impl<A: Allocator> Model for LongTexts<A> {
+    ghost use Rattle.std.specs.Prelude.{List, ℕ, take, drop, length, ◌≤◌};
+
+    ghost Value = { List ℕ × List ℕ };
+
+    ghost view = { λ t. (take t.name_len t.bytes.items, drop t.name_len t.bytes.items) };
+
+    ghost invariant = { λ t. t.name_len ≤ length t.bytes.items };
+}
+
+impl<A: Allocator> LongTexts<A> {
+    pub(crate) fn copy_of(alloc: A, name: &[u8], score: &[u8]) -> Result<Self, AllocError>
+        ensures { IfOk result (λ t. t ≡ (name.now, score.now)) }
+    {
+        let mut bytes = Vec::with_capacity(alloc, name.len() + score.len())?;
+        bytes.extend_from_slice(name)?;
+        bytes.extend_from_slice(score)?;
+        Ok(LongTexts {
+            bytes,
+            name_len: name.len(),
+        })
+    }
+
+    pub(crate) fn name(&self) -> &[u8]
+        ensures { result.now ≡ self.now.0 }
+    {
+        &self.bytes[..self.name_len]
+    }
+
+    pub(crate) fn score(&self) -> &[u8]
+        ensures { result.now ≡ self.now.1 }
+    {
+        &self.bytes[self.name_len..]
     }
 }

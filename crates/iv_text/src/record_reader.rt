@@ -1,24 +1,110 @@
 //! Records read line after line.
-ghost use Rattle.std.specs.Prelude.{◌≡◌, ℕ, ◌+◌, ◌/◌, ◌%◌, ◌^◌, ◌<◌, ◌≤◌, ◌++◌, None, Some, Ok, IfOk, IfSome, length, slice_index};
+ghost use Rattle.std.specs.Prelude.{◌≡◌, ◌≤◌, false, [], ◌∷◌, IfSome, IsSome, length, take, ℕ, ◌+◌, ◌/◌, ◌%◌, ◌^◌, ◌<◌, ◌++◌, None, Some, Ok, IfOk, slice_index};
+ghost use Rattle.std.specs.Option.{is_some};
+ghost use Rattle.iv_text.specs.OnePass.{ends_cell, BeginsWithCell, BeginsWithCells, IsCell, IsNamed, BeginsWithPlace};
+ghost use Rattle.iv_text.specs.Read.{bad_text, read, column, Fits};
+ghost use Rattle.iv_text.specs.Row.{strand_of};
 ghost use Rattle.iv_text.specs.Fields.{columns as columns_of};
 ghost use Rattle.iv_text.specs.Genome.{rank_of};
-ghost use Rattle.iv_text.specs.Read.{read, column, Fits};
 ghost use Rattle.iv_text.specs.ShortLine.{IsShortLine};
-ghost use Rattle.iv_text.specs.OnePass.{IsNamed, BeginsWithPlace};
 
-use crate::bed_file::is_unread;
-use crate::cells::after_cells;
 use crate::fault::RecordFault;
-use crate::fields::{after_byte, columns_after, cut_first_column};
 use crate::genome::Genome;
-use crate::lines::after_line_end;
+use crate::lines::{after_byte, after_line_end, columns_after, cut_first_column, is_unread};
 use crate::number::split_number;
-use crate::reading::{are_sound, optional_columns_of, read_record};
-use crate::record_ref::RecordRef;
-use crate::strand::read_strand;
+use crate::record_ref::{RecordRef, are_sound, optional_columns_of, read_record, read_strand};
 use bstr::ByteSlice;
 use std::alloc::Allocator;
 use std::marker::Model;
+use std::simd::prelude::*;
+
+/// Whether no cell goes on at this byte.
+fn is_end(byte: u8) -> bool
+    ensures { result ≡ ends_cell byte }
+{
+    byte == b'\t' || byte == b'\n' || byte == b'\r' || byte == 0
+}
+
+/// How many bytes a text begins with that no cell ends at, looked at byte after byte.
+fn count_slowly(text: &[u8]) -> usize
+    ensures cell { IsCell (take result text.now) }
+    ensures within { result ≤ length text.now }
+{
+    let mut end: usize = 0;
+    while end < text.len() && !is_end(text[end]) {
+        end += 1;
+    }
+    end
+}
+
+/// How many bytes a text begins with that no cell ends at: the first 16 are looked at together, and each control byte up to 13
+/// counts as an end.
+#[inline(always)]
+fn count_cell(text: &[u8]) -> usize
+    ensures cell { IsCell (take result text.now) }
+    ensures within { result ≤ length text.now }
+{
+    if text.len() < 16 {
+        return count_slowly(text);
+    }
+    let ends = u8x16::from_slice(text)
+        .simd_lt(u8x16::splat(14))
+        .to_bitmask();
+    if ends == 0 {
+        return count_slowly(text);
+    }
+    ends.trailing_zeros() as usize
+}
+
+/// What follows a TAB and a name or a score, if a text begins with them.
+#[inline(always)]
+fn after_text(text: &[u8]) -> Option<&[u8]>
+    ensures { IfSome result (λ rest. BeginsWithCell (λ cell. bad_text cell ≡ false) text.now rest.now) }
+{
+    let cell = after_byte(text, b'\t')?;
+    let end = count_cell(cell);
+    if end == 0 {
+        return None;
+    }
+    Some(&cell[end..])
+}
+
+/// Whether the byte alone says a strand.
+fn is_strand(byte: u8) -> bool
+    ensures { result ≡ is_some (strand_of (byte ∷ [])) }
+{
+    byte == b'+' || byte == b'-' || byte == b'.'
+}
+
+/// What follows a TAB and the byte of a strand, if a text begins with them.
+fn after_strand(text: &[u8]) -> Option<&[u8]>
+    ensures { IfSome result (λ rest. BeginsWithCell (λ cell. IsSome (strand_of cell)) text.now rest.now) }
+{
+    let strand = after_byte(text, b'\t')?;
+    match strand {
+        [byte, rest @ ..] if is_strand(*byte) => Some(rest),
+        _ => None,
+    }
+}
+
+/// What follows the cells of a record of this width, if a text begins with them.
+pub(crate) fn after_cells(width: u8, text: &[u8]) -> Option<&[u8]>
+    requires { (3 ≤ width) × (width ≤ 6) }
+    ensures { IfSome result (λ rest. BeginsWithCells width text.now rest.now) }
+{
+    if width == 3 {
+        return Some(text);
+    }
+    let after_name = after_text(text)?;
+    if width == 4 {
+        return Some(after_name);
+    }
+    let after_score = after_text(after_name)?;
+    if width == 5 {
+        return Some(after_score);
+    }
+    after_strand(after_score)
+}
 
 /// The first line of a text: where its record is, 0-based and half-open, and how long the line is.
 #[derive(Clone, Copy, Debug)]

@@ -4,9 +4,8 @@ ghost use Rattle.iv_bytes.specs.Sinks.{Puts};
 ghost use Rattle.iv_text.specs.RecordText.{place_text, strand_text, rest_text, record_text};
 
 use crate::genome::Genome;
-use crate::record_ref::RecordRef;
+use crate::record_ref::{RecordRef, Strand};
 use crate::row_buffer::RowBuffer;
-use crate::strand::Strand;
 use iv_bytes::{Sink, WriteFault, put_all, put_pieces};
 use std::alloc::Allocator;
 

@@ -10,7 +10,7 @@ use Rattle.std.specs.declared.cmp.Ordering.TheVariants.{Less, Equal, Greater}
 use Rattle.std.specs.Ordering.{is_le, ordering_then, nat_cmp}
 use Rattle.std.specs.Option.{option_cmp}
 use Rattle.std.specs.Cmp.Lexicographic.{slice_cmp}
-use Rattle.iv_text.specs.declared.strand.Strand.{Strand}
+use Rattle.iv_text.specs.declared.record_ref.Strand.{Strand}
 use Rattle.iv_text.specs.Row.{Row, IsPlaced, row_cmp, strand_cmp}
 use Rattle.iv_track.specs.Tracked.{is_from, BeginsFrom}
 use Rattle.iv_track.proofs.NumberOrder.{le-cmp}
