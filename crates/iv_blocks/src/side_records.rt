@@ -6,7 +6,7 @@ ghost use Rattle.iv_blocks.specs.Sides.{is_on};
 
 use iv_cover::{Column, Spelled, Value, Values};
 use iv_index::{TextRecord, TextRecords};
-use iv_text::Strand;
+use iv_text::{BedRecord, Strand};
 use std::marker::Model;
 
 /// Which records of a sequence may be in one block with one another: all, or those of one strand.

@@ -19,7 +19,7 @@ use crate::span_blocks::SpanBlocks;
 use iv_bytes::{Sink, WriteFault};
 use iv_cover::Block;
 use iv_index::{Span, TextRecords};
-use iv_text::{Genome, put_interval, put_numbered};
+use iv_text::{BedRecord, Genome, put_interval, put_numbered};
 use std::alloc::Allocator;
 
 /// Puts a row for each block of records at most `distance` bases apart: its sequence's name, start and stop.

@@ -18,15 +18,15 @@ use Rattle.iv_index.specs.declared.place.Place.{Place}
 
 -- the place covers position p of the sequence of this rank
 abbrev on : ℕ → ℕ → Place → Bool
-on seq p place = (place.seq == seq) && (nat_le place.start p && nat_lt p place.stop)
+on seq p place = (place.span.seq == seq) && (nat_le place.span.start p && nat_lt p place.span.stop)
 
 -- b doesn't start before a
 abbrev Before : Place → Place → Type 0
-Before a b = (a.seq ≤ b.seq) × (a.seq ≡ b.seq → a.start ≤ b.start)
+Before a b = (a.span.seq ≤ b.span.seq) × (a.span.seq ≡ b.span.seq → a.span.start ≤ b.span.start)
 
 -- b is on the sequence of a and starts past its stop, or on a later one
 abbrev Past : Place → Place → Type 0
-Past a b = (a.seq ≤ b.seq) × (a.seq ≡ b.seq → a.stop < b.start)
+Past a b = (a.span.seq ≤ b.span.seq) × (a.span.seq ≡ b.span.seq → a.span.stop < b.span.start)
 
 -- each place is so beside each that comes after it
 abbrev pub InTurn : (Place → Place → Type 0) → List Place → Type 0
@@ -42,10 +42,10 @@ or_assoc false b c = refl
 -- two places that touch, as one place
 on-grown : (seq p : ℕ) (k x : Place) → touches k x ≡ true → Before k x → on seq p (grown k x) ≡ (on seq p k || on seq p x)
 on-grown seq p k x touch before =
-    let parts = and_parts (k.seq == x.seq) (nat_le x.start k.stop) touch in
-    let same : k.seq ≡ x.seq = eqb-true k.seq x.seq parts.0 in
-    let reach : x.start ≤ k.stop = leb-true x.start k.stop parts.1 in
-    let begin : k.start ≤ x.start = before.1 same in
+    let parts = and_parts (k.span.seq == x.span.seq) (nat_le x.span.start k.span.stop) touch in
+    let same : k.span.seq ≡ x.span.seq = eqb-true k.span.seq x.span.seq parts.0 in
+    let reach : x.span.start ≤ k.span.stop = leb-true x.span.start k.span.stop parts.1 in
+    let begin : k.span.start ≤ x.span.start = before.1 same in
     grind (arith, nat_tests)
 
 cover_from : (seq p : ℕ) (k : Place) (xs : List Place) → InTurn Before (k ∷ xs) → list_any (on seq p) (joined_from k xs) ≡ (on seq p k || list_any (on seq p) xs)
@@ -71,22 +71,22 @@ cover-rows w text seq p (x ∷ xs) = ap (λ b. on seq p x || b) (cover-rows w te
 past-untouched : (k x : Place) → touches k x ≡ false → Before k x → Past k x
 past-untouched k x not before = (
   before.0,
-  λ same. elim (and_cases (k.seq == x.seq) (nat_le x.start k.stop) not) [
-    | inl other ↦ absurd (eqb-false k.seq x.seq other same)
-    | inr far ↦ leb-false x.start k.stop far
+  λ same. elim (and_cases (k.span.seq == x.span.seq) (nat_le x.span.start k.span.stop) not) [
+    | inl other ↦ absurd (eqb-false k.span.seq x.span.seq other same)
+    | inr far ↦ leb-false x.span.start k.span.stop far
   ],
 )
 
 past-before : (j k x : Place) → Past j k → Before k x → Past j x
 past-before j k x past before =
-    let low : j.seq ≤ k.seq = past.0 in
-    let high : k.seq ≤ x.seq = before.0 in (
+    let low : j.span.seq ≤ k.span.seq = past.0 in
+    let high : k.span.seq ≤ x.span.seq = before.0 in (
       omega arith,
       λ same.
-          let here : j.seq ≡ k.seq = omega arith in
-          let there : k.seq ≡ x.seq = omega arith in
-          let far : j.stop < k.start = past.1 here in
-          let on : k.start ≤ x.start = before.1 there in
+          let here : j.span.seq ≡ k.span.seq = omega arith in
+          let there : k.span.seq ≡ x.span.seq = omega arith in
+          let far : j.span.stop < k.span.start = past.1 here in
+          let on : k.span.start ≤ x.span.start = before.1 there in
           omega arith,
     )
 
@@ -152,7 +152,7 @@ row-le a b low starts = elim (cases_lt a.seq b.seq) [
 each-after : (w : ℕ) (text : List ℕ) (x : Place) (xs : List Place) → HasBase x → AllByRecursion (Past x) xs → AllByRecursion (λ y. is_le (row_cmp (row_at w text x) y) ≡ true) (rows_at w text xs)
 each-after w text x [] some all = tt
 each-after w text x (y ∷ ys) some all = (
-  row-le (row_at w text x) (row_at w text y) all.0.0 (λ same. let far : x.stop < y.start = all.0.1 same in omega arith),
+  row-le (row_at w text x) (row_at w text y) all.0.0 (λ same. let far : x.span.stop < y.span.start = all.0.1 same in omega arith),
   each-after w text x ys some all.1,
 )
 
@@ -160,7 +160,7 @@ order-apart : (w : ℕ) (text : List ℕ) (xs : List Place) → AllByRecursion H
 order-apart w text [] some turn = tt
 order-apart w text (x ∷ xs) some turn = (each-after w text x xs some.0 turn.0, order-apart w text xs some.1 turn.1)
 
-each-apart : (w : ℕ) (text : List ℕ) (x : Place) (xs : List Place) → AllByRecursion (Past x) xs → AllByRecursion (λ (y : Row). x.seq ≡ y.seq → x.stop < y.start) (rows_at w text xs)
+each-apart : (w : ℕ) (text : List ℕ) (x : Place) (xs : List Place) → AllByRecursion (Past x) xs → AllByRecursion (λ (y : Row). x.span.seq ≡ y.seq → x.span.stop < y.start) (rows_at w text xs)
 each-apart w text x [] all = tt
 each-apart w text x (y ∷ ys) all = (all.0.1, each-apart w text x ys all.1)
 
@@ -168,7 +168,7 @@ rows-apart : (w : ℕ) (text : List ℕ) (xs : List Place) → InTurn Past xs �
 rows-apart w text [] turn = λ i j d low high. absurd (omega arith)
 rows-apart w text (x ∷ xs) turn =
     AllPairs-cons (λ (a b : Row). a.seq ≡ b.seq → a.stop < b.start) (row_at w text x) (rows_at w text xs)
-    (All-from_recursion (λ (y : Row). x.seq ≡ y.seq → x.stop < y.start) (rows_at w text xs) (each-apart w text x xs turn.0)) (rows-apart w text xs turn.1)
+    (All-from_recursion (λ (y : Row). x.span.seq ≡ y.seq → x.span.stop < y.start) (rows_at w text xs) (each-apart w text x xs turn.0)) (rows-apart w text xs turn.1)
 
 -- the records of joined places cover what those of the places do
 pub covered-joined : (w v : ℕ) (text : List ℕ) (xs : List Place) → AreInOrder (rows_at w text xs) → (seq p : ℕ) → is_covered (rows_at v text (joined xs)) seq p ≡ is_covered (rows_at w text xs) seq p

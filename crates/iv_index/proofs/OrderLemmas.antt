@@ -11,7 +11,7 @@ use Rattle.std.specs.Prelude.{IsTrue, ◌↔◌}
 use Rattle.std.specs.Borrow.{Bor}
 use Rattle.std.specs.Cmp.{IsStrictWeakOrder, nat_cmp_total, tied_itself}
 use Rattle.std.specs.List.Sorted.{IsPermutation, IsSorted, IsSortedBy}
-use Rattle.std.specs.Ordering.{nat_cmp, is_lt, ordering_then}
+use Rattle.std.specs.Ordering.{nat_cmp, is_lt, is_ne, ordering_then}
 use Rattle.std.specs.declared.cmp.Ordering.{Ordering}
 use Rattle.std.specs.declared.cmp.Ordering.TheVariants.{Less, Equal, Greater}
 use Rattle.std.specs.Cmp.Lexicographic.{slice_cmp}
@@ -29,14 +29,25 @@ then_equal Greater = refl
 pub nat_tied : (x y : ℕ) → x ≡ y → nat_cmp x y ≡ Equal
 nat_tied x y e = subst (λ (z : ℕ). nat_cmp x z ≡ Equal) e (tied_itself nat_cmp_total x)
 
--- of two records of one place the other columns decide
-pub row-cmp-beside : (a b : Row) → a.seq ≡ b.seq → a.start ≡ b.start → a.stop ≡ b.stop → row_cmp a b ≡ beside_cmp a b
-row-cmp-beside a b seq start stop =
-    let from_stop : Ordering = ordering_then (nat_cmp a.stop b.stop) (beside_cmp a b) in
-    let from_start : Ordering = ordering_then (nat_cmp a.start b.start) from_stop in
-    ap (λ (o : Ordering). ordering_then o from_start) (nat_tied a.seq b.seq seq)
-    ∙ ap (λ (o : Ordering). ordering_then o from_stop) (nat_tied a.start b.start start)
-    ∙ ap (λ (o : Ordering). ordering_then o (beside_cmp a b)) (nat_tied a.stop b.stop stop)
+-- if three comparisons aren't tied, what follows doesn't count
+pub decided : (s t p o : Ordering) → is_ne (ordering_then s (ordering_then t (ordering_then p Equal))) ≡ true → ordering_then s (ordering_then t (ordering_then p Equal)) ≡ ordering_then s (ordering_then t (ordering_then p o))
+decided Less t p o h = refl
+decided Greater t p o h = refl
+decided Equal Less p o h = refl
+decided Equal Greater p o h = refl
+decided Equal Equal Less o h = refl
+decided Equal Equal Greater o h = refl
+decided Equal Equal Equal o h = cc
+
+-- and if they are, it decides
+pub tied : (s t p o : Ordering) → is_ne (ordering_then s (ordering_then t (ordering_then p Equal))) ≡ false → o ≡ ordering_then s (ordering_then t (ordering_then p o))
+tied Less t p o h = cc
+tied Greater t p o h = cc
+tied Equal Less p o h = cc
+tied Equal Greater p o h = cc
+tied Equal Equal Less o h = cc
+tied Equal Equal Greater o h = cc
+tied Equal Equal Equal o h = refl
 
 -- name, score and strand decide among records of one width
 pub columns-cmp : (a b : Row) (name_a score_a : List ℕ) (strand_a : Option Strand) (name_b score_b : List ℕ) (strand_b : Option Strand) → a.width ≡ b.width

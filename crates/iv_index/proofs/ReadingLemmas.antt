@@ -57,7 +57,7 @@ wanted {X} k w x d beyond = by (nat_le k w) refl
     by false e = sym (beyond (grind (arith, nat_tests, e)))
 
 -- the record of a line is that of its place
-pub place-row : (g : Sequences) (w : ℕ) (line : List ℕ) (r : Row) (p : Place) → read g w line ≡ Ok r → p.seq ≡ r.seq → p.start ≡ r.start → p.stop ≡ r.stop → r ≡ row_of w line p
+pub place-row : (g : Sequences) (w : ℕ) (line : List ℕ) (r : Row) (p : Place) → read g w line ≡ Ok r → p.span.seq ≡ r.seq → p.span.start ≡ r.start → p.span.stop ≡ r.stop → r ≡ row_of w line p
 place-row g w line r p says rank start stop =
     let cs = columns line in
     let is : row g w cs ≡ r = row-is g w line r says in

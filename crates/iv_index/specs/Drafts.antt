@@ -4,7 +4,7 @@ use Rattle.std.specs.Ordering.{is_lt}
 use Rattle.std.specs.List.Sorted.{IsSortedBy}
 use Rattle.iv_text.specs.Row.{row_cmp}
 use Rattle.iv_index.specs.Places.{HasBase, row_at}
-use Rattle.iv_index.specs.declared.heads.Headed.{Headed}
+use Rattle.iv_index.specs.declared.order.Headed.{Headed}
 use Rattle.iv_index.specs.declared.place.Place.{Place}
 
 -- the places are those of records that have a base, and of a width

@@ -4,11 +4,11 @@ use Rattle.iv_index.specs.declared.place.Place.{Place}
 
 -- a place is on the sequence of one that doesn't start past it, and starts at its stop or before
 abbrev pub touches : Place → Place → Bool
-touches last place = (last.seq == place.seq) && nat_le place.start last.stop
+touches last place = (last.span.seq == place.span.seq) && nat_le place.span.start last.span.stop
 
 -- the two as one place, with the line of the first
 abbrev pub grown : Place → Place → Place
-grown last place = record last { stop = max last.stop place.stop }
+grown last place = record last { span = record last.span { stop = max last.span.stop place.span.stop } }
 
 -- the first of places in order, and those after it, each joined to the one before it if they touch
 abbrev pub joined_from : Place → List Place → List Place

@@ -6,6 +6,7 @@ use Rattle.iv_text.specs.Lines.{lines}
 use Rattle.iv_text.specs.Row.{Row, strand_of}
 use Rattle.iv_text.specs.Read.{column}
 use Rattle.iv_index.specs.declared.place.Place.{Place}
+use Rattle.iv_index.specs.declared.span.Span.{Span}
 
 -- the line that begins at this byte of a text, empty past the end
 unfoldable pub line_at : List ℕ → ℕ → List ℕ
@@ -14,9 +15,9 @@ line_at text from = slice_index_or (lines (drop from text)) 0 []
 -- the record of a place and its line: name, score and strand are columns of the line, as far as the width goes
 abbrev pub row_of : ℕ → List ℕ → Place → Row
 row_of width line p = record {
-  seq = p.seq;
-  start = p.start;
-  stop = p.stop;
+  seq = p.span.seq;
+  start = p.span.start;
+  stop = p.span.stop;
   name = cond (nat_le 4 width) (column (columns line) 3) [];
   score = cond (nat_le 5 width) (column (columns line) 4) [];
   strand = cond (nat_le 6 width) (strand_of (column (columns line) 5)) None;
@@ -35,24 +36,18 @@ rows_at width text places = map (row_at width text) places
 abbrev pub bare : Row → Row
 bare r = record { seq = r.seq; start = r.start; stop = r.stop; name = []; score = []; strand = None; width = 3 }
 
+-- where a record is
+abbrev pub span_of : Row → Span
+span_of r = record { seq = r.seq; start = r.start; stop = r.stop }
+
 -- the place of a record whose line begins at this byte of a text
 abbrev pub place_at : Row → ℕ → Place
-place_at r at = record { seq = r.seq; start = r.start; stop = r.stop; line = at }
+place_at r at = record { span = span_of r; line = at }
 
 -- the place has a base
 abbrev pub HasBase : Place → Type 0
-HasBase p = p.start < p.stop
+HasBase p = p.span.start < p.span.stop
 
--- where something is: the rank of the sequence, from where to where
-pub record Spot : Type 0 where
-  pub seq : ℕ
-  pub start : ℕ
-  pub stop : ℕ
-
--- where a place is
-abbrev pub spot_of_place : Place → Spot
-spot_of_place p = record { seq = p.seq; start = p.start; stop = p.stop }
-
--- where a record is
-abbrev pub spot_of_row : Row → Spot
-spot_of_row r = record { seq = r.seq; start = r.start; stop = r.stop }
+-- the interval of a place
+abbrev pub span_in : Place → Span
+span_in p = p.span

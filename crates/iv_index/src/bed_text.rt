@@ -1,19 +1,39 @@
 //! The records of a BED file as places in its text.
-ghost use Rattle.std.specs.Prelude.{◌≡◌, ◌<◌, ◌≤◌, ◌^◌, ◌⊎◌, ℕ, All, length, map, Ok, Err, IfOk, IfErr, OnOk};
+ghost use Rattle.std.specs.Prelude.{◌≡◌, cond, ◌<◌, ◌≤◌, ◌^◌, ◌⊎◌, ℕ, All, length, map, Ok, Err, IfOk, IfErr, OnOk};
 ghost use Rattle.iv_text.specs.BedFile.{bed_of};
 ghost use Rattle.iv_text.specs.Ordered.{AreInOrder, ordered};
 ghost use Rattle.iv_text.specs.Read.{Fits};
 ghost use Rattle.iv_text.specs.declared.fault.LoadCause.TheVariants as cause;
+ghost use Rattle.iv_index.specs.Joins.{grown, joined, touches};
 ghost use Rattle.iv_index.specs.Cover.{AreApart, is_covered};
 ghost use Rattle.iv_index.specs.Places.{bare};
 
-use crate::join::join_places;
 use crate::order::{are_in_order, compare, order_places};
 use crate::place::Place;
 use crate::text_records::TextRecords;
 use iv_text::{Genome, KeptLines, LoadFault};
 use std::alloc::{AllocError, Allocator, Global};
 use std::marker::Model;
+
+/// Joins a place to one that doesn't start past it, if the two overlap or are book-ended. Says whether they do.
+fn take_in(last: &mut Place, place: &Place) -> bool
+    ensures touches { result ≡ touches last.old place.now }
+    ensures new { last.new ≡ cond (touches last.old place.now) (grown last.old place.now) last.old }
+{
+    if last.span.seq != place.span.seq || last.span.stop < place.span.start {
+        return false;
+    }
+    last.span.stop = last.span.stop.max(place.span.stop);
+    true
+}
+
+/// Joins places that are in order, each to the one before it if the two overlap or are book-ended. It is one pass,
+/// and takes no memory.
+pub(crate) fn join_places<A: Allocator>(places: &mut Vec<Place, A>)
+    ensures { places.new.items ≡ joined places.old.items }
+{
+    places.dedup_by(|place, last| take_in(last, place));
+}
 
 /// The records of a BED file, in the order of the file or of a track, all of one width.
 ///
@@ -98,10 +118,6 @@ impl<'t, A: Allocator + Copy> BedText<'t, A> {
     /// few records of one start are out of order. Lines are looked at only for records of one place, and none at width 3.
     ///
     /// Memory is taken only if many records of one place are out of order: 24 bytes for each record, while it sorts.
-    ///
-    /// # Errors
-    ///
-    /// An allocation failed.
     pub fn sort(&mut self, alloc: A) -> Result<(), AllocError>
         ensures { OnOk result (self.new ≡ record self.old { rows = ordered self.old.rows }) }
     {

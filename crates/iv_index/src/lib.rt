@@ -2,24 +2,18 @@
 #![tactic(auto)]
 
 mod bed_text;
-mod heads;
-mod join;
-mod nearly;
-mod optional_columns;
 mod order;
 mod place;
 mod span;
 mod span_order;
 mod span_sequence;
 mod spans;
-mod text_record;
 mod text_records;
 
 pub use bed_text::BedText;
-pub use nearly::{order_nearly, order_neighbors};
+pub use order::{order_nearly, order_neighbors};
 pub use place::Place;
 pub use span::Span;
 pub use span_sequence::split_sequence;
 pub use spans::Spans;
-pub use text_record::TextRecord;
-pub use text_records::TextRecords;
+pub use text_records::{TextRecord, TextRecords};

@@ -1,20 +1,19 @@
-//! Where a record is.
+//! Places in a text: where records are, and the columns of their lines.
+ghost use Rattle.std.specs.Prelude.{◌≡◌, ◌≤◌, [], None, cond, drop, nat_le, refl};
+ghost use Rattle.iv_text.specs.Fields.{columns as columns_of};
+ghost use Rattle.iv_text.specs.Read.{column};
+ghost use Rattle.iv_text.specs.Row.{strand_of};
+ghost use Rattle.iv_index.specs.Places.{bare, place_at, row_of, line_at, row_at};
 
-ghost use Rattle.std.specs.Prelude.{[], refl};
-ghost use Rattle.iv_index.specs.Places.{bare, place_at, row_of};
-
-use iv_text::{FromRecord, RecordRef, ShortLine};
+use crate::span::Span;
+use iv_text::{Fields, FromRecord, RecordRef, ShortLine, Strand, columns, read_strand, split_line};
 use std::alloc::{AllocError, Allocator};
 
-/// Where a record is, 0-based and half-open, and where its line begins in the text of its file.
+/// Where a record is, and where its line begins in the text of its file.
 #[derive(Clone, Copy, Debug, PartialEq, Eq)]
 pub struct Place {
-    /// The rank of its sequence in the genome.
-    pub seq: u32,
-    /// The start, from 0.
-    pub start: u32,
-    /// The end, not included.
-    pub stop: u32,
+    /// Where the record is, 0-based and half-open.
+    pub span: Span,
     /// The byte of the text at which its line begins.
     pub line: u32,
 }
@@ -30,14 +29,9 @@ impl<A: Allocator + Copy> FromRecord<A> for Place {
 
     ghost stands = { λ r at. refl };
 
-    fn from_record(_alloc: A, record: &RecordRef<'_>, at: u32) -> Result<Place, AllocError> {
-        record.law_of_place();
-        Ok(Place {
-            seq: record.seq(),
-            start: record.start() as u32,
-            stop: record.stop() as u32,
-            line: at,
-        })
+    fn from_record(alloc: A, record: &RecordRef<'_>, at: u32) -> Result<Place, AllocError> {
+        let span = Span::from_record(alloc, record, at)?;
+        Ok(Place { span, line: at })
     }
 
     fn most_in_batch() -> usize {
@@ -48,12 +42,75 @@ impl<A: Allocator + Copy> FromRecord<A> for Place {
         true
     }
 
-    fn from_place(_alloc: A, _width: u8, line: &ShortLine, at: u32) -> Option<Place> {
-        Some(Place {
-            seq: line.seq,
-            start: line.start,
-            stop: line.stop,
-            line: at,
-        })
+    fn from_place(alloc: A, width: u8, line: &ShortLine, at: u32) -> Option<Place> {
+        let span = Span::from_place(alloc, width, line, at)?;
+        Some(Place { span, line: at })
     }
+}
+
+/// The columns of a record besides its place. Those beyond the width are empty.
+#[derive(Clone, Copy)]
+pub(crate) struct OptionalColumns<'t> {
+    pub(crate) name: &'t [u8],
+    pub(crate) score: &'t [u8],
+    pub(crate) strand: Option<Strand>,
+}
+
+/// The next column, or an empty one past the last.
+fn next_or_empty<'t>(columns: &mut Fields<'t>) -> &'t [u8]
+    ensures value { result.now ≡ column columns.old 0 }
+    ensures rest { columns.new ≡ drop 1 columns.old }
+{
+    columns.next().unwrap_or(&[])
+}
+
+/// Name, score and strand of a line, as far as the width goes.
+fn optional_columns_in(line: &[u8], width: u8) -> OptionalColumns<'_>
+    requires { 4 ≤ width }
+    ensures name { result.name.now ≡ column (columns_of line.now) 3 }
+    ensures score { result.score.now ≡ cond (nat_le 5 width) (column (columns_of line.now) 4) [] }
+    ensures strand { result.strand ≡ cond (nat_le 6 width) (strand_of (column (columns_of line.now) 5)) None }
+{
+    let mut columns = columns(line);
+    let _seq = next_or_empty(&mut columns);
+    let _start = next_or_empty(&mut columns);
+    let _stop = next_or_empty(&mut columns);
+    let mut beside = OptionalColumns {
+        name: next_or_empty(&mut columns),
+        score: &[],
+        strand: None,
+    };
+    if width >= 5 {
+        beside.score = next_or_empty(&mut columns);
+    }
+    if width >= 6 {
+        beside.strand = read_strand(next_or_empty(&mut columns));
+    }
+    beside
+}
+
+/// Name, score and strand of the record of a place. At width 3 its line isn't looked at.
+pub(crate) fn optional_columns_of(text: &[u8], place: Place, width: u8) -> OptionalColumns<'_>
+    ensures name { result.name.now ≡ (row_at width text.now place).name }
+    ensures score { result.score.now ≡ (row_at width text.now place).score }
+    ensures strand { result.strand ≡ (row_at width text.now place).strand }
+{
+    if width < 4 {
+        return OptionalColumns {
+            name: &[],
+            score: &[],
+            strand: None,
+        };
+    }
+    optional_columns_in(line_from(text, place.line), width)
+}
+
+/// The line that begins at a byte of a text, empty past the end.
+fn line_from(text: &[u8], from: u32) -> &[u8]
+    ensures { result.now ≡ line_at text.now from }
+{
+    if from as usize >= text.len() {
+        return &[];
+    }
+    split_line(&text[from as usize..]).0
 }

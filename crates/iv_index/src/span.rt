@@ -1,7 +1,7 @@
 //! Where a record is, and nothing else.
 
 ghost use Rattle.std.specs.Prelude.{refl};
-ghost use Rattle.iv_index.specs.Places.{bare};
+ghost use Rattle.iv_index.specs.Places.{bare, span_of};
 ghost use Rattle.iv_index.specs.Spans.{row_of_span};
 
 use iv_text::{FromRecord, RecordRef, ShortLine};
@@ -23,7 +23,7 @@ impl<A: Allocator + Copy> FromRecord<A> for Span {
 
     ghost as_row = { row_of_span };
 
-    ghost kept_of = { λ r at. record { seq = r.seq; start = r.start; stop = r.stop } };
+    ghost kept_of = { λ r at. span_of r };
 
     ghost again = { λ r. refl };
 

@@ -5,7 +5,7 @@ ghost use Rattle.iv_text.specs.Read.{IsOnGenome};
 ghost use Rattle.iv_text.specs.declared.fault.LoadCause.TheVariants as cause;
 ghost use Rattle.iv_index.specs.Spans.{bare_bed_of, span_rows};
 
-use crate::nearly::order_neighbors;
+use crate::order::order_neighbors;
 use crate::span::Span;
 use crate::span_order::{are_in_order, compare_spans};
 use iv_text::{Genome, KeptDraft, LoadFault};

@@ -1,13 +1,115 @@
-//! Consecutive records of a text.
-ghost use Rattle.std.specs.Prelude.{◌≡◌, ◌≤◌, ◌==◌, nat_lt, [], ◌∷◌, All, MatchOption, filter, length, map, slice_get, take, drop};
+//! Records whose columns are read from their lines when they are wanted.
+ghost use Rattle.std.specs.Prelude.{◌≡◌, ◌<◌, ◌≤◌, ◌==◌, nat_lt, [], ◌∷◌, All, MatchOption, filter, length, map, slice_get, take, drop};
 ghost use Rattle.std.specs.Iterator.{YieldsFirst, item_count};
+ghost use Rattle.iv_text.specs.Row.{IsPlaced};
 ghost use Rattle.iv_text.specs.Ordered.{AreInOrder};
 ghost use Rattle.iv_text.specs.Covering.{on};
-ghost use Rattle.iv_index.specs.Places.{HasBase, rows_at, spot_of_place, spot_of_row};
+ghost use Rattle.iv_index.specs.Places.{HasBase, row_at, rows_at, span_in, span_of};
 
-use crate::place::Place;
-use crate::text_record::TextRecord;
+use crate::place::{OptionalColumns, Place, optional_columns_of};
+use crate::span::Span;
+use iv_text::{BedRecord, RecordRef, Strand};
 use std::marker::Model;
+
+/// A record of a text: its interval is 0-based and half-open, its other columns are slices of the text.
+///
+/// Its columns after the third are cut from its line each time that they are asked for. At width 3 the line
+/// isn't looked at. Columns beyond the width are empty. No call takes memory.
+#[derive(Debug, Drop)]
+pub struct TextRecord<'t> {
+    text: &'t [u8],
+    place: Place,
+    width: u8,
+}
+
+impl<'t> Model for TextRecord<'t> {
+    ghost use Rattle.iv_text.specs.Row.{Row};
+    ghost use Rattle.iv_index.specs.Places.{HasBase, row_at};
+
+    ghost Value = { Row };
+
+    ghost view = { λ r. row_at r.width r.text.now r.place };
+
+    ghost invariant = { λ r. HasBase r.place };
+}
+
+impl<'t> TextRecord<'t> {
+    /// The record of a place of a text.
+    pub(crate) fn of_place(text: &'t [u8], place: Place, width: u8) -> TextRecord<'t>
+        requires { HasBase place }
+        ensures { result ≡ row_at width text.now place }
+    {
+        TextRecord { text, place, width }
+    }
+
+    /// The same record once more.
+    pub fn again(&self) -> TextRecord<'t>
+        ensures { result ≡ self.now }
+    {
+        TextRecord {
+            text: self.text,
+            place: self.place,
+            width: self.width,
+        }
+    }
+
+    /// A lemma for callers' proofs: the record has a base, and its rank and its stop are numbers of 32 bits.
+    /// The call does nothing.
+    pub fn law_of_place(&self)
+        ensures { IsPlaced self.now }
+    {
+        // What is read has the bounds of its type.
+        let _seq = self.place.span.seq;
+        let _stop = self.place.span.stop;
+    }
+
+    /// The columns besides its place.
+    fn optional_columns(&self) -> OptionalColumns<'t>
+        ensures name { result.name.now ≡ self.now.name }
+        ensures score { result.score.now ≡ self.now.score }
+        ensures strand { result.strand ≡ self.now.strand }
+    {
+        optional_columns_of(self.text, self.place, self.width)
+    }
+
+    /// The strand, `None` below width 6.
+    pub fn strand(&self) -> Option<Strand>
+        ensures { result ≡ self.now.strand }
+    {
+        self.optional_columns().strand
+    }
+}
+
+impl<'t> BedRecord for TextRecord<'t> {
+    ghost as_row = { λ r. r };
+
+    fn seq(&self) -> u32 {
+        self.place.span.seq
+    }
+
+    fn start(&self) -> u64 {
+        u64::from(self.place.span.start)
+    }
+
+    fn stop(&self) -> u64 {
+        u64::from(self.place.span.stop)
+    }
+
+    // All columns are cut at once, which is cheaper than to cut one after another.
+    fn to_ref(&self) -> RecordRef<'_> {
+        let beside = self.optional_columns();
+        let Span { seq, start, stop } = self.place.span;
+        RecordRef::of_columns(
+            seq,
+            start,
+            stop,
+            beside.name,
+            beside.score,
+            beside.strand,
+            self.width,
+        )
+    }
+}
 
 /// Consecutive records of a text, all of one width: lent, as a slice is. No call takes memory.
 #[derive(Debug, Drop)]
@@ -113,12 +215,12 @@ impl<'t> TextRecords<'t> {
         ensures here { result.0 ≡ on rank self.now }
         ensures later { result.1 ≡ filter (λ r. nat_lt rank r.seq) self.now }
     {
-        self.split_at(self.places.partition_point(|place| place.seq <= rank))
+        self.split_at(self.places.partition_point(|place| place.span.seq <= rank))
     }
 
     /// The places of the records, in their order.
     pub fn places(&self) -> &'t [Place]
-        ensures spots { map spot_of_place result.now ≡ map spot_of_row self.now }
+        ensures spots { map span_in result.now ≡ map span_of self.now }
         ensures some { All HasBase result.now }
     {
         self.places

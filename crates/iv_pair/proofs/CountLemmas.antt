@@ -14,8 +14,9 @@ use Rattle.std.proofs.lemmas.List.Sorted.{sorted_far, sum_by-IsPermutation}
 use Rattle.std.proofs.lemmas.List.Sums.{sum_by-cons, length-filter}
 use Rattle.iv_text.specs.Ordered.{AreInOrder}
 use Rattle.iv_text.specs.Row.{Row, row_cmp}
-use Rattle.iv_index.specs.Places.{HasBase, Spot, spot_of_place, spot_of_row}
+use Rattle.iv_index.specs.Places.{HasBase, span_in, span_of}
 use Rattle.iv_index.specs.declared.place.Place.{Place}
+use Rattle.iv_index.specs.declared.span.Span.{Span}
 use Rattle.iv_pair.specs.Hits.{overlaps, hits_of}
 use Rattle.iv_pair.specs.Counts.{is_before, is_up_to, begins_before, ends_by, place_before, end_by, end_of, AreEndsOf, AreStartsOf, EndsAscend}
 use Rattle.iv_pair.specs.PairSweeps.{Precedes}
@@ -79,42 +80,42 @@ ended-more seq at s t rows low same = count-implied (ends_by seq at) (ends_by s 
 
 -- the places are where the records are
 abbrev LieAs : List Place → List Row → Type 0
-LieAs places rows = map spot_of_place places ≡ map spot_of_row rows
+LieAs places rows = map span_in places ≡ map span_of rows
 
-head-same : (a b : Spot) (xs ys : List Spot) → a ∷ xs ≡ b ∷ ys → a ≡ b
+head-same : (a b : Span) (xs ys : List Span) → a ∷ xs ≡ b ∷ ys → a ≡ b
 head-same a b xs ys e = cc
 
-tail-same : (a b : Spot) (xs ys : List Spot) → a ∷ xs ≡ b ∷ ys → xs ≡ ys
+tail-same : (a b : Span) (xs ys : List Span) → a ∷ xs ≡ b ∷ ys → xs ≡ ys
 tail-same a b xs ys e = cc
 
-none-same : (b : Spot) (ys : List Spot) → [] ≡ b ∷ ys → ⊥
+none-same : (b : Span) (ys : List Span) → [] ≡ b ∷ ys → ⊥
 none-same b ys e = cc
 
-some-same : (a : Spot) (xs : List Spot) → a ∷ xs ≡ [] → ⊥
+some-same : (a : Span) (xs : List Span) → a ∷ xs ≡ [] → ⊥
 some-same a xs e = cc
 
 -- what holds of each place holds of each record, if it is said of where they are
-all-rows : (P : Spot → Type 0) (places : List Place) (rows : List Row) → LieAs places rows → All (λ place. P (spot_of_place place)) places → All (λ r. P (spot_of_row r)) rows
-all-rows P [] [] e h = All-nil (λ r. P (spot_of_row r))
+all-rows : (P : Span → Type 0) (places : List Place) (rows : List Row) → LieAs places rows → All (λ place. P (span_in place)) places → All (λ r. P (span_of r)) rows
+all-rows P [] [] e h = All-nil (λ r. P (span_of r))
 all-rows P [] (r ∷ rows) e h = absurd (none-same _ _ e)
 all-rows P (place ∷ places) [] e h = absurd (some-same _ _ e)
 all-rows P (place ∷ places) (r ∷ rows) e h =
-    All-cons (λ q. P (spot_of_row q)) r rows
-    (subst P (head-same _ _ _ _ e) (All-head (λ q. P (spot_of_place q)) place places h))
-    (all-rows P places rows (tail-same _ _ _ _ e) (All-tail (λ q. P (spot_of_place q)) place places h))
+    All-cons (λ q. P (span_of q)) r rows
+    (subst P (head-same _ _ _ _ e) (All-head (λ q. P (span_in q)) place places h))
+    (all-rows P places rows (tail-same _ _ _ _ e) (All-tail (λ q. P (span_in q)) place places h))
 
 -- and the other way round
-all-places : (P : Spot → Type 0) (places : List Place) (rows : List Row) → LieAs places rows → All (λ r. P (spot_of_row r)) rows → All (λ place. P (spot_of_place place)) places
-all-places P [] rows e h = All-nil (λ place. P (spot_of_place place))
+all-places : (P : Span → Type 0) (places : List Place) (rows : List Row) → LieAs places rows → All (λ r. P (span_of r)) rows → All (λ place. P (span_in place)) places
+all-places P [] rows e h = All-nil (λ place. P (span_in place))
 all-places P (place ∷ places) [] e h = absurd (some-same _ _ e)
 all-places P (place ∷ places) (r ∷ rows) e h =
-    All-cons (λ q. P (spot_of_place q)) place places
-    (subst P (sym (head-same _ _ _ _ e)) (All-head (λ q. P (spot_of_row q)) r rows h))
-    (all-places P places rows (tail-same _ _ _ _ e) (All-tail (λ q. P (spot_of_row q)) r rows h))
+    All-cons (λ q. P (span_in q)) place places
+    (subst P (sym (head-same _ _ _ _ e)) (All-head (λ q. P (span_of q)) r rows h))
+    (all-places P places rows (tail-same _ _ _ _ e) (All-tail (λ q. P (span_of q)) r rows h))
 
 -- a test of where they are counts as many places as records
-count-places : (p : Spot → Bool) (places : List Place) (rows : List Row) → LieAs places rows → count_by (λ place. p (spot_of_place place)) places ≡ count_by (λ r. p (spot_of_row r)) rows
-count-places p places rows e = sym (count-map spot_of_place p places) ∙ ap (λ (l : List Spot). count_by p l) e ∙ count-map spot_of_row p rows
+count-places : (p : Span → Bool) (places : List Place) (rows : List Row) → LieAs places rows → count_by (λ place. p (span_in place)) places ≡ count_by (λ r. p (span_of r)) rows
+count-places p places rows e = sym (count-map span_in p places) ∙ ap (λ (l : List Span). count_by p l) e ∙ count-map span_of p rows
 
 -- ---- where they begin
 
@@ -122,24 +123,24 @@ starts-ascend : (seq at : ℕ) (places : List Place) (rows : List Row) → LieAs
 starts-ascend seq at [] rows e order = λ i j d le lt h. absurd (omega arith)
 starts-ascend seq at (place ∷ places) [] e order = absurd (some-same _ _ e)
 starts-ascend seq at (place ∷ places) (r ∷ rows) e order =
-    let same : spot_of_place place ≡ spot_of_row r = head-same _ _ _ _ e in
-    let on : place.seq ≡ r.seq = ap (λ (s : Spot). s.seq) same in
-    let from : place.start ≡ r.start = ap (λ (s : Spot). s.start) same in
+    let same : span_in place ≡ span_of r = head-same _ _ _ _ e in
+    let on : place.span.seq ≡ r.seq = ap (λ (s : Span). s.seq) same in
+    let from : place.span.start ≡ r.start = ap (λ (s : Span). s.start) same in
     let later : All (λ (q : Row). (r.seq ≤ q.seq) × (r.seq ≡ q.seq → r.start ≤ q.start)) rows =
     All-weaker (λ (q : Row). is_le (row_cmp r q) ≡ true) (λ (q : Row). (r.seq ≤ q.seq) × (r.seq ≡ q.seq → r.start ≤ q.start)) (λ q k. precedes r q k) rows
     (All-from_recursion (λ (q : Row). is_le (row_cmp r q) ≡ true) rows order.0) in
-    let onward : All (λ (q : Place). (r.seq ≤ q.seq) × (r.seq ≡ q.seq → r.start ≤ q.start)) places
-    = all-places (λ (s : Spot). (r.seq ≤ s.seq) × (r.seq ≡ s.seq → r.start ≤ s.start)) places rows (tail-same _ _ _ _ e) later in
+    let onward : All (λ (q : Place). (r.seq ≤ q.span.seq) × (r.seq ≡ q.span.seq → r.start ≤ q.span.start)) places
+    = all-places (λ (s : Span). (r.seq ≤ s.seq) × (r.seq ≡ s.seq → r.start ≤ s.start)) places rows (tail-same _ _ _ _ e) later in
     split_up-cons (place_before seq at) place places
-    (All-weaker (λ (q : Place). (r.seq ≤ q.seq) × (r.seq ≡ q.seq → r.start ≤ q.start)) (λ (q : Place). place_before seq at q ≡ true → place_before seq at place ≡ true)
-    (λ q k h. rw (on, from) (before-earlier seq at q.seq q.start r.seq r.start k h)) places onward)
+    (All-weaker (λ (q : Place). (r.seq ≤ q.span.seq) × (r.seq ≡ q.span.seq → r.start ≤ q.span.start)) (λ (q : Place). place_before seq at q ≡ true → place_before seq at place ≡ true)
+    (λ q k h. rw (on, from) (before-earlier seq at q.span.seq q.span.start r.seq r.start k h)) places onward)
     (starts-ascend seq at places rows (tail-same _ _ _ _ e) order.1)
 
-pub AreStartsOf-rows : (places : List Place) (rows : List Row) → map spot_of_place places ≡ map spot_of_row rows → All HasBase places → AreInOrder rows → AreStartsOf places rows
+pub AreStartsOf-rows : (places : List Place) (rows : List Row) → map span_in places ≡ map span_of rows → All HasBase places → AreInOrder rows → AreStartsOf places rows
 AreStartsOf-rows places rows e some order = record {
   ascend = λ seq at. starts-ascend seq at places rows e order;
   counts = λ seq at. count-places (λ s. is_before seq at s.seq s.start) places rows e;
-  some = all-rows (λ (s : Spot). s.start < s.stop) places rows e some;
+  some = all-rows (λ (s : Span). s.start < s.stop) places rows e some;
 }
 
 -- ---- where they end
@@ -169,7 +170,7 @@ EndsAscend-sorted ends up = λ seq at i j d le lt e.
     up_to-earlier seq at b.seq b.stop a.seq a.stop
     (end-onward a b (sorted_far (λ x y. is_lt (end_cmp x y)) (ranks_by ends_total (λ (x : End). x)) ends up i j d le lt)) e
 
-pub AreEndsOf-moved : (ends : List End) (places : List Place) (rows : List Row) → map spot_of_place places ≡ map spot_of_row rows
+pub AreEndsOf-moved : (ends : List End) (places : List Place) (rows : List Row) → map span_in places ≡ map span_of rows
     → IsPermutation (map end_of places) ends → EndsAscend ends → AreEndsOf ends rows
 AreEndsOf-moved ends places rows e moved up = record {
   ascend = up;
@@ -205,7 +206,7 @@ ended-later a rows second ends seq start n order are on from is =
 
 -- no fewer places begin before a later position
 pub places-more : (seq at later : ℕ) (places : List Place) → at ≤ later → count_by (place_before seq at) places ≤ count_by (place_before seq later) places
-places-more seq at later places le = count-implied (place_before seq at) (place_before seq later) places (λ place e. before-later seq at seq later place.seq place.start (omega arith, λ _. le) e)
+places-more seq at later places le = count-implied (place_before seq at) (place_before seq later) places (λ place e. before-later seq at seq later place.span.seq place.span.start (omega arith, λ _. le) e)
 
 -- one that may go past all of them counts them
 pub passes-all : (n count most : ℕ) → n ≤ count → (n < most → n ≡ count) → count ≤ most → n ≡ count

@@ -29,7 +29,7 @@ ends_by seq at b = is_up_to seq at b.seq b.stop
 
 -- whether a place begins before a position
 abbrev pub place_before : ℕ → ℕ → Place → Bool
-place_before seq at place = is_before seq at place.seq place.start
+place_before seq at place = is_before seq at place.span.seq place.span.start
 
 -- whether an end is at a position or before it
 abbrev pub end_by : ℕ → ℕ → End → Bool
@@ -45,7 +45,7 @@ EndsAscend ends = (seq at : ℕ) → IsPartitionedBy (end_by seq at) ends
 
 -- where a place ends
 abbrev pub end_of : Place → End
-end_of place = record { seq = place.seq; stop = place.stop }
+end_of place = record { seq = place.span.seq; stop = place.span.stop }
 
 -- these are the ends of the records, in order
 pub record AreEndsOf (ends : List End) (rows : List Row) : Type 0 where

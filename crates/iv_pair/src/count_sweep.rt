@@ -11,7 +11,7 @@ ghost use Rattle.iv_pair.specs.declared.pair_rows.PairRows.TheVariants.{Intersec
 use crate::lines::put_count;
 use iv_bytes::{Sink, WriteFault};
 use iv_index::{Place, TextRecords};
-use iv_text::Genome;
+use iv_text::{BedRecord, Genome};
 use std::alloc::{AllocError, Allocator, Global};
 use std::marker::Model;
 
@@ -105,8 +105,8 @@ fn ends_of<A: Allocator>(alloc: A, places: &[Place]) -> Result<Vec<End, A>, Allo
     let mut ends = Vec::with_capacity(alloc, places.len())?;
     for place in places {
         ends.push(End {
-            seq: place.seq,
-            stop: place.stop,
+            seq: place.span.seq,
+            stop: place.span.stop,
         })?;
     }
     ends.sort_unstable();
@@ -173,7 +173,7 @@ fn pass_starts(places: &[Place], from: usize, until: usize, seq: u32, at: u64) -
 
 /// Whether a place begins before a position of a sequence.
 fn begins_before(place: &Place, seq: u32, at: u64) -> bool
-    ensures { result ≡ is_before seq at place.now.seq place.now.start }
+    ensures { result ≡ is_before seq at place.now.span.seq place.now.span.start }
 {
-    place.seq < seq || place.seq == seq && u64::from(place.start) < at
+    place.span.seq < seq || place.span.seq == seq && u64::from(place.span.start) < at
 }

@@ -10,7 +10,7 @@ use crate::active_hits::ActiveHits;
 use crate::pair_rows::{PairRows, put_pair_rows};
 use iv_bytes::{Sink, WriteFault};
 use iv_index::{TextRecord, TextRecords};
-use iv_text::Genome;
+use iv_text::{BedRecord, Genome};
 use std::alloc::{AllocError, Allocator, Global};
 use std::marker::Model;
 

@@ -3,7 +3,7 @@ use crate::fixtures::holds;
 use crate::growths::{Reading, Run, growths, memory_of};
 use crate::places::{SIZES, bed_text};
 use iv_index::{Span, Spans, TextRecords};
-use iv_text::{Genome, LoadFault};
+use iv_text::{BedRecord, Genome, LoadFault};
 use std::alloc::Global;
 use std::test::Fail;
 use test_faults::RefusesNth;

@@ -1,7 +1,7 @@
 //! BED files as places in their text.
 use crate::fixtures::holds;
 use iv_index::{BedText, TextRecord, TextRecords};
-use iv_text::{Genome, LoadCause, LoadFault, RecordFault, Strand};
+use iv_text::{BedRecord, Genome, LoadCause, LoadFault, RecordFault, Strand};
 use std::alloc::Allocator;
 use std::mem::size_of;
 use std::test::Fail;
@@ -90,19 +90,16 @@ fn texts_of_bed_files(rt: HostRuntime) -> Result<(), Fail> {
 /// Rank, start and stop, name and score, strand.
 pub(crate) type Cells<'t> = ((u32, u64, u64), (&'t [u8], &'t [u8]), Option<Strand>);
 
-/// Whether the record has these columns, one by one and all at once.
+/// Whether the record has these columns, and the same place and strand if it is asked for them alone.
 pub(crate) fn has_cells(record: &TextRecord<'_>, width: u8, cells: Cells<'_>) -> bool {
     let (place, texts, strand) = cells;
     let row = record.to_ref();
-    let one_by_one = record.width() == width
-        && (record.seq(), record.start(), record.stop()) == place
-        && (record.name(), record.score()) == texts
-        && record.strand() == strand;
+    let alone = (record.seq(), record.start(), record.stop()) == place && record.strand() == strand;
     let at_once = row.width() == width
         && (row.seq(), row.start(), row.stop()) == place
         && (row.name(), row.score()) == texts
         && row.strand() == strand;
-    one_by_one && at_once
+    alone && at_once
 }
 
 /// Whether the last record of a text has these columns.
@@ -186,7 +183,9 @@ fn are_three(records: TextRecords<'_>) -> bool {
 fn are_at_indexes(records: &TextRecords<'_>) -> bool {
     let mut sum = 0u64;
     for place in records.places() {
-        sum = sum.wrapping_mul(100).wrapping_add(u64::from(place.start));
+        sum = sum
+            .wrapping_mul(100)
+            .wrapping_add(u64::from(place.span.start));
     }
     let second = match records.get(1) {
         Some(record) => record.start(),

@@ -1,10 +1,22 @@
-use Rattle.std.proofs.Common.{sym, ◌∙◌, arith}
+use Rattle.std.proofs.Common.{sym, ◌∙◌, ap}
+use Rattle.std.specs.Ordering.{is_ne, nat_cmp}
+use Rattle.iv_text.specs.Row.{beside_cmp}
 use Rattle.iv_index.specs.Places.{row_at}
-use Rattle.iv_index.proofs.OrderLemmas.{row-cmp-beside}
+use Rattle.iv_index.proofs.OrderLemmas.{decided, tied}
 use Rattle.iv_index.proofs.order.compare.Goals as goal
+
+pub returns-then-is_ne : goal.returns-then-is_ne
+returns-then-is_ne c =
+    let a = c.args.first.now.span in
+    let b = c.args.second.now.span in
+    let beside = beside_cmp (row_at c.args.width c.args.text.now c.args.first.now) (row_at c.args.width c.args.text.now c.args.second.now) in
+    c.compare_spans-spans.ensures
+    ∙ decided (nat_cmp a.seq b.seq) (nat_cmp a.start b.start) (nat_cmp a.stop b.stop) beside (ap is_ne (sym c.compare_spans-spans.ensures) ∙ sym c.is_ne.ensures ∙ c.if-is_ne.true)
 
 pub returns : goal.returns
 returns c =
-    let text = c.args.text.now in
+    let a = c.args.first.now.span in
+    let b = c.args.second.now.span in
+    let beside = beside_cmp (row_at c.args.width c.args.text.now c.args.first.now) (row_at c.args.width c.args.text.now c.args.second.now) in
     c.compare_beside.ensures
-    ∙ sym (row-cmp-beside (row_at c.args.width text c.args.first.now) (row_at c.args.width text c.args.second.now) (omega arith) (omega arith) (omega arith))
+    ∙ tied (nat_cmp a.seq b.seq) (nat_cmp a.start b.start) (nat_cmp a.stop b.stop) beside (ap is_ne (sym c.compare_spans-spans.ensures) ∙ sym c.is_ne.ensures ∙ c.if-is_ne.false)

@@ -9,11 +9,11 @@ returns-clause-here c =
     let s = c.self.inside in
     c.split_at.ensures.front
     ∙ (split-rows (row_at s.width s.text.now) c.args.rank s.places.now c.args.self.now c.partition_point.result c.self.view_is c.requires.order c.requires.from c.partition_point.ensures.bound
-    (λ parted. IsPartitionPoint-from_clause (λ place. nat_le place.seq c.args.rank) s.places.now c.partition_point.result c.partition_point.ensures.partitioned parted (λ a r q k. search rules))).0
+    (λ parted. IsPartitionPoint-from_clause (λ place. nat_le place.span.seq c.args.rank) s.places.now c.partition_point.result c.partition_point.ensures.partitioned parted (λ a r q k. search rules))).0
 
 pub returns-clause-later : goal.returns-clause-later
 returns-clause-later c =
     let s = c.self.inside in
     c.split_at.ensures.back
     ∙ (split-rows (row_at s.width s.text.now) c.args.rank s.places.now c.args.self.now c.partition_point.result c.self.view_is c.requires.order c.requires.from c.partition_point.ensures.bound
-    (λ parted. IsPartitionPoint-from_clause (λ place. nat_le place.seq c.args.rank) s.places.now c.partition_point.result c.partition_point.ensures.partitioned parted (λ a r q k. search rules))).1
+    (λ parted. IsPartitionPoint-from_clause (λ place. nat_le place.span.seq c.args.rank) s.places.now c.partition_point.result c.partition_point.ensures.partitioned parted (λ a r q k. search rules))).1

@@ -2,16 +2,16 @@ use Rattle.std.proofs.Common.{◌<◌, length, map, take, [], ◌∷◌, ◌++�
 use Rattle.std.proofs.lemmas.Grind.{common_steps}
 use Rattle.std.proofs.lemmas.List.{take_more, take_more_set, get_or-map, length-map}
 use Rattle.iv_index.specs.Drafts.{place_of}
-use Rattle.iv_index.specs.declared.heads.Headed.{Headed}
+use Rattle.iv_index.specs.declared.order.Headed.{Headed}
 use Rattle.iv_index.specs.declared.place.Place.{Place}
-use Rattle.iv_index.proofs.heads.put_places.Goals as goal
+use Rattle.iv_index.proofs.order.put_places.Goals as goal
 
 pub loop-index-preserved : goal.loop-index-preserved
 loop-index-preserved g c =
     let i = c.loop-index.index in
     let places = c.loop-index.places.items in
     let headed = c.args.headed.now in
-    let none : Headed = record { head = 0; place = record { seq = 0; start = 0; stop = 0; line = 0 } } in
+    let none : Headed = record { head = 0; place = record { span = record { seq = 0; start = 0; stop = 0 }; line = 0 } } in
     let read : Place = place_of (slice_index_or headed i none) in
     let within : i < length headed = omega (arith, c.loop-index-test.true) in
     record {

@@ -1,6 +1,6 @@
 use Rattle.std.proofs.Common.{◌≡◌, ◌≤◌, length}
 use Rattle.std.specs.List.Sorted.{IsPermutation}
-use Rattle.iv_index.proofs.nearly.move_forward.Given as goal
+use Rattle.iv_index.proofs.order.move_forward.Given as goal
 
 abbrev pub invariant-loop-at : goal.invariant-loop-at
 invariant-loop-at g l = record {

@@ -2,7 +2,7 @@ use Rattle.std.proofs.Common.{◌≡◌, map, ap, sym, subst, ◌∙◌}
 use Rattle.std.specs.List.Sorted.{IsPermutation}
 use Rattle.std.proofs.lemmas.List.Sorted.{IsPermutation-map}
 use Rattle.iv_index.specs.Drafts.{place_of}
-use Rattle.iv_index.proofs.heads.sort_by_heads.Goals as goal
+use Rattle.iv_index.proofs.order.sort_by_heads.Goals as goal
 
 pub returns : goal.returns
 returns g c =
