@@ -44,7 +44,7 @@ ONE_CALL = re.compile(r"\{\s*self\.\w+\((?:\w+,\s*)*&mut Meter::new\(\)(?:,\s*\w
 # A list of items in several vectors may be longer than any one of them, so their number is looked at before it grows.
 FULL_COUNTS = {
     "iv_text/src/batches.rt": (r"let Some\(len\) = self\.len\.checked_add\(1\) else \{", ""),
-    "iv_track/src/chunks.rt": (r"if (?:self\.)?len == MOST_ENTRIES \{", "const MOST_ENTRIES: usize = 9_223_372_036_854_775_807;"),
+    "iv_track/src/ledger.rt": (r"if (?:self\.)?len == MOST_ENTRIES \{", "const MOST_ENTRIES: usize = 9_223_372_036_854_775_807;"),
 }
 # Under its own name it is found wherever it is made: `C::Meter::new()` too.
 METER_CALLED_OTHERWISE = re.compile(r"\btype\s+(?!Meter\b)\w+\s*=\s*[\w:]*\bMeter\b")

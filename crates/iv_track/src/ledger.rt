@@ -1,5 +1,5 @@
 //! An ordered map that counts its calls.
-ghost use Rattle.std.specs.Prelude.{◌≡◌, ◌^◌, ◌<◌, List, [], length, IfOk, IfErr, OnOk, OnErr};
+ghost use Rattle.std.specs.Prelude.{◌≡◌, ◌+◌, ◌^◌, ◌<◌, List, [], length, IfOk, IfErr, OnOk, OnErr};
 ghost use Rattle.std.specs.Option.{option_map, option_copied};
 ghost use Rattle.std.specs.Map.{remove_entry, set_value};
 ghost use Rattle.std.specs.Map.Iter.{deref_pair, TakesFirst};
@@ -7,31 +7,46 @@ ghost use Rattle.std.specs.BTreeMap.{is_at, insert_entry};
 ghost use Rattle.std.specs.Iterator.{IsFinite, Drains};
 ghost use Rattle.std.specs.List.{filter};
 ghost use Rattle.std.specs.Ordering.{is_le};
+ghost use Rattle.iv_track.specs.Chunks.{AreFilled, IsWithin, from};
 ghost use Rattle.iv_track.specs.Entries.{IsLedger, value_at, first_from, first_after, last_until};
 ghost use Rattle.iv_track.specs.Steps.{ticked};
 
-use crate::abbreviated::Abbreviated;
-use crate::chunks::{Entries, SortedChunks};
 use crate::meter::Meter;
+use crate::places::{
+    self, Place, append, find, insert_at, place_after, place_from, remove_at, with_last,
+};
+use crate::starts::{Abbreviated, Starts};
 use std::alloc::{AllocError, Allocator, Global};
 use std::marker::Model;
+use std::mem;
+
+/// More entries than there is memory for.
+const MOST_ENTRIES: usize = 9_223_372_036_854_775_807;
 
 /// An ordered map from keys to values that counts its calls, so that a contract can say how many a method makes.
 ///
-/// Its entries are in chunks, each a vector of some of them in order. Each call that takes a `Meter` adds one step to it, whatever it finds. No key is
-/// twice. Only `put` takes memory, and only for a new key. Its model is the list of its entries in
-/// the order of the keys.
+/// Each call that takes a `Meter` adds one step to it, whatever it finds. Only `put` takes memory, and only for a new key. No key is
+/// twice. Its model is the list of its entries in the order of the keys.
+///
+/// The entries are in chunks, each a vector of some of them in order. No chunk is empty or has more than 256 entries, and the keys
+/// ascend over all chunks. Beside the chunks lie the abbreviations of their first keys, for the time of a search alone: nothing is
+/// said of them, and whatever they are, what a call gives is the same.
 #[derive(Drop)]
 pub struct Ledger<K: Ord, V, A: Allocator = Global> {
-    map: SortedChunks<K, V, A>,
+    chunks: Vec<Vec<(K, V), A>, A>,
+    starts: Starts<A>,
+    len: usize,
 }
 
 impl<K: Ord, V, A: Allocator> Model for Ledger<K, V, A> {
-    ghost use Rattle.std.specs.Prelude.{List};
+    ghost use Rattle.std.specs.Prelude.{◌≡◌, List};
+    ghost use Rattle.iv_track.specs.Chunks.{IsWhole, joined};
 
     ghost Value = { List (K × V) };
 
-    ghost view = { λ l. l.map };
+    ghost view = { λ s. joined s.chunks.items };
+
+    ghost invariant = { λ s. IsWhole K.cmp s.chunks.items s.len };
 }
 
 impl<K: Ord + Abbreviated + Drop, V: Drop, A: Allocator + Clone + Drop> Ledger<K, V, A> {
@@ -40,17 +55,15 @@ impl<K: Ord + Abbreviated + Drop, V: Drop, A: Allocator + Clone + Drop> Ledger<K
         ensures { result ≡ [] }
     {
         Ledger {
-            map: SortedChunks::new(alloc),
+            chunks: Vec::new(alloc),
+            starts: Starts::new(),
+            len: 0,
         }
     }
 
     /// The ledger of the entries that an iterator gives up to its first `None`: built at once, and no step.
     ///
     /// Their keys ascend.
-    ///
-    /// # Errors
-    ///
-    /// An allocation failed.
     pub fn from_entries<I: Iterator<Item = (K, V)>>(
         alloc: A,
         entries: I,
@@ -61,8 +74,22 @@ impl<K: Ord + Abbreviated + Drop, V: Drop, A: Allocator + Clone + Drop> Ledger<K
         ensures values { IfOk result (λ l. (es : List (K × V)) × Drains I.next_gives entries es × ((k : K) → value_at K.cmp l k ≡ value_at K.cmp es k)) }
         ensures ordered { IfOk result (λ l. IsLedger K.cmp l) }
     {
+        let mut chunks = Vec::new(alloc.clone()?);
+        let mut last = Vec::new(alloc.clone()?);
+        let mut len = 0;
+        for entry in entries {
+            if len == MOST_ENTRIES {
+                return Err(AllocError);
+            }
+            append(&mut chunks, &mut last, entry)?;
+            len += 1;
+        }
+        let chunks = with_last(chunks, last)?;
+        let starts = Starts::of(alloc, &chunks)?;
         Ok(Ledger {
-            map: SortedChunks::from_ascending(alloc, entries)?,
+            chunks,
+            starts,
+            len,
         })
     }
 
@@ -72,7 +99,7 @@ impl<K: Ord + Abbreviated + Drop, V: Drop, A: Allocator + Clone + Drop> Ledger<K
         ensures small { result < 2 ^ 63 }
         ensures ordered { IsLedger K.cmp self.now }
     {
-        self.map.len()
+        self.len
     }
 
     /// The value at a key, `None` if the key is absent.
@@ -81,7 +108,10 @@ impl<K: Ord + Abbreviated + Drop, V: Drop, A: Allocator + Clone + Drop> Ledger<K
         ensures step { meter.new ≡ ticked meter.old }
     {
         meter.tick();
-        self.map.get(key)
+        match find(&self.chunks, self.starts.as_slice(), key) {
+            Ok(at) => Some(&self.chunks[at.chunk][at.index].1),
+            Err(_) => None,
+        }
     }
 
     /// Writes the value of a key, whether it is there or new, and gives the value before, `None` for a new key.
@@ -99,7 +129,20 @@ impl<K: Ord + Abbreviated + Drop, V: Drop, A: Allocator + Clone + Drop> Ledger<K
         ensures step { meter.new ≡ ticked meter.old }
     {
         meter.tick();
-        self.map.insert(key, value)
+        match find(&self.chunks, self.starts.as_slice(), &key) {
+            Ok(at) => Ok(Some(mem::replace(&mut self.chunks[at.chunk][at.index].1, value))),
+            Err(gap) => {
+                if self.len == MOST_ENTRIES {
+                    return Err(AllocError);
+                }
+                self.starts.make_room(&self.chunks, gap)?;
+                let put = insert_at(&mut self.chunks, gap, (key, value));
+                self.starts.follow_insert(&self.chunks, gap);
+                put?;
+                self.len += 1;
+                Ok(None)
+            }
+        }
     }
 
     /// Writes the value of a key that is there and gives the old one. It takes no memory.
@@ -116,7 +159,10 @@ impl<K: Ord + Abbreviated + Drop, V: Drop, A: Allocator + Clone + Drop> Ledger<K
         ensures step { meter.new ≡ ticked meter.old }
     {
         meter.tick();
-        self.map.set(key, value)
+        match find(&self.chunks, self.starts.as_slice(), key) {
+            Ok(at) => Ok(mem::replace(&mut self.chunks[at.chunk][at.index].1, value)),
+            Err(_) => Err(value),
+        }
     }
 
     /// Takes a key out and gives its value, `None` if the key is absent. It takes no memory.
@@ -127,7 +173,15 @@ impl<K: Ord + Abbreviated + Drop, V: Drop, A: Allocator + Clone + Drop> Ledger<K
         ensures step { meter.new ≡ ticked meter.old }
     {
         meter.tick();
-        self.map.remove(key)
+        match find(&self.chunks, self.starts.as_slice(), key) {
+            Ok(at) => {
+                let (_, value) = remove_at(&mut self.chunks, at);
+                self.starts.follow_remove(&self.chunks, at);
+                self.len -= 1;
+                Some(value)
+            }
+            Err(_) => None,
+        }
     }
 
     /// The entry of the first key at or after this one, in order, `None` if there is none.
@@ -137,7 +191,9 @@ impl<K: Ord + Abbreviated + Drop, V: Drop, A: Allocator + Clone + Drop> Ledger<K
         ensures step { meter.new ≡ ticked meter.old }
     {
         meter.tick();
-        self.map.at_or_after(key)
+        let at = place_from(&self.chunks, self.starts.as_slice(), key);
+        let entry = places::first_from(&self.chunks, at)?;
+        Some((&entry.0, &entry.1))
     }
 
     /// The entry of the last key at or before this one, in order, `None` if there is none.
@@ -147,7 +203,17 @@ impl<K: Ord + Abbreviated + Drop, V: Drop, A: Allocator + Clone + Drop> Ledger<K
         ensures step { meter.new ≡ ticked meter.old }
     {
         meter.tick();
-        self.map.at_or_before(key)
+        match find(&self.chunks, self.starts.as_slice(), key) {
+            Ok(at) => {
+                let entry = &self.chunks[at.chunk][at.index];
+                Some((&entry.0, &entry.1))
+            }
+            Err(gap) => {
+                let index = gap.index.checked_sub(1)?;
+                let entry = &self.chunks[gap.chunk][index];
+                Some((&entry.0, &entry.1))
+            }
+        }
     }
 
     /// The entry of the first key after this one, in order, `None` if there is none.
@@ -157,7 +223,9 @@ impl<K: Ord + Abbreviated + Drop, V: Drop, A: Allocator + Clone + Drop> Ledger<K
         ensures step { meter.new ≡ ticked meter.old }
     {
         meter.tick();
-        self.map.after(key)
+        let at = place_after(&self.chunks, self.starts.as_slice(), key);
+        let entry = places::first_from(&self.chunks, at)?;
+        Some((&entry.0, &entry.1))
     }
 
     /// The entries from a key on, in order. Beginning is one step, and each call of the walk's `next` another.
@@ -167,9 +235,10 @@ impl<K: Ord + Abbreviated + Drop, V: Drop, A: Allocator + Clone + Drop> Ledger<K
         ensures step { meter.new ≡ ticked meter.old }
     {
         meter.tick();
-        Walk {
-            entries: self.map.walk(key),
-        }
+        Walk::from_place(
+            &self.chunks,
+            place_from(&self.chunks, self.starts.as_slice(), key),
+        )
     }
 }
 
@@ -178,25 +247,55 @@ impl<K: Ord + Abbreviated + Drop, V: Drop, A: Allocator + Clone + Drop> Ledger<K
 /// Its model is the entries that are left.
 #[derive(Drop)]
 pub struct Walk<'a, K, V, A: Allocator = Global> {
-    entries: Entries<'a, K, V, A>,
+    rest: &'a [(K, V)],
+    later: &'a [Vec<(K, V), A>],
 }
 
 impl<'a, K, V, A: Allocator> Model for Walk<'a, K, V, A> {
-    ghost use Rattle.std.specs.Prelude.{List};
+    ghost use Rattle.std.specs.Prelude.{List, ◌++◌};
+    ghost use Rattle.iv_track.specs.Chunks.{AreFilled, joined};
 
     ghost Value = { List (K × V) };
 
-    ghost view = { λ w. w.entries };
+    ghost view = { λ w. w.rest.now ++ joined w.later.now };
+
+    ghost invariant = { λ w. AreFilled w.later.now };
 }
 
 impl<'a, K, V, A: Allocator> Walk<'a, K, V, A> {
+    /// The entries from a place on.
+    fn from_place(chunks: &'a [Vec<(K, V), A>], at: Place) -> Walk<'a, K, V, A>
+        requires within { IsWithin chunks.now at }
+        requires filled { AreFilled chunks.now }
+        ensures { result ≡ from chunks.now at }
+    {
+        match chunks.get(at.chunk) {
+            Some(chunk) => Walk {
+                rest: &chunk[at.index..],
+                later: &chunks[at.chunk + 1..],
+            },
+            None => Walk {
+                rest: &[],
+                later: &[],
+            },
+        }
+    }
+
     /// The next entry, `None` after the last. Each call is one step, the last one too.
     pub fn next(&mut self, meter: &mut Meter) -> Option<(&'a K, &'a V)>
         ensures next { TakesFirst deref_pair self.old result self.new }
         ensures step { meter.new ≡ ticked meter.old }
     {
         meter.tick();
-        self.entries.next()
+        if let Some((entry, rest)) = self.rest.split_first() {
+            self.rest = rest;
+            return Some((&entry.0, &entry.1));
+        }
+        let (chunk, later) = self.later.split_first()?;
+        let (entry, rest) = chunk.split_first()?;
+        self.rest = rest;
+        self.later = later;
+        Some((&entry.0, &entry.1))
     }
 
     /// The same walk once more, from where it is now. It is no step, and takes no memory.
@@ -204,7 +303,8 @@ impl<'a, K, V, A: Allocator> Walk<'a, K, V, A> {
         ensures { result ≡ self.now }
     {
         Walk {
-            entries: self.entries.again(),
+            rest: self.rest,
+            later: self.later,
         }
     }
 }

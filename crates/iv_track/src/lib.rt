@@ -1,8 +1,6 @@
 //! The track: records in order with their copies, in an ordered map whose every call is counted.
 #![tactic(auto)]
 
-mod abbreviated;
-mod chunks;
 mod counted;
 mod laws;
 mod ledger;
@@ -12,9 +10,9 @@ mod rows;
 mod starts;
 mod track;
 
-pub use abbreviated::Abbreviated;
 pub use laws::{one_record_added, one_record_removed};
 pub use ledger::{Ledger, Walk};
 pub use meter::Meter;
 pub use rows::Rows;
+pub use starts::Abbreviated;
 pub use track::{EditFault, Track};

@@ -5,7 +5,7 @@ ghost use Rattle.std.specs.Ordering.{is_le, is_lt};
 ghost use Rattle.std.specs.Option.{option_copied};
 ghost use Rattle.iv_track.specs.Chunks.{AreChunks, AreFilled, IsFound, IsGap, IsInside, IsWithin, IsSplit, IsPlaceWithRoom, before, from, joined, most_at_once, most_in_chunk, starts_by};
 
-use crate::abbreviated::Abbreviated;
+use crate::starts::Abbreviated;
 use std::alloc::{AllocError, Allocator};
 use std::cmp::Ordering;
 use std::mem;
@@ -277,10 +277,6 @@ pub(crate) fn insert_at<T: Drop, A: Allocator + Clone + Drop>(
 }
 
 /// Puts an entry after all others, of which the last are not among the chunks yet.
-///
-/// # Errors
-///
-/// An allocation failed.
 pub(crate) fn append<T: Drop, A: Allocator + Clone + Drop>(
     chunks: &mut Vec<Vec<T, A>, A>,
     last: &mut Vec<T, A>,
@@ -306,10 +302,6 @@ pub(crate) fn append<T: Drop, A: Allocator + Clone + Drop>(
 }
 
 /// The chunks with the last entries, which `append` left beside them.
-///
-/// # Errors
-///
-/// An allocation failed.
 pub(crate) fn with_last<T: Drop, A: Allocator + Drop>(
     mut chunks: Vec<Vec<T, A>, A>,
     last: Vec<T, A>,

@@ -1,9 +1,50 @@
-//! The abbreviations of the first keys of chunks.
+//! Numbers instead of keys, by which a search begins.
 ghost use Rattle.std.specs.Prelude.{◌<◌, ◌≤◌, vec_len, vec_capacity};
 
-use crate::abbreviated::Abbreviated;
 use crate::places::{MOST_IN_CHUNK, Place};
+use iv_text::Record;
 use std::alloc::{AllocError, Allocator};
+
+/// A key with a number for a first guess of where it is.
+///
+/// Of two keys the lesser one should have no greater number, and keys that lie apart different ones. Only the time of a search rests on
+/// it: whatever the numbers are, a search finds the same.
+pub trait Abbreviated {
+    /// The number.
+    fn abbreviation(&self) -> u64;
+}
+
+/// A number of 64 bits with these as its upper and its lower half.
+fn halves(upper: u32, lower: u32) -> u64 {
+    ((upper as u64) << 32) | lower as u64
+}
+
+impl Abbreviated for u32 {
+    fn abbreviation(&self) -> u64 {
+        *self as u64
+    }
+}
+
+impl Abbreviated for (u32, u32) {
+    fn abbreviation(&self) -> u64 {
+        halves(self.0, self.1)
+    }
+}
+
+/// The last bit of the second number gives way to the strand.
+impl Abbreviated for (u32, bool, u32) {
+    fn abbreviation(&self) -> u64 {
+        let lower = self.2 / 2;
+        halves(self.0, if self.1 { lower + 2_147_483_648 } else { lower })
+    }
+}
+
+/// Its sequence and its start.
+impl<A: Allocator> Abbreviated for Record<A> {
+    fn abbreviation(&self) -> u64 {
+        ((self.seq() as u64) << 32) | self.start()
+    }
+}
 
 /// The abbreviations of the first keys of chunks, side by side, so that a search for a chunk stays in few lines of memory.
 ///
@@ -20,10 +61,6 @@ impl<A: Allocator + Clone + Drop> Starts<A> {
     }
 
     /// Those of these chunks.
-    ///
-    /// # Errors
-    ///
-    /// An allocation failed.
     pub(crate) fn of<K: Abbreviated, V>(
         alloc: A,
         chunks: &[Vec<(K, V), A>],
@@ -46,10 +83,6 @@ impl<A: Allocator + Clone + Drop> Starts<A> {
     }
 
     /// Makes room for one more if an entry at this place will make a new chunk.
-    ///
-    /// # Errors
-    ///
-    /// An allocation failed.
     pub(crate) fn make_room<T>(
         &mut self,
         chunks: &Vec<Vec<T, A>, A>,

@@ -66,10 +66,6 @@ impl<A: Allocator + Copy> Track<A> {
     /// It is for callers outside this repository.
     ///
     /// The limit is at most 4,000,000 records. There are no more records than the limit, and each has the width.
-    ///
-    /// # Errors
-    ///
-    /// An allocation failed.
     pub fn from_records(
         alloc: A,
         width: u8,
@@ -88,10 +84,6 @@ impl<A: Allocator + Copy> Track<A> {
     /// soon as its records are in the map.
     ///
     /// The limit is at most 4,000,000 records. There are no more records than the limit, and each has the width.
-    ///
-    /// # Errors
-    ///
-    /// An allocation failed.
     pub fn from_batches(
         alloc: A,
         width: u8,

@@ -2,7 +2,7 @@ use Rattle.std.proofs.Common.{rules, arith, sym, ap, ◌∙◌, ◌≡◌, None,
 use Rattle.std.specs.Option.{option_map}
 use Rattle.std.specs.Map.Iter.{deref_pair}
 use Rattle.iv_track.proofs.MapLemmas.{entry_read, found_last, gap_no_last, gap_within, gap_last}
-use Rattle.iv_track.proofs.chunks.SortedChunks.at_or_before.Goals as goal
+use Rattle.iv_track.proofs.ledger.Ledger.at_or_before.Goals as goal
 
 pub returns-in_err-index-in-Err-clause-entry : goal.returns-in_err-index-in-Err-clause-entry
 returns-in_err-index-in-Err-clause-entry g c =

@@ -2,7 +2,7 @@ use Rattle.std.proofs.Common.{rules, arith, sym, ap, ◌∙◌, ◌≡◌, ◌++
 use Rattle.iv_track.specs.Chunks.{joined, before, from}
 use Rattle.iv_track.proofs.RoomLemmas.{always_on_err}
 use Rattle.iv_track.proofs.MapLemmas.{entry_read, found_value, written_insert, whole_written, whole_inserted, gap_value, gap_insert}
-use Rattle.iv_track.proofs.chunks.SortedChunks.insert.Goals as goal
+use Rattle.iv_track.proofs.ledger.Ledger.put.Goals as goal
 
 pub invariant_of-self : goal.invariant_of-self
 invariant_of-self g c = whole_written g.met.K.Ord.total c.in-Ok.ensures.found c.deref.ensures.value c.self.invariant.in_chunks c.self.view_is c.index_mut.ensures.value c.index_mut-in-Ok.ensures.value c.replace.ensures.after c.self.invariant

@@ -1,6 +1,6 @@
 use Rattle.std.proofs.Common.{refl, sym, ap, ◌∙◌, Some}
 use Rattle.iv_track.proofs.MapLemmas.{entry_read, found_value, written_set, whole_written, gap_value}
-use Rattle.iv_track.proofs.chunks.SortedChunks.set.Goals as goal
+use Rattle.iv_track.proofs.ledger.Ledger.set.Goals as goal
 
 pub invariant_of-self : goal.invariant_of-self
 invariant_of-self g c = whole_written g.met.K.Ord.total c.in-Ok.ensures.found c.deref.ensures.value c.self.invariant.in_chunks c.self.view_is c.index_mut.ensures.value c.index_mut-in-Ok.ensures.value c.replace.ensures.after c.self.invariant

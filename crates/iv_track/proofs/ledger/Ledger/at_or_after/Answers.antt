@@ -3,7 +3,7 @@ use Rattle.std.specs.Option.{option_map}
 use Rattle.std.specs.Map.Iter.{deref_pair}
 use Rattle.std.specs.Ordering.{is_le}
 use Rattle.iv_track.proofs.MapLemmas.{first_found}
-use Rattle.iv_track.proofs.chunks.SortedChunks.at_or_after.Goals as goal
+use Rattle.iv_track.proofs.ledger.Ledger.at_or_after.Goals as goal
 
 pub returns-in_err-entry-clause-entry : goal.returns-in_err-entry-clause-entry
 returns-in_err-entry-clause-entry g c = let none : c.from_residual.result ≡ None = search rules in ap (option_map deref_pair) none ∙ first_found c.deref-2.ensures.value c.deref.ensures.value c.self.view_is (λ e. is_le (g.K.Ord.cmp c.args.key.now e.0)) c.place_from-at.result c.place_from-at.ensures.entries c.in_err-entry.ensures

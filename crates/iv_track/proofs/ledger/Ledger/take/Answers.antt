@@ -1,6 +1,6 @@
 use Rattle.std.proofs.Common.{sym, ◌∙◌}
 use Rattle.iv_track.proofs.MapLemmas.{entry_taken, found_value, found_remove, some_entry, whole_removed, gap_value, gap_remove}
-use Rattle.iv_track.proofs.chunks.SortedChunks.remove.Goals as goal
+use Rattle.iv_track.proofs.ledger.Ledger.take.Goals as goal
 
 pub overflow_sub-self : goal.overflow_sub-self
 overflow_sub-self g c = some_entry (entry_taken g.met.K.Ord.total c.in-Ok.ensures.found c.deref.ensures.value c.self.invariant.in_chunks c.self.view_is c.remove_at-value.ensures.value) c.self.invariant

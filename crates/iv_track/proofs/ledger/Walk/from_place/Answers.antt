@@ -4,7 +4,7 @@ use Rattle.std.specs.List.{between}
 use Rattle.std.proofs.lemmas.Slice.{between_to_end}
 use Rattle.iv_track.specs.Chunks.{joined}
 use Rattle.iv_track.proofs.ChunkLemmas.{from_at}
-use Rattle.iv_track.proofs.chunks.Entries.from_place.Goals as goal
+use Rattle.iv_track.proofs.ledger.Walk.from_place.Goals as goal
 
 pub returns-in-Some : goal.returns-in-Some
 returns-in-Some g c =
