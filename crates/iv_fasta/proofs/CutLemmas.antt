@@ -13,7 +13,7 @@ use Rattle.iv_text.specs.Named.{names_of, place_of}
 use Rattle.iv_fasta.specs.Fasta.{Stretch, Found, with_bases}
 use Rattle.iv_fasta.specs.Places.{EndsWithin}
 use Rattle.iv_fasta.specs.Drafts.{sequence_at, Headed, end_at, end_before, cut, StartInOrder}
-use Rattle.iv_fasta.specs.declared.headers.Header.{Header}
+use Rattle.iv_fasta.specs.declared.fasta_draft.Header.{Header}
 
 -- a part of the front
 range-front : (xs ys : List ℕ) (a b : ℕ) → a ≤ b → b ≤ length xs → slice_range (xs ++ ys) a b ≡ slice_range xs a b

@@ -11,7 +11,7 @@ use Rattle.std.specs.Str.{bytes_eq}
 use Rattle.iv_text.specs.Genome.{Sequences}
 use Rattle.iv_fasta.specs.Fasta.{Stretch, Found, Bases, by_rank, bases_of}
 use Rattle.iv_fasta.specs.Places.{bases_at, placed, EndsWithin, IsPlacedWithin}
-use Rattle.iv_fasta.specs.declared.base_range.BaseRange.{BaseRange}
+use Rattle.iv_fasta.specs.declared.fasta_draft.BaseRange.{BaseRange}
 
 abbrev bases_under : Found → List ℕ → Option (List ℕ)
 bases_under found name = option_map (λ (f : Stretch). f.bases) (lookup (bytes_eq name) found)

@@ -8,8 +8,8 @@ use Rattle.iv_text.specs.Genome.{Sequences, rank_of}
 use Rattle.iv_text.specs.GenomeFile.{begins_with}
 use Rattle.iv_fasta.specs.Fasta.{Stretch, Found, header_sign, is_no_base, header_name, with_header, with_bases}
 use Rattle.iv_fasta.specs.Places.{bases_at}
-use Rattle.iv_fasta.specs.declared.base_range.BaseRange.{BaseRange}
-use Rattle.iv_fasta.specs.declared.headers.Header.{Header}
+use Rattle.iv_fasta.specs.declared.fasta_draft.BaseRange.{BaseRange}
+use Rattle.iv_fasta.specs.declared.fasta_draft.Header.{Header}
 use Rattle.iv_text.specs.declared.fault.LoadCause.{LoadCause}
 use Rattle.iv_text.specs.declared.fault.LoadCause.TheVariants as cause
 use Rattle.iv_text.specs.declared.fault.LoadFault.{LoadFault}

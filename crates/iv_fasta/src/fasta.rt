@@ -4,8 +4,7 @@ ghost use Rattle.std.specs.Option.{is_some, option_map, option_copied, unwrap_or
 ghost use Rattle.iv_text.specs.declared.fault.LoadCause.TheVariants as cause;
 ghost use Rattle.iv_fasta.specs.Fasta.{fasta_of, bases_of, HasLengthsOf};
 
-use crate::base_range::BaseRange;
-use crate::fasta_draft::FastaDraft;
+use crate::fasta_draft::{BaseRange, FastaDraft};
 use iv_text::{Genome, LoadCause, LoadFault};
 use std::alloc::{Allocator, Global};
 use std::marker::Model;

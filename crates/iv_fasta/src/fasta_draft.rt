@@ -1,26 +1,198 @@
 //! What is kept of a FASTA file while it is read.
-ghost use Rattle.std.specs.Prelude.{All, false, ◌≡◌, ◌≤◌, ◌<◌, ◌+◌, ◌++◌, ◌⊎◌, [], cond, None, Ok, Err, OnOk, IfOk, IfErr, IfSome, length, take, slice_get, find};
+ghost use Rattle.std.specs.Prelude.{◌≡◌, ◌≤◌, ◌++◌, [], IsTrue, length, take, drop, All, false, ◌<◌, ◌+◌, ◌⊎◌, ◌∷◌, cond, None, Ok, Err, OnOk, OnErr, IfOk, IfErr, IfSome, slice_get, filter, find, fold};
+ghost use Rattle.std.specs.Hash.DefaultHasher.{initial, write};
+ghost use Rattle.std.specs.List.{list_any, before_first};
 ghost use Rattle.std.specs.Map.{lookup};
 ghost use Rattle.std.specs.Option.{option_map};
 ghost use Rattle.std.specs.Str.{bytes_eq};
+ghost use Rattle.iv_text.specs.GenomeFile.{begins_with};
 ghost use Rattle.iv_text.specs.Lines.{lines};
+ghost use Rattle.iv_text.specs.Named.{place_of};
+ghost use Rattle.iv_text.specs.declared.name_map.NameHasher.TheVariants as hasher;
 ghost use Rattle.iv_text.specs.declared.fault.LoadCause.TheVariants as cause;
-ghost use Rattle.iv_fasta.specs.Fasta.{Stretch, header_name, has_wrong_length, differs as differs_in, with_header, with_lengths, by_rank, bases_of};
+ghost use Rattle.iv_fasta.specs.Fasta.{header_sign, is_blank, is_no_base, Stretch, header_name, has_wrong_length, differs as differs_in, with_header, with_lengths, by_rank, bases_of};
 ghost use Rattle.iv_fasta.specs.Places.{bases_at, placed, EndsWithin, IsPlacedWithin};
-ghost use Rattle.iv_fasta.specs.Drafts.{cut, StartInOrder, StartInOrder-prop, sequence_at, drafted, headed, with_kept_line, after_kept_lines};
+ghost use Rattle.iv_fasta.specs.Drafts.{cut, end_at, StartInOrder, StartInOrder-prop, sequence_at, drafted, headed, with_kept_line, after_kept_lines};
 
-use crate::base_range::BaseRange;
-use crate::headers::{Header, Headers};
-use crate::kept_text::KeptText;
-use crate::line::{before_blank, has_no_base};
-use iv_text::{Genome, LoadCause, LoadFault, is_bad_name, split_line};
+use iv_text::{
+    AfterText, Genome, LoadCause, LoadFault, NameMap, is_bad_name, lines_of, split_line,
+};
 use std::alloc::{AllocError, Allocator};
+use std::hash::{DefaultHasher, Hasher};
+use std::marker::Model;
+
+/// Where the bases of a sequence lie among all that are kept.
+#[derive(Clone, Copy)]
+pub(crate) struct BaseRange {
+    pub(crate) start: usize,
+    pub(crate) stop: usize,
+}
+
+/// The text of a FASTA file while it is read: in front the bases that are kept of it, at its end what is still to be read.
+///
+/// So the bases take no memory of their own. Its model is the pair of both.
+#[derive(Drop)]
+pub(crate) struct KeptText<A: Allocator> {
+    bytes: Vec<u8, A>,
+    kept: usize,
+    read: usize,
+}
+
+impl<A: Allocator> Model for KeptText<A> {
+    ghost use Rattle.std.specs.Prelude.{take, drop, length, ◌≤◌};
+    ghost use Rattle.iv_fasta.specs.Drafts.{Halves};
+
+    ghost Value = { Halves };
+
+    ghost view = { λ t. record { kept = take t.kept t.bytes.items; coming = drop t.read t.bytes.items } };
+
+    ghost invariant = { λ t. (t.kept ≤ t.read) × (t.read ≤ length t.bytes.items) };
+}
+
+impl<A: Allocator> KeptText<A> {
+    /// A text of which nothing was read.
+    pub(crate) fn of(bytes: Vec<u8, A>) -> Self
+        ensures { result ≡ record { kept = []; coming = bytes.items } }
+    {
+        KeptText {
+            bytes,
+            kept: 0,
+            read: 0,
+        }
+    }
+
+    /// How many bases are kept.
+    pub(crate) fn count(&self) -> usize
+        ensures { result ≡ length self.now.kept }
+    {
+        self.kept
+    }
+
+    /// What is still to be read.
+    pub(crate) fn coming(&self) -> &[u8]
+        ensures { result.now ≡ self.now.coming }
+    {
+        &self.bytes[self.read..]
+    }
+
+    /// Reads so many bytes, of which so many in front are kept.
+    pub(crate) fn read(&mut self, bytes: usize, kept: usize)
+        requires front { kept ≤ bytes }
+        requires within { bytes ≤ length self.old.coming }
+        ensures kept { self.new.kept ≡ self.old.kept ++ take kept self.old.coming }
+        ensures coming { self.new.coming ≡ drop bytes self.old.coming }
+    {
+        self.bytes
+            .copy_within(self.read..self.read + kept, self.kept);
+        self.kept += kept;
+        self.read += bytes;
+    }
+
+    /// The bases that are kept. The memory of the rest is given back.
+    pub(crate) fn into_kept(self) -> Vec<u8, A>
+        ensures { result.items ≡ self.kept }
+    {
+        let KeptText {
+            mut bytes,
+            kept,
+            ..
+        } = self;
+        bytes.truncate(kept);
+        bytes.shrink_to_fit();
+        bytes
+    }
+}
+
+/// Whether a name ends before this byte.
+fn ends_name(b: u8) -> bool
+    ensures { result ≡ is_blank b }
+{
+    b == b' ' || b == b'\t'
+}
+
+/// What is before the first space or TAB of a text, or all of it.
+pub(crate) fn before_blank(text: &[u8]) -> &[u8]
+    ensures { result.now ≡ before_first is_blank text.now }
+{
+    for (at, b) in text.iter().enumerate() {
+        if ends_name(*b) {
+            return &text[..at];
+        }
+    }
+    text
+}
+
+/// Whether some byte is no base. It looks at all of them, so that the compiler looks at many in one step.
+pub(crate) fn has_no_base(line: &[u8]) -> bool
+    ensures { result ≡ list_any is_no_base line.now }
+{
+    let mut found = false;
+    for b in line {
+        found = found | (*b < 33 || *b > 126);
+    }
+    found
+}
+
+/// How many names are hashed before the next headers are looked at. So few take no time, whether or not they collide.
+const FEW: usize = 1000;
+
+/// A header: the number of its line, and where the bases after it start among all that are kept.
+#[derive(Clone, Copy)]
+pub(crate) struct Header {
+    line: u64,
+    start: usize,
+}
+
+/// For names that are hashed after all headers of a text.
+fn after_headers(text: &[u8]) -> AfterText
+    ensures { result.begun ≡ hasher.Seeded (fold write initial (filter (begins_with header_sign) (lines text.now))) }
+{
+    let mut begun = DefaultHasher::new();
+    for line in lines_of(text) {
+        if !line.is_empty() && line[0] == b'>' {
+            begun.write(line);
+        }
+    }
+    AfterText::begun(begun)
+}
+
+/// Adds a header at the end, if a text begins with it that has all those after it. After a fault the headers are as before.
+fn push_header<A: Allocator + Copy>(
+    headers: &mut NameMap<Header, A>,
+    alloc: A,
+    name: &[u8],
+    header: Header,
+    text: &[u8],
+) -> Result<(), AllocError>
+    requires fresh { place_of headers.old name.now ≡ None }
+    ensures ok { OnOk result (headers.new ≡ headers.old ++ (name.now, header) ∷ []) }
+    ensures err { OnErr result (headers.new ≡ headers.old) }
+{
+    if headers.len() == FEW {
+        headers.rehash(alloc, after_headers(text))?;
+    }
+    headers.push(alloc, name, header)
+}
+
+/// Where the bases before the header at a place end, of so many bases in all.
+fn end_before<A: Allocator + Copy>(
+    headers: &NameMap<Header, A>,
+    place: usize,
+    total: usize,
+) -> usize
+    ensures { result ≡ end_at (slice_get headers.now place) total }
+{
+    match headers.at(place) {
+        Some((_, header)) => header.start,
+        None => total,
+    }
+}
 
 /// What is kept of a FASTA file while it is read: its headers, and the bases of the sequences that the
 /// genome names, one after another in the front of its text.
 #[derive(Drop)]
 pub(crate) struct FastaDraft<A: Allocator> {
-    pub(crate) headers: Headers<A>,
+    headers: NameMap<Header, A>,
     pub(crate) text: KeptText<A>,
     named: bool,
     ghost in_order: { StartInOrder 0 headers (length text.kept) } by { StartInOrder-prop 0 headers (length text.kept) },
@@ -43,7 +215,7 @@ impl<A: Allocator + Copy> FastaDraft<A> {
         ensures coming { result.text.coming ≡ text.items }
     {
         FastaDraft {
-            headers: Headers::new(alloc),
+            headers: NameMap::new(alloc, AfterText::of(b"")),
             text: KeptText::of(text),
             named: false,
         }
@@ -118,7 +290,7 @@ impl<A: Allocator + Copy> FastaDraft<A> {
             line: number,
             start,
         };
-        self.headers.push(alloc, name, header, self.text.coming())?;
+        push_header(&mut self.headers, alloc, name, header, self.text.coming())?;
         self.named = genome.rank(name).is_some();
         Ok(())
     }
@@ -145,7 +317,7 @@ impl<A: Allocator + Copy> FastaDraft<A> {
     {
         let (name, header) = self.headers.at(place)?;
         let start = header.start;
-        let stop = self.headers.end_before(place + 1, self.text.count());
+        let stop = end_before(&self.headers, place + 1, self.text.count());
         Some((name, header.line, BaseRange { start, stop }))
     }
 

@@ -10,16 +10,16 @@ pub returns-in-Some-sequence-clause-value : goal.returns-in-Some-sequence-clause
 returns-in-Some-sequence-clause-value g c =
     let self = c.args.self.now in
     sym (ap (option_map (λ (s : Stretch). s.bases)) (lookup-at (cut self.headers self.text.kept) c.args.name.now c.in-Some.place _
-    (place-cut self.headers self.text.kept c.args.name.now ∙ sym c.in-Some.ensures) (sym c.in-Some-sequence.ensures.value)))
+    (place-cut self.headers self.text.kept c.args.name.now ∙ sym c.in-Some.ensures.value) (sym c.in-Some-sequence.ensures.value)))
 
 pub returns-in-None-sequence-clause-value : goal.returns-in-None-sequence-clause-value
 returns-in-None-sequence-clause-value g c =
     let self = c.args.self.now in
     absurd (place-there (cut self.headers self.text.kept) c.args.name.now c.in-Some.place
-    (place-cut self.headers self.text.kept c.args.name.now ∙ sym c.in-Some.ensures) (sym c.in-None-sequence.ensures.value))
+    (place-cut self.headers self.text.kept c.args.name.now ∙ sym c.in-Some.ensures.value) (sym c.in-None-sequence.ensures.value))
 
 pub returns-in-None-clause-value : goal.returns-in-None-clause-value
 returns-in-None-clause-value g c =
     let self = c.args.self.now in
     sym (ap (option_map (λ (s : Stretch). s.bases)) (unnamed (cut self.headers self.text.kept) c.args.name.now
-    (place-cut self.headers self.text.kept c.args.name.now ∙ sym c.in-None.ensures)))
+    (place-cut self.headers self.text.kept c.args.name.now ∙ sym c.in-None.ensures.value)))

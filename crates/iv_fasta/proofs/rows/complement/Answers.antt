@@ -1,5 +1,5 @@
 use Rattle.iv_fasta.proofs.ComplementLemmas.{table, table-at}
-use Rattle.iv_fasta.proofs.base.complement.Goals as goal
+use Rattle.iv_fasta.proofs.rows.complement.Goals as goal
 
 pub returns : goal.returns
 unfolding table

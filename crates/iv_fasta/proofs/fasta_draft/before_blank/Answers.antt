@@ -3,7 +3,7 @@ use Rattle.std.proofs.lemmas.List.{take_all}
 use Rattle.std.proofs.lemmas.List.Sums.{position_or_len_is}
 use Rattle.std.specs.List.{position_or_len}
 use Rattle.iv_fasta.specs.Fasta.{is_blank}
-use Rattle.iv_fasta.proofs.line.before_blank.Goals as goal
+use Rattle.iv_fasta.proofs.fasta_draft.before_blank.Goals as goal
 
 pub returns-then-ends_name : goal.returns-then-ends_name
 returns-then-ends_name c =

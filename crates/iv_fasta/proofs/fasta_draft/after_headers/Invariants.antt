@@ -4,7 +4,7 @@ use Rattle.std.specs.List.{fold}
 use Rattle.iv_text.specs.GenomeFile.{begins_with}
 use Rattle.iv_text.specs.Lines.{lines}
 use Rattle.iv_fasta.specs.Fasta.{header_sign}
-use Rattle.iv_fasta.proofs.headers.after_headers.Given as goal
+use Rattle.iv_fasta.proofs.fasta_draft.after_headers.Given as goal
 
 abbrev pub invariant-loop-line : goal.invariant-loop-line
 invariant-loop-line l = fold write l.begun (filter (begins_with header_sign) l.line-iterator) ≡ fold write initial (filter (begins_with header_sign) (lines l.text))

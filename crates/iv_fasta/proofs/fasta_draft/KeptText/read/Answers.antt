@@ -1,7 +1,7 @@
 use Rattle.std.proofs.Common.{◌∙◌, ap, arith, length, length-drop, drop}
 use Rattle.iv_fasta.specs.Drafts.{Halves}
 use Rattle.iv_fasta.proofs.HalvesLemmas.{coming-less}
-use Rattle.iv_fasta.proofs.kept_text.KeptText.read.Goals as goal
+use Rattle.iv_fasta.proofs.fasta_draft.KeptText.read.Goals as goal
 
 pub returns-clause-coming : goal.returns-clause-coming
 returns-clause-coming g c =
