@@ -1,7 +1,7 @@
 use Rattle.std.proofs.Common.{◌≡◌, [], ◌<◌, ◌^◌, length}
 use Rattle.iv_text.specs.Ordered.{AreInOrder}
 use Rattle.iv_pair.specs.Hits.{hits}
-use Rattle.iv_pair.proofs.active_hits.ActiveHitsIterator.next.Given as goal
+use Rattle.iv_pair.proofs.pair_sweep.ActiveHitsIterator.next.Given as goal
 
 -- the records left are in order and few, and the hits among them are all that were left
 abbrev pub invariant-loop-row : goal.invariant-loop-row

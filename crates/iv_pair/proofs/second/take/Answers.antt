@@ -5,7 +5,7 @@ use Rattle.iv_track.specs.Tracked.{Tracked}
 use Rattle.iv_pair.specs.Lengths.{AreLengths}
 use Rattle.iv_pair.proofs.LengthLemmas.{AreLengths-removed, counted-there}
 use Rattle.iv_track.specs.Entries.{pair_cmp}
-use Rattle.iv_pair.proofs.counted_edits.take.Goals as goal
+use Rattle.iv_pair.proofs.second.take.Goals as goal
 
 pub lower-requires-clause-there : goal.lower-requires-clause-there
 lower-requires-clause-there g c =

@@ -7,7 +7,7 @@ use Rattle.iv_track.specs.Tracked.{Tracked}
 use Rattle.iv_pair.specs.Lengths.{AreLengths}
 use Rattle.iv_pair.proofs.LengthLemmas.{AreLengths-room, AreLengths-added, AreLengths-back, absent-uncounted, raised-there}
 use Rattle.iv_track.specs.Entries.{pair_cmp}
-use Rattle.iv_pair.proofs.counted_edits.stage.Goals as goal
+use Rattle.iv_pair.proofs.second.stage.Goals as goal
 
 pub raise-requires-clause-room : goal.raise-requires-clause-room
 raise-requires-clause-room g c =

@@ -4,7 +4,7 @@ use Rattle.arrayvec.proofs.ArrayVecLemmas.{filter-from_retain}
 use Rattle.iv_text.specs.Covering.{covers}
 use Rattle.iv_pair.specs.HitFinder.{held, keeps}
 use Rattle.iv_pair.proofs.CarryLemmas.{held-filter}
-use Rattle.iv_pair.proofs.carried.Carried.keep.Goals as goal
+use Rattle.iv_pair.proofs.hit_finder.Carried.keep.Goals as goal
 
 pub returns : goal.returns
 returns g c =

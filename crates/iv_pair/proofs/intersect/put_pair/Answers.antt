@@ -1,5 +1,5 @@
 use Rattle.iv_bytes.proofs.Putting.{Puts-back, Puts-err, FailsIn-front}
-use Rattle.iv_pair.proofs.lines.put_pair.Goals as goal
+use Rattle.iv_pair.proofs.intersect.put_pair.Goals as goal
 
 pub returns-in_err-put_record : goal.returns-in_err-put_record
 returns-in_err-put_record g c =

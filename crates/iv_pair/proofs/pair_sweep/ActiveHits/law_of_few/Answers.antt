@@ -2,7 +2,7 @@ use Rattle.std.proofs.Common.{List, length, ap, arith, length-append}
 use Rattle.iv_text.specs.Row.{Row}
 use Rattle.iv_pair.specs.Hits.{overlaps, hits}
 use Rattle.iv_pair.proofs.HitsLemmas.{length-filter_le}
-use Rattle.iv_pair.proofs.active_hits.ActiveHits.law_of_few.Goals as goal
+use Rattle.iv_pair.proofs.pair_sweep.ActiveHits.law_of_few.Goals as goal
 
 pub returns : goal.returns
 returns c =

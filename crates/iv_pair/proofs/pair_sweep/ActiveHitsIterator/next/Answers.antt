@@ -3,7 +3,7 @@ use Rattle.iv_text.specs.Ordered.{AreInOrder}
 use Rattle.iv_text.specs.Row.{Row}
 use Rattle.iv_pair.specs.Hits.{hits}
 use Rattle.iv_pair.proofs.HitsLemmas.{hit_not, hits_beyond}
-use Rattle.iv_pair.proofs.active_hits.ActiveHitsIterator.next.Goals as goal
+use Rattle.iv_pair.proofs.pair_sweep.ActiveHitsIterator.next.Goals as goal
 
 pub returns-then-is_from-clause-steps : goal.returns-then-is_from-clause-steps
 returns-then-is_from-clause-steps c =

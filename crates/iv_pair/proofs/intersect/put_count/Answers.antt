@@ -1,6 +1,6 @@
 use Rattle.std.proofs.Common.{◌≡◌, ◌++◌, ◌∙◌, List, ℕ, codes, decimal, append_assoc, sym}
 use Rattle.iv_text.specs.RecordText.{record_text}
-use Rattle.iv_pair.proofs.lines.put_count.Goals as goal
+use Rattle.iv_pair.proofs.intersect.put_count.Goals as goal
 
 pub returns : goal.returns
 returns g c = λ found many.
