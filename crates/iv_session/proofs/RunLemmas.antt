@@ -21,8 +21,8 @@ use Rattle.iv_session.specs.Running.{AsksToPrint, Ends, Runs, RunsLast, DoesAske
 use Rattle.iv_session.specs.Scripts.{RanLine, FailedLine, Tells, refusals_of}
 use Rattle.iv_session.specs.declared.request.Request.{Request}
 use Rattle.iv_session.specs.declared.request.Request.TheVariants as request
-use Rattle.iv_session.specs.declared.running.Outcome.{Outcome}
-use Rattle.iv_session.specs.declared.running.Outcome.TheVariants as outcome
+use Rattle.iv_session.specs.declared.line.Outcome.{Outcome}
+use Rattle.iv_session.specs.declared.line.Outcome.TheVariants as outcome
 use Rattle.iv_session.specs.declared.script.RunCause.{RunCause}
 use Rattle.iv_session.specs.declared.script.RunCause.TheVariants as cause
 use Rattle.iv_workspace.proofs.OpenViewLemmas.{freshens-same, freshens-all, freshens-one}

@@ -2,8 +2,8 @@
 use Rattle.std.specs.Prelude.{◌≡◌, List}
 use Rattle.iv_text.specs.Ordered.{added}
 use Rattle.iv_text.specs.Row.{Row}
-use Rattle.iv_workspace.specs.declared.open_view.Change.{Change}
-use Rattle.iv_workspace.specs.declared.open_view.Change.TheVariants.{Added, Removed}
+use Rattle.iv_workspace.specs.declared.views.states.Change.{Change}
+use Rattle.iv_workspace.specs.declared.views.states.Change.TheVariants.{Added, Removed}
 
 -- the records before and after: one of the two is the other with one more copy of r
 abbrev pub IsChanged : Change → Row → List Row → List Row → Type 0
