@@ -2,7 +2,7 @@
 ghost use Rattle.std.specs.Prelude.{◌≡◌, ◌+◌, ◌-◌, ◌<◌, ◌≤◌, ◌^◌, ◌++◌, ◌∷◌, [], length, filter, true, false};
 ghost use Rattle.iv_text.specs.Covering.{covers};
 ghost use Rattle.iv_text.specs.Ordered.{AreInOrder};
-ghost use Rattle.iv_pair.specs.HitFinder.{AllCover, AllBegun, HitAlike, IsOnward, IsPlaced, held, keeps};
+ghost use Rattle.iv_pair.specs.HitFinder.{AllCover, HitAlike, IsOnward, held, keeps};
 ghost use Rattle.iv_pair.specs.Hits.{hits};
 ghost use Rattle.iv_pair.specs.Lengths.{AreUpTo};
 

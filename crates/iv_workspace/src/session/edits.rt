@@ -1,5 +1,5 @@
 //! Edits of the two tracks of a session: of its own, and of the second file.
-ghost use Rattle.std.specs.Prelude.{◌≡◌, ◌+◌, ◌≤◌, ◌<◌, ◌↔◌, ◌⊎◌, None, Some, length, false, IsTrue, IfOk, IfErr, IfSome, OnOk, OnErr, Ok, Err};
+ghost use Rattle.std.specs.Prelude.{◌≡◌, ◌≤◌, ◌↔◌, None, Some, false, IsTrue, IfOk, IfErr, IfSome, OnErr, Ok, Err};
 ghost use Rattle.iv_text.specs.Read.{Fits};
 ghost use Rattle.iv_workspace.specs.Edits.{EditFits, FitsIn, IsDone, RefusesIn, read_second, width_of};
 ghost use Rattle.iv_workspace.specs.OpenViews.{stale_count};

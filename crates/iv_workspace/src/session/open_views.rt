@@ -1,5 +1,5 @@
 //! The open views under their names: opened, printed and closed.
-ghost use Rattle.std.specs.Prelude.{◌≡◌, ◌+◌, ◌<◌, None, Some, All, map, false, not, IsSome, IfErr, OnOk, OnErr, MatchOption, Ok, Err};
+ghost use Rattle.std.specs.Prelude.{◌≡◌, ◌+◌, ◌<◌, None, Some, All, map, false, not, IsSome, IfErr, OnOk, OnErr, MatchOption, MatchResult, Ok, Err};
 ghost use Rattle.iv_bytes.specs.Sinks.{Puts};
 ghost use Rattle.iv_text.specs.Read.{read};
 ghost use Rattle.iv_workspace.specs.OpenViews.{stale_count};
@@ -38,6 +38,16 @@ fn put_heading<S: Sink>(sink: &mut S, name: &[u8]) -> Result<(), WriteFault>
     ensures { Puts (S.state sink.old) (S.state sink.new) result (heading name.now) }
 {
     put_pieces(sink, &[b"#", name, b"\n"])
+}
+
+/// What a print answers whose text was put.
+fn answer_of(put: Result<(), WriteFault>) -> Result<(), PrintFault>
+    ensures { MatchResult put (λ done. result ≡ Ok done) (λ fault. result ≡ Err PrintFault.Write) }
+{
+    match put {
+        Ok(()) => Ok(()),
+        Err(_) => Err(PrintFault::Write),
+    }
 }
 
 impl<A: Allocator + Copy> Session<A> {
@@ -146,8 +156,7 @@ impl<A: Allocator + Copy> Session<A> {
         let (track, genome) = (&self.track, &self.genome);
         self.views
             .put(view, track, second, fasta, genome, meter, &mut buffer)?;
-        buffer.finish()?;
-        Ok(())
+        answer_of(buffer.finish())
     }
 
     /// Prints all views in order of opening, each under a line `#NAME`. Stale views are rebuilt before the first
@@ -182,8 +191,7 @@ impl<A: Allocator + Copy> Session<A> {
             .refresh_all(self.alloc, &self.track, &self.genome, meter)?;
         let mut buffer = Buffered::new(sink);
         self.put_views(meter, &mut buffer)?;
-        buffer.finish()?;
-        Ok(())
+        answer_of(buffer.finish())
     }
 
     /// Puts the headings and texts of all views, which are current.
