@@ -3,7 +3,7 @@ ghost use Rattle.std.specs.Prelude.{◌≡◌, ◌+◌, ◌<◌, None, Some, All
 ghost use Rattle.iv_bytes.specs.Sinks.{Puts};
 ghost use Rattle.iv_text.specs.Read.{read};
 ghost use Rattle.iv_workspace.specs.OpenViews.{stale_count};
-ghost use Rattle.iv_workspace.specs.Prints.{PrintedView, PrintedAll, NamedPrintsWithin, AllPrintWithin};
+ghost use Rattle.iv_workspace.specs.Prints.{PrintedNamed, PrintedAll, NamedPrintsWithin, AllPrintWithin};
 ghost use Rattle.iv_workspace.specs.States.{without_view};
 ghost use Rattle.iv_workspace.specs.Views.{all_text, heading, is_view_name as is_name, view_named, RefusesOpen, Opens};
 
@@ -118,9 +118,7 @@ impl<A: Allocator + Copy> Session<A> {
     /// `NoView` exactly if none is open, and `NoMemory` only for a stale view, which stays stale: then nothing was
     /// written. `Write`, and then a prefix was.
     pub fn print_view<S: Sink>(&mut self, name: &[u8], sink: &mut S) -> Result<(), PrintFault>
-        ensures { MatchOption (view_named self.old.views name.now)
-            ((result ≡ Err (PrintFault.Refused Fault.NoView)) × (S.state sink.new ≡ S.state sink.old) × (self.new ≡ self.old))
-            (λ v. PrintedView self.old name.now v self.new (S.state sink.old) (S.state sink.new) result) }
+        ensures { PrintedNamed self.old name.now self.new (S.state sink.old) (S.state sink.new) result }
     {
         self.print_view_counted(name, &mut Meter::new(), sink)
     }
@@ -140,9 +138,7 @@ impl<A: Allocator + Copy> Session<A> {
         meter: &mut Meter,
         sink: &mut S,
     ) -> Result<(), PrintFault>
-        ensures printed { MatchOption (view_named self.old.views name.now)
-            ((result ≡ Err (PrintFault.Refused Fault.NoView)) × (S.state sink.new ≡ S.state sink.old) × (self.new ≡ self.old))
-            (λ v. PrintedView self.old name.now v self.new (S.state sink.old) (S.state sink.new) result) }
+        ensures printed { PrintedNamed self.old name.now self.new (S.state sink.old) (S.state sink.new) result }
         ensures steps { NamedPrintsWithin (view_named self.old.views name.now) self.old.genome self.old.track.rows meter.old meter.new }
     {
         let Some(view) = self

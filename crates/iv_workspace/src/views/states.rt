@@ -6,9 +6,8 @@ ghost use Rattle.iv_text.specs.Read.{Fits};
 ghost use Rattle.iv_text.specs.Row.{Row};
 ghost use Rattle.iv_track.specs.Steps.{TakesUpTo};
 ghost use Rattle.iv_view.specs.KeptStates.{built_for, state_key_of, IsRight, repair_steps};
-ghost use Rattle.iv_workspace.specs.Changes.{WasRight, with_edited};
 ghost use Rattle.iv_workspace.specs.OpenViews.{Stales, all_steps};
-ghost use Rattle.iv_workspace.specs.ViewStates.{AreMarked, AreOwnRight, AreRepaired, AreRight, HaveStates, IsKept, IsMissing, IsOwned, IsOwnRight, IsRepaired, NoneNeeds, all_owned, all_seen, kept_with, owned};
+ghost use Rattle.iv_workspace.specs.ViewStates.{AreMarked, AreOwnRight, AreRepaired, AreRight, HaveStates, IsKept, IsMissing, IsOwned, IsOwnRight, IsRepaired, NoneNeeds, WasRight, all_owned, all_seen, kept_with, owned, with_edited};
 
 use super::{OpenView, Views};
 use iv_cover::Kept;
@@ -24,28 +23,6 @@ pub(crate) enum Change {
     Added,
     /// A copy of a record was taken out.
     Removed,
-}
-
-/// Repairs a state after an edit of the track. After a refusal it must be rebuilt.
-fn repair_state<A: Allocator + Copy>(
-    state: &mut KeptState<A>,
-    change: Change,
-    track: &Track<A>,
-    genome: &Genome<A>,
-    row: &RecordRef<'_>,
-    meter: &mut Meter,
-) -> Result<(), AllocError>
-    requires right { WasRight change (λ s rows. IsRight s (names_of genome.now) rows) state.old track.now.rows row.now }
-    requires fit { All (Fits genome.now track.now.width) track.now.rows }
-    requires fits { Fits genome.now track.now.width row.now }
-    ensures right { OnOk result (IsRight state.new (names_of genome.now) track.now.rows) }
-    ensures built_for { OnOk result (built_for state.new ≡ built_for state.old) }
-    ensures steps { TakesUpTo meter.old meter.new (repair_steps (built_for state.old) (with_edited change track.now.rows row.now) row.now) }
-{
-    match change {
-        Change::Added => state.added(track, genome, row, meter),
-        Change::Removed => state.removed(track, genome, row, meter),
-    }
 }
 
 impl<A: Allocator + Copy> OpenView<A> {
@@ -118,6 +95,28 @@ impl<A: Allocator + Copy> OpenView<A> {
         }
         self.state = Some(state);
         true
+    }
+}
+
+/// Repairs a state after an edit of the track. After a refusal it must be rebuilt.
+fn repair_state<A: Allocator + Copy>(
+    state: &mut KeptState<A>,
+    change: Change,
+    track: &Track<A>,
+    genome: &Genome<A>,
+    row: &RecordRef<'_>,
+    meter: &mut Meter,
+) -> Result<(), AllocError>
+    requires right { WasRight change (λ s rows. IsRight s (names_of genome.now) rows) state.old track.now.rows row.now }
+    requires fit { All (Fits genome.now track.now.width) track.now.rows }
+    requires fits { Fits genome.now track.now.width row.now }
+    ensures right { OnOk result (IsRight state.new (names_of genome.now) track.now.rows) }
+    ensures built_for { OnOk result (built_for state.new ≡ built_for state.old) }
+    ensures steps { TakesUpTo meter.old meter.new (repair_steps (built_for state.old) (with_edited change track.now.rows row.now) row.now) }
+{
+    match change {
+        Change::Added => state.added(track, genome, row, meter),
+        Change::Removed => state.removed(track, genome, row, meter),
     }
 }
 
