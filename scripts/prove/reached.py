@@ -35,7 +35,7 @@ class Names:
                 name, _, other = item.partition(" as ")
                 if module.startswith("declared."):
                     parts = [part for part in module.split(".")[2:] if part not in ("TheVariants", "TheConstants")]
-                    self.of[other or name] = ("src", crate, parts[0] if parts else name)
+                    self.of[other or name] = ("src", crate, parts[-1] if parts else name)
                 elif listed:
                     self.of[other or name] = ("spec", crate, module.split(".")[0], name)
                 else:

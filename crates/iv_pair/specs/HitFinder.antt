@@ -18,9 +18,11 @@ abbrev pub keeps : {K : Type 0} → (K → Bool) → Option (Bor K) → Bool
 keeps p None = false
 keeps p (Some k) = p k.now
 
--- the records of the second file, and the hits of the interval that was sought last
+-- the records of the second file, where the search is, and the hits of the interval that was sought last
 pub record Finding : Type 0 where
   pub records : List Row
+  pub seq : ℕ
+  pub start : ℕ
   pub found : List Row
 
 -- the place t of sequence s is this place or after it

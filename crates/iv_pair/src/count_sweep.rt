@@ -8,7 +8,7 @@ ghost use Rattle.iv_pair.specs.PairRows.{pair_text};
 ghost use Rattle.iv_pair.specs.declared.intersect.IntersectRows.TheVariants.{Count};
 ghost use Rattle.iv_pair.specs.declared.pair_rows.PairRows.TheVariants.{Intersect};
 
-use crate::lines::put_count;
+use crate::intersect::put_count;
 use iv_bytes::{Sink, WriteFault};
 use iv_index::{Place, TextRecords};
 use iv_text::{BedRecord, Genome};
@@ -42,10 +42,6 @@ impl<'t, A: Allocator> Model for CountSweep<'t, A> {
 
 impl<'t, A: Allocator + Copy> CountSweep<'t, A> {
     /// The sweep over two lists. It takes all the memory that it needs.
-    ///
-    /// # Errors
-    ///
-    /// An allocation failed.
     pub fn new(
         alloc: A,
         first: &TextRecords<'t>,

@@ -1,16 +1,21 @@
 //! The hits of one interval after another.
-ghost use Rattle.std.specs.Prelude.{◌≡◌, ◌+◌, ◌-◌, ◌<◌, ◌≤◌, ◌^◌, ◌++◌, [], length, filter, true, false};
+ghost use Rattle.std.specs.Prelude.{◌≡◌, ◌+◌, ◌-◌, ◌<◌, ◌≤◌, ◌^◌, ◌++◌, ◌∷◌, [], length, filter, true, false};
+ghost use Rattle.iv_text.specs.Covering.{covers};
 ghost use Rattle.iv_text.specs.Ordered.{AreInOrder};
-ghost use Rattle.iv_pair.specs.HitFinder.{AllCover, AllBegun, HitAlike, IsOnward, IsPlaced};
+ghost use Rattle.iv_pair.specs.HitFinder.{AllCover, HitAlike, IsOnward, held, keeps};
 ghost use Rattle.iv_pair.specs.Hits.{hits};
 ghost use Rattle.iv_pair.specs.Lengths.{AreUpTo};
 
-use crate::carried::{Carried, covers};
 use crate::hits::{Hits, is_from};
 use crate::second::{Second, first_start};
+use arrayvec::ArrayVec;
+use iv_text::{BedRecord, Record};
 use iv_track::{Meter, Rows};
 use std::alloc::Allocator;
 use std::marker::Model;
+
+/// How many records are carried at most.
+const MOST_CARRIED: usize = 64;
 
 /// The hits of one interval after another.
 ///
@@ -38,7 +43,7 @@ impl<'a, A: Allocator + Copy> Model for HitFinder<'a, A> {
 
     ghost Value = { Finding };
 
-    ghost view = { λ f. record { records = f.second.now.rows; found = f.carried ++ hits f.rows f.seq f.start f.stop } };
+    ghost view = { λ f. record { records = f.second.now.rows; seq = f.seq; start = f.start; found = f.carried ++ hits f.rows f.seq f.start f.stop } };
 
     ghost invariant = { λ f. StandsAt f.second.now.rows f.carried f.rows f.seq f.start f.longest };
 }
@@ -66,30 +71,39 @@ impl<'a, A: Allocator + Copy> HitFinder<'a, A> {
         ensures found { self.new.found ≡ hits self.old.records seq start stop }
         ensures same { self.new.records ≡ self.old.records }
     {
-        let longest = self.longest_on(seq, meter);
-        let goes_on = is_onward(self.seq, self.start, seq, start);
-        place(
-            self.second,
-            &mut self.carried,
-            &mut self.rows,
-            goes_on,
-            seq,
-            start,
-            longest,
-            meter,
-        );
+        self.go_to(seq, start, meter);
         take_begun(
             &mut self.carried,
             &mut self.rows,
-            seq,
-            start,
+            self.seq,
+            self.start,
             u32::MAX,
             meter,
         );
+        self.stop = stop;
+    }
+
+    /// Goes to a place: on from where the search is, if that is near and not past it, and else from the root.
+    fn go_to(&mut self, seq: u32, start: u64, meter: &mut Meter)
+        requires { start < 2 ^ 64 - 1 }
+        ensures same { self.new.records ≡ self.old.records }
+        ensures there { (self.new.seq ≡ seq) × (self.new.start ≡ start) }
+    {
+        let longest = self.longest_on(seq, meter);
+        let from = first_start(start, longest);
+        let goes_on = is_onward(self.seq, self.start, seq, start);
         self.seq = seq;
         self.start = start;
-        self.stop = stop;
         self.longest = longest;
+        if goes_on {
+            self.carried.keep(seq, start);
+            take_begun(&mut self.carried, &mut self.rows, seq, start, 8, meter);
+            if begins_from(&self.rows, seq, from, meter) {
+                return;
+            }
+        }
+        self.carried.clear();
+        self.rows = self.second.walk(seq, from, meter);
     }
 
     /// The records that share a position with the interval that was sought last, as `Second::hits` gives them.
@@ -122,38 +136,6 @@ fn is_onward(seq: u32, at: u64, to_seq: u32, to: u64) -> bool
     ensures { result ≡ true → IsOnward seq at to_seq to }
 {
     seq < to_seq || seq == to_seq && at <= to
-}
-
-/// Begins a search at a place: it goes on from where the search is, if it may and the place is near, and else begins at
-/// the root.
-fn place<'a, A: Allocator + Copy>(
-    second: &'a Second<A>,
-    carried: &mut Carried<'a, A>,
-    rows: &mut Rows<'a, A>,
-    goes_on: bool,
-    seq: u32,
-    start: u64,
-    longest: u64,
-    meter: &mut Meter,
-)
-    requires start { start < 2 ^ 64 - 1 }
-    requires longest { AreUpTo seq longest second.now.rows }
-    requires ordered { AreInOrder rows.old }
-    requires few { length rows.old < 2 ^ 32 }
-    requires begun { goes_on ≡ true → AllBegun seq start carried.old }
-    requires alike { goes_on ≡ true → HitAlike seq start (carried.old ++ rows.old) second.now.rows }
-    ensures { IsPlaced second.now.rows carried.new rows.new seq start }
-{
-    let from = first_start(start, longest);
-    if goes_on {
-        carried.keep(seq, start);
-        take_begun(carried, rows, seq, start, 8, meter);
-        if begins_from(rows, seq, from, meter) {
-            return;
-        }
-    }
-    carried.clear();
-    *rows = second.walk(seq, from, meter);
 }
 
 /// Whether the first of the records is from a start on. If it does, to begin at the root would lead no further.
@@ -202,4 +184,85 @@ fn take_begun<'a, A: Allocator + Copy>(
         }
         *rows = ahead;
     }
+}
+
+/// A few records of the second file, in its order, on the stack: those that a search has passed and that reach past the place
+/// where it is.
+///
+/// Its model is their list.
+#[derive(Drop)]
+struct Carried<'a, A: Allocator + Copy> {
+    slots: ArrayVec<Option<&'a Record<A>>, MOST_CARRIED>,
+}
+
+impl<'a, A: Allocator + Copy> Model for Carried<'a, A> {
+    ghost use Rattle.std.specs.Prelude.{List};
+    ghost use Rattle.iv_text.specs.Row.{Row};
+    ghost use Rattle.iv_pair.specs.HitFinder.{held};
+
+    ghost Value = { List Row };
+
+    ghost view = { λ c. held c.slots.items };
+}
+
+impl<'a, A: Allocator + Copy> Carried<'a, A> {
+    /// No records.
+    fn none() -> Self
+        ensures { result ≡ [] }
+    {
+        Carried {
+            slots: ArrayVec::new(),
+        }
+    }
+
+    /// The records, each in a slot.
+    fn slots(&self) -> &[Option<&'a Record<A>>]
+        ensures held { held result.now ≡ self.now }
+        ensures few { length result.now ≤ 64 }
+    {
+        self.slots.as_slice()
+    }
+
+    /// Drops them all.
+    fn clear(&mut self)
+        ensures { self.new ≡ [] }
+    {
+        self.slots.clear();
+    }
+
+    /// One more after them, if there is room.
+    fn push(&mut self, row: &'a Record<A>) -> bool
+        ensures pushed { result ≡ true → self.new ≡ self.old ++ row.now ∷ [] }
+        ensures full { result ≡ false → self.new ≡ self.old }
+    {
+        if self.slots.is_full() {
+            return false;
+        }
+        self.slots.push(Some(row));
+        true
+    }
+
+    /// Drops those that don't have this position.
+    fn keep(&mut self, seq: u32, position: u64)
+        ensures { self.new ≡ filter (covers seq position) self.old }
+    {
+        self.slots.retain(|slot| is_kept(slot, seq, position));
+    }
+}
+
+/// Whether a slot has a record with this position.
+fn is_kept<A: Allocator + Copy>(slot: &Option<&Record<A>>, seq: u32, position: u64) -> bool
+    ensures { result ≡ keeps (covers seq position) slot.now }
+{
+    match slot {
+        Some(row) => covers(*row, seq, position),
+        None => false,
+    }
+}
+
+/// Whether a record has this position of this sequence.
+fn covers<R: BedRecord>(row: &R, seq: u32, position: u64) -> bool
+    ensures { result ≡ covers seq position (R.as_row row.now) }
+{
+    row.seq() == seq && row.start() <= position && position < row.stop()
 }

@@ -2,16 +2,12 @@
 //! `iv_fasta` are passed on.
 #![tactic(auto)]
 
-mod active_hits;
-mod carried;
 mod count_sweep;
-mod counted_edits;
 mod hit_finder;
 mod hits;
 mod intersect;
 mod laws;
 mod lengths;
-mod lines;
 mod pair_rows;
 mod pair_sweep;
 mod second;
@@ -19,7 +15,7 @@ mod subtract;
 
 pub use count_sweep::CountSweep;
 pub use hits::{Hits, is_from, overlaps};
-pub use intersect::{IntersectRows, put_intersect};
+pub use intersect::{Cross, IntersectRows, put_intersect};
 pub use iv_fasta::{Fasta, FastaRows, complement, print_fasta, put_fasta};
 pub use laws::{overlap_is_a_shared_position, uncovered_parts_are_maximal};
 pub use pair_rows::{PairRows, needs_cover_alone, print_pairs, put_pair_rows};

@@ -1,12 +1,13 @@
 //! The rows of an intersect or a subtract, in one sweep over the records of two texts.
-ghost use Rattle.std.specs.Prelude.{◌≡◌, ◌+◌, ◌≤◌, ◌++◌, length, filter, All, IfOk, vec_len, vec_capacity};
+ghost use Rattle.std.specs.Prelude.{◌≡◌, ◌+◌, ◌<◌, ◌≤◌, ◌^◌, ◌++◌, length, filter, All, IfOk, vec_len, vec_capacity};
+ghost use Rattle.std.specs.Iterator.{YieldsFirst, item_count};
 ghost use Rattle.iv_bytes.specs.Sinks.{Puts};
 ghost use Rattle.iv_text.specs.Ordered.{AreInOrder};
 ghost use Rattle.iv_pair.specs.PairRows.{pair_text};
 ghost use Rattle.iv_pair.specs.Pairs.{Gives};
 ghost use Rattle.iv_pair.specs.PairSweeps.{Covers, HitAlike, is_past, reaches};
 
-use crate::active_hits::ActiveHits;
+use crate::hits::{is_from, overlaps};
 use crate::pair_rows::{PairRows, put_pair_rows};
 use iv_bytes::{Sink, WriteFault};
 use iv_index::{TextRecord, TextRecords};
@@ -48,10 +49,6 @@ impl<'t, A: Allocator> Model for PairSweep<'t, A> {
 
 impl<'t, A: Allocator + Copy> PairSweep<'t, A> {
     /// The sweep over two lists, before their first records. It takes all the memory that it will need.
-    ///
-    /// # Errors
-    ///
-    /// An allocation failed.
     pub fn new(
         alloc: A,
         first: &TextRecords<'t>,
@@ -128,6 +125,67 @@ impl<'t, A: Allocator + Copy> PairSweep<'t, A> {
             start: self.start,
             stop: self.stop,
         }
+    }
+}
+
+/// The hits of a record that are left, in the order of the second list: an iterator. Its model is their list.
+#[derive(Drop)]
+struct ActiveHits<'a, 't> {
+    /// Hits that start at the start of the record or before it.
+    active: &'a [TextRecord<'t>],
+    /// The records after them, among which are the other hits.
+    rest: TextRecords<'t>,
+    /// The interval of the record.
+    seq: u32,
+    start: u64,
+    stop: u64,
+}
+
+impl<'a, 't> Model for ActiveHits<'a, 't> {
+    ghost use Rattle.std.specs.Prelude.{◌+◌, ◌<◌, ◌^◌, ◌++◌, List, length};
+    ghost use Rattle.iv_text.specs.Ordered.{AreInOrder};
+    ghost use Rattle.iv_text.specs.Row.{Row};
+    ghost use Rattle.iv_pair.specs.Hits.{hits};
+
+    ghost Value = { List Row };
+
+    ghost view = { λ h. h.active.now ++ hits h.rest h.seq h.start h.stop };
+
+    ghost invariant = { λ h. AreInOrder h.rest × (length h.active.now + length h.rest < 2 ^ 64) };
+}
+
+impl<'a, 't> ActiveHits<'a, 't> {
+    /// A lemma for callers' proofs: 64 bits count those that are left. The call does nothing.
+    fn law_of_few(&self)
+        ensures { length self.now < 2 ^ 64 }
+    {
+        // What is read has its invariant.
+        let _seq = self.seq;
+    }
+}
+
+impl<'a, 't> Iterator for ActiveHits<'a, 't> {
+    type Item = TextRecord<'t>;
+
+    ghost next_gives = { YieldsFirst (λ h. h) };
+
+    ghost remaining = { item_count (λ h. h) };
+
+    fn next(&mut self) -> Option<TextRecord<'t>> {
+        if let [hit, others @ ..] = self.active {
+            self.active = others;
+            return Some(hit.again());
+        }
+        while let Some((row, others)) = self.rest.split_first() {
+            self.rest = others;
+            if overlaps(&row, self.seq, self.start, self.stop) {
+                return Some(row);
+            }
+            if is_from(&row, self.seq, self.stop) {
+                return None;
+            }
+        }
+        None
     }
 }
 

@@ -1,15 +1,16 @@
 //! The rows of a subtract.
-ghost use Rattle.std.specs.Prelude.{List};
+ghost use Rattle.std.specs.Prelude.{◌≤◌, List};
 ghost use Rattle.std.specs.Iterator.{AlwaysYields, IsFinite};
 ghost use Rattle.iv_bytes.specs.Sinks.{Puts};
 ghost use Rattle.iv_text.specs.Ordered.{AreInOrder};
 ghost use Rattle.iv_text.specs.Row.{Row};
 ghost use Rattle.iv_pair.specs.Hits.{hits_of};
+ghost use Rattle.iv_pair.specs.Putting.{part_line};
 ghost use Rattle.iv_pair.specs.SubtractRows.{subtract_rows, uncovered_rows};
 
-use crate::lines::{put_if, put_part};
+use crate::intersect::put_if;
 use iv_bytes::{Sink, WriteFault};
-use iv_text::{BedRecord, Genome};
+use iv_text::{BedRecord, Genome, put_line};
 use std::alloc::Allocator;
 
 /// Puts the rows of one record and its hits, in the order of a track, which any iterator may give.
@@ -55,4 +56,22 @@ fn put_uncovered<A: Allocator + Copy, R: BedRecord, T: BedRecord, H: Iterator<It
         }
     }
     put_part(genome, row, from, row.stop(), sink)
+}
+
+/// Puts the line of a part of a record, if it has a position.
+fn put_part<A: Allocator + Copy, R: BedRecord, S: Sink>(
+    genome: &Genome<A>,
+    row: &R,
+    start: u64,
+    stop: u64,
+    sink: &mut S,
+) -> Result<(), WriteFault>
+    requires { stop ≤ (R.as_row row.now).stop }
+    ensures { Puts (S.state sink.old) (S.state sink.new) result (part_line genome.now (R.as_row row.now) start stop) }
+{
+    if start < stop {
+        put_line(sink, genome, &row.to_ref().part(start, stop))
+    } else {
+        Ok(())
+    }
 }

@@ -9,10 +9,10 @@ use Rattle.iv_text.specs.Row.{Row}
 use Rattle.iv_track.specs.Tracked.{Tracked}
 use Rattle.iv_workspace.specs.States.{State}
 use Rattle.iv_workspace.specs.Edits.{EditFits, FitsIn, width_beside, width_of}
-use Rattle.iv_workspace.specs.declared.edit.Edit.{Edit}
-use Rattle.iv_workspace.specs.declared.edit.Edit.TheVariants as edit
-use Rattle.iv_workspace.specs.declared.edit.Target.{Target}
-use Rattle.iv_workspace.specs.declared.edit.Target.TheVariants as target
+use Rattle.iv_workspace.specs.declared.session.edits.Edit.{Edit}
+use Rattle.iv_workspace.specs.declared.session.edits.Edit.TheVariants as edit
+use Rattle.iv_workspace.specs.declared.session.edits.Target.{Target}
+use Rattle.iv_workspace.specs.declared.session.edits.Target.TheVariants as target
 use Rattle.iv_session.proofs.ColumnLemmas.{fields-after, miscounted}
 
 -- a record is read of what is after a command as of its fields: if there are none, the empty text has too few as well

@@ -15,8 +15,8 @@ use Rattle.iv_workspace.specs.Views.{opened, all_text, text_in}
 use Rattle.iv_view.specs.Views.{read_words}
 use Rattle.iv_session.specs.Written.{Written, printed, refused_by}
 use Rattle.iv_session.specs.declared.request.Request.TheVariants as request
-use Rattle.iv_workspace.specs.declared.edit.Edit.TheVariants as edit
-use Rattle.iv_workspace.specs.declared.edit.Target.TheVariants as target
+use Rattle.iv_workspace.specs.declared.session.edits.Edit.TheVariants as edit
+use Rattle.iv_workspace.specs.declared.session.edits.Target.TheVariants as target
 use Rattle.iv_blocks.specs.Groups.{filled}
 use Rattle.iv_view.specs.declared.view.View.{View}
 use Rattle.iv_view.specs.declared.view.View.TheVariants as view

@@ -10,7 +10,7 @@ use Rattle.iv_text.specs.declared.fault.Fault.{Fault}
 use Rattle.iv_text.specs.declared.fault.Fault.TheVariants as fault
 use Rattle.iv_view.proofs.WordLemmas.{words-cut}
 use Rattle.iv_workspace.specs.OpenViews.{Shown}
-use Rattle.iv_workspace.specs.Prints.{PrintedView, PrintedAll, IsButCurrent}
+use Rattle.iv_workspace.specs.Prints.{PrintedNamed, PrintedView, PrintedAll, IsButCurrent}
 use Rattle.iv_workspace.specs.States.{State}
 use Rattle.iv_workspace.specs.Views.{view_named, opened, unless_fault, has_name_fault, name_faults, Opens, RefusesOpen, all_text, print_code, text_in}
 use Rattle.iv_workspace.specs.declared.fault.PrintFault.{PrintFault}
@@ -21,8 +21,8 @@ use Rattle.iv_session.specs.Running.{AsksToPrint, Ends, Runs, RunsLast, DoesAske
 use Rattle.iv_session.specs.Scripts.{RanLine, FailedLine, Tells, refusals_of}
 use Rattle.iv_session.specs.declared.request.Request.{Request}
 use Rattle.iv_session.specs.declared.request.Request.TheVariants as request
-use Rattle.iv_session.specs.declared.running.Outcome.{Outcome}
-use Rattle.iv_session.specs.declared.running.Outcome.TheVariants as outcome
+use Rattle.iv_session.specs.declared.line.Outcome.{Outcome}
+use Rattle.iv_session.specs.declared.line.Outcome.TheVariants as outcome
 use Rattle.iv_session.specs.declared.script.RunCause.{RunCause}
 use Rattle.iv_session.specs.declared.script.RunCause.TheVariants as cause
 use Rattle.iv_workspace.proofs.OpenViewLemmas.{freshens-same, freshens-all, freshens-one}
@@ -90,15 +90,10 @@ RefusesOpen-cut s name text f why = rw (sym (opened-cut s name text)) why
 
 -- ---- a print
 
--- what a print of a view says, as `print_view` has it
-abbrev pub PrintsIt : State → List ℕ → State → SinkState → SinkState → Result (Unit {0}) PrintFault → Type 0
-PrintsIt s name new out0 out1 result = MatchOption (view_named s.views name)
-    ((result ≡ Err (printing.Refused fault.NoView)) × (out1 ≡ out0) × (new ≡ s)) (λ v. PrintedView s name v new out0 out1 result)
-
 pub printed-view : (s new : State) (given name : List ℕ) (out0 out1 : SinkState) (result : Result (Unit {0}) PrintFault) → given ≡ name
-    → PrintsIt s given new out0 out1 result → Writes (Ok (request.Print name)) s new out0 out1 result
+    → PrintedNamed s given new out0 out1 result → Writes (Ok (request.Print name)) s new out0 out1 result
 printed-view s new given name out0 out1 result same it =
-    by (view_named s.views name) refl result (subst (λ (n : List ℕ). PrintsIt s n new out0 out1 result) same it)
+    by (view_named s.views name) refl result (subst (λ (n : List ℕ). PrintedNamed s n new out0 out1 result) same it)
   where
     by : (o : Option Shown) → view_named s.views name ≡ o → (r : Result (Unit {0}) PrintFault)
         → MatchOption o ((r ≡ Err (printing.Refused fault.NoView)) × (out1 ≡ out0) × (new ≡ s)) (λ v. PrintedView s name v new out0 out1 r)

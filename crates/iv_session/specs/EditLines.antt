@@ -5,10 +5,10 @@ use Rattle.iv_text.specs.Read.{read_columns}
 use Rattle.iv_text.specs.Row.{Row}
 use Rattle.iv_text.specs.declared.fault.Fault.{Fault}
 use Rattle.iv_text.specs.declared.fault.Fault.TheVariants as fault
-use Rattle.iv_workspace.specs.declared.edit.Edit.{Edit}
-use Rattle.iv_workspace.specs.declared.edit.Edit.TheVariants as edit
-use Rattle.iv_session.specs.declared.edit.EditKind.{EditKind}
-use Rattle.iv_session.specs.declared.edit.EditKind.TheVariants as kind
+use Rattle.iv_workspace.specs.declared.session.edits.Edit.{Edit}
+use Rattle.iv_workspace.specs.declared.session.edits.Edit.TheVariants as edit
+use Rattle.iv_session.specs.declared.request.EditKind.{EditKind}
+use Rattle.iv_session.specs.declared.request.EditKind.TheVariants as kind
 
 -- two records, or the fault of the first, or else that of the second
 abbrev pub both : Result Row Fault → Result Row Fault → Result (Row × Row) Fault

@@ -12,10 +12,10 @@ use Rattle.iv_text.specs.declared.fault.Fault.TheVariants as fault
 use Rattle.iv_workspace.specs.States.{State}
 use Rattle.iv_workspace.specs.Edits.{EditFits, FitsIn, width_of}
 use Rattle.iv_session.specs.EditLines.{edit_said}
-use Rattle.iv_session.specs.declared.edit.EditKind.{EditKind}
-use Rattle.iv_session.specs.declared.edit.EditKind.TheVariants as kind
-use Rattle.iv_workspace.specs.declared.edit.Target.{Target}
-use Rattle.iv_workspace.specs.declared.edit.Target.TheVariants as target
+use Rattle.iv_session.specs.declared.request.EditKind.{EditKind}
+use Rattle.iv_session.specs.declared.request.EditKind.TheVariants as kind
+use Rattle.iv_workspace.specs.declared.session.edits.Target.{Target}
+use Rattle.iv_workspace.specs.declared.session.edits.Target.TheVariants as target
 use Rattle.iv_session.specs.declared.request.Request.{Request}
 use Rattle.iv_session.specs.declared.request.Request.TheVariants as request
 

@@ -1,13 +1,9 @@
 //! Scripts of a session: the lines by which a curator corrects a track and prints its views.
 #![tactic(auto)]
 
-mod edit;
-mod fields;
 mod laws;
 mod line;
-mod message;
 mod request;
-mod running;
 mod script;
 
 pub use iv_depth::DepthRows;
@@ -16,6 +12,6 @@ pub use iv_pair::{IntersectRows, PairRows};
 pub use iv_text::Fault;
 pub use iv_track::EditFault;
 pub use iv_view::{KeptView, View as ViewWords, ViewFault, WrittenView};
-pub use iv_workspace::{Accepted, PrintFault, ResizeFault, Session};
+pub use iv_workspace::{Accepted, PrintFault, ResizeFault, SecondFault, Session};
 pub use laws::{first_over_is_first, sizes_are_of_lines, too_long_is_exact};
 pub use script::{RunCause, RunFault, ScriptLimits, Summary, run_script};

@@ -1,17 +1,21 @@
 //! What a line of a script asks for.
-ghost use Rattle.std.specs.Prelude.{◌≡◌, ◌≤◌, IfOk};
+ghost use Rattle.std.specs.Prelude.{◌≡◌, ◌≢◌, ◌<◌, ◌≤◌, ◌++◌, Err, IfOk, MatchOption, length};
 ghost use Rattle.iv_text.specs.Bytes.{tab};
-ghost use Rattle.iv_text.specs.Fields.{fields_left};
+ghost use Rattle.iv_text.specs.Fields.{columns as columns_of, fields_left};
 ghost use Rattle.iv_text.specs.Genome.{most_length};
+ghost use Rattle.iv_text.specs.Read.{Fits, read_columns};
+ghost use Rattle.iv_workspace.specs.Edits.{EditFits};
 ghost use Rattle.iv_workspace.specs.States.{State};
-ghost use Rattle.iv_session.specs.Requests.{asked, asked_by, edit_asked, length_said, name_and_length, no_fields, of_fields, only_field, two_fields as two_fields_of, RequestFits};
+ghost use Rattle.iv_session.specs.EditLines.{both, edit_said, read_two};
+ghost use Rattle.iv_session.specs.Requests.{asked, asked_by, edit_asked, length_said, name_and_length, no_fields, of_fields, only_field, two_fields as two_of, RequestFits};
 ghost use Rattle.iv_session.specs.declared.request.Request.TheVariants as request;
 
-use crate::edit::{EditKind, read_edit};
-use crate::fields::{Field, no_field, one_field, two_fields};
-use iv_text::{Fault, MOST_LENGTH, read_number, split_first_column};
+use iv_text::{
+    Fault, Genome, MOST_LENGTH, RecordRef, columns, read_number, read_record, split_first_column,
+};
 use iv_workspace::{Edit, Session, Target};
 use std::alloc::Allocator;
+use std::marker::Model;
 
 /// What a line asks for. Names, words and columns are in the line.
 #[derive(Drop)]
@@ -29,15 +33,40 @@ pub(crate) enum Request<'a> {
     PrintAll,
 }
 
-/// The length that a field says: 1 to 10 digits, and at most 4,000,000,000.
-fn read_length(field: &[u8]) -> Result<u64, Fault>
-    ensures value { result ≡ length_said field.now }
-    ensures bounded { IfOk result (λ length. length ≤ most_length) }
-{
-    match read_number(field) {
-        Some(length) if length <= MOST_LENGTH => Ok(length),
-        _ => Err(Fault::StopNumber),
+/// A field of a line.
+#[derive(Drop)]
+pub(crate) struct Field<'a> {
+    bytes: &'a [u8],
+}
+
+impl<'a> Model for Field<'a> {
+    ghost use Rattle.std.specs.Prelude.{List, ℕ};
+
+    ghost Value = { List ℕ };
+
+    ghost view = { λ f. f.bytes.now };
+}
+
+impl<'a> Field<'a> {
+    fn of(bytes: &'a [u8]) -> Self
+        ensures { result ≡ bytes.now }
+    {
+        Field { bytes }
     }
+
+    pub(crate) fn bytes(&self) -> &'a [u8]
+        ensures { result.now ≡ self.now }
+    {
+        self.bytes
+    }
+}
+
+/// What an edit does, whatever its records are.
+#[derive(Clone, Copy)]
+pub(crate) enum EditKind {
+    Add,
+    Remove,
+    Replace,
 }
 
 impl<'a> Request<'a> {
@@ -110,7 +139,7 @@ impl<'a> Request<'a> {
 
     /// To give the sequence of the first field the length of the second.
     fn resize(fields: Option<&'a [u8]>) -> Result<Request<'a>, Fault>
-        ensures value { result ≡ of_fields (λ pair. request.Resize pair.0 pair.1) (name_and_length (two_fields_of (fields_left tab fields.entry))) }
+        ensures value { result ≡ of_fields (λ pair. request.Resize pair.0 pair.1) (name_and_length (two_of (fields_left tab fields.entry))) }
         ensures fits { (s : State) → IfOk result (RequestFits s) }
     {
         let (name, field) = two_fields(fields)?;
@@ -120,7 +149,7 @@ impl<'a> Request<'a> {
 
     /// To open a view under the first field, by the words of the second.
     fn open(fields: Option<&'a [u8]>) -> Result<Request<'a>, Fault>
-        ensures { result ≡ of_fields (λ pair. request.Open pair.0 pair.1) (two_fields_of (fields_left tab fields.entry)) }
+        ensures { result ≡ of_fields (λ pair. request.Open pair.0 pair.1) (two_of (fields_left tab fields.entry)) }
     {
         let (name, words) = two_fields(fields)?;
         Ok(Request::Open(name, words))
@@ -147,4 +176,135 @@ impl<'a> Request<'a> {
         no_field(fields)?;
         Ok(Request::PrintAll)
     }
+}
+
+/// There is no field after a command that takes none.
+fn no_field(fields: Option<&[u8]>) -> Result<(), Fault>
+    ensures { result ≡ no_fields (fields_left tab fields.entry) }
+{
+    if fields.is_some() {
+        return Err(Fault::Command);
+    }
+    Ok(())
+}
+
+/// The field after a command that takes one.
+fn one_field(fields: Option<&[u8]>) -> Result<Field<'_>, Fault>
+    ensures { result ≡ only_field (fields_left tab fields.entry) }
+{
+    let mut columns = columns(fields.ok_or(Fault::Command)?);
+    let field = columns.next().ok_or(Fault::Command)?;
+    match columns.next() {
+        Some(_) => Err(Fault::Command),
+        None => Ok(Field::of(field)),
+    }
+}
+
+/// The fields after a command that takes two.
+fn two_fields(fields: Option<&[u8]>) -> Result<(Field<'_>, Field<'_>), Fault>
+    ensures { result ≡ two_of (fields_left tab fields.entry) }
+{
+    let mut columns = columns(fields.ok_or(Fault::Command)?);
+    let first = columns.next().ok_or(Fault::Command)?;
+    let second = columns.next().ok_or(Fault::Command)?;
+    match columns.next() {
+        Some(_) => Err(Fault::Command),
+        None => Ok((Field::of(first), Field::of(second))),
+    }
+}
+
+/// The length that a field says: 1 to 10 digits, and at most 4,000,000,000.
+fn read_length(field: &[u8]) -> Result<u64, Fault>
+    ensures value { result ≡ length_said field.now }
+    ensures bounded { IfOk result (λ length. length ≤ most_length) }
+{
+    match read_number(field) {
+        Some(length) if length <= MOST_LENGTH => Ok(length),
+        _ => Err(Fault::StopNumber),
+    }
+}
+
+/// The edit that the columns after a command say, on a track of this width, or their first fault.
+fn read_edit<'a, A: Allocator + Copy>(
+    genome: &Genome<A>,
+    width: u8,
+    kind: EditKind,
+    fields: Option<&'a [u8]>,
+) -> Result<Edit<'a>, Fault>
+    requires { (3 ≤ width) × (width ≤ 6) }
+    ensures value { result ≡ edit_said genome.now width kind (fields_left tab fields.entry) }
+    ensures fits { IfOk result (EditFits (Fits genome.now width)) }
+{
+    match kind {
+        EditKind::Add => Ok(Edit::Add(one_row(genome, width, fields)?)),
+        EditKind::Remove => Ok(Edit::Remove(one_row(genome, width, fields)?)),
+        EditKind::Replace => {
+            let (old, new) = two_rows(genome, width, fields)?;
+            Ok(Edit::Replace(old, new))
+        }
+    }
+}
+
+/// The record of the columns after a command, of this width, or its first fault.
+fn one_row<'a, A: Allocator + Copy>(
+    genome: &Genome<A>,
+    width: u8,
+    fields: Option<&'a [u8]>,
+) -> Result<RecordRef<'a>, Fault>
+    requires { (3 ≤ width) × (width ≤ 6) }
+    ensures value { result ≡ read_columns genome.now width (fields_left tab fields.entry) }
+    ensures fits { IfOk result (Fits genome.now width) }
+{
+    read_record(genome, width, fields.unwrap_or(b""))
+}
+
+/// Both records of a line, or a fault: that the second has too few or too many columns is reported first, then a
+/// fault of the first record, then one of the second.
+fn both_rows<'a>(
+    first: Result<RecordRef<'a>, Fault>,
+    second: Result<RecordRef<'a>, Fault>,
+) -> Result<(RecordRef<'a>, RecordRef<'a>), Fault>
+    ensures columns { second.entry ≡ Err Fault.Columns → result ≡ Err Fault.Columns }
+    ensures others { second.entry ≢ Err Fault.Columns → result ≡ both first.entry second.entry }
+{
+    match (first, second) {
+        (_, Err(Fault::Columns)) => Err(Fault::Columns),
+        (Err(fault), _) => Err(fault),
+        (Ok(_), Err(fault)) => Err(fault),
+        (Ok(first), Ok(second)) => Ok((first, second)),
+    }
+}
+
+/// The two records of the columns after a command, of this width, or their first fault.
+fn two_rows<'a, A: Allocator + Copy>(
+    genome: &Genome<A>,
+    width: u8,
+    fields: Option<&'a [u8]>,
+) -> Result<(RecordRef<'a>, RecordRef<'a>), Fault>
+    requires { (3 ≤ width) × (width ≤ 6) }
+    ensures value { result ≡ read_two genome.now width (fields_left tab fields.entry) }
+    ensures first { IfOk result (λ rows. Fits genome.now width rows.0) }
+    ensures second { IfOk result (λ rows. Fits genome.now width rows.1) }
+{
+    match split_columns(fields.unwrap_or(b""), width) {
+        Some((old, new)) => both_rows(
+            read_record(genome, width, old),
+            read_record(genome, width, new),
+        ),
+        None => Err(Fault::Columns),
+    }
+}
+
+/// The first columns of a text, as many as the count, and the columns after them. There is at least one on each side.
+fn split_columns(text: &[u8], count: u8) -> Option<(&[u8], &[u8])>
+    requires { 0 < count }
+    ensures { MatchOption result (length (columns_of text.now) ≤ count)
+        (λ parts. (columns_of text.now ≡ columns_of parts.0.now ++ columns_of parts.1.now) × (length (columns_of parts.0.now) ≡ count)) }
+{
+    let mut rest = text;
+    for _ in 0..count {
+        let (_, after) = split_first_column(rest);
+        rest = after?;
+    }
+    Some((&text[..text.len() - rest.len() - 1], rest))
 }

@@ -12,7 +12,7 @@ use Rattle.iv_view.specs.KeptStates.{state_key_of, repair_steps_of}
 use Rattle.iv_view.specs.declared.view.View.{View}
 use Rattle.iv_workspace.specs.ViewStates.{all_seen, seen}
 use Rattle.iv_workspace.specs.OpenViews.{Shown, Stales, Freshens, current, all_current, with_current, stale_count, all_steps, view_steps}
-use Rattle.iv_workspace.specs.declared.open_view.OpenView.{OpenView}
+use Rattle.iv_workspace.specs.declared.views.OpenView.{OpenView}
 
 -- ---- a walk over the places of a map, each of which is written
 

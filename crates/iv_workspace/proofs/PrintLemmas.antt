@@ -1,21 +1,23 @@
 -- A view that is printed.
 use Rattle.std.proofs.lemmas.Option.{slice_get-map, slice_get_within, slice_get_cases, get_or_from_slice_get}
 use Rattle.std.proofs.lemmas.List.Elements.{All-from_recursion}
-use Rattle.std.proofs.Common.{◌+◌, drop, get_or, append_assoc, add-one, drop-cons, inl, inr, length, slice_get, ◌≤◌, ◌≡◌, ℕ, List, [], ◌∷◌, ◌++◌, Option, None, Some, false, refl, sym, ap, ap₂, subst, ◌∙◌}
-use Rattle.std.specs.Prelude.{All, MatchOption, IsSomeAnd}
+use Rattle.std.proofs.Common.{◌+◌, drop, get_or, append_assoc, add-one, drop-cons, inl, inr, length, slice_get, ◌≤◌, ◌≡◌, ℕ, List, [], ◌∷◌, ◌++◌, Option, None, Some, Result, Ok, Err, false, refl, sym, ap, ap₂, subst, ◌∙◌}
+use Rattle.std.specs.Prelude.{All, MatchOption, MatchResult, IsSomeAnd}
 use Rattle.std.specs.List.{flat_map, AllByRecursion}
 use Rattle.std.specs.Map.{lookup}
 use Rattle.std.specs.Option.{option_map}
 use Rattle.std.specs.Str.{bytes_eq}
-use Rattle.iv_bytes.specs.Sinks.{SinkState, Takes, FailsIn}
+use Rattle.iv_bytes.specs.Sinks.{SinkState, Takes, FailsIn, Puts}
 use Rattle.iv_view.specs.declared.view.View.{View}
-use Rattle.iv_workspace.specs.declared.open_view.OpenView.{OpenView}
+use Rattle.iv_workspace.specs.declared.views.OpenView.{OpenView}
 use Rattle.iv_workspace.specs.ViewStates.{seen}
 use Rattle.iv_workspace.specs.ViewStates.{all_seen}
 use Rattle.iv_workspace.specs.OpenViews.{current, all_current, with_current}
-use Rattle.iv_workspace.specs.Prints.{with_all_printed}
+use Rattle.iv_workspace.specs.Prints.{PrintedAll, PrintedView, with_all_printed, with_printed}
 use Rattle.iv_workspace.specs.States.{State}
 use Rattle.iv_workspace.specs.Views.{heading, headed_text, all_text, text_in}
+use Rattle.iv_workspace.specs.declared.fault.PrintFault.{PrintFault}
+use Rattle.iv_workspace.specs.declared.fault.PrintFault.TheVariants as printing
 use Rattle.iv_workspace.specs.OpenViews.{Shown}
 use Rattle.iv_workspace.proofs.OpenViewLemmas.{current-named}
 
@@ -60,6 +62,20 @@ Takes-text old new a b same took = subst (λ (l : List ℕ). Takes old new l) sa
 
 pub FailsIn-text : (old new : SinkState) (a b : List ℕ) → a ≡ b → FailsIn old new a → FailsIn old new b
 FailsIn-text old new a b same fails = subst (λ (l : List ℕ). FailsIn old new l) same fails
+
+pub Puts-text : {T E : Type 0} (old new : SinkState) (put : Result T E) (a b : List ℕ) → a ≡ b → Puts old new put a → Puts old new put b
+Puts-text old new put a b same puts = subst (λ (l : List ℕ). Puts old new put l) same puts
+
+-- what a print answers whose text was put: of one view, and of all
+pub view-answered : {E : Type 0} (old new : State) (name : List ℕ) (v : Shown) (out0 out1 : SinkState) (put : Result (Unit {0}) E) (result : Result (Unit {0}) PrintFault)
+    → MatchResult put (λ done. result ≡ Ok done) (λ fault. result ≡ Err printing.Write) → Puts out0 out1 put (text_in old v.view) → new ≡ with_printed old name → PrintedView old name v new out0 out1 result
+view-answered old new name v out0 out1 (Ok done) result is took same = subst (λ (r : Result (Unit {0}) PrintFault). PrintedView old name v new out0 out1 r) (sym is) (took, same)
+view-answered old new name v out0 out1 (Err fault) result is fails same = subst (λ (r : Result (Unit {0}) PrintFault). PrintedView old name v new out0 out1 r) (sym is) (fails, same)
+
+pub all-answered : {E : Type 0} (old new : State) (out0 out1 : SinkState) (put : Result (Unit {0}) E) (result : Result (Unit {0}) PrintFault)
+    → MatchResult put (λ done. result ≡ Ok done) (λ fault. result ≡ Err printing.Write) → Puts out0 out1 put (all_text old) → new ≡ with_all_printed old → PrintedAll old new out0 out1 result
+all-answered old new out0 out1 (Ok done) result is took same = subst (λ (r : Result (Unit {0}) PrintFault). PrintedAll old new out0 out1 r) (sym is) (took, same)
+all-answered old new out0 out1 (Err fault) result is fails same = subst (λ (r : Result (Unit {0}) PrintFault). PrintedAll old new out0 out1 r) (sym is) (fails, same)
 
 -- the view at a place, as contracts see it
 pub seen-at : {A : Type 0} (views : List (List ℕ × OpenView A)) (i : ℕ) (name : List ℕ) (v : OpenView A) → Some (name, v) ≡ slice_get views i

@@ -2,7 +2,7 @@
 use denote.Ref.{Bor}
 use Rattle.std.specs.Option.{option_copied}
 use Rattle.std.proofs.Common.{◌≡◌, ℕ, suc, zero, ◌+◌, ◌<◌, ◌≤◌, ◌++◌, ◌⊎◌, inl, inr, Bool, true, false, if◌then◌else◌, List, [], ◌∷◌, Option, None, Some, length, drop, slice_get, get_or, add-one, refl, sym, ap, ap₂, subst, ◌∙◌, arith}
-use Rattle.std.specs.Prelude.{IfSome, ◌&&◌, ◌||◌, not}
+use Rattle.std.specs.Prelude.{IfSome, IsSomeAnd, option_map, ◌&&◌, ◌||◌, not}
 use Rattle.std.specs.List.{AllByRecursion}
 use Rattle.std.specs.Map.{keys_of, values_of, lookup, remove_entry}
 use Rattle.std.specs.Str.{bytes_eq}
@@ -17,8 +17,8 @@ use Rattle.iv_view.specs.declared.kept_state.StateKey.{StateKey}
 use Rattle.iv_view.specs.declared.view.View.{View}
 use Rattle.iv_workspace.specs.ViewStates.{seen, all_seen, kept_with, owned, all_owned, IsOwned, IsKept, HaveStates, IsOwnRight, AreOwnRight, AreRight, IsRepaired, AreRepaired, AreMarked, IsMissing, NoneNeeds, current_at}
 use Rattle.iv_workspace.specs.OpenViews.{Shown, Stales, Freshens, current, all_current, with_current, stale_count, all_steps, view_steps}
-use Rattle.iv_workspace.specs.declared.open_view.OpenView.{OpenView}
-use Rattle.iv_workspace.proofs.OpenViewLemmas.{Midway, midway-begin, midway-next, midway-end, midway-at, Written, written-at, all-append, all-front, all-back, all-removed, all-named, all-at, stales-append, freshens-same, seen-append, remove-seen}
+use Rattle.iv_workspace.specs.declared.views.OpenView.{OpenView}
+use Rattle.iv_workspace.proofs.OpenViewLemmas.{Midway, midway-begin, midway-next, midway-end, midway-at, Written, written-at, all-append, all-front, all-back, all-removed, all-named, all-at, stales-append, freshens-same, seen-append, seen-lookup, remove-seen}
 
 -- ---- what is kept is among the states
 
@@ -625,6 +625,14 @@ module _ {A : Type 0} (name : List ℕ) where
               → (e.0, seen e.1) ∷ all_seen es ≡ (if b then (e.0, current (seen e.1)) ∷ all_seen es else (e.0, seen e.1) ∷ with_current (all_seen es) name)
           head true none more = absurd (cc (none))
           head false none more = ap (λ (l : List (List ℕ × Shown)). (e.0, seen e.1) ∷ l) (more none)
+
+-- if the view of a name was found at a place, then it is the one at the place
+pub stale-named : {A : Type 0} (name : List ℕ) (inside views : List (List ℕ × OpenView A)) (place : ℕ) (v : OpenView A) → inside ≡ views → Some place ≡ place_of inside name
+    → Some v ≡ lookup (bytes_eq name) inside → IfSome (slice_get (all_seen views) place) (λ v. v.1.stale ≡ true) → IsSomeAnd (lookup (bytes_eq name) (all_seen views)) (λ v. v.stale ≡ true)
+stale-named name inside views place v same at found stale =
+    let is = placed-stale name views place (ap (λ l. place_of l name) (sym same) ∙ sym at) stale in
+    let some = ap (option_map seen) (found ∙ ap (lookup (bytes_eq name)) same) ∙ sym (seen-lookup name views) in
+    subst (λ o. IfSome o (λ v. v.stale ≡ true) → IsSomeAnd o (λ v. v.stale ≡ true)) some (λ is. is) is
 
 -- ---- the view at a place of a map is written
 

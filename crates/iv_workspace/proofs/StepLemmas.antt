@@ -2,18 +2,21 @@
 use Rattle.std.proofs.lemmas.Option.{slice_get_within, get_or_from_slice_get}
 use Rattle.std.proofs.Common.{◌+◌, ◌<◌, ◌≡◌, ◌⊎◌, ◌∙◌, ℕ, true, false, List, [], ◌∷◌, Option, None, Some, add-one, ap, ap₂, arith, drop, drop-cons, get_or, inl, inr, length, refl, slice_get, subst, sym}
 use Rattle.std.specs.Prelude.{IfSome, IsSomeAnd}
+use Rattle.std.specs.Map.{lookup}
+use Rattle.std.specs.Str.{bytes_eq}
+use Rattle.iv_text.specs.Named.{place_of}
 use Rattle.iv_text.specs.Genome.{Sequences}
 use Rattle.iv_text.specs.Row.{Row}
 use Rattle.iv_view.specs.declared.view.View.{View}
 use Rattle.iv_view.specs.declared.view.View.TheVariants as view
 use Rattle.iv_view.specs.declared.view.KeptView.TheVariants as kept
-use Rattle.iv_workspace.specs.declared.open_view.OpenView.{OpenView}
+use Rattle.iv_workspace.specs.declared.views.OpenView.{OpenView}
 use Rattle.iv_workspace.specs.OpenViews.{Shown, all_current, stale_count}
 use Rattle.iv_workspace.specs.Prints.{ViewPrintsWithin, NamedPrintsWithin, AllPrintWithin}
 use Rattle.iv_workspace.specs.States.{State}
 use Rattle.iv_workspace.specs.ViewStates.{all_seen}
 use Rattle.iv_workspace.specs.Views.{view_named}
-use Rattle.iv_workspace.proofs.StateLemmas.{current_to, stale-among}
+use Rattle.iv_workspace.proofs.StateLemmas.{current_to, stale-among, stale-named}
 
 -- ---- one view
 
@@ -93,6 +96,13 @@ printed-within inside s more old mid new same are steps within fresh =
     by (inr some) = absurd (omega (arith, some, none))
 
 -- ---- building again
+
+-- the view of a name was looked at: a step was taken only if it is stale
+pub named-stale : {A : Type 0} (before after : ℕ) (name : List ℕ) (inside views : List (List ℕ × OpenView A)) (place : ℕ) (v : OpenView A) → inside ≡ views → Some place ≡ place_of inside name
+    → Some v ≡ lookup (bytes_eq name) inside → (after ≡ before) ⊎ IfSome (slice_get (all_seen views) place) (λ v. v.1.stale ≡ true)
+    → (after ≡ before) ⊎ IsSomeAnd (lookup (bytes_eq name) (all_seen views)) (λ v. v.stale ≡ true)
+named-stale before after name inside views place v same at found (inl none) = inl none
+named-stale before after name inside views place v same at found (inr stale) = inr (stale-named name inside views place v same at found stale)
 
 -- one more view was looked at: a step was taken only if some view is stale
 pub either-stale : {A : Type 0} (before after first place : ℕ) (old : List (List ℕ × OpenView A)) (now : List (List ℕ × Shown)) → now ≡ current_to place (all_seen old) → place < length (all_seen old)

@@ -1,5 +1,5 @@
 -- Edits of the two tracks of a session: what an edit leaves, how many steps it takes, and why it is refused; and the records of the second file.
-use Rattle.std.specs.Prelude.{ℕ, ◌≡◌, ◌<◌, ◌⊎◌, ◌+◌, List, Option, None, Some, Result, Ok, Err, IsSomeAnd, length}
+use Rattle.std.specs.Prelude.{ℕ, ◌≡◌, ◌≤◌, ◌<◌, ◌⊎◌, ◌+◌, List, Option, None, Some, Result, Ok, Err, IsSomeAnd, length}
 use Rattle.iv_text.specs.Genome.{Sequences}
 use Rattle.iv_text.specs.Ordered.{added, copies}
 use Rattle.iv_text.specs.Read.{Fits, read}
@@ -8,12 +8,13 @@ use Rattle.iv_text.specs.declared.fault.Fault.{Fault}
 use Rattle.iv_text.specs.declared.fault.Fault.TheVariants as fault
 use Rattle.iv_track.specs.Edits.{RefusesAdd, RefusesRemove, RefusesReplace, with_record, without_record, with_replaced}
 use Rattle.iv_track.specs.Tracked.{Tracked}
-use Rattle.iv_workspace.specs.OpenViews.{all_steps}
+use Rattle.iv_workspace.specs.OpenViews.{all_steps, stale_count}
 use Rattle.iv_workspace.specs.States.{State, FitsSecond, IsButStale, with_track, with_second}
-use Rattle.iv_workspace.specs.declared.edit.Edit.{Edit}
-use Rattle.iv_workspace.specs.declared.edit.Edit.TheVariants as edit
-use Rattle.iv_workspace.specs.declared.edit.Target.{Target}
-use Rattle.iv_workspace.specs.declared.edit.Target.TheVariants as target
+use Rattle.iv_workspace.specs.declared.session.edits.Accepted.{Accepted}
+use Rattle.iv_workspace.specs.declared.session.edits.Edit.{Edit}
+use Rattle.iv_workspace.specs.declared.session.edits.Edit.TheVariants as edit
+use Rattle.iv_workspace.specs.declared.session.edits.Target.{Target}
+use Rattle.iv_workspace.specs.declared.session.edits.Target.TheVariants as target
 
 -- memory ran out for a copy of a record of the line, which needs none at width 3
 abbrev pub RefusesCopy : Tracked → Fault → Type 0
@@ -87,6 +88,12 @@ most_steps target.First (edit.Add r) s = 8 + all_steps s.views (added s.track.ro
 most_steps target.First (edit.Remove r) s = 8 + all_steps s.views s.track.rows r
 most_steps target.First (edit.Replace r q) s = 8 + all_steps s.views (added s.track.rows q) q + all_steps s.views (added s.track.rows q) r
 most_steps target.Second e s = 16
+
+-- what an edit answers that is done: steps within its bound, and how many views are stale after it
+pub record IsDone (to : Target) (e : Edit) (old new : State) (a : Accepted) : Type 0 where
+  pub done : IsEdited to e old new
+  pub steps : a.steps ≤ most_steps to e old
+  pub stale : a.stale ≡ stale_count new.views
 
 -- why an edit of a session's track, or of its second file, is refused
 abbrev pub RefusesIn : Target → Edit → State → Fault → Type 0

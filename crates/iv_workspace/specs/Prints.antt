@@ -1,5 +1,5 @@
 -- What prints of views leave.
-use Rattle.std.specs.Prelude.{◌≡◌, ◌<◌, ℕ, true, false, List, [], ◌∷◌, Option, None, Some, Result, Ok, Err, IsSome}
+use Rattle.std.specs.Prelude.{◌≡◌, ◌<◌, ℕ, true, false, List, [], ◌∷◌, Option, None, Some, Result, Ok, Err, IsSome, MatchOption}
 use Rattle.iv_bytes.specs.Sinks.{SinkState, Takes, FailsIn}
 use Rattle.iv_text.specs.Genome.{Sequences}
 use Rattle.iv_text.specs.Row.{Row}
@@ -9,7 +9,7 @@ use Rattle.iv_view.specs.declared.view.View.{View}
 use Rattle.iv_view.specs.declared.view.View.TheVariants as view
 use Rattle.iv_workspace.specs.OpenViews.{Shown, Freshens, all_current, stale_count, with_current}
 use Rattle.iv_workspace.specs.States.{State}
-use Rattle.iv_workspace.specs.Views.{all_text, text_in}
+use Rattle.iv_workspace.specs.Views.{all_text, text_in, view_named}
 use Rattle.iv_workspace.specs.declared.fault.PrintFault.{PrintFault}
 use Rattle.iv_workspace.specs.declared.fault.PrintFault.TheVariants as printing
 
@@ -33,6 +33,12 @@ PrintedView old name v new out0 out1 (Err printing.Write) = FailsIn out0 out1 (t
 PrintedView old name v new out0 out1 (Err (printing.Refused fault.NoMemory)) =
     (v.stale ≡ true) × IsSome (state_key_of v.view) × (out1 ≡ out0) × (new ≡ old)
 PrintedView old name v new out0 out1 (Err (printing.Refused other)) = ⊥
+
+-- the same of a name that a view may have: if none has it, that is the fault, nothing is written, and all is as before
+abbrev pub PrintedNamed : State → List ℕ → State → SinkState → SinkState → Result (Unit {0}) PrintFault → Type 0
+PrintedNamed old name new out0 out1 result = MatchOption (view_named old.views name)
+    ((result ≡ Err (printing.Refused fault.NoView)) × (out1 ≡ out0) × (new ≡ old))
+    (λ v. PrintedView old name v new out0 out1 result)
 
 -- what a print of all views leaves: their texts, or a prefix, and all current;
 -- or, if an allocation for a stale view failed, nothing written, and some views may have become current

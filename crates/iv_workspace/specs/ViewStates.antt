@@ -1,6 +1,7 @@
 -- The states of open views, and their repairs. No part of what is promised.
 use Rattle.std.specs.Prelude.{◌≡◌, ◌⊎◌, ℕ, zero, suc, Bool, true, false, List, [], ◌∷◌, Option, None, Some, IfSome, map}
 use Rattle.std.specs.List.{AllByRecursion}
+use Rattle.iv_text.specs.Ordered.{added}
 use Rattle.iv_text.specs.Row.{Row}
 use Rattle.iv_track.specs.Steps.{TakesUpTo}
 use Rattle.iv_view.specs.KeptStates.{built_for, state_key_of, IsRight}
@@ -8,7 +9,9 @@ use Rattle.iv_view.specs.declared.kept_state.KeptState.{KeptState}
 use Rattle.iv_view.specs.declared.kept_state.StateKey.{StateKey}
 use Rattle.iv_view.specs.declared.view.View.{View}
 use Rattle.iv_workspace.specs.OpenViews.{Shown, Stales, all_steps, view_steps}
-use Rattle.iv_workspace.specs.declared.open_view.OpenView.{OpenView}
+use Rattle.iv_workspace.specs.declared.views.OpenView.{OpenView}
+use Rattle.iv_workspace.specs.declared.views.states.Change.{Change}
+use Rattle.iv_workspace.specs.declared.views.states.Change.TheVariants.{Added, Removed}
 
 -- an open view as contracts see it
 abbrev pub seen : {A : Type 0} → OpenView A → Shown
@@ -59,6 +62,22 @@ AreOwnRight views names rows = AllByRecursion (λ v. IsOwnRight v.1 names rows) 
 -- the states of open views are right, and each view that is current has the state that it needs, its own or that of another
 abbrev pub AreRight : {A : Type 0} → List (List ℕ × OpenView A) → List (List ℕ) → List Row → Type 0
 AreRight views names rows = AreOwnRight views names rows × HaveStates (all_owned views) (all_seen views)
+
+-- the records before and after: one of the two is the other with one more copy of r
+abbrev pub IsChanged : Change → Row → List Row → List Row → Type 0
+IsChanged Added r before after = after ≡ added before r
+IsChanged Removed r before after = before ≡ added after r
+
+-- that one of the two that has the copy, by the records after the edit
+abbrev pub with_edited : Change → List Row → Row → List Row
+with_edited Added rows r = rows
+with_edited Removed rows r = added rows r
+
+-- what is kept was right for the records before the edit
+pub record WasRight {S : Type 0} (change : Change) (is_right : S → List Row → Type 0) (state : S) (rows : List Row) (r : Row) : Type 0 where
+  pub before : List Row
+  pub right : is_right state before
+  pub changed : IsChanged change r before rows
 
 -- an open view's own state was repaired: it is the same view, and stays stale if it was; if the state wasn't lost, nothing
 -- else has changed; `with_r` are the records with r

@@ -1,16 +1,11 @@
 //! A session: a track of records that a curator corrects, with views of it kept open.
 #![tactic(auto)]
 
-mod edit;
 mod fault;
 mod laws;
-mod names;
-mod open_view;
-mod past_end;
 mod session;
 mod views;
 
-pub use edit::{Edit, Target};
 pub use fault::{PrintFault, ResizeFault, SecondFault};
 pub use laws::corrected_lengths_are_those_of_bases;
-pub use session::{Accepted, Session};
+pub use session::{Accepted, Edit, Session, Target};

@@ -3,43 +3,20 @@ ghost use Rattle.std.specs.Prelude.{◌≡◌, ◌+◌, ◌≤◌, ◌<◌, ◌�
 ghost use Rattle.iv_text.specs.Ordered.{copies};
 ghost use Rattle.iv_text.specs.Read.{read, Fits};
 ghost use Rattle.iv_track.specs.Tracked.{most_records};
-ghost use Rattle.iv_workspace.specs.ViewStates.{all_seen};
-ghost use Rattle.iv_workspace.specs.OpenViews.{stale_count};
 ghost use Rattle.iv_workspace.specs.States.{State, begun, tracked};
 
 mod edits;
 mod lengths;
 mod open_views;
-mod printing;
-mod second_edits;
-mod track_edits;
 
 use crate::views::Views;
+pub use edits::{Accepted, Edit, Target};
 use iv_fasta::Fasta;
 use iv_pair::Second;
 use iv_text::{BedBatches, BedFile, Genome, RecordFault, RecordRef, read_record};
-use iv_track::{Meter, Track};
+use iv_track::Track;
 use std::alloc::{AllocError, Allocator, Global};
 use std::marker::Model;
-
-/// An edit that was done: how many steps it took in the track and the views, and how many open views are stale after it.
-#[derive(Clone, Copy, Debug, PartialEq, Eq)]
-pub struct Accepted {
-    pub steps: u64,
-    pub stale: u32,
-}
-
-impl Accepted {
-    /// What an edit answers: the reading of its meter, and how many of the views are stale.
-    fn of<A: Allocator + Copy>(meter: &Meter, views: &Views<A>) -> Accepted
-        ensures { result ≡ record { steps = meter.now; stale = stale_count (all_seen views.now) } }
-    {
-        Accepted {
-            steps: meter.steps(),
-            stale: views.stale(),
-        }
-    }
-}
 
 /// A genome, a track of records on it, a second file and a FASTA file or none, and the open views in order of opening.
 ///
@@ -100,10 +77,6 @@ fn into_batches<A: Allocator + Copy>(file: Option<BedFile<A>>) -> Option<BedBatc
 
 impl<A: Allocator + Copy> Session<A> {
     /// A session of the records of a file, and of a second file and a FASTA file or none, with no view open. Copies are kept.
-    ///
-    /// # Errors
-    ///
-    /// An allocation failed.
     pub fn new(
         alloc: A,
         genome: Genome<A>,
@@ -125,10 +98,6 @@ impl<A: Allocator + Copy> Session<A> {
 
     /// A session of the same, as [`Session::new`] makes it. The vectors of each file's records are freed one after the other while
     /// its track is built.
-    ///
-    /// # Errors
-    ///
-    /// An allocation failed.
     pub fn from_batches(
         alloc: A,
         genome: Genome<A>,

@@ -1,29 +1,40 @@
 //! The views that a session keeps open.
-ghost use Rattle.std.specs.Prelude.{◌≡◌, ◌≤◌, ◌<◌, ◌↔◌, [], ℕ, List, None, Some, IfSome, IfOk, IsTrue, All, length, true};
+ghost use Rattle.std.specs.Prelude.{◌≡◌, ◌≤◌, ◌<◌, ◌++◌, ◌∷◌, ◌⊎◌, [], ℕ, List, None, Some, IfSome, IfNone, IsSomeAnd, IfOk, OnOk, OnErr, All, length, false, true};
 ghost use Rattle.std.specs.List.{slice_get};
-ghost use Rattle.std.specs.Map.{lookup};
-ghost use Rattle.std.specs.Option.{is_some, option_map, option_copied};
+ghost use Rattle.std.specs.Map.{lookup, remove_entry};
+ghost use Rattle.std.specs.Option.{is_some, option_map, option_copied, unwrap_or};
 ghost use Rattle.std.specs.Str.{bytes_eq};
+ghost use Rattle.iv_bytes.specs.Sinks.{Puts};
 ghost use Rattle.iv_text.specs.Named.{names_of};
 ghost use Rattle.iv_text.specs.Read.{Fits};
 ghost use Rattle.iv_text.specs.Row.{Row};
-ghost use Rattle.iv_view.specs.KeptStates.{built_for, IsRight};
-ghost use Rattle.iv_workspace.specs.ViewStates.{AreOwnRight, IsKept, IsMissing, IsOwned, all_owned, all_seen, seen};
-ghost use Rattle.iv_workspace.specs.OpenViews.{stale_count};
+ghost use Rattle.iv_view.specs.Views.{second_rows, view_text};
+ghost use Rattle.iv_workspace.specs.OpenViews.{Freshens, all_current, stale_count, with_current};
+ghost use Rattle.iv_workspace.specs.Prints.{ViewPrintsWithin};
+ghost use Rattle.iv_workspace.specs.States.{IsServed};
+ghost use Rattle.iv_workspace.specs.ViewStates.{AreRight, IsKept, all_owned, all_seen, current_at, seen};
 ghost use Rattle.iv_workspace.specs.Views.{view_named};
 
-mod opening;
-mod printing;
-mod refreshing;
-mod repairing;
+mod states;
 
-use crate::open_view::OpenView;
-use iv_cover::Kept;
+use iv_bytes::{Sink, WriteFault};
+use iv_fasta::Fasta;
+use iv_pair::Second;
 use iv_text::{AfterText, Genome, NameMap};
 use iv_track::{Meter, Track};
-use iv_view::{KeptState, StateKey, View};
+use iv_view::{KeptState, View};
+pub(crate) use states::Change;
 use std::alloc::{AllocError, Allocator, Global};
 use std::marker::Model;
+
+/// An open view. What is kept of it is in its own state, or in that of another open view of which the same is kept.
+#[derive(Drop)]
+pub(crate) struct OpenView<A: Allocator + Copy = Global> {
+    pub(crate) view: View,
+    /// Whether it must be rebuilt before it is printed.
+    pub(crate) stale: bool,
+    pub(crate) state: Option<KeptState<A>>,
+}
 
 /// The open views by name, in order of opening: at most 64.
 #[derive(Drop)]
@@ -33,7 +44,7 @@ pub(crate) struct Views<A: Allocator + Copy = Global> {
 
 impl<A: Allocator + Copy> Model for Views<A> {
     ghost use Rattle.std.specs.Prelude.{List, ℕ, ◌≤◌, length};
-    ghost use Rattle.iv_workspace.specs.declared.open_view.OpenView.{OpenView};
+    ghost use Rattle.iv_workspace.specs.declared.views.OpenView.{OpenView};
 
     ghost Value = { List (List ℕ × OpenView A) };
 
@@ -97,49 +108,156 @@ impl<A: Allocator + Copy> Views<A> {
         count
     }
 
-    /// The state that is kept for this, if a view has one.
-    fn state_for(&self, what: StateKey) -> Option<&KeptState<A>>
-        ensures right { IfSome result (λ k. (names : List (List ℕ)) (rows : List Row) → AreOwnRight self.now names rows → (built_for k.now ≡ what) × IsRight k.now names rows) }
-        ensures owned { IfSome result (λ k. IsOwned what (all_owned self.now)) }
-        ensures none { result ≡ None → IsOwned what (all_owned self.now) → ⊥ }
-    {
-        for place in 0..self.views.len() {
-            if let Some(state) = self.views[place].state_for(what) {
-                return Some(state);
-            }
-        }
-        None
-    }
-
-    /// Whether nothing is kept of a view, or a view has the state.
-    fn is_kept(&self, view: View) -> bool
-        ensures { IsTrue result ↔ IsKept (all_owned self.now) view }
-    {
-        match view.state_key() {
-            Some(what) => self.state_for(what).is_some(),
-            None => true,
-        }
-    }
-
-    /// The state that a view needs and that is not kept yet, for a track as it is.
-    fn missing_state(
-        &self,
+    /// Opens a view, the last, of a track as it is. Its state is built, unless another view has it. An error changes nothing.
+    pub(crate) fn open(
+        &mut self,
         alloc: A,
+        name: &[u8],
         view: View,
         track: &Track<A>,
         genome: &Genome<A>,
         meter: &mut Meter,
-    ) -> Result<Option<KeptState<A>>, AllocError>
-        requires { All (Fits genome.now track.now.width) track.now.rows }
-        ensures { IfOk result (λ state. IsMissing (all_owned self.now) view (names_of genome.now) track.now.rows state) }
+    ) -> Result<(), AllocError>
+        requires fresh { lookup (bytes_eq name.now) self.old ≡ None }
+        requires room { length self.old < 64 }
+        requires right { AreRight self.old (names_of genome.now) track.now.rows }
+        requires fit { All (Fits genome.now track.now.width) track.now.rows }
+        ensures right { OnOk result (AreRight self.new (names_of genome.now) track.now.rows) }
+        ensures ok { OnOk result (all_seen self.new ≡ all_seen self.old ++ (name.now, record { view = view; stale = false }) ∷ []) }
+        ensures err { OnErr result (self.new ≡ self.old) }
     {
-        let Some(what) = view.state_key() else {
+        let state = self.missing_state(alloc, view, track, genome, meter)?;
+        let opened = OpenView {
+            view,
+            stale: false,
+            state,
+        };
+        self.views.push(alloc, name, opened)
+    }
+
+    /// Takes the view of a name out, if there is one. The others keep their order, and a state that they need.
+    pub(crate) fn remove(&mut self, name: &[u8])
+        ensures seen { all_seen self.new ≡ remove_entry (bytes_eq name.now) (all_seen self.old) }
+        ensures right { (names : List (List ℕ)) (rows : List Row) → AreRight self.old names rows → AreRight self.new names rows }
+    {
+        let Some(closed) = self.views.remove(name) else {
+            return;
+        };
+        let OpenView {
+            view,
+            stale: _,
+            state,
+        } = closed;
+        self.hand_on(view, state);
+    }
+
+    /// The view of a name, if there is one. If it is stale it is rebuilt first, and otherwise no step is taken. An error changes
+    /// nothing.
+    pub(crate) fn refresh(
+        &mut self,
+        name: &[u8],
+        alloc: A,
+        track: &Track<A>,
+        genome: &Genome<A>,
+        meter: &mut Meter,
+    ) -> Result<Option<View>, AllocError>
+        requires right { AreRight self.old (names_of genome.now) track.now.rows }
+        requires fit { All (Fits genome.now track.now.width) track.now.rows }
+        ensures right { AreRight self.new (names_of genome.now) track.now.rows }
+        ensures view { IfOk result (λ found. found ≡ option_map (λ v. v.view) (view_named (all_seen self.old) name.now)) }
+        ensures ok { OnOk result (all_seen self.new ≡ with_current (all_seen self.old) name.now) }
+        ensures none { IfOk result (λ found. IfNone found (self.new ≡ self.old)) }
+        ensures err { OnErr result (self.new ≡ self.old) }
+        ensures stale { OnErr result (IsSomeAnd (view_named (all_seen self.old) name.now) (λ v. v.stale ≡ true)) }
+        ensures steps { (meter.new ≡ meter.old) ⊎ IsSomeAnd (view_named (all_seen self.old) name.now) (λ v. v.stale ≡ true) }
+    {
+        let Some((place, opened)) = self.views.find(name) else {
             return Ok(None);
         };
-        if self.state_for(what).is_some() {
-            return Ok(None);
+        let view = opened.view;
+        self.refresh_at(place, alloc, track, genome, meter)?;
+        Ok(Some(view))
+    }
+
+    /// Rebuilds all stale views. If none is stale no step is taken. At an error those before it were built.
+    pub(crate) fn refresh_all(
+        &mut self,
+        alloc: A,
+        track: &Track<A>,
+        genome: &Genome<A>,
+        meter: &mut Meter,
+    ) -> Result<(), AllocError>
+        requires right { AreRight self.old (names_of genome.now) track.now.rows }
+        requires fit { All (Fits genome.now track.now.width) track.now.rows }
+        ensures right { AreRight self.new (names_of genome.now) track.now.rows }
+        ensures ok { OnOk result (all_seen self.new ≡ all_current (all_seen self.old)) }
+        ensures err { OnErr result (Freshens (all_seen self.old) (all_seen self.new)) }
+        ensures stale { OnErr result (0 < stale_count (all_seen self.old)) }
+        ensures steps { (meter.new ≡ meter.old) ⊎ (0 < stale_count (all_seen self.old)) }
+    {
+        for place in 0..self.views.len() {
+            self.refresh_at(place, alloc, track, genome, meter)?;
         }
-        let state = KeptState::build(alloc, what, track, genome, meter)?;
-        Ok(Some(state))
+        Ok(())
+    }
+
+    /// Rebuilds the view at a place, if it is stale. If another view has its state, nothing is built. No step is taken if it isn't
+    /// stale. An error changes nothing.
+    fn refresh_at(
+        &mut self,
+        place: usize,
+        alloc: A,
+        track: &Track<A>,
+        genome: &Genome<A>,
+        meter: &mut Meter,
+    ) -> Result<(), AllocError>
+        requires within { place < length self.old }
+        requires right { AreRight self.old (names_of genome.now) track.now.rows }
+        requires fit { All (Fits genome.now track.now.width) track.now.rows }
+        ensures right { AreRight self.new (names_of genome.now) track.now.rows }
+        ensures ok { OnOk result (all_seen self.new ≡ current_at place (all_seen self.old)) }
+        ensures err { OnErr result (self.new ≡ self.old) }
+        ensures stale { OnErr result (IfSome (slice_get (all_seen self.old) place) (λ v. v.1.stale ≡ true)) }
+        ensures steps { (meter.new ≡ meter.old) ⊎ IfSome (slice_get (all_seen self.old) place) (λ v. v.1.stale ≡ true) }
+    {
+        let opened = &self.views[place];
+        if !opened.stale {
+            return Ok(());
+        }
+        let state = self.missing_state(alloc, opened.view, track, genome, meter)?;
+        let opened = &mut self.views[place];
+        opened.renew(state);
+        Ok(())
+    }
+
+    /// Puts the text of a view whose state is kept into the sink. On a fault the sink has taken a prefix of it.
+    /// It takes no more steps than its print from what is kept.
+    pub(crate) fn put<S: Sink>(
+        &self,
+        view: View,
+        track: &Track<A>,
+        second: Option<&Second<A>>,
+        fasta: Option<&Fasta<A>>,
+        genome: &Genome<A>,
+        meter: &mut Meter,
+        sink: &mut S,
+    ) -> Result<(), WriteFault>
+        requires kept { IsKept (all_owned self.now) view }
+        requires served { IsServed (option_copied second) view }
+        requires right { AreRight self.now (names_of genome.now) track.now.rows }
+        requires fit { All (Fits genome.now track.now.width) track.now.rows }
+        ensures text { Puts (S.state sink.old) (S.state sink.new) result
+            (view_text view genome.now track.now.rows (second_rows (option_copied second.entry)) (unwrap_or (option_copied fasta.entry) [])) }
+        ensures steps { ViewPrintsWithin view genome.now track.now.rows meter.old meter.new }
+    {
+        match view {
+            View::Kept(kept) => {
+                let Some(state) = self.state_for(kept.state_key()) else {
+                    unreachable!()
+                };
+                kept.print(state, track, genome, meter, sink)
+            }
+            View::Written(view) => view.print(track, second, fasta, genome, meter, sink),
+        }
     }
 }

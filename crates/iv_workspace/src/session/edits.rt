@@ -1,13 +1,56 @@
-//! One edit of either track.
-ghost use Rattle.std.specs.Prelude.{◌≡◌, ◌≤◌, IfOk, IfErr, OnOk, OnErr};
-ghost use Rattle.iv_workspace.specs.Edits.{Allows, EditFits, FitsIn, IsLeft, RefusesIn, AllowsIn, most_steps, width_of};
+//! Edits of the two tracks of a session: of its own, and of the second file.
+ghost use Rattle.std.specs.Prelude.{◌≡◌, ◌≤◌, ◌↔◌, None, Some, false, IsTrue, IfOk, IfErr, IfSome, OnErr, Ok, Err};
+ghost use Rattle.iv_text.specs.Read.{Fits};
+ghost use Rattle.iv_workspace.specs.Edits.{EditFits, FitsIn, IsDone, RefusesIn, read_second, width_of};
 ghost use Rattle.iv_workspace.specs.OpenViews.{stale_count};
+ghost use Rattle.iv_workspace.specs.States.{FitsSecond};
+ghost use Rattle.iv_workspace.specs.ViewStates.{all_seen};
 
-use super::{Accepted, Session};
-use crate::edit::{Edit, Target};
-use iv_text::Fault;
-use iv_track::EditFault;
+use super::Session;
+use crate::fault::SecondFault;
+use crate::views::{Change, Views};
+use iv_text::{Fault, RecordRef, read_record};
+use iv_track::{EditFault, Meter};
 use std::alloc::Allocator;
+
+/// Which of the two tracks an edit is for: the session's own, or the second file.
+#[derive(Clone, Copy, Debug, PartialEq, Eq)]
+pub enum Target {
+    /// The session's own track.
+    First,
+    /// The records of the second file.
+    Second,
+}
+
+/// An edit of a track.
+#[derive(Drop)]
+pub enum Edit<'a> {
+    /// To add a record.
+    Add(RecordRef<'a>),
+    /// To take a copy of a record out.
+    Remove(RecordRef<'a>),
+    /// To take a copy of the first record out, and to add the second.
+    Replace(RecordRef<'a>, RecordRef<'a>),
+}
+
+/// An edit that was done: how many steps it took in the track and the views, and how many open views are stale after it.
+#[derive(Clone, Copy, Debug, PartialEq, Eq)]
+pub struct Accepted {
+    pub steps: u64,
+    pub stale: u32,
+}
+
+impl Accepted {
+    /// What an edit answers: the reading of its meter, and how many of the views are stale.
+    fn of<A: Allocator + Copy>(meter: &Meter, views: &Views<A>) -> Accepted
+        ensures { result ≡ record { steps = meter.now; stale = stale_count (all_seen views.now) } }
+    {
+        Accepted {
+            steps: meter.steps(),
+            stale: views.stale(),
+        }
+    }
+}
 
 impl<A: Allocator + Copy> Session<A> {
     /// How many columns the records of a track have, 3 to 6.
@@ -32,10 +75,7 @@ impl<A: Allocator + Copy> Session<A> {
     /// Those of the call for this edit. A refusal changes nothing.
     pub fn edit(&mut self, target: Target, edit: &Edit<'_>) -> Result<Accepted, EditFault>
         requires { EditFits (FitsIn self.old target) edit.now }
-        ensures allowed { OnOk result (AllowsIn target edit.now self.old) }
-        ensures ok { OnOk result (IsLeft target edit.now self.old self.new) }
-        ensures steps { IfOk result (λ a. a.steps ≤ most_steps target edit.now self.old) }
-        ensures stale { IfOk result (λ a. a.stale ≡ stale_count self.new.views) }
+        ensures ok { IfOk result (IsDone target edit.now self.old self.new) }
         ensures why { IfErr result (RefusesIn target edit.now self.old) }
         ensures err { OnErr result (self.new ≡ self.old) }
     {
@@ -47,5 +87,164 @@ impl<A: Allocator + Copy> Session<A> {
             (Target::Second, Edit::Remove(row)) => self.remove_second(row),
             (Target::Second, Edit::Replace(old, new)) => self.replace_second(old, new),
         }
+    }
+
+    /// Adds a record, and then repairs each view. A view whose repair runs out of memory becomes stale.
+    ///
+    /// `Full` comes exactly if the track holds its limit, unless memory runs out. A record of width 3 needs no
+    /// memory for its own copy, and the track needs none for a record that is there. A refusal changes nothing.
+    pub fn add(&mut self, row: &RecordRef<'_>) -> Result<Accepted, EditFault>
+        requires { Fits self.old.genome self.old.track.width row.now }
+        ensures ok { IfOk result (IsDone Target.First (Edit.Add row.now) self.old self.new) }
+        ensures why { IfErr result (RefusesIn Target.First (Edit.Add row.now) self.old) }
+        ensures err { OnErr result (self.new ≡ self.old) }
+    {
+        let record = row.to_record(self.alloc)?;
+        let mut meter = Meter::new();
+        self.track.add(record, &mut meter)?;
+        self.views
+            .repair(Change::Added, &self.track, &self.genome, row, &mut meter);
+        Ok(Accepted::of(&meter, &self.views))
+    }
+
+    /// Takes one copy of a record out, and then repairs each view. A view whose repair runs out of memory becomes stale.
+    ///
+    /// `Absent` comes exactly if there is no copy, unless memory runs out, which is reported only for the copy of
+    /// the record that is searched for, never at width 3. A refusal changes nothing.
+    pub fn remove(&mut self, row: &RecordRef<'_>) -> Result<Accepted, EditFault>
+        requires { Fits self.old.genome self.old.track.width row.now }
+        ensures ok { IfOk result (IsDone Target.First (Edit.Remove row.now) self.old self.new) }
+        ensures why { IfErr result (RefusesIn Target.First (Edit.Remove row.now) self.old) }
+        ensures err { OnErr result (self.new ≡ self.old) }
+    {
+        let record = row.to_record(self.alloc)?;
+        let mut meter = Meter::new();
+        self.track.remove(&record, &mut meter)?;
+        self.views.repair(Change::Removed, &self.track, &self.genome, row, &mut meter);
+        Ok(Accepted::of(&meter, &self.views))
+    }
+
+    /// Adds the new record, in a full track too, and repairs each view; then takes one copy of the old record out, and
+    /// repairs each view again. A view whose repair runs out of memory becomes stale.
+    ///
+    /// `Absent` comes exactly if there is no copy of the old record, unless memory runs out. A record that is
+    /// there can be replaced by itself. A refusal changes nothing.
+    pub fn replace(
+        &mut self,
+        old: &RecordRef<'_>,
+        new: &RecordRef<'_>,
+    ) -> Result<Accepted, EditFault>
+        requires old { Fits self.old.genome self.old.track.width old.now }
+        requires new { Fits self.old.genome self.old.track.width new.now }
+        ensures ok { IfOk result (IsDone Target.First (Edit.Replace old.now new.now) self.old self.new) }
+        ensures why { IfErr result (RefusesIn Target.First (Edit.Replace old.now new.now) self.old) }
+        ensures err { OnErr result (self.new ≡ self.old) }
+    {
+        let before = old.to_record(self.alloc)?;
+        let after = new.to_record(self.alloc)?;
+        let mut meter = Meter::new();
+        if self.track.copies(&before, &mut meter) == 0 {
+            return Err(EditFault::Absent);
+        }
+        self.track.stage(after, &mut meter)?;
+        self.views
+            .repair(Change::Added, &self.track, &self.genome, new, &mut meter);
+        let Ok(()) = self.track.remove(&before, &mut meter) else {
+            unreachable!()
+        };
+        self.views.repair(Change::Removed, &self.track, &self.genome, old, &mut meter);
+        Ok(Accepted::of(&meter, &self.views))
+    }
+
+    /// The record that a line means on the session's genome at the second file's width.
+    /// It is for callers outside this repository.
+    ///
+    /// # Errors
+    ///
+    /// `NoSecond` exactly if there is no second file, or else the line's first fault.
+    pub fn read_second<'a>(&self, line: &'a [u8]) -> Result<RecordRef<'a>, SecondFault>
+        ensures value { result ≡ read_second self.now line.now }
+        ensures known { IfSome self.now.second (λ t. (3 ≤ t.width) × (t.width ≤ 6)) }
+        ensures fits { IfOk result (FitsSecond self.now) }
+    {
+        let Some(width) = self.second_width() else {
+            return Err(SecondFault::NoSecond);
+        };
+        read_record(&self.genome, width, line)
+    }
+
+    /// Whether there is a second file, and a record is one of its width on the session's genome.
+    /// It is for callers outside this repository.
+    pub fn fits_second(&self, row: &RecordRef<'_>) -> bool
+        ensures { IsTrue result ↔ FitsSecond self.now row.now }
+    {
+        match self.second_width() {
+            Some(width) => row.fits(&self.genome, width),
+            None => false,
+        }
+    }
+
+    /// Adds a record to the second file, which there is. No view keeps anything of it, so none becomes stale. At most 16 steps.
+    ///
+    /// `Full` comes exactly if the second file holds its limit, unless memory runs out. A record of width 3 needs no
+    /// memory for its own copy, and the second file needs none for a record that is there. A refusal changes nothing.
+    pub fn add_second(&mut self, row: &RecordRef<'_>) -> Result<Accepted, EditFault>
+        requires { FitsSecond self.old row.now }
+        ensures ok { IfOk result (IsDone Target.Second (Edit.Add row.now) self.old self.new) }
+        ensures why { IfErr result (RefusesIn Target.Second (Edit.Add row.now) self.old) }
+        ensures err { OnErr result (self.new ≡ self.old) }
+    {
+        let record = row.to_record(self.alloc)?;
+        let mut meter = Meter::new();
+        let Some(second) = &mut self.second else {
+            unreachable!()
+        };
+        second.add(record, &mut meter)?;
+        Ok(Accepted::of(&meter, &self.views))
+    }
+
+    /// Takes one copy of a record out of the second file, which there is. No view becomes stale. At most 16 steps.
+    ///
+    /// `Absent` comes exactly if there is no copy, unless memory runs out, which is reported only for the copy of
+    /// the record that is searched for, never at width 3. A refusal changes nothing.
+    pub fn remove_second(&mut self, row: &RecordRef<'_>) -> Result<Accepted, EditFault>
+        requires { FitsSecond self.old row.now }
+        ensures ok { IfOk result (IsDone Target.Second (Edit.Remove row.now) self.old self.new) }
+        ensures why { IfErr result (RefusesIn Target.Second (Edit.Remove row.now) self.old) }
+        ensures err { OnErr result (self.new ≡ self.old) }
+    {
+        let record = row.to_record(self.alloc)?;
+        let mut meter = Meter::new();
+        let Some(second) = &mut self.second else {
+            unreachable!()
+        };
+        second.remove(&record, &mut meter)?;
+        Ok(Accepted::of(&meter, &self.views))
+    }
+
+    /// Takes one copy of the old record out of the second file, which there is, and adds the new one, if it is full too. No view
+    /// becomes stale. At most 16 steps.
+    ///
+    /// `Absent` comes exactly if there is no copy of the old record, unless memory runs out. A record that is
+    /// there can be replaced by itself. A refusal changes nothing.
+    pub fn replace_second(
+        &mut self,
+        old: &RecordRef<'_>,
+        new: &RecordRef<'_>,
+    ) -> Result<Accepted, EditFault>
+        requires old { FitsSecond self.old old.now }
+        requires new { FitsSecond self.old new.now }
+        ensures ok { IfOk result (IsDone Target.Second (Edit.Replace old.now new.now) self.old self.new) }
+        ensures why { IfErr result (RefusesIn Target.Second (Edit.Replace old.now new.now) self.old) }
+        ensures err { OnErr result (self.new ≡ self.old) }
+    {
+        let before = old.to_record(self.alloc)?;
+        let after = new.to_record(self.alloc)?;
+        let mut meter = Meter::new();
+        let Some(second) = &mut self.second else {
+            unreachable!()
+        };
+        second.replace(&before, after, &mut meter)?;
+        Ok(Accepted::of(&meter, &self.views))
     }
 }

@@ -1,5 +1,5 @@
 use Rattle.std.specs.Prelude.{All}
-use Rattle.std.proofs.Common.{◌≡◌, ◌∙◌, inr, arith, sym, ap, subst}
+use Rattle.std.proofs.Common.{◌≡◌, ◌∙◌, ◌<◌, inr, length, arith, sym, ap, subst}
 use Rattle.std.proofs.lemmas.Result.{err_from_is_err_and}
 use Rattle.iv_text.specs.Ordered.{added}
 use Rattle.iv_text.specs.Read.{Fits}
@@ -9,7 +9,7 @@ use Rattle.iv_workspace.specs.ViewStates.{all_seen}
 use Rattle.iv_workspace.specs.OpenViews.{all_steps}
 use Rattle.iv_track.specs.Edits.{RefusesAdd, with_record}
 use Rattle.iv_workspace.specs.States.{State, IsTrackOn}
-use Rattle.iv_workspace.specs.declared.session.Accepted.{Accepted}
+use Rattle.iv_workspace.specs.declared.session.edits.Accepted.{Accepted}
 use Rattle.iv_workspace.proofs.SessionLemmas.{edited, fit-added, track-added, session-stales}
 use Rattle.iv_workspace.proofs.session.Session.add.Goals as goal
 
@@ -48,22 +48,21 @@ invariant_of-self-2 g c =
 
 pub returns-clause-ok : goal.returns-clause-ok
 returns-clause-ok g c =
-    edited (with_record c.args.row.now) _ _ c.add.new.self _ c.self.view_is
-    (c.in_ok-add.ensures.ok ∙ ap (λ (r : Row). record c.self.inside.track { rows = added c.self.inside.track.rows r }) c.in_ok-record.ensures.ok)
-    c.repair.ensures.stales
-
-pub returns-clause-steps : goal.returns-clause-steps
-returns-clause-steps g c =
     let inside = c.self.inside in
     let same : all_steps (all_seen inside.views) c.add.new.self.rows c.args.row.now ≡ all_steps c.args.self.now.views (added c.args.self.now.track.rows c.args.row.now) c.args.row.now =
     ap (λ (t : Tracked). all_steps (all_seen inside.views) t.rows c.args.row.now) c.in_ok-add.ensures.ok
     ∙ ap (λ (r : Row). all_steps (all_seen inside.views) (added inside.track.rows r) c.args.row.now) c.in_ok-record.ensures.ok
     ∙ ap (λ (s : State). all_steps s.views (added s.track.rows c.args.row.now) c.args.row.now) c.self.view_is in
     let more = c.repair.ensures.steps in
-    omega (arith, same, more.at_most, c.in_ok-add.ensures.steps.at_most, c.new-meter.ensures, ap (λ (a : Accepted). a.steps) c.of.ensures)
-
-pub returns-clause-stale : goal.returns-clause-stale
-returns-clause-stale g c = ap (λ (a : Accepted). a.stale) c.of.ensures
+    record {
+      done = (
+        subst (λ (s : State). length s.track.rows < s.track.limit) c.self.view_is c.in_ok-add.ensures.room,
+        edited (with_record c.args.row.now) _ _ c.add.new.self _ c.self.view_is
+            (c.in_ok-add.ensures.ok ∙ ap (λ (r : Row). record inside.track { rows = added inside.track.rows r }) c.in_ok-record.ensures.ok) c.repair.ensures.stales,
+      );
+      steps = omega (arith, same, more.at_most, c.in_ok-add.ensures.steps.at_most, c.new-meter.ensures, ap (λ (a : Accepted). a.steps) c.of.ensures);
+      stale = ap (λ (a : Accepted). a.stale) c.of.ensures;
+    }
 
 pub returns-in_err-add-clause-why : goal.returns-in_err-add-clause-why
 returns-in_err-add-clause-why g c =

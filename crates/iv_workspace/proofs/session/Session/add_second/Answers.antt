@@ -1,13 +1,14 @@
-use Rattle.std.proofs.Common.{◌⊎◌, inr, sym, subst}
+use Rattle.std.proofs.Common.{◌<◌, ◌⊎◌, ◌∙◌, inr, length, arith, ap, sym, subst}
 use Rattle.std.proofs.lemmas.Result.{err_from_is_err_and}
 use Rattle.iv_text.specs.Read.{Fits}
 use Rattle.iv_text.specs.Row.{Row}
-use Rattle.iv_track.specs.Edits.{RefusesAdd}
+use Rattle.iv_track.specs.Edits.{RefusesAdd, with_record}
 use Rattle.iv_workspace.specs.Edits.{RefusesCopy}
 use Rattle.iv_workspace.specs.ViewStates.{all_seen}
 use Rattle.iv_workspace.specs.States.{IsTrackOn}
+use Rattle.iv_workspace.specs.declared.session.edits.Accepted.{Accepted}
 use Rattle.iv_workspace.proofs.SessionLemmas.{track-added}
-use Rattle.iv_workspace.proofs.SecondLemmas.{of-second, fits-second, second-track, session-second}
+use Rattle.iv_workspace.proofs.SecondLemmas.{of-second, fits-second, second-edited, second-track, session-second}
 use Rattle.iv_workspace.proofs.session.Session.add_second.Goals as goal
 
 pub returns-in_err-add-clause-why : goal.returns-in_err-add-clause-why
@@ -17,6 +18,19 @@ returns-in_err-add-clause-why g c =
     rw (p.1, p.2)
     (of-second (λ t. RefusesCopy t reported ⊎ RefusesAdd t c.args.row.now reported) _ c.args.self.now c.in-Some.second c.self.view_is c.in-Some.is
     (inr (subst (λ (r : Row). RefusesAdd c.in-Some.second r reported) c.in_ok-record.ensures.ok c.in_err-add.ensures.why)))
+
+pub returns-clause-ok : goal.returns-clause-ok
+returns-clause-ok g c =
+    let t = c.in-Some.second in
+    let e = c.in_ok-add.ensures in
+    record {
+      done = (
+        of-second (λ u. length u.rows < u.limit) _ c.args.self.now t c.self.view_is c.in-Some.is e.room,
+        second-edited (with_record c.args.row.now) _ c.args.self.now t c.add.new.self c.self.view_is c.in-Some.is (e.ok ∙ ap (λ (r : Row). with_record r t) c.in_ok-record.ensures.ok),
+      );
+      steps = omega (arith, e.steps.at_most, c.new-meter.ensures, ap (λ (a : Accepted). a.steps) c.of.ensures);
+      stale = ap (λ (a : Accepted). a.stale) c.of.ensures;
+    }
 
 pub invariant_of-self-2 : goal.invariant_of-self-2
 invariant_of-self-2 g c =

@@ -1,11 +1,11 @@
 use Rattle.std.proofs.Common.{◌≡◌, ◌∙◌, ◌<◌, refl, ap, sym, subst, arith}
 use Rattle.std.proofs.lemmas.Result.{err_from_is_err_and}
-use Rattle.iv_bytes.proofs.Putting.{Takes-finished, FailsIn-finished, FailsIn-given_up}
+use Rattle.iv_bytes.proofs.Putting.{Puts-finished, FailsIn-given_up}
 use Rattle.iv_workspace.specs.ViewStates.{all_seen}
 use Rattle.iv_workspace.specs.OpenViews.{Freshens, all_current, stale_count}
 use Rattle.iv_workspace.specs.States.{State}
 use Rattle.iv_workspace.specs.Views.{all_text}
-use Rattle.iv_workspace.proofs.PrintLemmas.{all-fresh, same-all_text, Takes-text, FailsIn-text}
+use Rattle.iv_workspace.proofs.PrintLemmas.{all-fresh, same-all_text, FailsIn-text, Puts-text, all-answered}
 use Rattle.iv_workspace.proofs.StepLemmas.{printed-within}
 use Rattle.iv_workspace.proofs.SessionLemmas.{session-fresher, session-all_printed, views-changed}
 use Rattle.iv_workspace.proofs.session.Session.print_all_counted.Goals as goal
@@ -33,16 +33,6 @@ returns-in_err-put_views-clause-printed g c =
     let same = c.in_err-put_views.sink-1-own.given.1 (sym c.new-buffer.ensures.same_reference ∙ sym named) in
     rw (p.1, p.2, same) (FailsIn-text _ _ _ _ (ap all_text new ∙ same-all_text c.args.self.now) (FailsIn-given_up _ _ _ _ _ _ failed), new)
 
-pub returns-in_err-finish-clause-printed : goal.returns-in_err-finish-clause-printed
-returns-in_err-finish-clause-printed g c =
-    let p = err_from_is_err_and c.from_residual-in_err-finish.result c.from_residual-in_err-finish.ensures.1 in
-    let new = views-changed all_current _ c.args.self.now (all_seen c.refresh_all.new.self) c.self.view_is c.in_ok-refresh_all.ensures.ok in
-    let took = rw (c.new-buffer.ensures.same, c.new-buffer.ensures.empty) at c.in_ok-put_views.ensures.text in
-    let names = took.moved.same in
-    let named : c.put_views.new.sink.sink.ghost_name ≡ c.new-buffer.result.sink.ghost_name = cc names in
-    let same = c.sink-2-1.given.1 (sym c.new-buffer.ensures.same_reference ∙ sym named) in
-    rw (p.1, p.2, same) (FailsIn-text _ _ _ _ (ap all_text new ∙ same-all_text c.args.self.now) (FailsIn-finished _ _ _ _ _ _ _ took c.in_err-finish.ensures), new)
-
 pub returns-clause-printed : goal.returns-clause-printed
 returns-clause-printed g c =
     let new = views-changed all_current _ c.args.self.now (all_seen c.refresh_all.new.self) c.self.view_is c.in_ok-refresh_all.ensures.ok in
@@ -50,7 +40,8 @@ returns-clause-printed g c =
     let names = took.moved.same in
     let named : c.put_views.new.sink.sink.ghost_name ≡ c.new-buffer.result.sink.ghost_name = cc names in
     let same = c.sink-2-1.given.1 (sym c.new-buffer.ensures.same_reference ∙ sym named) in
-    rw same (Takes-text _ _ _ _ (ap all_text new ∙ same-all_text c.args.self.now) (Takes-finished _ _ _ _ _ _ _ took c.in_ok-finish.ensures), new)
+    let text = ap all_text new ∙ same-all_text c.args.self.now in
+    rw same (all-answered _ _ _ _ c.finish.result _ c.answer_of.ensures (Puts-text _ _ c.finish.result _ _ text (Puts-finished _ _ _ _ _ _ _ c.finish.result took c.finish.ensures)) new)
 
 pub invariant_of-self : goal.invariant_of-self
 invariant_of-self g c = (
@@ -75,10 +66,6 @@ returns-in_err-refresh_all-clause-steps g c =
 
 pub returns-in_err-put_views-clause-steps : goal.returns-in_err-put_views-clause-steps
 returns-in_err-put_views-clause-steps g c =
-    printed-within _ c.args.self.now (all_seen c.refresh_all.new.self) _ _ _ c.self.view_is c.in_ok-refresh_all.ensures.ok c.refresh_all.ensures.steps c.put_views.ensures.steps
-
-pub returns-in_err-finish-clause-steps : goal.returns-in_err-finish-clause-steps
-returns-in_err-finish-clause-steps g c =
     printed-within _ c.args.self.now (all_seen c.refresh_all.new.self) _ _ _ c.self.view_is c.in_ok-refresh_all.ensures.ok c.refresh_all.ensures.steps c.put_views.ensures.steps
 
 pub returns-clause-steps : goal.returns-clause-steps

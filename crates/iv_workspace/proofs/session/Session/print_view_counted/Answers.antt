@@ -1,14 +1,14 @@
 use Rattle.std.proofs.Common.{◌≡◌, ◌∙◌, false, true, refl, ap, sym, subst}
 use Rattle.std.specs.Prelude.{IfNone, Option}
 use Rattle.std.proofs.lemmas.Result.{err_from_is_err_and}
-use Rattle.iv_bytes.proofs.Putting.{Takes-finished, FailsIn-finished}
+use Rattle.iv_bytes.proofs.Putting.{Puts-finished}
 use Rattle.iv_view.specs.declared.view.View.{View}
 use Rattle.iv_workspace.specs.ViewStates.{IsKept, all_owned, all_seen}
 use Rattle.iv_workspace.specs.OpenViews.{current, with_current}
 use Rattle.iv_workspace.specs.States.{State, IsServed, IsWrittenFresh}
 use Rattle.iv_workspace.specs.Views.{view_named}
 use Rattle.iv_workspace.proofs.OpenViewLemmas.{all-named}
-use Rattle.iv_workspace.proofs.PrintLemmas.{match-none, match-some, view-found, view-none, some-and, current-found, same-text, Takes-text, FailsIn-text}
+use Rattle.iv_workspace.proofs.PrintLemmas.{match-none, match-some, view-found, view-none, some-and, current-found, same-text, Puts-text, view-answered}
 use Rattle.iv_workspace.proofs.StepLemmas.{none-within, stale-within, named-within}
 use Rattle.iv_workspace.proofs.SessionLemmas.{session-printed, stale-kept, views-changed}
 use Rattle.iv_workspace.proofs.session.Session.print_view_counted.Goals as goal
@@ -46,20 +46,6 @@ put-requires-clause-served g c =
     (subst (IsServed inside.second) (sym found.2)
     (all-named (λ v. IsServed inside.second v.view) c.args.name.now (all_seen inside.views) found.0 (sym found.1) c.self.invariant.0.served))
 
-pub returns-in_err-finish-clause-printed : goal.returns-in_err-finish-clause-printed
-returns-in_err-finish-clause-printed g c =
-    let p = err_from_is_err_and c.from_residual-in_err-finish.result c.from_residual-in_err-finish.ensures.1 in
-    let found = view-found _ c.in-Some.view (sym c.in-Some.is ∙ c.in_ok-view.ensures.view) in
-    let text = same-text _ c.args.self.now found.0 c.in-Some.view c.self.view_is found.2 in
-    let took = rw (c.new-buffer.ensures.same, c.new-buffer.ensures.empty) at c.in_ok-put.ensures.text in
-    let names = took.moved.same in
-    let named : c.put.new.sink.sink.ghost_name ≡ c.new-buffer.result.sink.ghost_name = cc names in
-    let same = c.sink-2-1.given.1 (sym c.new-buffer.ensures.same_reference ∙ sym named) in
-    let put = FailsIn-text _ _ _ _ text (rw (c.as_ref-second.ensures.value, c.as_ref-fasta.ensures.value) at (FailsIn-finished _ _ _ _ _ _ _ took c.in_err-finish.ensures)) in
-    rw (p.1, p.2, same)
-    (match-some _ _ _ found.0 (found.1 ∙ ap (λ (s : State). view_named s.views c.args.name.now) c.self.view_is)
-    (put, views-changed (λ views. with_current views c.args.name.now) _ c.args.self.now (all_seen c.refresh.new.self) c.self.view_is c.in_ok-view.ensures.ok))
-
 pub returns-clause-printed : goal.returns-clause-printed
 returns-clause-printed g c =
     let found = view-found _ c.in-Some.view (sym c.in-Some.is ∙ c.in_ok-view.ensures.view) in
@@ -68,20 +54,15 @@ returns-clause-printed g c =
     let names = took.moved.same in
     let named : c.put.new.sink.sink.ghost_name ≡ c.new-buffer.result.sink.ghost_name = cc names in
     let same = c.sink-2-1.given.1 (sym c.new-buffer.ensures.same_reference ∙ sym named) in
-    let put = Takes-text _ _ _ _ text (rw (c.as_ref-second.ensures.value, c.as_ref-fasta.ensures.value) at (Takes-finished _ _ _ _ _ _ _ took c.in_ok-finish.ensures)) in
+    let puts = Puts-text _ _ c.finish.result _ _ text
+    (rw (c.as_ref-second.ensures.value, c.as_ref-fasta.ensures.value) at (Puts-finished _ _ _ _ _ _ _ c.finish.result took c.finish.ensures)) in
     rw same
     (match-some _ _ _ found.0 (found.1 ∙ ap (λ (s : State). view_named s.views c.args.name.now) c.self.view_is)
-    (put, views-changed (λ views. with_current views c.args.name.now) _ c.args.self.now (all_seen c.refresh.new.self) c.self.view_is c.in_ok-view.ensures.ok))
+    (view-answered _ _ c.args.name.now found.0 _ _ c.finish.result _ c.answer_of.ensures puts
+    (views-changed (λ views. with_current views c.args.name.now) _ c.args.self.now (all_seen c.refresh.new.self) c.self.view_is c.in_ok-view.ensures.ok)))
 
 pub invariant_of-self-in_err-put : goal.invariant_of-self-in_err-put
 invariant_of-self-in_err-put g c = (
-  session-printed c.self.inside.genome c.self.inside.track c.self.inside.second c.args.name.now (all_seen c.self.inside.views) (all_seen c.refresh.new.self) c.self.invariant.0
-      c.in_ok-view.ensures.ok,
-  c.refresh.ensures.right,
-)
-
-pub invariant_of-self-in_err-finish : goal.invariant_of-self-in_err-finish
-invariant_of-self-in_err-finish g c = (
   session-printed c.self.inside.genome c.self.inside.track c.self.inside.second c.args.name.now (all_seen c.self.inside.views) (all_seen c.refresh.new.self) c.self.invariant.0
       c.in_ok-view.ensures.ok,
   c.refresh.ensures.right,
@@ -108,11 +89,6 @@ returns-in_err-view-clause-steps g c =
 
 pub returns-in_err-put-clause-steps : goal.returns-in_err-put-clause-steps
 returns-in_err-put-clause-steps g c =
-    let found = view-found _ c.in-Some.view (sym c.in-Some.is ∙ c.in_ok-view.ensures.view) in
-    named-within _ c.args.self.now c.args.name.now _ _ _ found.0 c.in-Some.view c.self.view_is found.1 found.2 c.refresh.ensures.steps c.put.ensures.steps
-
-pub returns-in_err-finish-clause-steps : goal.returns-in_err-finish-clause-steps
-returns-in_err-finish-clause-steps g c =
     let found = view-found _ c.in-Some.view (sym c.in-Some.is ∙ c.in_ok-view.ensures.view) in
     named-within _ c.args.self.now c.args.name.now _ _ _ found.0 c.in-Some.view c.self.view_is found.1 found.2 c.refresh.ensures.steps c.put.ensures.steps
 

@@ -1,6 +1,6 @@
-use Rattle.std.proofs.Common.{◌≡◌, ◌∙◌, List, inr, arith, ap, sym, subst}
+use Rattle.std.proofs.Common.{◌≡◌, ◌∙◌, ◌<◌, List, inr, arith, ap, sym, subst}
 use Rattle.std.proofs.lemmas.Result.{err_from_is_err_and}
-use Rattle.iv_text.specs.Ordered.{added}
+use Rattle.iv_text.specs.Ordered.{added, copies}
 use Rattle.iv_text.specs.Read.{Fits}
 use Rattle.iv_text.specs.Row.{Row}
 use Rattle.iv_track.specs.Tracked.{Tracked, removed}
@@ -8,7 +8,7 @@ use Rattle.iv_workspace.specs.ViewStates.{all_seen}
 use Rattle.iv_workspace.specs.OpenViews.{all_steps}
 use Rattle.iv_track.specs.Edits.{RefusesRemove, without_record}
 use Rattle.iv_workspace.specs.States.{State, IsTrackOn}
-use Rattle.iv_workspace.specs.declared.session.Accepted.{Accepted}
+use Rattle.iv_workspace.specs.declared.session.edits.Accepted.{Accepted}
 use Rattle.iv_track.proofs.Edits.{added-removed}
 use Rattle.iv_workspace.proofs.SessionLemmas.{edited, track-removed, session-stales}
 use Rattle.iv_workspace.proofs.session.Session.remove.Goals as goal
@@ -48,12 +48,6 @@ invariant_of-self-2 g c =
 
 pub returns-clause-ok : goal.returns-clause-ok
 returns-clause-ok g c =
-    edited (without_record c.args.row.now) _ _ c.remove.new.self _ c.self.view_is
-    (c.in_ok-remove.ensures.ok ∙ ap (λ (r : Row). record c.self.inside.track { rows = removed c.self.inside.track.rows r }) c.in_ok-record.ensures.ok)
-    c.repair.ensures.stales
-
-pub returns-clause-steps : goal.returns-clause-steps
-returns-clause-steps g c =
     let inside = c.self.inside in
     let e = c.in_ok-remove.ensures in
     let rows = with-again inside.track c.remove.new.self _ c.args.row.now c.in_ok-record.ensures.ok (added-removed inside.track.rows c.in_ok-record.record e.was_ordered e.there) e.ok in
@@ -61,10 +55,15 @@ returns-clause-steps g c =
     ap (λ (l : List Row). all_steps (all_seen inside.views) l c.args.row.now) (sym rows)
     ∙ ap (λ (s : State). all_steps s.views s.track.rows c.args.row.now) c.self.view_is in
     let more = c.repair.ensures.steps in
-    omega (arith, same, more.at_most, e.steps.at_most, c.new-meter.ensures, ap (λ (a : Accepted). a.steps) c.of.ensures)
-
-pub returns-clause-stale : goal.returns-clause-stale
-returns-clause-stale g c = ap (λ (a : Accepted). a.stale) c.of.ensures
+    record {
+      done = (
+        subst (λ (s : State). 0 < copies s.track.rows c.args.row.now) c.self.view_is (subst (λ (r : Row). 0 < copies inside.track.rows r) c.in_ok-record.ensures.ok e.there),
+        edited (without_record c.args.row.now) _ _ c.remove.new.self _ c.self.view_is
+            (e.ok ∙ ap (λ (r : Row). record inside.track { rows = removed inside.track.rows r }) c.in_ok-record.ensures.ok) c.repair.ensures.stales,
+      );
+      steps = omega (arith, same, more.at_most, e.steps.at_most, c.new-meter.ensures, ap (λ (a : Accepted). a.steps) c.of.ensures);
+      stale = ap (λ (a : Accepted). a.stale) c.of.ensures;
+    }
 
 pub returns-in_err-remove-clause-why : goal.returns-in_err-remove-clause-why
 returns-in_err-remove-clause-why g c =

@@ -1,13 +1,14 @@
-use Rattle.std.proofs.Common.{◌<◌, ◌⊎◌, inr, sym, subst}
+use Rattle.std.proofs.Common.{◌<◌, ◌⊎◌, ◌∙◌, inr, arith, ap, sym, subst}
 use Rattle.std.proofs.lemmas.Result.{err_from_is_err_and}
 use Rattle.iv_text.specs.Ordered.{copies}
 use Rattle.iv_text.specs.Row.{Row}
-use Rattle.iv_track.specs.Edits.{RefusesRemove}
+use Rattle.iv_track.specs.Edits.{RefusesRemove, without_record}
 use Rattle.iv_workspace.specs.Edits.{RefusesCopy}
 use Rattle.iv_workspace.specs.ViewStates.{all_seen}
 use Rattle.iv_workspace.specs.States.{IsTrackOn}
+use Rattle.iv_workspace.specs.declared.session.edits.Accepted.{Accepted}
 use Rattle.iv_workspace.proofs.SessionLemmas.{track-removed}
-use Rattle.iv_workspace.proofs.SecondLemmas.{of-second, second-track, session-second}
+use Rattle.iv_workspace.proofs.SecondLemmas.{of-second, second-edited, second-track, session-second}
 use Rattle.iv_workspace.proofs.session.Session.remove_second.Goals as goal
 
 pub returns-in_err-remove-clause-why : goal.returns-in_err-remove-clause-why
@@ -18,10 +19,19 @@ returns-in_err-remove-clause-why g c =
     (of-second (λ t. RefusesCopy t reported ⊎ RefusesRemove t c.args.row.now reported) _ c.args.self.now c.in-Some.second c.self.view_is c.in-Some.is
     (inr (subst (λ (r : Row). RefusesRemove c.in-Some.second r reported) c.in_ok-record.ensures.ok c.in_err-remove.ensures.why)))
 
-pub returns-clause-there : goal.returns-clause-there
-returns-clause-there g c =
-    of-second (λ t. 0 < copies t.rows c.args.row.now) _ c.args.self.now c.in-Some.second c.self.view_is c.in-Some.is
-    (subst (λ (r : Row). 0 < copies c.in-Some.second.rows r) c.in_ok-record.ensures.ok c.in_ok-remove.ensures.there)
+pub returns-clause-ok : goal.returns-clause-ok
+returns-clause-ok g c =
+    let t = c.in-Some.second in
+    let e = c.in_ok-remove.ensures in
+    record {
+      done = (
+        of-second (λ u. 0 < copies u.rows c.args.row.now) _ c.args.self.now t c.self.view_is c.in-Some.is (subst (λ (r : Row). 0 < copies t.rows r) c.in_ok-record.ensures.ok e.there),
+        second-edited (without_record c.args.row.now) _ c.args.self.now t c.remove.new.self c.self.view_is c.in-Some.is
+            (e.ok ∙ ap (λ (r : Row). without_record r t) c.in_ok-record.ensures.ok),
+      );
+      steps = omega (arith, e.steps.at_most, c.new-meter.ensures, ap (λ (a : Accepted). a.steps) c.of.ensures);
+      stale = ap (λ (a : Accepted). a.stale) c.of.ensures;
+    }
 
 pub invariant_of-self-2 : goal.invariant_of-self-2
 invariant_of-self-2 g c =

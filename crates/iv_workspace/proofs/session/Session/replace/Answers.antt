@@ -9,7 +9,7 @@ use Rattle.iv_workspace.specs.ViewStates.{all_seen}
 use Rattle.iv_workspace.specs.OpenViews.{all_steps}
 use Rattle.iv_track.specs.Edits.{with_replaced}
 use Rattle.iv_workspace.specs.States.{State}
-use Rattle.iv_workspace.specs.declared.session.Accepted.{Accepted}
+use Rattle.iv_workspace.specs.declared.session.edits.Accepted.{Accepted}
 use Rattle.iv_track.proofs.Edits.{refused-absent}
 use Rattle.iv_workspace.proofs.OpenViewLemmas.{stales-trans, stales-steps}
 use Rattle.iv_workspace.proofs.SessionLemmas.{edited, fit-added, replaced-in, session-stales, staged-there}
@@ -80,14 +80,6 @@ invariant_of-self-2 g c =
 
 pub returns-clause-ok : goal.returns-clause-ok
 returns-clause-ok g c =
-    let there : 0 < copies c.self.inside.track.rows c.in_ok-before.before = omega (arith, c.copies.ensures.value) in
-    let whole = replaced-in _ _ _ _ _ _ _ _ c.self.view_is c.in_ok-before.ensures.ok c.in_ok-after.ensures.ok c.self.invariant.0.track_is c.copies.ensures.ordered there c.requires.new
-    c.in_ok-stage.ensures.ok c.in-Ok.ensures.ok in
-    edited (with_replaced c.args.old.now c.args.new.now) _ _ c.remove.new.self _ c.self.view_is whole.is
-    (stales-trans _ _ _ c.repair.ensures.stales c.repair-2.ensures.stales)
-
-pub returns-clause-steps : goal.returns-clause-steps
-returns-clause-steps g c =
     let inside = c.self.inside in
     let there : 0 < copies c.self.inside.track.rows c.in_ok-before.before = omega (arith, c.copies.ensures.value) in
     let whole = replaced-in _ _ _ _ _ _ _ _ c.self.view_is c.in_ok-before.ensures.ok c.in_ok-after.ensures.ok c.self.invariant.0.track_is c.copies.ensures.ordered there c.requires.new
@@ -102,16 +94,23 @@ returns-clause-steps g c =
     let less = stales-steps _ _ (added c.remove.new.self.rows c.args.old.now) c.args.old.now c.repair.ensures.stales in
     let one = c.repair.ensures.steps in
     let two = c.repair-2.ensures.steps in
-    omega (
-      arith,
-      bound c.args.new.now,
-      second,
-      less,
-      one.at_most,
-      two.at_most,
-      c.copies.ensures.steps.at_most,
-      c.in_ok-stage.ensures.steps.at_most,
-      c.in-Ok.ensures.steps.at_most,
-      c.new-meter.ensures,
-      ap (λ (a : Accepted). a.steps) c.of.ensures,
-    )
+    record {
+      done = (
+        subst (λ (s : State). 0 < copies s.track.rows c.args.old.now) c.self.view_is (subst (λ (r : Row). 0 < copies inside.track.rows r) c.in_ok-before.ensures.ok there),
+        edited (with_replaced c.args.old.now c.args.new.now) _ _ c.remove.new.self _ c.self.view_is whole.is (stales-trans _ _ _ c.repair.ensures.stales c.repair-2.ensures.stales),
+      );
+      steps = omega (
+        arith,
+        bound c.args.new.now,
+        second,
+        less,
+        one.at_most,
+        two.at_most,
+        c.copies.ensures.steps.at_most,
+        c.in_ok-stage.ensures.steps.at_most,
+        c.in-Ok.ensures.steps.at_most,
+        c.new-meter.ensures,
+        ap (λ (a : Accepted). a.steps) c.of.ensures,
+      );
+      stale = ap (λ (a : Accepted). a.stale) c.of.ensures;
+    }

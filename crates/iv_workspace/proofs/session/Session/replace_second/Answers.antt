@@ -1,14 +1,15 @@
-use Rattle.std.proofs.Common.{◌<◌, ◌⊎◌, inr, sym, subst}
+use Rattle.std.proofs.Common.{◌<◌, ◌⊎◌, ◌∙◌, inr, arith, ap, sym, subst}
 use Rattle.std.proofs.lemmas.Result.{err_from_is_err_and}
 use Rattle.iv_text.specs.Ordered.{copies}
 use Rattle.iv_text.specs.Read.{Fits}
 use Rattle.iv_text.specs.Row.{Row}
-use Rattle.iv_track.specs.Edits.{RefusesReplace}
+use Rattle.iv_track.specs.Edits.{RefusesReplace, with_replaced}
 use Rattle.iv_workspace.specs.Edits.{RefusesCopy}
 use Rattle.iv_workspace.specs.ViewStates.{all_seen}
 use Rattle.iv_workspace.specs.States.{IsTrackOn}
+use Rattle.iv_workspace.specs.declared.session.edits.Accepted.{Accepted}
 use Rattle.iv_workspace.proofs.SessionLemmas.{track-replaced}
-use Rattle.iv_workspace.proofs.SecondLemmas.{of-second, fits-second, second-track, session-second}
+use Rattle.iv_workspace.proofs.SecondLemmas.{of-second, fits-second, second-edited, second-track, session-second}
 use Rattle.iv_workspace.proofs.session.Session.replace_second.Goals as goal
 
 pub returns-in_err-replace-clause-why : goal.returns-in_err-replace-clause-why
@@ -22,11 +23,19 @@ returns-in_err-replace-clause-why g c =
     (subst (λ (r : Row). RefusesReplace t r c.args.new.now reported) c.in_ok-before.ensures.ok
     (subst (λ (q : Row). RefusesReplace t c.in_ok-before.before q reported) c.in_ok-after.ensures.ok c.in_err-replace.ensures.why))))
 
-pub returns-clause-there : goal.returns-clause-there
-returns-clause-there g c =
+pub returns-clause-ok : goal.returns-clause-ok
+returns-clause-ok g c =
     let t = c.in-Some.second in
-    of-second (λ u. 0 < copies u.rows c.args.old.now) _ c.args.self.now t c.self.view_is c.in-Some.is
-    (subst (λ (r : Row). 0 < copies t.rows r) c.in_ok-before.ensures.ok c.in_ok-replace.ensures.there)
+    let e = c.in_ok-replace.ensures in
+    record {
+      done = (
+        of-second (λ u. 0 < copies u.rows c.args.old.now) _ c.args.self.now t c.self.view_is c.in-Some.is (subst (λ (r : Row). 0 < copies t.rows r) c.in_ok-before.ensures.ok e.there),
+        second-edited (with_replaced c.args.old.now c.args.new.now) _ c.args.self.now t c.replace.new.self c.self.view_is c.in-Some.is
+            (e.ok ∙ ap (λ (r : Row). with_replaced r c.in_ok-after.after t) c.in_ok-before.ensures.ok ∙ ap (λ (q : Row). with_replaced c.args.old.now q t) c.in_ok-after.ensures.ok),
+      );
+      steps = omega (arith, e.steps.at_most, c.new-meter.ensures, ap (λ (a : Accepted). a.steps) c.of.ensures);
+      stale = ap (λ (a : Accepted). a.stale) c.of.ensures;
+    }
 
 pub invariant_of-self-2 : goal.invariant_of-self-2
 invariant_of-self-2 g c =

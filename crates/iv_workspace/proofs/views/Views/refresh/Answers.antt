@@ -1,13 +1,13 @@
-use Rattle.std.proofs.Common.{◌≡◌, ◌∙◌, inl, inr, refl, true, slice_get, ap, sym, subst}
-use Rattle.std.specs.Prelude.{IfSome, IsSomeAnd}
+use Rattle.std.proofs.Common.{◌≡◌, ◌∙◌, inl, refl, ap, sym, subst}
 use Rattle.std.specs.Map.{lookup}
 use Rattle.std.specs.Option.{option_map}
 use Rattle.std.specs.Str.{bytes_eq}
 use Rattle.iv_bytes.proofs.Putting.{OnErr-all}
-use Rattle.iv_workspace.specs.ViewStates.{all_seen, current_at, seen}
+use Rattle.iv_workspace.specs.ViewStates.{all_seen, current_at}
 use Rattle.iv_workspace.specs.OpenViews.{with_current}
-use Rattle.iv_workspace.proofs.OpenViewLemmas.{seen-lookup, seen-view}
-use Rattle.iv_workspace.proofs.StateLemmas.{placed-current, placed-stale, unplaced}
+use Rattle.iv_workspace.proofs.OpenViewLemmas.{seen-view}
+use Rattle.iv_workspace.proofs.StateLemmas.{placed-current, stale-named, unplaced}
+use Rattle.iv_workspace.proofs.StepLemmas.{named-stale}
 use Rattle.iv_workspace.proofs.views.Views.refresh.Goals as goal
 
 pub returns-clause-view : goal.returns-clause-view
@@ -30,36 +30,16 @@ returns-in_default-clause-ok g c =
 
 pub returns-in_err-refresh_at-clause-stale : goal.returns-in_err-refresh_at-clause-stale
 returns-in_err-refresh_at-clause-stale g c =
-    let stale = placed-stale c.args.name.now c.self.inside.views c.in-Some.place (sym c.in-Some.ensures.place) in
-    let found = ap (option_map seen) (c.in-Some.ensures.value ∙ ap (lookup (bytes_eq c.args.name.now)) c.self.view_is) ∙ sym (seen-lookup c.args.name.now c.args.self.now) in
     OnErr-all c.from_residual.result
-    (subst (λ o. IfSome o (λ v. v.stale ≡ true) → IsSomeAnd o (λ v. v.stale ≡ true)) found (λ is. is)
-    (subst (λ l. IfSome (slice_get (all_seen l) c.in-Some.place) (λ v. v.1.stale ≡ true) → IfSome (lookup (bytes_eq c.args.name.now) (all_seen l)) (λ v. v.stale ≡ true)) c.self.view_is stale
-    c.in_err-refresh_at.ensures.stale))
+    (stale-named c.args.name.now _ _ c.in-Some.place _ c.self.view_is c.in-Some.ensures.place c.in-Some.ensures.value c.in_err-refresh_at.ensures.stale)
 
 pub returns-in_default-clause-steps : goal.returns-in_default-clause-steps
 returns-in_default-clause-steps g c = inl refl
 
 pub returns-in_err-refresh_at-clause-steps : goal.returns-in_err-refresh_at-clause-steps
 returns-in_err-refresh_at-clause-steps g c =
-    let stale = placed-stale c.args.name.now c.self.inside.views c.in-Some.place (sym c.in-Some.ensures.place) in
-    let found = ap (option_map seen) (c.in-Some.ensures.value ∙ ap (lookup (bytes_eq c.args.name.now)) c.self.view_is) ∙ sym (seen-lookup c.args.name.now c.args.self.now) in
-    elim c.refresh_at.ensures.steps [
-      | inl same ↦ inl same
-      | inr is ↦ inr
-          (subst (λ o. IfSome o (λ v. v.stale ≡ true) → IsSomeAnd o (λ v. v.stale ≡ true)) found (λ is. is)
-          (subst (λ l. IfSome (slice_get (all_seen l) c.in-Some.place) (λ v. v.1.stale ≡ true) → IfSome (lookup (bytes_eq c.args.name.now) (all_seen l)) (λ v. v.stale ≡ true)) c.self.view_is stale
-          is))
-    ]
+    named-stale _ _ c.args.name.now _ _ c.in-Some.place _ c.self.view_is c.in-Some.ensures.place c.in-Some.ensures.value c.refresh_at.ensures.steps
 
 pub returns-clause-steps : goal.returns-clause-steps
 returns-clause-steps g c =
-    let stale = placed-stale c.args.name.now c.self.inside.views c.in-Some.place (sym c.in-Some.ensures.place) in
-    let found = ap (option_map seen) (c.in-Some.ensures.value ∙ ap (lookup (bytes_eq c.args.name.now)) c.self.view_is) ∙ sym (seen-lookup c.args.name.now c.args.self.now) in
-    elim c.refresh_at.ensures.steps [
-      | inl same ↦ inl same
-      | inr is ↦ inr
-          (subst (λ o. IfSome o (λ v. v.stale ≡ true) → IsSomeAnd o (λ v. v.stale ≡ true)) found (λ is. is)
-          (subst (λ l. IfSome (slice_get (all_seen l) c.in-Some.place) (λ v. v.1.stale ≡ true) → IfSome (lookup (bytes_eq c.args.name.now) (all_seen l)) (λ v. v.stale ≡ true)) c.self.view_is stale
-          is))
-    ]
+    named-stale _ _ c.args.name.now _ _ c.in-Some.place _ c.self.view_is c.in-Some.ensures.place c.in-Some.ensures.value c.refresh_at.ensures.steps

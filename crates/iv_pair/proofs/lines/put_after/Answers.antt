@@ -1,9 +1,0 @@
-use Rattle.iv_bytes.proofs.Putting.{Puts-back, Puts-err, FailsIn-front}
-use Rattle.iv_pair.proofs.lines.put_after.Goals as goal
-
-pub returns-in_err-put_all : goal.returns-in_err-put_all
-returns-in_err-put_all g c =
-    Puts-err _ _ c.from_residual.result _ c.from_residual.ensures.0 (FailsIn-front _ _ _ _ c.in_err-put_all.ensures)
-
-pub returns : goal.returns
-returns g c = Puts-back _ _ _ _ _ _ c.in_ok-put_all.ensures c.put_line.ensures

@@ -1,0 +1,16 @@
+use Rattle.std.proofs.Common.{◌≡◌, [], ◌<◌, ◌^◌, length}
+use Rattle.iv_text.specs.Ordered.{AreInOrder}
+use Rattle.iv_pair.specs.Hits.{hits}
+use Rattle.iv_pair.proofs.pair_sweep.ActiveHitsIterator.next.Given as goal
+
+-- the records left are in order and few, and the hits among them are all that were left
+abbrev pub invariant-loop-row : goal.invariant-loop-row
+invariant-loop-row l = record {
+  active : l.self-inside.active.now ≡ [];
+  ordered : AreInOrder l.self-inside.rest;
+  few : length l.self-inside.rest < 2 ^ 64;
+  same : hits l.self-inside.rest l.self-inside.seq l.self-inside.start l.self-inside.stop ≡ l.fn.self;
+}
+
+abbrev pub decreases-loop-row : goal.decreases-loop-row
+decreases-loop-row l = length l.self-inside.rest
