@@ -6,8 +6,6 @@ mod bases;
 #[cfg(test)]
 mod blocks;
 #[cfg(test)]
-mod cuts;
-#[cfg(test)]
 mod damaged;
 #[cfg(test)]
 mod devices;
