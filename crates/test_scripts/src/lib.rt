@@ -34,8 +34,6 @@ mod scripts;
 #[cfg(test)]
 mod second;
 #[cfg(test)]
-mod sizes;
-#[cfg(test)]
 mod stops;
 #[cfg(test)]
 mod views;

@@ -18,13 +18,9 @@ mod fasta_refusals;
 #[cfg(test)]
 mod fasta_rows;
 #[cfg(test)]
-mod fasta_sizes;
-#[cfg(test)]
 mod growths;
 #[cfg(test)]
 mod hits;
-#[cfg(test)]
-mod long_records;
 #[cfg(test)]
 mod opposites;
 #[cfg(test)]
