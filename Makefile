@@ -88,6 +88,7 @@ test:
 	scripts/test/command_line.sh $(PROGRAM)
 	python3 scripts/test/transcripts.py $(PROGRAM)
 	python3 scripts/test/sizes.py $(PROGRAM)
+	python3 scripts/test/cuts.py $(PROGRAM)
 	scripts/test/examples.sh $(PROGRAM)
 	scripts/test/at_scale.sh $(PROGRAM)
 	scripts/test/python.sh $(PROGRAM)

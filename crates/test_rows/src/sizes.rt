@@ -70,12 +70,7 @@ fn track_holds(track: &Track, count: u32) -> bool {
 }
 
 /// A BED file of records of so many bases, one at each start of so many, the last one first.
-pub(crate) fn bed_file(
-    rt: &HostRuntime,
-    count: u32,
-    apart: u32,
-    bases: u32,
-) -> Result<String, Fail> {
+fn bed_file(rt: &HostRuntime, count: u32, apart: u32, bases: u32) -> Result<String, Fail> {
     let mut text = String::new(rt.alloc());
     for number in 0..count {
         let start = apart.saturating_mul(count - 1 - number);

@@ -4,8 +4,6 @@
 #[cfg(test)]
 mod bases;
 #[cfg(test)]
-mod cut_files;
-#[cfg(test)]
 mod fasta_faults;
 #[cfg(test)]
 mod fasta_files;
