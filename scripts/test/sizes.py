@@ -1,18 +1,22 @@
 #!/usr/bin/env python3
 """Runs the built program over files of real sizes, long lines, long names and long rows: a body that gives up above some size is
-seen here. What it is to print is made beside the files, never by the program. It takes seconds.
+seen here. What it is to print is made beside the files, never by the program. Prints of more than 16 KiB also go into files that
+have room for a part of them, around the sizes of the program's buffer. It takes seconds.
 
     scripts/test/sizes.py build/bedkeep
 
-Status 1 if a run prints anything else, has a message, or fails.
+Status 1 if a run prints anything else, or has another message or status.
 """
 import random
+import resource
 import subprocess
 import sys
 import tempfile
 from pathlib import Path
 
 SECONDS = 120
+ROOMS = [0, 1, 8_190, 8_191, 8_192, 8_193, 8_194, 16_383, 16_384, 16_385]
+NO_ROOM = b"bedkeep: output cannot be written\n"
 COMPLEMENT = str.maketrans("ACGTNacgtR", "TGCANtgcaY")
 
 
@@ -47,6 +51,14 @@ def many_sequences():
         "g": table((name, 100) for name in names),
         "a": table((name, 10, 20, "name", 0.5, "-") for name in names),
     }, "open\tm\tmerge\n" + table(lines), table((name, 10, 20) for name in names)
+
+
+def reversed_records():
+    """Many records, the last one first."""
+    places = [("big", start, start + 5) for start in range(0, 1_000_000, 10)]
+    files = {"g": "big\t1000000\n", "a": table(reversed(places))}
+    yield "places from the end", "merge -g g -i a", files, None, table(places)
+    yield "records from the end", "cluster -g g -i a", files, None, table((*place, number) for number, place in enumerate(places, 1))
 
 
 def long_lines():
@@ -133,24 +145,73 @@ def pairs():
         }, None, table(rows)
 
 
-def is_right(program, name, words, files, script, wanted):
-    """Whether a run prints what it is to, and nothing else; says so if it doesn't."""
+def long_prints():
+    """Rows of a thousand records in sessions, one view and two, and in runs of one subcommand."""
+    places = [("big", start, start + 10) for start in range(100_000, 200_000, 100)]
+    files = {"g": "big\t1000000\n", "a": table(places), "b": ""}
+    plain, ones, noughts = table(places), table((*place, 1) for place in places), table((*place, 0) for place in places)
+    numbered = table((*place, number) for number, place in enumerate(places, 1))
+    for view, rows in ("merge", plain), ("merge -c 1 -o count", ones), ("genomecov -bg", ones), ("cluster", numbered), (
+            "intersect -c", noughts), ("subtract", plain):
+        yield f"a session's {view}", "session -g g -i a -b b", files, f"open\tv\t{view}\nprint\tv\n", rows
+        command, *options = view.split()
+        inputs = "-a a -b b" if command in ("intersect", "subtract") else "-i a"
+        yield view, " ".join([command, "-g g", inputs, *options]), files, None, rows
+    yield "two views", "session -g g -i a", files, "open\tv\tcluster\nopen\tw\tgenomecov -bg\nprintall\n", (
+        f"#v\n{numbered}#w\n{ones}"
+    )
+    yield "genomecov -d", "genomecov -d -g g -i a", {"g": "s\t2000\n", "a": ""}, None, table(("s", at, 0) for at in range(1, 2_001))
+
+
+def long_sequences():
+    """A row of 20,000 bases, in sessions and in runs of getfasta."""
+    bases = "AACG" * 5_000
+    files = {"g": "s\t20000\n", "a": "s\t0\t20000\tn\t0\t-\n", "f": fasta("s", bases)}
+    for options, row in ("", fasta("s:0-20000", bases)), (" -tab", f"s:0-20000\t{bases}\n"), (" -s", fasta("s:0-20000(-)", "CGTT" * 5_000)):
+        yield f"a session's getfasta{options}", "session -g g -i a -fi f", files, f"open\tv\tgetfasta{options}\nprint\tv\n", row
+        yield f"getfasta{options}", f"getfasta -g g -bed a -fi f{options}", files, None, row
+
+
+def run_in(program, folder, words, script, room=None):
+    """Status, messages and output of a run, whose output is a file that has room for so many bytes."""
+    def limit():
+        if room is not None:
+            resource.setrlimit(resource.RLIMIT_FSIZE, (room, room))
+
+    output = Path(folder, "output")
+    with open(output, "wb") as file:
+        # The signal that comes with a full file stays ignored, as Python has it, so that the write fails instead.
+        done = subprocess.run([program, *words.split()], cwd=folder, input=(script or "").encode(), stdout=file, stderr=subprocess.PIPE,
+                              preexec_fn=limit, restore_signals=False, timeout=SECONDS)
+    return done.returncode, done.stderr, output.read_bytes()
+
+
+def is_right(program, name, words, files, script, wanted, rooms=()):
+    """Whether a run prints what it is to, and into each room what fits; says so if it doesn't."""
+    wanted = wanted.encode()
     with tempfile.TemporaryDirectory() as folder:
         for file, text in files.items():
             Path(folder, file).write_text(text)
-        done = subprocess.run([program, *words.split()], cwd=folder, input=(script or "").encode(), capture_output=True, timeout=SECONDS)
-    if (done.returncode, done.stderr, done.stdout) == (0, b"", wanted.encode()):
-        return True
-    print(f"{name}: status {done.returncode}, {len(done.stdout)} bytes instead of {len(wanted)}, {done.stderr[:200]}", file=sys.stderr)
-    return False
+        whole = run_in(program, folder, words, script)
+        wrong = [] if whole == (0, b"", wanted) else [("all", whole)]
+        for room in rooms:
+            cut = run_in(program, folder, words, script, room)
+            if cut != (4, NO_ROOM, wanted[:room]):
+                wrong.append((room, cut))
+    for room, (status, messages, output) in wrong:
+        print(f"{name}, room {room}: status {status}, {len(output)} bytes of {len(wanted)}, {messages[:200]}", file=sys.stderr)
+    return not wrong
 
 
 def main():
     if len(sys.argv) != 2:
         sys.exit("usage: scripts/test/sizes.py PROGRAM")
     program = Path(sys.argv[1]).resolve()
-    kinds = [records_at_one_place, many_sequences, long_lines, long_names, long_bases, many_short_bases, long_headers, long_rows, pairs]
-    results = [is_right(program, *run) for kind in kinds for run in kind()]
+    whole = [records_at_one_place, many_sequences, reversed_records, long_lines, long_names, long_bases, many_short_bases, long_headers,
+             long_rows, pairs]
+    results = [is_right(program, *run) for kind in whole for run in kind()]
+    for kind in long_prints, long_sequences:
+        results += [is_right(program, *run, rooms=[*ROOMS, len(run[-1]) - 1]) for run in kind()]
     if not all(results):
         sys.exit(f"{results.count(False)} of {len(results)} runs of real sizes are wrong")
     print(f"all {len(results)} runs of real sizes print what they are to print")

@@ -20,8 +20,6 @@ mod genomes;
 #[cfg(test)]
 mod lengths;
 #[cfg(test)]
-mod long_prints;
-#[cfg(test)]
 mod many_views;
 #[cfg(test)]
 mod refusals;
