@@ -12,6 +12,7 @@ A BED file is read in each way that the program has: its places alone (merge), i
 of a session. Status 1 if a run prints anything else.
 """
 import concurrent.futures
+import functools
 import itertools
 import os
 import re
@@ -160,7 +161,12 @@ def bases_rows(runs, text):
     return runs.run("getfasta -tab -g g -bed a -fi f", {"g": FASTA_SIZES, "a": sequences, "f": text})
 
 
-def is_right(read, rows, runs, cut, marks):
+def is_whole(runs, text, read, rows, marks):
+    """Whether a file that is not cut is read as it is to be."""
+    return read(runs, text) == (rows([line for line, mark in zip(text.split("\n"), marks) if mark == "e"]), None)
+
+
+def is_cut(runs, cut, read, rows, marks):
     """Whether a cut text is read as it is to be."""
     *whole, last = cut.split("\n")
     entries = [line for line, mark in zip(whole, marks) if mark == "e"]
@@ -173,44 +179,46 @@ def is_right(read, rows, runs, cut, marks):
     return bool(last) and marks[len(whole)] == "e" and found == rows([*entries, last])
 
 
-def is_fasta_right(runs, cut):
+def is_fasta_cut(runs, cut):
     """Whether a cut FASTA file is read as it is to be: each row has all bases of a sequence that the file has."""
     found, fault = bases_rows(runs, cut)
     lines = cut.split("\n")
-    is_cut = bool(lines[-1])
     if not fault:
         return all(row in [f"{name}:0-{len(bases)}\t{bases}" for name, bases in WHOLE.items()] for row in found.splitlines())
-    numbers = [number for number, line in enumerate(lines, 1) if line.startswith(">")]
-    ends = [f"line {len(lines)}: {text}" for text in AT_THE_END] if is_cut else []
-    return not found and fault in [*ends, *(f"line {number}: length differs from the genome" for number in numbers[-1:])]
+    headers = [number for number, line in enumerate(lines, 1) if line.startswith(">")]
+    last = [f"line {len(lines)}: {text}" for text in AT_THE_END] if lines[-1] else []
+    return not found and fault in [*last, *(f"line {number}: length differs from the genome" for number in headers[-1:])]
 
 
-def by_hand(read, text, wanted):
-    """For each cut of a text whether it has the fault that it is to have."""
+def has_fault(runs, cut, read, fault):
+    """Whether a cut text has this fault, or none."""
+    return read(runs, cut)[1] == fault
+
+
+def cuts_by_hand(text, wanted):
+    """Each cut of a text, and the fault that it is to have."""
     first = 0
     for last, fault in wanted:
-        for size in range(first, last + 1):
-            yield f"{text[:size]!r}", lambda runs, size=size, fault=fault: read(runs, text[:size])[1] == fault
+        yield from ((text[:size], fault) for size in range(first, last + 1))
         first = last + 1
     if first != len(text) + 1:
         raise ValueError("the cuts of a file end before it does")
 
 
 def checks():
-    """What is run, and whether it is right."""
-    for texts, ways in ((GENOMES, [(genome_rows, rows_of)]),
-                        (BEDS, [(places_rows, merged), (text_rows, clustered), (session_rows, clustered)])):
+    """Texts, and what is to be so of each."""
+    beds = [(places_rows, merged), (text_rows, clustered), (session_rows, clustered)]
+    for texts, ways in (GENOMES, [(genome_rows, rows_of)]), (BEDS, beds):
         for (text, marks), (read, rows) in itertools.product(texts, ways):
-            yield f"{text!r}", lambda runs, text=text, marks=marks, read=read, rows=rows: read(runs, text) == (
-                rows([line for line, mark in zip(text.split("\n"), marks) if mark == "e"]), None)
+            yield text, functools.partial(is_whole, read=read, rows=rows, marks=marks)
             for size in range(len(text) + 1):
-                yield f"{text[:size]!r}", lambda runs, cut=text[:size], marks=marks, read=read, rows=rows: is_right(read, rows, runs, cut, marks)
+                yield text[:size], functools.partial(is_cut, read=read, rows=rows, marks=marks)
     for text in FASTAS:
         for size in range(len(text) + 1):
-            yield f"{text[:size]!r}", lambda runs, cut=text[:size]: is_fasta_right(runs, cut)
-    for ways, (text, wanted) in (([genome_rows], GENOME_BY_HAND), ([places_rows, text_rows, session_rows], BED_BY_HAND), ([bases_rows], FASTA_BY_HAND)):
-        for read in ways:
-            yield from by_hand(read, text, wanted)
+            yield text[:size], is_fasta_cut
+    for ways, hand in ([genome_rows], GENOME_BY_HAND), ([places_rows, text_rows, session_rows], BED_BY_HAND), ([bases_rows], FASTA_BY_HAND):
+        for read, (cut, fault) in itertools.product(ways, list(cuts_by_hand(*hand))):
+            yield cut, functools.partial(has_fault, read=read, fault=fault)
 
 
 def main():
@@ -220,14 +228,14 @@ def main():
     wrong = 0
     with tempfile.TemporaryDirectory() as top, concurrent.futures.ThreadPoolExecutor(os.cpu_count()) as pool:
         runs = Runs(program, top)
-        results = [(name, pool.submit(check, runs)) for name, check in checks()]
-        for name, result in results:
+        results = [(text, pool.submit(check, runs, text)) for text, check in checks()]
+        for text, result in results:
             try:
-                right, why = result.result(), "other rows or another fault"
+                why = None if result.result() else "other rows or another fault"
             except ValueError as error:
-                right, why = False, error
-            if not right:
-                print(f"{name}: {why}", file=sys.stderr)
+                why = error
+            if why:
+                print(f"{text!r}: {why}", file=sys.stderr)
                 wrong += 1
     if wrong:
         sys.exit(f"{wrong} of {len(results)} files that are cut are read otherwise")
