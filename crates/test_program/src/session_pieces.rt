@@ -142,3 +142,11 @@ fn each_file_fails_at_each_piece(rt: HostRuntime) -> Result<(), Fail> {
     }
     Ok(())
 }
+
+#[test]
+fn each_file_in_pieces_of_each_size(rt: HostRuntime) -> Result<(), Fail> {
+    for piece in 1..=SOUND.len() {
+        assert!(rt; end_so(&rt, Pieces { piece, ..WHOLE }, Ok(Ok(2)))?);
+    }
+    Ok(())
+}
