@@ -87,6 +87,8 @@ test:
 	scripts/test/interactive.sh $(PROGRAM)
 	scripts/test/command_line.sh $(PROGRAM)
 	python3 scripts/test/transcripts.py $(PROGRAM)
+	python3 scripts/test/sizes.py $(PROGRAM)
+	python3 scripts/test/cuts.py $(PROGRAM)
 	scripts/test/examples.sh $(PROGRAM)
 	scripts/test/at_scale.sh $(PROGRAM)
 	scripts/test/python.sh $(PROGRAM)

@@ -1,8 +1,13 @@
 //! Words that ask for help or for the version.
-use crate::words_subcommands::is_no_plan;
-use iv_args::{Notice, Run};
+use iv_args::{Notice, Plan, Run};
+use iv_text::Fault;
 use std::test::Fail;
 use test_faults::words_of;
+
+/// Whether words are bad options.
+fn is_no_plan(rt: &HostRuntime, words: &[&[u8]]) -> bool {
+    Plan::read(rt.alloc(), words).err() == Some(Fault::Words)
+}
 
 /// Whether the words, separated by spaces, ask for this notice, and are no plan.
 fn asks(rt: &HostRuntime, text: &[u8], notice: Option<Notice>) -> Result<bool, Fail> {

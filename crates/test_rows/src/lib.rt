@@ -8,8 +8,6 @@ mod bytes;
 #[cfg(test)]
 mod copy_refusals;
 #[cfg(test)]
-mod cut_files;
-#[cfg(test)]
 mod devices;
 #[cfg(test)]
 mod files;

@@ -1,4 +1,4 @@
-//! Calls at real sizes: a body that gives up above some size and says that memory ran out is seen here alone.
+//! Calls at real sizes: a body that gives up above some size and says that memory ran out is seen here.
 use crate::fixtures::{holds, track_of};
 use iv_text::{Genome, LoadCause, LoadFault};
 use iv_track::{Ledger, Meter, Track};
@@ -69,18 +69,12 @@ fn track_holds(track: &Track, count: u32) -> bool {
     rows.next(&mut meter).is_none() && track.len() == count
 }
 
-/// A BED file of records of so many bases, one at each start of so many, the last one first.
-pub(crate) fn bed_file(
-    rt: &HostRuntime,
-    count: u32,
-    apart: u32,
-    bases: u32,
-) -> Result<String, Fail> {
+/// A BED file of one record at each tenth start, the last one first.
+fn bed_file(rt: &HostRuntime) -> Result<String, Fail> {
     let mut text = String::new(rt.alloc());
-    for number in 0..count {
-        let start = apart.saturating_mul(count - 1 - number);
-        let stop = start.saturating_add(bases);
-        text.push_str(format!(in rt.alloc(); "big\t{start}\t{stop}\n")?.as_str())?;
+    for number in 0..MANY {
+        let start = 10 * u64::from(MANY - 1 - number);
+        text.push_str(format!(in rt.alloc(); "big\t{start}\t{}\n", start + 5)?.as_str())?;
     }
     Ok(text)
 }
@@ -105,6 +99,6 @@ fn entries(rt: HostRuntime) -> Result<(), Fail> {
 
 #[test]
 fn records(rt: HostRuntime) -> Result<(), Fail> {
-    let text = bed_file(&rt, MANY, 10, 5)?;
+    let text = bed_file(&rt)?;
     holds(holds_on_genome(&rt, text.as_bytes()))
 }

@@ -120,6 +120,7 @@ fn sums_of_a_thousand_numbers(rt: HostRuntime) -> Result<(), Fail> {
 fn each_value_once(rt: HostRuntime) -> Result<(), Fail> {
     let values: [&[u8]; 7] = [b"b", b"", b"ab", b"a", b"b", b"", b"B"];
     assert!(rt; gives(&rt, Op::Distinct, &values, b",B,a,ab,b")?);
+    assert!(rt; gives(&rt, Op::Distinct, &[b"b".as_slice(), b"a", b"b"], b"a,b")?);
     Ok(())
 }
 

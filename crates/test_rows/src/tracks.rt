@@ -148,13 +148,13 @@ fn track_without_room(rt: HostRuntime) -> Result<(), Fail> {
     check_no_room(&rt, &genome, &mut track)
 }
 
-/// The first letter of a record's name and its copies, of the record after this one, or at or after its place.
+/// The first letter of a record's name and its copies, of the record after this one, or of the first one on its sequence.
 fn next_on(track: &Track, record: &Record, after: bool) -> Option<(u8, u32)> {
     let mut meter = Meter::new();
     let (row, copies) = if after {
         track.after(record, &mut meter)?
     } else {
-        track.at_or_after(record.seq(), record.start(), &mut meter)?
+        track.at_or_after(record.seq(), 0, &mut meter)?
     };
     let letter = row.name().first()?;
     (track.copies(row, &mut meter) == copies).then_some((*letter, copies))

@@ -94,20 +94,9 @@ pub(crate) fn session_beside(
     session_in(rt.alloc(), width, first, beside, limit)
 }
 
-/// A session of a genome file and a BED file. If that has no record, it has the width.
-pub(crate) fn session_of(
-    rt: &HostRuntime,
-    sizes: &[u8],
-    width: u8,
-    first: &[u8],
-    limit: u32,
-) -> Result<Session, Fail> {
-    session_beside(rt, width, first, Beside { sizes, ..ALONE }, limit)
-}
-
 /// A session of that genome and a BED file of three columns or of its own width.
 pub(crate) fn session(rt: &HostRuntime, first: &[u8], limit: u32) -> Result<Session, Fail> {
-    session_of(rt, SIZES, 3, first, limit)
+    session_beside(rt, 3, first, ALONE, limit)
 }
 
 /// What a script wrote, how it ended, and how many records the session then had.

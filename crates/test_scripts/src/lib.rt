@@ -6,8 +6,6 @@ mod bases;
 #[cfg(test)]
 mod blocks;
 #[cfg(test)]
-mod cuts;
-#[cfg(test)]
 mod damaged;
 #[cfg(test)]
 mod devices;
@@ -22,8 +20,6 @@ mod genomes;
 #[cfg(test)]
 mod lengths;
 #[cfg(test)]
-mod long_prints;
-#[cfg(test)]
 mod many_views;
 #[cfg(test)]
 mod refusals;
@@ -35,8 +31,6 @@ mod rooms;
 mod scripts;
 #[cfg(test)]
 mod second;
-#[cfg(test)]
-mod sizes;
 #[cfg(test)]
 mod stops;
 #[cfg(test)]

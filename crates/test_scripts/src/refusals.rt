@@ -5,6 +5,7 @@ use iv_session::{RunCause, RunFault, ScriptLimits, Summary, run_script};
 use iv_text::{BedFile, Genome};
 use iv_workspace::Session;
 use std::alloc::Global;
+use std::cell::Cell;
 use std::test::Fail;
 use test_faults::{RefusesNth, refuse_each};
 
@@ -137,7 +138,7 @@ fn refused_by(output: &[u8], messages: &[u8]) -> Result<u32, Fail> {
     Err(Fail::new("something else was written"))
 }
 
-/// Runs the short script over a session in which an allocation fails. How many lines were answered so.
+/// Runs the short script over a session in which an allocation fails. The line that was answered so, 0 for none.
 fn refused_in<'a>(
     rt: &HostRuntime,
     session: &mut Session<&'a RefusesNth<Global>>,
@@ -150,10 +151,10 @@ fn refused_in<'a>(
     if done.lines != 4 || (done.refused > 0) != (line > 0) {
         return Err(Fail::new("another summary"));
     }
-    Ok(u32::from(line > 0))
+    Ok(line)
 }
 
-/// The same from the session's making on.
+/// The same from the session's making on, 9 if it can't be made.
 fn refused_making(
     rt: &HostRuntime,
     alloc: &RefusesNth<Global>,
@@ -161,7 +162,7 @@ fn refused_making(
 ) -> Result<u32, Fail> {
     match session_in(alloc) {
         Some(mut session) => refused_in(rt, &mut session, granting),
-        None => Ok(1),
+        None => Ok(9),
     }
 }
 
@@ -173,6 +174,12 @@ fn refused_session(rt: &HostRuntime, alloc: &RefusesNth<Global>) -> Result<u32, 
 
 #[test]
 fn lines_that_are_refused_memory(rt: HostRuntime) -> Result<(), Fail> {
-    assert!(rt; 3 < refuse_each(rt.alloc(), |alloc| refused_session(&rt, alloc))?);
+    let seconds = Cell::new(0u32);
+    let refused = refuse_each(rt.alloc(), |alloc| {
+        let line = refused_session(&rt, alloc)?;
+        seconds.set(seconds.get().saturating_add(u32::from(line == 2)));
+        Ok(u32::from(line > 0))
+    })?;
+    assert!(rt; 3 < refused && 0 < seconds.get());
     Ok(())
 }

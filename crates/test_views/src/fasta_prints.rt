@@ -48,8 +48,6 @@ struct Files<'f> {
 pub(crate) enum Prints<'t> {
     /// These texts, each in its way, seven bytes at a time.
     Each(&'t [(FastaRows, &'t [u8])]),
-    /// This text, with strands, a thousand bytes at a time.
-    Long(&'t [u8]),
     /// This text, with strands, of which an output that is too small takes the front and then fails.
     Cut(&'t [u8]),
 }
@@ -109,13 +107,8 @@ fn put_cut(rt: &HostRuntime, files: Files<'_>, text: &[u8]) -> Result<bool, Fail
 
 /// Whether files print what they are to.
 fn put_all(rt: &HostRuntime, files: Files<'_>, prints: Prints<'_>) -> Result<bool, Fail> {
-    let long = Output {
-        room: 20_000,
-        piece: 1_000,
-    };
     match prints {
         Prints::Each(texts) => put_each(rt, files, texts),
-        Prints::Long(text) => puts(rt, STRANDED, files, long, text, true),
         Prints::Cut(text) => put_cut(rt, files, text),
     }
 }
@@ -149,7 +142,7 @@ fn put_over(
 }
 
 /// Whether texts print what they are to.
-pub(crate) fn print(rt: &HostRuntime, texts: Texts<'_>, prints: Prints<'_>) -> Result<bool, Fail> {
+fn print(rt: &HostRuntime, texts: Texts<'_>, prints: Prints<'_>) -> Result<bool, Fail> {
     let genome = Genome::parse(rt.alloc(), texts.sizes)?;
     put_over(rt, &genome, texts, prints)
 }

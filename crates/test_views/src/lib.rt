@@ -4,8 +4,6 @@
 #[cfg(test)]
 mod bases;
 #[cfg(test)]
-mod cut_files;
-#[cfg(test)]
 mod fasta_faults;
 #[cfg(test)]
 mod fasta_files;
@@ -18,13 +16,9 @@ mod fasta_refusals;
 #[cfg(test)]
 mod fasta_rows;
 #[cfg(test)]
-mod fasta_sizes;
-#[cfg(test)]
 mod growths;
 #[cfg(test)]
 mod hits;
-#[cfg(test)]
-mod long_records;
 #[cfg(test)]
 mod opposites;
 #[cfg(test)]

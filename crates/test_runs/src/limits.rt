@@ -4,31 +4,34 @@ use iv_run::{FileFault, read_all};
 use iv_text::{BedFile, Genome, LoadCause, LoadFault, RecordFault};
 use std::test::Fail;
 
-/// How many bytes are read of a text that comes in pieces of so many, with a limit.
-fn read(rt: &HostRuntime, text: &[u8], piece: usize, limit: u64) -> Result<usize, FileFault> {
-    let mut source = MemSource::new(text, usize::MAX, piece.max(1));
-    Ok(read_all(rt.alloc(), &mut source, limit)?.len())
+/// Whether a text is read whole, with a limit, that fails after so many bytes and comes in pieces of so many.
+fn read(
+    rt: &HostRuntime,
+    text: &[u8],
+    good: usize,
+    piece: usize,
+    limit: u64,
+) -> Result<bool, FileFault> {
+    let mut source = MemSource::new(text, good, piece.max(1));
+    Ok(read_all(rt.alloc(), &mut source, limit)?.as_slice() == text)
 }
 
 #[test]
 fn files_of_as_many_bytes_as_the_limit(rt: HostRuntime) {
     for piece in [1, 2, 3, 100] {
-        for (text, limit, want) in [
-            (b"abc".as_slice(), 3, Ok(3)),
-            (b"abcd", 3, Err(FileFault::TooLong)),
-            (b"abcd", 4, Ok(4)),
-            (b"a", 0, Err(FileFault::TooLong)),
-            (b"", 0, Ok(0)),
+        for (text, good, limit, want) in [
+            (b"abc".as_slice(), usize::MAX, 3, Ok(true)),
+            (b"abcd", usize::MAX, 3, Err(FileFault::TooLong)),
+            (b"abcd", usize::MAX, 4, Ok(true)),
+            (b"a", usize::MAX, 0, Err(FileFault::TooLong)),
+            (b"", usize::MAX, 0, Ok(true)),
+            (b"chr1\t100\n", 5, 9, Err(FileFault::Input)),
+            (b"chr1\t100\n", 5, 4, Err(FileFault::TooLong)),
+            (b"chr1\t100\n", 0, 0, Err(FileFault::Input)),
         ] {
-            assert!(rt; read(&rt, text, piece, limit) == want);
+            assert!(rt; read(&rt, text, good, piece, limit) == want);
         }
     }
-}
-
-/// What reading a text gives that fails after so many bytes, in pieces of so many.
-fn failing(rt: &HostRuntime, text: &[u8], good: usize, piece: usize) -> Option<FileFault> {
-    let mut source = MemSource::new(text, good, piece.max(1));
-    read_all(rt.alloc(), &mut source, 100).err()
 }
 
 /// A file that fails after its last byte is not known to be whole.
@@ -37,9 +40,9 @@ fn files_that_fail_after_each_byte(rt: HostRuntime) {
     let text = b"chr1\t100\n".as_slice();
     for piece in [1, 3, 100] {
         for good in 0..=9usize {
-            assert!(rt; failing(&rt, text, good, piece) == Some(FileFault::Input));
+            assert!(rt; read(&rt, text, good, piece, 100) == Err(FileFault::Input));
         }
-        assert!(rt; failing(&rt, text, 10, piece).is_none());
+        assert!(rt; read(&rt, text, 10, piece, 100) == Ok(true));
     }
 }
 

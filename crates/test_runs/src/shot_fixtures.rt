@@ -72,7 +72,21 @@ fn fault_of(
     Ok(shot(rt.alloc(), plan, inputs, bases, MOST, sink).err())
 }
 
-/// Whether a run of a plan into room for so many bytes ends so and has printed just this.
+/// Whether a run of a plan into room for so many bytes, which takes so many at once, ends so and has printed just this.
+fn ends_into(
+    rt: &HostRuntime,
+    plan: &Plan<'_>,
+    inputs: &Inputs<'_>,
+    bases: Option<&[u8]>,
+    room: (usize, usize),
+    want: (Option<CliFault>, &[u8]),
+) -> Result<bool, Fail> {
+    let mut sink = MemSink::new(rt.alloc(), room.0, room.1.max(1))?;
+    let fault = fault_of(rt, plan, inputs, bases, &mut sink)?;
+    Ok(fault == want.0 && sink.bytes() == want.1)
+}
+
+/// Whether a run of a plan into room for so many bytes, which takes one, three or nine at once, ends so and has printed just this.
 pub(crate) fn ends_within(
     rt: &HostRuntime,
     plan: &Plan<'_>,
@@ -81,9 +95,12 @@ pub(crate) fn ends_within(
     room: usize,
     want: (Option<CliFault>, &[u8]),
 ) -> Result<bool, Fail> {
-    let mut sink = MemSink::new(rt.alloc(), room, 9)?;
-    let fault = fault_of(rt, plan, inputs, bases, &mut sink)?;
-    Ok(fault == want.0 && sink.bytes() == want.1)
+    for most in [1, 3, 9] {
+        if !ends_into(rt, plan, inputs, bases, (room, most), want)? {
+            return Ok(false);
+        }
+    }
+    Ok(true)
 }
 
 /// Whether a run of these words, separated by spaces, ends so and has printed just this.

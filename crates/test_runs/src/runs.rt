@@ -1,11 +1,11 @@
 //! Files of a run: reading them, and the session that they begin.
 use crate::piece_fixtures::{damage, plan_of};
-use crate::session_pieces::load_in_pieces;
+use crate::session_pieces::{WHOLE, load_in_pieces};
 use crate::shot_fixtures::copied;
 use iv_args::{Plan, Slot};
-use iv_bytes::{MemSink, MemSource};
+use iv_bytes::MemSink;
 use iv_cli::load;
-use iv_run::{CliFault, FileFault, Inputs, read_all};
+use iv_run::{CliFault, Inputs};
 use iv_text::{LoadCause, RecordFault};
 use iv_workspace::Session;
 use std::test::Fail;
@@ -59,7 +59,7 @@ fn loaded_in_pieces(
     bases: Option<Vec<u8>>,
     printed: Option<&[u8]>,
 ) -> Result<Loaded, Fail> {
-    match load_in_pieces(rt.alloc(), plan, inputs, bases, 2, (usize::MAX, 3))? {
+    match load_in_pieces(rt.alloc(), plan, inputs, bases, 2, [WHOLE; 2])? {
         Ok(mut session) => looked_at(rt, &mut session, printed),
         Err(fault) => Ok(Err(fault)),
     }
@@ -242,28 +242,4 @@ fn fasta_files_that_load(rt: HostRuntime) -> Result<(), Fail> {
     let printed = Some(b">s:0-3(-)\nCGT\n".as_slice());
     assert!(rt; loaded(&rt, words, &inputs, bases, printed)? == Ok((2, 6)));
     Ok(())
-}
-
-const TEXT: &[u8] = b"chr1\t100\n";
-
-/// What reading up to a limit gives, from a source that gives this number of bytes.
-fn read(rt: &HostRuntime, good: usize, limit: u64) -> Result<usize, FileFault> {
-    let bytes = read_all(rt.alloc(), &mut MemSource::new(TEXT, good, 2), limit)?;
-    Ok(if bytes.as_slice() == TEXT { 9 } else { 0 })
-}
-
-#[test]
-fn files_that_are_read(rt: HostRuntime) {
-    for (good, limit, want) in [
-        (usize::MAX, 100, Ok(9)),
-        (usize::MAX, 9, Ok(9)),
-        (usize::MAX, 8, Err(FileFault::TooLong)),
-        (usize::MAX, 0, Err(FileFault::TooLong)),
-        (9, 9, Err(FileFault::Input)),
-        (0, 0, Err(FileFault::Input)),
-        (5, 9, Err(FileFault::Input)),
-        (5, 4, Err(FileFault::TooLong)),
-    ] {
-        assert!(rt; read(&rt, good, limit) == want);
-    }
 }

@@ -13,36 +13,52 @@ use iv_workspace::Session;
 use std::alloc::Allocator;
 use std::test::Fail;
 
-/// Reads the second file, if there is one, which comes up to so many bytes in pieces of so many.
+/// How a file comes: up to so many bytes, in pieces of so many, and how many it may have.
+#[derive(Clone, Copy)]
+pub(crate) struct Pieces {
+    pub(crate) good: usize,
+    pub(crate) piece: usize,
+    pub(crate) most: u64,
+}
+
+/// A file that comes whole in pieces of three bytes.
+pub(crate) const WHOLE: Pieces = Pieces {
+    good: usize::MAX,
+    piece: 3,
+    most: 10_000,
+};
+
+/// Reads the second file, if there is one.
 fn read_second<A: Allocator + Copy>(
     loading: &mut Loading<Record<A>, A>,
     text: Option<&[u8]>,
-    source: (usize, usize),
+    pieces: Pieces,
 ) -> Result<(), FileFault>
     ensures { IsOfOneRun loading.old loading.new }
 {
     let Some(text) = text else {
         return Ok(());
     };
-    let mut pieces = MemSource::new(text, source.0, source.1.max(1));
-    loading.read_second(&mut pieces, 10_000)
+    let mut source = MemSource::new(text, pieces.good, pieces.piece.max(1));
+    loading.read_second(&mut source, pieces.most)
 }
 
-/// The session of a plan's files, of which each BED file comes up to so many bytes in pieces of so many.
+/// The session of a plan's files, of which the first one and the second one come in pieces.
 pub(crate) fn load_in_pieces<A: Allocator + Copy>(
     alloc: A,
     plan: &Plan<'_, A>,
     inputs: &Inputs<'_>,
     bases: Option<Vec<u8, A>>,
     limit: u32,
-    source: (usize, usize),
+    pieces: [Pieces; 2],
 ) -> Result<Result<Session<A>, CliFault>, FileFault>
     requires { limit ≤ 4000000 }
 {
     let mut loading: Loading<Record<A>, A> = Loading::begin(alloc, plan, inputs.sizes, limit);
-    let mut pieces = MemSource::new(inputs.first, source.0, source.1.max(1));
-    loading.read_first(&mut pieces, 10_000)?;
-    read_second(&mut loading, inputs.other, source)?;
+    let [first, second] = pieces;
+    let mut source = MemSource::new(inputs.first, first.good, first.piece.max(1));
+    loading.read_first(&mut source, first.most)?;
+    read_second(&mut loading, inputs.other, second)?;
     Ok(begin_session(loading, bases))
 }
 
@@ -55,19 +71,19 @@ const SOUND: &[u8] = b"chr1\t1\t2\nchr1\t3\t4\n";
 /// A file whose first line is damaged.
 const DAMAGED: &[u8] = b"chr1\t1\tx\nchr1\t3\t4\n";
 
-/// How the loading of files ends whose BED files fail after so many bytes: outside, whether they can be read, and inside, how many
-/// records there are, or which file is damaged.
+/// How the loading of files ends: outside, whether they can be read, and inside, how many records there are, or which file is
+/// damaged.
 type Ended = Result<Result<u32, CliFault>, FileFault>;
 
 /// How the loading of a genome file and a BED file ends, which is both the first one and the second one.
-fn ended(rt: &HostRuntime, sizes: &[u8], text: &[u8], good: usize) -> Result<Ended, Fail> {
+fn ended(rt: &HostRuntime, sizes: &[u8], text: &[u8], pieces: [Pieces; 2]) -> Result<Ended, Fail> {
     let plan = plan_of(rt, b"session -g g -i a -b b")?;
     let inputs = Inputs {
         sizes,
         first: text,
         other: Some(text),
     };
-    match load_in_pieces(rt.alloc(), &plan, &inputs, None, 100, (good, 3)) {
+    match load_in_pieces(rt.alloc(), &plan, &inputs, None, 100, pieces) {
         Ok(Ok(session)) => Ok(Ok(Ok(session.len()))),
         Ok(Err(fault)) => Ok(Ok(Err(fault))),
         Err(fault) => Ok(Err(fault)),
@@ -91,7 +107,46 @@ fn files_that_fail_come_first(rt: HostRuntime) -> Result<(), Fail> {
         (NO_GENOME, DAMAGED, 17, unread),
         (NO_GENOME, b"", 0, unread),
     ] {
-        assert!(rt; ended(&rt, sizes, text, good)? == want);
+        let pieces = Pieces { good, ..WHOLE };
+        assert!(rt; ended(&rt, sizes, text, [pieces, pieces])? == want);
+    }
+    Ok(())
+}
+
+/// Whether the loading of two sound files ends so, whichever of them comes so.
+fn end_so(rt: &HostRuntime, pieces: Pieces, want: Ended) -> Result<bool, Fail> {
+    let first = ended(rt, GENOME, SOUND, [pieces, WHOLE])?;
+    let second = ended(rt, GENOME, SOUND, [WHOLE, pieces])?;
+    Ok(first == want && second == want)
+}
+
+/// Each file fails after each number of bytes, the last one too, and may have fewer bytes than it has.
+#[test]
+fn each_file_fails_at_each_piece(rt: HostRuntime) -> Result<(), Fail> {
+    let size = SOUND.len();
+    for count in 0..=size {
+        let bad = Pieces {
+            good: count,
+            ..WHOLE
+        };
+        let short = Pieces {
+            most: count as u64,
+            ..WHOLE
+        };
+        let want = if count == size {
+            Ok(Ok(2))
+        } else {
+            Err(FileFault::TooLong)
+        };
+        assert!(rt; end_so(&rt, bad, Err(FileFault::Input))? && end_so(&rt, short, want)?);
+    }
+    Ok(())
+}
+
+#[test]
+fn each_file_in_pieces_of_each_size(rt: HostRuntime) -> Result<(), Fail> {
+    for piece in 1..=SOUND.len() {
+        assert!(rt; end_so(&rt, Pieces { piece, ..WHOLE }, Ok(Ok(2)))?);
     }
     Ok(())
 }

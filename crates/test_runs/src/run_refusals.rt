@@ -1,5 +1,5 @@
 //! Each allocation of loading, refused in turn: from the bytes of the BED files, and from files that come in pieces.
-use crate::session_pieces::load_in_pieces;
+use crate::session_pieces::{Pieces, WHOLE, load_in_pieces};
 use iv_args::Plan;
 use iv_cli::load;
 use iv_run::{CliFault, Inputs};
@@ -42,8 +42,8 @@ fn loaded_by<'a>(
     if piece == 0 {
         return records_of(load(alloc, plan, inputs, bases, COUNT));
     }
-    let whole = usize::MAX;
-    records_of(load_in_pieces(alloc, plan, inputs, bases, COUNT, (whole, piece))?)
+    let pieces = [Pieces { piece, ..WHOLE }; 2];
+    records_of(load_in_pieces(alloc, plan, inputs, bases, COUNT, pieces)?)
 }
 
 /// The bytes of a FASTA file, if there is one, in memory that does not run out.

@@ -143,7 +143,7 @@ fn words_of_subcommands(rt: HostRuntime) -> Result<(), Fail> {
 }
 
 /// Whether words are bad options.
-pub(crate) fn is_no_plan(rt: &HostRuntime, words: &[&[u8]]) -> bool {
+fn is_no_plan(rt: &HostRuntime, words: &[&[u8]]) -> bool {
     Plan::read(rt.alloc(), words).err() == Some(Fault::Words)
 }
 

@@ -1,0 +1,221 @@
+#!/usr/bin/env python3
+"""Runs the built program over files of real sizes, long lines, long names and long rows: a body that gives up above some size is
+seen here. What it is to print is made beside the files, never by the program. Prints of more than 16 KiB also go into files that
+have room for a part of them, around the sizes of the program's buffer. It takes seconds.
+
+    scripts/test/sizes.py build/bedkeep
+
+Status 1 if a run prints anything else, or has another message or status.
+"""
+import random
+import resource
+import subprocess
+import sys
+import tempfile
+from pathlib import Path
+
+SECONDS = 120
+ROOMS = [0, 1, 8_190, 8_191, 8_192, 8_193, 8_194, 16_383, 16_384, 16_385]
+NO_ROOM = b"bedkeep: output cannot be written\n"
+COMPLEMENT = str.maketrans("ACGTNacgtR", "TGCANtgcaY")
+
+
+def table(rows):
+    """Lines of fields with TABs between them."""
+    return "".join("\t".join(map(str, row)) + "\n" for row in rows)
+
+
+def fasta(name, bases, width=0):
+    """A sequence of a FASTA file, in lines of so many bases; in one line if that is 0."""
+    width = width or len(bases)
+    return f">{name}\n" + "".join(bases[at : at + width] + "\n" for at in range(0, len(bases), width))
+
+
+def records_at_one_place():
+    """Records with one place and many names: each view has one row."""
+    yield "records at one place", "session -g g -i a", {
+        "g": "big\t1000000\n",
+        "a": table(("big", 0, 10, name) for name in range(20_000)),
+    }, "open\tm\tmerge\nopen\tc\tcomplement\nopen\tg\tgenomecov -bg\nprintall\n", (
+        "#m\nbig\t0\t10\n#c\nbig\t10\t1000000\n#g\nbig\t0\t10\t20000\n"
+    )
+
+
+def many_sequences():
+    """A record of six columns on each of many sequences, and edits of one."""
+    names = [f"chr{number}" for number in range(200_000, 400_000)]
+    here = "chr300000"
+    lines = [("add", here, 5, 9, "n", 0, "."), ("add", here, 5, 9, "n", 0, "."), ("remove", here, 5, 9, "n", 0, "."),
+             ("replace", here, 5, 9, "n", 0, ".", here, 15, 19, "n", 0, "."), ("print", "m")]
+    yield "many sequences", "session -g g -i a", {
+        "g": table((name, 100) for name in names),
+        "a": table((name, 10, 20, "name", 0.5, "-") for name in names),
+    }, "open\tm\tmerge\n" + table(lines), table((name, 10, 20) for name in names)
+
+
+def reversed_records():
+    """Many records, the last one first."""
+    places = [("big", start, start + 5) for start in range(0, 1_000_000, 10)]
+    files = {"g": "big\t1000000\n", "a": table(reversed(places))}
+    yield "places from the end", "merge -g g -i a", files, None, table(places)
+    yield "records from the end", "cluster -g g -i a", files, None, table((*place, number) for number, place in enumerate(places, 1))
+
+
+def long_lines():
+    """Script lines with long names."""
+    for count in 1_001, 10_000, 100_000:
+        name = "n" * count
+        record = ("chr1", 10, 20, name)
+        lines = [("add", *record), ("add", *record), ("remove", *record), ("replace", *record, *record[:3], name + "x")]
+        yield f"names of {count} bytes", "session -g g -i a -width 4", {"g": "chr1\t100\n", "a": ""}, (
+            f"#{name}\n" + table(lines) + "open\tc\tcluster\nprint\tc\n"
+        ), f"chr1\t10\t20\t{name}x\t1\n"
+
+
+def long_names():
+    """A sequence, records and scores with long names, in files and in lines."""
+    name, cell = "s" * 300, "n" * 100
+    yield "long names", "session -g g -i a", {
+        "g": f"{name}\t100\n",
+        "a": table([(name, 10, 20, cell, cell, "+")]),
+    }, table([("add", name, 20, 30, cell + "x", cell + "x", "+"), ("open", "m", "merge -c 4 -o collapse"), ("print", "m")]), (
+        f"{name}\t10\t30\t{cell},{cell}x\n"
+    )
+
+
+def long_bases():
+    """The bases of a long sequence, in one line and in many."""
+    bases = "ACGTNacgtR" * 240_000
+    for width in 0, 60, 61:
+        yield f"a sequence in lines of {width or 'all its'} bases", "getfasta -g g -bed a -fi f", {
+            "g": "big\t2400000\n", "a": "big\t0\t2400000\n", "f": fasta("big a chromosome", bases, width),
+        }, None, fasta("big:0-2400000", bases)
+
+
+def many_short_bases():
+    """Many sequences, of which the genome has every second one, with a line for each base."""
+    sizes = [(f"contig_{number}", 4 + number % 7) for number in range(50_000)]
+    half = sizes[1::2]
+    yield "many sequences of bases", "getfasta -g g -bed a -fi f", {
+        "g": table(half),
+        "a": table((name, 0, size) for name, size in half),
+        "f": "".join(fasta(f"{name} of many", "A" * size, 1) for name, size in sizes),
+    }, None, "".join(fasta(f"{name}:0-{size}", "A" * size) for name, size in half)
+
+
+def long_headers():
+    """Names and a description of a hundred thousand bytes."""
+    name = "0123456789" * 10_000
+    yield "long headers", "getfasta -g g -bed a -fi f", {
+        "g": f"{name}a\t4\n", "a": f"{name}a\t1\t4\n", "f": fasta(f"{name}b", "TT") + fasta(f"{name}a {name}", "ACGT"),
+    }, None, fasta(f"{name}a:1-4", "CGT")
+
+
+def long_rows():
+    """Rows of many lengths on both strands."""
+    bases = "AACCGTNacR" * 500
+    places = [(0, 5_000), (10, 260), (20, 280), (0, 1_020), (30, 1_060), (0, 2_050), (2_560, 4_990), (4_990, 5_000), (1, 4_999)]
+    for start, stop in places:
+        part = bases[start:stop]
+        back = part.translate(COMPLEMENT)[::-1]
+        yield f"the bases from {start} to {stop}", "getfasta -s -g g -bed a -fi f", {
+            "g": "s\t5000\n", "a": table(("s", start, stop, "n", 0, strand) for strand in "-+"), "f": fasta("s", bases),
+        }, None, fasta(f"s:{start}-{stop}(+)", part) + fasta(f"s:{start}-{stop}(-)", back)
+
+
+def intervals(chance, count, long, short):
+    """Sorted intervals, of which one in so many may have up to 700 bases, and the others up to so many."""
+    places = []
+    for _ in range(count):
+        start = chance.randrange(700)
+        stop = start + chance.randint(1, 700 if chance.randrange(long) == 0 else short)
+        places.append((f"chr{chance.randrange(3)}", start, stop))
+    return sorted(places)
+
+
+def pairs():
+    """From none to all of the second file's records are long: all that overlap, by a look at each pair."""
+    for seed in range(60):
+        chance = random.Random(seed)
+        first = intervals(chance, chance.choice([4, 25, 70]), 5, 12)
+        second = intervals(chance, chance.choice([3, 20, 60, 400]), chance.choice([1, 2, 5, 15, 10**6]), 1 + seed % 12)
+        rows = [(*a, *b) for a in first for b in second if a[0] == b[0] and a[1] < b[2] and b[1] < a[2]]
+        yield f"pairs of seed {seed}", "intersect -wa -wb -g g -a a -b b", {
+            "g": table((f"chr{number}", 2_000) for number in range(3)), "a": table(first), "b": table(second),
+        }, None, table(rows)
+
+
+def long_prints():
+    """Rows of a thousand records in sessions, one view and two, and in runs of one subcommand."""
+    places = [("big", start, start + 10) for start in range(100_000, 200_000, 100)]
+    files = {"g": "big\t1000000\n", "a": table(places), "b": ""}
+    plain, ones, noughts = table(places), table((*place, 1) for place in places), table((*place, 0) for place in places)
+    numbered = table((*place, number) for number, place in enumerate(places, 1))
+    for view, rows in ("merge", plain), ("merge -c 1 -o count", ones), ("genomecov -bg", ones), ("cluster", numbered), (
+            "intersect -c", noughts), ("subtract", plain):
+        yield f"a session's {view}", "session -g g -i a -b b", files, f"open\tv\t{view}\nprint\tv\n", rows
+        command, *options = view.split()
+        inputs = "-a a -b b" if command in ("intersect", "subtract") else "-i a"
+        yield view, " ".join([command, "-g g", inputs, *options]), files, None, rows
+    yield "two views", "session -g g -i a", files, "open\tv\tcluster\nopen\tw\tgenomecov -bg\nprintall\n", (
+        f"#v\n{numbered}#w\n{ones}"
+    )
+    yield "genomecov -d", "genomecov -d -g g -i a", {"g": "s\t2000\n", "a": ""}, None, table(("s", at, 0) for at in range(1, 2_001))
+
+
+def long_sequences():
+    """A row of 20,000 bases, in sessions and in runs of getfasta."""
+    bases = "AACG" * 5_000
+    files = {"g": "s\t20000\n", "a": "s\t0\t20000\tn\t0\t-\n", "f": fasta("s", bases)}
+    for options, row in ("", fasta("s:0-20000", bases)), (" -tab", f"s:0-20000\t{bases}\n"), (" -s", fasta("s:0-20000(-)", "CGTT" * 5_000)):
+        yield f"a session's getfasta{options}", "session -g g -i a -fi f", files, f"open\tv\tgetfasta{options}\nprint\tv\n", row
+        yield f"getfasta{options}", f"getfasta -g g -bed a -fi f{options}", files, None, row
+
+
+def run_in(program, folder, words, script, room=None):
+    """Status, messages and output of a run, whose output is a file that has room for so many bytes."""
+    def limit():
+        if room is not None:
+            resource.setrlimit(resource.RLIMIT_FSIZE, (room, room))
+
+    output = Path(folder, "output")
+    with open(output, "wb") as file:
+        # The signal that comes with a full file stays ignored, as Python has it, so that the write fails instead.
+        done = subprocess.run([program, *words.split()], cwd=folder, input=(script or "").encode(), stdout=file, stderr=subprocess.PIPE,
+                              preexec_fn=limit, restore_signals=False, timeout=SECONDS)
+    return done.returncode, done.stderr, output.read_bytes()
+
+
+def is_right(program, name, words, files, script, wanted, rooms=()):
+    """Whether a run prints what it is to, and into each room what fits; says so if it doesn't."""
+    wanted = wanted.encode()
+    with tempfile.TemporaryDirectory() as folder:
+        for file, text in files.items():
+            Path(folder, file).write_text(text)
+        whole = run_in(program, folder, words, script)
+        wrong = [] if whole == (0, b"", wanted) else [("all", whole)]
+        for room in rooms:
+            cut = run_in(program, folder, words, script, room)
+            if cut != (4, NO_ROOM, wanted[:room]):
+                wrong.append((room, cut))
+    for room, (status, messages, output) in wrong:
+        print(f"{name}, room {room}: status {status}, {len(output)} bytes of {len(wanted)}, {messages[:200]}", file=sys.stderr)
+    return not wrong
+
+
+def main():
+    if len(sys.argv) != 2:
+        sys.exit("usage: scripts/test/sizes.py PROGRAM")
+    program = Path(sys.argv[1]).resolve()
+    whole = [records_at_one_place, many_sequences, reversed_records, long_lines, long_names, long_bases, many_short_bases, long_headers,
+             long_rows, pairs]
+    results = [is_right(program, *run) for kind in whole for run in kind()]
+    for kind in long_prints, long_sequences:
+        results += [is_right(program, *run, rooms=[*ROOMS, len(run[-1]) - 1]) for run in kind()]
+    if not all(results):
+        sys.exit(f"{results.count(False)} of {len(results)} runs of real sizes are wrong")
+    print(f"all {len(results)} runs of real sizes print what they are to print")
+
+
+if __name__ == "__main__":
+    main()
