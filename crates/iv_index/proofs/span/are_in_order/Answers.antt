@@ -1,7 +1,7 @@
 use Rattle.std.proofs.Common.{rules}
 use Rattle.iv_index.specs.Spans.{span_lt}
 use Rattle.iv_index.proofs.OrderLemmas.{in-order}
-use Rattle.iv_index.proofs.span_order.are_in_order.Goals as goal
+use Rattle.iv_index.proofs.span.are_in_order.Goals as goal
 
 pub returns : goal.returns
 returns c =
