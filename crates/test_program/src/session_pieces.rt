@@ -25,7 +25,9 @@ fn read_second<A: Allocator + Copy>(
         return Ok(());
     };
     let mut pieces = MemSource::new(text, source.0, source.1.max(1));
-    loading.read_second(&mut pieces, 10_000)
+    let said = loading.read(&mut pieces, 10_000)?;
+    loading.take_second(said);
+    Ok(())
 }
 
 /// The session of a plan's files, of which each BED file comes up to so many bytes in pieces of so many.
@@ -41,7 +43,8 @@ pub(crate) fn load_in_pieces<A: Allocator + Copy>(
 {
     let mut loading: Loading<Record<A>, A> = Loading::begin(alloc, plan, inputs.sizes, limit);
     let mut pieces = MemSource::new(inputs.first, source.0, source.1.max(1));
-    loading.read_first(&mut pieces, 10_000)?;
+    let first = loading.read(&mut pieces, 10_000)?;
+    loading.take_first(first);
     read_second(&mut loading, inputs.other, source)?;
     Ok(begin_session(loading, bases))
 }
