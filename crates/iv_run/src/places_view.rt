@@ -63,10 +63,31 @@ impl PlacesView {
         }
     }
 
-    /// Puts the text of the view, for places in the order of a track that are on the genome.
+    /// Prints the text of the view, for places in the order of a track that are on the genome, through one buffer.
     ///
-    /// All memory is allocated before the first byte is put: room for a stop of each record for `genomecov`, else none. If that
-    /// fails the sink is not touched.
+    /// All memory is allocated before the first byte is printed: room for a stop of each record for `genomecov`, else none.
+    ///
+    /// # Errors
+    ///
+    /// `Memory`, and then nothing was printed. `Output`, and then the sink has taken a prefix of the text. There is no other.
+    fn print<A: Allocator + Copy, S: Sink>(
+        self,
+        alloc: A,
+        spans: &[Span],
+        genome: &Genome<A>,
+        sink: &mut S,
+    ) -> Result<(), CliFault>
+        requires order { AreInOrder (span_rows spans.now) }
+        requires on_genome { All (IsOnGenome genome.now) (span_rows spans.now) }
+        ensures { (view : KeptView) → IsViewOf self view → Prints (S.state sink.old) (S.state sink.new) result (kept_text view genome.now (span_rows spans.now)) }
+    {
+        let mut buffer = Buffered::new(sink);
+        self.put(alloc, spans, genome, &mut buffer)?;
+        buffer.finish()?;
+        Ok(())
+    }
+
+    /// Puts the text of the view straight into the sink. If an allocation fails the sink is not touched.
     fn put<A: Allocator + Copy, S: Sink>(
         self,
         alloc: A,
@@ -89,14 +110,13 @@ impl PlacesView {
     }
 }
 
-/// Sorts the places of the first file, and puts a view of them.
-fn put_files<A: Allocator + Copy, S: Sink>(
+/// Sorts the places of the first file, and prints a view of them.
+fn print_files<A: Allocator + Copy, S: Sink>(
     view: PlacesView,
     files: LoadedFiles<Span, A>,
     sink: &mut S,
 ) -> Result<(), CliFault>
-    ensures text { (asked : KeptView) → IsViewOf view asked → Prints (S.state sink.old) (S.state sink.new) result (kept_text asked files.genome (ordered files.first.rows)) }
-    ensures alone { result ≡ Err CliFault.Memory → sink.new ≡ sink.old }
+    ensures { (asked : KeptView) → IsViewOf view asked → Prints (S.state sink.old) (S.state sink.new) result (kept_text asked files.genome (ordered files.first.rows)) }
 {
     let LoadedFiles {
         alloc,
@@ -108,11 +128,11 @@ fn put_files<A: Allocator + Copy, S: Sink>(
     } = files;
     let mut spans = first.into_spans()?;
     sort_spans(&mut spans);
-    view.put(alloc, spans.as_slice(), &genome, sink)
+    view.print(alloc, spans.as_slice(), &genome, sink)
 }
 
 impl<A: Allocator + Copy> Loading<Span, A> {
-    /// Prints a view of the first file through one buffer, once the BED files are read: all of its text, and nothing else. `bases` are the bytes of
+    /// Prints a view of the first file, once the BED files are read: all of its text, and nothing else. `bases` are the bytes of
     /// the FASTA file, if there is one.
     ///
     /// # Errors
@@ -128,9 +148,6 @@ impl<A: Allocator + Copy> Loading<Span, A> {
             → Shows (S.state sink.old) (S.state sink.new) result (shown plan sizes text other (option_map (λ text. text.items) bases) self.limit) }
     {
         let files = self.finish(bases)?;
-        let mut buffer = Buffered::new(sink);
-        put_files(view, files, &mut buffer)?;
-        buffer.finish()?;
-        Ok(())
+        print_files(view, files, sink)
     }
 }

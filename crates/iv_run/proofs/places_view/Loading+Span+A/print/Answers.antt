@@ -1,11 +1,9 @@
-use Rattle.std.proofs.Common.{◌≡◌, ℕ, Ok, Err, sym, subst, ◌∙◌}
+use Rattle.std.proofs.Common.{ℕ, subst}
 use Rattle.std.proofs.lemmas.Result.{err_from_is_err_and}
 use Rattle.std.specs.Option.{option_map}
-use Rattle.iv_bytes.proofs.Putting.{Takes-finished, FailsIn-finished}
 use Rattle.iv_index.specs.Places.{bare}
 use Rattle.iv_run.specs.Loading.{parsed}
 use Rattle.iv_run.specs.SoFar.{ReportsKept}
-use Rattle.iv_run.specs.declared.fault.CliFault.TheVariants.{Output}
 use Rattle.iv_run.proofs.PlacesLemmas.{shows-places}
 use Rattle.iv_run.proofs.ShotLemmas.{shows-damage}
 use Rattle.iv_run.proofs.places_view.Loading+Span+A.print.Goals as goal
@@ -17,25 +15,8 @@ returns-in_err-files g c = λ plan sizes text other ask width says.
     let report = subst (λ (w : ℕ). ReportsKept bare c.finish.result (parsed w sizes text other bases c.args.self.limit)) width (c.finish.ensures.says sizes text other says) in
     rw (p.1, p.2) (shows-damage plan.width sizes text other bases c.args.self.limit plan.view _ _ (rw c.in_err-files.was at report))
 
-pub returns-in_err-finish : goal.returns-in_err-finish
-returns-in_err-finish g c = λ plan sizes text other ask width says.
-    let p = err_from_is_err_and c.from_residual-in_err-finish.result c.from_residual-in_err-finish.ensures.1 in
-    let bases = option_map (λ bytes. bytes.items) c.args.bases in
-    let report = subst (λ (w : ℕ). ReportsKept bare c.finish.result (parsed w sizes text other bases c.args.self.limit)) width (c.finish.ensures.says sizes text other says) in
-    let took = rw (c.new-buffer.ensures.same, c.new-buffer.ensures.empty) at (c.in_ok-put_files.ensures.text ask.asked ask.is_view) in
-    let names = took.moved.same in
-    let named : c.put_files.new.sink.sink.ghost_name ≡ c.new-buffer.result.sink.ghost_name = cc names in
-    let same = c.sink-2-1.given.1 (sym c.new-buffer.ensures.same_reference ∙ sym named) in
-    rw (p.1, p.2, same)
-    (shows-places plan sizes text other bases c.args.self.limit c.in_ok-files.files (rw c.in_ok-files.was at report) c.args.view ask _ _ (Err Output) (FailsIn-finished _ _ _ _ _ _ _ took c.in_err-finish.ensures))
-
 pub returns : goal.returns
 returns g c = λ plan sizes text other ask width says.
     let bases = option_map (λ bytes. bytes.items) c.args.bases in
     let report = subst (λ (w : ℕ). ReportsKept bare c.finish.result (parsed w sizes text other bases c.args.self.limit)) width (c.finish.ensures.says sizes text other says) in
-    let took = rw (c.new-buffer.ensures.same, c.new-buffer.ensures.empty) at (c.in_ok-put_files.ensures.text ask.asked ask.is_view) in
-    let names = took.moved.same in
-    let named : c.put_files.new.sink.sink.ghost_name ≡ c.new-buffer.result.sink.ghost_name = cc names in
-    let same = c.sink-2-1.given.1 (sym c.new-buffer.ensures.same_reference ∙ sym named) in
-    rw same
-    (shows-places plan sizes text other bases c.args.self.limit c.in_ok-files.files (rw c.in_ok-files.was at report) c.args.view ask _ _ (Ok tt) (Takes-finished _ _ _ _ _ _ _ took c.in_ok-finish.ensures))
+    shows-places plan sizes text other bases c.args.self.limit c.in_ok-files.files (rw c.in_ok-files.was at report) c.args.view ask _ _ c.print_files.result (c.print_files.ensures ask.asked ask.is_view)

@@ -10,22 +10,22 @@ use Rattle.iv_index.proofs.SortedLemmas.{ordered-all}
 use Rattle.iv_view.specs.Views.{kept_text}
 use Rattle.iv_run.specs.Loading.{Parsed}
 use Rattle.iv_run.specs.Prints.{Prints}
-use Rattle.iv_run.proofs.places_view.put_files.Goals as goal
+use Rattle.iv_run.proofs.places_view.print_files.Goals as goal
 
-pub put-requires-clause-order : goal.put-requires-clause-order
-put-requires-clause-order g c =
+pub print-requires-clause-order : goal.print-requires-clause-order
+print-requires-clause-order g c =
     let rows = ap span_rows c.as_slice.ensures.value ∙ c.sort_spans.ensures ∙ ap ordered c.in_ok-spans.ensures in
     subst AreInOrder (sym rows) (ordered-in_order c.files.inside.first.rows)
 
-pub put-requires-clause-on_genome : goal.put-requires-clause-on_genome
-put-requires-clause-on_genome g c =
+pub print-requires-clause-on_genome : goal.print-requires-clause-on_genome
+print-requires-clause-on_genome g c =
     let rows = ap span_rows c.as_slice.ensures.value ∙ c.sort_spans.ensures ∙ ap ordered c.in_ok-spans.ensures in
     let inside = c.files.inside in
     subst (All (IsOnGenome inside.genome)) (sym rows)
     (ordered-all (IsOnGenome inside.genome) inside.first.rows (kept-on_genome inside.genome inside.first.width inside.first.rows c.files.invariant.0.kept_all))
 
-pub returns-clause-text : goal.returns-clause-text
-returns-clause-text g c = λ asked is.
+pub returns : goal.returns
+returns g c = λ asked is.
     let rows = ap span_rows c.as_slice.ensures.value ∙ c.sort_spans.ensures ∙ ap ordered c.in_ok-spans.ensures in
-    subst (λ (files : Parsed). Prints (g.S.Sink.state c.args.sink.now) (g.S.Sink.state c.put.new.sink) c.put.result (kept_text asked files.genome (ordered files.first.rows))) c.files.view_is
-    (subst (λ (l : List Row). Prints (g.S.Sink.state c.args.sink.now) (g.S.Sink.state c.put.new.sink) c.put.result (kept_text asked c.files.inside.genome l)) rows (c.put.ensures.text asked is))
+    subst (λ (files : Parsed). Prints (g.S.Sink.state c.args.sink.now) (g.S.Sink.state c.print.new.sink) c.print.result (kept_text asked files.genome (ordered files.first.rows))) c.files.view_is
+    (subst (λ (l : List Row). Prints (g.S.Sink.state c.args.sink.now) (g.S.Sink.state c.print.new.sink) c.print.result (kept_text asked c.files.inside.genome l)) rows (c.print.ensures asked is))
