@@ -2,13 +2,10 @@
 #![tactic(auto)]
 
 mod help;
-mod laws;
 mod notice;
 mod plan;
-mod plan_draft;
 mod run;
 
-pub use laws::{no_option_twice, options_among_view_words};
 pub use notice::Notice;
 pub use plan::{Plan, Slot};
-pub use run::Run;
+pub use run::{Run, no_option_twice, options_among_view_words};

@@ -7,6 +7,6 @@ mod loading;
 
 pub use ending::{Ending, run_status, status};
 pub use iv_args::{Notice, Plan, Run, Slot};
-pub use iv_run::{CliFault, FileFault, Inputs, read_all, shot};
+pub use iv_run::{CliFault, FileFault, Inputs, Loading, read_all, shot};
 pub use iv_text::Fault;
 pub use loading::{begin_session, load};

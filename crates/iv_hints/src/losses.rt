@@ -147,12 +147,7 @@ fn header_name(line: &[u8]) -> Option<&[u8]> {
 
 /// Whether a FASTA file has a sequence of this name.
 fn has_header(fasta: &[u8], name: &[u8]) -> bool {
-    for line in lines_of(fasta) {
-        if header_name(line).is_some_and(|found| found == name) {
-            return true;
-        }
-    }
-    false
+    lines_of(fasta).any(|line| header_name(line).is_some_and(|found| found == name))
 }
 
 /// The name of the first sequence of a FASTA file.

@@ -1,4 +1,5 @@
 //! What is wrong with the words of a command line.
+use crate::records::count_of;
 use crate::vocabulary::{
     Value, is_between, is_operation, is_other_option, is_other_subcommand, lists, needed_of,
     options_of, value_of,
@@ -197,30 +198,21 @@ fn is_value(run: Run, option: &[u8], word: &[u8]) -> bool {
 
 /// Whether the items of a list are numbers.
 fn are_numbers(list: &[u8]) -> bool {
-    for item in list.split(|byte| *byte == b',') {
-        if read_number(item).is_none() {
-            return false;
-        }
-    }
-    true
+    !list
+        .split(|byte| *byte == b',')
+        .any(|item| read_number(item).is_none())
 }
 
 /// Whether the items of a list are operations.
 fn are_operations(list: &[u8]) -> bool {
-    for item in list.split(|byte| *byte == b',') {
-        if !is_operation(item) {
-            return false;
-        }
-    }
-    true
+    !list
+        .split(|byte| *byte == b',')
+        .any(|item| !is_operation(item))
 }
 
 /// How many items a list has.
 fn count_items(list: &[u8]) -> usize {
-    list.iter()
-        .filter(|byte| **byte == b',')
-        .count()
-        .saturating_add(1)
+    count_of(list, b',').saturating_add(1)
 }
 
 /// The word after an option.

@@ -46,12 +46,7 @@ pub(crate) fn is_between(byte: &u8) -> bool {
 
 /// Whether a list, as the texts above are, has a word.
 pub(crate) fn lists(list: &[u8], word: &[u8]) -> bool {
-    for known in list.split(is_between) {
-        if known == word {
-            return true;
-        }
-    }
-    false
+    list.split(is_between).any(|known| known == word)
 }
 
 /// Whether a word is a subcommand that only bedtools has.

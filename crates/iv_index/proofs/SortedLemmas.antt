@@ -10,7 +10,7 @@ use Rattle.iv_text.specs.Row.{Row, row_cmp}
 use Rattle.iv_text.proofs.OrderedLemmas.{all-all_added, ordered-in_order}
 
 -- what all records of a list have, those of the list in order have
-ordered-all : (P : Row → Type 0) (rows : List Row) → All P rows → All P (ordered rows)
+pub ordered-all : (P : Row → Type 0) (rows : List Row) → All P rows → All P (ordered rows)
 ordered-all P rows all = All-from_recursion P (ordered rows) (all-all_added row_cmp P rows [] (recursion_from_All P rows all) tt)
 
 -- records that fit a genome lie on it

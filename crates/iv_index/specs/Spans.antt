@@ -1,12 +1,7 @@
 -- Records of which only their places are kept.
-use Rattle.std.specs.Prelude.{ℕ, Bool, List, [], None, Result, map}
+use Rattle.std.specs.Prelude.{Bool, List, [], None, map}
 use Rattle.std.specs.Ordering.{is_lt}
-use Rattle.iv_text.specs.BedFile.{Bed}
-use Rattle.iv_text.specs.Genome.{Sequences}
-use Rattle.iv_text.specs.KeptDrafts.{kept_bed_of}
 use Rattle.iv_text.specs.Row.{Row, row_cmp}
-use Rattle.iv_text.specs.declared.fault.LoadFault.{LoadFault}
-use Rattle.iv_index.specs.Places.{bare}
 use Rattle.iv_index.specs.declared.span.Span.{Span}
 
 -- the record of a place, in three columns
@@ -20,7 +15,3 @@ span_rows spans = map row_of_span spans
 -- the record of the first place belongs in front of that of the second
 abbrev pub span_lt : Span → Span → Bool
 span_lt x y = is_lt (row_cmp (row_of_span x) (row_of_span y))
-
--- the BED file that a text says, with its records in three columns, or its first fault
-abbrev pub bare_bed_of : Sequences → ℕ → ℕ → List ℕ → Result Bed LoadFault
-bare_bed_of g empty limit text = kept_bed_of bare g empty limit text

@@ -5,15 +5,10 @@ mod bed_text;
 mod order;
 mod place;
 mod span;
-mod span_order;
-mod span_sequence;
-mod spans;
 mod text_records;
 
 pub use bed_text::BedText;
 pub use order::{order_nearly, order_neighbors};
 pub use place::Place;
-pub use span::Span;
-pub use span_sequence::split_sequence;
-pub use spans::Spans;
+pub use span::{Span, sort_spans, split_sequence};
 pub use text_records::{TextRecord, TextRecords};

@@ -1,11 +1,16 @@
-//! Where a record is, and nothing else.
-
-ghost use Rattle.std.specs.Prelude.{refl};
+//! Where a record is, and nothing else; the order of a track among such places.
+ghost use Rattle.std.specs.Prelude.{◌≡◌, ◌↔◌, ◌≤◌, nat_lt, All, IsTrue, filter, refl};
+ghost use Rattle.std.specs.List.Sorted.{IsSortedBy};
+ghost use Rattle.iv_text.specs.Covering.{on};
+ghost use Rattle.iv_text.specs.Ordered.{AreInOrder, ordered};
+ghost use Rattle.iv_text.specs.Row.{row_cmp};
 ghost use Rattle.iv_index.specs.Places.{bare, span_of};
-ghost use Rattle.iv_index.specs.Spans.{row_of_span};
+ghost use Rattle.iv_index.specs.Spans.{row_of_span, span_lt, span_rows};
 
+use crate::order::order_neighbors;
 use iv_text::{FromRecord, RecordRef, ShortLine};
 use std::alloc::{AllocError, Allocator};
+use std::cmp::Ordering;
 
 /// Where a record is, 0-based and half-open.
 #[derive(Clone, Copy, Debug, PartialEq, Eq)]
@@ -53,4 +58,46 @@ impl<A: Allocator + Copy> FromRecord<A> for Span {
             stop: line.stop,
         })
     }
+}
+
+/// The records of two places in the order of a track.
+fn compare_spans(first: &Span, second: &Span) -> Ordering
+    ensures { result ≡ row_cmp (row_of_span first.now) (row_of_span second.now) }
+{
+    if first.seq != second.seq {
+        return first.seq.cmp(&second.seq);
+    }
+    if first.start != second.start {
+        return first.start.cmp(&second.start);
+    }
+    first.stop.cmp(&second.stop)
+}
+
+/// Whether places are in the order of a track.
+fn are_in_order(spans: &[Span]) -> bool
+    ensures { IsTrue result ↔ IsSortedBy span_lt spans.now }
+{
+    spans.is_sorted_by(|first, second| !compare_spans(second, first).is_lt())
+}
+
+/// Sorts places in the order of a track: in one pass if they are sorted, or in few if only records of one start are out of
+/// order. It takes no memory.
+pub fn sort_spans<A: Allocator>(spans: &mut Vec<Span, A>)
+    ensures { span_rows spans.new.items ≡ ordered (span_rows spans.old.items) }
+{
+    if are_in_order(spans) {
+        return;
+    }
+    order_neighbors(spans, |before, here| compare_spans(before, here).is_gt());
+    spans.sort_unstable_by(|first, second| compare_spans(first, second));
+}
+
+/// The places on the sequence of this rank, and those on later ones.
+pub fn split_sequence(spans: &[Span], rank: u32) -> (&[Span], &[Span])
+    requires order { AreInOrder (span_rows spans.now) }
+    requires from { All (λ r. rank ≤ r.seq) (span_rows spans.now) }
+    ensures here { span_rows result.0.now ≡ on rank (span_rows spans.now) }
+    ensures later { span_rows result.1.now ≡ filter (λ r. nat_lt rank r.seq) (span_rows spans.now) }
+{
+    spans.split_at(spans.partition_point(|span| span.seq <= rank))
 }

@@ -35,7 +35,7 @@ use Rattle.iv_program.specs.Outcomes.{DoesAll, DoesAllWith, RunsAll}
 use Rattle.iv_program.specs.Program.{Asked, Shown, Planned, Wrong, Ask, Flushes, Gives, Runs, Serves}
 use Rattle.iv_program.specs.Runs.{DoesWith, PrintsView, RunsOver, RunsPlan, RunsScript, World, ending_of_shot}
 use Rattle.iv_program.specs.Texts.{Texts}
-use Rattle.iv_program.specs.declared.ended.Ended.{Ended}
+use Rattle.iv_program.specs.declared.program.Ended.{Ended}
 
 -- only a run that is done has the status 0
 done-status : (e : Ending) → 0 ≡ status_of e → e ≡ ending.Done

@@ -30,7 +30,7 @@ use Rattle.iv_program.specs.Limits.{most_file_bytes, most_records}
 use Rattle.iv_program.specs.Program.{Shown, Planned, Wrong, Ask, Finishes, Gives, Runs, world}
 use Rattle.iv_program.specs.Runs.{RunsPlan, Says}
 use Rattle.iv_program.specs.Texts.{Texts, AreTexts, IsTextIfNamed, StopsAt}
-use Rattle.iv_program.specs.declared.ended.Ended.{Ended}
+use Rattle.iv_program.specs.declared.program.Ended.{Ended}
 
 -- ---- files that were read
 

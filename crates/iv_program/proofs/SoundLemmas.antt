@@ -21,7 +21,7 @@ use Rattle.iv_program.specs.Outcomes.{AreSound, HasBytes, Hold, PrintsJust}
 use Rattle.iv_program.specs.Program.{Asked, Shown, Planned, Wrong, Ask, Finishes, Flushes, Runs, Serves, Tells, name_told}
 use Rattle.iv_program.specs.Runs.{DoesWith, RunsPlan, World, ending_of_shot}
 use Rattle.iv_program.specs.Texts.{Texts, AreTexts, IsTextIfNamed}
-use Rattle.iv_program.specs.declared.ended.Ended.{Ended}
+use Rattle.iv_program.specs.declared.program.Ended.{Ended}
 use Rattle.iv_program.proofs.DoneLemmas.{one-plan, then-flushed}
 
 -- ---- files

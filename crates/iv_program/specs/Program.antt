@@ -14,7 +14,7 @@ use Rattle.iv_cli.specs.declared.ending.Ending.{Ending}
 use Rattle.iv_cli.specs.declared.ending.Ending.TheVariants as ending
 use Rattle.iv_program.specs.Files.{FilesState}
 use Rattle.iv_program.specs.Runs.{World, RunsPlan}
-use Rattle.iv_program.specs.declared.ended.Ended.{Ended}
+use Rattle.iv_program.specs.declared.program.Ended.{Ended}
 
 abbrev pub world : FilesState → SourceState → SinkState → SinkState → World
 world files input output messages = record { files = files; streams = streams input output messages }

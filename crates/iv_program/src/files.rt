@@ -1,16 +1,16 @@
 //! Files that are opened by their names, and reading those of a plan.
 ghost use Rattle.std.specs.Prelude.{◌≡◌, List, ℕ, Option, None, Some, IfOk, IfErr, OnOk, OnErr, true};
-ghost use Rattle.std.specs.Option.{option_copied, option_map};
+ghost use Rattle.std.specs.Option.{option_map};
 ghost use Rattle.iv_args.specs.Words.{file_of};
-ghost use Rattle.iv_run.specs.SoFar.{IsOfOneRun, SaysFirst, SaysSecond, SaysSizes};
+ghost use Rattle.iv_run.specs.SoFar.{AreKept, IsOfOneRun, IsSaid, SaysFirst, SaysSecond};
 ghost use Rattle.iv_program.specs.Files.{FilesState, IsText, StopsFile, opened, after_closing};
 ghost use Rattle.iv_program.specs.Runs.{Says};
 ghost use Rattle.iv_program.specs.Texts.{Texts, AreTexts, IsTextIfNamed, StopsAt};
 
 use iv_args::{Plan, Slot};
 use iv_bytes::{ReadFault, Source};
-use iv_run::{FileFault, Inputs, Loading, read_all};
-use iv_text::FromRecord;
+use iv_run::{FileFault, KeptFile, Loading, read_all};
+use iv_text::{FromRecord, LoadFault};
 use std::alloc::{Allocator, Global};
 use std::marker::Model;
 
@@ -96,37 +96,12 @@ fn read_slot<A: Allocator + Copy, F: InputFiles>(
     }
 }
 
-/// The bytes of the files of a plan that are lent to a run, the FASTA file aside.
-#[derive(Drop)]
-pub(crate) struct LentTexts<A: Allocator + Copy = Global> {
-    sizes: Vec<u8, A>,
-    first: Vec<u8, A>,
-    other: Option<Vec<u8, A>>,
-}
-
-impl<A: Allocator + Copy> LentTexts<A> {
-    /// The bytes, lent.
-    pub(crate) fn inputs(&self) -> Inputs<'_>
-        ensures sizes { result.sizes.now ≡ self.now.sizes.items }
-        ensures first { result.first.now ≡ self.now.first.items }
-        ensures other { option_copied result.other ≡ option_map (λ bytes. bytes.items) self.now.other }
-    {
-        let other = match &self.other {
-            Some(bytes) => Some(bytes.as_slice()),
-            None => None,
-        };
-        Inputs {
-            sizes: self.sizes.as_slice(),
-            first: self.first.as_slice(),
-            other,
-        }
-    }
-}
-
 /// The bytes of the files of a plan.
 #[derive(Drop)]
 pub(crate) struct FileTexts<A: Allocator + Copy = Global> {
-    pub(crate) lent: LentTexts<A>,
+    pub(crate) sizes: Vec<u8, A>,
+    pub(crate) first: Vec<u8, A>,
+    pub(crate) other: Option<Vec<u8, A>>,
     pub(crate) bases: Option<Vec<u8, A>>,
 }
 
@@ -136,7 +111,7 @@ impl<A: Allocator + Copy> Model for FileTexts<A> {
 
     ghost Value = { Texts };
 
-    ghost view = { λ t. record { sizes = t.lent.sizes.items; first = t.lent.first.items; other = option_map (λ bytes. bytes.items) t.lent.other; bases = option_map (λ bytes. bytes.items) t.bases } };
+    ghost view = { λ t. record { sizes = t.sizes.items; first = t.first.items; other = option_map (λ bytes. bytes.items) t.other; bases = option_map (λ bytes. bytes.items) t.bases } };
 }
 
 impl<A: Allocator + Copy> FileTexts<A> {
@@ -154,68 +129,47 @@ impl<A: Allocator + Copy> FileTexts<A> {
         let first = read_named(alloc, files, Slot::First, plan.first_file())?;
         let other = read_slot(alloc, files, plan, Slot::Other)?;
         let bases = read_slot(alloc, files, plan, Slot::Bases)?;
-        let lent = LentTexts {
+        Ok(FileTexts {
             sizes,
             first,
             other,
-        };
-        Ok(FileTexts { lent, bases })
+            bases,
+        })
     }
 }
 
-/// Reads the BED file of this name as the first one of a run.
-fn load_first<K: FromRecord<A>, A: Allocator + Copy, F: InputFiles>(
+/// What the BED file of this name says.
+fn load_file<K: FromRecord<A>, A: Allocator + Copy, F: InputFiles>(
     files: &mut F,
     name: &[u8],
-    loading: &mut Loading<K, A>,
-) -> Result<(), FileFault>
-    ensures ok { OnOk result ((text : List ℕ) × IsText (F.state files.old) name.now text
-        × ((sizes : List ℕ) → SaysSizes sizes loading.old → SaysFirst K.kept sizes text loading.new)) }
-    ensures run { IsOfOneRun loading.old loading.new }
-    ensures beside { loading.new.second ≡ loading.old.second }
+    loading: &Loading<K, A>,
+) -> Result<Result<KeptFile<K, A>, LoadFault>, FileFault>
+    ensures ok { IfOk result (λ said. (text : List ℕ) × IsText (F.state files.old) name.now text × IsSaid K.kept loading.now text said) }
+    ensures kept { IfOk result (λ said. IfOk said (AreKept K.kept loading.now.genome loading.now.limit)) }
     ensures same { OnOk result (F.state files.new ≡ F.state files.old) }
     ensures err { IfErr result (λ fault. StopsFile (F.state files.old) name.now fault (F.state files.new)) }
 {
     let mut file = files.open(name)?;
-    let read = loading.read_first(&mut file, MOST_FILE_BYTES);
+    let read = loading.read(&mut file, MOST_FILE_BYTES);
     files.close(file);
     read
 }
 
-/// Reads the BED file of this name as the second one of a run.
-fn load_second<K: FromRecord<A>, A: Allocator + Copy, F: InputFiles>(
+/// What the BED file of this name says, which is in this slot of a plan.
+fn load_named<K: FromRecord<A>, A: Allocator + Copy, F: InputFiles>(
     files: &mut F,
+    slot: Slot,
     name: &[u8],
-    loading: &mut Loading<K, A>,
-) -> Result<(), FileFault>
-    ensures ok { OnOk result ((other : List ℕ) × IsText (F.state files.old) name.now other
-        × ((sizes text : List ℕ) → SaysFirst K.kept sizes text loading.old → SaysSecond K.kept sizes text (Some other) loading.new)) }
-    ensures run { IsOfOneRun loading.old loading.new }
+    loading: &Loading<K, A>,
+) -> Result<Result<KeptFile<K, A>, LoadFault>, SlotFault>
+    ensures ok { IfOk result (λ said. (text : List ℕ) × IsText (F.state files.old) name.now text × IsSaid K.kept loading.now text said) }
+    ensures kept { IfOk result (λ said. IfOk said (AreKept K.kept loading.now.genome loading.now.limit)) }
     ensures same { OnOk result (F.state files.new ≡ F.state files.old) }
-    ensures err { IfErr result (λ fault. StopsFile (F.state files.old) name.now fault (F.state files.new)) }
+    ensures err { IfErr result (λ why. (why.0 ≡ slot) × StopsFile (F.state files.old) name.now why.1 (F.state files.new)) }
 {
-    let mut file = files.open(name)?;
-    let read = loading.read_second(&mut file, MOST_FILE_BYTES);
-    files.close(file);
-    read
-}
-
-/// Reads the first file of a plan.
-fn read_first<K: FromRecord<A>, A: Allocator + Copy, F: InputFiles>(
-    files: &mut F,
-    plan: &Plan<'_, A>,
-    loading: &mut Loading<K, A>,
-) -> Result<(), SlotFault>
-    ensures ok { OnOk result ((text : List ℕ) × IsText (F.state files.old) plan.now.first text
-        × ((sizes : List ℕ) → SaysSizes sizes loading.old → SaysFirst K.kept sizes text loading.new)) }
-    ensures run { IsOfOneRun loading.old loading.new }
-    ensures beside { loading.new.second ≡ loading.old.second }
-    ensures same { OnOk result (F.state files.new ≡ F.state files.old) }
-    ensures err { IfErr result (λ why. (why.0 ≡ Slot.First) × StopsFile (F.state files.old) plan.now.first why.1 (F.state files.new)) }
-{
-    match load_first(files, plan.first_file(), loading) {
-        Ok(()) => Ok(()),
-        Err(fault) => Err((Slot::First, fault)),
+    match load_file(files, name, loading) {
+        Ok(said) => Ok(said),
+        Err(fault) => Err((slot, fault)),
     }
 }
 
@@ -235,9 +189,12 @@ fn read_second<K: FromRecord<A>, A: Allocator + Copy, F: InputFiles>(
     let Some(name) = plan.file(Slot::Other) else {
         return Ok(());
     };
-    match load_second(files, name, loading) {
-        Ok(()) => Ok(()),
-        Err(fault) => Err((Slot::Other, fault)),
+    match load_named(files, Slot::Other, name, loading) {
+        Ok(said) => {
+            loading.take_second(said);
+            Ok(())
+        }
+        Err(why) => Err(why),
     }
 }
 
@@ -263,7 +220,8 @@ impl<K: FromRecord<A>, A: Allocator + Copy> ReadFiles<K, A> {
     {
         let sizes = read_named(alloc, files, Slot::Sizes, plan.sizes_file())?;
         let mut loading = Loading::begin(alloc, plan, sizes.as_slice(), MOST_RECORDS);
-        read_first(files, plan, &mut loading)?;
+        let first = load_named(files, Slot::First, plan.first_file(), &loading)?;
+        loading.take_first(first);
         read_second(files, plan, &mut loading)?;
         let bases = read_slot(alloc, files, plan, Slot::Bases)?;
         Ok(ReadFiles { loading, bases })

@@ -1,24 +1,54 @@
 //! The whole program: what the words ask for, the run of one subcommand, and how each run ends.
-ghost use Rattle.std.specs.Prelude.{◌≡◌, ◌<◌, ◌^◌, IfOk, IfErr, IfSome, OnOk, OnErr, length, map, true};
-ghost use Rattle.std.specs.Option.{option_map};
+ghost use Rattle.std.specs.Prelude.{◌≡◌, ◌≢◌, ◌<◌, ◌^◌, ℕ, List, Some, None, IfOk, IfErr, IfSome, OnOk, OnErr, length, map, true, false};
+ghost use Rattle.std.specs.Option.{option_copied, option_map};
+ghost use Rattle.iv_bytes.specs.Sinks.{Takes};
 ghost use Rattle.iv_index.specs.Places.{bare};
+ghost use Rattle.iv_args.specs.Notices.{notice_of};
 ghost use Rattle.iv_args.specs.Texts.{notice_text};
-ghost use Rattle.iv_args.specs.Words.{RunPlan};
-ghost use Rattle.iv_run.specs.PlacesViews.{AskForPlaces};
+ghost use Rattle.iv_args.specs.Words.{RunPlan, IsPlan, is_session};
+ghost use Rattle.iv_args.specs.declared.notice.Notice.{Notice};
+ghost use Rattle.iv_run.specs.PlacesViews.{AskForColumns, AskForPlaces};
+ghost use Rattle.iv_run.specs.Shots.{shown};
 ghost use Rattle.iv_cli.specs.Endings.{is_through, line_of, status_of};
+ghost use Rattle.iv_program.specs.Limits.{most_records};
+ghost use Rattle.iv_program.specs.Outcomes.{AreSound, DoesAll, Hold, PrintsJust};
 ghost use Rattle.iv_program.specs.Program.{Finishes, Gives, Runs, Tells, world};
-ghost use Rattle.iv_program.specs.Runs.{PrintsView, RunsPlan, Says, ending_of_shot};
+ghost use Rattle.iv_program.specs.Runs.{PrintsView, RunsPlan, Says, World, ending_of_shot};
 ghost use Rattle.iv_program.specs.Texts.{Texts, AreTexts, StopsAt};
+ghost use Rattle.iv_program.specs.declared.program.Ended.{Ended};
 
-use crate::ended::Ended;
 use crate::files::{FileTexts, InputFiles, MOST_RECORDS, ReadFiles, SlotFault};
 use crate::script_run::run_session;
 use iv_args::{Notice, Plan};
 use iv_bytes::{Flush, Sink, Source, put_all};
 use iv_cli::Ending;
 use iv_index::Span;
-use iv_run::{CliFault, PlacesView, shot};
+use iv_run::{CliFault, Inputs, PlacesView, print_columns};
 use std::alloc::Allocator;
+
+/// How a run has ended, its output flushed.
+#[derive(Clone, Copy, Debug, PartialEq, Eq)]
+pub struct Ended {
+    pub ending: Ending,
+    /// The line of its script at which it ended early, counted from 1; 0 if there is none.
+    pub line: u64,
+}
+
+impl Ended {
+    /// A run that has not ended early at a line of a script.
+    pub(crate) fn at_no_line(ending: Ending) -> Ended
+        ensures { (result.ending ≡ ending) × (result.line ≡ 0) }
+    {
+        Ended { ending, line: 0 }
+    }
+
+    /// The exit status.
+    pub fn status(self) -> u8
+        ensures { result ≡ status_of self.ending }
+    {
+        self.ending.status()
+    }
+}
 
 /// Prints a notice.
 fn print_notice<W: Sink>(notice: Notice, output: &mut W) -> Ending
@@ -53,19 +83,40 @@ fn print_places<A: Allocator + Copy, W: Sink>(
     ending_of(loading.print(view, bases, output))
 }
 
-/// Prints the view of a plan, given the texts of all its files.
+/// The bytes of a file that may be left out, lent.
+fn lent<A: Allocator>(bytes: &Option<Vec<u8, A>>) -> Option<&[u8]>
+    ensures { option_copied result ≡ option_map (λ bytes. bytes.items) bytes.now }
+{
+    match bytes {
+        Some(bytes) => Some(bytes.as_slice()),
+        None => None,
+    }
+}
+
+/// Prints a view that needs the columns of records, given the texts of all files of a plan.
 fn print_texts<A: Allocator + Copy, W: Sink>(
     alloc: A,
     plan: &Plan<'_, A>,
     texts: FileTexts<A>,
     output: &mut W,
 ) -> Ending
+    requires columns { AskForColumns plan.now.view }
     requires first { length texts.first < 2 ^ 32 }
     requires other { IfSome texts.other (λ text. length text < 2 ^ 32) }
     ensures { PrintsView plan.now texts (W.state output.old) (W.state output.new) result }
 {
-    let FileTexts { lent, bases } = texts;
-    ending_of(shot(alloc, plan, &lent.inputs(), bases, MOST_RECORDS, output))
+    let FileTexts {
+        sizes,
+        first,
+        other,
+        bases,
+    } = texts;
+    let inputs = Inputs {
+        sizes: sizes.as_slice(),
+        first: first.as_slice(),
+        other: lent(&other),
+    };
+    ending_of(print_columns(alloc, plan, &inputs, bases, MOST_RECORDS, output))
 }
 
 /// Prints the view of a plan.
@@ -168,3 +219,23 @@ pub fn run_program<A: Allocator + Copy, F: InputFiles, R: Source, W: Flush, E: S
         }
     }
 }
+
+/// A run that gives the status 0 has done all that its words ask for: the output has taken the whole text of the notice or of the
+/// view, as the files' bytes say it, or every line of the script was run and none refused.
+pub fn done_is_all()
+    ensures notice { (words : List (List ℕ)) (before after : World) (notice : Notice) (ended : Ended) → notice_of words ≡ Some notice → Runs words before after ended → status_of ended.ending ≡ 0 → Takes before.streams.output after.streams.output (notice_text notice) }
+    ensures plan { (words : List (List ℕ)) (before after : World) (plan : RunPlan) (ended : Ended) → notice_of words ≡ None → IsPlan words plan → Runs words before after ended → status_of ended.ending ≡ 0 → DoesAll plan before after }
+{}
+
+/// At most one plan fits words: what they say decides all of it.
+pub fn one_plan_at_most()
+    ensures { (words : List (List ℕ)) (one other : RunPlan) → IsPlan words one → IsPlan words other → one ≡ other }
+{}
+
+/// What a run of one subcommand prints, puts among the messages and gives as its status depends on its words and on the bytes of its
+/// files alone, if no device fails, no file is too long and memory suffices: it is what the view's definition says of these bytes.
+pub fn views_depend_on_bytes_alone()
+    ensures { (words : List (List ℕ)) (before after : World) (plan : RunPlan) (texts : Texts) (ended : Ended) → notice_of words ≡ None → IsPlan words plan → is_session plan.run ≡ false
+        → Hold before.files plan texts → Runs words before after ended → AreSound after → status_of ended.ending ≢ 5
+        → PrintsJust plan (shown plan texts.sizes texts.first texts.other texts.bases most_records) before.streams after.streams (status_of ended.ending) }
+{}

@@ -7,8 +7,8 @@ ghost use Rattle.iv_program.specs.Limits.{most_records};
 ghost use Rattle.iv_program.specs.Runs.{RunsScript, Says, stopped_at};
 ghost use Rattle.iv_program.specs.Texts.{Texts, AreTexts, StopsAt};
 
-use crate::ended::Ended;
 use crate::files::{InputFiles, ReadFiles, SlotFault};
+use crate::program::Ended;
 use iv_args::Plan;
 use iv_bytes::{Sink, Source};
 use iv_cli::{Ending, begin_session};

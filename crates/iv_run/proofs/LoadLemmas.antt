@@ -14,11 +14,11 @@ use Rattle.iv_args.specs.declared.plan.Slot.TheVariants.{Sizes, First, Other, Ba
 use Rattle.iv_fasta.specs.Fasta as Fasta
 use Rattle.iv_run.specs.Loading.{IsAnswer, Parsed, parsed, bases_said, second_of, with_bases, with_second, with_first, with_genome, fault_of, damage_of}
 use Rattle.std.specs.Option.{option_map, option_transpose}
-use Rattle.iv_text.specs.KeptDrafts.{kept_bed, kept_bed_of, kept_or_fault}
+use Rattle.iv_text.specs.KeptDrafts.{kept_bed, kept_or_fault}
 use Rattle.iv_text.specs.Read.{Fits}
 use Rattle.iv_text.specs.Row.{Row}
 use Rattle.iv_text.proofs.KeptLemmas.{fit-all}
-use Rattle.iv_run.specs.SoFar.{SoFar, AreBoth, AreKept, ReportsKept, SaysFirst, SaysFirstBy, SaysSecond, SaysSecondBy, SaysSizes, SaysSizesBy, kept_files, noted, taken_first, taken_second}
+use Rattle.iv_run.specs.SoFar.{SoFar, AreBoth, AreKept, IsSaid, ReportsKept, SaysFirst, SaysFirstBy, SaysSecond, SaysSecondBy, SaysSizes, SaysSizesBy, kept_files, noted, taken_first, taken_second}
 
 -- a fault is reported as damage, unless it is out of memory
 reported : (c : LoadCause) (damaged : CliFault) → (c ≡ cause.Memory) ⊎ (fault_of c damaged ≡ damaged)
@@ -108,10 +108,10 @@ says-no_sizes sizes known k is why = subst (SaysSizesBy sizes known) (sym is) (s
 
 module _ (kept : Row → Row) (sizes text : List ℕ) (old : SoFar) where
   -- the first file was read too
-  pub says-first : (said : Result Bed LoadFault) → SaysSizes sizes old → IsAnswer said (kept_bed_of kept old.genome old.width old.limit text) → SaysFirst kept sizes text (taken_first old said)
+  pub says-first : (said : Result Bed LoadFault) → SaysSizes sizes old → IsSaid kept old text said → SaysFirst kept sizes text (taken_first old said)
   says-first said says answer = by old.damage refl says said answer
     where
-      by : (d : Option CliFault) → old.damage ≡ d → SaysSizesBy sizes old d → (said : Result Bed LoadFault) → IsAnswer said (kept_bed_of kept old.genome old.width old.limit text)
+      by : (d : Option CliFault) → old.damage ≡ d → SaysSizesBy sizes old d → (said : Result Bed LoadFault) → IsSaid kept old text said
           → SaysFirst kept sizes text (taken_first old said)
       by None e genome (Ok file) is =
           let bed = kept-sound kept (bed_of old.genome old.width old.limit text) file is in
@@ -138,10 +138,10 @@ module _ (kept : Row → Row) (sizes text : List ℕ) (old : SoFar) where
 
   -- or it was read
   module _ (other : List ℕ) where
-    pub says-second : (said : Result Bed LoadFault) → SaysFirst kept sizes text old → IsAnswer said (kept_bed_of kept old.genome old.width old.limit other) → SaysSecond kept sizes text (Some other) (taken_second old said)
+    pub says-second : (said : Result Bed LoadFault) → SaysFirst kept sizes text old → IsSaid kept old other said → SaysSecond kept sizes text (Some other) (taken_second old said)
     says-second said says answer = by old.damage refl says said answer
       where
-        by : (d : Option CliFault) → old.damage ≡ d → SaysFirstBy kept sizes text old d → (said : Result Bed LoadFault) → IsAnswer said (kept_bed_of kept old.genome old.width old.limit other)
+        by : (d : Option CliFault) → old.damage ≡ d → SaysFirstBy kept sizes text old d → (said : Result Bed LoadFault) → IsSaid kept old other said
             → SaysSecond kept sizes text (Some other) (taken_second old said)
         by None e first (Ok file) is =
             let bed = kept-sound kept (bed_of old.genome old.width old.limit other) file is in

@@ -4,11 +4,11 @@ use Rattle.std.specs.Option.{option_map}
 use Rattle.iv_text.specs.BedFile.{Bed, bed_of}
 use Rattle.iv_text.specs.Genome.{Sequences}
 use Rattle.iv_text.specs.GenomeFile.{genome_of}
-use Rattle.iv_text.specs.KeptDrafts.{IsKept, kept_bed}
+use Rattle.iv_text.specs.KeptDrafts.{IsKept, kept_bed, kept_bed_of}
 use Rattle.iv_text.specs.Row.{Row}
 use Rattle.iv_text.specs.declared.fault.LoadFault.{LoadFault}
 use Rattle.iv_args.specs.declared.plan.Slot.TheVariants.{First, Other}
-use Rattle.iv_run.specs.Loading.{Parsed, damage_of, parsed, second_of}
+use Rattle.iv_run.specs.Loading.{IsAnswer, Parsed, damage_of, parsed, second_of}
 use Rattle.iv_run.specs.declared.fault.CliFault.{CliFault}
 use Rattle.iv_run.specs.declared.fault.CliFault.TheVariants.{Memory}
 
@@ -35,6 +35,11 @@ IsOfOneRun old new = (new.width ≡ old.width) × (new.limit ≡ old.limit)
 abbrev pub noted : Option CliFault → CliFault → Option CliFault
 noted None fault = Some fault
 noted (Some before) fault = Some before
+
+-- a call answers with what a BED file of these bytes says beside what is known, its records as they are kept; or with its first fault,
+-- or out of memory
+abbrev pub IsSaid : (Row → Row) → SoFar → List ℕ → Result Bed LoadFault → Type 0
+IsSaid kept known text said = IsAnswer said (kept_bed_of kept known.genome known.width known.limit text)
 
 -- once the first file is read
 abbrev pub taken_first : SoFar → Result Bed LoadFault → SoFar

@@ -2,16 +2,13 @@
 #![tactic(auto)]
 
 mod fault;
-mod laws;
 mod loading;
 mod one_shot;
 mod places_view;
 mod reading;
-mod text_rows;
 
 pub use fault::{CliFault, FileFault};
-pub use laws::too_long_above_the_limit;
 pub use loading::{Inputs, LoadedFiles, Loading};
-pub use one_shot::shot;
+pub use one_shot::{print_columns, shot};
 pub use places_view::PlacesView;
-pub use reading::{KeptFile, read_all};
+pub use reading::{KeptFile, read_all, too_long_above_the_limit};

@@ -1,12 +1,12 @@
 //! The files of a run while they are read, one after another.
-ghost use Rattle.std.specs.Prelude.{◌≡◌, ◌<◌, ◌≤◌, ◌^◌, ◌⊎◌, List, ℕ, [], Option, None, Some, Ok, Err, IfOk, IfErr, OnOk, OnErr};
+ghost use Rattle.std.specs.Prelude.{◌≡◌, ◌<◌, ◌≤◌, ◌^◌, ◌⊎◌, List, ℕ, [], Option, None, Ok, Err, IfOk, IfErr};
 ghost use Rattle.std.specs.Option.{option_copied, option_map};
 ghost use Rattle.iv_run.specs.Files.{ReadsWhole, StopsReading};
 ghost use Rattle.iv_run.specs.Loading.{parsed};
-ghost use Rattle.iv_run.specs.SoFar.{AreKept, IsOfOneRun, ReportsKept, SaysFirst, SaysSecond, SaysSizes, noted, taken_first, taken_second};
+ghost use Rattle.iv_run.specs.SoFar.{AreKept, IsOfOneRun, IsSaid, ReportsKept, SaysSecond, SaysSizes, noted, taken_first, taken_second};
 
 use crate::fault::{CliFault, FileFault};
-use crate::reading::{BedDraft, KeptFile, in_slot, parse_fasta, read_bed};
+use crate::reading::{KeptFile, in_slot, parse_bed, parse_fasta, read_bed};
 use iv_args::{Plan, Slot};
 use iv_bytes::Source;
 use iv_fasta::Fasta;
@@ -123,10 +123,45 @@ impl<K: FromRecord<A>, A: Allocator + Copy> Loading<K, A> {
         }
     }
 
-    /// The first file was read, and says this.
-    fn take_first(&mut self, said: Result<KeptFile<K, A>, LoadFault>)
+    /// What a BED file says, given all its bytes.
+    fn parse(&self, text: &[u8]) -> Result<KeptFile<K, A>, LoadFault>
+        ensures says { IsSaid K.kept self.now text.now result }
+        ensures kept { IfOk result (AreKept K.kept self.now.genome self.now.limit) }
+    {
+        parse_bed(self.alloc, &self.genome, self.empty_width, self.limit, text)
+    }
+
+    /// What a BED file says, read from a source to its end, at most `most` bytes.
+    ///
+    /// # Errors
+    ///
+    /// A fault of the source. That the file is damaged is no error here, but what it says.
+    pub fn read<R: Source>(
+        &self,
+        source: &mut R,
+        most: u64,
+    ) -> Result<Result<KeptFile<K, A>, LoadFault>, FileFault>
+        requires { most < 2 ^ 63 }
+        ensures ok { IfOk result (λ said. (text : List ℕ) × ReadsWhole (R.state source.old) (R.state source.new) most text × IsSaid K.kept self.now text said) }
+        ensures kept { IfOk result (λ said. IfOk said (AreKept K.kept self.now.genome self.now.limit)) }
+        ensures err { IfErr result (λ fault. StopsReading (R.state source.old) (R.state source.new) most fault) }
+    {
+        read_bed(
+            self.alloc,
+            &self.genome,
+            self.empty_width,
+            self.limit,
+            source,
+            most,
+        )
+    }
+
+    /// Takes what the first file says. If it is damaged, [`Loading::finish`] reports it.
+    pub fn take_first(&mut self, said: Result<KeptFile<K, A>, LoadFault>)
         requires { IfOk said (AreKept K.kept self.old.genome self.old.limit) }
-        ensures { self.new ≡ taken_first self.old said }
+        ensures taken { self.new ≡ taken_first self.old said }
+        ensures same { IsOfOneRun self.old self.new }
+        ensures beside { self.new.second ≡ self.old.second }
     {
         match in_slot(Slot::First, said) {
             Ok(file) => self.first = file,
@@ -134,75 +169,16 @@ impl<K: FromRecord<A>, A: Allocator + Copy> Loading<K, A> {
         }
     }
 
-    /// The second file was read, and says this.
-    fn take_second(&mut self, said: Result<KeptFile<K, A>, LoadFault>)
+    /// Takes what the second file says, as [`Loading::take_first`] does of the first one.
+    pub fn take_second(&mut self, said: Result<KeptFile<K, A>, LoadFault>)
         requires { IfOk said (AreKept K.kept self.old.genome self.old.limit) }
-        ensures { self.new ≡ taken_second self.old said }
+        ensures taken { self.new ≡ taken_second self.old said }
+        ensures same { IsOfOneRun self.old self.new }
     {
         match in_slot(Slot::Other, said) {
             Ok(file) => self.second = Some(file),
             Err(fault) => self.note(fault),
         }
-    }
-
-    /// Reads the first file from a source to its end, at most `most` bytes.
-    ///
-    /// # Errors
-    ///
-    /// A fault of the source. That the file is damaged is no error here: [`Loading::finish`] reports it.
-    pub fn read_first<R: Source>(&mut self, source: &mut R, most: u64) -> Result<(), FileFault>
-        requires { most < 2 ^ 63 }
-        ensures ok { OnOk result ((text : List ℕ) × ReadsWhole (R.state source.old) (R.state source.new) most text
-            × ((sizes : List ℕ) → SaysSizes sizes self.old → SaysFirst K.kept sizes text self.new)) }
-        ensures same { IsOfOneRun self.old self.new }
-        ensures beside { self.new.second ≡ self.old.second }
-        ensures err { IfErr result (λ fault. StopsReading (R.state source.old) (R.state source.new) most fault) }
-        ensures nothing { OnErr result (self.new ≡ self.old) }
-    {
-        let draft = read_bed(self.alloc, &self.genome, self.limit, source, most)?;
-        let said = draft.finish(&self.genome, self.empty_width, self.limit);
-        self.take_first(said);
-        Ok(())
-    }
-
-    /// Reads the second file from a source to its end, at most `most` bytes.
-    ///
-    /// # Errors
-    ///
-    /// A fault of the source. That the file is damaged is no error here: [`Loading::finish`] reports it.
-    pub fn read_second<R: Source>(&mut self, source: &mut R, most: u64) -> Result<(), FileFault>
-        requires { most < 2 ^ 63 }
-        ensures ok { OnOk result ((other : List ℕ) × ReadsWhole (R.state source.old) (R.state source.new) most other
-            × ((sizes text : List ℕ) → SaysFirst K.kept sizes text self.old → SaysSecond K.kept sizes text (Some other) self.new)) }
-        ensures same { IsOfOneRun self.old self.new }
-        ensures err { IfErr result (λ fault. StopsReading (R.state source.old) (R.state source.new) most fault) }
-        ensures nothing { OnErr result (self.new ≡ self.old) }
-    {
-        let draft = read_bed(self.alloc, &self.genome, self.limit, source, most)?;
-        let said = draft.finish(&self.genome, self.empty_width, self.limit);
-        self.take_second(said);
-        Ok(())
-    }
-
-    /// Takes the first file, given all its bytes.
-    fn parse_first(&mut self, text: &[u8])
-        ensures says { (sizes : List ℕ) → SaysSizes sizes self.old → SaysFirst K.kept sizes text.now self.new }
-        ensures same { IsOfOneRun self.old self.new }
-        ensures beside { self.new.second ≡ self.old.second }
-    {
-        let draft = BedDraft::of_text(self.alloc, &self.genome, self.limit, text);
-        let said = draft.finish(&self.genome, self.empty_width, self.limit);
-        self.take_first(said);
-    }
-
-    /// Takes the second file, given all its bytes.
-    fn parse_second(&mut self, other: &[u8])
-        ensures says { (sizes text : List ℕ) → SaysFirst K.kept sizes text self.old → SaysSecond K.kept sizes text (Some other.now) self.new }
-        ensures same { IsOfOneRun self.old self.new }
-    {
-        let draft = BedDraft::of_text(self.alloc, &self.genome, self.limit, other);
-        let said = draft.finish(&self.genome, self.empty_width, self.limit);
-        self.take_second(said);
     }
 
     /// The files of a run, given the bytes of all but the FASTA file.
@@ -212,9 +188,11 @@ impl<K: FromRecord<A>, A: Allocator + Copy> Loading<K, A> {
         ensures limit { result.limit ≡ limit }
     {
         let mut loading = Loading::begin(alloc, plan, inputs.sizes, limit);
-        loading.parse_first(inputs.first);
+        let first = loading.parse(inputs.first);
+        loading.take_first(first);
         if let Some(other) = inputs.other {
-            loading.parse_second(other);
+            let other = loading.parse(other);
+            loading.take_second(other);
         }
         loading
     }

@@ -1,10 +1,15 @@
 //! A run of one subcommand, without a script, over the bytes of its files.
-ghost use Rattle.std.specs.Prelude.{◌≡◌, ◌<◌, ◌≤◌, ◌^◌, ◌⊎◌, List, ℕ, [], Ok, Err, IsSome, IfSome, IfOk, IfErr, length};
+ghost use Rattle.std.specs.Prelude.{◌≡◌, ◌<◌, ◌≤◌, ◌^◌, ◌⊎◌, All, List, ℕ, [], Ok, Err, IsSome, IfSome, IfOk, IfErr, OnOk, length};
 ghost use Rattle.std.specs.Option.{option_copied, option_map, unwrap_or};
-ghost use Rattle.iv_text.specs.Ordered.{ordered};
+ghost use Rattle.iv_bytes.specs.Sinks.{Puts};
+ghost use Rattle.iv_text.specs.Genome.{Sequences};
+ghost use Rattle.iv_text.specs.Ordered.{AreInOrder, ordered};
+ghost use Rattle.iv_text.specs.Read.{IsOnGenome};
+ghost use Rattle.iv_text.specs.Row.{Row};
 ghost use Rattle.iv_text.specs.declared.fault.LoadCause.TheVariants as cause;
 ghost use Rattle.iv_track.specs.Tracked.{most_records};
 ghost use Rattle.iv_fasta.specs.FastaRows.{fasta_text};
+ghost use Rattle.iv_pair.specs.CoverAlone.{DependsOnCoverAlone, HaveBases};
 ghost use Rattle.iv_pair.specs.PairRows.{pair_text};
 ghost use Rattle.iv_view.specs.Views.{kept_text};
 ghost use Rattle.iv_run.specs.Loading.{parsed, second_of};
@@ -16,21 +21,21 @@ use crate::fault::CliFault;
 use crate::loading::{Inputs, Loading};
 use crate::places_view::PlacesView;
 use crate::reading::{in_slot, parse_fasta};
-use crate::text_rows::{put_each, put_kept, put_pairs, sort_beside};
 use iv_args::{Plan, Slot};
-use iv_bytes::{Buffered, Sink};
-use iv_fasta::{Fasta, FastaRows};
-use iv_index::{BedText, Span};
-use iv_pair::PairRows;
+use iv_blocks::{MergeSweep, put_cluster};
+use iv_bytes::{Buffered, Sink, WriteFault};
+use iv_fasta::{Fasta, FastaRows, put_fasta};
+use iv_index::{BedText, Span, TextRecords};
+use iv_pair::{CountSweep, IntersectRows, PairRows, PairSweep, needs_cover_alone};
 use iv_text::{Fault, Genome, LoadFault};
 use iv_view::{KeptView, View, ViewFault, WrittenView};
-use std::alloc::{Allocator, Global};
+use std::alloc::{AllocError, Allocator, Global};
 use std::marker::Model;
 
 /// A genome, the records of one BED file or two, and the bases of a FASTA file or none, as the files say them. The records of
 /// the first are on the genome.
 #[derive(Drop)]
-pub(crate) struct TextFiles<'t, A: Allocator + Copy = Global> {
+struct TextFiles<'t, A: Allocator + Copy = Global> {
     genome: Genome<A>,
     first: BedText<'t, A>,
     second: Option<BedText<'t, A>>,
@@ -73,7 +78,7 @@ fn parse_second<'t, A: Allocator + Copy>(
 impl<'t, A: Allocator + Copy> TextFiles<'t, A> {
     /// What the files say, or the fault of the first damaged one, in the order genome file, first file, second file,
     /// FASTA file.
-    pub(crate) fn read(
+    fn read(
         alloc: A,
         plan: &Plan<'_, A>,
         inputs: &Inputs<'t>,
@@ -108,7 +113,7 @@ impl<'t, A: Allocator + Copy> TextFiles<'t, A> {
     /// # Errors
     ///
     /// A fault of the view's words, which only the files show.
-    pub(crate) fn view(&self, plan: &Plan<'_, A>) -> Result<View, ViewFault>
+    fn view(&self, plan: &Plan<'_, A>) -> Result<View, ViewFault>
         ensures { result ≡ view_beside self.now plan.now.view }
     {
         let (second, fasta) = (self.second.is_some(), self.fasta.is_some());
@@ -120,7 +125,7 @@ impl<'t, A: Allocator + Copy> TextFiles<'t, A> {
     /// # Errors
     ///
     /// `Memory`, and then nothing was put. `Output`, and then a prefix of the text was.
-    pub(crate) fn put<S: Sink>(self, alloc: A, view: View, sink: &mut S) -> Result<(), CliFault>
+    fn put<S: Sink>(self, alloc: A, view: View, sink: &mut S) -> Result<(), CliFault>
         requires { (words : List (List ℕ)) × AskForColumns words × (view_beside self words ≡ Ok view) }
         ensures text { Prints (S.state sink.old) (S.state sink.new) result (text_beside self.entry view) }
         ensures alone { result ≡ Err CliFault.Memory → sink.new ≡ sink.old }
@@ -146,7 +151,7 @@ impl<'t, A: Allocator + Copy> TextFiles<'t, A> {
             limit: _,
         } = self;
         file.sort(alloc)?;
-        put_kept(alloc, view, file.records(), &genome, sink)
+        sweep(alloc, view, file.records(), &genome, sink)
     }
 
     /// Puts these rows of both files, for their records in the order of a track. There is a second file.
@@ -169,7 +174,7 @@ impl<'t, A: Allocator + Copy> TextFiles<'t, A> {
         first.law_of_bases();
         sort_beside(alloc, rows, &mut second)?;
         let (first, second) = (first.records(), second.records());
-        put_pairs(alloc, rows, &first, &second, &genome, sink)
+        sweep_pairs(alloc, rows, &first, &second, &genome, sink)
     }
 
     /// Puts the bases of the records of the first file, in the order of a track. There is a FASTA file.
@@ -192,6 +197,133 @@ impl<'t, A: Allocator + Copy> TextFiles<'t, A> {
         put_each(shown, &records.records(), &fasta, &genome, sink)?;
         Ok(())
     }
+}
+
+/// Puts the text of a view that needs the columns of records: cluster, or a merge of each strand or with summaries.
+///
+/// All memory is allocated before the first byte is put: room for a value of each record if a merge asks for `distinct`. Else it
+/// takes none.
+fn sweep<'t, A: Allocator + Copy, S: Sink>(
+    alloc: A,
+    view: KeptView,
+    records: TextRecords<'t>,
+    genome: &'t Genome<A>,
+    sink: &mut S,
+) -> Result<(), CliFault>
+    requires columns { NeedsColumns view }
+    requires order { AreInOrder records }
+    requires on_genome { All (IsOnGenome genome.now) records }
+    ensures text { Prints (S.state sink.old) (S.state sink.new) result (kept_text view genome.now records.entry) }
+    ensures alone { result ≡ Err CliFault.Memory → sink.new ≡ sink.old }
+{
+    match view {
+        KeptView::Merge(options) => {
+            MergeSweep::new(alloc, options, records)?.print(genome, sink)?;
+        }
+        KeptView::Cluster(distance) => put_cluster(distance, &records, genome, sink)?,
+        KeptView::Complement(_) | KeptView::Genomecov(_) => unreachable!(),
+    }
+    Ok(())
+}
+
+/// Sorts the records of a second file in the order of a track, for one print of these rows. If the rows depend only on the
+/// positions that it covers, its records are joined, so that few are gone over however many there are at one place.
+fn sort_beside<'t, A: Allocator + Copy>(
+    alloc: A,
+    rows: PairRows,
+    file: &mut BedText<'t, A>,
+) -> Result<(), AllocError>
+    ensures text { OnOk result ((genome : Sequences) (first : List Row) → HaveBases first → pair_text rows genome first file.new.rows ≡ pair_text rows genome first (ordered file.old.rows)) }
+    ensures order { OnOk result (AreInOrder file.new.rows) }
+{
+    file.sort(alloc)?;
+    if !needs_cover_alone(rows) {
+        return Ok(());
+    }
+    join_sorted(rows, file);
+    Ok(())
+}
+
+/// Joins the records of a sorted second file, for rows that depend only on the positions that it covers.
+fn join_sorted<'t, A: Allocator + Copy>(rows: PairRows, file: &mut BedText<'t, A>)
+    requires order { AreInOrder file.old.rows }
+    requires alone { DependsOnCoverAlone rows }
+    ensures text { (genome : Sequences) (first : List Row) → HaveBases first → pair_text rows genome first file.new.rows ≡ pair_text rows genome first file.old.rows }
+    ensures order { AreInOrder file.new.rows }
+{
+    file.law_of_bases();
+    file.join();
+    file.law_of_bases();
+}
+
+/// Puts these rows of two lists of records: intersect or subtract. All memory is allocated before the first byte is put.
+///
+/// If only the number of hits is wanted, no hit is looked at.
+fn sweep_pairs<'t, A: Allocator + Copy, S: Sink>(
+    alloc: A,
+    rows: PairRows,
+    first: &TextRecords<'t>,
+    second: &TextRecords<'t>,
+    genome: &Genome<A>,
+    sink: &mut S,
+) -> Result<(), CliFault>
+    requires first { AreInOrder first.now }
+    requires second { AreInOrder second.now }
+    ensures text { Prints (S.state sink.old) (S.state sink.new) result (pair_text rows genome.now first.now second.now) }
+    ensures alone { result ≡ Err CliFault.Memory → sink.new ≡ sink.old }
+{
+    match rows {
+        PairRows::Intersect(IntersectRows::Count) => {
+            CountSweep::new(alloc, first, second)?.print(genome, sink)?;
+        }
+        _ => {
+            PairSweep::new(alloc, first, second)?.print(rows, genome, sink)?;
+        }
+    }
+    Ok(())
+}
+
+/// Puts the row of each record: its bases. It takes no memory.
+fn put_each<A: Allocator + Copy, S: Sink>(
+    shown: FastaRows,
+    records: &TextRecords<'_>,
+    fasta: &Fasta<A>,
+    genome: &Genome<A>,
+    sink: &mut S,
+) -> Result<(), WriteFault>
+    ensures { Puts (S.state sink.old) (S.state sink.new) result (fasta_text shown genome.now fasta.now records.now) }
+{
+    for row in records.again() {
+        put_fasta(shown, genome, &row, fasta, sink)?;
+    }
+    Ok(())
+}
+
+/// Prints a view that needs the columns of records, as [`shot`] does.
+///
+/// # Errors
+///
+/// As of [`shot`].
+pub fn print_columns<A: Allocator + Copy, S: Sink>(
+    alloc: A,
+    plan: &Plan<'_, A>,
+    inputs: &Inputs<'_>,
+    bases: Option<Vec<u8, A>>,
+    limit: u32,
+    sink: &mut S,
+) -> Result<(), CliFault>
+    requires columns { AskForColumns plan.now.view }
+    requires first { length inputs.now.first.now < 2 ^ 32 }
+    requires other { IfSome (option_copied inputs.now.other) (λ text. length text < 2 ^ 32) }
+    ensures { Shows (S.state sink.old) (S.state sink.new) result
+        (shown plan.now inputs.now.sizes.now inputs.now.first.now (option_copied inputs.now.other) (option_map (λ text. text.items) bases) limit) }
+{
+    let files = TextFiles::read(alloc, plan, inputs, bases, limit)?;
+    let view = files.view(plan)?;
+    let mut buffer = Buffered::new(sink);
+    files.put(alloc, view, &mut buffer)?;
+    buffer.finish()?;
+    Ok(())
 }
 
 /// Prints what the plan's subcommand shows of the files, given their bytes: all of it, and nothing else.
@@ -221,10 +353,5 @@ pub fn shot<A: Allocator + Copy, S: Sink>(
         let loading: Loading<Span, A> = Loading::of_inputs(alloc, plan, inputs, limit);
         return loading.print(view, bases, sink);
     }
-    let files = TextFiles::read(alloc, plan, inputs, bases, limit)?;
-    let view = files.view(plan)?;
-    let mut buffer = Buffered::new(sink);
-    files.put(alloc, view, &mut buffer)?;
-    buffer.finish()?;
-    Ok(())
+    print_columns(alloc, plan, inputs, bases, limit, sink)
 }

@@ -19,7 +19,7 @@ use iv_args::Plan;
 use iv_blocks::{put_complement, put_merge};
 use iv_bytes::{Buffered, Sink};
 use iv_depth::{DepthRows, DepthSweep};
-use iv_index::Span;
+use iv_index::{Span, sort_spans};
 use iv_text::Genome;
 use iv_view::{KeptView, View};
 use std::alloc::Allocator;
@@ -41,7 +41,7 @@ impl PlacesView {
         ensures some { IfSome result (λ shown. AskForPlaces plan.now.view shown) }
         ensures none { result ≡ None → AskForColumns plan.now.view }
     {
-        match plan.view_beside(6, true, true) {
+        match plan.view() {
             Ok(View::Kept(view)) => PlacesView::of_view(&view),
             Ok(View::Written(_)) | Err(_) => None,
         }
@@ -127,7 +127,7 @@ fn print_files<A: Allocator + Copy, S: Sink>(
         limit: _,
     } = files;
     let mut spans = first.into_spans()?;
-    spans.sort();
+    sort_spans(&mut spans);
     view.print(alloc, spans.as_slice(), &genome, sink)
 }
 

@@ -1,19 +1,22 @@
 //! Files that are read from a source to their ends: all their bytes, or what is kept of the records of a BED file.
-ghost use Rattle.std.specs.Prelude.{◌≡◌, ◌<◌, ◌+◌, ◌^◌, ◌++◌, ◌≤◌, ◌⊎◌, ℕ, List, [], length, map, Ok, Err, IfOk, IfErr, OnOk};
+ghost use Rattle.std.specs.Prelude.{◌≡◌, ◌↔◌, ◌<◌, ◌+◌, ◌^◌, ◌++◌, ◌≤◌, ◌⊎◌, ℕ, List, [], false, length, map, Ok, Err, Some, Result, IfOk, IfErr, OnOk};
 ghost use Rattle.std.specs.Option.{option_map};
+ghost use Rattle.iv_bytes.specs.Sources.{SourceState};
 ghost use Rattle.iv_text.specs.declared.fault.LoadCause.TheVariants as cause;
 ghost use Rattle.iv_text.specs.declared.fault.LoadFault.{LoadFault};
 ghost use Rattle.iv_text.specs.KeptDrafts.{AreSound, kept_bed_of, size_of};
-ghost use Rattle.iv_run.specs.Files.{ReadsWhole, StopsReading, IsPieceFault};
+ghost use Rattle.iv_index.specs.Spans.{span_rows};
+ghost use Rattle.iv_run.specs.Files.{EndsReading, HadMemory, IsPieceFault, IsTooLong, ReadsWhole, StopsReading};
 ghost use Rattle.iv_run.specs.Loading.{IsAnswer, bases_said, damage_of};
 ghost use Rattle.iv_run.specs.Pieces.{SaysSoFar};
 ghost use Rattle.iv_run.specs.SoFar.{AreKept};
+ghost use Rattle.iv_run.specs.declared.fault.FileFault.{FileFault};
 
 use crate::fault::{CliFault, FileFault};
 use iv_args::Slot;
 use iv_bytes::Source;
 use iv_fasta::Fasta;
-use iv_index::{Span, Spans};
+use iv_index::Span;
 use iv_text::{Batches, BedBatches, FromRecord, Genome, KeptDraft, LoadFault, Record};
 use std::alloc::{AllocError, Allocator, Global};
 use std::marker::Model;
@@ -57,6 +60,11 @@ pub fn read_all<A: Allocator + Copy, R: Source>(
         take_piece(&mut bytes, &piece[..n], limit)?;
     }
 }
+
+/// A file whose read ended neither by a read fault nor out of memory is called too long exactly if it has more bytes than the limit.
+pub fn too_long_above_the_limit()
+    ensures { (old new : SourceState) (limit : ℕ) (text : List ℕ) (ended : Result (List ℕ) FileFault) → old.coming ≡ Some text → EndsReading old new limit ended → new.failed ≡ false → HadMemory ended → IsTooLong ended ↔ (limit < length text) }
+{}
 
 /// What is kept of the records of a BED file, and how many columns each of them has.
 #[derive(Drop)]
@@ -105,18 +113,11 @@ impl<A: Allocator + Copy> KeptFile<Span, A> {
     /// # Errors
     ///
     /// An allocation failed.
-    pub(crate) fn into_spans(self) -> Result<Spans<A>, AllocError>
-        ensures { IfOk result (λ spans. spans ≡ self) }
+    pub(crate) fn into_spans(self) -> Result<Vec<Span, A>, AllocError>
+        ensures { IfOk result (λ spans. span_rows spans.items ≡ self.rows) }
     {
-        let KeptFile { width, kept } = self;
-        Ok(Spans::of(width, kept.into_vec()?))
+        self.kept.into_vec()
     }
-}
-
-/// A BED file of which some bytes have come: what is kept of its lines, or its first fault.
-#[derive(Drop)]
-pub(crate) struct BedDraft<K: FromRecord<A>, A: Allocator + Copy = Global> {
-    said: Result<KeptDraft<K, A>, LoadFault>,
 }
 
 /// Takes the next bytes, unless there was a fault before.
@@ -135,49 +136,54 @@ fn take_next<K: FromRecord<A>, A: Allocator + Copy>(
     Ok(draft)
 }
 
-impl<K: FromRecord<A>, A: Allocator + Copy> BedDraft<K, A> {
-    /// A file of which all bytes are in memory.
-    pub(crate) fn of_text(alloc: A, genome: &Genome<A>, limit: u32, text: &[u8]) -> Self
-        ensures says { SaysSoFar K.kept genome.now limit text.now result.said }
-        ensures sound { IfOk result.said (λ d. AreSound K.kept genome.now limit d.read) }
-        ensures few { IfOk result.said (λ d. size_of d < 2 ^ 64) }
-    {
-        let said = take_next(genome, limit, Ok(KeptDraft::new(alloc)), text);
-        BedDraft { said }
-    }
-
-    /// What is kept of the whole file, or its fault, once all bytes have come. Without a record it has the width that is handed in.
-    pub(crate) fn finish(
-        self,
-        genome: &Genome<A>,
-        empty_width: u8,
-        limit: u32,
-    ) -> Result<KeptFile<K, A>, LoadFault>
-        requires width { (3 ≤ empty_width) × (empty_width ≤ 6) }
-        requires sound { IfOk self.said (λ d. AreSound K.kept genome.now limit d.read) }
-        requires few { IfOk self.said (λ d. size_of d < 2 ^ 64) }
-        ensures says { (text : List ℕ) → SaysSoFar K.kept genome.now limit text self.said → IsAnswer result (kept_bed_of K.kept genome.now empty_width limit text) }
-        ensures kept { IfOk result (AreKept K.kept genome.now limit) }
-    {
-        let (width, kept) = self.said?.finish(genome, empty_width, limit)?;
-        Ok(KeptFile { width, kept })
-    }
+/// What is kept of a whole file, or its fault, once all bytes have come. Without a record it has the width that is handed in.
+fn finish<K: FromRecord<A>, A: Allocator + Copy>(
+    so_far: Result<KeptDraft<K, A>, LoadFault>,
+    genome: &Genome<A>,
+    empty_width: u8,
+    limit: u32,
+) -> Result<KeptFile<K, A>, LoadFault>
+    requires width { (3 ≤ empty_width) × (empty_width ≤ 6) }
+    requires sound { IfOk so_far (λ d. AreSound K.kept genome.now limit d.read) }
+    requires few { IfOk so_far (λ d. size_of d < 2 ^ 64) }
+    ensures says { (text : List ℕ) → SaysSoFar K.kept genome.now limit text so_far → IsAnswer result (kept_bed_of K.kept genome.now empty_width limit text) }
+    ensures kept { IfOk result (AreKept K.kept genome.now limit) }
+{
+    let (width, kept) = so_far?.finish(genome, empty_width, limit)?;
+    Ok(KeptFile { width, kept })
 }
 
-/// Reads a BED file from a source to its end, at most `most` bytes, on this genome. It may have at most `limit` records.
+/// What a BED file says on this genome, given all its bytes. It may have at most `limit` records.
+pub(crate) fn parse_bed<K: FromRecord<A>, A: Allocator + Copy>(
+    alloc: A,
+    genome: &Genome<A>,
+    empty_width: u8,
+    limit: u32,
+    text: &[u8],
+) -> Result<KeptFile<K, A>, LoadFault>
+    requires { (3 ≤ empty_width) × (empty_width ≤ 6) }
+    ensures says { IsAnswer result (kept_bed_of K.kept genome.now empty_width limit text.now) }
+    ensures kept { IfOk result (AreKept K.kept genome.now limit) }
+{
+    let said = take_next(genome, limit, Ok(KeptDraft::new(alloc)), text);
+    finish(said, genome, empty_width, limit)
+}
+
+/// What a BED file says on this genome, read from a source to its end, at most `most` bytes. It may have at most `limit` records.
 ///
 /// After a fault of the file no more of it is looked at, but it is read to its end.
 pub(crate) fn read_bed<K: FromRecord<A>, A: Allocator + Copy, R: Source>(
     alloc: A,
     genome: &Genome<A>,
+    empty_width: u8,
     limit: u32,
     source: &mut R,
     most: u64,
-) -> Result<BedDraft<K, A>, FileFault>
-    requires { most < 2 ^ 63 }
-    ensures ok { IfOk result (λ draft. (text : List ℕ) × ReadsWhole (R.state source.old) (R.state source.new) most text × SaysSoFar K.kept genome.now limit text draft.said) }
-    ensures sound { IfOk result (λ draft. IfOk draft.said (λ d. AreSound K.kept genome.now limit d.read)) }
-    ensures few { IfOk result (λ draft. IfOk draft.said (λ d. size_of d < 2 ^ 64)) }
+) -> Result<Result<KeptFile<K, A>, LoadFault>, FileFault>
+    requires width { (3 ≤ empty_width) × (empty_width ≤ 6) }
+    requires most { most < 2 ^ 63 }
+    ensures ok { IfOk result (λ said. (text : List ℕ) × ReadsWhole (R.state source.old) (R.state source.new) most text × IsAnswer said (kept_bed_of K.kept genome.now empty_width limit text)) }
+    ensures kept { IfOk result (λ said. IfOk said (AreKept K.kept genome.now limit)) }
     ensures err { IfErr result (λ fault. StopsReading (R.state source.old) (R.state source.new) most fault) }
 {
     let mut so_far = Ok(KeptDraft::new(alloc));
@@ -186,7 +192,7 @@ pub(crate) fn read_bed<K: FromRecord<A>, A: Allocator + Copy, R: Source>(
     'pieces: loop {
         let n = source.pull(&mut piece)?;
         if n == 0 {
-            return Ok(BedDraft { said: so_far });
+            return Ok(finish(so_far, genome, empty_width, limit));
         }
         if n as u64 > most - count {
             return Err(FileFault::TooLong);

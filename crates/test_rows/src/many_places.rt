@@ -2,7 +2,8 @@
 use crate::fixtures::holds;
 use crate::growths::{Reading, Run, growths, memory_of};
 use crate::places::{SIZES, bed_text};
-use iv_index::{Span, Spans, TextRecords};
+use crate::span_pieces::spans_of;
+use iv_index::{Span, TextRecords, sort_spans};
 use iv_text::{BedRecord, Genome, LoadFault};
 use std::alloc::Global;
 use std::test::Fail;
@@ -55,8 +56,8 @@ fn are_many_places(spans: &[Span]) -> bool {
 
 /// Whether the places alone of that file are sorted so.
 fn are_many_places_sorted(rt: &HostRuntime, genome: &Genome, text: &[u8]) -> Result<bool, Fail> {
-    let mut places = Spans::parse(rt.alloc(), genome, 5, MANY, text)?;
-    places.sort();
+    let (_, mut places) = spans_of(rt.alloc(), genome, MANY, text, text.len())?;
+    sort_spans(&mut places);
     Ok(are_many_places(places.as_slice()))
 }
 

@@ -1,7 +1,7 @@
 //! Each allocation of reading a BED file, at once and in pieces, refused in turn.
 use crate::growths::{Reading, Run, growths, memory_of};
 use crate::span_pieces::spans_of;
-use iv_index::Spans;
+use iv_index::Span;
 use iv_text::{BedFile, Genome, LoadCause, LoadFault, Record, RecordFault, Strand};
 use std::alloc::{Allocator, Global};
 use std::test::Fail;
@@ -116,15 +116,15 @@ fn damaged_bed_files_without_memory(rt: HostRuntime) -> Result<(), Fail> {
 }
 
 /// Whether the places of a file are just those of the records in that file.
-fn has_places<A: Allocator + Copy>(file: &Spans<A>, width: u8) -> bool {
+fn has_places(spans: &[Span]) -> bool {
     let mut start = 0u32;
-    for span in file.as_slice() {
+    for span in spans {
         if (span.seq, span.start, span.stop) != (2, start, start.saturating_add(10)) {
             return false;
         }
         start = start.saturating_add(1);
     }
-    start == COUNT && file.width() == width
+    start == COUNT
 }
 
 /// Reads a BED file in pieces of so many bytes over a genome, and says how often an allocation failed, once or never.
@@ -137,7 +137,7 @@ pub(crate) fn refused_spans<'a>(
     damage: Option<LoadFault>,
 ) -> Result<u32, Fail> {
     match spans_of(alloc, genome, 1_000, text, size) {
-        Ok(file) if damage.is_none() && has_places(&file, width) => Ok(0),
+        Ok((said, spans)) if damage.is_none() && said == width && has_places(&spans) => Ok(0),
         Ok(_) => Err(Fail::new("other places")),
         Err(fault) => memory_of(fault, damage),
     }

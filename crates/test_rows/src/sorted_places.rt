@@ -2,7 +2,8 @@
 use crate::fixtures::holds;
 use crate::growths::{Reading, Run, growths};
 use crate::places::{SIZES, bed_text, has_cells};
-use iv_index::{Span, Spans, TextRecords};
+use crate::span_pieces::spans_of;
+use iv_index::{Span, TextRecords, sort_spans};
 use iv_text::{BedFile, Genome, Record};
 use std::alloc::Global;
 use std::test::Fail;
@@ -85,9 +86,9 @@ fn places_sort_as(
     text: &[u8],
     orders: Orders<'_>,
 ) -> Result<bool, Fail> {
-    let mut places = Spans::parse(rt.alloc(), genome, 5, 999, text)?;
+    let (_, mut places) = spans_of(rt.alloc(), genome, 999, text, text.len())?;
     let is_unsorted = are_places_of(places.as_slice(), orders.unsorted);
-    places.sort();
+    sort_spans(&mut places);
     Ok(is_unsorted && are_places_of(places.as_slice(), orders.sorted))
 }
 

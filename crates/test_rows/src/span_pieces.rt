@@ -3,7 +3,7 @@ ghost use Rattle.std.specs.Prelude.{◌+◌, ◌<◌, ◌≤◌, ◌^◌, OnOk, 
 ghost use Rattle.iv_text.specs.KeptDrafts.{AreSound, size_of};
 
 use crate::places::SIZES;
-use iv_index::{Span, Spans};
+use iv_index::Span;
 use iv_text::{FromRecord, Genome, KeptDraft, LoadCause, LoadFault, RecordFault};
 use std::alloc::Allocator;
 use std::test::Fail;
@@ -31,30 +31,29 @@ fn take_pieces<K: FromRecord<A>, A: Allocator + Copy>(
     Ok(())
 }
 
-/// The places of a text below 4 GiB that comes in pieces of so many bytes. Without a record it has the width 5.
+/// The width and the places of a text below 4 GiB that comes in pieces of so many bytes. Without a record it has the width 5.
 pub(crate) fn spans_of<A: Allocator + Copy>(
     alloc: A,
     genome: &Genome<A>,
     limit: u32,
     text: &[u8],
     size: usize,
-) -> Result<Spans<A>, LoadFault> {
+) -> Result<(u8, Vec<Span, A>), LoadFault> {
     if size == 0 || text.len() >= 4_294_967_296 {
         return Err(LoadFault::at(1, LoadCause::TooMany));
     }
     let mut draft: KeptDraft<Span, A> = KeptDraft::new(alloc);
     take_pieces(&mut draft, genome, limit, text, size)?;
     let (width, spans) = draft.finish(genome, 5, limit)?;
-    Ok(Spans::of(width, spans.into_vec()?))
+    Ok((width, spans.into_vec()?))
 }
 
 /// Rank, start and stop of a record.
 type At = (u32, u32, u32);
 
-/// Whether the records of a file are at these places, and have so many columns.
-fn are_at(file: &Spans, width: u8, places: &[At]) -> bool {
-    let spans = file.as_slice();
-    if spans.len() != places.len() || file.width() != width {
+/// Whether places are these.
+fn are_at(spans: &[Span], places: &[At]) -> bool {
+    if spans.len() != places.len() {
         return false;
     }
     let mut wanted = places.iter();
@@ -76,24 +75,12 @@ fn is_read(
     size: usize,
     wanted: (u8, &[At]),
 ) -> Result<bool, LoadFault> {
-    let file = spans_of(rt.alloc(), genome, limit, text, size)?;
-    Ok(are_at(&file, wanted.0, wanted.1))
+    let (width, spans) = spans_of(rt.alloc(), genome, limit, text, size)?;
+    Ok(width == wanted.0 && are_at(&spans, wanted.1))
 }
 
-/// The same of a text that comes at once.
-fn is_parsed(
-    rt: &HostRuntime,
-    genome: &Genome,
-    limit: u32,
-    text: &[u8],
-    wanted: (u8, &[At]),
-) -> Result<bool, LoadFault> {
-    let file = Spans::parse(rt.alloc(), genome, 5, limit, text)?;
-    Ok(are_at(&file, wanted.0, wanted.1))
-}
-
-/// Whether that is the answer for a text at once, and for the text in pieces of each number of bytes from one up. So it is cut
-/// after each of its bytes, also between CR and LF.
+/// Whether that is the answer for a text in pieces of each number of bytes, from one to all of it. So it is cut after each of its
+/// bytes, also between CR and LF.
 fn is_answered(
     rt: &HostRuntime,
     genome: &Genome,
@@ -107,7 +94,7 @@ fn is_answered(
             return false;
         }
     }
-    is_parsed(rt, genome, limit, text, wanted) == answer
+    true
 }
 
 /// Files, how many columns their records have, and where these are.

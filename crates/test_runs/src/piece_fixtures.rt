@@ -64,8 +64,11 @@ pub(crate) fn run_over<A: Allocator + Copy, S: Source>(
         return Err(Fail::new("a view of more than places"));
     };
     let mut loading: Loading<Span, A> = Loading::begin(alloc, plan, setting.sizes, setting.records);
-    match loading.read_first(source, u64::from(setting.bytes)) {
-        Ok(()) => Ok(Ok(loading.print(view, None, sink))),
+    match loading.read(source, u64::from(setting.bytes)) {
+        Ok(said) => {
+            loading.take_first(said);
+            Ok(Ok(loading.print(view, None, sink)))
+        }
         Err(fault) => Ok(Err(fault)),
     }
 }

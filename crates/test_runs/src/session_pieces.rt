@@ -40,7 +40,9 @@ fn read_second<A: Allocator + Copy>(
         return Ok(());
     };
     let mut source = MemSource::new(text, pieces.good, pieces.piece.max(1));
-    loading.read_second(&mut source, pieces.most)
+    let said = loading.read(&mut source, pieces.most)?;
+    loading.take_second(said);
+    Ok(())
 }
 
 /// The session of a plan's files, of which the first one and the second one come in pieces.
@@ -57,7 +59,8 @@ pub(crate) fn load_in_pieces<A: Allocator + Copy>(
     let mut loading: Loading<Record<A>, A> = Loading::begin(alloc, plan, inputs.sizes, limit);
     let [first, second] = pieces;
     let mut source = MemSource::new(inputs.first, first.good, first.piece.max(1));
-    loading.read_first(&mut source, first.most)?;
+    let said = loading.read(&mut source, first.most)?;
+    loading.take_first(said);
     read_second(&mut loading, inputs.other, second)?;
     Ok(begin_session(loading, bases))
 }

@@ -20,7 +20,7 @@ take_next-so_far-requires-clause-few g c =
     let front = c.pieces.invariant.0 in
     let piece = take c.in_ok-n.n c.pull.new.into in
     let size : length piece ≡ c.in_ok-n.n = taken c.in_ok-n.n c.pull.new.into c.in_ok-n.ensures.some in
-    let few : 1 + length front + length piece < 2 ^ 64 = omega (arith, c.pieces.invariant.2, c.pieces.invariant.3, c.if-n-most.false, size, c.requires) in
+    let few : 1 + length front + length piece < 2 ^ 64 = omega (arith, c.pieces.invariant.2, c.pieces.invariant.3, c.if-n-most.false, size, c.requires.most) in
     says-room g.K.FromRecord.kept c.args.genome.now c.args.limit front piece c.pieces.so_far (2 ^ 64) c.pieces.invariant.4 few
 
 pub pieces-preserved : goal.pieces-preserved
@@ -35,14 +35,14 @@ pieces-preserved g c =
       c.take_next-so_far.ensures front c.pieces.invariant.4,
     )
 
-pub returns-then-n-eq0-clause-sound : goal.returns-then-n-eq0-clause-sound
-returns-then-n-eq0-clause-sound g c =
+pub finish-requires-clause-sound : goal.finish-requires-clause-sound
+finish-requires-clause-sound g c =
     says-sound g.K.FromRecord.kept c.args.genome.now c.args.limit c.pieces.invariant.0 c.pieces.so_far c.pieces.invariant.4
 
-pub returns-then-n-eq0-clause-few : goal.returns-then-n-eq0-clause-few
-returns-then-n-eq0-clause-few g c =
+pub finish-requires-clause-few : goal.finish-requires-clause-few
+finish-requires-clause-few g c =
     says-few g.K.FromRecord.kept c.args.genome.now c.args.limit c.pieces.invariant.0 c.pieces.so_far (2 ^ 64) c.pieces.invariant.4
-    (omega (arith, c.pieces.invariant.2, c.pieces.invariant.3, c.requires))
+    (omega (arith, c.pieces.invariant.2, c.pieces.invariant.3, c.requires.most))
 
 pub returns-then-n-eq0-clause-ok : goal.returns-then-n-eq0-clause-ok
 returns-then-n-eq0-clause-ok g c =
@@ -52,7 +52,7 @@ returns-then-n-eq0-clause-ok g c =
     let none : piece ≡ [] = ap (λ (n : ℕ). take n c.pull.new.into) c.if-n-eq0.true in (
       front,
       ReadsWhole-end _ _ _ c.args.most front piece c.pieces.invariant.1 few c.in_ok-n.ensures.ok none (c.in_ok-n.ensures.end c.if-n-eq0.true),
-      c.pieces.invariant.4,
+      c.finish.ensures.says front c.pieces.invariant.4,
     )
 
 pub returns-then-n-most-clause-err : goal.returns-then-n-most-clause-err

@@ -1,5 +1,0 @@
-use Rattle.iv_program.proofs.SoundLemmas.{prints-just}
-use Rattle.iv_program.proofs.laws.views_depend_on_bytes_alone.Goals as goal
-
-pub returns : goal.returns
-returns c = prints-just
