@@ -1,6 +1,6 @@
 use Rattle.iv_bytes.proofs.Putting.{Takes-nothing}
 use Rattle.iv_depth.proofs.Stretches.{rows-none, rows-bare, rows-covered, rows-one}
-use Rattle.iv_depth.proofs.printing.put_stretch.Goals as goal
+use Rattle.iv_depth.proofs.depth_rows.put_stretch.Goals as goal
 
 pub returns-then-start-stop : goal.returns-then-start-stop
 returns-then-start-stop g c = rw (rows-none c.args.shown c.args.name.now (λ _. c.args.depth) c.args.start c.args.stop c.if-start-stop.true) (Takes-nothing _)

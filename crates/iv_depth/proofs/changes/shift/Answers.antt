@@ -5,7 +5,7 @@ use Rattle.std.proofs.lemmas.Result.{on_ok_weaker}
 use Rattle.iv_depth.specs.Changes.{Bumps}
 use Rattle.iv_depth.proofs.ChangesLemmas.{Shifts-of}
 use Rattle.iv_depth.proofs.BoundLemmas.{change-small, AreChangesOf-within, Bumps-within}
-use Rattle.iv_depth.proofs.changing.shift.Goals as goal
+use Rattle.iv_depth.proofs.changes.shift.Goals as goal
 
 pub bump-requires-clause-small : goal.bump-requires-clause-small
 bump-requires-clause-small g c =

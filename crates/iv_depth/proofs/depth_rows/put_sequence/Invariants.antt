@@ -2,7 +2,7 @@ use Rattle.std.proofs.Common.{◌≡◌, ℕ, pos}
 use Rattle.iv_bytes.proofs.Putting.{Underway}
 use Rattle.iv_track.specs.Steps.{TakesForEach}
 use Rattle.iv_depth.specs.DepthRows.{rows_between}
-use Rattle.iv_depth.proofs.printing.put_sequence.Given as goal
+use Rattle.iv_depth.proofs.depth_rows.put_sequence.Given as goal
 
 -- the rows from `start` on remain to be put, and the changes that are left say how the depth goes on
 abbrev pub invariant-loop-position : goal.invariant-loop-position

@@ -1,6 +1,6 @@
 use Rattle.std.proofs.Common.{◌≡◌, take, length}
 use Rattle.iv_depth.specs.Edges.{stops_of}
-use Rattle.iv_depth.proofs.sweep_rows.write_stops.Given as goal
+use Rattle.iv_depth.proofs.depth_sweep.write_stops.Given as goal
 
 -- the stops before `index` are written
 abbrev pub invariant-loop-index : goal.invariant-loop-index

@@ -5,7 +5,7 @@ use Rattle.std.specs.BTreeMap.{is_at, insert_entry}
 use Rattle.iv_track.specs.Entries.{value_at, pair_cmp}
 use Rattle.iv_depth.proofs.ChangesLemmas.{Bumps-insert_entry, Bumps-taken, Bumps-set, found-put}
 use Rattle.iv_track.proofs.TrackLemmas.{set_gives}
-use Rattle.iv_depth.proofs.changing.bump.Goals as goal
+use Rattle.iv_depth.proofs.changes.bump.Goals as goal
 
 pub returns-in_default-clause-ok : goal.returns-in_default-clause-ok
 returns-in_default-clause-ok g c =

@@ -2,7 +2,7 @@ use Rattle.std.proofs.Common.{◌≡◌, arith}
 use Rattle.std.proofs.lemmas.List.Sorted.{IsPermutation-trans}
 use Rattle.iv_depth.specs.Edges.{stops_of}
 use Rattle.iv_depth.proofs.OrderLemmas.{AreStopsOf-sorted, written-all}
-use Rattle.iv_depth.proofs.sweep_rows.write_stops.Goals as goal
+use Rattle.iv_depth.proofs.depth_sweep.write_stops.Goals as goal
 
 pub returns-clause-stops : goal.returns-clause-stops
 returns-clause-stops c =

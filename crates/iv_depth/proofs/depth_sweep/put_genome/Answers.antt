@@ -9,7 +9,7 @@ use Rattle.std.proofs.lemmas.List.{length-map}
 use Rattle.iv_index.proofs.SequenceLemmas.{all-from, from-in, from-order, from-later}
 use Rattle.iv_depth.proofs.EdgeLemmas.{places-few, IsAhead-begin}
 use Rattle.iv_depth.proofs.Genomes.{texts-next, texts-all}
-use Rattle.iv_depth.proofs.sweep_rows.put_genome.Goals as goal
+use Rattle.iv_depth.proofs.depth_sweep.put_genome.Goals as goal
 
 pub loop-rank-init : goal.loop-rank-init
 loop-rank-init g c = record {

@@ -2,7 +2,7 @@ use Rattle.std.proofs.Common.{◌-◌}
 use Rattle.std.specs.List.{flat_map, range_with_len}
 use Rattle.iv_bytes.proofs.Putting.{Underway}
 use Rattle.iv_depth.specs.DepthRows.{position_row}
-use Rattle.iv_depth.proofs.printing.put_positions.Given as goal
+use Rattle.iv_depth.proofs.depth_rows.put_positions.Given as goal
 
 -- the rows from `position` on remain to be put
 abbrev pub invariant-loop-position : goal.invariant-loop-position

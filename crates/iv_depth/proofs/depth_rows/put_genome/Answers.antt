@@ -4,7 +4,7 @@ use Rattle.iv_text.specs.Genome.{seq_count}
 use Rattle.iv_depth.specs.Changes.{Entries}
 use Rattle.iv_depth.specs.Walks.{depth_by}
 use Rattle.iv_depth.proofs.Genomes.{texts-next, texts-all}
-use Rattle.iv_depth.proofs.printing.put_genome.Goals as goal
+use Rattle.iv_depth.proofs.depth_rows.put_genome.Goals as goal
 
 pub loop-rank-init : goal.loop-rank-init
 loop-rank-init g c = record {

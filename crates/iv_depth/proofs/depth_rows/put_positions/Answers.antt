@@ -2,7 +2,7 @@ use Rattle.std.proofs.Common.{arith}
 use Rattle.iv_bytes.proofs.Putting.{Underway-begin, Underway-more, Underway-fails, Underway-ends, Puts-err}
 use Rattle.iv_depth.specs.DepthRows.{position_row}
 use Rattle.iv_depth.proofs.Stretches.{each-next, each-none}
-use Rattle.iv_depth.proofs.printing.put_positions.Goals as goal
+use Rattle.iv_depth.proofs.depth_rows.put_positions.Goals as goal
 
 pub loop-position-init : goal.loop-position-init
 loop-position-init g c = Underway-begin _ _

@@ -1,4 +1,4 @@
-//! Changes of depth under edits.
+//! Changes of depth, and their edits.
 ghost use Rattle.std.specs.Prelude.{◌≡◌, ◌≢◌, ℤ, pos, negsuc, ◌≤ℤ◌, ◌^◌, List, ◌∷◌, Some, OnOk};
 ghost use Rattle.iv_text.specs.Row.{Row};
 ghost use Rattle.iv_track.specs.Entries.{pair_cmp, value_at};
@@ -61,9 +61,7 @@ fn shift<A: Allocator + Copy>(
 
 /// Adds 1 or -1 to the change at a place. An entry that becomes 0 is taken out. At most 2 steps.
 ///
-/// # Errors
-///
-/// An allocation failed, which happens for a place without a change alone. The changes are as before.
+/// Only a place without a change takes memory. After a refusal the changes are as before.
 fn bump<A: Allocator + Copy>(
     changes: &mut Changes<A>,
     place: (u32, u32),

@@ -5,7 +5,7 @@ use Rattle.iv_bytes.proofs.Putting.{Underway-begin, Underway-more, Underway-fail
 use Rattle.iv_track.proofs.StepLemmas.{each_none, each_more}
 use Rattle.iv_depth.specs.DepthRows.{rows_between, sequence_text}
 use Rattle.iv_depth.proofs.Stretches.{rows-next, rows-end}
-use Rattle.iv_depth.proofs.printing.put_sequence.Goals as goal
+use Rattle.iv_depth.proofs.depth_rows.put_sequence.Goals as goal
 
 pub loop-position-init : goal.loop-position-init
 loop-position-init g c = record {

@@ -5,7 +5,7 @@ use Rattle.iv_index.proofs.SequenceLemmas.{is_from}
 use Rattle.iv_index.specs.Spans.{span_rows}
 use Rattle.iv_depth.specs.DepthRows.{depth_text}
 use Rattle.iv_depth.proofs.Genomes.{texts_from}
-use Rattle.iv_depth.proofs.sweep_rows.put_genome.Given as goal
+use Rattle.iv_depth.proofs.depth_sweep.put_genome.Given as goal
 
 -- the rows of the sequences from this rank on remain to be put, and their records are left
 abbrev pub invariant-loop-rank : goal.invariant-loop-rank

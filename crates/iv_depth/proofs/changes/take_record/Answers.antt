@@ -2,7 +2,7 @@ use Rattle.std.specs.Prelude.{List}
 use Rattle.std.proofs.lemmas.Result.{on_ok_weaker}
 use Rattle.iv_text.specs.Row.{Row}
 use Rattle.iv_depth.proofs.ChangesLemmas.{AreChangesOf-removed}
-use Rattle.iv_depth.proofs.changing.take_record.Goals as goal
+use Rattle.iv_depth.proofs.changes.take_record.Goals as goal
 
 pub returns-clause-ok : goal.returns-clause-ok
 returns-clause-ok g c =

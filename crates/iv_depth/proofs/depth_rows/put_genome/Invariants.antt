@@ -3,7 +3,7 @@ use Rattle.iv_bytes.proofs.Putting.{Underway}
 use Rattle.iv_depth.specs.DepthRows.{text_by}
 use Rattle.iv_depth.specs.Walks.{AreAhead, depth_by}
 use Rattle.iv_depth.proofs.Genomes.{texts_from}
-use Rattle.iv_depth.proofs.printing.put_genome.Given as goal
+use Rattle.iv_depth.proofs.depth_rows.put_genome.Given as goal
 
 -- the rows of the sequences from this rank on remain to be put
 abbrev pub invariant-loop-rank : goal.invariant-loop-rank
