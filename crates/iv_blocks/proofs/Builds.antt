@@ -11,10 +11,12 @@ use Rattle.iv_track.specs.Entries.{IsLedger, value_at}
 use Rattle.iv_cover.specs.Blocks.{block_at}
 use Rattle.iv_cover.specs.TrackBlocks.{start_of, stop_of}
 use Rattle.iv_text.proofs.ListLemmas.{Mem, filter-agree, filter-filter, filter-none, all-mem, mem-all, same_tests}
-use Rattle.iv_blocks.specs.Groups.{is_in_group, is_on_side, group, starts_between, between, members_between, listed}
+use Rattle.iv_blocks.specs.Groups.{is_in_group, is_on_side, group, starts_between, between, members_between, listed, is_minus}
 use Rattle.iv_blocks.specs.KeptBlocks.{Key, key_cmp, Kept, Entries, KeptBlocks, kept_block, kept_at, name_of, AreBlocksOf}
 use Rattle.iv_blocks.specs.Putting.{ArePut, ArePutOn}
 use Rattle.iv_blocks.specs.declared.group.Group.{Group}
+use Rattle.iv_blocks.specs.declared.group.Side.{Side}
+use Rattle.iv_blocks.specs.declared.group.Side.TheVariants.{Plus, Minus}
 use Rattle.iv_blocks.specs.declared.options.Options.{Options}
 use Rattle.iv_blocks.proofs.GroupSweeps.{member-in}
 use Rattle.iv_blocks.proofs.MembersLemmas.{between-from}
@@ -80,19 +82,19 @@ module _ (genome : Sequences) (width : ℕ) (rows : List Row) (fit : All (Fits g
 
   module _ (rank end : ℕ) (is : end ≡ sequence_length genome rank) (old : KeptBlocks) where
     -- a side's blocks are put, as they are to be
-    put-whole : (minus : Bool) (now next : KeptBlocks) → now.options ≡ old.options
-        → ArePut (record { rank = rank; stranded = old.options.stranded; minus = minus }) (names_of genome) (between 0 end rows) now next
-        → (x : ℕ) → value_at key_cmp next.entries (rank, minus, x) ≡ option_or (kept_at old.options (names_of genome) rows (rank, minus, x)) (value_at key_cmp now.entries (rank, minus, x))
-    put-whole minus now next same put x =
+    put-whole : (side : Side) (now next : KeptBlocks) → now.options ≡ old.options
+        → ArePut (record { rank = rank; side = side }) (names_of genome) (between 0 end rows) now next
+        → (x : ℕ) → value_at key_cmp next.entries (rank, is_minus side, x) ≡ option_or (kept_at old.options (names_of genome) rows (rank, is_minus side, x)) (value_at key_cmp now.entries (rank, is_minus side, x))
+    put-whole side now next same put x =
         put.here x
-        ∙ ap (λ o. option_or (kept_at o (names_of genome) (between 0 end rows) (rank, minus, x)) (value_at key_cmp now.entries (rank, minus, x))) same
-        ∙ ap (λ (n : ℕ). option_or (kept_at old.options (names_of genome) (between 0 n rows) (rank, minus, x)) (value_at key_cmp now.entries (rank, minus, x))) is
-        ∙ ap (λ o. option_or o (value_at key_cmp now.entries (rank, minus, x))) (kept-whole old.options rank minus x)
+        ∙ ap (λ o. option_or (kept_at o (names_of genome) (between 0 end rows) (rank, is_minus side, x)) (value_at key_cmp now.entries (rank, is_minus side, x))) same
+        ∙ ap (λ (n : ℕ). option_or (kept_at old.options (names_of genome) (between 0 n rows) (rank, is_minus side, x)) (value_at key_cmp now.entries (rank, is_minus side, x))) is
+        ∙ ap (λ o. option_or o (value_at key_cmp now.entries (rank, is_minus side, x))) (kept-whole old.options rank (is_minus side) x)
 
     -- both sides are all
     pub put-both : (now new : KeptBlocks)
-        → ArePut (record { rank = rank; stranded = old.options.stranded; minus = false }) (names_of genome) (between 0 end rows) old now
-        → ArePut (record { rank = rank; stranded = old.options.stranded; minus = true }) (names_of genome) (between 0 end rows) now new
+        → ArePut (record { rank = rank; side = Plus }) (names_of genome) (between 0 end rows) old now
+        → ArePut (record { rank = rank; side = Minus }) (names_of genome) (between 0 end rows) now new
         → ArePutOn rank (names_of genome) rows old new
     put-both now new first second = record {
       options = second.options ∙ first.options;
@@ -102,9 +104,9 @@ module _ (genome : Sequences) (width : ℕ) (rows : List Row) (fit : All (Fits g
     }
       where
         both : (minus : Bool) (x : ℕ) → value_at key_cmp new.entries (rank, minus, x) ≡ option_or (kept_at old.options (names_of genome) rows (rank, minus, x)) (value_at key_cmp old.entries (rank, minus, x))
-        both false x = second.others (rank, false, x) (inr (λ same. cc)) ∙ put-whole false old now refl first x
+        both false x = second.others (rank, false, x) (inr (λ same. cc)) ∙ put-whole Plus old now refl first x
         both true x =
-            put-whole true now new first.options second x
+            put-whole Minus now new first.options second x
             ∙ ap (option_or (kept_at old.options (names_of genome) rows (rank, true, x))) (first.others (rank, true, x) (inr (λ same. cc)))
 
   option_or-none : {V : Type 0} (o : Option V) → option_or o None ≡ o

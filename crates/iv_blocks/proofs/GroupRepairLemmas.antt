@@ -18,7 +18,7 @@ use Rattle.iv_text.proofs.ListLemmas.{Mem, mem-filter, mem-filter_from, all-mem,
 use Rattle.iv_cover.proofs.Groups.{HasOneMore, one_more}
 use Rattle.iv_cover.proofs.BlockLemmas.{one_more-filter}
 use Rattle.iv_cover.proofs.Cover.{Lasting, IsBlock, starts_in, starts_in-true, stops_within}
-use Rattle.iv_blocks.specs.Groups.{is_strand, is_on_side, is_in_group, group, between, between_on, members_between, starts_between, listed}
+use Rattle.iv_blocks.specs.Groups.{is_strand, is_on_side, is_in_group, group, between, between_on, members_between, starts_between, listed, is_apart, is_minus}
 use Rattle.iv_blocks.specs.KeptBlocks.{Key, key_cmp, Kept, Entries, KeptBlocks, AreBlocksOf, kept_at, kept_block, name_of, around, within_block, block_steps}
 use Rattle.iv_blocks.specs.Lookups.{kept_in, IsLastBlock}
 use Rattle.iv_blocks.specs.Putting.{key_of, IsOfOther, ArePut, with_block}
@@ -111,28 +111,28 @@ on-both (Err e) P Q R f p q = p
 -- r is of the group g, rows have it, and less are the others
 pub record IsEdit (o : Options) (g : Group) (r : Row) (less rows : List Row) : Type 0 where
   pub more : HasOneMore less r rows
-  pub apart : g.stranded ≡ o.stranded
-  pub in_group : is_in_group o.stranded g.rank g.minus r ≡ true
+  pub apart : is_apart g.side ≡ o.stranded
+  pub in_group : is_in_group o.stranded g.rank (is_minus g.side) r ≡ true
   pub lasts : (q : Row) → Mem q rows → q.start < q.stop
 
 -- what an edit knows of the record's group, which was found by the options p
-edit-of : (o p : Options) (g : Group) (r : Row) (less rows : List Row) → p ≡ o → (g.stranded ≡ p.stranded) × (is_in_group p.stranded g.rank g.minus r ≡ true)
+edit-of : (o p : Options) (g : Group) (r : Row) (less rows : List Row) → p ≡ o → (is_apart g.side ≡ p.stranded) × (is_in_group p.stranded g.rank (is_minus g.side) r ≡ true)
     → HasOneMore less r rows → ((q : Row) → Mem q rows → q.start < q.stop) → IsEdit o g r less rows
 edit-of o p g r less rows same known more lasts =
     let stranded : p.stranded ≡ o.stranded = ap (λ (x : Options). x.stranded) same in
     record {
       more = more;
       apart = known.0 ∙ stranded;
-      in_group = ap (λ (s : Bool). is_in_group s g.rank g.minus r) (sym stranded) ∙ known.1;
+      in_group = ap (λ (s : Bool). is_in_group s g.rank (is_minus g.side) r) (sym stranded) ∙ known.1;
       lasts = lasts;
     }
 
-pub edit-added : (o p : Options) (g : Group) (r : Row) (less rows : List Row) (genome : Sequences) (width : ℕ) → p ≡ o → (g.stranded ≡ p.stranded) × (is_in_group p.stranded g.rank g.minus r ≡ true)
+pub edit-added : (o p : Options) (g : Group) (r : Row) (less rows : List Row) (genome : Sequences) (width : ℕ) → p ≡ o → (is_apart g.side ≡ p.stranded) × (is_in_group p.stranded g.rank (is_minus g.side) r ≡ true)
     → rows ≡ added less r → All (Fits genome width) rows → IsEdit o g r less rows
 edit-added o p g r less rows genome width same known rows_are fit =
     edit-of o p g r less rows same known (subst (λ (l : List Row). HasOneMore less r l) (sym rows_are) (added-more less r)) (fits-last genome width rows fit)
 
-pub edit-removed : (o p : Options) (g : Group) (r : Row) (rows : List Row) (genome : Sequences) (width : ℕ) → p ≡ o → (g.stranded ≡ p.stranded) × (is_in_group p.stranded g.rank g.minus r ≡ true)
+pub edit-removed : (o p : Options) (g : Group) (r : Row) (rows : List Row) (genome : Sequences) (width : ℕ) → p ≡ o → (is_apart g.side ≡ p.stranded) × (is_in_group p.stranded g.rank (is_minus g.side) r ≡ true)
     → All (Fits genome width) rows → Fits genome width r → IsEdit o g r rows (added rows r)
 edit-removed o p g r rows genome width same known fit fits =
     let more = added-more rows r in
@@ -156,23 +156,23 @@ beside-removed o p names rows r entries same beside right = record {
 }
 
 module _ (o : Options) (names : List (List ℕ)) (g : Group) (r : Row) (less rows : List Row) (edit : IsEdit o g r less rows) where
-  parts : (r.seq == g.rank ≡ true) × (is_on_side o.stranded g.minus r ≡ true)
-  parts = and_parts (r.seq == g.rank) (is_on_side o.stranded g.minus r) edit.in_group
+  parts : (r.seq == g.rank ≡ true) × (is_on_side o.stranded (is_minus g.side) r ≡ true)
+  parts = and_parts (r.seq == g.rank) (is_on_side o.stranded (is_minus g.side) r) edit.in_group
 
   rank-is : r.seq ≡ g.rank
   rank-is = eqb-true r.seq g.rank parts.0
 
   abbrev G : List Row
-  G = group o.stranded g.rank g.minus less
+  G = group o.stranded g.rank (is_minus g.side) less
 
   abbrev H : List Row
-  H = group o.stranded g.rank g.minus rows
+  H = group o.stranded g.rank (is_minus g.side) rows
 
   more_g : HasOneMore G r H
-  more_g = one_more-filter (is_in_group o.stranded g.rank g.minus) less rows r edit.more edit.in_group
+  more_g = one_more-filter (is_in_group o.stranded g.rank (is_minus g.side)) less rows r edit.more edit.in_group
 
   lasting : Lasting start_of stop_of o.distance H
-  lasting q m = edit.lasts q (mem-filter (is_in_group o.stranded g.rank g.minus) rows q m).0
+  lasting q m = edit.lasts q (mem-filter (is_in_group o.stranded g.rank (is_minus g.side)) rows q m).0
 
   -- other groups stay as they are
   kept-other : (k : Key) → IsOfOther g k → kept_at o names rows k ≡ kept_at o names less k
@@ -180,21 +180,21 @@ module _ (o : Options) (names : List (List ℕ)) (g : Group) (r : Row) (less row
       let both = and_parts (r.seq == k.0) (is_on_side o.stranded k.1 r) e in
       elim other [
         | inl ne ↦ ne (sym (eqb-true r.seq k.0 both.0) ∙ rank-is)
-        | inr ne ↦ ne (one_side o.stranded r k.1 g.minus both.1 parts.1)
+        | inr ne ↦ ne (one_side o.stranded r k.1 (is_minus g.side) both.1 parts.1)
       ]))
 
   -- how many records there are around r
   around-is : (low to : ℕ) → IsBlock start_of stop_of o.distance H low to → low ≤ r.start → r.start < to → around o rows r ≡ length (between_on g.rank low to rows)
   around-is low to block above below =
-      pick g.minus refl
-      ∙ ap (λ (n : ℕ). within_block o.distance (group o.stranded n g.minus rows) rows r) rank-is
+      pick (is_minus g.side) refl
+      ∙ ap (λ (n : ℕ). within_block o.distance (group o.stranded n (is_minus g.side) rows) rows r) rank-is
       ∙ home-count o.distance (name_of names g.rank) (listed o.summaries) G H r more_g lasting low to rows block above below
       ∙ ap (λ (n : ℕ). length (between_on n low to rows)) rank-is
     where
       W : Bool → ℕ
       W minus = within_block o.distance (group o.stranded r.seq minus rows) rows r
 
-      pick : (minus : Bool) → g.minus ≡ minus → around o rows r ≡ W g.minus
+      pick : (minus : Bool) → is_minus g.side ≡ minus → around o rows r ≡ W (is_minus g.side)
       pick false e =
           let on : is_on_side o.stranded false r ≡ true = ap (λ (m : Bool). is_on_side o.stranded m r) (sym e) ∙ parts.1 in
           cond-true _ _ _ on ∙ ap W (sym e)
@@ -205,10 +205,10 @@ module _ (o : Options) (names : List (List ℕ)) (g : Group) (r : Row) (less row
 
   own-fewer : (low to : ℕ) → length (filter (starts_in start_of stop_of o.distance low to) H) ≤ length (between_on g.rank low to rows)
   own-fewer low to =
-      let fewer = filter-weaker (λ q. is_in_group o.stranded g.rank g.minus q && starts_between low to q) (λ q. (q.seq == g.rank) && starts_between low to q) rows (λ q m e.
-      let both = and_parts (is_in_group o.stranded g.rank g.minus q) (starts_between low to q) e in
-      and_from _ _ (and_parts (q.seq == g.rank) (is_on_side o.stranded g.minus q) both.0).0 both.1) in
-      omega (arith, fewer, ap length (filter-filter (starts_in start_of stop_of o.distance low to) (is_in_group o.stranded g.rank g.minus) rows))
+      let fewer = filter-weaker (λ q. is_in_group o.stranded g.rank (is_minus g.side) q && starts_between low to q) (λ q. (q.seq == g.rank) && starts_between low to q) rows (λ q m e.
+      let both = and_parts (is_in_group o.stranded g.rank (is_minus g.side) q) (starts_between low to q) e in
+      and_from _ _ (and_parts (q.seq == g.rank) (is_on_side o.stranded (is_minus g.side) q) both.0).0 both.1) in
+      omega (arith, fewer, ap length (filter-filter (starts_in start_of stop_of o.distance low to) (is_in_group o.stranded g.rank (is_minus g.side)) rows))
 
   -- ---- r is added
   module _ (old mid next : KeptBlocks) (joined : ℕ × ℕ) (to : ℕ) (right : AreBlocksOf o names less old.entries)
@@ -261,8 +261,8 @@ module _ (o : Options) (names : List (List ℕ)) (g : Group) (r : Row) (less row
         value-is =
             ap (λ (n : List ℕ). kept_block n (listed next.options.summaries) (to, members_between g joined.0 to rows)) (sym (name-same genome g.rank) ∙ ap (λ (l : List (List ℕ)). name_of l g.rank) (sym of_genome))
             ∙ ap (λ (p : Options). kept_block (name_of names g.rank) (listed p.summaries) (to, members_between g joined.0 to rows)) (second.options ∙ options)
-            ∙ ap (λ (s : Bool). kept_block (name_of names g.rank) (listed o.summaries) (to, filter (λ q. is_in_group s g.rank g.minus q && starts_between joined.0 to q) rows)) edit.apart
-            ∙ ap (λ (l : List Row). kept_block (name_of names g.rank) (listed o.summaries) (to, l)) (sym (filter-filter (starts_between joined.0 to) (is_in_group o.stranded g.rank g.minus) rows))
+            ∙ ap (λ (s : Bool). kept_block (name_of names g.rank) (listed o.summaries) (to, filter (λ q. is_in_group s g.rank (is_minus g.side) q && starts_between joined.0 to q) rows)) edit.apart
+            ∙ ap (λ (l : List Row). kept_block (name_of names g.rank) (listed o.summaries) (to, l)) (sym (filter-filter (starts_between joined.0 to) (is_in_group o.stranded g.rank (is_minus g.side)) rows))
 
         here : (x : ℕ) → kept_in new.entries g x ≡ kept_at o names rows (key_of g x)
         here x = added-right o.distance (name_of names g.rank) (listed o.summaries) G H r more_g lasting joined.0 joined.1 to (kept_in mid.entries g) (kept_in next.entries g) state after (kept_in new.entries g)
@@ -284,9 +284,9 @@ module _ (o : Options) (names : List (List ℕ)) (g : Group) (r : Row) (less row
       -- the other records of the block stop in it
       pub removed-stops : All (λ q. q.stop ≤ b.1) (members_between g b.0 b.1 less)
       removed-stops = mem-all (λ q. q.stop ≤ b.1) _ (λ q m.
-          let is = mem-filter (λ q. is_in_group g.stranded g.rank g.minus q && starts_between b.0 b.1 q) less q m in
-          let both = and_parts (is_in_group g.stranded g.rank g.minus q) (starts_between b.0 b.1 q) is.1 in
-          let here = mem-filter_from (is_in_group o.stranded g.rank g.minus) rows q (edit.more.old q is.0) (ap (λ (s : Bool). is_in_group s g.rank g.minus q) (sym edit.apart) ∙ both.0) in
+          let is = mem-filter (λ q. is_in_group (is_apart g.side) g.rank (is_minus g.side) q && starts_between b.0 b.1 q) less q m in
+          let both = and_parts (is_in_group (is_apart g.side) g.rank (is_minus g.side) q) (starts_between b.0 b.1 q) is.1 in
+          let here = mem-filter_from (is_in_group o.stranded g.rank (is_minus g.side)) rows q (edit.more.old q is.0) (ap (λ (s : Bool). is_in_group s g.rank (is_minus g.side) q) (sym edit.apart) ∙ both.0) in
           let range = starts_in-true start_of stop_of o.distance b.0 b.1 q both.1 in
           stops_within start_of stop_of o.distance H b.0 b.1 block_is q here (omega (arith, range.1)))
 
@@ -314,4 +314,4 @@ module _ (o : Options) (names : List (List ℕ)) (g : Group) (r : Row) (less row
               (λ y. put.here y
               ∙ ap (λ (p : Options). option_or (kept_at p names (between b.0 b.1 less) (key_of g y)) (kept_in (without_block old g b.0).entries g y)) options
               ∙ ap (λ (l : List Row). option_or (shown o.distance (name_of names g.rank) (listed o.summaries) l y) (kept_in (without_block old g b.0).entries g y))
-              (filter-swap (is_in_group o.stranded g.rank g.minus) (starts_between b.0 b.1) less)) x
+              (filter-swap (is_in_group o.stranded g.rank (is_minus g.side)) (starts_between b.0 b.1) less)) x

@@ -14,7 +14,7 @@ use Rattle.iv_cover.specs.TrackBlocks.{start_of, stop_of}
 use Rattle.iv_text.proofs.ListLemmas.{Mem, mem-filter, mem-filter_from, filter-agree, filter-filter, filter-none, all-mem, same_tests}
 use Rattle.iv_cover.proofs.Groups.{mem-left, mem-right, mem-append}
 use Rattle.iv_cover.proofs.Cover.{Lasting, starts_in}
-use Rattle.iv_blocks.specs.Groups.{is_in_group, group, starts_between, between, between_on, members_between, listed}
+use Rattle.iv_blocks.specs.Groups.{is_in_group, group, starts_between, between, between_on, members_between, listed, is_apart, is_minus}
 use Rattle.iv_blocks.specs.KeptBlocks.{Key, key_cmp, Kept, Entries, KeptBlocks, kept_block, kept_at}
 use Rattle.iv_blocks.specs.Putting.{key_of, IsOfOther, with_block, ArePut}
 use Rattle.iv_blocks.specs.declared.group.Group.{Group}
@@ -31,31 +31,31 @@ use Rattle.iv_blocks.proofs.MembersLemmas.{between-true, between-from, in_group-
 pub member-in : (g : Group) (from to : ℕ) (rows : List Row) (q : Row) → Mem q (members_between g from to rows)
     → Mem q rows × (q.seq ≡ g.rank) × (from ≤ q.start) × (q.start < to)
 member-in g from to rows q m =
-    let both = mem-filter (λ r. is_in_group g.stranded g.rank g.minus r && starts_between from to r) rows q m in
-    let tests = and_parts (is_in_group g.stranded g.rank g.minus q) (starts_between from to q) both.1 in
+    let both = mem-filter (λ r. is_in_group (is_apart g.side) g.rank (is_minus g.side) r && starts_between from to r) rows q m in
+    let tests = and_parts (is_in_group (is_apart g.side) g.rank (is_minus g.side) q) (starts_between from to q) both.1 in
     let range = between-true from to q tests.1 in
     (both.0, in_group-on g q tests.0, range.0, range.1)
 
 -- the members of a range within another
 pub members-narrow : (g : Group) (from to x s : ℕ) (rows : List Row) → from ≤ x → s ≤ to → filter (starts_between x s) (members_between g from to rows) ≡ members_between g x s rows
 members-narrow g from to x s rows above within =
-    filter-filter (starts_between x s) (λ r. is_in_group g.stranded g.rank g.minus r && starts_between from to r) rows
+    filter-filter (starts_between x s) (λ r. is_in_group (is_apart g.side) g.rank (is_minus g.side) r && starts_between from to r) rows
     ∙ filter-agree _ _ rows (λ q m. same_tests _ _
     (λ e.
-    let both = and_parts (is_in_group g.stranded g.rank g.minus q && starts_between from to q) (starts_between x s q) e in
-    and_from _ _ (and_parts (is_in_group g.stranded g.rank g.minus q) (starts_between from to q) both.0).0 both.1)
+    let both = and_parts (is_in_group (is_apart g.side) g.rank (is_minus g.side) q && starts_between from to q) (starts_between x s q) e in
+    and_from _ _ (and_parts (is_in_group (is_apart g.side) g.rank (is_minus g.side) q) (starts_between from to q) both.0).0 both.1)
     (λ e.
-    let both = and_parts (is_in_group g.stranded g.rank g.minus q) (starts_between x s q) e in
+    let both = and_parts (is_in_group (is_apart g.side) g.rank (is_minus g.side) q) (starts_between x s q) e in
     let range = between-true x s q both.1 in
     and_from _ _ (and_from _ _ both.0 (between-from from to q (omega (arith, range.0)) (omega (arith, range.1)))) both.1))
 
 -- the group's records of a range
-pub members-group : (g : Group) (from to : ℕ) (rows : List Row) → group g.stranded g.rank g.minus (between from to rows) ≡ members_between g from to rows
+pub members-group : (g : Group) (from to : ℕ) (rows : List Row) → group (is_apart g.side) g.rank (is_minus g.side) (between from to rows) ≡ members_between g from to rows
 members-group g from to rows =
-    filter-filter (is_in_group g.stranded g.rank g.minus) (starts_between from to) rows
+    filter-filter (is_in_group (is_apart g.side) g.rank (is_minus g.side)) (starts_between from to) rows
     ∙ filter-agree _ _ rows (λ q m. same_tests _ _
-    (λ e. let both = and_parts (starts_between from to q) (is_in_group g.stranded g.rank g.minus q) e in and_from _ _ both.1 both.0)
-    (λ e. let both = and_parts (is_in_group g.stranded g.rank g.minus q) (starts_between from to q) e in and_from _ _ both.1 both.0))
+    (λ e. let both = and_parts (starts_between from to q) (is_in_group (is_apart g.side) g.rank (is_minus g.side) q) e in and_from _ _ both.1 both.0)
+    (λ e. let both = and_parts (is_in_group (is_apart g.side) g.rank (is_minus g.side) q) (starts_between from to q) e in and_from _ _ both.1 both.0))
 
 -- ---- how many there are
 
@@ -262,15 +262,15 @@ module _ (o : KeptBlocks) (genome : Sequences) (rows : List Row) (g : Group) (fr
         }
 
     -- what is kept of the group's records of the range
-    shown-kept : g.stranded ≡ o.options.stranded → (x : ℕ)
+    shown-kept : is_apart g.side ≡ o.options.stranded → (x : ℕ)
         → shown start_of stop_of o.options.distance kept (members_between g from to rows) x ≡ kept_at o.options (names_of genome) (between from to rows) (key_of g x)
     shown-kept apart x =
         ap₂ (λ (name : List ℕ) (l : List Row). option_map (kept_block name (listed o.options.summaries)) (block_at start_of stop_of o.options.distance l x))
         (sym (name-same genome g.rank))
-        (sym (members-group g from to rows) ∙ ap (λ (b : Bool). group b g.rank g.minus (between from to rows)) apart)
+        (sym (members-group g from to rows) ∙ ap (λ (b : Bool). group b g.rank (is_minus g.side) (between from to rows)) apart)
 
     -- after the last member the open block is put, and all are
-    pub sweep-all : (now next : KeptBlocks) (start stop : ℕ) → IsSweeping now start stop [] → g.stranded ≡ o.options.stranded → next ≡ with_block now genome rows g start stop
+    pub sweep-all : (now next : KeptBlocks) (start stop : ℕ) → IsSweeping now start stop [] → is_apart g.side ≡ o.options.stranded → next ≡ with_block now genome rows g start stop
         → IsLedger key_cmp next.entries → ArePut g (names_of genome) (between from to rows) o next
     sweep-all now next start stop s apart is ledger =
         let whole : members_between g from to rows ≡ s.passed = s.all ∙ append-nil s.passed in
@@ -288,7 +288,7 @@ module _ (o : KeptBlocks) (genome : Sequences) (rows : List Row) (g : Group) (fr
         }
 
     -- if there is no member, nothing is put
-    pub sweep-none : g.stranded ≡ o.options.stranded → members_between g from to rows ≡ [] → IsLedger key_cmp o.entries → ArePut g (names_of genome) (between from to rows) o o
+    pub sweep-none : is_apart g.side ≡ o.options.stranded → members_between g from to rows ≡ [] → IsLedger key_cmp o.entries → ArePut g (names_of genome) (between from to rows) o o
     sweep-none apart none ledger = record {
       options = refl;
       ordered = ledger;

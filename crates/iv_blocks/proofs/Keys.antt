@@ -6,6 +6,7 @@ use Rattle.std.specs.BTreeMap.{insert_entry}
 use Rattle.std.proofs.lemmas.Bool.{cond-true, cond-false, cases_eq, false_from_ne_true}
 use Rattle.std.proofs.lemmas.Map.Lookups.{CmpEqualImpliesEq, exact_pairs, exact_unsigned}
 use Rattle.iv_track.specs.Entries.{value_at}
+use Rattle.iv_blocks.specs.Groups.{is_minus}
 use Rattle.iv_blocks.specs.KeptBlocks.{Key, key_cmp, Kept, Entries}
 use Rattle.iv_blocks.specs.Putting.{key_of, IsOfOther}
 use Rattle.iv_blocks.specs.declared.group.Group.{Group}
@@ -82,12 +83,12 @@ look-put_other entries g x v k other = put-other key_cmp keys_exact entries (key
 -- a key is of the group or of another
 pub key-cases : (g : Group) (k : Key) → (k ≡ key_of g k.2) ⊎ IsOfOther g k
 key-cases g k = elim (cases_eq k.0 g.rank) [
-  | inl rank ↦ go k.1 g.minus refl refl rank
+  | inl rank ↦ go k.1 (is_minus g.side) refl refl rank
   | inr ne ↦ inr (inl ne)
 ]
   where
-    go : (a b : Bool) → k.1 ≡ a → g.minus ≡ b → k.0 ≡ g.rank → (k ≡ key_of g k.2) ⊎ IsOfOther g k
-    go false false p q rank = let side : k.1 ≡ g.minus = p ∙ sym q in inl (λ i. (rank i, side i, k.2))
-    go true true p q rank = let side : k.1 ≡ g.minus = p ∙ sym q in inl (λ i. (rank i, side i, k.2))
+    go : (a b : Bool) → k.1 ≡ a → is_minus g.side ≡ b → k.0 ≡ g.rank → (k ≡ key_of g k.2) ⊎ IsOfOther g k
+    go false false p q rank = let side : k.1 ≡ is_minus g.side = p ∙ sym q in inl (λ i. (rank i, side i, k.2))
+    go true true p q rank = let side : k.1 ≡ is_minus g.side = p ∙ sym q in inl (λ i. (rank i, side i, k.2))
     go false true p q rank = inr (inr (λ same. cc))
     go true false p q rank = inr (inr (λ same. cc))

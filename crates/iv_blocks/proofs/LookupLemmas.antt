@@ -7,6 +7,7 @@ use Rattle.std.proofs.lemmas.Cmp.{nat_cmp_total, ranked, tied_itself}
 use Rattle.std.proofs.lemmas.Map.Keys.{le_from_is_le}
 use Rattle.iv_track.specs.Entries.{IsLedger, value_at, first_from, last_until}
 use Rattle.iv_track.proofs.NumberOrder.{le-cmp, ge-cmp, ge-from}
+use Rattle.iv_blocks.specs.Groups.{is_minus}
 use Rattle.iv_blocks.specs.KeptBlocks.{Key, key_cmp, Kept, Entries}
 use Rattle.iv_blocks.specs.Putting.{key_of}
 use Rattle.iv_blocks.specs.Lookups.{kept_in, IsLastBlock, IsFirstBlock}
@@ -63,10 +64,10 @@ less_cmp a b h = go (nat_cmp a b) refl
 
 -- the keys of a group, compared
 group-ge : (g : Group) (p x : ℕ) → x ≤ p → is_ge (key_cmp (key_of g p) (key_of g x)) ≡ true
-group-ge g p x h = ap is_ge (key_cmp-group g.rank g.minus p x) ∙ ge-cmp p x h
+group-ge g p x h = ap is_ge (key_cmp-group g.rank (is_minus g.side) p x) ∙ ge-cmp p x h
 
 group-le : (g : Group) (p x : ℕ) → p ≤ x → is_le (key_cmp (key_of g p) (key_of g x)) ≡ true
-group-le g p x h = ap is_le (key_cmp-group g.rank g.minus p x) ∙ le-cmp p x h
+group-le g p x h = ap is_le (key_cmp-group g.rank (is_minus g.side) p x) ∙ le-cmp p x h
 
 module _ (es : Entries) (g : Group) (p : ℕ) (sorted : IsLedger key_cmp es) where
   -- no entry of any group up to the position: so none of this group
@@ -82,32 +83,32 @@ module _ (es : Entries) (g : Group) (p : ℕ) (sorted : IsLedger key_cmp es) whe
 
   -- the last entry of all groups up to the position, and a block of this group
   pub last_block : (k : Key) (v : Kept) (found : Option (ℕ × ℕ)) → last_until key_cmp es (key_of g p) ≡ Some (k, v)
-      → MatchOption found (k.0 ≡ g.rank → k.1 ≢ g.minus) (λ b. (k ≡ (g.rank, g.minus, b.0)) × (b.1 ≡ v.stop))
+      → MatchOption found (k.0 ≡ g.rank → k.1 ≢ is_minus g.side) (λ b. (k ≡ (g.rank, is_minus g.side, b.0)) × (b.1 ≡ v.stop))
       → MatchOption found ((x : ℕ) → x ≤ p → kept_in es g x ≡ None) (λ b. IsLastBlock (kept_in es g) p b)
   last_block k v None e beside = λ x within.
       let last = subst (λ o. MatchOption o ((q : Key) → is_ge (key_cmp (key_of g p) q) ≡ true → value_at key_cmp es q ≡ None) (λ e. IsLast key_cmp keys_total es (key_of g p) e)) e (last-found key_cmp keys_total es (key_of g p) sorted) in
-      last.none (key_of g x) (group-ge g p x within) (beside-before g.rank g.minus p x k beside last.within)
+      last.none (key_of g x) (group-ge g p x within) (beside-before g.rank (is_minus g.side) p x k beside last.within)
   last_block k v (Some b) e is =
       let last = subst (λ o. MatchOption o ((q : Key) → is_ge (key_cmp (key_of g p) q) ≡ true → value_at key_cmp es q ≡ None) (λ e. IsLast key_cmp keys_total es (key_of g p) e)) e (last-found key_cmp keys_total es (key_of g p) sorted) in
       record {
-        within = ge-from p b.0 (ap is_ge (sym (key_cmp-group g.rank g.minus p b.0)) ∙ ap (λ q. is_ge (key_cmp (key_of g p) q)) (sym is.0) ∙ last.within);
+        within = ge-from p b.0 (ap is_ge (sym (key_cmp-group g.rank (is_minus g.side) p b.0)) ∙ ap (λ q. is_ge (key_cmp (key_of g p) q)) (sym is.0) ∙ last.within);
         results = v.results;
         is = ap (value_at key_cmp es) (sym is.0) ∙ last.is ∙ ap (λ (n : ℕ). Some (record { stop = n; results = v.results })) (sym is.1);
-        none = λ x past within. last.none (key_of g x) (group-ge g p x within) (ap (λ q. key_cmp q (key_of g x)) is.0 ∙ key_cmp-group g.rank g.minus b.0 x ∙ less_cmp b.0 x past);
+        none = λ x past within. last.none (key_of g x) (group-ge g p x within) (ap (λ q. key_cmp q (key_of g x)) is.0 ∙ key_cmp-group g.rank (is_minus g.side) b.0 x ∙ less_cmp b.0 x past);
       }
 
   -- the first entry of all groups from the position on, and a block of this group
   pub first_block : (k : Key) (v : Kept) (found : Option (ℕ × ℕ)) → first_from key_cmp es (key_of g p) ≡ Some (k, v)
-      → MatchOption found (k.0 ≡ g.rank → k.1 ≢ g.minus) (λ b. (k ≡ (g.rank, g.minus, b.0)) × (b.1 ≡ v.stop))
+      → MatchOption found (k.0 ≡ g.rank → k.1 ≢ is_minus g.side) (λ b. (k ≡ (g.rank, is_minus g.side, b.0)) × (b.1 ≡ v.stop))
       → MatchOption found ((x : ℕ) → p ≤ x → kept_in es g x ≡ None) (λ b. IsFirstBlock (kept_in es g) p b)
   first_block k v None e beside = λ x within.
       let first = subst (λ o. MatchOption o ((q : Key) → is_le (key_cmp (key_of g p) q) ≡ true → value_at key_cmp es q ≡ None) (λ e. IsFirst key_cmp keys_total es (key_of g p) e)) e (first-found key_cmp keys_total es (key_of g p) sorted) in
-      first.none (key_of g x) (group-le g p x within) (beside-after g.rank g.minus p x k beside first.within)
+      first.none (key_of g x) (group-le g p x within) (beside-after g.rank (is_minus g.side) p x k beside first.within)
   first_block k v (Some b) e is =
       let first = subst (λ o. MatchOption o ((q : Key) → is_le (key_cmp (key_of g p) q) ≡ true → value_at key_cmp es q ≡ None) (λ e. IsFirst key_cmp keys_total es (key_of g p) e)) e (first-found key_cmp keys_total es (key_of g p) sorted) in
       record {
-        within = le_from_is_le p b.0 (ap is_le (sym (key_cmp-group g.rank g.minus p b.0)) ∙ ap (λ q. is_le (key_cmp (key_of g p) q)) (sym is.0) ∙ first.within);
+        within = le_from_is_le p b.0 (ap is_le (sym (key_cmp-group g.rank (is_minus g.side) p b.0)) ∙ ap (λ q. is_le (key_cmp (key_of g p) q)) (sym is.0) ∙ first.within);
         results = v.results;
         is = ap (value_at key_cmp es) (sym is.0) ∙ first.is ∙ ap (λ (n : ℕ). Some (record { stop = n; results = v.results })) (sym is.1);
-        none = λ x past within. first.none (key_of g x) (group-le g p x past) (ap (λ q. key_cmp (key_of g x) q) is.0 ∙ key_cmp-group g.rank g.minus x b.0 ∙ less_cmp x b.0 within);
+        none = λ x past within. first.none (key_of g x) (group-le g p x past) (ap (λ q. key_cmp (key_of g x) q) is.0 ∙ key_cmp-group g.rank (is_minus g.side) x b.0 ∙ less_cmp x b.0 within);
       }

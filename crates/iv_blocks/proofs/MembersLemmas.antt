@@ -12,7 +12,7 @@ use Rattle.iv_text.proofs.InOrderLemmas.{all-recursion, recursion-all, in_order-
 use Rattle.iv_text.proofs.ListLemmas.{Mem, mem-filter, filter-agree, filter-filter, filter-none, same_tests}
 use Rattle.iv_text.proofs.PrecedesLemmas.{Precedes, precedes-from}
 use Rattle.iv_blocks.specs.MembersLeft.{MembersLeft, IsAhead}
-use Rattle.iv_blocks.specs.Groups.{is_in_group, is_on_side, starts_between, between_on, members_between}
+use Rattle.iv_blocks.specs.Groups.{is_in_group, is_on_side, starts_between, between_on, members_between, is_apart, is_minus}
 use Rattle.iv_blocks.specs.declared.group.Group.{Group}
 
 -- ---- lists in order
@@ -89,15 +89,15 @@ none_between p from to rows empty = filter-none _ rows (λ q m. false_from_ne_tr
     let range = between-true from to q both.1 in
     omega arith))
 
-pub in_group-on : (g : Group) (q : Row) → is_in_group g.stranded g.rank g.minus q ≡ true → q.seq ≡ g.rank
-in_group-on g q e = eqb-true _ _ (and_parts (q.seq == g.rank) (is_on_side g.stranded g.minus q) e).0
+pub in_group-on : (g : Group) (q : Row) → is_in_group (is_apart g.side) g.rank (is_minus g.side) q ≡ true → q.seq ≡ g.rank
+in_group-on g q e = eqb-true _ _ (and_parts (q.seq == g.rank) (is_on_side (is_apart g.side) (is_minus g.side) q) e).0
 
 on-rank : (rank : ℕ) (q : Row) → (q.seq == rank) ≡ true → q.seq ≡ rank
 on-rank rank q e = eqb-true _ _ e
 
 -- what is ahead of a walk from a place on
 pub members-walked : (g : Group) (from to : ℕ) (rows : List Row) → members_between g 0 to (filter (is_from g.rank from) rows) ≡ members_between g from to rows
-members-walked g from to rows = walked (is_in_group g.stranded g.rank g.minus) g.rank from to rows (in_group-on g)
+members-walked g from to rows = walked (is_in_group (is_apart g.side) g.rank (is_minus g.side)) g.rank from to rows (in_group-on g)
 
 pub records-walked : (rank from to : ℕ) (rows : List Row) → between_on rank 0 to (filter (is_from rank from) rows) ≡ between_on rank from to rows
 records-walked rank from to rows = walked (λ q. q.seq == rank) rank from to rows (on-rank rank)
@@ -113,8 +113,8 @@ coming-walked g from to begin end rows left is (inl at) =
     λ i. record { members = members i; records = length (records i) }
 coming-walked g from to begin end rows left is (inr empty) =
     let members : members_between g 0 end left ≡ members_between g from to rows =
-    rw empty.1 (none_between (is_in_group g.stranded g.rank g.minus) 0 0 left (omega arith)
-    ∙ sym (none_between (is_in_group g.stranded g.rank g.minus) from to rows empty.0)) in
+    rw empty.1 (none_between (is_in_group (is_apart g.side) g.rank (is_minus g.side)) 0 0 left (omega arith)
+    ∙ sym (none_between (is_in_group (is_apart g.side) g.rank (is_minus g.side)) from to rows empty.0)) in
     let records : between_on g.rank 0 end left ≡ between_on g.rank from to rows =
     rw empty.1 (none_between (λ q. q.seq == g.rank) 0 0 left (omega arith) ∙ sym (none_between (λ q. q.seq == g.rank) from to rows empty.0)) in
     λ i. record { members = members i; records = length (records i) }
@@ -157,7 +157,7 @@ past-none p rank to r rows on h past = filter-none _ (r ∷ rows) (λ q m. false
     ]))
 
 pub past-members : (g : Group) (to : ℕ) (r : Row) (rows : List Row) → IsAhead g.rank (r ∷ rows) → (r.seq ≡ g.rank → ⊥) ⊎ (to ≤ r.start) → members_between g 0 to (r ∷ rows) ≡ []
-past-members g to r rows h past = past-none (is_in_group g.stranded g.rank g.minus) g.rank to r rows (in_group-on g) h past
+past-members g to r rows h past = past-none (is_in_group (is_apart g.side) g.rank (is_minus g.side)) g.rank to r rows (in_group-on g) h past
 
 pub past-records : (rank to : ℕ) (r : Row) (rows : List Row) → IsAhead rank (r ∷ rows) → (r.seq ≡ rank → ⊥) ⊎ (to ≤ r.start) → between_on rank 0 to (r ∷ rows) ≡ []
 past-records rank to r rows h past = past-none (λ q. q.seq == rank) rank to r rows (on-rank rank) h past
@@ -176,14 +176,14 @@ here-records rank to r rows at below =
     (and_from _ _ (eq-eqb _ _ at) (between-from 0 to r (omega arith) below))) ∙ omega arith
 
 -- and a member if it is in the group
-pub here-member : (g : Group) (to : ℕ) (r : Row) (rows : List Row) → r.start < to → is_in_group g.stranded g.rank g.minus r ≡ true
+pub here-member : (g : Group) (to : ℕ) (r : Row) (rows : List Row) → r.start < to → is_in_group (is_apart g.side) g.rank (is_minus g.side) r ≡ true
     → members_between g 0 to (r ∷ rows) ≡ r ∷ members_between g 0 to rows
 here-member g to r rows below in_group =
-    cond-true (is_in_group g.stranded g.rank g.minus r && starts_between 0 to r) (r ∷ members_between g 0 to rows) (members_between g 0 to rows)
+    cond-true (is_in_group (is_apart g.side) g.rank (is_minus g.side) r && starts_between 0 to r) (r ∷ members_between g 0 to rows) (members_between g 0 to rows)
     (and_from _ _ in_group (between-from 0 to r (omega arith) below))
 
-pub other-member : (g : Group) (to : ℕ) (r : Row) (rows : List Row) → is_in_group g.stranded g.rank g.minus r ≡ false
+pub other-member : (g : Group) (to : ℕ) (r : Row) (rows : List Row) → is_in_group (is_apart g.side) g.rank (is_minus g.side) r ≡ false
     → members_between g 0 to (r ∷ rows) ≡ members_between g 0 to rows
 other-member g to r rows other =
-    cond-false (is_in_group g.stranded g.rank g.minus r && starts_between 0 to r) (r ∷ members_between g 0 to rows) (members_between g 0 to rows)
+    cond-false (is_in_group (is_apart g.side) g.rank (is_minus g.side) r && starts_between 0 to r) (r ∷ members_between g 0 to rows) (members_between g 0 to rows)
     (and_left _ _ other)

@@ -4,8 +4,8 @@ use Rattle.std.proofs.lemmas.Bool.{cond-true, cond-false}
 use Rattle.std.proofs.lemmas.List.Elements.{filter-append}
 use Rattle.std.specs.Prelude.{slice_get}
 use Rattle.iv_text.specs.Row.{Row}
-use Rattle.iv_blocks.specs.Sides.{is_on}
-use Rattle.iv_blocks.specs.declared.side_records.Side.TheVariants.{Both}
+use Rattle.iv_blocks.specs.Groups.{is_on}
+use Rattle.iv_blocks.specs.declared.group.Side.TheVariants.{Both}
 use Rattle.iv_cover.specs.declared.block.Block.{Block}
 use Rattle.iv_cover.specs.TrackBlocks.{Group, with_members}
 use Rattle.iv_cover.specs.Coming.{is_joined, coming}

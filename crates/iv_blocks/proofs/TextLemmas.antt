@@ -13,13 +13,12 @@ use Rattle.iv_text.specs.Covering.{on}
 use Rattle.iv_text.proofs.InOrderLemmas.{in_order-filter}
 use Rattle.iv_cover.proofs.Merging.{gathered-more, gathered-none_from, merge-all, on-none, blocks-none}
 use Rattle.iv_text.proofs.ListLemmas.{all-mem, mem-all, filter-filter, filter-all}
-use Rattle.iv_blocks.specs.Groups.{group, is_in_group, is_on_side, listed, sides}
+use Rattle.iv_blocks.specs.Groups.{group, is_in_group, is_on_side, listed, sides, is_on}
 use Rattle.iv_blocks.specs.MergeRows.{side_rows}
 use Rattle.iv_blocks.specs.declared.options.Options.{Options}
 use Rattle.iv_blocks.proofs.KeptLemmas.{flat_map-agree, group-in}
-use Rattle.iv_blocks.specs.Sides.{is_on}
 use Rattle.iv_blocks.specs.MergeSweeps.{group_row, group_rows, sequence_rows}
-use Rattle.iv_blocks.specs.declared.side_records.Side.TheVariants.{Plus, Minus}
+use Rattle.iv_blocks.specs.declared.group.Side.TheVariants.{Plus, Minus}
 
 -- the first of the ranks that are left
 ranks-next : (f : ℕ → List ℕ) (rank count : ℕ) → rank < count → flat_map f (range_with_len rank (count - rank)) ≡ f rank ++ flat_map f (range_with_len (rank + 1) (count - (rank + 1)))

@@ -5,6 +5,8 @@ use Rattle.iv_text.specs.declared.record_ref.Strand.{Strand}
 use Rattle.iv_cover.specs.declared.column.Column.TheVariants.{Sequence}
 use Rattle.iv_cover.specs.declared.column.ColumnSummary.{ColumnSummary}
 use Rattle.iv_blocks.specs.declared.group.Group.{Group}
+use Rattle.iv_blocks.specs.declared.group.Side.{Side}
+use Rattle.iv_blocks.specs.declared.group.Side.TheVariants as side
 use Rattle.iv_cover.specs.declared.op.Op.TheVariants.{Count}
 use Rattle.iv_blocks.specs.declared.options.Options.{Options}
 use Rattle.iv_blocks.specs.declared.options.Summaries.{Summaries}
@@ -21,6 +23,22 @@ is_strand minus (Some Dot) = false
 -- the other
 abbrev pub is_on_side : Bool → Bool → Row → Bool
 is_on_side stranded minus r = if stranded then is_strand minus r.strand else not minus
+
+-- whether it is the side of one strand
+abbrev pub is_apart : Side → Bool
+is_apart side.Both = false
+is_apart side.Plus = true
+is_apart side.Minus = true
+
+-- whether it is the side of `-`
+abbrev pub is_minus : Side → Bool
+is_minus side.Both = false
+is_minus side.Plus = false
+is_minus side.Minus = true
+
+-- the record is on this side: any is if strands are together; else it is one on `+`, or one on `-`
+abbrev pub is_on : Side → Row → Bool
+is_on s r = is_on_side (is_apart s) (is_minus s) r
 
 -- the record is on the sequence of this rank, and on this side
 abbrev pub is_in_group : Bool → ℕ → Bool → Row → Bool
@@ -44,7 +62,7 @@ between_on rank from to rows = filter (λ r. (r.seq == rank) && starts_between f
 
 -- those of them in the group
 abbrev pub members_between : Group → ℕ → ℕ → List Row → List Row
-members_between g from to rows = filter (λ r. is_in_group g.stranded g.rank g.minus r && starts_between from to r) rows
+members_between g from to rows = filter (λ r. is_in_group (is_apart g.side) g.rank (is_minus g.side) r && starts_between from to r) rows
 
 -- the sides whose blocks are printed, in order: with strands apart, `+` and then `-`
 abbrev pub sides : Bool → List Bool

@@ -12,5 +12,4 @@ pub mod ClusterRows
 pub mod ComplementRows
 pub mod PlainOptions
 pub mod BlockSweeps
-pub mod Sides
 pub mod MergeSweeps

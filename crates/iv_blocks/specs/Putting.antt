@@ -5,17 +5,17 @@ use Rattle.std.specs.BTreeMap.{insert_entry}
 use Rattle.iv_text.specs.Genome.{Sequences, sequence_name}
 use Rattle.iv_text.specs.Row.{Row}
 use Rattle.iv_track.specs.Entries.{IsLedger, value_at}
-use Rattle.iv_blocks.specs.Groups.{members_between, listed}
+use Rattle.iv_blocks.specs.Groups.{is_minus, members_between, listed}
 use Rattle.iv_blocks.specs.KeptBlocks.{Key, key_cmp, KeptBlocks, kept_block, kept_at}
 use Rattle.iv_blocks.specs.declared.group.Group.{Group}
 
 -- the key of a group's block that starts at x
 abbrev pub key_of : Group → ℕ → Key
-key_of g x = (g.rank, g.minus, x)
+key_of g x = (g.rank, is_minus g.side, x)
 
 -- the key is of another group
 abbrev pub IsOfOther : Group → Key → Type 0
-IsOfOther g k = (k.0 ≢ g.rank) ⊎ (k.1 ≢ g.minus)
+IsOfOther g k = (k.0 ≢ g.rank) ⊎ (k.1 ≢ is_minus g.side)
 
 -- what is kept, with a group's block from start to stop put over what was there
 abbrev pub with_block : KeptBlocks → Sequences → List Row → Group → ℕ → ℕ → KeptBlocks

@@ -1,16 +1,35 @@
-//! A walk over blocks that reads one ahead.
-ghost use Rattle.std.specs.Prelude.{◌≡◌, [], None, map};
+//! Blocks in order, read one ahead.
+ghost use Rattle.std.specs.Prelude.{◌≡◌, ℕ, List, [], None, map};
 ghost use Rattle.std.specs.Map.Iter.{TakesFirst};
 ghost use Rattle.iv_track.specs.Steps.{TakesUpTo};
-ghost use Rattle.iv_blocks.specs.BlockCursor.{interval_of, starts_until};
+ghost use Rattle.iv_cover.specs.declared.block.Block.{Block};
+ghost use Rattle.iv_blocks.specs.BlockCursor.{interval_of, starts_until, GivesPassing, TakesForEach};
 
-use crate::blocks::{Blocks, Key};
-use crate::gaps::BlocksAhead;
+use crate::blocks::Blocks;
+use crate::group::{FIRST_KEY, Key};
 use crate::kept_block::KeptBlock;
 use iv_cover::Block;
 use iv_track::{Meter, Walk};
 use std::alloc::Allocator;
 use std::marker::Model;
+
+/// Blocks in order, of which the next is taken if it starts early enough.
+pub(crate) trait BlocksAhead {
+    /// Counts the steps of calls.
+    type Meter;
+
+    /// The blocks that are left.
+    ghost left: { Self → List Block };
+    /// How many steps are counted.
+    ghost steps: { Self.Meter → ℕ };
+
+    /// The next block, if it starts at this position of the sequence of this rank, or before it.
+    ///
+    /// At most one step for a block, and none if there is no such block.
+    fn next_until(&mut self, rank: u32, position: u64, counter: &mut Self::Meter) -> Option<Block>
+        ensures next { GivesPassing (starts_until rank position) (left self.old) result (left self.new) }
+        ensures steps { TakesForEach (steps counter.old) (steps counter.new) (left self.old) (left self.new) };
+}
 
 /// The blocks that remain, in order.
 ///
@@ -40,7 +59,7 @@ impl<'a, A: Allocator + Copy> BlockCursor<'a, A> {
         ensures all { result ≡ map interval_of blocks.now.entries }
         ensures steps { TakesUpTo meter.old meter.new 2 }
     {
-        let mut walk = blocks.ledger.walk(&(0, false, 0), meter);
+        let mut walk = blocks.ledger.walk(&FIRST_KEY, meter);
         let next = read(&mut walk, meter);
         BlockCursor { walk, next }
     }

@@ -2,19 +2,15 @@
 ghost use Rattle.std.specs.Prelude.{◌≡◌};
 ghost use Rattle.iv_blocks.specs.KeptBlocks.{AreBlocksOf, block_steps};
 
-use crate::entries::entries_of;
-use crate::group::Group;
+use crate::entries::{PlainBlocks, entries_of};
+use crate::group::{Group, Key};
 use crate::kept_block::KeptBlock;
 use crate::options::Options;
-use crate::plain::PlainBlocks;
 use iv_cover::{BlockWalk, Kept};
 use iv_text::{Genome, RecordRef};
 use iv_track::{Ledger, Meter, Track};
 use std::alloc::{AllocError, Allocator, Global};
 use std::marker::Model;
-
-/// Where a block is kept: the rank of its sequence, whether its records are those on `-` if strands are apart, and its start.
-pub(crate) type Key = (u32, bool, u32);
 
 /// The blocks of a track's records: where each stops and its results, by the rank of its sequence, its side, and its start.
 ///

@@ -11,9 +11,8 @@ ghost use Rattle.iv_blocks.specs.Groups.{joined};
 ghost use Rattle.iv_blocks.specs.KeptBlocks.{AreBlocksOf};
 ghost use Rattle.iv_blocks.specs.MergeRows.{all_blocks};
 
-use crate::block_cursor::BlockCursor;
+use crate::block_cursor::{BlockCursor, BlocksAhead};
 use crate::blocks::Blocks;
-use crate::gaps::BlocksAhead;
 use iv_bytes::{Sink, WriteFault};
 use iv_text::{Genome, put_numbered};
 use iv_track::{Meter, Track};
@@ -23,11 +22,7 @@ impl<A: Allocator + Copy> Blocks<A> {
     /// Prints a `cluster`: a row for each record, of its columns and the number of its block, counted from 1 over the whole track.
     ///
     /// One walk over the track, and one over the blocks beside it: at most one step for each record and each block, and four
-    /// more. It takes no memory.
-    ///
-    /// # Errors
-    ///
-    /// The sink failed. It has taken a prefix of the rows.
+    /// more. It takes no memory. On a fault the sink has taken a prefix of the rows.
     pub fn print_cluster<S: Sink>(
         &self,
         track: &Track<A>,

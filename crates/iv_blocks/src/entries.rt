@@ -1,27 +1,25 @@
-//! The blocks of a track with their results, made in one walk over its records.
-ghost use Rattle.std.specs.Prelude.{◌≡◌, ◌++◌, ◌∷◌, [], None, map, IfOk, OnOk};
+//! The blocks of a track as the entries of a ledger, made in one walk over its records: with their results, or if none are kept.
+ghost use Rattle.std.specs.Prelude.{◌≡◌, ◌++◌, ◌∷◌, [], None, false, map, IfOk, OnOk};
+ghost use Rattle.std.specs.Iterator.{item_count};
 ghost use Rattle.iv_text.specs.Ordered.{AreInOrder};
 ghost use Rattle.iv_cover.specs.Coming.{coming};
 ghost use Rattle.iv_cover.specs.TrackBlocks.{with_members};
 ghost use Rattle.iv_blocks.specs.Groups.{listed};
-ghost use Rattle.iv_blocks.specs.Plain.{kept_entry};
+ghost use Rattle.iv_blocks.specs.Plain.{kept_entry, GivesKept};
 
-use crate::blocks::Key;
+use crate::group::Key;
 use crate::kept_block::KeptBlock;
 use crate::options::Options;
-use iv_cover::{Block, results_in};
+use iv_cover::{Block, BlockWalk, results_in};
 use iv_text::{Batches, Genome, Record};
 use iv_track::{Meter, Track};
 use std::alloc::{AllocError, Allocator};
+use std::marker::Model;
 
 /// How many entries one vector holds while they are made: 64 KiB.
 const MOST_IN_BATCH: usize = 2_048;
 
 /// The blocks of all records, strands together, each as it is kept, by key.
-///
-/// # Errors
-///
-/// An allocation failed.
 pub(crate) fn entries_of<A: Allocator + Copy>(
     alloc: A,
     options: &Options,
@@ -76,10 +74,6 @@ pub(crate) fn entries_of<A: Allocator + Copy>(
 
 /// Makes the results of a block over its members, and puts it at the end of the entries. The results are written in the memory of a
 /// text that is no longer needed, and copied from there. It is given back.
-///
-/// # Errors
-///
-/// An allocation failed.
 fn put_entry<A: Allocator + Copy>(
     alloc: A,
     options: &Options,
@@ -94,6 +88,52 @@ fn put_entry<A: Allocator + Copy>(
     let name = genome.name_of(block.sequence);
     let results = results_in(alloc, options.summaries.as_slice(), name, members, memory)?;
     let kept = KeptBlock::copy_of(alloc, block.stop, results.as_slice())?;
-    entries.push(MOST_IN_BATCH, ((block.sequence, false, block.start), kept))?;
+    entries.push(MOST_IN_BATCH, (key_of(block), kept))?;
     Ok(results)
+}
+
+/// Where a block is kept if strands are together.
+fn key_of(block: Block) -> Key
+    ensures { result ≡ (block.sequence, false, block.start) }
+{
+    (block.sequence, false, block.start)
+}
+
+/// An iterator over the blocks of a walk, each as it is kept.
+///
+/// Its model is the list of the blocks that are left, each with its records.
+#[derive(Drop)]
+pub(crate) struct PlainBlocks<'a, 'm, A: Allocator + Copy> {
+    sweep: BlockWalk<'a, A>,
+    meter: &'m mut Meter,
+}
+
+impl<'a, 'm, A: Allocator + Copy> PlainBlocks<'a, 'm, A> {
+    pub(crate) fn of(sweep: BlockWalk<'a, A>, meter: &'m mut Meter) -> Self
+        ensures { result ≡ sweep.entry }
+    {
+        PlainBlocks { sweep, meter }
+    }
+}
+
+impl<'a, 'm, A: Allocator + Copy> Model for PlainBlocks<'a, 'm, A> {
+    ghost use Rattle.std.specs.Prelude.{List};
+    ghost use Rattle.iv_cover.specs.TrackBlocks.{Group};
+
+    ghost Value = { List Group };
+
+    ghost view = { λ b. b.sweep };
+}
+
+impl<'a, 'm, A: Allocator + Copy> Iterator for PlainBlocks<'a, 'm, A> {
+    type Item = (Key, KeptBlock<A>);
+
+    ghost next_gives = { GivesKept };
+
+    ghost remaining = { item_count (λ bs. bs) };
+
+    fn next(&mut self) -> Option<(Key, KeptBlock<A>)> {
+        let block = self.sweep.next(self.meter)?;
+        Some((key_of(block), KeptBlock::plain(block.stop)))
+    }
 }

@@ -1,19 +1,84 @@
-//! Groups of records.
-ghost use Rattle.std.specs.Prelude.{◌≡◌, if◌then◌else◌, not, Bool, true, false, MatchOption};
-ghost use Rattle.iv_blocks.specs.Groups.{is_in_group, is_on_side, is_strand};
+//! Groups of records that may be in one block with one another, and the walk over the members of one.
+ghost use Rattle.std.specs.Prelude.{◌≡◌, if◌then◌else◌, not, Bool, true, false, length, MatchOption};
+ghost use Rattle.std.specs.Iterator.{YieldsFirstRef};
+ghost use Rattle.iv_text.specs.Ordered.{AreInOrder};
+ghost use Rattle.iv_track.specs.Steps.{TakesUpTo};
+ghost use Rattle.iv_blocks.specs.Groups.{between_on, is_apart, is_in_group, is_minus as is_minus_side, is_on, is_on_side, is_strand, members_between};
+ghost use Rattle.iv_blocks.specs.MembersLeft.{TakesForEach, end_step};
+ghost use Rattle.iv_blocks.specs.Putting.{key_of};
 
-use iv_text::{Record, RecordRef, Strand};
+use iv_index::TextRecord;
+use iv_text::{BedRecord, Record, RecordRef, Strand};
+use iv_track::{Meter, Rows, Track};
 use std::alloc::Allocator;
+use std::marker::Model;
+
+/// Where a block is kept: the rank of its sequence, whether its records are those on `-` if strands are apart, and its start.
+pub(crate) type Key = (u32, bool, u32);
+
+/// The first of all keys.
+pub(crate) const FIRST_KEY: Key = (0, false, 0);
+
+/// Which records of a sequence may be in one block with one another: all, or those of one strand.
+#[derive(Clone, Copy, PartialEq, Eq)]
+pub(crate) enum Side {
+    Both,
+    Plus,
+    Minus,
+}
+
+impl Side {
+    /// The side that records of this strand are on; with strands apart, `None` if they are on neither.
+    fn of(stranded: bool, strand: Option<Strand>) -> Option<Side>
+        ensures { MatchOption result
+            ((minus : Bool) → (if stranded then is_strand minus strand else not minus) ≡ false)
+            (λ side. (is_apart side ≡ stranded) × ((if stranded then is_strand (is_minus_side side) strand else not (is_minus_side side)) ≡ true)) }
+    {
+        if !stranded {
+            return Some(Side::Both);
+        }
+        match strand {
+            Some(Strand::Plus) => Some(Side::Plus),
+            Some(Strand::Minus) => Some(Side::Minus),
+            _ => None,
+        }
+    }
+
+    /// Whether it is the strand `-`.
+    pub(crate) fn is_minus(self) -> bool
+        ensures { result ≡ is_minus_side self }
+    {
+        matches!(self, Side::Minus)
+    }
+
+    /// Whether the record is on this side. If both are one, its line isn't looked at.
+    pub(crate) fn has(self, row: &TextRecord<'_>) -> bool
+        ensures { result ≡ is_on self row.now }
+    {
+        match self {
+            Side::Both => true,
+            Side::Plus | Side::Minus => self.has_strand(row.strand()),
+        }
+    }
+
+    /// Whether records of this strand are on this side.
+    fn has_strand(self, strand: Option<Strand>) -> bool
+        ensures { result ≡ (if is_apart self then is_strand (is_minus_side self) strand else not (is_minus_side self)) }
+    {
+        match self {
+            Side::Both => true,
+            Side::Plus => matches!(strand, Some(Strand::Plus)),
+            Side::Minus => matches!(strand, Some(Strand::Minus)),
+        }
+    }
+}
 
 /// Records that may be in one block with one another: those of a sequence, or of one strand of it.
 #[derive(Clone, Copy, Drop)]
 pub(crate) struct Group {
     /// The rank of the sequence.
     pub(crate) rank: u32,
-    /// Whether the two strands are apart.
-    pub(crate) stranded: bool,
-    /// If so, whether these are the records on `-`.
-    pub(crate) minus: bool,
+    pub(crate) side: Side,
 }
 
 impl Group {
@@ -21,46 +86,89 @@ impl Group {
     pub(crate) fn of(stranded: bool, row: &RecordRef<'_>) -> Option<Group>
         ensures { MatchOption result
             ((minus : Bool) → is_on_side stranded minus row.now ≡ false)
-            (λ g. (g.stranded ≡ stranded) × (is_in_group stranded g.rank g.minus row.now ≡ true)) }
+            (λ g. (is_apart g.side ≡ stranded) × (is_in_group stranded g.rank (is_minus_side g.side) row.now ≡ true)) }
     {
-        let minus = stranded && is_minus(row.strand())?;
+        let side = Side::of(stranded, row.strand())?;
         Some(Group {
             rank: row.seq(),
-            stranded,
-            minus,
+            side,
         })
     }
 
     /// Whether the record is in the group.
     pub(crate) fn has<A: Allocator>(self, row: &Record<A>) -> bool
-        ensures { result ≡ is_in_group self.stranded self.rank self.minus row.now }
+        ensures { result ≡ is_in_group (is_apart self.side) self.rank (is_minus_side self.side) row.now }
     {
-        row.seq() == self.rank && self.has_strand(row.strand())
+        row.seq() == self.rank && self.side.has_strand(row.strand())
     }
 
-    /// Whether records of this strand are in the group, if they are on its sequence.
-    fn has_strand(self, strand: Option<Strand>) -> bool
-        ensures { result ≡ (if self.stranded then is_strand self.minus strand else not self.minus) }
+    /// Where its block with this start is kept.
+    pub(crate) fn key(self, start: u32) -> Key
+        ensures { result ≡ key_of self start }
     {
-        if self.stranded {
-            match strand {
-                Some(Strand::Plus) => !self.minus,
-                Some(Strand::Minus) => self.minus,
-                _ => false,
-            }
-        } else {
-            !self.minus
-        }
+        (self.rank, self.side.is_minus(), start)
     }
 }
 
-/// Whether the strand is `-`, `None` if it isn't `+` either.
-fn is_minus(strand: Option<Strand>) -> Option<bool>
-    ensures { MatchOption result ((minus : Bool) → is_strand minus strand ≡ false) (λ minus. is_strand minus strand ≡ true) }
-{
-    match strand {
-        Some(Strand::Plus) => Some(false),
-        Some(Strand::Minus) => Some(true),
-        _ => None,
+/// The records of a group that start within a range, in the order of the track: an iterator whose `next` counts its steps.
+///
+/// Its model is the list of those that are left, with how many records it goes past for them.
+#[derive(Drop)]
+pub(crate) struct Members<'a, A: Allocator + Copy> {
+    rows: Rows<'a, A>,
+    group: Group,
+    to: u32,
+}
+
+impl<'a, A: Allocator + Copy> Model for Members<'a, A> {
+    ghost use Rattle.std.specs.Prelude.{length};
+    ghost use Rattle.iv_blocks.specs.MembersLeft.{MembersLeft, IsAhead};
+    ghost use Rattle.iv_blocks.specs.Groups.{between_on, members_between};
+
+    ghost Value = { MembersLeft };
+
+    ghost view = { λ m. record { members = members_between m.group 0 m.to m.rows; records = length (between_on m.group.rank 0 m.to m.rows) } };
+
+    ghost invariant = { λ m. IsAhead m.group.rank m.rows };
+}
+
+impl<'a, A: Allocator + Copy> Members<'a, A> {
+    /// The records of the group that start at `from` or after, and below `to`. At most 1 step.
+    pub(crate) fn of(
+        track: &'a Track<A>,
+        group: Group,
+        from: u32,
+        to: u32,
+        meter: &mut Meter,
+    ) -> Members<'a, A>
+        ensures members { result ≡ record { members = members_between group from to track.now.rows; records = length (between_on group.rank from to track.now.rows) } }
+        ensures ordered { AreInOrder track.now.rows }
+        ensures steps { TakesUpTo meter.old meter.new 1 }
+    {
+        // If the range is empty, there may be no place to begin a walk at its start.
+        let (from, to) = if from < to { (from, to) } else { (0, 0) };
+        Members {
+            rows: track.walk(group.rank, u64::from(from), meter),
+            group,
+            to,
+        }
+    }
+
+    /// The next record, `None` after the last.
+    ///
+    /// A call takes at most one step for each record of the sequence that it goes past, and one more to find the end.
+    pub(crate) fn next(&mut self, meter: &mut Meter) -> Option<&'a Record<A>>
+        ensures member { YieldsFirstRef (λ m. m.members) self.old result self.new }
+        ensures steps { TakesForEach meter.old meter.new self.old self.new (end_step result) }
+    {
+        while let Some(row) = self.rows.next(meter) {
+            if row.seq() != self.group.rank || row.start() >= u64::from(self.to) {
+                return None;
+            }
+            if self.group.has(row) {
+                return Some(row);
+            }
+        }
+        None
     }
 }

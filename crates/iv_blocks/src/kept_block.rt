@@ -140,10 +140,6 @@ impl<A: Allocator> KeptBlock<A> {
 // Long results take two allocations, so the allocator is used twice.
 impl<A: Allocator + Copy> KeptBlock<A> {
     /// A block with these results, copied.
-    ///
-    /// # Errors
-    ///
-    /// An allocation failed.
     pub(crate) fn copy_of(alloc: A, stop: u32, results: &[u8]) -> Result<Self, AllocError>
         ensures { IfOk result (λ b. b ≡ record { stop = stop; results = results.now }) }
     {

@@ -8,6 +8,7 @@ ghost use Rattle.iv_blocks.specs.KeptBlocks.{AreBlocksOf};
 ghost use Rattle.iv_blocks.specs.MergeRows.{all_blocks, merge_text};
 
 use crate::blocks::Blocks;
+use crate::group::FIRST_KEY;
 use crate::kept_block::KeptBlock;
 use iv_bytes::{Sink, WriteFault, put_pieces};
 use iv_text::{Genome, RowBuffer};
@@ -16,10 +17,7 @@ use std::alloc::Allocator;
 
 impl<A: Allocator + Copy> Blocks<A> {
     /// Prints a `merge`: a row for each block. One walk over the blocks: at most two steps more than there are, and no memory.
-    ///
-    /// # Errors
-    ///
-    /// The sink failed. It has taken a prefix of the rows.
+    /// On a fault the sink has taken a prefix of the rows.
     pub fn print_merge<S: Sink>(
         &self,
         track: &Track<A>,
@@ -32,7 +30,7 @@ impl<A: Allocator + Copy> Blocks<A> {
         ensures text { Puts (S.state sink.old) (S.state sink.new) result (merge_text self.now.options genome.now track.now.rows) }
         ensures steps { TakesUpTo meter.old meter.new (2 + length (all_blocks self.now.options genome.now track.now.rows)) }
     {
-        let mut walk = self.ledger.walk(&(0, false, 0), meter);
+        let mut walk = self.ledger.walk(&FIRST_KEY, meter);
         while let Some((key, block)) = walk.next(meter) {
             let (sequence, _, start) = *key;
             let name = genome.name_of(sequence);

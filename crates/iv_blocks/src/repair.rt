@@ -1,17 +1,53 @@
-//! The parts of a repair: blocks that are joined and taken out.
-ghost use Rattle.std.specs.Prelude.{◌≡◌, ◌+◌, ◌-◌, ◌*◌, ◌≤◌};
+//! The parts of a repair: blocks that are looked up, joined, taken out and put.
+ghost use Rattle.std.specs.Prelude.{◌≡◌, ◌≢◌, ◌+◌, ◌-◌, ◌*◌, ◌≤◌, ℕ, None, true, All, IfOk, MatchOption, OnOk, OnErr, length, map};
+ghost use Rattle.iv_text.specs.Genome.{sequence_name};
+ghost use Rattle.iv_text.specs.Named.{names_of};
+ghost use Rattle.iv_text.specs.Read.{Fits};
 ghost use Rattle.iv_track.specs.Entries.{IsLedger};
 ghost use Rattle.iv_track.specs.Steps.{TakesUpTo};
+ghost use Rattle.iv_cover.specs.Columns.{results_over};
+ghost use Rattle.iv_blocks.specs.Groups.{between, between_on, is_apart, is_minus, members_between, listed};
 ghost use Rattle.iv_blocks.specs.KeptBlocks.{key_cmp};
-ghost use Rattle.iv_blocks.specs.Lookups.{kept_in};
+ghost use Rattle.iv_blocks.specs.Lookups.{kept_in, IsLastBlock, IsFirstBlock};
+ghost use Rattle.iv_blocks.specs.Putting.{ArePut, ArePutOn, key_of, with_block};
 ghost use Rattle.iv_blocks.specs.Repairs.{without_block, KeepsOthers, JoinsBefore, JoinsAfter, count_from};
 
-use crate::blocks::Blocks;
-use crate::group::Group;
-use iv_track::Meter;
-use std::alloc::Allocator;
+use crate::blocks::{Blocks, place};
+use crate::group::{Group, Key, Members, Side};
+use crate::kept_block::KeptBlock;
+use iv_cover::results;
+use iv_text::{Genome, Record};
+use iv_track::{Meter, Track};
+use std::alloc::{AllocError, Allocator};
 
 impl<A: Allocator + Copy> Blocks<A> {
+    /// The last block of the group that starts at the position or before it: its start and its stop. One step.
+    pub(crate) fn before(
+        &self,
+        group: Group,
+        position: u32,
+        meter: &mut Meter,
+    ) -> Option<(u32, u32)>
+        ensures found { MatchOption result
+            ((x : ℕ) → x ≤ position → kept_in self.now.entries group x ≡ None)
+            (λ b. IsLastBlock (kept_in self.now.entries group) position b) }
+        ensures steps { TakesUpTo meter.old meter.new 1 }
+    {
+        let (key, block) = self.ledger.at_or_before(&group.key(position), meter)?;
+        of_group(group, *key, block)
+    }
+
+    /// The first block of the group that starts at the position or after it: its start and its stop. One step.
+    pub(crate) fn from(&self, group: Group, position: u32, meter: &mut Meter) -> Option<(u32, u32)>
+        ensures found { MatchOption result
+            ((x : ℕ) → position ≤ x → kept_in self.now.entries group x ≡ None)
+            (λ b. IsFirstBlock (kept_in self.now.entries group) position b) }
+        ensures steps { TakesUpTo meter.old meter.new 1 }
+    {
+        let (key, block) = self.ledger.at_or_after(&group.key(position), meter)?;
+        of_group(group, *key, block)
+    }
+
     /// Joins the interval from `start` to `stop` with the group's last block that starts at `start` or before it, if that
     /// reaches it. The block is taken out.
     ///
@@ -80,6 +116,153 @@ impl<A: Allocator + Copy> Blocks<A> {
         ensures ordered { IsLedger key_cmp self.new.entries }
         ensures steps { TakesUpTo meter.old meter.new 1 }
     {
-        self.ledger.take(&(group.rank, group.minus, start), meter);
+        self.ledger.take(&group.key(start), meter);
     }
+
+    /// Puts the blocks of the records on the sequence of this rank over what is there, those of each strand.
+    pub(crate) fn put_sequence(
+        &mut self,
+        track: &Track<A>,
+        genome: &Genome<A>,
+        rank: u32,
+        meter: &mut Meter,
+    ) -> Result<(), AllocError>
+        requires apart { self.old.options.stranded ≡ true }
+        requires fit { All (Fits genome.now track.now.width) track.now.rows }
+        ensures { OnOk result (ArePutOn rank (names_of genome.now) track.now.rows self.old self.new) }
+    {
+        let length = genome.short_length(rank).unwrap_or(0);
+        let plus = Group {
+            rank,
+            side: Side::Plus,
+        };
+        self.put_blocks(track, genome, plus, 0, length, meter)?;
+        let minus = Group {
+            rank,
+            side: Side::Minus,
+        };
+        self.put_blocks(track, genome, minus, 0, length, meter)
+    }
+
+    /// Puts the blocks of a group's records that start at `from` or after and below `to`, over what is there: they are the
+    /// blocks of these records alone.
+    ///
+    /// None of these records stops past `to`. At most 2 steps, and 5 for each record, of any strand, that starts there.
+    /// After a refusal some of the blocks may be put.
+    pub(crate) fn put_blocks(
+        &mut self,
+        track: &Track<A>,
+        genome: &Genome<A>,
+        group: Group,
+        from: u32,
+        to: u32,
+        meter: &mut Meter,
+    ) -> Result<(), AllocError>
+        requires apart { is_apart group.side ≡ self.old.options.stranded }
+        requires fit { All (Fits genome.now track.now.width) track.now.rows }
+        requires stops { All (λ r. r.stop ≤ to) (members_between group from to track.now.rows) }
+        ensures ok { OnOk result (ArePut group (names_of genome.now) (between from to track.now.rows) self.old self.new) }
+        ensures steps { TakesUpTo meter.old meter.new (2 + 5 * length (between_on group.rank from to track.now.rows)) }
+    {
+        // The keys of the ledger ascend, even if nothing is put.
+        let _ordered = self.ledger.len();
+        let distance = u64::from(self.options.distance);
+        let mut members = Members::of(track, group, from, to, meter);
+        let Some(first) = members.next(meter) else {
+            return Ok(());
+        };
+        let (mut start, mut stop) = place(&first.as_ref());
+        while let Some(row) = members.next(meter) {
+            let (next_start, next_stop) = place(&row.as_ref());
+            if u64::from(next_start) <= u64::from(stop) + distance {
+                stop = stop.max(next_stop);
+            } else {
+                self.put_block(track, genome, group, start, stop, meter)?;
+                (start, stop) = (next_start, next_stop);
+            }
+        }
+        self.put_block(track, genome, group, start, stop, meter)
+    }
+
+    /// Puts the block of a group's records that start at `start` or after and below `stop`, over what is there.
+    ///
+    /// At most 3 steps, and one for each record, of any strand, that starts there.
+    /// After a refusal the blocks are as before.
+    pub(crate) fn put_block(
+        &mut self,
+        track: &Track<A>,
+        genome: &Genome<A>,
+        group: Group,
+        start: u32,
+        stop: u32,
+        meter: &mut Meter,
+    ) -> Result<(), AllocError>
+        ensures ok { OnOk result (self.new ≡ with_block self.old genome.now track.now.rows group start stop) }
+        ensures err { OnErr result (self.new ≡ self.old) }
+        ensures was_ordered { OnOk result (IsLedger key_cmp self.old.entries) }
+        ensures ordered { OnOk result (IsLedger key_cmp self.new.entries) }
+        ensures steps { TakesUpTo meter.old meter.new (3 + length (between_on group.rank start stop track.now.rows)) }
+    {
+        let block = self.kept_block(track, genome, group, start, stop, meter)?;
+        self.ledger.put(group.key(start), block, meter)?;
+        Ok(())
+    }
+
+    /// What is kept of a block.
+    ///
+    /// At most 2 steps, and one for each record, of any strand, that starts in the block.
+    fn kept_block(
+        &self,
+        track: &Track<A>,
+        genome: &Genome<A>,
+        group: Group,
+        start: u32,
+        stop: u32,
+        meter: &mut Meter,
+    ) -> Result<KeptBlock<A>, AllocError>
+        ensures value { IfOk result (λ b. b ≡ record { stop = stop; results = results_over (sequence_name genome.now group.rank) (listed self.now.options.summaries) (members_between group start stop track.now.rows) }) }
+        ensures steps { TakesUpTo meter.old meter.new (2 + length (between_on group.rank start stop track.now.rows)) }
+    {
+        let summaries = self.options.summaries.as_slice();
+        if summaries.is_empty() {
+            return Ok(KeptBlock::plain(stop));
+        }
+        let members = Members::of(track, group, start, stop, meter);
+        let rows = gather(self.alloc, members, meter)?;
+        let name = genome.name_of(group.rank);
+        let results = results(self.alloc, summaries, name, rows.as_slice())?;
+        Ok(KeptBlock::copy_of(self.alloc, stop, results.as_slice())?)
+    }
+}
+
+/// Start and stop of the block that is kept at a key, if it is one of the group.
+fn of_group<A: Allocator>(group: Group, key: Key, block: &KeptBlock<A>) -> Option<(u32, u32)>
+    ensures { MatchOption result (key.0 ≡ group.rank → key.1 ≢ is_minus group.side)
+        (λ b. (key ≡ key_of group b.0) × (b.1 ≡ block.now.stop)) }
+{
+    let (rank, minus, start) = key;
+    if rank == group.rank && minus == group.side.is_minus() {
+        Some((start, block.stop()))
+    } else {
+        None
+    }
+}
+
+/// The members that a walk has left, in order.
+///
+/// At most one step, and one for each record that the walk goes past.
+fn gather<'a, A: Allocator + Copy>(
+    alloc: A,
+    members: Members<'a, A>,
+    meter: &mut Meter,
+) -> Result<Vec<&'a Record<A>, A>, AllocError>
+    ensures rows { IfOk result (λ v. map (λ row. row.now) v.items ≡ members.entry.members) }
+    ensures steps { TakesUpTo meter.old meter.new (1 + members.entry.records) }
+{
+    let mut members = members;
+    let mut rows = Vec::new(alloc);
+    while let Some(row) = members.next(meter) {
+        rows.push(row)?;
+    }
+    Ok(rows)
 }

@@ -1,26 +1,30 @@
 //! The rows of a merge and a complement in one sweep over sorted places, and those of a cluster over sorted records of a text.
-ghost use Rattle.std.specs.Prelude.{All};
+ghost use Rattle.std.specs.Prelude.{◌≡◌, ◌∷◌, map, None, Some, List, All};
+ghost use Rattle.std.specs.Iterator.{YieldsFirst, item_count};
 ghost use Rattle.std.specs.List.{flat_map};
 ghost use Rattle.iv_bytes.specs.Sinks.{Puts};
+ghost use Rattle.iv_text.specs.Genome.{Sequences};
 ghost use Rattle.iv_text.specs.Ordered.{AreInOrder};
 ghost use Rattle.iv_text.specs.Read.{IsOnGenome};
-ghost use Rattle.iv_index.specs.Spans.{span_rows};
-ghost use Rattle.iv_blocks.specs.BlockSweeps.{interval_row, numbered_row};
+ghost use Rattle.iv_index.specs.Spans.{row_of_span, span_rows};
+ghost use Rattle.iv_cover.specs.Coming.{coming};
+ghost use Rattle.iv_cover.specs.TrackBlocks.{GivesFirst, blocks_of};
+ghost use Rattle.iv_blocks.specs.BlockSweeps.{interval_of, interval_row, next_start, numbered_row};
 ghost use Rattle.iv_blocks.specs.ClusterRows.{cluster_text};
 ghost use Rattle.iv_blocks.specs.ComplementRows.{complement_text};
 ghost use Rattle.iv_blocks.specs.MergeRows.{merge_text};
 ghost use Rattle.iv_blocks.specs.PlainOptions.{IsPlain};
 ghost use Rattle.iv_blocks.specs.declared.options.Options.{Options};
 
-use crate::gaps::put_gaps;
-use crate::side_blocks::SideBlocks;
-use crate::side_records::SideRecords;
-use crate::span_blocks::SpanBlocks;
+use crate::block_cursor::BlocksAhead;
+use crate::complement::put_gaps;
+use crate::side_blocks::{SideBlocks, SideRecords};
 use iv_bytes::{Sink, WriteFault};
 use iv_cover::Block;
 use iv_index::{Span, TextRecords};
 use iv_text::{BedRecord, Genome, put_interval, put_numbered};
 use std::alloc::Allocator;
+use std::marker::Model;
 
 /// Puts a row for each block of records at most `distance` bases apart: its sequence's name, start and stop.
 ///
@@ -109,4 +113,110 @@ pub fn put_complement<A: Allocator + Copy, S: Sink>(
 {
     let mut blocks = SpanBlocks::of(spans, 0);
     put_gaps(limited, genome, &mut blocks, &mut (), sink)
+}
+
+/// The blocks that remain of a sweep over places: an iterator.
+///
+/// Places of one sequence that overlap, are book-ended or are at most `distance` bases apart are in one block. Blocks come by
+/// the sequence's rank, and then by start. The model is the list of those that are left. No call takes memory.
+#[derive(Drop)]
+pub(crate) struct SpanBlocks<'s> {
+    rest: &'s [Span],
+    distance: u32,
+}
+
+impl<'s> Model for SpanBlocks<'s> {
+    ghost use Rattle.std.specs.Prelude.{List, None, map};
+    ghost use Rattle.iv_cover.specs.Coming.{coming};
+    ghost use Rattle.iv_cover.specs.declared.block.Block.{Block};
+    ghost use Rattle.iv_index.specs.Spans.{span_rows};
+    ghost use Rattle.iv_blocks.specs.BlockSweeps.{interval_of};
+
+    ghost Value = { List Block };
+
+    ghost view = { λ b. map interval_of (coming b.distance None (span_rows b.rest.now)) };
+}
+
+impl<'s> SpanBlocks<'s> {
+    /// The blocks of places that are in the order of a track.
+    ///
+    /// They are the blocks of the definition for every genome that the places are on.
+    pub(crate) fn of(spans: &'s [Span], distance: u32) -> Self
+        requires { AreInOrder (span_rows spans.now) }
+        ensures { (g : Sequences) → All (IsOnGenome g) (span_rows spans.now) → result ≡ map interval_of (blocks_of distance g (span_rows spans.now)) }
+    {
+        SpanBlocks {
+            rest: spans,
+            distance,
+        }
+    }
+
+    /// Where the next block starts: the rank of its sequence, and the position. `None` if no block is left.
+    fn next_start(&self) -> Option<(u32, u32)>
+        ensures { result ≡ next_start self.now }
+    {
+        let (first, _) = self.rest.split_first()?;
+        Some((first.seq, first.start))
+    }
+}
+
+impl<'s> Iterator for SpanBlocks<'s> {
+    type Item = Block;
+
+    ghost next_gives = { YieldsFirst (λ blocks. blocks) };
+
+    ghost remaining = { item_count (λ blocks. blocks) };
+
+    /// The next block, `None` after the last. It looks at its places, and at the one after them.
+    fn next(&mut self) -> Option<Block> {
+        let (first, others) = self.rest.split_first()?;
+        let (block, rest) = block_from(*first, others, self.distance);
+        self.rest = rest;
+        Some(block)
+    }
+}
+
+impl<'s> BlocksAhead for SpanBlocks<'s> {
+    /// A sweep counts no steps.
+    type Meter = ();
+
+    ghost left = { λ blocks. blocks };
+
+    ghost steps = { λ _. 0 };
+
+    fn next_until(&mut self, rank: u32, position: u64, _counter: &mut ()) -> Option<Block> {
+        let (sequence, start) = self.next_start()?;
+        if sequence > rank || (sequence == rank && u64::from(start) > position) {
+            return None;
+        }
+        self.next()
+    }
+}
+
+/// A block of one record alone.
+fn block_of(span: Span) -> Block
+    ensures { result ≡ record { sequence = span.seq; start = span.start; stop = span.stop } }
+{
+    Block {
+        sequence: span.seq,
+        start: span.start,
+        stop: span.stop,
+    }
+}
+
+/// The block that a place begins, with those of the others that join it, and the places after it.
+fn block_from(first: Span, others: &[Span], distance: u32) -> (Block, &[Span])
+    ensures { GivesFirst (coming distance None (row_of_span first ∷ span_rows others.now)) (Some result.0) (coming distance None (span_rows result.1.now)) }
+{
+    let mut block = block_of(first);
+    let mut rest = others;
+    while let Some((span, later)) = rest.split_first() {
+        let next = block_of(*span);
+        if !block.is_joined_by(next, distance) {
+            return (block, rest);
+        }
+        block = block.with(next);
+        rest = later;
+    }
+    (block, rest)
 }

@@ -3,8 +3,8 @@ use Rattle.std.specs.Prelude.{ℕ, ℤ, ◌+ℤ◌, unsigned_abs, fold, List, Op
 use Rattle.std.specs.Int.{int_min, int_max}
 use Rattle.std.specs.Option.{option_and_then}
 use Rattle.iv_cover.specs.Summaries.{numbers_of, taken_together}
-use Rattle.iv_cover.specs.declared.number_fold.NumberFold.{NumberFold}
-use Rattle.iv_cover.specs.declared.number_fold.NumberFold.TheVariants.{Sum, Least, Greatest}
+use Rattle.iv_cover.specs.declared.number.NumberFold.{NumberFold}
+use Rattle.iv_cover.specs.declared.number.NumberFold.TheVariants.{Sum, Least, Greatest}
 
 -- two numbers taken together
 abbrev pub both_of : NumberFold → ℤ → ℤ → ℤ

@@ -3,23 +3,17 @@
 #![tactic(auto)]
 
 mod block;
-mod block_walk;
 mod column;
-mod digits;
-mod distinct;
-mod growing_text;
 mod kept;
 mod laws;
 mod number;
-mod number_fold;
 mod op;
-mod putting;
 mod result_texts;
+mod summaries;
 mod value;
 mod values;
 
-pub use block::Block;
-pub use block_walk::BlockWalk;
+pub use block::{Block, BlockWalk};
 pub use column::{Column, ColumnSummary, asks_distinct};
 pub use kept::Kept;
 pub use laws::{
@@ -28,7 +22,7 @@ pub use laws::{
 };
 pub use number::Spelled;
 pub use op::Op;
-pub use putting::put_results;
 pub use result_texts::{results, results_in, summary};
+pub use summaries::put_results;
 pub use value::Value;
 pub use values::Values;

@@ -1,10 +1,10 @@
 //! The value of a record's column.
-ghost use Rattle.std.specs.Prelude.{◌≡◌};
+ghost use Rattle.std.specs.Prelude.{◌≡◌, decimal};
 ghost use Rattle.iv_cover.specs.Columns.{column_value};
 ghost use Rattle.iv_cover.specs.Values.{kind_text};
 
 use crate::column::Column;
-use crate::digits::Digits;
+use itoa::write_digits;
 use iv_text::{RecordRef, strand_bytes};
 use std::marker::Model;
 
@@ -63,5 +63,44 @@ impl<'a> Value<'a> {
             Kind::Text(text) => text,
             Kind::Position(digits) => digits.as_slice(),
         }
+    }
+}
+
+/// The most digits of a number of 64 bits.
+const MOST_DIGITS: usize = 20;
+
+/// A number in decimal. It is stored inline, and takes no memory.
+#[derive(Debug, Drop)]
+struct Digits {
+    // They stand at the end, from `start` on.
+    digits: [u8; MOST_DIGITS],
+    start: usize,
+}
+
+impl Model for Digits {
+    ghost use Rattle.std.specs.Prelude.{List, ℕ, ◌≤◌, drop};
+
+    ghost Value = { List ℕ };
+
+    ghost view = { λ d. drop d.start d.digits };
+
+    ghost invariant = { λ d. d.start ≤ 20 };
+}
+
+impl Digits {
+    /// This number in decimal.
+    fn of(number: u64) -> Digits
+        ensures { result ≡ decimal number }
+    {
+        let mut digits = [0; MOST_DIGITS];
+        let start = write_digits(number, &mut digits, MOST_DIGITS);
+        Digits { digits, start }
+    }
+
+    /// The digits.
+    fn as_slice(&self) -> &[u8]
+        ensures { result.now ≡ self.now }
+    {
+        &self.digits[self.start..]
     }
 }

@@ -6,10 +6,9 @@ ghost use Rattle.iv_track.specs.Steps.{TakesUpTo};
 ghost use Rattle.iv_depth.specs.Changes.{AreChangesOf};
 ghost use Rattle.iv_depth.specs.DepthRows.{depth_text, all_covered_runs};
 
-use crate::changing::{Changes, add_record, take_record};
-use crate::depth_rows::DepthRows;
+use crate::changes::{Changes, add_record, take_record};
+use crate::depth_rows::{DepthRows, put_genome};
 use crate::net_changes::{NetChanges, edges_of};
-use crate::printing::put_genome;
 use iv_bytes::{Sink, WriteFault};
 use iv_cover::Kept;
 use iv_text::{Genome, RecordRef};
@@ -87,11 +86,7 @@ impl<A: Allocator + Copy> Kept<A> for Depth<A> {
 
 impl<A: Allocator + Copy> Depth<A> {
     /// Prints the rows in one walk over the changes: at most 2 steps, and 2 more for each row of a depth above 0. It takes no
-    /// memory.
-    ///
-    /// # Errors
-    ///
-    /// The sink failed. It has taken a prefix of the rows.
+    /// memory. On a fault the sink has taken a prefix of the rows.
     pub fn print<S: Sink>(
         &self,
         shown: DepthRows,

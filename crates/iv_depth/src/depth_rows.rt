@@ -1,4 +1,18 @@
-//! Which rows of depth are shown.
+//! The rows of depth, and how they are put.
+ghost use Rattle.std.specs.Prelude.{ℕ, ◌++◌, ◌+◌, ◌-◌, ◌<◌, length, codes, decimal, OnOk};
+ghost use Rattle.std.specs.List.{flat_map, range_with_len};
+ghost use Rattle.iv_bytes.specs.Sinks.{Puts};
+ghost use Rattle.iv_cover.specs.Runs.{Run, runs};
+ghost use Rattle.iv_depth.specs.DepthRows.{run_row, position_row, rows_between, sequence_text, text_by};
+ghost use Rattle.iv_depth.specs.Walks.{AreAhead, depth_by};
+ghost use Rattle.iv_track.specs.Steps.{TakesForEach, TakesUpTo};
+
+use crate::change_cursor::{ChangeCursor, DepthChanges};
+use crate::changes::Changes;
+use iv_bytes::{Sink, WriteFault};
+use iv_text::{Genome, RowBuffer};
+use iv_track::Meter;
+use std::alloc::Allocator;
 
 /// Which rows say how many records cover each position, as the options of `bedtools genomecov` do.
 #[derive(Clone, Copy, Debug, PartialEq, Eq)]
@@ -9,4 +23,126 @@ pub enum DepthRows {
     All,
     /// `-d`: a row for each position, counted from 1.
     EachPosition,
+}
+
+/// Puts the rows of the positions from `start` to `stop`, 0-based and half-open, which are all of this depth.
+///
+/// There are none if `stop` is not after `start`.
+fn put_stretch<S: Sink>(
+    shown: DepthRows,
+    name: &[u8],
+    start: u64,
+    stop: u64,
+    depth: u64,
+    sink: &mut S,
+) -> Result<(), WriteFault>
+    ensures { Puts (S.state sink.old) (S.state sink.new) result (rows_between shown name.now (λ _. depth) start stop) }
+{
+    if start >= stop {
+        return Ok(());
+    }
+    match shown {
+        DepthRows::Covered => {
+            if depth == 0 {
+                Ok(())
+            } else {
+                put_run(name, start, stop, depth, sink)
+            }
+        }
+        DepthRows::All => put_run(name, start, stop, depth, sink),
+        DepthRows::EachPosition => put_positions(name, start, stop, depth, sink),
+    }
+}
+
+/// Puts the row of a run: name, start, stop and depth.
+fn put_run<S: Sink>(
+    name: &[u8],
+    start: u64,
+    stop: u64,
+    depth: u64,
+    sink: &mut S,
+) -> Result<(), WriteFault>
+    ensures { Puts (S.state sink.old) (S.state sink.new) result (run_row name.now (record { start = start; stop = stop; value = depth })) }
+{
+    let mut tail = RowBuffer::new();
+    tail.prepend_byte(b'\n');
+    tail.prepend_number(depth);
+    tail.prepend_byte(b'\t');
+    tail.put_after_numbers(name, start, stop, sink)
+}
+
+/// Puts a row for each of the positions, which are all of this depth.
+fn put_positions<S: Sink>(
+    name: &[u8],
+    start: u64,
+    stop: u64,
+    depth: u64,
+    sink: &mut S,
+) -> Result<(), WriteFault>
+    ensures { Puts (S.state sink.old) (S.state sink.new) result (flat_map (λ p. position_row name.now p depth) (range_with_len start (stop - start))) }
+{
+    for position in start..stop {
+        put_position(name, position + 1, depth, sink)?;
+    }
+    Ok(())
+}
+
+/// Puts the row of a position: name, position counted from 1, and depth.
+fn put_position<S: Sink>(
+    name: &[u8],
+    number: u64,
+    depth: u64,
+    sink: &mut S,
+) -> Result<(), WriteFault>
+    ensures { Puts (S.state sink.old) (S.state sink.new) result (name.now ++ codes "\t" ++ decimal number ++ codes "\t" ++ decimal depth ++ codes "\n") }
+{
+    let mut tail = RowBuffer::new();
+    tail.prepend_byte(b'\n');
+    tail.put_after_numbers(name, number, depth, sink)
+}
+
+/// Puts the rows of the sequence of this rank. At most one step for each change on it, and no memory.
+pub(crate) fn put_sequence<A: Allocator + Copy, C: DepthChanges, S: Sink>(
+    shown: DepthRows,
+    genome: &Genome<A>,
+    rank: u32,
+    changes: &mut C,
+    meter: &mut C::Meter,
+    sink: &mut S,
+) -> Result<(), WriteFault>
+    requires { (f : ℕ → ℕ → ℕ) × C.are_of changes.old genome.now f rank 0 0 }
+    ensures text { (f : ℕ → ℕ → ℕ) → C.are_of changes.old genome.now f rank 0 0 → Puts (S.state sink.old) (S.state sink.new) result (sequence_text shown genome.now f rank) }
+    ensures past { (f : ℕ → ℕ → ℕ) → C.are_of changes.old genome.now f rank 0 0 → OnOk result (C.are_past changes.new genome.now f (rank + 1)) }
+    ensures steps { TakesForEach (C.reading meter.old) (C.reading meter.new) (C.left changes.old) (C.left changes.new) }
+{
+    let name = genome.name_of(rank);
+    let length = genome.length_of(rank);
+    let mut start: u64 = 0;
+    let mut depth: i64 = 0;
+    while let Some((position, change)) = changes.next_on(rank, meter) {
+        let stop = u64::from(position);
+        put_stretch(shown, name, start, stop, depth.unsigned_abs(), sink)?;
+        start = stop;
+        depth += change;
+    }
+    put_stretch(shown, name, start, length, depth.unsigned_abs(), sink)
+}
+
+/// Puts the rows of all sequences, by rank. At most two steps more than there are changes, and no memory.
+pub(crate) fn put_genome<A: Allocator + Copy, S: Sink>(
+    shown: DepthRows,
+    changes: &Changes<A>,
+    genome: &Genome<A>,
+    meter: &mut Meter,
+    sink: &mut S,
+) -> Result<(), WriteFault>
+    requires { AreAhead genome.now (depth_by changes.now) 0 0 0 changes.now }
+    ensures text { Puts (S.state sink.old) (S.state sink.new) result (text_by shown genome.now (depth_by changes.now)) }
+    ensures steps { TakesUpTo meter.old meter.new (2 + length changes.now) }
+{
+    let mut coming = ChangeCursor::of(changes, meter);
+    for rank in 0..genome.count() {
+        put_sequence(shown, genome, rank, &mut coming, meter, sink)?;
+    }
+    Ok(())
 }

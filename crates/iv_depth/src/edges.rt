@@ -2,7 +2,7 @@
 ghost use Rattle.std.specs.Prelude.{◌≡◌, ◌+◌, ℕ, [], MatchOption, length, map};
 ghost use Rattle.iv_depth.specs.Edges.{BeginsElse, IsEdge, PassesEdge, Rise, starts_of};
 
-use crate::depth_changes::DepthChanges;
+use crate::change_cursor::DepthChanges;
 use iv_index::Span;
 
 /// Records of one sequence by their starts and, beside these, by their stops: those that remain.

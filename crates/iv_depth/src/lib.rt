@@ -2,16 +2,13 @@
 #![tactic(auto)]
 
 mod change_cursor;
-mod changing;
+mod changes;
 mod depth;
-mod depth_changes;
 mod depth_rows;
 mod depth_sweep;
 mod edges;
 mod laws;
 mod net_changes;
-mod printing;
-mod sweep_rows;
 
 pub use depth::Depth;
 pub use depth_rows::DepthRows;

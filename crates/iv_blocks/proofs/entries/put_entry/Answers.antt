@@ -1,8 +1,8 @@
-use Rattle.std.proofs.Common.{◌≡◌, ◌∙◌, ℕ, ◌++◌, ◌∷◌, [], List, false, map, ap}
+use Rattle.std.proofs.Common.{◌≡◌, ◌∙◌, ℕ, ◌++◌, ◌∷◌, [], List, map, ap, ap₂}
 use Rattle.iv_text.specs.Genome.{sequence_name}
 use Rattle.iv_cover.specs.Columns.{results_over}
 use Rattle.iv_blocks.specs.Groups.{listed}
-use Rattle.iv_blocks.specs.KeptBlocks.{Kept}
+use Rattle.iv_blocks.specs.KeptBlocks.{Key, Kept}
 use Rattle.iv_blocks.proofs.entries.put_entry.Goals as goal
 
 pub returns : goal.returns
@@ -13,4 +13,4 @@ returns g c =
     = c.as_slice-2.ensures.value ∙ (rw (c.name_of-name.ensures, c.as_slice.ensures) at c.in_ok-results.ensures) in
     let kept : c.in_ok-kept.kept ≡ record { stop = b.stop; results = results_over (sequence_name a.genome.now b.sequence) (listed a.options.now.summaries) (map (λ row. row.now) a.members.now) }
     = c.in_ok-kept.ensures ∙ ap (λ (t : List ℕ). record { stop = b.stop; results = t }) texts in
-    c.in_ok-push.ensures.ok ∙ ap (λ (k : Kept). a.entries.now ++ ((b.sequence, false, b.start), k) ∷ []) kept
+    c.in_ok-push.ensures.ok ∙ ap₂ (λ (q : Key) (k : Kept). a.entries.now ++ (q, k) ∷ []) c.key_of.ensures kept

@@ -3,7 +3,7 @@ use Rattle.iv_text.specs.Row.{Row}
 use Rattle.iv_cover.specs.declared.block.Block.{Block}
 use Rattle.iv_cover.specs.Coming.{coming}
 use Rattle.iv_cover.specs.TrackBlocks.{with_members}
-use Rattle.iv_blocks.specs.Sides.{is_on}
+use Rattle.iv_blocks.specs.Groups.{is_on}
 use Rattle.iv_blocks.proofs.SideLemmas.{passed, over, joins}
 use Rattle.iv_blocks.proofs.side_blocks.block_from.Goals as goal
 use Rattle.iv_blocks.proofs.side_blocks.block_from.Goals.{then-has+else-not-is_joined_by, else-has}

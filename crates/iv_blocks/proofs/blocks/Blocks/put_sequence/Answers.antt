@@ -1,26 +1,25 @@
-use Rattle.std.proofs.Common.{◌≡◌, ap, ◌∙◌, true, false}
+use Rattle.std.proofs.Common.{◌≡◌, ap, ◌∙◌}
 use Rattle.std.specs.Option.{unwrap_or}
 use Rattle.std.proofs.lemmas.Result.{on_ok_weaker}
 use Rattle.iv_text.specs.Genome.{sequence_length}
-use Rattle.iv_blocks.specs.KeptBlocks.{KeptBlocks}
+use Rattle.iv_blocks.specs.declared.group.Side.TheVariants.{Plus, Minus}
 use Rattle.iv_blocks.proofs.Builds.{all-stops, put-both}
 use Rattle.iv_blocks.proofs.blocks.Blocks.put_sequence.Goals as goal
 
 pub put_blocks-requires-clause-stops : goal.put_blocks-requires-clause-stops
 put_blocks-requires-clause-stops g c =
     let long : c.unwrap_or-length.result ≡ sequence_length c.args.genome.now c.args.rank = c.unwrap_or-length.ensures ∙ ap (λ o. unwrap_or o 0) c.short_length.ensures.value in
-    all-stops c.args.genome.now c.args.track.now.width c.args.track.now.rows c.requires.fit (record { rank = c.args.rank; stranded = c.self.inside.options.stranded; minus = false }) c.unwrap_or-length.result long
+    all-stops c.args.genome.now c.args.track.now.width c.args.track.now.rows c.requires.fit (record { rank = c.args.rank; side = Plus }) c.unwrap_or-length.result long
 
 pub put_blocks-requires-2-clause-stops : goal.put_blocks-requires-2-clause-stops
 put_blocks-requires-2-clause-stops g c =
     let long : c.unwrap_or-length.result ≡ sequence_length c.args.genome.now c.args.rank = c.unwrap_or-length.ensures ∙ ap (λ o. unwrap_or o 0) c.short_length.ensures.value in
-    all-stops c.args.genome.now c.args.track.now.width c.args.track.now.rows c.requires.fit (record { rank = c.args.rank; stranded = c.self.inside.options.stranded; minus = true }) c.unwrap_or-length.result long
+    all-stops c.args.genome.now c.args.track.now.width c.args.track.now.rows c.requires.fit (record { rank = c.args.rank; side = Minus }) c.unwrap_or-length.result long
 
 pub returns : goal.returns
 returns g c =
     let a = c.args in
     let long : c.unwrap_or-length.result ≡ sequence_length c.args.genome.now c.args.rank = c.unwrap_or-length.ensures ∙ ap (λ o. unwrap_or o 0) c.short_length.ensures.value in
-    let stranded : c.self.inside.options.stranded ≡ a.self.now.options.stranded = ap (λ (b : KeptBlocks). b.options.stranded) c.self.view_is in
     on_ok_weaker c.put_blocks-2.result (λ second.
     put-both a.genome.now a.track.now.width a.track.now.rows c.requires.fit a.rank c.unwrap_or-length.result long a.self.now c.put_blocks.new.self c.put_blocks-2.new.self
-    (rw stranded at c.in_ok-put_blocks.ensures.ok) (rw stranded at second)) c.put_blocks-2.ensures.ok
+    c.in_ok-put_blocks.ensures.ok second) c.put_blocks-2.ensures.ok

@@ -84,6 +84,9 @@ returns-then-not-options-clause-right g c =
 pub loop-rank-init : goal.loop-rank-init
 loop-rank-init g c = built-none c.args.genome.now c.args.track.now.rows (record { options = c.args.options; entries = c.new.result }) c.new.ensures
 
+pub put_sequence-requires-clause-apart : goal.put_sequence-requires-clause-apart
+put_sequence-requires-clause-apart g c = ap (λ (o : Options). o.stranded) c.loop-rank.invariant.for_options ∙ c.if-not-options.false
+
 pub loop-rank-preserved : goal.loop-rank-preserved
 loop-rank-preserved g c =
     let a = c.args in

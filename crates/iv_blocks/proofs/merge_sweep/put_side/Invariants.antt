@@ -1,0 +1,16 @@
+use Rattle.std.proofs.Common.{◌≤◌, filter, length, vec_capacity}
+use Rattle.std.specs.List.{flat_map}
+use Rattle.iv_bytes.proofs.Putting.{Underway}
+use Rattle.iv_blocks.specs.Groups.{listed, is_on}
+use Rattle.iv_blocks.specs.MergeSweeps.{group_row, group_rows}
+use Rattle.iv_blocks.proofs.ClusterTexts.{members_of}
+use Rattle.iv_blocks.proofs.merge_sweep.put_side.Given as goal
+
+-- the rows of the blocks that are left remain to be put, and these have no more members than there are records
+abbrev pub invariant-loop-found : goal.invariant-loop-found
+invariant-loop-found g l = record {
+  put : Underway (g.S.Sink.state l.fn.sink) (g.S.Sink.state l.sink)
+      (flat_map (group_row l.name (listed l.options.summaries)) l.found-iterator) (group_rows l.options l.name (filter (is_on l.fn.side) l.records));
+  few : length (members_of l.found-iterator) ≤ length l.records;
+  grown : vec_capacity l.fn.values ≤ vec_capacity l.values;
+}

@@ -1,0 +1,48 @@
+use Rattle.std.proofs.Common.{◌≡◌, ◌++◌, ◌∷◌, [], List, length, map, refl, sym, ap, ◌∙◌, arith, append_assoc, append-nil}
+use Rattle.std.proofs.lemmas.List.{map-append}
+use Rattle.iv_text.specs.Row.{Row}
+use Rattle.iv_blocks.proofs.repair.gather.Goals as goal
+
+-- one more is read
+read-more : {B : Type 0} (now : B → Row) (read : List B) (b : B) (left rest all : List Row) → map now read ++ left ≡ all → left ≡ now b ∷ rest
+    → map now (read ++ b ∷ []) ++ rest ≡ all
+read-more now read b left rest all h is =
+    ap (λ (l : List Row). l ++ rest) (map-append now read (b ∷ []))
+    ∙ append_assoc (map now read) (now b ∷ []) rest
+    ∙ ap (λ (l : List Row). map now read ++ l) (sym is)
+    ∙ h
+
+-- nothing is left
+read-all : (read left all : List Row) → read ++ left ≡ all → left ≡ [] → read ≡ all
+read-all read left all h none = sym (append-nil read) ∙ ap (λ (l : List Row). read ++ l) (sym none) ∙ h
+
+pub loop-row-init : goal.loop-row-init
+loop-row-init g c = record { all = rw c.new-rows.ensures.items refl; no_less = omega arith; paid = omega arith }
+
+pub loop-row-smaller : goal.loop-row-smaller
+loop-row-smaller g c = omega (arith, ap length c.in-Some.ensures.member)
+
+pub loop-row-preserved : goal.loop-row-preserved
+loop-row-preserved g c =
+    let i = c.loop-row.invariant in
+    let steps = c.in-Some.ensures.steps in
+    record {
+      all = rw c.in_ok-push.ensures.items (read-more _ c.loop-row.rows.items c.in-Some.row c.loop-row.members.members c.next.new.self.members c.args.members.members i.all c.in-Some.ensures.member);
+      no_less = omega (arith, i.no_less, steps.no_less);
+      paid = omega (arith, i.paid, steps.at_most);
+    }
+
+pub returns-in_err-push-clause-steps : goal.returns-in_err-push-clause-steps
+returns-in_err-push-clause-steps g c =
+    let i = c.loop-row.invariant in
+    let steps = c.in-Some.ensures.steps in
+    record { no_less = omega (arith, i.no_less, steps.no_less); at_most = omega (arith, i.paid, steps.at_most) }
+
+pub returns-clause-rows : goal.returns-clause-rows
+returns-clause-rows g c = read-all _ _ _ c.loop-row.invariant.all c.in_default.ensures.member.0
+
+pub returns-clause-steps : goal.returns-clause-steps
+returns-clause-steps g c =
+    let i = c.loop-row.invariant in
+    let steps = c.in_default.ensures.steps in
+    record { no_less = omega (arith, i.no_less, steps.no_less); at_most = omega (arith, i.paid, steps.at_most) }

@@ -1,0 +1,8 @@
+use Rattle.std.proofs.Common.{map, ap}
+use Rattle.iv_cover.proofs.Merging.{merge-all}
+use Rattle.iv_index.specs.Spans.{span_rows}
+use Rattle.iv_blocks.specs.BlockSweeps.{interval_of}
+use Rattle.iv_blocks.proofs.sweeps.SpanBlocks.of.Goals as goal
+
+pub returns : goal.returns
+returns c = λ g lie. ap (map interval_of) (merge-all c.args.distance g (span_rows c.args.spans.now) c.requires lie)

@@ -1,0 +1,60 @@
+use Rattle.std.proofs.Common.{◌≡◌, ◌+◌, ◌==◌, ◌&&◌, nat_le, max, ◌∙◌, ◌++◌, List, [], ◌∷◌, Some, None, sym, ap, refl, length, arith}
+use Rattle.iv_text.specs.Row.{Row}
+use Rattle.iv_cover.specs.declared.block.Block.{Block}
+use Rattle.iv_cover.specs.Coming.{coming}
+use Rattle.iv_cover.specs.TrackBlocks.{with_members}
+use Rattle.iv_cover.proofs.Comings.{coming-begun, coming-joined, coming-split_up}
+use Rattle.iv_index.specs.Spans.{row_of_span, span_rows}
+use Rattle.iv_index.specs.declared.span.Span.{Span}
+use Rattle.iv_blocks.proofs.sweeps.block_from.Goals as goal
+
+pub loop-span-init : goal.loop-span-init
+loop-span-init c =
+    let first : Row = row_of_span c.args.first in (
+      first ∷ [],
+      coming-begun c.args.distance first (span_rows c.args.others.now) c.block_of-block.result c.block_of-block.ensures,
+    )
+
+pub returns-then-not-is_joined_by : goal.returns-then-not-is_joined_by
+returns-then-not-is_joined_by c =
+    let i = c.loop-span.invariant in
+    let d = c.args.distance in
+    let b = with_members c.loop-span.block i.0 in
+    let r : Row = row_of_span c.in-Some.span.now in
+    let rest : List Row = span_rows c.in-Some.later.now in (
+      i.0,
+      i.1 ∙ ap (λ (l : List Span). coming d (Some b) (span_rows l)) c.in-Some.ensures.cases.0
+          ∙ coming-split_up d b r rest
+          (sym (c.is_joined_by.ensures ∙ ap (λ (n : Block). (n.sequence == b.sequence) && nat_le n.start (b.stop + d)) c.block_of-next.ensures) ∙ c.if-not-is_joined_by.true)
+          ∙ ap (λ (l : List Span). b ∷ coming d None (span_rows l)) (sym c.in-Some.ensures.cases.0),
+    )
+
+pub loop-span-preserved : goal.loop-span-preserved
+loop-span-preserved c =
+    let i = c.loop-span.invariant in
+    let d = c.args.distance in
+    let b = with_members c.loop-span.block i.0 in
+    let r : Row = row_of_span c.in-Some.span.now in
+    let rest : List Row = span_rows c.in-Some.later.now in (
+      i.0 ++ r ∷ [],
+      i.1 ∙ ap (λ (l : List Span). coming d (Some b) (span_rows l)) c.in-Some.ensures.cases.0
+          ∙ coming-joined d b r rest
+          (sym (c.is_joined_by.ensures ∙ ap (λ (n : Block). (n.sequence == b.sequence) && nat_le n.start (b.stop + d)) c.block_of-next.ensures) ∙ c.if-not-is_joined_by.false)
+          ∙ ap (λ (next : Block). coming d (Some (with_members next (i.0 ++ r ∷ []))) rest)
+          (sym (c.with-block.ensures ∙ ap (λ (n : Block). record { sequence = b.sequence; start = b.start; stop = max b.stop n.stop }) c.block_of-next.ensures)),
+    )
+
+none-of : (spans : List Span) → length spans ≡ 0 → spans ≡ []
+none-of [] e = refl
+none-of (s ∷ spans) e = absurd (omega (arith, e))
+
+pub returns : goal.returns
+returns c =
+    let i = c.loop-span.invariant in
+    let d = c.args.distance in
+    let b = with_members c.loop-span.block i.0 in
+    let none : c.loop-span.rest.now ≡ [] = none-of c.loop-span.rest.now c.in_default.ensures.cases in (
+      i.0,
+      i.1 ∙ ap (λ (l : List Span). coming d (Some b) (span_rows l)) none
+          ∙ ap (λ (l : List Span). b ∷ coming d None (span_rows l)) (sym none),
+    )

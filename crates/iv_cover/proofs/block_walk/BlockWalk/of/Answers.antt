@@ -1,5 +1,0 @@
-use Rattle.iv_cover.proofs.Merging.{merge-all}
-use Rattle.iv_cover.proofs.block_walk.BlockWalk.of.Goals as goal
-
-pub returns : goal.returns
-returns g c = λ s lie. merge-all c.args.distance s c.args.rows c.requires lie

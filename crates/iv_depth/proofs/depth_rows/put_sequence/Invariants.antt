@@ -1,0 +1,18 @@
+use Rattle.std.proofs.Common.{◌≡◌, ℕ, pos}
+use Rattle.iv_bytes.proofs.Putting.{Underway}
+use Rattle.iv_track.specs.Steps.{TakesForEach}
+use Rattle.iv_depth.specs.DepthRows.{rows_between}
+use Rattle.iv_depth.proofs.depth_rows.put_sequence.Given as goal
+
+-- the rows from `start` on remain to be put, and the changes that are left say how the depth goes on
+abbrev pub invariant-loop-position : goal.invariant-loop-position
+invariant-loop-position g l = record {
+  put : (f : ℕ → ℕ → ℕ) → g.C.DepthChanges.are_of l.fn.changes l.genome f l.rank 0 0
+      → Underway (g.S.Sink.state l.fn.sink) (g.S.Sink.state l.sink) (rows_between l.shown l.name (f l.rank) l.start l.length) (rows_between l.shown l.name (f l.rank) 0 l.length);
+  at : (f : ℕ → ℕ → ℕ) → g.C.DepthChanges.are_of l.fn.changes l.genome f l.rank 0 0
+      → (d : ℕ) × (l.depth ≡ pos d) × g.C.DepthChanges.are_of l.changes l.genome f l.rank l.start d;
+  steps : TakesForEach (g.C.DepthChanges.reading l.fn.meter) (g.C.DepthChanges.reading l.meter) (g.C.DepthChanges.left l.fn.changes) (g.C.DepthChanges.left l.changes);
+}
+
+abbrev pub decreases-loop-position : goal.decreases-loop-position
+decreases-loop-position g l = g.C.DepthChanges.left l.changes

@@ -1,0 +1,10 @@
+use Rattle.std.proofs.Common.{◌≡◌, take, length}
+use Rattle.iv_depth.specs.Edges.{stops_of}
+use Rattle.iv_depth.proofs.depth_sweep.write_stops.Given as goal
+
+-- the stops before `index` are written
+abbrev pub invariant-loop-index : goal.invariant-loop-index
+invariant-loop-index l = record {
+  written : take l.index l.stops ≡ take l.index (stops_of l.spans);
+  len : length l.stops ≡ length l.spans;
+}

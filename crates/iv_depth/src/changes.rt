@@ -1,0 +1,88 @@
+//! Changes of depth, and their edits.
+ghost use Rattle.std.specs.Prelude.{◌≡◌, ◌≢◌, ℤ, pos, negsuc, ◌≤ℤ◌, ◌^◌, List, ◌∷◌, Some, OnOk};
+ghost use Rattle.iv_text.specs.Row.{Row};
+ghost use Rattle.iv_track.specs.Entries.{pair_cmp, value_at};
+ghost use Rattle.iv_track.specs.Steps.{TakesUpTo};
+ghost use Rattle.iv_depth.specs.Changes.{AreChanges, AreChangesOf, Bumps, Shifts};
+
+use iv_text::RecordRef;
+use iv_track::{Ledger, Meter};
+use std::alloc::{AllocError, Allocator};
+
+/// Net changes of depth, by the rank of a sequence and a position on it, from 0. None is 0.
+pub(crate) type Changes<A> = Ledger<(u32, u32), i64, A>;
+
+/// One more record: depth rises by 1 at its start and falls by 1 at its stop. At most 4 steps.
+///
+/// After a refusal one of the two may be made.
+pub(crate) fn add_record<A: Allocator + Copy>(
+    changes: &mut Changes<A>,
+    row: &RecordRef<'_>,
+    meter: &mut Meter,
+) -> Result<(), AllocError>
+    requires { AreChanges changes.old }
+    ensures ok { OnOk result ((rows : List Row) → AreChangesOf rows changes.old → AreChangesOf (row.now ∷ rows) changes.new) }
+    ensures steps { TakesUpTo meter.old meter.new 4 }
+{
+    shift(changes, row, 1, meter)
+}
+
+/// One record less. At most 4 steps.
+///
+/// After a refusal one of the two changes may be made.
+pub(crate) fn take_record<A: Allocator + Copy>(
+    changes: &mut Changes<A>,
+    row: &RecordRef<'_>,
+    meter: &mut Meter,
+) -> Result<(), AllocError>
+    requires { AreChanges changes.old }
+    ensures ok { OnOk result ((rows : List Row) → AreChangesOf (row.now ∷ rows) changes.old → AreChangesOf rows changes.new) }
+    ensures steps { TakesUpTo meter.old meter.new 4 }
+{
+    shift(changes, row, -1, meter)
+}
+
+/// Adds 1 or -1 to the depth of each position that the record covers. At most 4 steps.
+fn shift<A: Allocator + Copy>(
+    changes: &mut Changes<A>,
+    row: &RecordRef<'_>,
+    by: i64,
+    meter: &mut Meter,
+) -> Result<(), AllocError>
+    requires known { AreChanges changes.old }
+    requires by { (negsuc 0 ≤ℤ by) × (by ≤ℤ pos 1) × (by ≢ pos 0) }
+    ensures ok { OnOk result (Shifts row.now by changes.old changes.new) }
+    ensures steps { TakesUpTo meter.old meter.new 4 }
+{
+    row.law_of_place();
+    bump(changes, (row.seq(), row.start() as u32), by, meter)?;
+    bump(changes, (row.seq(), row.stop() as u32), -by, meter)
+}
+
+/// Adds 1 or -1 to the change at a place. An entry that becomes 0 is taken out. At most 2 steps.
+///
+/// Only a place without a change takes memory. After a refusal the changes are as before.
+fn bump<A: Allocator + Copy>(
+    changes: &mut Changes<A>,
+    place: (u32, u32),
+    by: i64,
+    meter: &mut Meter,
+) -> Result<(), AllocError>
+    requires by { (negsuc 0 ≤ℤ by) × (by ≤ℤ pos 1) × (by ≢ pos 0) }
+    requires small { (z : ℤ) → value_at pair_cmp changes.old place ≡ Some z → (negsuc (2 ^ 40) ≤ℤ z) × (z ≤ℤ pos (2 ^ 40)) }
+    ensures ok { OnOk result (Bumps changes.old changes.new place by) }
+    ensures steps { TakesUpTo meter.old meter.new 2 }
+{
+    // Most places are new, and then this one call is enough.
+    let Some(before) = changes.put(place, by, meter)? else {
+        return Ok(());
+    };
+    let change = before + by;
+    let cancels = change == 0;
+    if cancels {
+        changes.take(&place, meter);
+    } else {
+        let _ = changes.set(&place, change, meter);
+    }
+    Ok(())
+}
