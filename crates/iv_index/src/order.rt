@@ -9,7 +9,7 @@ ghost use Rattle.iv_index.specs.Drafts.{AreInOrder, place_of};
 ghost use Rattle.iv_index.specs.Places.{row_at};
 
 use crate::place::{OptionalColumns, Place, optional_columns_of};
-use crate::span_order::compare_spans;
+use crate::span::compare_spans;
 use std::alloc::{AllocError, Allocator};
 use std::cmp::Ordering;
 

@@ -61,7 +61,7 @@ impl<A: Allocator + Copy> FromRecord<A> for Span {
 }
 
 /// The records of two places in the order of a track.
-fn compare_spans(first: &Span, second: &Span) -> Ordering
+pub(crate) fn compare_spans(first: &Span, second: &Span) -> Ordering
     ensures { result ≡ row_cmp (row_of_span first.now) (row_of_span second.now) }
 {
     if first.seq != second.seq {
