@@ -1,5 +1,5 @@
 //! The words of a run: what they have said so far, and what all of them ask for.
-ghost use Rattle.std.specs.Prelude.{◌≡◌, ◌≤◌, ◌⊎◌, ◌∷◌, [], true, Some, None, IsSome, IfOk, IfErr, OnOk, List, ℕ, map, length, drop};
+ghost use Rattle.std.specs.Prelude.{◌≡◌, ◌≤◌, ◌⊎◌, ◌∷◌, [], true, Some, None, IsSome, IfOk, IfErr, OnOk, map, length, drop};
 ghost use Rattle.std.specs.Option.{option_copied, option_to_list};
 ghost use Rattle.iv_view.specs.Views.{read_words};
 ghost use Rattle.iv_args.specs.Words.{RunPlan, IsPlan, are_view_words, file_of, is_session, width_of, width_said};

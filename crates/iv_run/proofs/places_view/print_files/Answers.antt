@@ -1,4 +1,4 @@
-use Rattle.std.proofs.Common.{◌≡◌, List, sym, subst, ap, ◌∙◌}
+use Rattle.std.proofs.Common.{List, sym, subst, ap, ◌∙◌}
 use Rattle.std.specs.Prelude.{All}
 use Rattle.iv_text.specs.Ordered.{AreInOrder, ordered}
 use Rattle.iv_text.specs.Read.{IsOnGenome}
