@@ -23,7 +23,7 @@ use iv_fasta::{Fasta, FastaRows};
 use iv_index::{BedText, Span};
 use iv_pair::PairRows;
 use iv_text::{Fault, Genome, LoadFault};
-use iv_view::{KeptView, View, ViewFault, WrittenView};
+use iv_view::{Beside, KeptView, View, ViewFault, WrittenView};
 use std::alloc::{Allocator, Global};
 use std::marker::Model;
 
@@ -111,8 +111,11 @@ impl<'t, A: Allocator + Copy> TextFiles<'t, A> {
     pub(crate) fn view(&self, plan: &Plan<'_, A>) -> Result<View, ViewFault>
         ensures { result ≡ view_beside self.now plan.now.view }
     {
-        let (second, fasta) = (self.second.is_some(), self.fasta.is_some());
-        plan.view_beside(self.first.width(), second, fasta)
+        plan.view_beside(Beside {
+            width: self.first.width(),
+            second: self.second.is_some(),
+            fasta: self.fasta.is_some(),
+        })
     }
 
     /// Puts the text of a view that words ask for beside these files, and that needs the columns of records.

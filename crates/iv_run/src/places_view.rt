@@ -21,7 +21,7 @@ use iv_bytes::{Buffered, Sink};
 use iv_depth::{DepthRows, DepthSweep};
 use iv_index::Span;
 use iv_text::Genome;
-use iv_view::{KeptView, View};
+use iv_view::{EVERYTHING, KeptView, View};
 use std::alloc::Allocator;
 
 /// A view whose rows depend on nothing of a record but its place.
@@ -29,8 +29,8 @@ use std::alloc::Allocator;
 pub enum PlacesView {
     /// `merge` of both strands together, without summaries: records at most this many bases apart are in one block.
     Merge(u32),
-    /// `complement`; if this is true, only of sequences with a record.
-    Complement(bool),
+    /// `complement`; if `limited`, only of sequences with a record.
+    Complement { limited: bool },
     /// `genomecov`.
     Genomecov(DepthRows),
 }
@@ -41,7 +41,7 @@ impl PlacesView {
         ensures some { IfSome result (λ shown. AskForPlaces plan.now.view shown) }
         ensures none { result ≡ None → AskForColumns plan.now.view }
     {
-        match plan.view_beside(6, true, true) {
+        match plan.view_beside(EVERYTHING) {
             Ok(View::Kept(view)) => PlacesView::of_view(&view),
             Ok(View::Written(_)) | Err(_) => None,
         }
@@ -58,7 +58,7 @@ impl PlacesView {
                 options.is_plain().then_some(merge)
             }
             KeptView::Cluster(_) => None,
-            KeptView::Complement(limited) => Some(PlacesView::Complement(*limited)),
+            KeptView::Complement { limited } => Some(PlacesView::Complement { limited: *limited }),
             KeptView::Genomecov(shown) => Some(PlacesView::Genomecov(*shown)),
         }
     }
@@ -102,7 +102,7 @@ impl PlacesView {
     {
         match self {
             PlacesView::Merge(distance) => Ok(put_merge(distance, spans, genome, sink)?),
-            PlacesView::Complement(limited) => Ok(put_complement(limited, spans, genome, sink)?),
+            PlacesView::Complement { limited } => Ok(put_complement(limited, spans, genome, sink)?),
             PlacesView::Genomecov(shown) => {
                 Ok(DepthSweep::new(alloc, spans)?.print(shown, genome, sink)?)
             }

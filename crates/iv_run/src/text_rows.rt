@@ -44,7 +44,7 @@ pub(crate) fn put_kept<'t, A: Allocator + Copy, S: Sink>(
             MergeSweep::new(alloc, options, records)?.print(genome, sink)?;
         }
         KeptView::Cluster(distance) => put_cluster(distance, &records, genome, sink)?,
-        KeptView::Complement(_) | KeptView::Genomecov(_) => unreachable!(),
+        KeptView::Complement { .. } | KeptView::Genomecov(_) => unreachable!(),
     }
     Ok(())
 }
