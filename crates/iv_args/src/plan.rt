@@ -7,7 +7,7 @@ ghost use Rattle.iv_args.specs.Drafts.{Makes, begun_by, drafted, has_needed_file
 
 use crate::run::{Run, RunOption};
 use iv_text::Fault;
-use iv_view::{View, ViewFault};
+use iv_view::{Beside, View, ViewFault};
 use std::alloc::{AllocError, Allocator, Global};
 use std::marker::Model;
 
@@ -352,21 +352,15 @@ impl<'a, A: Allocator + Copy> Plan<'a, A> {
         self.view
     }
 
-    /// The view that is to be printed, of records of this width, beside a second file and a FASTA file or without. A session
-    /// has none.
+    /// The view that is to be printed, of these records beside these files. A session has none.
     ///
     /// # Errors
     ///
     /// `Column`, then `NoStrand`, then `NoSecond` or `NoFasta`, and `Words` in a session.
-    pub fn view_beside(
-        &self,
-        width: u8,
-        has_second: bool,
-        has_bases: bool,
-    ) -> Result<View, ViewFault>
-        ensures { result ≡ read_words width has_second has_bases self.now.view }
+    pub fn view_beside(&self, beside: Beside) -> Result<View, ViewFault>
+        ensures { result ≡ read_words beside.width beside.second beside.fasta self.now.view }
     {
         let view = self.view()?;
-        view.narrowed(width, has_second, has_bases)
+        view.narrowed(beside)
     }
 }

@@ -28,7 +28,7 @@ use iv_fasta::{Fasta, FastaRows, put_fasta};
 use iv_index::{BedText, Span, TextRecords};
 use iv_pair::{CountSweep, IntersectRows, PairRows, PairSweep, needs_cover_alone};
 use iv_text::{Fault, Genome, LoadFault};
-use iv_view::{KeptView, View, ViewFault, WrittenView};
+use iv_view::{Beside, KeptView, View, ViewFault, WrittenView};
 use std::alloc::{AllocError, Allocator, Global};
 use std::marker::Model;
 
@@ -116,8 +116,11 @@ impl<'t, A: Allocator + Copy> TextFiles<'t, A> {
     fn view(&self, plan: &Plan<'_, A>) -> Result<View, ViewFault>
         ensures { result ≡ view_beside self.now plan.now.view }
     {
-        let (second, fasta) = (self.second.is_some(), self.fasta.is_some());
-        plan.view_beside(self.first.width(), second, fasta)
+        plan.view_beside(Beside {
+            width: self.first.width(),
+            second: self.second.is_some(),
+            fasta: self.fasta.is_some(),
+        })
     }
 
     /// Puts the text of a view that words ask for beside these files, and that needs the columns of records.
@@ -221,7 +224,7 @@ fn sweep<'t, A: Allocator + Copy, S: Sink>(
             MergeSweep::new(alloc, options, records)?.print(genome, sink)?;
         }
         KeptView::Cluster(distance) => put_cluster(distance, &records, genome, sink)?,
-        KeptView::Complement(_) | KeptView::Genomecov(_) => unreachable!(),
+        KeptView::Complement { .. } | KeptView::Genomecov(_) => unreachable!(),
     }
     Ok(())
 }

@@ -29,8 +29,8 @@ use std::alloc::Allocator;
 pub enum PlacesView {
     /// `merge` of both strands together, without summaries: records at most this many bases apart are in one block.
     Merge(u32),
-    /// `complement`; if this is true, only of sequences with a record.
-    Complement(bool),
+    /// `complement`; if `limited`, only of sequences with a record.
+    Complement { limited: bool },
     /// `genomecov`.
     Genomecov(DepthRows),
 }
@@ -58,7 +58,7 @@ impl PlacesView {
                 options.is_plain().then_some(merge)
             }
             KeptView::Cluster(_) => None,
-            KeptView::Complement(limited) => Some(PlacesView::Complement(*limited)),
+            KeptView::Complement { limited } => Some(PlacesView::Complement { limited: *limited }),
             KeptView::Genomecov(shown) => Some(PlacesView::Genomecov(*shown)),
         }
     }
@@ -102,7 +102,7 @@ impl PlacesView {
     {
         match self {
             PlacesView::Merge(distance) => Ok(put_merge(distance, spans, genome, sink)?),
-            PlacesView::Complement(limited) => Ok(put_complement(limited, spans, genome, sink)?),
+            PlacesView::Complement { limited } => Ok(put_complement(limited, spans, genome, sink)?),
             PlacesView::Genomecov(shown) => {
                 Ok(DepthSweep::new(alloc, spans)?.print(shown, genome, sink)?)
             }

@@ -17,14 +17,13 @@ use Rattle.iv_depth.specs.declared.depth_rows.DepthRows.{DepthRows}
 use Rattle.iv_fasta.specs.declared.rows.FastaRows.{FastaRows}
 use Rattle.iv_pair.specs.declared.pair_rows.PairRows.{PairRows}
 use Rattle.iv_pair.specs.declared.pair_rows.PairRows.TheVariants as pair
-use Rattle.iv_view.specs.Complement.{is_limited}
+use Rattle.iv_view.specs.Flags.{only_flag}
 use Rattle.iv_view.specs.Genomecov.{genomecov_rows}
 use Rattle.iv_view.specs.Getfasta.{fasta_rows_said}
 use Rattle.iv_view.specs.Intersect.{intersect_rows_said}
 use Rattle.iv_view.specs.Lists.{all_some}
 use Rattle.iv_view.specs.Merge.{MergeArgs, said_by, nothing_said, distance_of, lists_of, pairs_of, column_within, summary_within, filled_or_fault, asked_summaries, options_within, options_with, merge_options, cluster_distance}
 use Rattle.iv_view.specs.Narrowing.{number_of, has_columns, narrowed_options, narrowed}
-use Rattle.iv_view.specs.Subtract.{is_whole}
 use Rattle.iv_view.specs.Views.{read_words, or_bad_words, as_merge, beside_second, beside_fasta}
 use Rattle.iv_view.specs.declared.view.View.{View}
 use Rattle.iv_view.specs.declared.view.View.TheVariants as view
@@ -232,10 +231,10 @@ module _ (width : ℕ) (has_second has_bases : Bool) where
   words-narrowed (word ∷ words) =
       either (bytes_eq word (codes "merge")) _ _ _ _ (narrowed-merge (said_by words nothing_said))
       (either (bytes_eq word (codes "cluster")) _ _ _ _ (narrowed-cluster (cluster_distance (said_by words nothing_said)))
-      (either (bytes_eq word (codes "complement")) _ _ _ _ (narrowed-complement (is_limited words))
+      (either (bytes_eq word (codes "complement")) _ _ _ _ (narrowed-complement (only_flag (codes "-L") words))
       (either (bytes_eq word (codes "genomecov")) _ _ _ _ (narrowed-genomecov (genomecov_rows words))
       (either (bytes_eq word (codes "intersect")) _ _ _ _ (narrowed-paired (option_map pair.Intersect (intersect_rows_said words)))
-      (either (bytes_eq word (codes "subtract")) _ _ _ _ (narrowed-paired (option_map pair.Subtract (is_whole words)))
+      (either (bytes_eq word (codes "subtract")) _ _ _ _ (narrowed-paired (option_map pair.Subtract (only_flag (codes "-A") words)))
       (either (bytes_eq word (codes "getfasta")) _ _ _ _ (narrowed-fasta (fasta_rows_said words)) refl))))))
 
   -- what a view that was read is narrowed to

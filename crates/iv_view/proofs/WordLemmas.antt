@@ -6,13 +6,12 @@ use Rattle.std.proofs.lemmas.List.{take_all, length-take-le}
 use Rattle.std.proofs.lemmas.Bool.{cases_lt}
 use Rattle.iv_text.specs.declared.fault.Fault.{Fault}
 use Rattle.iv_view.specs.Merge.{MergeArgs, said_by, with_flag, with_value, with_value_of, option_of, unless_given, nothing_said}
-use Rattle.iv_view.specs.Complement.{is_limited}
+use Rattle.iv_view.specs.Flags.{only_flag}
 use Rattle.iv_view.specs.Genomecov.{genomecov_rows}
 use Rattle.iv_view.specs.Getfasta as getfasta
 use Rattle.iv_view.specs.Intersect as intersect
-use Rattle.iv_view.specs.declared.options.ValuedOption.{ValuedOption}
-use Rattle.iv_view.specs.declared.options.ValuedOption.TheVariants as option
-use Rattle.iv_view.specs.Subtract.{is_whole}
+use Rattle.iv_view.specs.declared.merge.ValuedOption.{ValuedOption}
+use Rattle.iv_view.specs.declared.merge.ValuedOption.TheVariants as option
 use Rattle.iv_view.specs.Views.{read_words, or_bad_words, as_merge, beside_second, beside_fasta, needs_second}
 use Rattle.iv_blocks.specs.declared.options.Options.{Options}
 use Rattle.iv_fasta.specs.declared.rows.FastaRows.{FastaRows}
@@ -101,20 +100,15 @@ options-cut words = elim (cases_lt 8 (length words)) [
       ∙ sym (too-many (length words) words nothing_said (omega arith) (omega arith))
 ]
 
-limited-cut : (words : List (List ℕ)) → is_limited (take 8 words) ≡ is_limited words
-limited-cut [] = refl
-limited-cut (word ∷ []) = refl
-limited-cut (word ∷ next ∷ words) = refl
+only-cut : (flag : List ℕ) (words : List (List ℕ)) → only_flag flag (take 8 words) ≡ only_flag flag words
+only-cut flag [] = refl
+only-cut flag (word ∷ []) = refl
+only-cut flag (word ∷ next ∷ words) = refl
 
 rows-cut : (words : List (List ℕ)) → genomecov_rows (take 8 words) ≡ genomecov_rows words
 rows-cut [] = refl
 rows-cut (word ∷ []) = refl
 rows-cut (word ∷ next ∷ words) = refl
-
-whole-cut : (words : List (List ℕ)) → is_whole (take 8 words) ≡ is_whole words
-whole-cut [] = refl
-whole-cut (word ∷ []) = refl
-whole-cut (word ∷ next ∷ words) = refl
 
 intersect-cut : (words : List (List ℕ)) → intersect.intersect_rows_said (take 8 words) ≡ intersect.intersect_rows_said words
 intersect-cut words = flag-cut intersect.is_wa intersect.rows_beside intersect_others words
@@ -126,7 +120,7 @@ fasta-cut words = flag-cut getfasta.is_s getfasta.rows_beside getfasta_others wo
 pub words-cut : (width : ℕ) (has_second has_bases : Bool) (words : List (List ℕ))
     → read_words width has_second has_bases (take 9 words) ≡ read_words width has_second has_bases words
 words-cut width has_second has_bases [] = refl
-words-cut width has_second has_bases (word ∷ words) = rw (options-cut words, limited-cut words, rows-cut words, intersect-cut words, whole-cut words, fasta-cut words) refl
+words-cut width has_second has_bases (word ∷ words) = rw (options-cut words, only-cut (codes "-L") words, rows-cut words, intersect-cut words, only-cut (codes "-A") words, fasta-cut words) refl
 
 -- the view is written with the bases of a FASTA file
 abbrev needs_bases : View → Bool

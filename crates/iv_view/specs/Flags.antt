@@ -1,6 +1,13 @@
--- Words of which one may be a flag.
-use Rattle.std.specs.Prelude.{ℕ, Bool, not, nat_le, if◌then◌else◌, List, filter, count_by, Option, None}
+-- Words that are a flag, or of which one may be a flag.
+use Rattle.std.specs.Prelude.{ℕ, Bool, true, false, not, nat_le, if◌then◌else◌, List, [], ◌∷◌, filter, count_by, Option, None, Some}
 use Rattle.std.specs.List.{list_any}
+use Rattle.std.specs.Str.{bytes_eq}
+
+-- whether words are this flag alone, or nothing
+abbrev pub only_flag : List ℕ → List (List ℕ) → Option Bool
+only_flag flag [] = Some false
+only_flag flag (word ∷ []) = if bytes_eq word flag then Some true else None
+only_flag flag (word ∷ next ∷ words) = None
 
 -- what words say: the flag is among them once at most, and beside it or without it the others say the rest
 abbrev pub beside_flag : {R : Type 0} → (List ℕ → Bool) → (Bool → List (List ℕ) → Option R) → List (List ℕ) → Option R

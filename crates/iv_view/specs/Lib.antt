@@ -1,11 +1,9 @@
+pub mod Flags
 pub mod Lists
 pub mod Merge
 pub mod MergeOptions
-pub mod Complement
 pub mod Genomecov
-pub mod Flags
 pub mod Intersect
-pub mod Subtract
 pub mod Getfasta
 pub mod Views
 pub mod Narrowing

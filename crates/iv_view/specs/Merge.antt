@@ -15,8 +15,8 @@ use Rattle.iv_blocks.specs.Groups.{filled}
 use Rattle.iv_blocks.specs.declared.options.Options.{Options}
 use Rattle.iv_blocks.specs.declared.options.Summaries.{Summaries}
 use Rattle.iv_view.specs.Lists.{all_some, items_in, pairs}
-use Rattle.iv_view.specs.declared.options.ValuedOption.{ValuedOption}
-use Rattle.iv_view.specs.declared.options.ValuedOption.TheVariants as option
+use Rattle.iv_view.specs.declared.merge.ValuedOption.{ValuedOption}
+use Rattle.iv_view.specs.declared.merge.ValuedOption.TheVariants as option
 
 -- what options say: the values of `-d`, `-c` and `-o` as they are, and whether `-s` is there
 pub record MergeArgs : Type 0 where

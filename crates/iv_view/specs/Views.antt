@@ -18,12 +18,11 @@ use Rattle.iv_pair.specs.PairRows.{pair_text}
 use Rattle.iv_pair.specs.declared.pair_rows.PairRows.{PairRows}
 use Rattle.iv_pair.specs.declared.pair_rows.PairRows.TheVariants as pair
 use Rattle.iv_track.specs.Tracked.{Tracked}
-use Rattle.iv_view.specs.Complement.{is_limited}
+use Rattle.iv_view.specs.Flags.{only_flag}
 use Rattle.iv_view.specs.Genomecov.{genomecov_rows}
 use Rattle.iv_view.specs.Getfasta.{fasta_rows_said}
 use Rattle.iv_view.specs.Intersect.{intersect_rows_said}
 use Rattle.iv_view.specs.Merge.{said_by, nothing_said, merge_options, cluster_distance}
-use Rattle.iv_view.specs.Subtract.{is_whole}
 use Rattle.iv_view.specs.declared.view.View.{View}
 use Rattle.iv_view.specs.declared.view.View.TheVariants as view
 use Rattle.iv_view.specs.declared.view.KeptView.{KeptView}
@@ -66,10 +65,10 @@ read_words width has_second has_bases [] = Err fault.Words
 read_words width has_second has_bases (word ∷ words) =
     if bytes_eq word (codes "merge") then as_merge (merge_options width (said_by words nothing_said))
     else if bytes_eq word (codes "cluster") then or_bad_words (option_map kept.Cluster (cluster_distance (said_by words nothing_said)))
-    else if bytes_eq word (codes "complement") then or_bad_words (option_map kept.Complement (is_limited words))
+    else if bytes_eq word (codes "complement") then or_bad_words (option_map kept.Complement (only_flag (codes "-L") words))
     else if bytes_eq word (codes "genomecov") then or_bad_words (option_map kept.Genomecov (genomecov_rows words))
     else if bytes_eq word (codes "intersect") then beside_second has_second (option_map pair.Intersect (intersect_rows_said words))
-    else if bytes_eq word (codes "subtract") then beside_second has_second (option_map pair.Subtract (is_whole words))
+    else if bytes_eq word (codes "subtract") then beside_second has_second (option_map pair.Subtract (only_flag (codes "-A") words))
     else if bytes_eq word (codes "getfasta") then beside_fasta width has_bases (fasta_rows_said words)
     else Err fault.Words
 

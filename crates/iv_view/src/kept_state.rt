@@ -41,7 +41,7 @@ impl KeptView {
         match self {
             KeptView::Merge(options) => StateKey::Blocks(options),
             KeptView::Cluster(distance) => StateKey::Blocks(Options::joined(distance)),
-            KeptView::Complement(_) => StateKey::Blocks(Options::joined(0)),
+            KeptView::Complement { .. } => StateKey::Blocks(Options::joined(0)),
             KeptView::Genomecov(_) => StateKey::Depth,
         }
     }
@@ -71,7 +71,7 @@ impl KeptView {
             (KeptView::Cluster(_), KeptState::Blocks(blocks)) => {
                 blocks.print_cluster(track, genome, meter, sink)
             }
-            (KeptView::Complement(limited), KeptState::Blocks(blocks)) => {
+            (KeptView::Complement { limited }, KeptState::Blocks(blocks)) => {
                 blocks.print_complement(limited, track, genome, meter, sink)
             }
             (KeptView::Genomecov(shown), KeptState::Depth(depth)) => {

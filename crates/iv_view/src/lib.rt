@@ -1,23 +1,16 @@
 //! The views of a track: the words that ask for one, their faults, and the text that each means.
 #![tactic(auto)]
 
-mod cluster;
-mod complement;
-mod genomecov;
-mod getfasta;
-mod intersect;
+mod flags;
 mod kept_state;
 mod laws;
-mod lists;
 mod merge;
-mod options;
-mod subtract;
 mod view;
 mod words;
 mod written_view;
 
 pub use kept_state::{KeptState, StateKey};
 pub use laws::{no_option_twice, options_in_any_order, words_are_options};
-pub use view::{KeptView, View, ViewFault};
+pub use view::{Beside, KeptView, View, ViewFault};
 pub use words::Words;
 pub use written_view::WrittenView;

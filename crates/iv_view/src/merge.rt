@@ -1,29 +1,26 @@
-//! The view `merge`: blocks of records, and summaries of their columns.
-ghost use Rattle.std.specs.Prelude.{◌≡◌, ◌≤◌, [], ◌∷◌, None, nat_le, if◌then◌else◌, length, map};
+//! The options of `merge` and `cluster`: the distance of blocks, and summaries of their columns.
+ghost use Rattle.std.specs.Prelude.{◌≡◌, ◌≤◌, ℕ, List, [], ◌∷◌, Option, Some, None, MatchOption, nat_le, if◌then◌else◌, length, map, replicate};
 ghost use Rattle.std.specs.List.{zip};
 ghost use Rattle.std.specs.Option.{option_map, option_copied};
+ghost use Rattle.iv_text.specs.Number.{number};
+ghost use Rattle.iv_cover.specs.Summaries.{op_named};
 ghost use Rattle.iv_blocks.specs.Groups.{filled};
-ghost use Rattle.iv_view.specs.Lists.{all_some, pairs};
-ghost use Rattle.iv_view.specs.Merge.{said_by, nothing_said, merge_options, asked_summaries, distance_of, lists_of, summary_within};
+ghost use Rattle.iv_view.specs.Lists.{all_some, items_in, of_length, pairs};
+ghost use Rattle.iv_view.specs.Merge.{said_by, nothing_said, with_value, option_of, merge_options, cluster_distance, asked_summaries, distance_of, lists_of, summary_within};
 ghost use Rattle.iv_view.specs.Narrowing.{number_of as number_of_column, has_columns as columns_are_there, narrowed_options};
 
-use crate::lists::{MOST_ITEMS, read_items, repeated};
-use crate::options::MergeArgs;
 use crate::view::ViewFault;
 use arrayvec::ArrayVec;
 use iv_blocks::{Options, Summaries};
 use iv_cover::{Column, ColumnSummary, Op};
-use iv_text::read_number;
+use iv_text::{Fields, read_number};
+use std::marker::Model;
 
 /// The greatest distance.
 const MOST_DISTANCE: u64 = 1_000_000_000;
 
-/// The numbers of columns, and the operations, that the words ask for.
-#[derive(Drop)]
-struct Lists {
-    columns: ArrayVec<u64, MOST_ITEMS>,
-    ops: ArrayVec<Op, MOST_ITEMS>,
-}
+/// A list has at most this many items.
+const MOST_ITEMS: usize = 16;
 
 /// The options that the words after `merge` say, for records of six columns.
 pub(crate) fn read_merge(words: &[&[u8]]) -> Result<Options, ViewFault>
@@ -40,8 +37,122 @@ pub(crate) fn read_merge(words: &[&[u8]]) -> Result<Options, ViewFault>
     })
 }
 
+/// The distance that the words after `cluster` say: `-d` and its value, or none.
+pub(crate) fn read_cluster(words: &[&[u8]]) -> Option<u32>
+    ensures { result ≡ cluster_distance (said_by (map (λ word. word.now) words.now) nothing_said) }
+{
+    let said = MergeArgs::read(words)?;
+    if said.stranded || said.columns.is_some() || said.ops.is_some() {
+        return None;
+    }
+    read_distance(said.distance)
+}
+
+/// What options say: their values as they are.
+#[derive(Drop)]
+struct MergeArgs<'a> {
+    distance: Option<&'a [u8]>,
+    columns: Option<&'a [u8]>,
+    ops: Option<&'a [u8]>,
+    stranded: bool,
+}
+
+impl<'a> Model for MergeArgs<'a> {
+    ghost use Rattle.std.specs.Option.{option_copied};
+    ghost use Rattle.iv_view.specs.Merge.{MergeArgs};
+
+    ghost Value = { MergeArgs };
+
+    ghost view = { λ s. record { distance = option_copied s.distance; columns = option_copied s.columns; ops = option_copied s.ops; stranded = s.stranded } };
+}
+
+impl<'a> MergeArgs<'a> {
+    /// What words say: each is `-s`, or an option with its value after it, and none is twice.
+    fn read(words: &[&'a [u8]]) -> Option<MergeArgs<'a>>
+        ensures { result ≡ said_by (map (λ word. word.now) words.now) nothing_said }
+    {
+        let mut said = MergeArgs::nothing();
+        let mut rest = words;
+        'options: while let [word, after @ ..] = rest {
+            if *word == b"-s".as_slice() {
+                if said.stranded {
+                    return None;
+                }
+                said.stranded = true;
+                rest = after;
+            } else {
+                let [value, others @ ..] = after else {
+                    return None;
+                };
+                said.take(word, value)?;
+                rest = others;
+            }
+        }
+        Some(said)
+    }
+
+    /// No option yet.
+    fn nothing() -> MergeArgs<'a>
+        ensures { result ≡ nothing_said }
+    {
+        MergeArgs {
+            distance: None,
+            columns: None,
+            ops: None,
+            stranded: false,
+        }
+    }
+
+    /// Takes an option and its value, unless the option had one before.
+    fn take(&mut self, option: &[u8], value: &'a [u8]) -> Option<()>
+        ensures { MatchOption result (with_value option.now value.now self.old ≡ None) (λ _. with_value option.now value.now self.old ≡ Some self.new) }
+    {
+        match valued_option(option) {
+            Some(ValuedOption::Distance) if self.distance.is_none() => {
+                self.distance = Some(value);
+                Some(())
+            }
+            Some(ValuedOption::Columns) if self.columns.is_none() => {
+                self.columns = Some(value);
+                Some(())
+            }
+            Some(ValuedOption::Ops) if self.ops.is_none() => {
+                self.ops = Some(value);
+                Some(())
+            }
+            _ => None,
+        }
+    }
+}
+
+/// An option that takes a value.
+#[derive(Clone, Copy)]
+enum ValuedOption {
+    /// `-d`: the distance.
+    Distance,
+    /// `-c`: the columns.
+    Columns,
+    /// `-o`: the operations.
+    Ops,
+}
+
+/// The option with a value that a word is.
+fn valued_option(word: &[u8]) -> Option<ValuedOption>
+    ensures { result ≡ option_of word.now }
+{
+    if word == b"-d".as_slice() {
+        Some(ValuedOption::Distance)
+    } else if word == b"-c".as_slice() {
+        Some(ValuedOption::Columns)
+    } else if word == b"-o".as_slice() {
+        Some(ValuedOption::Ops)
+    } else {
+        None
+    }
+}
+
 /// The distance that a value says, 0 if there is none.
-pub(crate) fn read_distance(value: Option<&[u8]>) -> Option<u32>
+fn read_distance(value: Option<&[u8]>) -> Option<u32>
     ensures { result ≡ distance_of (option_copied value.entry) }
 {
     let Some(value) = value else {
@@ -52,6 +163,13 @@ pub(crate) fn read_distance(value: Option<&[u8]>) -> Option<u32>
         return None;
     }
     Some(distance as u32)
+}
+
+/// The numbers of columns, and the operations, that the words ask for.
+#[derive(Drop)]
+struct Lists {
+    columns: ArrayVec<u64, MOST_ITEMS>,
+    ops: ArrayVec<Op, MOST_ITEMS>,
 }
 
 /// The lists that the values of `-c` and `-o` say. The operation left out is `sum`, and there is none without a column.
@@ -144,4 +262,75 @@ fn number_of(column: Column) -> u8
         Column::Score => 5,
         Column::Strand => 6,
     }
+}
+
+/// An item of a list.
+trait Item: Copy + Default {
+    /// What a text says.
+    ghost says: { List ℕ → Option Self };
+
+    /// The item that a text says.
+    fn read(text: &[u8]) -> Option<Self>
+        ensures { result ≡ says text.now };
+}
+
+impl Item for u64 {
+    ghost says = { number };
+
+    fn read(text: &[u8]) -> Option<u64> {
+        read_number(text)
+    }
+}
+
+impl Item for Op {
+    ghost says = { op_named };
+
+    fn read(text: &[u8]) -> Option<Op> {
+        Op::parse(text)
+    }
+}
+
+/// The items of a list, if there are at most 16 and each says something.
+fn read_items<T: Item>(text: &[u8]) -> Option<ArrayVec<T, MOST_ITEMS>>
+    ensures { option_map (λ list. list.items) result ≡ items_in T.says text.now }
+{
+    let mut items = ArrayVec::new();
+    let mut fields = Fields::of(text, b',');
+    while let Some(field) = fields.next() {
+        items.try_push(T::read(field)?).ok()?;
+    }
+    Some(items)
+}
+
+/// The items as a list of this length: one item is repeated. `None` for another length.
+fn repeated<T: Item>(items: &[T], count: usize) -> Option<ArrayVec<T, MOST_ITEMS>>
+    requires { count ≤ 16 }
+    ensures { option_map (λ list. list.items) result ≡ of_length count items.now }
+{
+    match items {
+        [item] => Some(copies_of(*item, count)),
+        _ if items.len() == count => copy_of(items),
+        _ => None,
+    }
+}
+
+/// A list of copies of an item.
+fn copies_of<T: Item>(item: T, count: usize) -> ArrayVec<T, MOST_ITEMS>
+    requires { count ≤ 16 }
+    ensures { result.items ≡ replicate count item }
+{
+    let mut list = ArrayVec::new();
+    for _ in 0..count {
+        list.push(item);
+    }
+    list
+}
+
+/// A copy of a list, `None` if it has more than 16 items.
+fn copy_of<T: Item>(items: &[T]) -> Option<ArrayVec<T, MOST_ITEMS>>
+    ensures { option_map (λ list. list.items) result ≡ (if nat_le (length items.now) 16 then Some items.now else None) }
+{
+    let mut list = ArrayVec::new();
+    list.try_extend_from_slice(items).ok()?;
+    Some(list)
 }

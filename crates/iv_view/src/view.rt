@@ -3,13 +3,8 @@ ghost use Rattle.std.specs.Prelude.{◌≡◌, true, map};
 ghost use Rattle.iv_view.specs.Views.{read_words, or_bad_words as kept_or_bad_words, beside_second as beside_a_second, beside_fasta as beside_a_fasta};
 ghost use Rattle.iv_view.specs.Narrowing.{narrowed as narrowed_view};
 
-use crate::cluster::read_cluster;
-use crate::complement::read_complement;
-use crate::genomecov::read_genomecov;
-use crate::getfasta::read_getfasta;
-use crate::intersect::read_intersect;
-use crate::merge::{narrow_merge, read_merge};
-use crate::subtract::read_subtract;
+use crate::flags::{read_complement, read_genomecov, read_getfasta, read_intersect, read_subtract};
+use crate::merge::{narrow_merge, read_cluster, read_merge};
 use crate::written_view::WrittenView;
 use iv_blocks::Options;
 use iv_depth::DepthRows;
@@ -21,6 +16,21 @@ use std::alloc::Allocator;
 /// Why a view is not opened, in the order in which the causes are looked for: `BadName`, `Taken`, `TooMany`, `Words`, `Column`,
 /// `NoStrand`, `NoSecond`, `NoFasta` (E13 to E20), and `NoMemory` (E22).
 pub type ViewFault = Fault;
+
+/// What a view of a track can show: how many columns the records have, and which of the other two files there are.
+#[derive(Clone, Copy, Debug, PartialEq, Eq)]
+pub struct Beside {
+    pub width: u8,
+    pub second: bool,
+    pub fasta: bool,
+}
+
+/// All columns, and both files.
+const EVERYTHING: Beside = Beside {
+    width: 6,
+    second: true,
+    fasta: true,
+};
 
 /// A view of a track, with its options.
 #[derive(Clone, Copy, Debug, PartialEq, Eq)]
@@ -38,8 +48,8 @@ pub enum KeptView {
     Merge(Options),
     /// `cluster`: every record with the number of its block. Records at most this many bases apart are in one block.
     Cluster(u32),
-    /// `complement`: what no record covers; if this is true, only on sequences with a record.
-    Complement(bool),
+    /// `complement`: what no record covers; if `limited`, only on sequences with a record.
+    Complement { limited: bool },
     /// `genomecov`: how many records cover each position.
     Genomecov(DepthRows),
 }
@@ -55,13 +65,17 @@ impl View {
         _alloc: A,
         width: u8,
         has_second: bool,
-        has_bases: bool,
+        has_fasta: bool,
         words: &[&[u8]],
     ) -> Result<View, ViewFault>
-        ensures { result ≡ read_words width has_second has_bases (map (λ word. word.now) words.now) }
+        ensures { result ≡ read_words width has_second has_fasta (map (λ word. word.now) words.now) }
     {
         let view = View::asked(words)?;
-        view.narrowed(width, has_second, has_bases)
+        view.narrowed(Beside {
+            width,
+            second: has_second,
+            fasta: has_fasta,
+        })
     }
 
     /// The view that words ask for, of records of six columns beside both files.
@@ -78,39 +92,37 @@ impl View {
         } else if *word == b"cluster".as_slice() {
             or_bad_words(read_cluster(options).map(KeptView::Cluster))
         } else if *word == b"complement".as_slice() {
-            or_bad_words(read_complement(options).map(KeptView::Complement))
+            or_bad_words(read_complement(options))
         } else if *word == b"genomecov".as_slice() {
             or_bad_words(read_genomecov(options).map(KeptView::Genomecov))
         } else if *word == b"intersect".as_slice() {
-            beside_second(true, read_intersect(options).map(PairRows::Intersect))
+            beside_second(EVERYTHING, read_intersect(options).map(PairRows::Intersect))
         } else if *word == b"subtract".as_slice() {
-            beside_second(true, read_subtract(options).map(PairRows::Subtract))
+            beside_second(EVERYTHING, read_subtract(options).map(PairRows::Subtract))
         } else if *word == b"getfasta".as_slice() {
-            beside_fasta(6, true, read_getfasta(options))
+            beside_fasta(EVERYTHING, read_getfasta(options))
         } else {
             Err(ViewFault::Words)
         }
     }
 
-    /// The view of records of this width, beside a second file and a FASTA file or without. It was read for records of six
-    /// columns beside both files, and this is what its words ask for here.
+    /// The view, which was read for records of six columns beside both files: what its words ask for here.
     ///
     /// # Errors
     ///
     /// `Column`, then `NoStrand`, then `NoSecond` or `NoFasta`.
-    pub fn narrowed(self, width: u8, has_second: bool, has_bases: bool) -> Result<View, ViewFault>
-        ensures { result ≡ narrowed_view width has_second has_bases self }
+    pub fn narrowed(self, beside: Beside) -> Result<View, ViewFault>
+        ensures { result ≡ narrowed_view beside.width beside.second beside.fasta self }
     {
         match self {
             View::Kept(KeptView::Merge(options)) => {
-                Ok(View::Kept(KeptView::Merge(narrow_merge(width, options)?)))
+                Ok(View::Kept(KeptView::Merge(narrow_merge(beside.width, options)?)))
             }
-            View::Kept(KeptView::Cluster(_) | KeptView::Complement(_) | KeptView::Genomecov(_)) =>
-                Ok(self),
-            View::Written(WrittenView::Paired(rows)) => beside_second(has_second, Some(rows)),
-            View::Written(WrittenView::Getfasta(shown)) => {
-                beside_fasta(width, has_bases, Some(shown))
-            }
+            View::Kept(
+                KeptView::Cluster(_) | KeptView::Complement { .. } | KeptView::Genomecov(_),
+            ) => Ok(self),
+            View::Written(WrittenView::Paired(rows)) => beside_second(beside, Some(rows)),
+            View::Written(WrittenView::Getfasta(shown)) => beside_fasta(beside, Some(shown)),
         }
     }
 }
@@ -124,29 +136,29 @@ fn or_bad_words(view: Option<KeptView>) -> Result<View, ViewFault>
 
 /// The view that needs a second file: a fault of the words if they ask for none, and then one if there is no second
 /// file.
-fn beside_second(has_second: bool, asked: Option<PairRows>) -> Result<View, ViewFault>
-    ensures { result ≡ beside_a_second has_second asked }
+fn beside_second(beside: Beside, asked: Option<PairRows>) -> Result<View, ViewFault>
+    ensures { result ≡ beside_a_second beside.second asked }
 {
     let Some(rows) = asked else {
         return Err(ViewFault::Words);
     };
-    if has_second {
+    if beside.second {
         Ok(View::Written(WrittenView::Paired(rows)))
     } else {
         Err(ViewFault::NoSecond)
     }
 }
 
-/// The view that needs a FASTA file, on a track of this width: a fault of the words if they ask for none, then one if the
-/// track has no strands to show, and then one if there is no FASTA file.
-fn beside_fasta(width: u8, has_bases: bool, asked: Option<FastaRows>) -> Result<View, ViewFault>
-    ensures { result ≡ beside_a_fasta width has_bases asked }
+/// The view that needs a FASTA file: a fault of the words if they ask for none, then one if the track has no strands to show, and
+/// then one if there is no FASTA file.
+fn beside_fasta(beside: Beside, asked: Option<FastaRows>) -> Result<View, ViewFault>
+    ensures { result ≡ beside_a_fasta beside.width beside.fasta asked }
 {
     let shown = asked.ok_or(ViewFault::Words)?;
-    if shown.stranded && width < 6 {
+    if shown.stranded && beside.width < 6 {
         return Err(ViewFault::NoStrand);
     }
-    if !has_bases {
+    if !beside.fasta {
         return Err(ViewFault::NoFasta);
     }
     Ok(View::Written(WrittenView::Getfasta(shown)))

@@ -110,8 +110,11 @@ fn words_of_kept_views(rt: HostRuntime) {
     for (words, want) in [
         ([b"cluster".as_slice()].as_slice(), KeptView::Cluster(0)),
         (&[b"cluster", b"-d", b"0100"], KeptView::Cluster(100)),
-        (&[b"complement"], KeptView::Complement(false)),
-        (&[b"complement", b"-L"], KeptView::Complement(true)),
+        (&[b"complement"], KeptView::Complement { limited: false }),
+        (
+            &[b"complement", b"-L"],
+            KeptView::Complement { limited: true },
+        ),
         (
             &[b"genomecov", b"-bg"],
             KeptView::Genomecov(DepthRows::Covered),

@@ -1,6 +1,6 @@
 use Rattle.std.proofs.Common.{◌≡◌, map, length}
 use Rattle.iv_view.specs.Merge.{said_by, nothing_said}
-use Rattle.iv_view.proofs.options.MergeArgs.read.Given as goal
+use Rattle.iv_view.proofs.merge.MergeArgs.read.Given as goal
 
 abbrev pub invariant-options : goal.invariant-options
 invariant-options l = said_by (map (λ word. word.now) l.rest) l.said ≡ said_by (map (λ word. word.now) l.fn.words) nothing_said

@@ -4,11 +4,11 @@ use Rattle.std.specs.Borrow.{Bor}
 use Rattle.iv_view.specs.Intersect.{is_wa, rows_beside}
 use Rattle.iv_view.proofs.FlagLemmas.{three-words, flag-first-of}
 use Rattle.iv_view.proofs.RowLemmas.{intersect_others}
-use Rattle.iv_view.proofs.intersect.read_intersect.Goals as goal
+use Rattle.iv_view.proofs.flags.read_intersect.Goals as goal
 
 pub returns-in-len2 : goal.returns-in-len2
 returns-in-len2 c =
-    c.rows_of-in-len2.ensures
+    c.intersect_rows_of-in-len2.ensures
     ∙ sym (flag-first-of is_wa rows_beside intersect_others c.args.words.now _ _ c.in-len2.len_at_least c.in-len2.len_below (sym c.is_wa-then-words-lt3.ensures ∙ c.if-is_wa-2.true))
 
 pub returns-in_default-2 : goal.returns-in_default-2

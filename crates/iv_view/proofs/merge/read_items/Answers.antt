@@ -4,7 +4,7 @@ use Rattle.iv_text.specs.Fields.{fields}
 use Rattle.iv_text.specs.Bytes.{comma}
 use Rattle.iv_view.specs.Lists.{all_some}
 use Rattle.iv_view.proofs.ListLemmas.{with_rest, rest-ends}
-use Rattle.iv_view.proofs.lists.read_items.Goals as goal
+use Rattle.iv_view.proofs.merge.read_items.Goals as goal
 
 pub returns : goal.returns
 returns g c =

@@ -3,7 +3,7 @@ use Rattle.iv_text.specs.Fields.{fields}
 use Rattle.iv_text.specs.Bytes.{comma}
 use Rattle.iv_view.specs.Lists.{all_some}
 use Rattle.iv_view.proofs.ListLemmas.{with_rest}
-use Rattle.iv_view.proofs.lists.read_items.Given as goal
+use Rattle.iv_view.proofs.merge.read_items.Given as goal
 
 abbrev pub invariant-loop-field : goal.invariant-loop-field
 invariant-loop-field g l = record {

@@ -2,7 +2,7 @@ use Rattle.std.proofs.Common.{◌≡◌, ◌∙◌, [], map, get_or, sym, ap, su
 use Rattle.std.specs.Str.{bytes_eq}
 use Rattle.iv_view.specs.Merge.{MergeArgs, said_by, nothing_said}
 use Rattle.iv_view.proofs.MergeArgsLemmas.{going-flag, going-value}
-use Rattle.iv_view.proofs.options.MergeArgs.read.Goals as goal
+use Rattle.iv_view.proofs.merge.MergeArgs.read.Goals as goal
 
 pub options-preserved-then-eq : goal.options-preserved-then-eq
 options-preserved-then-eq c =
