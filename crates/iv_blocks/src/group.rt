@@ -8,7 +8,7 @@ ghost use Rattle.iv_blocks.specs.MembersLeft.{TakesForEach, end_step};
 ghost use Rattle.iv_blocks.specs.Putting.{key_of};
 
 use iv_index::TextRecord;
-use iv_text::{BedRecord, Record, RecordRef, Strand};
+use iv_text::{Record, RecordRef, Strand};
 use iv_track::{Meter, Rows, Track};
 use std::alloc::Allocator;
 use std::marker::Model;
