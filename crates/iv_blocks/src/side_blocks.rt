@@ -13,7 +13,6 @@ ghost use Rattle.iv_blocks.specs.Groups.{is_on};
 use crate::group::Side;
 use iv_cover::{Block, Column, Spelled, Value, Values};
 use iv_index::{TextRecord, TextRecords};
-use iv_text::BedRecord;
 use std::marker::Model;
 
 /// A block, and the records that are in it, in their order.

@@ -22,7 +22,7 @@ use crate::side_blocks::{SideBlocks, SideRecords};
 use iv_bytes::{Sink, WriteFault};
 use iv_cover::Block;
 use iv_index::{Span, TextRecords};
-use iv_text::{BedRecord, Genome, put_interval, put_numbered};
+use iv_text::{Genome, put_interval, put_numbered};
 use std::alloc::Allocator;
 use std::marker::Model;
 

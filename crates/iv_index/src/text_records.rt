@@ -78,6 +78,23 @@ impl<'t> TextRecord<'t> {
     {
         self.optional_columns().strand
     }
+
+    /// The record with all its columns cut at once, which is cheaper than to cut one after another.
+    pub fn to_ref(&self) -> RecordRef<'t>
+        ensures { result ≡ self.now }
+    {
+        let beside = self.optional_columns();
+        let Span { seq, start, stop } = self.place.span;
+        RecordRef::of_columns(
+            seq,
+            start,
+            stop,
+            beside.name,
+            beside.score,
+            beside.strand,
+            self.width,
+        )
+    }
 }
 
 impl<'t> BedRecord for TextRecord<'t> {
@@ -95,19 +112,8 @@ impl<'t> BedRecord for TextRecord<'t> {
         u64::from(self.place.span.stop)
     }
 
-    // All columns are cut at once, which is cheaper than to cut one after another.
     fn to_ref(&self) -> RecordRef<'_> {
-        let beside = self.optional_columns();
-        let Span { seq, start, stop } = self.place.span;
-        RecordRef::of_columns(
-            seq,
-            start,
-            stop,
-            beside.name,
-            beside.score,
-            beside.strand,
-            self.width,
-        )
+        TextRecord::to_ref(self)
     }
 }
 
