@@ -104,7 +104,7 @@ fn put_no_option(alloc: Global, run: Run, word: &[u8], hint: &mut Hint) -> Resul
     let text = b" isn't an option of ".as_slice();
     match nearest.found() {
         Some(known) => put_near(word, text, word_of(run), known, hint),
-        None => hint.line(&[word, text, word_of(run)]),
+        None => put_parts(word, text, word_of(run), hint),
     }
 }
 
@@ -119,38 +119,57 @@ fn put_near(
     hint.line(&[word, text, subject, b": is ", known, b" meant?"])
 }
 
+/// Puts a line of three parts.
+fn put_parts(
+    subject: &[u8],
+    text: &[u8],
+    object: &[u8],
+    hint: &mut Hint,
+) -> Result<(), AllocError> {
+    hint.line(&[subject, text, object])
+}
+
+/// Puts what an option needs, and the value that isn't such.
+fn put_value(
+    option: &[u8],
+    meaning: &[u8],
+    value: &[u8],
+    hint: &mut Hint,
+) -> Result<(), AllocError> {
+    hint.line(&[option, b" needs ", meaning, b", and not ", value])
+}
+
+/// Puts that an option is missing.
+fn put_absent(option: &[u8], meaning: &[u8], hint: &mut Hint) -> Result<(), AllocError> {
+    hint.line(&[option, b" ", meaning, b" is missing"])
+}
+
 /// Puts what is wrong with an option.
 fn put_option(mistake: Mistake<'_>, hint: &mut Hint) -> Result<(), AllocError> {
     match mistake {
-        Mistake::StrayWord(run, word) => hint.line(&[
+        Mistake::StrayWord(run, word) => put_parts(
             word,
             b" is no option: the file of the records comes after ",
             records_option(run),
-        ]),
+            hint,
+        ),
         Mistake::OneWord(word) => hint.line(&[
             word,
             b" is no option: a space, and no =, is between an option and its value",
         ]),
-        Mistake::RecordsOption(run, word) => hint.line(&[
+        Mistake::RecordsOption(run, word) => put_parts(
             word,
             b" is for other subcommands: here the file of the records comes after ",
             records_option(run),
-        ]),
+            hint,
+        ),
         Mistake::NoValue(run, option) => {
-            hint.line(&[option, b" needs ", meaning_of(run, option)])
+            put_parts(option, b" needs ", meaning_of(run, option), hint)
         }
         Mistake::WrongValue(run, option, value) => {
-            hint.line(&[
-                option,
-                b" needs ",
-                meaning_of(run, option),
-                b", and not ",
-                value,
-            ])
+            put_value(option, meaning_of(run, option), value, hint)
         }
-        Mistake::Missing(run, option) => {
-            hint.line(&[option, b" ", meaning_of(run, option), b" is missing"])
-        }
+        Mistake::Missing(run, option) => put_absent(option, meaning_of(run, option), hint),
         other => put_together(other, hint),
     }
 }

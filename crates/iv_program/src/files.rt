@@ -1,6 +1,6 @@
 //! Files that are opened by their names, and reading those of a plan.
 ghost use Rattle.std.specs.Prelude.{◌≡◌, List, ℕ, Option, None, Some, IfOk, IfErr, OnOk, OnErr, true};
-ghost use Rattle.std.specs.Option.{option_map};
+ghost use Rattle.std.specs.Option.{option_copied, option_map};
 ghost use Rattle.iv_args.specs.Words.{file_of};
 ghost use Rattle.iv_run.specs.SoFar.{AreKept, IsOfOneRun, IsSaid, SaysFirst, SaysSecond};
 ghost use Rattle.iv_program.specs.Files.{FilesState, IsText, StopsFile, opened, after_closing};
@@ -9,7 +9,7 @@ ghost use Rattle.iv_program.specs.Texts.{Texts, AreTexts, IsTextIfNamed, StopsAt
 
 use iv_args::{Plan, Slot};
 use iv_bytes::{ReadFault, Source};
-use iv_run::{FileFault, KeptFile, Loading, read_all};
+use iv_run::{FileFault, Inputs, KeptFile, Loading, read_all};
 use iv_text::{FromRecord, LoadFault};
 use std::alloc::{Allocator, Global};
 use std::marker::Model;
@@ -96,22 +96,47 @@ fn read_slot<A: Allocator + Copy, F: InputFiles>(
     }
 }
 
+/// The bytes of the files of a plan that are lent to a run, the FASTA file aside.
+#[derive(Drop)]
+pub(crate) struct LentTexts<A: Allocator + Copy = Global> {
+    sizes: Vec<u8, A>,
+    first: Vec<u8, A>,
+    other: Option<Vec<u8, A>>,
+}
+
+impl<A: Allocator + Copy> LentTexts<A> {
+    /// The bytes, lent.
+    pub(crate) fn inputs(&self) -> Inputs<'_>
+        ensures sizes { result.sizes.now ≡ self.now.sizes.items }
+        ensures first { result.first.now ≡ self.now.first.items }
+        ensures other { option_copied result.other ≡ option_map (λ bytes. bytes.items) self.now.other }
+    {
+        let other = match &self.other {
+            Some(bytes) => Some(bytes.as_slice()),
+            None => None,
+        };
+        Inputs {
+            sizes: self.sizes.as_slice(),
+            first: self.first.as_slice(),
+            other,
+        }
+    }
+}
+
 /// The bytes of the files of a plan.
 #[derive(Drop)]
 pub(crate) struct FileTexts<A: Allocator + Copy = Global> {
-    pub(crate) sizes: Vec<u8, A>,
-    pub(crate) first: Vec<u8, A>,
-    pub(crate) other: Option<Vec<u8, A>>,
+    pub(crate) lent: LentTexts<A>,
     pub(crate) bases: Option<Vec<u8, A>>,
 }
 
 impl<A: Allocator + Copy> Model for FileTexts<A> {
-    ghost use Rattle.std.specs.Option.{option_map};
+    ghost use Rattle.std.specs.Option.{option_copied, option_map};
     ghost use Rattle.iv_program.specs.Texts.{Texts};
 
     ghost Value = { Texts };
 
-    ghost view = { λ t. record { sizes = t.sizes.items; first = t.first.items; other = option_map (λ bytes. bytes.items) t.other; bases = option_map (λ bytes. bytes.items) t.bases } };
+    ghost view = { λ t. record { sizes = t.lent.sizes.items; first = t.lent.first.items; other = option_map (λ bytes. bytes.items) t.lent.other; bases = option_map (λ bytes. bytes.items) t.bases } };
 }
 
 impl<A: Allocator + Copy> FileTexts<A> {
@@ -129,12 +154,12 @@ impl<A: Allocator + Copy> FileTexts<A> {
         let first = read_named(alloc, files, Slot::First, plan.first_file())?;
         let other = read_slot(alloc, files, plan, Slot::Other)?;
         let bases = read_slot(alloc, files, plan, Slot::Bases)?;
-        Ok(FileTexts {
+        let lent = LentTexts {
             sizes,
             first,
             other,
-            bases,
-        })
+        };
+        Ok(FileTexts { lent, bases })
     }
 }
 

@@ -1,6 +1,6 @@
 //! The whole program: what the words ask for, the run of one subcommand, and how each run ends.
 ghost use Rattle.std.specs.Prelude.{◌≡◌, ◌≢◌, ◌<◌, ◌^◌, ℕ, List, Some, None, IfOk, IfErr, IfSome, OnOk, OnErr, length, map, true, false};
-ghost use Rattle.std.specs.Option.{option_copied, option_map};
+ghost use Rattle.std.specs.Option.{option_map};
 ghost use Rattle.iv_bytes.specs.Sinks.{Takes};
 ghost use Rattle.iv_index.specs.Places.{bare};
 ghost use Rattle.iv_args.specs.Notices.{notice_of};
@@ -23,7 +23,7 @@ use iv_args::{Notice, Plan};
 use iv_bytes::{Flush, Sink, Source, put_all};
 use iv_cli::Ending;
 use iv_index::Span;
-use iv_run::{CliFault, Inputs, PlacesView, print_columns};
+use iv_run::{CliFault, PlacesView, print_columns};
 use std::alloc::Allocator;
 
 /// How a run has ended, its output flushed.
@@ -83,16 +83,6 @@ fn print_places<A: Allocator + Copy, W: Sink>(
     ending_of(loading.print(view, bases, output))
 }
 
-/// The bytes of a file that may be left out, lent.
-fn lent<A: Allocator>(bytes: &Option<Vec<u8, A>>) -> Option<&[u8]>
-    ensures { option_copied result ≡ option_map (λ bytes. bytes.items) bytes.now }
-{
-    match bytes {
-        Some(bytes) => Some(bytes.as_slice()),
-        None => None,
-    }
-}
-
 /// Prints a view that needs the columns of records, given the texts of all files of a plan.
 fn print_texts<A: Allocator + Copy, W: Sink>(
     alloc: A,
@@ -105,18 +95,8 @@ fn print_texts<A: Allocator + Copy, W: Sink>(
     requires other { IfSome texts.other (λ text. length text < 2 ^ 32) }
     ensures { PrintsView plan.now texts (W.state output.old) (W.state output.new) result }
 {
-    let FileTexts {
-        sizes,
-        first,
-        other,
-        bases,
-    } = texts;
-    let inputs = Inputs {
-        sizes: sizes.as_slice(),
-        first: first.as_slice(),
-        other: lent(&other),
-    };
-    ending_of(print_columns(alloc, plan, &inputs, bases, MOST_RECORDS, output))
+    let FileTexts { lent, bases } = texts;
+    ending_of(print_columns(alloc, plan, &lent.inputs(), bases, MOST_RECORDS, output))
 }
 
 /// Prints the view of a plan.
