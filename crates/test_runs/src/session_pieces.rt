@@ -18,7 +18,7 @@ use std::test::Fail;
 pub(crate) struct Pieces {
     pub(crate) good: usize,
     pub(crate) piece: usize,
-    pub(crate) most: u64,
+    pub(crate) most: u32,
 }
 
 /// A file that comes whole in pieces of three bytes.
@@ -40,7 +40,7 @@ fn read_second<A: Allocator + Copy>(
         return Ok(());
     };
     let mut source = MemSource::new(text, pieces.good, pieces.piece.max(1));
-    let said = loading.read(&mut source, pieces.most)?;
+    let said = loading.read(&mut source, u64::from(pieces.most))?;
     loading.take_second(said);
     Ok(())
 }
@@ -59,7 +59,7 @@ pub(crate) fn load_in_pieces<A: Allocator + Copy>(
     let mut loading: Loading<Record<A>, A> = Loading::begin(alloc, plan, inputs.sizes, limit);
     let [first, second] = pieces;
     let mut source = MemSource::new(inputs.first, first.good, first.piece.max(1));
-    let said = loading.read(&mut source, first.most)?;
+    let said = loading.read(&mut source, u64::from(first.most))?;
     loading.take_first(said);
     read_second(&mut loading, inputs.other, second)?;
     Ok(begin_session(loading, bases))
@@ -126,17 +126,17 @@ fn end_so(rt: &HostRuntime, pieces: Pieces, want: Ended) -> Result<bool, Fail> {
 /// Each file fails after each number of bytes, the last one too, and may have fewer bytes than it has.
 #[test]
 fn each_file_fails_at_each_piece(rt: HostRuntime) -> Result<(), Fail> {
-    let size = SOUND.len();
-    for count in 0..=size {
+    assert!(rt; SOUND.len() == 18);
+    for count in 0..=18_u8 {
         let bad = Pieces {
-            good: count,
+            good: usize::from(count),
             ..WHOLE
         };
         let short = Pieces {
-            most: count as u64,
+            most: u32::from(count),
             ..WHOLE
         };
-        let want = if count == size {
+        let want = if count == 18 {
             Ok(Ok(2))
         } else {
             Err(FileFault::TooLong)
