@@ -8,7 +8,8 @@ a few too many may be counted as reached; one that is listed as not reached is r
     scripts/prove/reached.py            how many are reached from run_program, from the public crates, and by none
     scripts/prove/reached.py --list     lists those that none reaches, with their files and lines
     scripts/prove/reached.py --order    lists those that run_program reaches, by file, with sizes in lines
-    scripts/prove/reached.py --check    status 1 if docs/PROMISES.md has other numbers; --write puts the right ones there
+    scripts/prove/reached.py --check    status 1 if docs/PROMISES.md has other numbers (--write puts the right ones there), or if a
+                                        definition that none reaches isn't in the folder specs/Inside, or one that is reached is there
 """
 import re
 import sys
@@ -18,9 +19,16 @@ from pathlib import Path
 TOP = Path(__file__).resolve().parent.parent.parent
 PUBLIC = ["iv_text", "iv_track", "iv_cover", "iv_pair", "iv_session", "iv_cli"]
 PROGRAM = "iv_program"
+INSIDE = "Inside"
 HEAD = re.compile(r"^( *)(?:(?:abbrev|unfoldable) pub|pub (?:record|data)) +(\S+)")
 NAME = re.compile(r"(?<![\w.'-])[A-Za-z_][\w'-]*")
 USE = re.compile(r"(?:ghost )?use Rattle\.(\w+)\.specs\.([\w.]+?)(?:\.\{([^}]*)\}| as (\w+))?\s*(?:;|$)", re.M)
+
+
+def module_of(path):
+    """The module of a path below specs: its first part, or the first two if that is the folder Inside."""
+    parts = path.split(".")
+    return ".".join(parts[:1 + (parts[0] == INSIDE)])
 
 
 class Names:
@@ -37,7 +45,7 @@ class Names:
                     parts = [part for part in module.split(".")[2:] if part not in ("TheVariants", "TheConstants")]
                     self.of[other or name] = ("src", crate, parts[-1] if parts else name)
                 elif listed:
-                    self.of[other or name] = ("spec", crate, module.split(".")[0], name)
+                    self.of[other or name] = ("spec", crate, module_of(module), name)
                 else:
                     self.modules[name] = (crate, module)
 
@@ -45,9 +53,10 @@ class Names:
 def definitions():
     """Each definition of specs/: its key, its text with the names of its file, its file, and how many lines it has."""
     found, makes = {}, {}
-    for path in sorted(TOP.glob("crates/iv_*/specs/*.antt")):
-        crate, module, text = path.parts[-3], path.stem, path.read_text()
-        if module == "Lib":
+    for path in sorted(TOP.glob("crates/iv_*/specs/**/*.antt")):
+        crate, *_, folder, _ = path.relative_to(TOP / "crates").parts
+        module, text = f"{INSIDE}.{path.stem}" if folder == INSIDE else path.stem, path.read_text()
+        if module in ("Lib", INSIDE):
             continue
         names, lines, at, around = Names(text), text.split("\n"), None, ""
         for line in lines:
@@ -196,14 +205,17 @@ def main():
     counted = {"all": walk.specs, "from run_program": program, "from the public crates": public, "from either": either, "from neither": rest}
     for what, keys in counted.items():
         print(f"{what}: {len(keys)} definitions, {size(keys)} lines, in {files(keys)} files")
-    mixed = {walk.specs[key]["path"] for key in rest} & {walk.specs[key]["path"] for key in either}
-    print(f"{len(mixed)} files have both")
+    misplaced = [key for key in walk.specs if (key in either) == key[2].startswith(INSIDE + ".")]
+    for crate, module, name in sorted(key[1:] for key in misplaced):
+        print(f"crates/{crate}/specs: {name} of {module} is {'in' if module.startswith(INSIDE) else 'outside'} the folder {INSIDE}")
     page = TOP / "docs" / "PROMISES.md"
     right = page_with(page.read_text(), program, size)
     if "--write" in sys.argv:
         page.write_text(right)
     if "--check" in sys.argv and page.read_text() != right:
         sys.exit("docs/PROMISES.md has other numbers: scripts/prove/reached.py --write puts these there")
+    if "--check" in sys.argv and misplaced:
+        sys.exit(f"a definition is in {INSIDE} if and only if no contract of a public call reaches it")
     if "--list" in sys.argv:
         for key in rest:
             print(f"{walk.specs[key]['path']}: {key[3]}, {walk.specs[key]['lines']} lines")

@@ -1,7 +1,7 @@
 //! `bedkeep session -g GENOME -i RECORDS [-b RECORDS] [-fi FASTA]`: keeps a track of records by a script on standard input.
 //! `bedkeep SUBCOMMAND ..`: prints one view of its files.
 //!
-//! It hands the words, the files and the standard streams over, and exits. What a run does is in `iv_program`. If standard error is
+//! It hands the arguments, the files and the standard streams over, and exits. What a run does is in `iv_program`. If standard error is
 //! a terminal, a hint of `iv_hints` follows.
 #![tactic(auto)]
 
@@ -57,7 +57,7 @@ fn show(rt: &HostRuntime, hint: Result<Hint, AllocError>) {
     }
 }
 
-/// Runs what the words of the command line ask for.
+/// Runs what the arguments ask for.
 fn run(rt: &HostRuntime) -> Result<u8, Ending> {
     let words: Vec<String> = env::args(rt)?.collect(rt.alloc())?;
     let after_program = words.iter().skip(1).map(|word| word.as_bytes());
@@ -83,7 +83,7 @@ fn run(rt: &HostRuntime) -> Result<u8, Ending> {
     Ok(ended.status())
 }
 
-/// Ends a run whose words the system doesn't give.
+/// Ends a run whose arguments the system doesn't give.
 fn end(rt: &HostRuntime, ending: Ending) -> u8 {
     let status = tell(ending, b"", &mut StdSink::new(rt.stderr()));
     if rt.stderr().is_terminal() {

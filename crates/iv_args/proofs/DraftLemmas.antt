@@ -6,11 +6,11 @@ use Rattle.std.specs.List.{slice_get}
 use Rattle.std.specs.Option.{option_map, option_and_then, option_to_list}
 use Rattle.std.proofs.lemmas.List.{take_all, map-append}
 use Rattle.std.proofs.lemmas.List.Elements.{filter-append}
-use Rattle.iv_args.specs.declared.run.Run.{Run}
-use Rattle.iv_args.specs.declared.run.RunOption.{RunOption}
-use Rattle.iv_args.specs.declared.run.RunOption.TheVariants as option
+use Rattle.iv_args.specs.declared.subcommand.Subcommand.{Subcommand}
+use Rattle.iv_args.specs.declared.subcommand.RunOption.{RunOption}
+use Rattle.iv_args.specs.declared.subcommand.RunOption.TheVariants as option
 use Rattle.iv_args.specs.Words.{Setting, SplitWords, split_words, split_last, split_next, with_setting, with_words, option_of, takes_value, values_of, is_option}
-use Rattle.iv_args.specs.Drafts.{PartialPlan, unless_given, with_value, viewed, last_drafted, next_drafted, drafted}
+use Rattle.iv_args.specs.Inside.Drafts.{PartialPlan, unless_given, with_value, viewed, last_drafted, next_drafted, drafted}
 
 pub none≢some : {A : Type 0} (a : A) → None ≡ Some a → ⊥
 none≢some a e = cc
@@ -37,7 +37,7 @@ left-later f xs n =
     let short : length (drop n xs) ≤ length xs - n = omega (arith, length-drop n xs) in
     ap (λ l. map f l) (sym (take_all (length xs - n) (drop n xs) short))
 
-module _ (run : Run) (word : List ℕ) (old : PartialPlan) where
+module _ (run : Subcommand) (word : List ℕ) (old : PartialPlan) where
   -- given what the word is
   next-is : (o : Option RunOption) (takes : Bool) (next : List ℕ) (rest : List (List ℕ)) → option_of run word ≡ o → takes_value run word ≡ takes
       → drafted run (word ∷ next ∷ rest) old ≡ next_drafted o takes word next (drafted run rest) (drafted run (next ∷ rest)) old
@@ -244,7 +244,7 @@ next-gives None true word next old new both one p q at_both at_one h =
 next-gives None false word next old new both one p q at_both at_one h =
     gives-words (word ∷ []) old new q (at_one (viewed (word ∷ []) old) h)
 
-pub drafted-gives : (run : Run) (words : List (List ℕ)) (old new : PartialPlan) → drafted run words old ≡ Some new → Gives (split_words run words) old new
+pub drafted-gives : (run : Subcommand) (words : List (List ℕ)) (old new : PartialPlan) → drafted run words old ≡ Some new → Gives (split_words run words) old new
 drafted-gives run [] old new h = gives-nothing old new h
 drafted-gives run (word ∷ []) old new h = last-gives (option_of run word) word old new h
 drafted-gives run (word ∷ next ∷ words) old new h =
@@ -324,7 +324,7 @@ next-never (Some asked) takes word next old both one p q at_both at_one h =
 next-never None true word next old both one p q at_both at_one h = never-words (word ∷ next ∷ []) old p (at_both (viewed (word ∷ next ∷ []) old) h)
 next-never None false word next old both one p q at_both at_one h = never-words (word ∷ []) old q (at_one (viewed (word ∷ []) old) h)
 
-pub drafted-never : (run : Run) (words : List (List ℕ)) (old : PartialPlan) → drafted run words old ≡ None → Never (split_words run words) old
+pub drafted-never : (run : Subcommand) (words : List (List ℕ)) (old : PartialPlan) → drafted run words old ≡ None → Never (split_words run words) old
 drafted-never run [] old h = absurd (none≢some old (sym h))
 drafted-never run (word ∷ []) old h = last-never (option_of run word) word old h
 drafted-never run (word ∷ next ∷ words) old h =

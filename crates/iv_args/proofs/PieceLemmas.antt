@@ -5,11 +5,11 @@ use Rattle.std.specs.List.{AllByRecursion}
 use Rattle.std.specs.Option.{option_map, option_to_list, is_some}
 use Rattle.std.proofs.lemmas.Bool.{false≢true}
 use Rattle.std.proofs.lemmas.List.Elements.{recursion_from_All}
-use Rattle.iv_args.specs.declared.run.Run.{Run}
-use Rattle.iv_args.specs.declared.run.RunOption.{RunOption}
-use Rattle.iv_args.specs.declared.run.RunOption.TheVariants as option
+use Rattle.iv_args.specs.declared.subcommand.Subcommand.{Subcommand}
+use Rattle.iv_args.specs.declared.subcommand.RunOption.{RunOption}
+use Rattle.iv_args.specs.declared.subcommand.RunOption.TheVariants as option
 use Rattle.iv_args.specs.Words.{RunPlan, IsPlan, Setting, SplitWords, split_words, split_last, split_next, with_setting, with_words, run_of, option_of, takes_value, lead, values_of, is_option, width_said}
-use Rattle.iv_args.specs.Pieces.{Piece, piece_words, IsPiece}
+use Rattle.iv_args.specs.Inside.Pieces.{Piece, piece_words, IsPiece}
 use Rattle.iv_args.proofs.DraftLemmas.{none≢some, some-same}
 use Rattle.iv_args.proofs.WordLemmas.{width-once, few-listed}
 
@@ -25,17 +25,17 @@ put None piece parts = with_words (words_of piece) parts
 put (Some asked) piece parts = with_setting (asked, unwrap_or piece.value []) parts
 
 -- the parts with pieces before them
-abbrev put_all : Run → List Piece → SplitWords → SplitWords
+abbrev put_all : Subcommand → List Piece → SplitWords → SplitWords
 put_all run [] parts = parts
 put_all run (piece ∷ pieces) parts = put (option_of run piece.word) piece (put_all run pieces parts)
 
-next-by : (run : Run) (word next : List ℕ) (rest : List (List ℕ)) (o : Option RunOption) (takes : Bool) → option_of run word ≡ o → takes_value run word ≡ takes
+next-by : (run : Subcommand) (word next : List ℕ) (rest : List (List ℕ)) (o : Option RunOption) (takes : Bool) → option_of run word ≡ o → takes_value run word ≡ takes
     → split_words run (word ∷ next ∷ rest) ≡ split_next o takes word next (split_words run rest) (split_words run (next ∷ rest))
 next-by run word next rest o takes is value_is =
     ap (λ (p : Option RunOption). split_next p (takes_value run word) word next (split_words run rest) (split_words run (next ∷ rest))) is
     ∙ ap (λ (b : Bool). split_next o b word next (split_words run rest) (split_words run (next ∷ rest))) value_is
 
-split_words-by : (run : Run) (word : List ℕ) (value : Option (List ℕ)) (o : Option RunOption) (takes : Bool) → option_of run word ≡ o → takes_value run word ≡ takes
+split_words-by : (run : Subcommand) (word : List ℕ) (value : Option (List ℕ)) (o : Option RunOption) (takes : Bool) → option_of run word ≡ o → takes_value run word ≡ takes
     → is_some value ≡ (is_some o || takes) → (words : List (List ℕ))
     → split_words run ((word ∷ option_to_list value) ++ words) ≡ option_map (put o (record { word = word; value = value })) (split_words run words)
 split_words-by run word None None false is takes whole [] = ap (λ (p : Option RunOption). split_last p word) is
@@ -55,7 +55,7 @@ map-both f g None = refl
 map-both f g (Some p) = refl
 
 -- whole pieces are read one after another
-split_words-pieces : (run : Run) (pieces : List Piece) (words : List (List ℕ)) → AllByRecursion (IsPiece run) pieces
+split_words-pieces : (run : Subcommand) (pieces : List Piece) (words : List (List ℕ)) → AllByRecursion (IsPiece run) pieces
     → split_words run (piece_words pieces ++ words) ≡ option_map (put_all run pieces) (split_words run words)
 split_words-pieces run [] words whole = map-none (split_words run words)
 split_words-pieces run (piece ∷ pieces) words whole =
@@ -121,7 +121,7 @@ put-swapped (Some j) (Some l) a b p other = record {
   view = refl;
 }
 
-put_all-swapped : (run : Run) (front : List Piece) (a b : Piece) (p : SplitWords) → option_of run a.word ≢ option_of run b.word
+put_all-swapped : (run : Subcommand) (front : List Piece) (a b : Piece) (p : SplitWords) → option_of run a.word ≢ option_of run b.word
     → SameParts (put_all run (front ++ a ∷ b ∷ []) p) (put_all run (front ++ b ∷ a ∷ []) p)
 put_all-swapped run [] a b p other = put-swapped (option_of run a.word) (option_of run b.word) a b p other
 put_all-swapped run (c ∷ front) a b p other =
@@ -139,7 +139,7 @@ same-parts : (f g : SplitWords → SplitWords) → ((r : SplitWords) → SamePar
 same-parts f g same None p is = absurd (none≢some p is)
 same-parts f g same (Some r) p is = (g r, refl, subst (λ (x : SplitWords). SameParts x (g r)) (some-same (f r) p is) (same r))
 
-parts-swapped : (run : Run) (front : List Piece) (a b : Piece) (back : List (List ℕ)) (p : SplitWords) → AllByRecursion (IsPiece run) (front ++ a ∷ b ∷ [])
+parts-swapped : (run : Subcommand) (front : List Piece) (a b : Piece) (back : List (List ℕ)) (p : SplitWords) → AllByRecursion (IsPiece run) (front ++ a ∷ b ∷ [])
     → option_of run a.word ≢ option_of run b.word → split_words run (piece_words (front ++ a ∷ b ∷ []) ++ back) ≡ Some p
     → HasParts (split_words run (piece_words (front ++ b ∷ a ∷ []) ++ back)) p
 parts-swapped run front a b back p whole other is =
@@ -218,14 +218,14 @@ put-own option.Width piece p = omega arith
 put-given : (k : RunOption) (o : Option RunOption) (piece : Piece) (p : SplitWords) → o ≡ Some k → count_of k (put o piece p) ≡ count_of k p + 1
 put-given k o piece p is = subst (λ (r : Option RunOption). count_of k (put r piece p) ≡ count_of k p + 1) (sym is) (put-own k piece p)
 
-one-value : (run : Run) (k : RunOption) (middle : List Piece) (b : Piece) (p : SplitWords) → option_of run b.word ≡ Some k → 1 ≤ count_of k (put_all run (middle ++ b ∷ []) p)
+one-value : (run : Subcommand) (k : RunOption) (middle : List Piece) (b : Piece) (p : SplitWords) → option_of run b.word ≡ Some k → 1 ≤ count_of k (put_all run (middle ++ b ∷ []) p)
 one-value run k [] b p is = let more = put-given k (option_of run b.word) b p is in omega (arith, more)
 one-value run k (c ∷ middle) b p is =
     let some = one-value run k middle b p is in
     let more = put-more k (option_of run c.word) c (put_all run (middle ++ b ∷ []) p) in
     omega (arith, some, more)
 
-two-values : (run : Run) (k : RunOption) (front middle : List Piece) (a b : Piece) (p : SplitWords) → option_of run a.word ≡ Some k → option_of run b.word ≡ Some k
+two-values : (run : Subcommand) (k : RunOption) (front middle : List Piece) (a b : Piece) (p : SplitWords) → option_of run a.word ≡ Some k → option_of run b.word ≡ Some k
     → 2 ≤ count_of k (put_all run (front ++ a ∷ (middle ++ b ∷ [])) p)
 two-values run k [] middle a b p first second =
     let some = one-value run k middle b p second in

@@ -4,15 +4,15 @@ use Rattle.std.specs.Prelude.{◌&&◌, ◌||◌, not, IsTrue, IsSome, IfOk, IfE
 use Rattle.std.specs.Option.{option_to_list, is_some}
 use Rattle.iv_text.specs.declared.fault.Fault.{Fault}
 use Rattle.iv_text.specs.declared.fault.Fault.TheVariants as fault
-use Rattle.iv_args.specs.declared.run.Run.{Run}
-use Rattle.iv_args.specs.declared.run.RunOption.{RunOption}
-use Rattle.iv_args.specs.declared.run.RunOption.TheVariants as option
+use Rattle.iv_args.specs.declared.subcommand.Subcommand.{Subcommand}
+use Rattle.iv_args.specs.declared.subcommand.RunOption.{RunOption}
+use Rattle.iv_args.specs.declared.subcommand.RunOption.TheVariants as option
 use Rattle.iv_args.specs.Words.{RunPlan, IsPlan, SplitWords, split_words, run_of, lead, values_of, width_said, needs_other, needs_bases, are_view_words}
-use Rattle.iv_args.specs.Drafts.{PartialPlan, begun_by, drafted, Makes}
+use Rattle.iv_args.specs.Inside.Drafts.{PartialPlan, begun_by, drafted, Makes}
 use Rattle.iv_args.proofs.DraftLemmas.{none≢some, some-same, listed, Gives, drafted-gives, drafted-never}
 
 -- nothing is given by the first word
-begun-says : (run : Run) (word : List ℕ) (k : RunOption) → listed (begun_by run word) k ≡ []
+begun-says : (run : Subcommand) (word : List ℕ) (k : RunOption) → listed (begun_by run word) k ≡ []
 begun-says run word option.Sizes = refl
 begun-says run word option.First = refl
 begun-says run word option.Other = refl
@@ -57,7 +57,7 @@ pub few-listed : (o : Option (List ℕ)) → length (option_to_list o) ≤ 1
 few-listed None = omega arith
 few-listed (Some value) = omega arith
 
-module _ (word : List ℕ) (rest : List (List ℕ)) (run : Run) (is_run : Some run ≡ run_of word) where
+module _ (word : List ℕ) (rest : List (List ℕ)) (run : Subcommand) (is_run : Some run ≡ run_of word) where
   -- ---- words that are a plan
 
   -- the values of the settings are what was said
@@ -74,16 +74,16 @@ module _ (word : List ℕ) (rest : List (List ℕ)) (run : Run) (is_run : Some r
         parts = g.parts;
         are = refl;
         run = sym is_run ∙ ap Some (sym made.run_is);
-        splitting = ap (λ (r : Run). split_words r rest) made.run_is ∙ g.are;
+        splitting = ap (λ (r : Subcommand). split_words r rest) made.run_is ∙ g.are;
         sizes = values-said said g option.Sizes ∙ ap option_to_list made.sizes;
         first = values-said said g option.First ∙ ap option_to_list made.first;
         other = values-said said g option.Other ∙ ap option_to_list made.other;
         bases = values-said said g option.Bases ∙ ap option_to_list made.bases;
         width = ap width_said (values-said said g option.Width) ∙ made.width;
-        view = sym made.view ∙ g.view ∙ ap (λ (r : Run). lead r word ++ g.parts.view) (sym made.run_is);
-        has_other = λ needs. subst (λ (o : Option (List ℕ)). IsSome o) made.other (needed.0 (subst (λ (r : Run). IsTrue (needs_other r)) made.run_is needs));
-        has_bases = λ needs. subst (λ (o : Option (List ℕ)). IsSome o) made.bases (needed.1 (subst (λ (r : Run). IsTrue (needs_bases r)) made.run_is needs));
-        understood = ap (λ (r : Run). are_view_words r plan.view) made.run_is ∙ ap (are_view_words run) (sym made.view) ∙ made.understood;
+        view = sym made.view ∙ g.view ∙ ap (λ (r : Subcommand). lead r word ++ g.parts.view) (sym made.run_is);
+        has_other = λ needs. subst (λ (o : Option (List ℕ)). IsSome o) made.other (needed.0 (subst (λ (r : Subcommand). IsTrue (needs_other r)) made.run_is needs));
+        has_bases = λ needs. subst (λ (o : Option (List ℕ)). IsSome o) made.bases (needed.1 (subst (λ (r : Subcommand). IsTrue (needs_bases r)) made.run_is needs));
+        understood = ap (λ (r : Subcommand). are_view_words r plan.view) made.run_is ∙ ap (are_view_words run) (sym made.view) ∙ made.understood;
       }
 
   pub accept-from : (first said : PartialPlan) (plan : RunPlan) → first ≡ begun_by run word → drafted run rest first ≡ Some said → Makes run said plan
@@ -106,7 +106,7 @@ module _ (word : List ℕ) (rest : List (List ℕ)) (run : Run) (is_run : Some r
       record {
         run_is = same_run;
         word_is = same_word;
-        splitting = ap (λ (r : Run). split_words r rest) (sym same_run) ∙ ap (split_words plan.run) (sym same_rest) ∙ is.splitting;
+        splitting = ap (λ (r : Subcommand). split_words r rest) (sym same_run) ∙ ap (split_words plan.run) (sym same_rest) ∙ is.splitting;
       }
     where
       head : {a b : List ℕ} {xs ys : List (List ℕ)} → a ∷ xs ≡ b ∷ ys → b ≡ a
@@ -157,7 +157,7 @@ module _ (word : List ℕ) (rest : List (List ℕ)) (run : Run) (is_run : Some r
       let other : said.other ≡ plan.other = said-same said.other plan.other (at option.Other ∙ is.other) in
       let bases : said.bases ≡ plan.bases = said-same said.bases plan.bases (at option.Bases ∙ is.bases) in
       let view : said.view ≡ plan.view =
-      g.view ∙ ap (λ (p : SplitWords). lead run word ++ p.view) parts ∙ ap (λ (r : Run). lead r word ++ is.parts.view) (sym of.run_is)
+      g.view ∙ ap (λ (p : SplitWords). lead run word ++ p.view) parts ∙ ap (λ (r : Subcommand). lead r word ++ is.parts.view) (sym of.run_is)
       ∙ ap (λ (w : List ℕ). lead plan.run w ++ is.parts.view) (sym of.word_is) ∙ sym is.view in
       record {
         run_is = of.run_is;
@@ -168,9 +168,9 @@ module _ (word : List ℕ) (rest : List (List ℕ)) (run : Run) (is_run : Some r
         width = ap width_said (at option.Width) ∙ is.width;
         view = view;
         needed = needed-by (is_some said.other) (is_some said.bases) (needs_other run) (needs_bases run)
-            (λ needs. subst (λ (o : Option (List ℕ)). IsSome o) (sym other) (is.has_other (subst (λ (r : Run). IsTrue (needs_other r)) (sym of.run_is) needs)))
-            (λ needs. subst (λ (o : Option (List ℕ)). IsSome o) (sym bases) (is.has_bases (subst (λ (r : Run). IsTrue (needs_bases r)) (sym of.run_is) needs)));
-        understood = ap (are_view_words run) view ∙ ap (λ (r : Run). are_view_words r plan.view) (sym of.run_is) ∙ is.understood;
+            (λ needs. subst (λ (o : Option (List ℕ)). IsSome o) (sym other) (is.has_other (subst (λ (r : Subcommand). IsTrue (needs_other r)) (sym of.run_is) needs)))
+            (λ needs. subst (λ (o : Option (List ℕ)). IsSome o) (sym bases) (is.has_bases (subst (λ (r : Subcommand). IsTrue (needs_bases r)) (sym of.run_is) needs)));
+        understood = ap (are_view_words run) view ∙ ap (λ (r : Subcommand). are_view_words r plan.view) (sym of.run_is) ∙ is.understood;
       }
 
   pub refuse-plan : (said : PartialPlan) → drafted run rest (begun_by run word) ≡ Some said → ((plan : RunPlan) → ¬ Makes run said plan)

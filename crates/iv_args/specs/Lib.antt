@@ -1,5 +1,4 @@
 pub mod Words
-pub mod Pieces
-pub mod Drafts
 pub mod Notices
 pub mod Texts
+pub mod Inside

@@ -4,11 +4,11 @@ use Rattle.iv_args.specs.declared.help.TheConstants.{HELP, SESSION, MERGE, CLUST
 use Rattle.iv_args.specs.declared.notice.TheConstants.{VERSION}
 use Rattle.iv_args.specs.declared.notice.Notice.{Notice}
 use Rattle.iv_args.specs.declared.notice.Notice.TheVariants.{Help, HelpOf, Version}
-use Rattle.iv_args.specs.declared.run.Run.{Run}
-use Rattle.iv_args.specs.declared.run.Run.TheVariants as kind
+use Rattle.iv_args.specs.declared.subcommand.Subcommand.{Subcommand}
+use Rattle.iv_args.specs.declared.subcommand.Subcommand.TheVariants as kind
 
 -- how one kind of run is used
-abbrev pub help_text : Run → List ℕ
+abbrev pub help_text : Subcommand → List ℕ
 help_text kind.Session = SESSION.now
 help_text kind.Merge = MERGE.now
 help_text kind.Cluster = CLUSTER.now

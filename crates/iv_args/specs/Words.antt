@@ -6,17 +6,17 @@ use Rattle.iv_text.specs.declared.fault.Fault.{Fault}
 use Rattle.iv_text.specs.declared.fault.Fault.TheVariants as fault
 use Rattle.iv_view.specs.Views.{read_words}
 use Rattle.iv_view.specs.declared.view.View.{View}
-use Rattle.iv_args.specs.declared.run.Run.{Run}
-use Rattle.iv_args.specs.declared.run.Run.TheVariants as kind
-use Rattle.iv_args.specs.declared.run.RunOption.{RunOption}
-use Rattle.iv_args.specs.declared.run.RunOption.TheVariants as option
+use Rattle.iv_args.specs.declared.subcommand.Subcommand.{Subcommand}
+use Rattle.iv_args.specs.declared.subcommand.Subcommand.TheVariants as kind
+use Rattle.iv_args.specs.declared.subcommand.RunOption.{RunOption}
+use Rattle.iv_args.specs.declared.subcommand.RunOption.TheVariants as option
 use Rattle.iv_args.specs.declared.plan.Slot.{Slot}
 use Rattle.iv_args.specs.declared.plan.Slot.TheVariants.{Sizes, First, Other, Bases}
 
 -- what the words of a run say: its kind; the names of its files, the second file's and the FASTA file's if there is one;
 -- the width of a BED file without a record; and the words of the view that is printed, the subcommand first, none for a session
 pub record RunPlan : Type 0 where
-  pub run : Run
+  pub run : Subcommand
   pub sizes : List ℕ
   pub first : List ℕ
   pub other : Option (List ℕ)
@@ -32,7 +32,7 @@ file_of plan Other = plan.other
 file_of plan Bases = plan.bases
 
 -- the kind of run that a word says
-abbrev pub run_of : List ℕ → Option Run
+abbrev pub run_of : List ℕ → Option Subcommand
 run_of word =
     cond (bytes_eq word (codes "session")) (Some kind.Session)
     (cond (bytes_eq word (codes "merge")) (Some kind.Merge)
@@ -45,43 +45,43 @@ run_of word =
     None)))))))
 
 -- whether a script is run
-abbrev pub is_session : Run → Bool
+abbrev pub is_session : Subcommand → Bool
 is_session kind.Session = true
 is_session run = false
 
 -- the option that names the file of the records
-abbrev pub first_option : Run → List ℕ
+abbrev pub first_option : Subcommand → List ℕ
 first_option kind.Intersect = codes "-a"
 first_option kind.Subtract = codes "-a"
 first_option kind.Getfasta = codes "-bed"
 first_option run = codes "-i"
 
 -- whether a second file of records can be named
-abbrev pub takes_other : Run → Bool
+abbrev pub takes_other : Subcommand → Bool
 takes_other kind.Session = true
 takes_other kind.Intersect = true
 takes_other kind.Subtract = true
 takes_other run = false
 
 -- whether one has to be named
-abbrev pub needs_other : Run → Bool
+abbrev pub needs_other : Subcommand → Bool
 needs_other kind.Intersect = true
 needs_other kind.Subtract = true
 needs_other run = false
 
 -- whether a FASTA file can be named
-abbrev pub takes_bases : Run → Bool
+abbrev pub takes_bases : Subcommand → Bool
 takes_bases kind.Session = true
 takes_bases kind.Getfasta = true
 takes_bases run = false
 
 -- whether one has to be named
-abbrev pub needs_bases : Run → Bool
+abbrev pub needs_bases : Subcommand → Bool
 needs_bases kind.Getfasta = true
 needs_bases run = false
 
 -- the option that a word is: one that names a file of this kind of run, or the one of the width
-abbrev pub option_of : Run → List ℕ → Option RunOption
+abbrev pub option_of : Subcommand → List ℕ → Option RunOption
 option_of run word =
     cond (bytes_eq word (codes "-g")) (Some option.Sizes)
     (cond (bytes_eq word (first_option run)) (Some option.First)
@@ -91,7 +91,7 @@ option_of run word =
     None))))
 
 -- whether a word of the view has the next word as its value
-abbrev pub takes_value : Run → List ℕ → Bool
+abbrev pub takes_value : Subcommand → List ℕ → Bool
 takes_value kind.Merge word = bytes_eq word (codes "-d") || bytes_eq word (codes "-c") || bytes_eq word (codes "-o")
 takes_value kind.Cluster word = bytes_eq word (codes "-d")
 takes_value run word = false
@@ -126,7 +126,7 @@ split_next None true word next after_both later = option_map (with_words (word �
 split_next None false word next after_both later = option_map (with_words (word ∷ [])) later
 
 -- the words after the first of a run, separated from the front
-abbrev pub split_words : Run → List (List ℕ) → Option SplitWords
+abbrev pub split_words : Subcommand → List (List ℕ) → Option SplitWords
 split_words run [] = Some (record { settings = []; view = [] })
 split_words run (word ∷ []) = split_last (option_of run word) word
 split_words run (word ∷ next ∷ words) =
@@ -158,7 +158,7 @@ width_said (value ∷ []) = width_of value
 width_said (value ∷ next ∷ values) = None
 
 -- the first word of the view: that of the run; a session has none
-abbrev pub lead : Run → List ℕ → List (List ℕ)
+abbrev pub lead : Subcommand → List ℕ → List (List ℕ)
 lead kind.Session word = []
 lead run word = word ∷ []
 
@@ -169,7 +169,7 @@ are_understood (Err fault.Words) = false
 are_understood (Err why) = true
 
 -- whether the words of the view are such, of records of six columns and beside both files; a session has no such words
-abbrev pub are_view_words : Run → List (List ℕ) → Bool
+abbrev pub are_view_words : Subcommand → List (List ℕ) → Bool
 are_view_words kind.Session [] = true
 are_view_words kind.Session (word ∷ words) = false
 are_view_words run words = are_understood (read_words 6 true true words)

@@ -2,7 +2,7 @@
 ghost use Rattle.std.specs.Prelude.{◌≡◌};
 ghost use Rattle.iv_args.specs.Texts.{help_text};
 
-use crate::run::Run;
+use crate::subcommand::Subcommand;
 
 /// How the program is used.
 pub(crate) const HELP: &[u8] =
@@ -76,18 +76,18 @@ exit status: 0 all done, 1 lines of the script were refused, 2 bad options,
 ";
 
 /// How one kind of run is used.
-pub(crate) fn help_of(run: Run) -> &'static [u8]
+pub(crate) fn help_of(run: Subcommand) -> &'static [u8]
     ensures { result.now ≡ help_text run }
 {
     match run {
-        Run::Session => SESSION,
-        Run::Merge => MERGE,
-        Run::Cluster => CLUSTER,
-        Run::Complement => COMPLEMENT,
-        Run::Genomecov => GENOMECOV,
-        Run::Intersect => INTERSECT,
-        Run::Subtract => SUBTRACT,
-        Run::Getfasta => GETFASTA,
+        Subcommand::Session => SESSION,
+        Subcommand::Merge => MERGE,
+        Subcommand::Cluster => CLUSTER,
+        Subcommand::Complement => COMPLEMENT,
+        Subcommand::Genomecov => GENOMECOV,
+        Subcommand::Intersect => INTERSECT,
+        Subcommand::Subtract => SUBTRACT,
+        Subcommand::Getfasta => GETFASTA,
     }
 }
 

@@ -4,7 +4,7 @@ ghost use Rattle.iv_args.specs.Notices.{notice_of, is_help_command as help_comma
 ghost use Rattle.iv_args.specs.Texts.{notice_text};
 
 use crate::help::{HELP, help_of};
-use crate::run::Run;
+use crate::subcommand::Subcommand;
 
 /// What the program can say of itself.
 #[derive(Clone, Copy, Debug, PartialEq, Eq)]
@@ -12,7 +12,7 @@ pub enum Notice {
     /// How it is used.
     Help,
     /// How one kind of run is used.
-    HelpOf(Run),
+    HelpOf(Subcommand),
     /// Its name and version, and what proved it.
     Version,
 }
@@ -22,7 +22,7 @@ const VERSION: &[u8] = b"bedkeep 1.0.0
 proved with rattle-kit-13f logic dac8208d650f15bf
 ";
 
-/// Whether a first word asks for help.
+/// Whether a first argument asks for help.
 fn is_help_command(word: &[u8]) -> bool
     ensures { result ≡ help_command word.now }
 {
@@ -37,9 +37,9 @@ fn is_help_option(word: &[u8]) -> bool
 }
 
 impl Notice {
-    /// The notice that the words after the program's name ask for.
+    /// The notice that the arguments after the program's name ask for.
     ///
-    /// Help: `--help`, `-h` or `help` alone. Help on a subcommand or on `session`: its word after `--help` or `help`, or
+    /// Help: `--help`, `-h` or `help` alone. Help on a subcommand or on `session`: its argument after `--help` or `help`, or
     /// before `--help` or `-h`. The version: `--version` alone.
     pub fn of(words: &[&[u8]]) -> Option<Notice>
         ensures { result ≡ notice_of (map (λ word. word.now) words.now) }
@@ -47,8 +47,8 @@ impl Notice {
         match words {
             [word] if is_help_command(word) || is_help_option(word) => Some(Notice::Help),
             [word] if *word == b"--version".as_slice() => Some(Notice::Version),
-            [word, subject] if is_help_command(word) => Run::of(subject).map(Notice::HelpOf),
-            [subject, word] if is_help_option(word) => Run::of(subject).map(Notice::HelpOf),
+            [word, subject] if is_help_command(word) => Subcommand::of(subject).map(Notice::HelpOf),
+            [subject, word] if is_help_option(word) => Subcommand::of(subject).map(Notice::HelpOf),
             _ => None,
         }
     }

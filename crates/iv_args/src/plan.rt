@@ -1,11 +1,12 @@
-//! The words of a run: what they have said so far, and what all of them ask for.
+//! The arguments of a run: what they have said so far, and what all of them ask for.
 ghost use Rattle.std.specs.Prelude.{◌≡◌, ◌≤◌, ◌⊎◌, ◌∷◌, [], true, Some, None, IsSome, IfOk, IfErr, OnOk, map, length, drop};
 ghost use Rattle.std.specs.Option.{option_copied, option_to_list};
 ghost use Rattle.iv_view.specs.Views.{read_words};
 ghost use Rattle.iv_args.specs.Words.{RunPlan, IsPlan, are_view_words, file_of, is_session, width_of, width_said};
-ghost use Rattle.iv_args.specs.Drafts.{Makes, begun_by, drafted, has_needed_files, viewed, with_value};
+ghost use Rattle.iv_args.specs.Inside.Drafts.{Makes, begun_by, drafted, has_needed_files, viewed, with_value};
+ghost use Rattle.iv_text.specs.Widths.{IsWidth};
 
-use crate::run::{Run, RunOption};
+use crate::subcommand::{RunOption, Subcommand};
 use iv_text::Fault;
 use iv_view::{Beside, View, ViewFault};
 use std::alloc::{AllocError, Allocator, Global};
@@ -49,7 +50,7 @@ fn give<'a>(option: &mut Option<&'a [u8]>, value: &'a [u8]) -> Result<(), Fault>
     Ok(())
 }
 
-/// What is given so far: the values of the options, and the words of the view.
+/// What is given so far: the values of the options, and the arguments of the view.
 #[derive(Drop)]
 struct PlanDraft<'a, A: Allocator + Copy = Global> {
     sizes: Option<&'a [u8]>,
@@ -63,7 +64,7 @@ struct PlanDraft<'a, A: Allocator + Copy = Global> {
 impl<'a, A: Allocator + Copy> Model for PlanDraft<'a, A> {
     ghost use Rattle.std.specs.Prelude.{map};
     ghost use Rattle.std.specs.Option.{option_copied};
-    ghost use Rattle.iv_args.specs.Drafts.{PartialPlan};
+    ghost use Rattle.iv_args.specs.Inside.Drafts.{PartialPlan};
 
     ghost Value = { PartialPlan };
 
@@ -71,8 +72,8 @@ impl<'a, A: Allocator + Copy> Model for PlanDraft<'a, A> {
 }
 
 impl<'a, A: Allocator + Copy> PlanDraft<'a, A> {
-    /// What the first word says.
-    fn new(alloc: A, run: Run, word: &'a [u8]) -> Result<Self, Fault>
+    /// What the first argument says.
+    fn new(alloc: A, run: Subcommand, word: &'a [u8]) -> Result<Self, Fault>
         ensures ok { IfOk result (λ draft. draft ≡ begun_by run word.now) }
         ensures err { IfErr result (λ fault. fault ≡ Fault.NoMemory) }
     {
@@ -84,13 +85,13 @@ impl<'a, A: Allocator + Copy> PlanDraft<'a, A> {
             width: None,
             words: Vec::new(alloc),
         };
-        if run != Run::Session {
+        if run != Subcommand::Session {
             draft.keep(&[word])?;
         }
         Ok(draft)
     }
 
-    /// Keeps more words of the view.
+    /// Keeps more arguments of the view.
     fn keep(&mut self, words: &[&'a [u8]]) -> Result<(), AllocError>
         ensures { OnOk result (self.new ≡ viewed (map (λ word. word.now) words.now) self.old) }
     {
@@ -98,8 +99,8 @@ impl<'a, A: Allocator + Copy> PlanDraft<'a, A> {
         Ok(())
     }
 
-    /// Takes all words after the first.
-    fn take_all(&mut self, run: Run, words: &[&'a [u8]]) -> Result<(), Fault>
+    /// Takes all arguments after the first.
+    fn take_all(&mut self, run: Subcommand, words: &[&'a [u8]]) -> Result<(), Fault>
         ensures ok { OnOk result (drafted run (map (λ word. word.now) words.now) self.old ≡ Some self.new) }
         ensures err { IfErr result (λ fault. (fault ≡ Fault.NoMemory)
             ⊎ ((fault ≡ Fault.Words) × (drafted run (map (λ word. word.now) words.now) self.old ≡ None))) }
@@ -112,9 +113,9 @@ impl<'a, A: Allocator + Copy> PlanDraft<'a, A> {
         Ok(())
     }
 
-    /// Takes one more word, and the first of the others if that is its value. It says how many of the others it has
+    /// Takes one more argument, and the first of the others if that is its value. It says how many of the others it has
     /// taken: one or none.
-    fn take(&mut self, run: Run, word: &'a [u8], others: &[&'a [u8]]) -> Result<usize, Fault>
+    fn take(&mut self, run: Subcommand, word: &'a [u8], others: &[&'a [u8]]) -> Result<usize, Fault>
         ensures ok { IfOk result (λ values. drafted run (word.now ∷ map (λ word. word.now) others.now) self.old
             ≡ drafted run (map (λ word. word.now) (drop values others.now)) self.new) }
         ensures some { IfOk result (λ values. (values ≤ 1) × (values ≤ length others.now)) }
@@ -140,8 +141,8 @@ impl<'a, A: Allocator + Copy> PlanDraft<'a, A> {
         }
     }
 
-    /// Takes the last word. No others are taken.
-    fn take_last(&mut self, run: Run, word: &'a [u8]) -> Result<usize, Fault>
+    /// Takes the last argument. No others are taken.
+    fn take_last(&mut self, run: Subcommand, word: &'a [u8]) -> Result<usize, Fault>
         ensures ok { IfOk result (λ values. (values ≡ 0) × (drafted run (word.now ∷ []) self.old ≡ Some self.new)) }
         ensures err { IfErr result (λ fault. (fault ≡ Fault.NoMemory)
             ⊎ ((fault ≡ Fault.Words) × (drafted run (word.now ∷ []) self.old ≡ None))) }
@@ -168,26 +169,26 @@ impl<'a, A: Allocator + Copy> PlanDraft<'a, A> {
     }
 
     /// Whether each file is named that this kind of run needs beside the genome and the records.
-    fn has_needed(&self, run: Run) -> bool
+    fn has_needed(&self, run: Subcommand) -> bool
         ensures { result ≡ has_needed_files run self.now }
     {
         (self.other.is_some() || !run.needs_other()) && (self.bases.is_some() || !run.needs_bases())
     }
 
-    /// What the words of the view say, for records of six columns beside both files.
+    /// What the arguments of the view say, for records of six columns beside both files.
     fn read_view(&self) -> Result<View, ViewFault>
         ensures { result ≡ read_words 6 true true self.now.view }
     {
         View::asked(self.words.as_slice())
     }
 
-    /// Whether the words of the view are such, given what they say. A session has none.
-    fn has_view(&self, run: Run, view: Result<View, ViewFault>) -> bool
+    /// Whether the arguments of the view are such, given what they say. A session has none.
+    fn has_view(&self, run: Subcommand, view: Result<View, ViewFault>) -> bool
         requires { view ≡ read_words 6 true true self.now.view }
         ensures { result ≡ are_view_words run self.now.view }
     {
         match run {
-            Run::Session => self.words.is_empty(),
+            Subcommand::Session => self.words.is_empty(),
             _ => !matches!(view, Err(ViewFault::Words)),
         }
     }
@@ -203,17 +204,17 @@ impl<'a, A: Allocator + Copy> PlanDraft<'a, A> {
     }
 }
 
-/// What the words after the program's name ask for.
+/// What the arguments after the program's name ask for.
 #[derive(Drop)]
 pub struct Plan<'a, A: Allocator + Copy = Global> {
-    run: Run,
+    run: Subcommand,
     sizes: &'a [u8],
     first: &'a [u8],
     other: Option<&'a [u8]>,
     bases: Option<&'a [u8]>,
     width: u8,
     words: Vec<&'a [u8], A>,
-    // What the words of the view say for records of six columns beside both files.
+    // What the arguments of the view say for records of six columns beside both files.
     view: Result<View, ViewFault>,
 }
 
@@ -230,8 +231,11 @@ impl<'a, A: Allocator + Copy> Model for Plan<'a, A> {
     ghost invariant = { λ p. (3 ≤ p.width) × (p.width ≤ 6) × (p.view ≡ read_words 6 true true (map (λ word. word.now) p.words.items)) };
 }
 
-/// The plan of what the words have said, if that is one.
-fn plan_of<'a, A: Allocator + Copy>(run: Run, draft: PlanDraft<'a, A>) -> Result<Plan<'a, A>, Fault>
+/// The plan of what the arguments have said, if that is one.
+fn plan_of<'a, A: Allocator + Copy>(
+    run: Subcommand,
+    draft: PlanDraft<'a, A>,
+) -> Result<Plan<'a, A>, Fault>
     ensures ok { IfOk result (λ plan. Makes run draft.entry plan) }
     ensures err { IfErr result (λ fault. (fault ≡ Fault.Words) × ((plan : RunPlan) → ¬ Makes run draft.entry plan)) }
 {
@@ -256,17 +260,17 @@ fn plan_of<'a, A: Allocator + Copy>(run: Run, draft: PlanDraft<'a, A>) -> Result
 }
 
 impl<'a, A: Allocator + Copy> Plan<'a, A> {
-    /// What the words after the program's name ask for.
+    /// What the arguments after the program's name ask for.
     ///
     /// The first is `session` or a subcommand. After it come, in any order and each once, the options that name files,
     /// `-width N` if it is wanted, and the options of the subcommand: `-g GENOME` for all; `-i RECORDS`, but for
     /// `intersect` and `subtract` `-a RECORDS -b RECORDS`, and for `getfasta` `-bed RECORDS -fi FASTA`; a session takes
-    /// `-b` and `-fi` too if they are wanted. The word after an option that takes a value is its value, whatever it is;
+    /// `-b` and `-fi` too if they are wanted. The argument after an option that takes a value is its value, whatever it is;
     /// `N` is one digit from 3 to 6.
     ///
     /// # Errors
     ///
-    /// `Words` (E16) for any other words, and `NoMemory` (E22). A fault of the subcommand's options that only the width of the records can
+    /// `Words` (E16) for any other arguments, and `NoMemory` (E22). A fault of the subcommand's options that only the width of the records can
     /// show is not looked for here.
     pub fn read(alloc: A, words: &[&'a [u8]]) -> Result<Plan<'a, A>, Fault>
         ensures ok { IfOk result (λ plan. IsPlan (map (λ word. word.now) words.now) plan) }
@@ -276,7 +280,7 @@ impl<'a, A: Allocator + Copy> Plan<'a, A> {
         let Some((word, rest)) = words.split_first() else {
             return Err(Fault::Words);
         };
-        let Some(run) = Run::of(word) else {
+        let Some(run) = Subcommand::of(word) else {
             return Err(Fault::Words);
         };
         let mut draft = PlanDraft::new(alloc, run, word)?;
@@ -286,7 +290,7 @@ impl<'a, A: Allocator + Copy> Plan<'a, A> {
 
     /// The kind of run.
     /// It is for callers outside this repository.
-    pub fn run(&self) -> Run
+    pub fn run(&self) -> Subcommand
         ensures { result ≡ self.now.run }
     {
         self.run
@@ -296,24 +300,24 @@ impl<'a, A: Allocator + Copy> Plan<'a, A> {
     pub fn is_script(&self) -> bool
         ensures { result ≡ is_session self.now.run }
     {
-        self.run == Run::Session
+        self.run == Subcommand::Session
     }
 
-    /// The name of the genome file, as the words give it.
+    /// The name of the genome file, as the arguments give it.
     pub fn sizes_file(&self) -> &'a [u8]
         ensures { result.now ≡ self.now.sizes }
     {
         self.sizes
     }
 
-    /// The name of the file of the track's records, as the words give it.
+    /// The name of the file of the track's records, as the arguments give it.
     pub fn first_file(&self) -> &'a [u8]
         ensures { result.now ≡ self.now.first }
     {
         self.first
     }
 
-    /// The name of a file, as the words give it.
+    /// The name of a file, as the arguments give it.
     pub fn file(&self, slot: Slot) -> Option<&'a [u8]>
         ensures { option_copied result ≡ file_of self.now slot }
     {
@@ -328,12 +332,12 @@ impl<'a, A: Allocator + Copy> Plan<'a, A> {
     /// The width of a BED file without a record, 3 to 6.
     pub fn width(&self) -> u8
         ensures value { result ≡ self.now.width }
-        ensures known { (3 ≤ result) × (result ≤ 6) }
+        ensures known { IsWidth result }
     {
         self.width
     }
 
-    /// The words of the view that is to be printed: the subcommand and its options, in their order. A session has none.
+    /// The arguments of the view that is to be printed: the subcommand and its options, in their order. A session has none.
     /// It is for callers outside this repository.
     pub fn view_words(&self) -> &[&'a [u8]]
         ensures { map (λ word. word.now) result.now ≡ self.now.view }

@@ -1,12 +1,12 @@
-//! The kinds of run, and what a word is in each.
+//! The kinds of run, and what an argument is in each.
 ghost use Rattle.std.specs.Prelude.{◌≡◌, ◌≢◌, ◌↔◌, ◌++◌, ◌∷◌, [], ℕ, List, Some, All};
-ghost use Rattle.iv_args.specs.Pieces.{Piece, IsPiece, piece_words};
+ghost use Rattle.iv_args.specs.Inside.Pieces.{Piece, IsPiece, piece_words};
 ghost use Rattle.iv_args.specs.Words.{IsPlan, RunPlan, run_of, option_of, takes_value as value_follows, first_option as option_of_first, takes_other as other_taken, needs_other as other_needed, takes_bases as bases_taken, needs_bases as bases_needed};
-ghost use Rattle.iv_args.specs.declared.run.RunOption.{RunOption};
+ghost use Rattle.iv_args.specs.declared.subcommand.RunOption.{RunOption};
 
 /// A kind of run: a session, or a subcommand that prints its view of the files and ends.
 #[derive(Clone, Copy, Debug, PartialEq, Eq)]
-pub enum Run {
+pub enum Subcommand {
     Session,
     Merge,
     Cluster,
@@ -32,27 +32,27 @@ pub(crate) enum RunOption {
     Width,
 }
 
-impl Run {
-    /// The kind of run that a word says: the first of the words after the program's name.
-    pub fn of(word: &[u8]) -> Option<Run>
+impl Subcommand {
+    /// The kind of run that an argument says: the first of the arguments after the program's name.
+    pub fn of(word: &[u8]) -> Option<Subcommand>
         ensures { result ≡ run_of word.now }
     {
         if word == b"session".as_slice() {
-            Some(Run::Session)
+            Some(Subcommand::Session)
         } else if word == b"merge".as_slice() {
-            Some(Run::Merge)
+            Some(Subcommand::Merge)
         } else if word == b"cluster".as_slice() {
-            Some(Run::Cluster)
+            Some(Subcommand::Cluster)
         } else if word == b"complement".as_slice() {
-            Some(Run::Complement)
+            Some(Subcommand::Complement)
         } else if word == b"genomecov".as_slice() {
-            Some(Run::Genomecov)
+            Some(Subcommand::Genomecov)
         } else if word == b"intersect".as_slice() {
-            Some(Run::Intersect)
+            Some(Subcommand::Intersect)
         } else if word == b"subtract".as_slice() {
-            Some(Run::Subtract)
+            Some(Subcommand::Subtract)
         } else if word == b"getfasta".as_slice() {
-            Some(Run::Getfasta)
+            Some(Subcommand::Getfasta)
         } else {
             None
         }
@@ -63,9 +63,13 @@ impl Run {
         ensures { result.now ≡ option_of_first self }
     {
         match self {
-            Run::Intersect | Run::Subtract => b"-a",
-            Run::Getfasta => b"-bed",
-            Run::Session | Run::Merge | Run::Cluster | Run::Complement | Run::Genomecov => b"-i",
+            Subcommand::Intersect | Subcommand::Subtract => b"-a",
+            Subcommand::Getfasta => b"-bed",
+            Subcommand::Session
+            | Subcommand::Merge
+            | Subcommand::Cluster
+            | Subcommand::Complement
+            | Subcommand::Genomecov => b"-i",
         }
     }
 
@@ -73,31 +77,34 @@ impl Run {
     fn takes_other(self) -> bool
         ensures { result ≡ other_taken self }
     {
-        matches!(self, Run::Session | Run::Intersect | Run::Subtract)
+        matches!(
+            self,
+            Subcommand::Session | Subcommand::Intersect | Subcommand::Subtract
+        )
     }
 
     /// Whether a second file of records has to be named.
     pub(crate) fn needs_other(self) -> bool
         ensures { result ≡ other_needed self }
     {
-        matches!(self, Run::Intersect | Run::Subtract)
+        matches!(self, Subcommand::Intersect | Subcommand::Subtract)
     }
 
     /// Whether a FASTA file can be named.
     fn takes_bases(self) -> bool
         ensures { result ≡ bases_taken self }
     {
-        matches!(self, Run::Session | Run::Getfasta)
+        matches!(self, Subcommand::Session | Subcommand::Getfasta)
     }
 
     /// Whether a FASTA file has to be named.
     pub(crate) fn needs_bases(self) -> bool
         ensures { result ≡ bases_needed self }
     {
-        matches!(self, Run::Getfasta)
+        matches!(self, Subcommand::Getfasta)
     }
 
-    /// The option that a word is.
+    /// The option that an argument is.
     pub(crate) fn option(self, word: &[u8]) -> Option<RunOption>
         ensures { result ≡ option_of self word.now }
     {
@@ -116,27 +123,27 @@ impl Run {
         }
     }
 
-    /// Whether a word of the view has the next word as its value.
+    /// Whether an argument of the view has the next argument as its value.
     pub(crate) fn takes_value(self, word: &[u8]) -> bool
         ensures { result ≡ value_follows self word.now }
     {
         match self {
-            Run::Merge => {
+            Subcommand::Merge => {
                 word == b"-d".as_slice() || word == b"-c".as_slice() || word == b"-o".as_slice()
             }
-            Run::Cluster => word == b"-d".as_slice(),
+            Subcommand::Cluster => word == b"-d".as_slice(),
             _ => false,
         }
     }
 }
 
-/// Options that name files or the width may come in any order, also among the words of the view: two pieces next to each other
+/// Options that name files or the width may come in any order, also among the arguments of the view: two pieces next to each other
 /// may change places, unless both are of the view or both of one option.
 pub fn options_among_view_words()
     ensures { (plan : RunPlan) (word : List ℕ) (front : List Piece) (a b : Piece) (back : List (List ℕ)) → All (IsPiece plan.run) (front ++ a ∷ b ∷ []) → option_of plan.run a.word ≢ option_of plan.run b.word → (IsPlan (word ∷ (piece_words (front ++ a ∷ b ∷ []) ++ back)) plan ↔ IsPlan (word ∷ (piece_words (front ++ b ∷ a ∷ []) ++ back)) plan) }
 {}
 
-/// Words that give an option twice are no plan.
+/// Arguments that give an option twice are no plan.
 pub fn no_option_twice()
     ensures { (plan : RunPlan) (word : List ℕ) (front middle : List Piece) (a b : Piece) (back : List (List ℕ)) (asked : RunOption) → All (IsPiece plan.run) (front ++ a ∷ (middle ++ b ∷ [])) → option_of plan.run a.word ≡ Some asked → option_of plan.run b.word ≡ Some asked → ¬ IsPlan (word ∷ (piece_words (front ++ a ∷ (middle ++ b ∷ [])) ++ back)) plan }
 {}

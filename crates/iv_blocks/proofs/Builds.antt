@@ -6,14 +6,15 @@ use Rattle.std.proofs.lemmas.Bool.{cases_eq, cases_lt, and_parts, and_from, fals
 use Rattle.iv_text.specs.Genome.{Sequences, sequence_length}
 use Rattle.iv_text.specs.Named.{names_of}
 use Rattle.iv_text.specs.Read.{Fits}
-use Rattle.iv_text.specs.Row.{Row}
+use Rattle.iv_text.specs.RecordValue.{RecordValue}
 use Rattle.iv_track.specs.Entries.{IsLedger, value_at}
 use Rattle.iv_cover.specs.Blocks.{block_at}
 use Rattle.iv_cover.specs.TrackBlocks.{start_of, stop_of}
 use Rattle.iv_text.proofs.ListLemmas.{Mem, filter-agree, filter-filter, filter-none, all-mem, mem-all, same_tests}
-use Rattle.iv_blocks.specs.Groups.{is_in_group, is_on_side, group, starts_between, between, members_between, listed, is_minus}
+use Rattle.iv_blocks.specs.Groups.{is_in_group, is_on_side, group, listed}
+use Rattle.iv_blocks.specs.Inside.Groups.{starts_between, between, members_between, is_minus}
 use Rattle.iv_blocks.specs.KeptBlocks.{Key, key_cmp, Kept, Entries, KeptBlocks, kept_block, kept_at, name_of, AreBlocksOf}
-use Rattle.iv_blocks.specs.Putting.{ArePut, ArePutOn}
+use Rattle.iv_blocks.specs.Inside.Insertion.{AreInserted, AreInsertedOn}
 use Rattle.iv_blocks.specs.declared.group.Group.{Group}
 use Rattle.iv_blocks.specs.declared.group.Side.{Side}
 use Rattle.iv_blocks.specs.declared.group.Side.TheVariants.{Plus, Minus}
@@ -22,7 +23,7 @@ use Rattle.iv_blocks.proofs.GroupSweeps.{member-in}
 use Rattle.iv_blocks.proofs.MembersLemmas.{between-from}
 
 -- the sequences below this rank have their blocks, and the others have none yet
-pub record IsBuiltTo (genome : Sequences) (rows : List Row) (options : Options) (rank : ℕ) (now : KeptBlocks) : Type 0 where
+pub record IsBuiltTo (genome : Sequences) (rows : List RecordValue) (options : Options) (rank : ℕ) (now : KeptBlocks) : Type 0 where
   pub for_options : now.options ≡ options
   pub ordered : IsLedger key_cmp now.entries
   pub below : (k : Key) → k.0 < rank → value_at key_cmp now.entries k ≡ kept_at options (names_of genome) rows k
@@ -33,7 +34,7 @@ unfolding IsStrictlySortedBy
 no_entries = tt
 
 -- no block is kept yet
-pub built-none : (genome : Sequences) (rows : List Row) (now : KeptBlocks) → now.entries ≡ [] → IsBuiltTo genome rows now.options 0 now
+pub built-none : (genome : Sequences) (rows : List RecordValue) (now : KeptBlocks) → now.entries ≡ [] → IsBuiltTo genome rows now.options 0 now
 built-none genome rows now none = record {
   for_options = refl;
   ordered = subst (λ (l : Entries). IsLedger key_cmp l) (sym none) no_entries;
@@ -41,8 +42,8 @@ built-none genome rows now none = record {
   from = λ k high. ap (λ (l : Entries). value_at key_cmp l k) none;
 }
 
-module _ (genome : Sequences) (width : ℕ) (rows : List Row) (fit : All (Fits genome width) rows) where
-  fits : (q : Row) → Mem q rows → Fits genome width q
+module _ (genome : Sequences) (width : ℕ) (rows : List RecordValue) (fit : All (Fits genome width) rows) where
+  fits : (q : RecordValue) → Mem q rows → Fits genome width q
   fits = all-mem (Fits genome width) rows fit
 
   -- no record of a sequence stops past its end
@@ -52,7 +53,7 @@ module _ (genome : Sequences) (width : ℕ) (rows : List Row) (fit : All (Fits g
       let within : q.stop ≤ sequence_length genome q.seq = (fits q member.0).is_placed.within.1 in
       omega (arith, is, ap (sequence_length genome) member.1))
 
-  in_group-rank : (s : Bool) (rank : ℕ) (minus : Bool) (q : Row) → is_in_group s rank minus q ≡ true → q.seq ≡ rank
+  in_group-rank : (s : Bool) (rank : ℕ) (minus : Bool) (q : RecordValue) → is_in_group s rank minus q ≡ true → q.seq ≡ rank
   in_group-rank s rank minus q e = eqb-true _ _ (and_parts (q.seq == rank) (is_on_side s minus q) e).0
 
   -- so all records of a sequence are between its ends
@@ -69,12 +70,12 @@ module _ (genome : Sequences) (width : ℕ) (rows : List Row) (fit : All (Fits g
   pub kept-whole : (o : Options) (rank : ℕ) (minus : Bool) (x : ℕ)
       → kept_at o (names_of genome) (between 0 (sequence_length genome rank) rows) (rank, minus, x) ≡ kept_at o (names_of genome) rows (rank, minus, x)
   kept-whole o rank minus x =
-      ap (λ (l : List Row). option_map (kept_block (name_of (names_of genome) rank) (listed o.summaries)) (block_at start_of stop_of o.distance l x)) (group-whole o.stranded rank minus)
+      ap (λ (l : List RecordValue). option_map (kept_block (name_of (names_of genome) rank) (listed o.summaries)) (block_at start_of stop_of o.distance l x)) (group-whole o.stranded rank minus)
 
   -- nor past the last sequence
   pub kept-past : (o : Options) (k : Key) → length genome ≤ k.0 → kept_at o (names_of genome) rows k ≡ None
   kept-past o k past =
-      ap (λ (l : List Row). option_map (kept_block (name_of (names_of genome) k.0) (listed o.summaries)) (block_at start_of stop_of o.distance l k.2))
+      ap (λ (l : List RecordValue). option_map (kept_block (name_of (names_of genome) k.0) (listed o.summaries)) (block_at start_of stop_of o.distance l k.2))
       (filter-none (is_in_group o.stranded k.0 k.1) rows (λ q m. false_from_ne_true _ (λ e.
       let low = (fits q m).is_placed.within.0 in
       let at = in_group-rank o.stranded k.0 k.1 q e in
@@ -83,7 +84,7 @@ module _ (genome : Sequences) (width : ℕ) (rows : List Row) (fit : All (Fits g
   module _ (rank end : ℕ) (is : end ≡ sequence_length genome rank) (old : KeptBlocks) where
     -- a side's blocks are put, as they are to be
     put-whole : (side : Side) (now next : KeptBlocks) → now.options ≡ old.options
-        → ArePut (record { rank = rank; side = side }) (names_of genome) (between 0 end rows) now next
+        → AreInserted (record { rank = rank; side = side }) (names_of genome) (between 0 end rows) now next
         → (x : ℕ) → value_at key_cmp next.entries (rank, is_minus side, x) ≡ option_or (kept_at old.options (names_of genome) rows (rank, is_minus side, x)) (value_at key_cmp now.entries (rank, is_minus side, x))
     put-whole side now next same put x =
         put.here x
@@ -93,9 +94,9 @@ module _ (genome : Sequences) (width : ℕ) (rows : List Row) (fit : All (Fits g
 
     -- both sides are all
     pub put-both : (now new : KeptBlocks)
-        → ArePut (record { rank = rank; side = Plus }) (names_of genome) (between 0 end rows) old now
-        → ArePut (record { rank = rank; side = Minus }) (names_of genome) (between 0 end rows) now new
-        → ArePutOn rank (names_of genome) rows old new
+        → AreInserted (record { rank = rank; side = Plus }) (names_of genome) (between 0 end rows) old now
+        → AreInserted (record { rank = rank; side = Minus }) (names_of genome) (between 0 end rows) now new
+        → AreInsertedOn rank (names_of genome) rows old new
     put-both now new first second = record {
       options = second.options ∙ first.options;
       ordered = second.ordered;
@@ -113,7 +114,7 @@ module _ (genome : Sequences) (width : ℕ) (rows : List Row) (fit : All (Fits g
   option_or-none None = refl
   option_or-none (Some v) = refl
 
-  pub built-next : (options : Options) (rank : ℕ) (now next : KeptBlocks) → IsBuiltTo genome rows options rank now → ArePutOn rank (names_of genome) rows now next → IsBuiltTo genome rows options (rank + 1) next
+  pub built-next : (options : Options) (rank : ℕ) (now next : KeptBlocks) → IsBuiltTo genome rows options rank now → AreInsertedOn rank (names_of genome) rows now next → IsBuiltTo genome rows options (rank + 1) next
   built-next options rank now next built put = record {
     for_options = put.options ∙ built.for_options;
     ordered = put.ordered;

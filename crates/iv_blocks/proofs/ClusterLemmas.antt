@@ -16,7 +16,7 @@ use Rattle.iv_text.specs.Named.{names_of}
 use Rattle.iv_text.specs.Ordered.{AreInOrder}
 use Rattle.iv_text.specs.Read.{Fits}
 use Rattle.iv_text.specs.RecordText.{record_text}
-use Rattle.iv_text.specs.Row.{Row, row_cmp}
+use Rattle.iv_text.specs.RecordValue.{RecordValue, record_cmp}
 use Rattle.iv_cover.specs.Blocks.{blocks_below, block_at}
 use Rattle.iv_cover.specs.TrackBlocks.{start_of, stop_of}
 use Rattle.iv_text.specs.Covering.{on}
@@ -24,7 +24,7 @@ use Rattle.iv_cover.specs.declared.block.Block.{Block}
 use Rattle.iv_cover.proofs.Groups.{mem-append}
 use Rattle.iv_text.proofs.PrecedesLemmas.{Precedes, precedes-from}
 use Rattle.iv_text.proofs.ListLemmas.{Mem, filter-agree, mem-filter}
-use Rattle.iv_blocks.specs.BlockCursor.{interval_of, starts_until, drop_while, BeginsElse}
+use Rattle.iv_blocks.specs.Inside.BlockCursor.{interval_of, starts_until, drop_while, BeginsElse}
 use Rattle.iv_blocks.specs.ClusterRows.{blocks_before, cluster_row}
 use Rattle.iv_blocks.specs.Groups.{is_in_group, group, listed}
 use Rattle.iv_blocks.specs.KeptBlocks.{Key, Kept, Entries, AreBlocksOf, key_cmp, kept_at, kept_block, name_of}
@@ -41,7 +41,7 @@ row-parts text number = append_assoc (text ++ codes "\t") (decimal number) (code
 -- ---- blocks up to a record
 
 -- a later record has all blocks before it that an earlier one has
-until-later : (q r : Row) (b : Block) → Precedes q r → starts_until q.seq q.start b ≡ true → starts_until r.seq r.start b ≡ true
+until-later : (q r : RecordValue) (b : Block) → Precedes q r → starts_until q.seq q.start b ≡ true → starts_until r.seq r.start b ≡ true
 until-later q r b precedes passes = elim (or_cases (nat_lt b.sequence q.seq) ((b.sequence == q.seq) && nat_le b.start q.start) passes) [
   | inl lower ↦
       let low : b.sequence < q.seq = ltb-true _ _ lower in
@@ -59,19 +59,19 @@ until-later q r b precedes passes = elim (or_cases (nat_lt b.sequence q.seq) ((b
       ]
 ]
 
-later-rows : (r : Row) (rows : List Row) → AllByRecursion (λ y. is_le (row_cmp r y) ≡ true) rows → (q : Row) → Mem q rows → Precedes r q
+later-rows : (r : RecordValue) (rows : List RecordValue) → AllByRecursion (λ y. is_le (record_cmp r y) ≡ true) rows → (q : RecordValue) → Mem q rows → Precedes r q
 later-rows r [] all q m = absurd m
 later-rows r (x ∷ rows) all q (inl at) = subst (λ y. Precedes r y) at (precedes-from r x all.0)
 later-rows r (x ∷ rows) all q (inr m) = later-rows r rows all.1 q m
 
 -- these are the blocks that the walk has gone past: each starts up to each record that remains
-pub record IsPassed (number : ℕ) (all left : List Block) (rows : List Row) : Type 0 where
+pub record IsPassed (number : ℕ) (all left : List Block) (rows : List RecordValue) : Type 0 where
   pub passed : List Block
   pub whole : all ≡ passed ++ left
   pub count : number ≡ length passed
-  pub until : (r : Row) → Mem r rows → (b : Block) → Mem b passed → starts_until r.seq r.start b ≡ true
+  pub until : (r : RecordValue) → Mem r rows → (b : Block) → Mem b passed → starts_until r.seq r.start b ≡ true
 
-pub IsPassed-begin : (all left : List Block) (rows : List Row) → left ≡ all → IsPassed 0 all left rows
+pub IsPassed-begin : (all left : List Block) (rows : List RecordValue) → left ≡ all → IsPassed 0 all left rows
 IsPassed-begin all left rows same = record { passed = []; whole = sym same; count = refl; until = λ r m b never. absurd never }
 
 split : (test : Block → Bool) (blocks : List Block) → blocks ≡ take_while test blocks ++ drop_while test blocks
@@ -96,17 +96,17 @@ drop-begins test (x ∷ blocks) = go (drop-begins test blocks) (test x) refl
     go rest true is = subst (λ (l : List Block). BeginsElse test l) (sym (drop-first test (x ∷ blocks) blocks x refl is)) rest
     go rest false is = subst (λ (l : List Block). BeginsElse test l) (sym (drop-none test (x ∷ blocks) is)) is
 
-module _ (number more : ℕ) (all left after : List Block) (rows rest : List Row) (r : Row) (h : IsPassed number all left rows) (first : rows ≡ r ∷ rest)
+module _ (number more : ℕ) (all left after : List Block) (rows rest : List RecordValue) (r : RecordValue) (h : IsPassed number all left rows) (first : rows ≡ r ∷ rest)
     (counted : more ≡ length (take_while (starts_until r.seq r.start) left)) (past : after ≡ drop_while (starts_until r.seq r.start) left) where
   passes : (b : Block) → Mem b (h.passed ++ take_while (starts_until r.seq r.start) left) → starts_until r.seq r.start b ≡ true
   passes b m = elim (mem-append h.passed (take_while (starts_until r.seq r.start) left) b m) [
-    | inl before ↦ h.until r (subst (λ (l : List Row). Mem r l) (sym first) (inl refl)) b before
+    | inl before ↦ h.until r (subst (λ (l : List RecordValue). Mem r l) (sym first) (inl refl)) b before
     | inr now ↦ take-passes (starts_until r.seq r.start) left b now
   ]
 
   pub IsPassed-next : AreInOrder rows → IsPassed (number + more) all after rest
   IsPassed-next ordered =
-      let sorted : AreInOrder (r ∷ rest) = subst (λ (l : List Row). AreInOrder l) first ordered in
+      let sorted : AreInOrder (r ∷ rest) = subst (λ (l : List RecordValue). AreInOrder l) first ordered in
       record {
         passed = h.passed ++ take_while (starts_until r.seq r.start) left;
         whole = h.whole ∙ ap (λ (l : List Block). h.passed ++ l) (split (starts_until r.seq r.start) left)
@@ -126,7 +126,7 @@ module _ (number more : ℕ) (all left after : List Block) (rows rest : List Row
       ∙ take-all (starts_until r.seq r.start) (h.passed ++ take_while (starts_until r.seq r.start) left) (drop_while (starts_until r.seq r.start) left) passes (drop-begins (starts_until r.seq r.start) left) in
       omega (arith, h.count, counted, length-append h.passed (take_while (starts_until r.seq r.start) left), ap (λ (l : List Block). length l) same)
 
-pub IsPassed-few : (number more : ℕ) (all left : List Block) (rows : List Row) (r : Row) → IsPassed number all left rows → more ≡ length (take_while (starts_until r.seq r.start) left)
+pub IsPassed-few : (number more : ℕ) (all left : List Block) (rows : List RecordValue) (r : RecordValue) → IsPassed number all left rows → more ≡ length (take_while (starts_until r.seq r.start) left)
     → (number + more ≤ length all) × (length left ≤ length all)
 IsPassed-few number more all left rows r h counted =
     let whole : length all ≡ length h.passed + length left = ap (λ (l : List Block). length l) h.whole ∙ length-append h.passed left in
@@ -180,10 +180,10 @@ past-key s p x v after side = false_from_ne_true _ (λ e. elim (or_cases (nat_lt
       cc
 ])
 
-pub on-is : (s : ℕ) (rows : List Row) → group false s false rows ≡ on s rows
+pub on-is : (s : ℕ) (rows : List RecordValue) → group false s false rows ≡ on s rows
 on-is s rows = filter-agree (is_in_group false s false) (λ r. r.seq == s) rows (λ q m. and-true (q.seq == s))
 
-module _ (o : Options) (g : Sequences) (width : ℕ) (rows : List Row) (entries : Entries) (right : AreBlocksOf o (names_of g) rows entries) (fit : All (Fits g width) rows)
+module _ (o : Options) (g : Sequences) (width : ℕ) (rows : List RecordValue) (entries : Entries) (right : AreBlocksOf o (names_of g) rows entries) (fit : All (Fits g width) rows)
     (together : o.stranded ≡ false) where
   abbrev look : Key → Option Kept
   look = kept_at o (names_of g) rows
@@ -192,7 +192,7 @@ module _ (o : Options) (g : Sequences) (width : ℕ) (rows : List Row) (entries 
   no-other : (s p : ℕ) → look (s, true, p) ≡ None
   no-other s p =
       let none : group o.stranded s true rows ≡ [] = ap (λ b. group b s true rows) together ∙ group-other s rows in
-      ap (λ (l : List Row). option_map (kept_block (name_of (names_of g) s) (listed o.summaries)) (block_at start_of stop_of o.distance l p)) none
+      ap (λ (l : List RecordValue). option_map (kept_block (name_of (names_of g) s) (listed o.summaries)) (block_at start_of stop_of o.distance l p)) none
 
   -- how many entries are below a position
   side-count : (s n : ℕ) → length (side_entries look s false n) ≡ blocks_before o.distance rows s n
@@ -200,7 +200,7 @@ module _ (o : Options) (g : Sequences) (width : ℕ) (rows : List Row) (entries 
       ap (λ (l : Entries). length l) (side-is o g rows s false n)
       ∙ length-map (blocks_below start_of stop_of o.distance (group o.stranded s false rows) n) (entry_of o g s false)
       ∙ ap (λ (b : Bool). length (blocks_below start_of stop_of o.distance (group b s false rows) n)) together
-      ∙ ap (λ (l : List Row). length (blocks_below start_of stop_of o.distance l n)) (on-is s rows)
+      ∙ ap (λ (l : List RecordValue). length (blocks_below start_of stop_of o.distance l n)) (on-is s rows)
 
   rank-count : (s : ℕ) → length (rank_entries look (sequence_length g) s) ≡ blocks_before o.distance rows s (sequence_length g s)
   rank-count s =
@@ -260,11 +260,11 @@ module _ (o : Options) (g : Sequences) (width : ℕ) (rows : List Row) (entries 
           rw (← found.2) (past-key s p e.0 e.1 both.1 side)
 
   -- the row of a record
-  pub row-is : (r : Row) (number : ℕ) → number ≡ length (take_while (starts_until r.seq r.start) (map interval_of entries))
+  pub row-is : (r : RecordValue) (number : ℕ) → number ≡ length (take_while (starts_until r.seq r.start) (map interval_of entries))
       → cluster_row o.distance g rows r ≡ record_text g r ++ codes "\t" ++ decimal number ++ codes "\n"
   row-is r number is = rw (is ∙ count-until r.seq r.start) refl
 
   -- the row of the next record, and those of the others
-  pub rows-next : (left rest : List Row) (r : Row) (number : ℕ) → left ≡ r ∷ rest → number ≡ length (take_while (starts_until r.seq r.start) (map interval_of entries))
+  pub rows-next : (left rest : List RecordValue) (r : RecordValue) (number : ℕ) → left ≡ r ∷ rest → number ≡ length (take_while (starts_until r.seq r.start) (map interval_of entries))
       → flat_map (cluster_row o.distance g rows) left ≡ (record_text g r ++ codes "\t" ++ decimal number ++ codes "\n") ++ flat_map (cluster_row o.distance g rows) rest
   rows-next left rest r number first is = rw first (ap (λ (l : List ℕ). l ++ flat_map (cluster_row o.distance g rows) rest) (row-is r number is))

@@ -10,9 +10,9 @@ use Rattle.std.proofs.lemmas.List.Sums.{sum-map}
 use Rattle.iv_text.specs.Genome.{Sequences, sequence_length, seq_count}
 use Rattle.iv_text.specs.Ordered.{AreInOrder}
 use Rattle.iv_text.specs.Read.{IsOnGenome}
-use Rattle.iv_text.specs.Row.{Row}
+use Rattle.iv_text.specs.RecordValue.{RecordValue}
 use Rattle.iv_cover.specs.Blocks.{blocks_below, is_block_start, block_stop, members}
-use Rattle.iv_cover.specs.Coming.{is_joined, block_of, joined, still_open, coming}
+use Rattle.iv_cover.specs.Inside.Coming.{is_joined, block_of, joined, still_open, coming}
 use Rattle.iv_cover.specs.TrackBlocks.{Group, start_of, stop_of, block_on, blocks_on, blocks_of}
 use Rattle.iv_text.specs.Covering.{on}
 use Rattle.iv_cover.proofs.Comings.{coming-joined, coming-split_up}
@@ -23,30 +23,30 @@ use Rattle.iv_text.proofs.ListLemmas.{Mem, mem-filter, mem-contains}
 use Rattle.iv_blocks.specs.ClusterRows.{blocks_before, block_number, cluster_row, cluster_text}
 use Rattle.iv_blocks.proofs.KeptLemmas.{flat_map-flat_map}
 use Rattle.iv_blocks.proofs.NumberLemmas.{at, own, own-number, same-home}
-use Rattle.iv_blocks.specs.BlockSweeps.{numbered_row, numbered_rows}
+use Rattle.iv_blocks.specs.Inside.BlockSweeps.{numbered_row, numbered_rows}
 
 -- ---- the records that are in the blocks
 
 -- the members of a block that may be open
-abbrev pub open_members : Option Group → List Row
+abbrev pub open_members : Option Group → List RecordValue
 open_members None = []
 open_members (Some b) = b.members
 
-abbrev pub members_of : List Group → List Row
+abbrev pub members_of : List Group → List RecordValue
 members_of blocks = flat_map (λ b. b.members) blocks
 
 -- each record that is left is in one of the remaining blocks, in order
-pub coming-members : (d : ℕ) (rows : List Row) (current : Option Group) → members_of (coming d current rows) ≡ open_members current ++ rows
+pub coming-members : (d : ℕ) (rows : List RecordValue) (current : Option Group) → members_of (coming d current rows) ≡ open_members current ++ rows
 coming-members d [] None = refl
 coming-members d [] (Some b) = refl
 coming-members d (r ∷ rows) None = coming-members d rows (Some (block_of r))
 coming-members d (r ∷ rows) (Some b) = elim (cases_Bool (is_joined d b r)) [
   | inl e ↦ ap members_of (coming-joined d b r rows e) ∙ coming-members d rows (Some (joined b r)) ∙ append_assoc b.members (r ∷ []) rows
-  | inr e ↦ ap members_of (coming-split_up d b r rows e) ∙ ap (λ (l : List Row). b.members ++ l) (coming-members d rows (Some (block_of r)))
+  | inr e ↦ ap members_of (coming-split_up d b r rows e) ∙ ap (λ (l : List RecordValue). b.members ++ l) (coming-members d rows (Some (block_of r)))
 ]
 
 -- there are no more blocks than records, beside one that is open
-coming-count : (d : ℕ) (rows : List Row) (current : Option Group) → length (coming d current rows) ≤ length rows + length (still_open current)
+coming-count : (d : ℕ) (rows : List RecordValue) (current : Option Group) → length (coming d current rows) ≤ length rows + length (still_open current)
 coming-count d [] None = omega arith
 coming-count d [] (Some b) = omega arith
 coming-count d (r ∷ rows) None = omega (arith, coming-count d rows (Some (block_of r)))
@@ -55,7 +55,7 @@ coming-count d (r ∷ rows) (Some b) = elim (cases_Bool (is_joined d b r)) [
   | inr e ↦ omega (arith, ap (λ (l : List Group). length l) (coming-split_up d b r rows e), coming-count d rows (Some (block_of r)))
 ]
 
-pub coming-few : (d : ℕ) (rows : List Row) → length (coming d None rows) ≤ length rows
+pub coming-few : (d : ℕ) (rows : List RecordValue) → length (coming d None rows) ≤ length rows
 coming-few d rows = omega (arith, coming-count d rows None)
 
 -- ---- numbers
@@ -72,7 +72,7 @@ flat_map-agree_on : {X : Type 0} (f h : X → List ℕ) (xs : List X) → ((x : 
 flat_map-agree_on f h [] same = refl
 flat_map-agree_on f h (x ∷ xs) same = ap₂ (λ (a b : List ℕ). a ++ b) (same x (inl refl)) (flat_map-agree_on f h xs (λ y m. same y (inr m)))
 
-module _ (d : ℕ) (g : Sequences) (rows : List Row) (lie : All (IsOnGenome g) rows) where
+module _ (d : ℕ) (g : Sequences) (rows : List RecordValue) (lie : All (IsOnGenome g) rows) where
   -- how many blocks there are on the sequences below a rank
   abbrev total : ℕ → ℕ
   total s = length (gathered (blocks_on d g rows) s)
@@ -88,8 +88,8 @@ module _ (d : ℕ) (g : Sequences) (rows : List Row) (lie : All (IsOnGenome g) r
   block_rows b = flat_map (cluster_row d g rows) b.members
 
   -- the number of a member of the block that starts at x
-  member-number : (s x : ℕ) (r : Row) → Mem r (members start_of stop_of d (on s rows) x)
-      → (y : ℕ × (ℕ × List Row)) → at d g rows lie s x ≡ Some y → block_number d g rows r ≡ total s + length (values (at d g rows lie s) x) + 1
+  member-number : (s x : ℕ) (r : RecordValue) → Mem r (members start_of stop_of d (on s rows) x)
+      → (y : ℕ × (ℕ × List RecordValue)) → at d g rows lie s x ≡ Some y → block_number d g rows r ≡ total s + length (values (at d g rows lie s) x) + 1
   member-number s x r m y there =
       let is_placed = on-in s rows r (mem-filter _ (on s rows) r m).0 in
       let start : own d g rows lie r ≡ x
@@ -99,36 +99,36 @@ module _ (d : ℕ) (g : Sequences) (rows : List Row) (lie : All (IsOnGenome g) r
       let lower : sum (map (λ rank. blocks_before d rows rank (sequence_length g rank)) (range_with_len 0 r.seq)) ≡ total s
       = ap (λ (k : ℕ). sum (map (λ rank. blocks_before d rows rank (sequence_length g rank)) (range_with_len 0 k))) is_placed.1 ∙ sym (total-is s) in
       let more : length (values (at d g rows lie s) (suc x)) ≡ length (values (at d g rows lie s) x) + 1
-      = ap (λ (l : List (ℕ × (ℕ × List Row))). length l) (values-some (at d g rows lie s) x y there) ∙ length-append (values (at d g rows lie s) x) (y ∷ []) in
+      = ap (λ (l : List (ℕ × (ℕ × List RecordValue))). length l) (values-some (at d g rows lie s) x y there) ∙ length-append (values (at d g rows lie s) x) (y ∷ []) in
       omega (arith, lower, count, more)
 
   -- the block that starts at a position has the members of the definition
-  members-are : (s x : ℕ) (y : ℕ × (ℕ × List Row)) → at d g rows lie s x ≡ Some y → y.1.1 ≡ members start_of stop_of d (on s rows) x
+  members-are : (s x : ℕ) (y : ℕ × (ℕ × List RecordValue)) → at d g rows lie s x ≡ Some y → y.1.1 ≡ members start_of stop_of d (on s rows) x
   members-are s x y there = elim (cases_Bool (is_block_start start_of stop_of d (on s rows) x)) [
     | inl e ↦
         let same : Some (x, (block_stop start_of stop_of d (on s rows) x, members start_of stop_of d (on s rows) x)) ≡ Some y
-        = sym (ap (option_map (λ (b : ℕ × List Row). (x, b))) (cond-true (is_block_start start_of stop_of d (on s rows) x) _ _ e)) ∙ there in
+        = sym (ap (option_map (λ (b : ℕ × List RecordValue). (x, b))) (cond-true (is_block_start start_of stop_of d (on s rows) x) _ _ e)) ∙ there in
         some-is _ y same
     | inr e ↦
-        let never : None ≡ Some y = sym (ap (option_map (λ (b : ℕ × List Row). (x, b))) (cond-false (is_block_start start_of stop_of d (on s rows) x) _ _ e)) ∙ there in
+        let never : None ≡ Some y = sym (ap (option_map (λ (b : ℕ × List RecordValue). (x, b))) (cond-false (is_block_start start_of stop_of d (on s rows) x) _ _ e)) ∙ there in
         cc
   ]
     where
-      some-is : (z w : ℕ × (ℕ × List Row)) → Some z ≡ Some w → w.1.1 ≡ z.1.1
+      some-is : (z w : ℕ × (ℕ × List RecordValue)) → Some z ≡ Some w → w.1.1 ≡ z.1.1
       some-is z w is = cc
 
   -- one more block of a sequence
-  block-more : (s x : ℕ) (y : ℕ × (ℕ × List Row)) → at d g rows lie s x ≡ Some y
+  block-more : (s x : ℕ) (y : ℕ × (ℕ × List RecordValue)) → at d g rows lie s x ≡ Some y
       → numbered_rows g (total s + length (map (block_on s) (values (at d g rows lie s) x))) (block_on s y ∷ []) ≡ flat_map block_rows (block_on s y ∷ [])
   block-more s x y there =
       let k : ℕ = total s + length (map (block_on s) (values (at d g rows lie s) x)) + 1 in
       ap (λ (l : List ℕ). l ++ []) (flat_map-agree_on (numbered_row g k) (cluster_row d g rows) y.1.1 (λ r m.
-      let number = member-number s x r (subst (λ (l : List Row). Mem r l) (members-are s x y there) m) y there in
+      let number = member-number s x r (subst (λ (l : List RecordValue). Mem r l) (members-are s x y there) m) y there in
       let same : k ≡ block_number d g rows r = omega (arith, number, length-map (values (at d g rows lie s) x) (block_on s)) in
       ap (λ n. numbered_row g n r) same))
 
   -- the blocks on a sequence, from the first on, have the numbers of their members
-  abbrev AreNumbered : ℕ → List (ℕ × (ℕ × List Row)) → Type 0
+  abbrev AreNumbered : ℕ → List (ℕ × (ℕ × List RecordValue)) → Type 0
   AreNumbered s l = numbered_rows g (total s) (map (block_on s) l) ≡ flat_map block_rows (map (block_on s) l)
 
   -- the blocks of a sequence that start below n
@@ -136,7 +136,7 @@ module _ (d : ℕ) (g : Sequences) (rows : List Row) (lie : All (IsOnGenome g) r
   sequence-rows s zero = refl
   sequence-rows s (suc n) = go (sequence-rows s n) (at d g rows lie s n) refl
     where
-      go : AreNumbered s (values (at d g rows lie s) n) → (o : Option (ℕ × (ℕ × List Row))) → at d g rows lie s n ≡ o → AreNumbered s (values (at d g rows lie s) (suc n))
+      go : AreNumbered s (values (at d g rows lie s) n) → (o : Option (ℕ × (ℕ × List RecordValue))) → at d g rows lie s n ≡ o → AreNumbered s (values (at d g rows lie s) (suc n))
       go rest None is = subst (AreNumbered s) (sym (values-none (at d g rows lie s) n is)) rest
       go rest (Some y) is =
           let vs = values (at d g rows lie s) n in

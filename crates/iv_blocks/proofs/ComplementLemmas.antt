@@ -8,7 +8,7 @@ use Rattle.std.proofs.lemmas.List.Sums.{length-filter}
 use Rattle.iv_text.specs.Genome.{Sequences, seq_count, sequence_name, sequence_length}
 use Rattle.iv_text.specs.Named.{names_of}
 use Rattle.iv_text.specs.Read.{Fits, IsOnGenome}
-use Rattle.iv_text.specs.Row.{Row}
+use Rattle.iv_text.specs.RecordValue.{RecordValue}
 use Rattle.iv_cover.specs.Blocks.{block_stop, block_at, blocks_below}
 use Rattle.iv_text.specs.Covering.{covers}
 use Rattle.iv_cover.specs.Depth.{depth}
@@ -19,7 +19,7 @@ use Rattle.iv_cover.proofs.Cover.{Free, Covered, some_start, block_at_start, blo
 use Rattle.iv_cover.proofs.Groups.{mem-left, mem-right, mem-append}
 use Rattle.iv_cover.proofs.Positions.{values, values-none, values-some, values-agree, values-none_from}
 use Rattle.iv_text.proofs.ListLemmas.{Mem, mem-filter_from, all-mem, filter-none, any-found, any-none, mem-place}
-use Rattle.iv_blocks.specs.BlockCursor.{interval_of, gap_between, gaps_between, starts_until, drop_while, BeginsElse, sequence_text, texts}
+use Rattle.iv_blocks.specs.Inside.BlockCursor.{interval_of, gap_between, gaps_between, starts_until, drop_while, BeginsElse, sequence_text, texts}
 use Rattle.iv_blocks.specs.ComplementRows.{gap_row, gap_rows, is_shown, complement_text}
 use Rattle.iv_blocks.specs.Groups.{is_in_group, group, sides}
 use Rattle.iv_blocks.specs.KeptBlocks.{Entries, AreBlocksOf}
@@ -116,14 +116,14 @@ value-mem {Y} f (suc n) x y low is = go (λ before. value-mem f n x y before is)
 
 -- ---- the depth
 
-depth-counts : (rows : List Row) (s p : ℕ) → depth rows s p ≡ length (filter (covers s p) rows)
+depth-counts : (rows : List RecordValue) (s p : ℕ) → depth rows s p ≡ length (filter (covers s p) rows)
 depth-counts rows s p = sym (length-filter (covers s p) rows)
 
-in-group : (s : ℕ) (rows : List Row) (q : Row) → Mem q rows → q.seq ≡ s → Mem q (group false s false rows)
+in-group : (s : ℕ) (rows : List RecordValue) (q : RecordValue) → Mem q rows → q.seq ≡ s → Mem q (group false s false rows)
 in-group s rows q m rank = mem-filter_from (is_in_group false s false) rows q m (and_from _ _ (eq-eqb q.seq s rank) refl)
 
 -- a covered position has a depth
-depth-some : (rows : List Row) (s p : ℕ) → Covered start_of stop_of 0 (group false s false rows) (suc p) → depth rows s p ≢ 0
+depth-some : (rows : List RecordValue) (s p : ℕ) → Covered start_of stop_of 0 (group false s false rows) (suc p) → depth rows s p ≢ 0
 depth-some rows s p c none =
     let both = group-in false s false rows c.0 c.1 in
     let covers_it : covers s p c.0 ≡ true = and_from _ _ (eq-eqb c.0.seq s both.1) (and_from _ _ (le-leb c.0.start p (omega (arith, c.2))) (lt-ltb p c.0.stop (omega (arith, c.3)))) in
@@ -131,10 +131,10 @@ depth-some rows s p c none =
     omega (arith, depth-counts rows s p, none, at.1)
 
 -- and a free one has none
-depth-none : (rows : List Row) (s p : ℕ) → Free start_of stop_of 0 (group false s false rows) (suc p) → depth rows s p ≡ 0
+depth-none : (rows : List RecordValue) (s p : ℕ) → Free start_of stop_of 0 (group false s false rows) (suc p) → depth rows s p ≡ 0
 depth-none rows s p free =
     depth-counts rows s p
-    ∙ ap (λ (l : List Row). length l) (filter-none (covers s p) rows (λ q m. false_from_ne_true _ (λ e.
+    ∙ ap (λ (l : List RecordValue). length l) (filter-none (covers s p) rows (λ q m. false_from_ne_true _ (λ e.
     let first = and_parts (q.seq == s) (nat_le q.start p && nat_lt p q.stop) e in
     let rest = and_parts (nat_le q.start p) (nat_lt p q.stop) first.1 in
     omega (arith, free q (in-group s rows q m (eqb-true _ _ first.0)) (omega (arith, leb-true _ _ rest.0)), ltb-true _ _ rest.1))))
@@ -142,15 +142,15 @@ depth-none rows s p free =
 -- ---- the blocks of a sequence
 
 -- where a block is that starts at b.0 and stops at b.1.0
-abbrev pub place_of : ℕ → ℕ → Option (ℕ × List Row) → Option Block
-place_of s x at = option_map (λ (b : ℕ × List Row). record { sequence = s; start = x; stop = b.0 }) at
+abbrev pub place_of : ℕ → ℕ → Option (ℕ × List RecordValue) → Option Block
+place_of s x at = option_map (λ (b : ℕ × List RecordValue). record { sequence = s; start = x; stop = b.0 }) at
 
-place-of : (o : Options) (g : Sequences) (s x : ℕ) (at : Option (ℕ × List Row))
+place-of : (o : Options) (g : Sequences) (s x : ℕ) (at : Option (ℕ × List RecordValue))
     → option_map interval_of (option_map (entry_of o g s false) (option_map (λ b. (x, b)) at)) ≡ place_of s x at
 place-of o g s x None = refl
 place-of o g s x (Some b) = refl
 
-place-is_placed : (s x : ℕ) (at : Option (ℕ × List Row)) (b : Block) → place_of s x at ≡ Some b → (b.sequence ≡ s) × (b.start ≡ x)
+place-is_placed : (s x : ℕ) (at : Option (ℕ × List RecordValue)) (b : Block) → place_of s x at ≡ Some b → (b.sequence ≡ s) × (b.start ≡ x)
 place-is_placed s x None b is = cc
 place-is_placed s x (Some p) b is = (cc, cc)
 
@@ -160,14 +160,14 @@ shown-some from to [] some = absurd (some refl)
 shown-some from to (b ∷ blocks) some = refl
 
 -- where the block on a sequence is that starts at a position, if there is one
-abbrev pub interval_at : List Row → ℕ → ℕ → Option Block
+abbrev pub interval_at : List RecordValue → ℕ → ℕ → Option Block
 interval_at rows s x = place_of s x (block_at start_of stop_of 0 (group false s false rows) x)
 
 -- where the blocks on a sequence are
-abbrev pub intervals_on : Sequences → List Row → ℕ → List Block
+abbrev pub intervals_on : Sequences → List RecordValue → ℕ → List Block
 intervals_on g rows s = values (interval_at rows s) (sequence_length g s)
 
-module _ (g : Sequences) (rows : List Row) (lie : All (IsOnGenome g) rows) where
+module _ (g : Sequences) (rows : List RecordValue) (lie : All (IsOnGenome g) rows) where
   are-own : AreOwn g (intervals_on g rows)
   are-own s b m =
       let found = mem-values (interval_at rows s) (sequence_length g s) b m in
@@ -175,7 +175,7 @@ module _ (g : Sequences) (rows : List Row) (lie : All (IsOnGenome g) rows) where
       (is_placed.0, omega (arith, is_placed.1, found.1))
 
   -- the records of a sequence end on it
-  within : (s : ℕ) (q : Row) → Mem q (group false s false rows) → (q.start < q.stop) × (q.stop ≤ sequence_length g s)
+  within : (s : ℕ) (q : RecordValue) → Mem q (group false s false rows) → (q.start < q.stop) × (q.stop ≤ sequence_length g s)
   within s q m =
       let both = group-in false s false rows q m in
       let is_placed = all-mem (IsOnGenome g) rows lie q both.0 in
@@ -188,7 +188,7 @@ module _ (g : Sequences) (rows : List Row) (lie : All (IsOnGenome g) rows) where
   -- a sequence with a record has a block
   own-some : (s : ℕ) → list_any (λ r. r.seq == s) rows ≡ true → intervals_on g rows s ≢ []
   own-some s e none =
-      let found = any-found (λ (r : Row). r.seq == s) rows e in
+      let found = any-found (λ (r : RecordValue). r.seq == s) rows e in
       let m = in-group s rows found.0 found.1 (eqb-true _ _ found.2) in
       let first = some_start start_of stop_of 0 (group false s false rows) found.0.start found.0 m (omega arith) in
       let fits = within s found.0 m in
@@ -202,9 +202,9 @@ module _ (g : Sequences) (rows : List Row) (lie : All (IsOnGenome g) rows) where
   -- and one without has none
   own-none : (s : ℕ) → list_any (λ r. r.seq == s) rows ≡ false → intervals_on g rows s ≡ []
   own-none s e =
-      let empty : group false s false rows ≡ [] = filter-none (is_in_group false s false) rows (λ q m. and_left _ _ (any-none (λ (r : Row). r.seq == s) rows e q m)) in
+      let empty : group false s false rows ≡ [] = filter-none (is_in_group false s false) rows (λ q m. and_left _ _ (any-none (λ (r : RecordValue). r.seq == s) rows e q m)) in
       values-none_from (interval_at rows s) (sequence_length g s) 0 (omega arith)
-      (λ x from below. ap (λ (l : List Row). place_of s x (block_at start_of stop_of 0 l x)) empty)
+      (λ x from below. ap (λ (l : List RecordValue). place_of s x (block_at start_of stop_of 0 l x)) empty)
 
   sequence-is : (limited : Bool) (s : ℕ) → sequence_text (not limited) g s (intervals_on g rows s) ≡ gap_rows limited g rows s
   sequence-is false s = ap (flat_map (gap_row (sequence_name g s))) (runs-are s)
@@ -221,7 +221,7 @@ module _ (g : Sequences) (rows : List Row) (lie : All (IsOnGenome g) rows) where
       texts-are (not limited) g (intervals_on g rows) are-own (seq_count g) 0
       ∙ flat_map-agree (λ s. sequence_text (not limited) g s (intervals_on g rows s)) (gap_rows limited g rows) (range_with_len 0 (seq_count g)) (sequence-is limited)
 
-module _ (o : Options) (g : Sequences) (width : ℕ) (rows : List Row) (entries : Entries) (right : AreBlocksOf o (names_of g) rows entries) (fit : All (Fits g width) rows)
+module _ (o : Options) (g : Sequences) (width : ℕ) (rows : List RecordValue) (entries : Entries) (right : AreBlocksOf o (names_of g) rows entries) (fit : All (Fits g width) rows)
     (distance : o.distance ≡ 0) (together : o.stranded ≡ false) where
   -- where the entries of a sequence are
   abbrev own_entries : ℕ → Entries

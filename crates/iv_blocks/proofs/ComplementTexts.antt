@@ -5,9 +5,9 @@ use Rattle.std.specs.Option.{option_map}
 use Rattle.std.proofs.lemmas.Bool.{cases_Bool}
 use Rattle.iv_text.specs.Genome.{Sequences, seq_count, sequence_length}
 use Rattle.iv_text.specs.Read.{IsOnGenome}
-use Rattle.iv_text.specs.Row.{Row}
+use Rattle.iv_text.specs.RecordValue.{RecordValue}
 use Rattle.iv_cover.specs.Blocks.{block_at, blocks_below}
-use Rattle.iv_cover.specs.Coming.{is_joined, block_of, joined, coming}
+use Rattle.iv_cover.specs.Inside.Coming.{is_joined, block_of, joined, coming}
 use Rattle.iv_cover.specs.TrackBlocks.{Group, start_of, stop_of, block_on, blocks_on, blocks_of}
 use Rattle.iv_cover.proofs.Comings.{coming-joined, coming-split_up}
 use Rattle.iv_cover.proofs.Positions.{values-agree}
@@ -17,13 +17,13 @@ use Rattle.iv_blocks.proofs.ClusterLemmas.{on-is}
 use Rattle.iv_blocks.proofs.ComplementLemmas.{place_of, interval_at, intervals_on, gaps-of_blocks}
 use Rattle.iv_blocks.proofs.KeptLemmas.{flat_map-agree, map-filter_map}
 use Rattle.iv_blocks.proofs.PlainLemmas.{map-flat_map}
-use Rattle.iv_blocks.specs.BlockCursor.{texts}
-use Rattle.iv_blocks.specs.BlockSweeps.{interval_of, next_start}
+use Rattle.iv_blocks.specs.Inside.BlockCursor.{texts}
+use Rattle.iv_blocks.specs.Inside.BlockSweeps.{interval_of, next_start}
 
 -- ---- the next block
 
 -- a block that is open starts where it did
-open-start : (d : ℕ) (rows : List Row) (b : Group) → next_start (map interval_of (coming d (Some b) rows)) ≡ Some (b.sequence, b.start)
+open-start : (d : ℕ) (rows : List RecordValue) (b : Group) → next_start (map interval_of (coming d (Some b) rows)) ≡ Some (b.sequence, b.start)
 open-start d [] b = refl
 open-start d (r ∷ rows) b = elim (cases_Bool (is_joined d b r)) [
   | inl e ↦ ap (λ (l : List Group). next_start (map interval_of l)) (coming-joined d b r rows e) ∙ open-start d rows (joined b r)
@@ -31,20 +31,20 @@ open-start d (r ∷ rows) b = elim (cases_Bool (is_joined d b r)) [
 ]
 
 -- the next block starts with the first record
-pub coming-start : (d : ℕ) (r : Row) (rows : List Row) → next_start (map interval_of (coming d None (r ∷ rows))) ≡ Some (r.seq, r.start)
+pub coming-start : (d : ℕ) (r : RecordValue) (rows : List RecordValue) → next_start (map interval_of (coming d None (r ∷ rows))) ≡ Some (r.seq, r.start)
 coming-start d r rows = open-start d rows (block_of r)
 
 -- ---- where the blocks are
 
-place-of : (s x : ℕ) (at : Option (ℕ × List Row)) → option_map interval_of (option_map (block_on s) (option_map (λ (b : ℕ × List Row). (x, b)) at)) ≡ place_of s x at
+place-of : (s x : ℕ) (at : Option (ℕ × List RecordValue)) → option_map interval_of (option_map (block_on s) (option_map (λ (b : ℕ × List RecordValue). (x, b)) at)) ≡ place_of s x at
 place-of s x None = refl
 place-of s x (Some b) = refl
 
-module _ (g : Sequences) (rows : List Row) where
+module _ (g : Sequences) (rows : List RecordValue) where
   sequence-is_placed : (s : ℕ) → map interval_of (blocks_on 0 g rows s) ≡ intervals_on g rows s
   sequence-is_placed s =
       let n : ℕ = sequence_length g s in
-      ap (λ (l : List Row). map interval_of (map (block_on s) (blocks_below start_of stop_of 0 l n))) (sym (on-is s rows))
+      ap (λ (l : List RecordValue). map interval_of (map (block_on s) (blocks_below start_of stop_of 0 l n))) (sym (on-is s rows))
       ∙ ap (map interval_of) (map-filter_map (block_on s) (λ x. option_map (λ b. (x, b)) (block_at start_of stop_of 0 (group false s false rows) x)) (range_with_len 0 n))
       ∙ map-filter_map interval_of (λ x. option_map (block_on s) (option_map (λ b. (x, b)) (block_at start_of stop_of 0 (group false s false rows) x))) (range_with_len 0 n)
       ∙ values-agree (λ x. option_map interval_of (option_map (block_on s) (option_map (λ b. (x, b)) (block_at start_of stop_of 0 (group false s false rows) x)))) (interval_at rows s) n

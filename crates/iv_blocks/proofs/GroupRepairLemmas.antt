@@ -7,7 +7,7 @@ use Rattle.iv_text.specs.Genome.{Sequences, sequence_name}
 use Rattle.iv_text.specs.Named.{names_of}
 use Rattle.iv_text.specs.Ordered.{added}
 use Rattle.iv_text.specs.Read.{Fits}
-use Rattle.iv_text.specs.Row.{Row, row_cmp}
+use Rattle.iv_text.specs.RecordValue.{RecordValue, record_cmp}
 use Rattle.iv_text.specs.declared.record_ref.Strand.{Strand}
 use Rattle.iv_text.specs.declared.record_ref.Strand.TheVariants.{Plus, Minus, Dot}
 use Rattle.iv_track.specs.Entries.{IsLedger, value_at}
@@ -18,11 +18,12 @@ use Rattle.iv_text.proofs.ListLemmas.{Mem, mem-filter, mem-filter_from, all-mem,
 use Rattle.iv_cover.proofs.Groups.{HasOneMore, one_more}
 use Rattle.iv_cover.proofs.BlockLemmas.{one_more-filter}
 use Rattle.iv_cover.proofs.Cover.{Lasting, IsBlock, starts_in, starts_in-true, stops_within}
-use Rattle.iv_blocks.specs.Groups.{is_strand, is_on_side, is_in_group, group, between, between_on, members_between, starts_between, listed, is_apart, is_minus}
+use Rattle.iv_blocks.specs.Groups.{is_strand, is_on_side, is_in_group, group, listed}
+use Rattle.iv_blocks.specs.Inside.Groups.{between, between_on, members_between, starts_between, is_apart, is_minus}
 use Rattle.iv_blocks.specs.KeptBlocks.{Key, key_cmp, Kept, Entries, KeptBlocks, AreBlocksOf, kept_at, kept_block, name_of, around, within_block, block_steps}
-use Rattle.iv_blocks.specs.Lookups.{kept_in, IsLastBlock}
-use Rattle.iv_blocks.specs.Putting.{key_of, IsOfOther, ArePut, with_block}
-use Rattle.iv_blocks.specs.Repairs.{without_block, KeepsOthers, JoinsBefore, JoinsAfter, count_from}
+use Rattle.iv_blocks.specs.Inside.Lookups.{kept_in, IsLastBlock}
+use Rattle.iv_blocks.specs.Inside.Insertion.{key_of, IsOfOther, AreInserted, with_block}
+use Rattle.iv_blocks.specs.Inside.Repairs.{without_block, KeepsOthers, JoinsBefore, JoinsAfter, count_from}
 use Rattle.iv_blocks.specs.declared.group.Group.{Group}
 use Rattle.iv_blocks.specs.declared.options.Options.{Options}
 use Rattle.iv_blocks.proofs.Keys.{key-cases, look-put, look-put_other}
@@ -41,13 +42,13 @@ one_strand (Some Minus) a b e f = e ∙ sym f
 one_strand (Some Dot) a b e f = absurd (false≢true e)
 
 -- a record is on one side at most
-one_side : (stranded : Bool) (r : Row) (a b : Bool) → is_on_side stranded a r ≡ true → is_on_side stranded b r ≡ true → a ≡ b
+one_side : (stranded : Bool) (r : RecordValue) (a b : Bool) → is_on_side stranded a r ≡ true → is_on_side stranded b r ≡ true → a ≡ b
 one_side true r a b e f = one_strand r.strand a b e f
 one_side false r true b e f = absurd (false≢true e)
 one_side false r false true e f = absurd (false≢true f)
 one_side false r false false e f = refl
 
-filter-swap : (p t : Row → Bool) (rows : List Row) → filter p (filter t rows) ≡ filter t (filter p rows)
+filter-swap : (p t : RecordValue → Bool) (rows : List RecordValue) → filter p (filter t rows) ≡ filter t (filter p rows)
 filter-swap p t rows =
     filter-filter p t rows
     ∙ filter-agree (λ q. t q && p q) (λ q. p q && t q) rows (λ q m. same_tests _ _
@@ -58,48 +59,48 @@ filter-swap p t rows =
 -- ---- one record more
 
 -- where a record is added, as two parts around it
-added-parts : (rows : List Row) (r : Row) → (xs : List Row) × (ys : List Row) × (rows ≡ xs ++ ys) × (added rows r ≡ xs ++ r ∷ ys)
+added-parts : (rows : List RecordValue) (r : RecordValue) → (xs : List RecordValue) × (ys : List RecordValue) × (rows ≡ xs ++ ys) × (added rows r ≡ xs ++ r ∷ ys)
 added-parts [] r = ([], [], refl, refl)
-added-parts (q ∷ rows) r = go (is_le (row_cmp r q)) refl (added-parts rows r)
+added-parts (q ∷ rows) r = go (is_le (record_cmp r q)) refl (added-parts rows r)
   where
-    go : (b : Bool) → is_le (row_cmp r q) ≡ b → (xs : List Row) × (ys : List Row) × (rows ≡ xs ++ ys) × (added rows r ≡ xs ++ r ∷ ys)
-        → (xs : List Row) × (ys : List Row) × (q ∷ rows ≡ xs ++ ys) × (added (q ∷ rows) r ≡ xs ++ r ∷ ys)
+    go : (b : Bool) → is_le (record_cmp r q) ≡ b → (xs : List RecordValue) × (ys : List RecordValue) × (rows ≡ xs ++ ys) × (added rows r ≡ xs ++ r ∷ ys)
+        → (xs : List RecordValue) × (ys : List RecordValue) × (q ∷ rows ≡ xs ++ ys) × (added (q ∷ rows) r ≡ xs ++ r ∷ ys)
     go true e rest = ([], q ∷ rows, refl, cond-true _ _ _ e)
-    go false e rest = (q ∷ rest.0, rest.1, ap (λ (l : List Row). q ∷ l) rest.2, cond-false _ _ _ e ∙ ap (λ (l : List Row). q ∷ l) rest.3)
+    go false e rest = (q ∷ rest.0, rest.1, ap (λ (l : List RecordValue). q ∷ l) rest.2, cond-false _ _ _ e ∙ ap (λ (l : List RecordValue). q ∷ l) rest.3)
 
-added-more : (rows : List Row) (r : Row) → HasOneMore rows r (added rows r)
+added-more : (rows : List RecordValue) (r : RecordValue) → HasOneMore rows r (added rows r)
 added-more rows r =
     let parts = added-parts rows r in
     subst (λ l. HasOneMore l r (added rows r)) (sym parts.2) (subst (λ l. HasOneMore (parts.0 ++ parts.1) r l) (sym parts.3) (one_more parts.0 parts.1 r))
 
 -- the records that pass are no fewer with it
-added-fewer : (p : Row → Bool) (rows : List Row) (r : Row) → length (filter p rows) ≤ length (filter p (added rows r))
+added-fewer : (p : RecordValue → Bool) (rows : List RecordValue) (r : RecordValue) → length (filter p rows) ≤ length (filter p (added rows r))
 added-fewer p [] r = omega arith
-added-fewer p (q ∷ rows) r = go (is_le (row_cmp r q)) refl (cases_Bool (p q)) (cases_Bool (p r)) (added-fewer p rows r)
+added-fewer p (q ∷ rows) r = go (is_le (record_cmp r q)) refl (cases_Bool (p q)) (cases_Bool (p r)) (added-fewer p rows r)
   where
-    go : (b : Bool) → is_le (row_cmp r q) ≡ b → (p q ≡ true) ⊎ (p q ≡ false) → (p r ≡ true) ⊎ (p r ≡ false) → length (filter p rows) ≤ length (filter p (added rows r))
+    go : (b : Bool) → is_le (record_cmp r q) ≡ b → (p q ≡ true) ⊎ (p q ≡ false) → (p r ≡ true) ⊎ (p r ≡ false) → length (filter p rows) ≤ length (filter p (added rows r))
         → length (filter p (q ∷ rows)) ≤ length (filter p (added (q ∷ rows) r))
     go true e of_q (inl t) rest = rw (e, t) (omega arith)
     go true e of_q (inr f) rest = rw (e, f) (omega arith)
     go false e (inl t) of_r rest = rw (e, t) (omega arith)
     go false e (inr f) of_r rest = rw (e, f) rest
 
-fits-last : (genome : Sequences) (width : ℕ) (rows : List Row) → All (Fits genome width) rows → (q : Row) → Mem q rows → q.start < q.stop
+fits-last : (genome : Sequences) (width : ℕ) (rows : List RecordValue) → All (Fits genome width) rows → (q : RecordValue) → Mem q rows → q.start < q.stop
 fits-last genome width rows fit q m = let fits = all-mem (Fits genome width) rows fit q m in fits.is_placed.some
 
-fits-last_more : (genome : Sequences) (width : ℕ) (less rows : List Row) (r : Row) → HasOneMore less r rows → All (Fits genome width) less → Fits genome width r → (q : Row) → Mem q rows → q.start < q.stop
+fits-last_more : (genome : Sequences) (width : ℕ) (less rows : List RecordValue) (r : RecordValue) → HasOneMore less r rows → All (Fits genome width) less → Fits genome width r → (q : RecordValue) → Mem q rows → q.start < q.stop
 fits-last_more genome width less rows r more fit fits q m = elim (more.cases q m) [
-  | inl at ↦ subst (λ (x : Row). x.start < x.stop) at fits.is_placed.some
+  | inl at ↦ subst (λ (x : RecordValue). x.start < x.stop) at fits.is_placed.some
   | inr old ↦ fits-last genome width less fit q old
 ]
 
 -- nothing changes where the record is not
-kept-beside : (o : Options) (names : List (List ℕ)) (less rows : List Row) (r : Row) (k : Key) → HasOneMore less r rows → is_in_group o.stranded k.0 k.1 r ≡ false → kept_at o names rows k ≡ kept_at o names less k
+kept-beside : (o : Options) (names : List (List ℕ)) (less rows : List RecordValue) (r : RecordValue) (k : Key) → HasOneMore less r rows → is_in_group o.stranded k.0 k.1 r ≡ false → kept_at o names rows k ≡ kept_at o names less k
 kept-beside o names less rows r k more beside =
-    ap (λ (l : List Row). option_map (kept_block (name_of names k.0) (listed o.summaries)) (block_at start_of stop_of o.distance l k.2)) (more.others (is_in_group o.stranded k.0 k.1) beside)
+    ap (λ (l : List RecordValue). option_map (kept_block (name_of names k.0) (listed o.summaries)) (block_at start_of stop_of o.distance l k.2)) (more.others (is_in_group o.stranded k.0 k.1) beside)
 
 -- so nothing changes if the record is in no group
-right-beside : (o : Options) (names : List (List ℕ)) (less rows : List Row) (r : Row) → HasOneMore less r rows → ((minus : Bool) → is_on_side o.stranded minus r ≡ false) → (k : Key) → kept_at o names rows k ≡ kept_at o names less k
+right-beside : (o : Options) (names : List (List ℕ)) (less rows : List RecordValue) (r : RecordValue) → HasOneMore less r rows → ((minus : Bool) → is_on_side o.stranded minus r ≡ false) → (k : Key) → kept_at o names rows k ≡ kept_at o names less k
 right-beside o names less rows r more beside k =
     kept-beside o names less rows r k more (false_from_ne_true _ (λ e. both_ways _ (beside k.1) (and_parts (r.seq == k.0) (is_on_side o.stranded k.1 r) e).1))
 
@@ -109,15 +110,15 @@ on-both (Ok x) P Q R f p q = f p q
 on-both (Err e) P Q R f p q = p
 
 -- r is of the group g, rows have it, and less are the others
-pub record IsEdit (o : Options) (g : Group) (r : Row) (less rows : List Row) : Type 0 where
+pub record IsEdit (o : Options) (g : Group) (r : RecordValue) (less rows : List RecordValue) : Type 0 where
   pub more : HasOneMore less r rows
   pub apart : is_apart g.side ≡ o.stranded
   pub in_group : is_in_group o.stranded g.rank (is_minus g.side) r ≡ true
-  pub lasts : (q : Row) → Mem q rows → q.start < q.stop
+  pub lasts : (q : RecordValue) → Mem q rows → q.start < q.stop
 
 -- what an edit knows of the record's group, which was found by the options p
-edit-of : (o p : Options) (g : Group) (r : Row) (less rows : List Row) → p ≡ o → (is_apart g.side ≡ p.stranded) × (is_in_group p.stranded g.rank (is_minus g.side) r ≡ true)
-    → HasOneMore less r rows → ((q : Row) → Mem q rows → q.start < q.stop) → IsEdit o g r less rows
+edit-of : (o p : Options) (g : Group) (r : RecordValue) (less rows : List RecordValue) → p ≡ o → (is_apart g.side ≡ p.stranded) × (is_in_group p.stranded g.rank (is_minus g.side) r ≡ true)
+    → HasOneMore less r rows → ((q : RecordValue) → Mem q rows → q.start < q.stop) → IsEdit o g r less rows
 edit-of o p g r less rows same known more lasts =
     let stranded : p.stranded ≡ o.stranded = ap (λ (x : Options). x.stranded) same in
     record {
@@ -127,45 +128,45 @@ edit-of o p g r less rows same known more lasts =
       lasts = lasts;
     }
 
-pub edit-added : (o p : Options) (g : Group) (r : Row) (less rows : List Row) (genome : Sequences) (width : ℕ) → p ≡ o → (is_apart g.side ≡ p.stranded) × (is_in_group p.stranded g.rank (is_minus g.side) r ≡ true)
+pub edit-added : (o p : Options) (g : Group) (r : RecordValue) (less rows : List RecordValue) (genome : Sequences) (width : ℕ) → p ≡ o → (is_apart g.side ≡ p.stranded) × (is_in_group p.stranded g.rank (is_minus g.side) r ≡ true)
     → rows ≡ added less r → All (Fits genome width) rows → IsEdit o g r less rows
 edit-added o p g r less rows genome width same known rows_are fit =
-    edit-of o p g r less rows same known (subst (λ (l : List Row). HasOneMore less r l) (sym rows_are) (added-more less r)) (fits-last genome width rows fit)
+    edit-of o p g r less rows same known (subst (λ (l : List RecordValue). HasOneMore less r l) (sym rows_are) (added-more less r)) (fits-last genome width rows fit)
 
-pub edit-removed : (o p : Options) (g : Group) (r : Row) (rows : List Row) (genome : Sequences) (width : ℕ) → p ≡ o → (is_apart g.side ≡ p.stranded) × (is_in_group p.stranded g.rank (is_minus g.side) r ≡ true)
+pub edit-removed : (o p : Options) (g : Group) (r : RecordValue) (rows : List RecordValue) (genome : Sequences) (width : ℕ) → p ≡ o → (is_apart g.side ≡ p.stranded) × (is_in_group p.stranded g.rank (is_minus g.side) r ≡ true)
     → All (Fits genome width) rows → Fits genome width r → IsEdit o g r rows (added rows r)
 edit-removed o p g r rows genome width same known fit fits =
     let more = added-more rows r in
     edit-of o p g r rows (added rows r) same known more (fits-last_more genome width rows (added rows r) r more fit fits)
 
 -- blocks stay right if the record is in no group
-pub beside-added : (o p : Options) (names : List (List ℕ)) (less rows : List Row) (r : Row) (entries : Entries) → p ≡ o → ((minus : Bool) → is_on_side p.stranded minus r ≡ false)
+pub beside-added : (o p : Options) (names : List (List ℕ)) (less rows : List RecordValue) (r : RecordValue) (entries : Entries) → p ≡ o → ((minus : Bool) → is_on_side p.stranded minus r ≡ false)
     → rows ≡ added less r → AreBlocksOf o names less entries → AreBlocksOf o names rows entries
 beside-added o p names less rows r entries same beside rows_are right =
-    let more : HasOneMore less r rows = subst (λ (l : List Row). HasOneMore less r l) (sym rows_are) (added-more less r) in
+    let more : HasOneMore less r rows = subst (λ (l : List RecordValue). HasOneMore less r l) (sym rows_are) (added-more less r) in
     record {
       ordered = right.ordered;
       blocks = λ k. right.blocks k ∙ sym (right-beside o names less rows r more (subst (λ (x : Options). (minus : Bool) → is_on_side x.stranded minus r ≡ false) same beside) k);
     }
 
-pub beside-removed : (o p : Options) (names : List (List ℕ)) (rows : List Row) (r : Row) (entries : Entries) → p ≡ o → ((minus : Bool) → is_on_side p.stranded minus r ≡ false)
+pub beside-removed : (o p : Options) (names : List (List ℕ)) (rows : List RecordValue) (r : RecordValue) (entries : Entries) → p ≡ o → ((minus : Bool) → is_on_side p.stranded minus r ≡ false)
     → AreBlocksOf o names (added rows r) entries → AreBlocksOf o names rows entries
 beside-removed o p names rows r entries same beside right = record {
   ordered = right.ordered;
   blocks = λ k. right.blocks k ∙ right-beside o names rows (added rows r) r (added-more rows r) (subst (λ (x : Options). (minus : Bool) → is_on_side x.stranded minus r ≡ false) same beside) k;
 }
 
-module _ (o : Options) (names : List (List ℕ)) (g : Group) (r : Row) (less rows : List Row) (edit : IsEdit o g r less rows) where
+module _ (o : Options) (names : List (List ℕ)) (g : Group) (r : RecordValue) (less rows : List RecordValue) (edit : IsEdit o g r less rows) where
   parts : (r.seq == g.rank ≡ true) × (is_on_side o.stranded (is_minus g.side) r ≡ true)
   parts = and_parts (r.seq == g.rank) (is_on_side o.stranded (is_minus g.side) r) edit.in_group
 
   rank-is : r.seq ≡ g.rank
   rank-is = eqb-true r.seq g.rank parts.0
 
-  abbrev G : List Row
+  abbrev G : List RecordValue
   G = group o.stranded g.rank (is_minus g.side) less
 
-  abbrev H : List Row
+  abbrev H : List RecordValue
   H = group o.stranded g.rank (is_minus g.side) rows
 
   more_g : HasOneMore G r H
@@ -262,7 +263,7 @@ module _ (o : Options) (names : List (List ℕ)) (g : Group) (r : Row) (less row
             ap (λ (n : List ℕ). kept_block n (listed next.options.summaries) (to, members_between g joined.0 to rows)) (sym (name-same genome g.rank) ∙ ap (λ (l : List (List ℕ)). name_of l g.rank) (sym of_genome))
             ∙ ap (λ (p : Options). kept_block (name_of names g.rank) (listed p.summaries) (to, members_between g joined.0 to rows)) (second.options ∙ options)
             ∙ ap (λ (s : Bool). kept_block (name_of names g.rank) (listed o.summaries) (to, filter (λ q. is_in_group s g.rank (is_minus g.side) q && starts_between joined.0 to q) rows)) edit.apart
-            ∙ ap (λ (l : List Row). kept_block (name_of names g.rank) (listed o.summaries) (to, l)) (sym (filter-filter (starts_between joined.0 to) (is_in_group o.stranded g.rank (is_minus g.side)) rows))
+            ∙ ap (λ (l : List RecordValue). kept_block (name_of names g.rank) (listed o.summaries) (to, l)) (sym (filter-filter (starts_between joined.0 to) (is_in_group o.stranded g.rank (is_minus g.side)) rows))
 
         here : (x : ℕ) → kept_in new.entries g x ≡ kept_at o names rows (key_of g x)
         here x = added-right o.distance (name_of names g.rank) (listed o.summaries) G H r more_g lasting joined.0 joined.1 to (kept_in mid.entries g) (kept_in next.entries g) state after (kept_in new.entries g)
@@ -295,10 +296,10 @@ module _ (o : Options) (names : List (List ℕ)) (g : Group) (r : Row) (less row
       removed-takes m0 m1 m2 m3 rows_are first second third =
           let all = around-is b.0 b.1 block_is last.within (omega (arith, ends, lasting r more_g.added)) in
           let fewer = added-fewer (λ q. (q.seq == g.rank) && starts_between b.0 b.1 q) less r in
-          let same = ap (λ (l : List Row). length (between_on g.rank b.0 b.1 l)) rows_are in
+          let same = ap (λ (l : List RecordValue). length (between_on g.rank b.0 b.1 l)) rows_are in
           record { no_less = omega (arith, first, second, third); at_most = omega (arith, first, second, third, all, fewer, same) }
 
-      pub removed-all : (new : KeptBlocks) → old.options ≡ o → ArePut g names (between b.0 b.1 less) (without_block old g b.0) new → AreBlocksOf o names less new.entries
+      pub removed-all : (new : KeptBlocks) → old.options ≡ o → AreInserted g names (between b.0 b.1 less) (without_block old g b.0) new → AreBlocksOf o names less new.entries
       removed-all new options put = record {
         ordered = put.ordered;
         blocks = λ k. elim (key-cases g k) [
@@ -313,5 +314,5 @@ module _ (o : Options) (names : List (List ℕ)) (g : Group) (r : Row) (less row
               (λ y. without-here old.entries g b.0 right.ordered y)
               (λ y. put.here y
               ∙ ap (λ (p : Options). option_or (kept_at p names (between b.0 b.1 less) (key_of g y)) (kept_in (without_block old g b.0).entries g y)) options
-              ∙ ap (λ (l : List Row). option_or (shown o.distance (name_of names g.rank) (listed o.summaries) l y) (kept_in (without_block old g b.0).entries g y))
+              ∙ ap (λ (l : List RecordValue). option_or (shown o.distance (name_of names g.rank) (listed o.summaries) l y) (kept_in (without_block old g b.0).entries g y))
               (filter-swap (is_in_group o.stranded g.rank (is_minus g.side)) (starts_between b.0 b.1) less)) x

@@ -7,16 +7,17 @@ use Rattle.iv_text.specs.Genome.{Sequences, sequence_name}
 use Rattle.iv_text.specs.Named.{names_of}
 use Rattle.iv_text.specs.Ordered.{AreInOrder}
 use Rattle.iv_text.specs.Read.{Fits}
-use Rattle.iv_text.specs.Row.{Row, row_cmp}
+use Rattle.iv_text.specs.RecordValue.{RecordValue, record_cmp}
 use Rattle.iv_track.specs.Entries.{IsLedger, value_at}
 use Rattle.iv_cover.specs.Blocks.{block_at}
 use Rattle.iv_cover.specs.TrackBlocks.{start_of, stop_of}
 use Rattle.iv_text.proofs.ListLemmas.{Mem, mem-filter, mem-filter_from, filter-agree, filter-filter, filter-none, all-mem, same_tests}
 use Rattle.iv_cover.proofs.Groups.{mem-left, mem-right, mem-append}
 use Rattle.iv_cover.proofs.Cover.{Lasting, starts_in}
-use Rattle.iv_blocks.specs.Groups.{is_in_group, group, starts_between, between, between_on, members_between, listed, is_apart, is_minus}
+use Rattle.iv_blocks.specs.Groups.{is_in_group, group, listed}
+use Rattle.iv_blocks.specs.Inside.Groups.{starts_between, between, between_on, members_between, is_apart, is_minus}
 use Rattle.iv_blocks.specs.KeptBlocks.{Key, key_cmp, Kept, Entries, KeptBlocks, kept_block, kept_at}
-use Rattle.iv_blocks.specs.Putting.{key_of, IsOfOther, with_block, ArePut}
+use Rattle.iv_blocks.specs.Inside.Insertion.{key_of, IsOfOther, with_block, AreInserted}
 use Rattle.iv_blocks.specs.declared.group.Group.{Group}
 use Rattle.iv_blocks.specs.declared.options.Options.{Options}
 use Rattle.iv_blocks.proofs.Keys.{look-put, look-put_other}
@@ -28,7 +29,7 @@ use Rattle.iv_blocks.proofs.MembersLemmas.{between-true, between-from, in_group-
 -- ---- records of a range
 
 -- a member of a range is a record of the track, in the group and in the range
-pub member-in : (g : Group) (from to : ℕ) (rows : List Row) (q : Row) → Mem q (members_between g from to rows)
+pub member-in : (g : Group) (from to : ℕ) (rows : List RecordValue) (q : RecordValue) → Mem q (members_between g from to rows)
     → Mem q rows × (q.seq ≡ g.rank) × (from ≤ q.start) × (q.start < to)
 member-in g from to rows q m =
     let both = mem-filter (λ r. is_in_group (is_apart g.side) g.rank (is_minus g.side) r && starts_between from to r) rows q m in
@@ -37,7 +38,7 @@ member-in g from to rows q m =
     (both.0, in_group-on g q tests.0, range.0, range.1)
 
 -- the members of a range within another
-pub members-narrow : (g : Group) (from to x s : ℕ) (rows : List Row) → from ≤ x → s ≤ to → filter (starts_between x s) (members_between g from to rows) ≡ members_between g x s rows
+pub members-narrow : (g : Group) (from to x s : ℕ) (rows : List RecordValue) → from ≤ x → s ≤ to → filter (starts_between x s) (members_between g from to rows) ≡ members_between g x s rows
 members-narrow g from to x s rows above within =
     filter-filter (starts_between x s) (λ r. is_in_group (is_apart g.side) g.rank (is_minus g.side) r && starts_between from to r) rows
     ∙ filter-agree _ _ rows (λ q m. same_tests _ _
@@ -50,7 +51,7 @@ members-narrow g from to x s rows above within =
     and_from _ _ (and_from _ _ both.0 (between-from from to q (omega (arith, range.0)) (omega (arith, range.1)))) both.1))
 
 -- the group's records of a range
-pub members-group : (g : Group) (from to : ℕ) (rows : List Row) → group (is_apart g.side) g.rank (is_minus g.side) (between from to rows) ≡ members_between g from to rows
+pub members-group : (g : Group) (from to : ℕ) (rows : List RecordValue) → group (is_apart g.side) g.rank (is_minus g.side) (between from to rows) ≡ members_between g from to rows
 members-group g from to rows =
     filter-filter (is_in_group (is_apart g.side) g.rank (is_minus g.side)) (starts_between from to) rows
     ∙ filter-agree _ _ rows (λ q m. same_tests _ _
@@ -60,7 +61,7 @@ members-group g from to rows =
 -- ---- how many there are
 
 -- those of a range are those of its two parts
-pub count-parts : (rank from mid to : ℕ) (rows : List Row) → from ≤ mid → mid ≤ to
+pub count-parts : (rank from mid to : ℕ) (rows : List RecordValue) → from ≤ mid → mid ≤ to
     → length (between_on rank from to rows) ≡ length (between_on rank from mid rows) + length (between_on rank mid to rows)
 count-parts rank from mid to [] low high = refl
 count-parts rank from mid to (r ∷ rows) low high =
@@ -112,19 +113,19 @@ count-parts rank from mid to (r ∷ rows) low high =
       ]
     ]
   where
-    out : (from to : ℕ) (q : Row) → (q.start < from) ⊎ (to ≤ q.start) → starts_between from to q ≡ false
+    out : (from to : ℕ) (q : RecordValue) → (q.start < from) ⊎ (to ≤ q.start) → starts_between from to q ≡ false
     out from to q (inl before) = false_from_ne_true _ (λ e. let range = between-true from to q e in omega arith)
     out from to q (inr past) = false_from_ne_true _ (λ e. let range = between-true from to q e in omega arith)
 
-pub count-within : (rank from to end : ℕ) (rows : List Row) → from ≤ to → to ≤ end → length (between_on rank from to rows) ≤ length (between_on rank from end rows)
+pub count-within : (rank from to end : ℕ) (rows : List RecordValue) → from ≤ to → to ≤ end → length (between_on rank from to rows) ≤ length (between_on rank from end rows)
 count-within rank from to end rows low high = omega (arith, count-parts rank from to end rows low high)
 
 -- a range that some record opens has one at least
-pub count-some : (rank from to : ℕ) (rows : List Row) (q : Row) → Mem q rows → q.seq ≡ rank → from ≤ q.start → q.start < to → 1 ≤ length (between_on rank from to rows)
+pub count-some : (rank from to : ℕ) (rows : List RecordValue) (q : RecordValue) → Mem q rows → q.seq ≡ rank → from ≤ q.start → q.start < to → 1 ≤ length (between_on rank from to rows)
 count-some rank from to rows q m at above below =
     some (between_on rank from to rows) (mem-filter_from (λ r. (r.seq == rank) && starts_between from to r) rows q m (and_from _ _ (eq-eqb _ _ at) (between-from from to q above below)))
   where
-    some : (xs : List Row) → Mem q xs → 1 ≤ length xs
+    some : (xs : List RecordValue) → Mem q xs → 1 ≤ length xs
     some [] m = absurd m
     some (x ∷ xs) m = omega arith
 
@@ -134,14 +135,14 @@ count-some rank from to rows q m at above below =
 abbrev pub look : Group → Entries → ℕ → Option Kept
 look g entries x = value_at key_cmp entries (key_of g x)
 
-module _ (o : KeptBlocks) (genome : Sequences) (rows : List Row) (g : Group) (from to : ℕ) where
+module _ (o : KeptBlocks) (genome : Sequences) (rows : List RecordValue) (g : Group) (from to : ℕ) where
   -- a block of the group, as it is kept
-  abbrev pub kept : ℕ × List Row → Kept
+  abbrev pub kept : ℕ × List RecordValue → Kept
   kept = kept_block (sequence_name genome g.rank) (listed o.options.summaries)
 
   -- the open block starts and stops here: those before it are put, and these members are left
-  pub record IsSweeping (now : KeptBlocks) (start stop : ℕ) (left : List Row) : Type 0 where
-    pub passed : List Row
+  pub record IsSweeping (now : KeptBlocks) (start stop : ℕ) (left : List RecordValue) : Type 0 where
+    pub passed : List RecordValue
     pub all : members_between g from to rows ≡ passed ++ left
     pub put : IsPut start_of stop_of o.options.distance kept passed start stop (look g o.entries) (look g now.entries)
     pub above : from ≤ start
@@ -152,33 +153,33 @@ module _ (o : KeptBlocks) (genome : Sequences) (rows : List Row) (g : Group) (fr
   -- what the sweep knows of the records
   pub record IsSwept : Type 0 where
     pub ordered : AreInOrder rows
-    pub lasting : (q : Row) → Mem q rows → q.start < q.stop
-    pub stops : (q : Row) → Mem q (members_between g from to rows) → q.stop ≤ to
+    pub lasting : (q : RecordValue) → Mem q rows → q.start < q.stop
+    pub stops : (q : RecordValue) → Mem q (members_between g from to rows) → q.stop ≤ to
 
   module _ (known : IsSwept) where
     -- a member that was passed or is next
-    member : (passed left : List Row) (r : Row) → members_between g from to rows ≡ passed ++ r ∷ left → (q : Row) → Mem q (passed ++ r ∷ []) → Mem q (members_between g from to rows)
-    member passed left r all q m = subst (λ (l : List Row). Mem q l) (sym all) (elim (mem-append passed (r ∷ []) q m) [
+    member : (passed left : List RecordValue) (r : RecordValue) → members_between g from to rows ≡ passed ++ r ∷ left → (q : RecordValue) → Mem q (passed ++ r ∷ []) → Mem q (members_between g from to rows)
+    member passed left r all q m = subst (λ (l : List RecordValue). Mem q l) (sym all) (elim (mem-append passed (r ∷ []) q m) [
       | inl old ↦ mem-left passed (r ∷ left) q old
       | inr new ↦ mem-right passed (r ∷ left) q (elim new [ inl at ↦ inl at | inr none ↦ absurd none ])
     ])
 
-    lasts : (passed left : List Row) (r : Row) → members_between g from to rows ≡ passed ++ r ∷ left → Lasting start_of stop_of o.options.distance (passed ++ r ∷ [])
+    lasts : (passed left : List RecordValue) (r : RecordValue) → members_between g from to rows ≡ passed ++ r ∷ left → Lasting start_of stop_of o.options.distance (passed ++ r ∷ [])
     lasts passed left r all q m = known.lasting q (member-in g from to rows q (member passed left r all q m)).0
 
     -- each that was passed starts no later than each that is left
-    in_order : (passed left : List Row) → members_between g from to rows ≡ passed ++ left → (q r : Row) → Mem q passed → Mem r left → q.start ≤ r.start
+    in_order : (passed left : List RecordValue) → members_between g from to rows ≡ passed ++ left → (q r : RecordValue) → Mem q passed → Mem r left → q.start ≤ r.start
     in_order passed left all q r m n =
-        let order : AreInOrder (passed ++ left) = subst (λ (l : List Row). AreInOrder l) all (in_order-filter row_cmp _ rows known.ordered) in
-        let at_q = (member-in g from to rows q (subst (λ (l : List Row). Mem q l) (sym all) (mem-left passed left q m))).1 in
-        let at_r = (member-in g from to rows r (subst (λ (l : List Row). Mem r l) (sym all) (mem-right passed left r n))).1 in
+        let order : AreInOrder (passed ++ left) = subst (λ (l : List RecordValue). AreInOrder l) all (in_order-filter record_cmp _ rows known.ordered) in
+        let at_q = (member-in g from to rows q (subst (λ (l : List RecordValue). Mem q l) (sym all) (mem-left passed left q m))).1 in
+        let at_r = (member-in g from to rows r (subst (λ (l : List RecordValue). Mem r l) (sym all) (mem-right passed left r n))).1 in
         elim (in_order-parts passed left order q r m n) [
           | inl less ↦ omega (arith, at_q, at_r)
           | inr equal ↦ equal.1
         ]
 
     -- the first member opens a block
-    pub sweep-first : (r : Row) (left : List Row) → members_between g from to rows ≡ r ∷ left → IsSweeping o r.start r.stop left
+    pub sweep-first : (r : RecordValue) (left : List RecordValue) → members_between g from to rows ≡ r ∷ left → IsSweeping o r.start r.stop left
     sweep-first r left all =
         let here : Mem r (members_between g from to rows) = member [] left r all r (inl refl) in
         let is = member-in g from to rows r here in
@@ -192,14 +193,14 @@ module _ (o : KeptBlocks) (genome : Sequences) (rows : List Row) (g : Group) (fr
           others = λ k other. refl;
         }
 
-    module _ (now : KeptBlocks) (start stop : ℕ) (r : Row) (left : List Row) (s : IsSweeping now start stop (r ∷ left)) where
+    module _ (now : KeptBlocks) (start stop : ℕ) (r : RecordValue) (left : List RecordValue) (s : IsSweeping now start stop (r ∷ left)) where
       here : Mem r (members_between g from to rows)
       here = member s.passed left r s.all r (mem-right s.passed (r ∷ []) r (inl refl))
 
       all-more : members_between g from to rows ≡ (s.passed ++ r ∷ []) ++ left
       all-more = s.all ∙ sym (append_assoc s.passed (r ∷ []) left)
 
-      before : (q : Row) → Mem q s.passed → q.start ≤ r.start
+      before : (q : RecordValue) → Mem q s.passed → q.start ≤ r.start
       before q m = in_order s.passed (r ∷ left) s.all q r m (inl refl)
 
       -- a member joins the open block
@@ -215,37 +216,37 @@ module _ (o : KeptBlocks) (genome : Sequences) (rows : List Row) (g : Group) (fr
       }
 
     -- the members of the open block
-    own : (now : KeptBlocks) (start stop : ℕ) (left : List Row) → (s : IsSweeping now start stop left) → ((q : Row) → Mem q left → stop ≤ q.start)
+    own : (now : KeptBlocks) (start stop : ℕ) (left : List RecordValue) → (s : IsSweeping now start stop left) → ((q : RecordValue) → Mem q left → stop ≤ q.start)
         → filter (starts_in start_of stop_of o.options.distance start stop) s.passed ≡ members_between g start stop rows
     own now start stop left s past =
         let test = starts_between start stop in
         sym (append-nil (filter test s.passed))
-        ∙ ap (λ (l : List Row). filter test s.passed ++ l) (sym (filter-none test left (λ q m. false_from_ne_true (test q) (λ e. let range = between-true start stop q e in let late = past q m in omega arith))))
+        ∙ ap (λ (l : List RecordValue). filter test s.passed ++ l) (sym (filter-none test left (λ q m. false_from_ne_true (test q) (λ e. let range = between-true start stop q e in let late = past q m in omega arith))))
         ∙ sym (filter-append test s.passed left)
         ∙ ap (filter test) (sym s.all)
         ∙ members-narrow g from to start stop rows s.above s.within
 
     -- the open block, once it is put
-    step : (now next : KeptBlocks) (start stop : ℕ) (left : List Row) → (s : IsSweeping now start stop left) → ((q : Row) → Mem q left → stop ≤ q.start)
+    step : (now next : KeptBlocks) (start stop : ℕ) (left : List RecordValue) → (s : IsSweeping now start stop left) → ((q : RecordValue) → Mem q left → stop ≤ q.start)
         → next ≡ with_block now genome rows g start stop
         → (x : ℕ) → look g next.entries x ≡ (if x == start then Some (kept (stop, filter (starts_in start_of stop_of o.options.distance start stop) s.passed)) else look g now.entries x)
     step now next start stop left s past is x =
         ap (λ (b : KeptBlocks). look g b.entries x) is
         ∙ look-put now.entries g start _ x
-        ∙ ap₂ (λ (options : Options) (l : List Row). if x == start then Some (kept_block (sequence_name genome g.rank) (listed options.summaries) (stop, l)) else look g now.entries x)
+        ∙ ap₂ (λ (options : Options) (l : List RecordValue). if x == start then Some (kept_block (sequence_name genome g.rank) (listed options.summaries) (stop, l)) else look g now.entries x)
         s.options (sym (own now start stop left s past))
 
-    step_others : (now next : KeptBlocks) (start stop : ℕ) (left : List Row) → IsSweeping now start stop left → next ≡ with_block now genome rows g start stop
+    step_others : (now next : KeptBlocks) (start stop : ℕ) (left : List RecordValue) → IsSweeping now start stop left → next ≡ with_block now genome rows g start stop
         → (k : Key) → IsOfOther g k → value_at key_cmp next.entries k ≡ value_at key_cmp o.entries k
     step_others now next start stop left s is k other =
         ap (λ (b : KeptBlocks). value_at key_cmp b.entries k) is ∙ look-put_other now.entries g start _ k other ∙ s.others k other
 
     -- the open block is put, and a member opens the next
-    pub sweep-open : (now next : KeptBlocks) (start stop : ℕ) (r : Row) (left : List Row) → (s : IsSweeping now start stop (r ∷ left)) → stop + o.options.distance < r.start
+    pub sweep-open : (now next : KeptBlocks) (start stop : ℕ) (r : RecordValue) (left : List RecordValue) → (s : IsSweeping now start stop (r ∷ left)) → stop + o.options.distance < r.start
         → next ≡ with_block now genome rows g start stop → IsSweeping next r.start r.stop left
     sweep-open now next start stop r left s parts is =
         let opens : Mem r (members_between g from to rows) = here now start stop r left s in
-        let late : (q : Row) → Mem q (r ∷ left) → stop ≤ q.start =
+        let late : (q : RecordValue) → Mem q (r ∷ left) → stop ≤ q.start =
         λ q m. elim m [
           | inl at ↦ omega (arith, ap start_of at)
           | inr rest ↦ omega (arith, in_order (s.passed ++ r ∷ []) left (all-more now start stop r left s) r q (mem-right s.passed (r ∷ []) r (inl refl)) rest)
@@ -265,17 +266,17 @@ module _ (o : KeptBlocks) (genome : Sequences) (rows : List Row) (g : Group) (fr
     shown-kept : is_apart g.side ≡ o.options.stranded → (x : ℕ)
         → shown start_of stop_of o.options.distance kept (members_between g from to rows) x ≡ kept_at o.options (names_of genome) (between from to rows) (key_of g x)
     shown-kept apart x =
-        ap₂ (λ (name : List ℕ) (l : List Row). option_map (kept_block name (listed o.options.summaries)) (block_at start_of stop_of o.options.distance l x))
+        ap₂ (λ (name : List ℕ) (l : List RecordValue). option_map (kept_block name (listed o.options.summaries)) (block_at start_of stop_of o.options.distance l x))
         (sym (name-same genome g.rank))
         (sym (members-group g from to rows) ∙ ap (λ (b : Bool). group b g.rank (is_minus g.side) (between from to rows)) apart)
 
     -- after the last member the open block is put, and all are
     pub sweep-all : (now next : KeptBlocks) (start stop : ℕ) → IsSweeping now start stop [] → is_apart g.side ≡ o.options.stranded → next ≡ with_block now genome rows g start stop
-        → IsLedger key_cmp next.entries → ArePut g (names_of genome) (between from to rows) o next
+        → IsLedger key_cmp next.entries → AreInserted g (names_of genome) (between from to rows) o next
     sweep-all now next start stop s apart is ledger =
         let whole : members_between g from to rows ≡ s.passed = s.all ∙ append-nil s.passed in
         let lasting : Lasting start_of stop_of o.options.distance s.passed =
-        λ q m. known.lasting q (member-in g from to rows q (subst (λ (l : List Row). Mem q l) (sym whole) m)).0 in
+        λ q m. known.lasting q (member-in g from to rows q (subst (λ (l : List RecordValue). Mem q l) (sym whole) m)).0 in
         record {
           options = ap (λ (b : KeptBlocks). b.options) is ∙ s.options;
           ordered = ledger;
@@ -283,26 +284,26 @@ module _ (o : KeptBlocks) (genome : Sequences) (rows : List Row) (g : Group) (fr
               put-all start_of stop_of o.options.distance kept s.passed start stop (look g o.entries) (look g now.entries) (look g next.entries) lasting s.put
               (step now next start stop [] s (λ q m. absurd m) is) x
               ∙ ap (λ (v : Option Kept). option_or v (look g o.entries x))
-              (ap (λ (l : List Row). shown start_of stop_of o.options.distance kept l x) (sym whole) ∙ shown-kept apart x);
+              (ap (λ (l : List RecordValue). shown start_of stop_of o.options.distance kept l x) (sym whole) ∙ shown-kept apart x);
           others = step_others now next start stop [] s is;
         }
 
     -- if there is no member, nothing is put
-    pub sweep-none : is_apart g.side ≡ o.options.stranded → members_between g from to rows ≡ [] → IsLedger key_cmp o.entries → ArePut g (names_of genome) (between from to rows) o o
+    pub sweep-none : is_apart g.side ≡ o.options.stranded → members_between g from to rows ≡ [] → IsLedger key_cmp o.entries → AreInserted g (names_of genome) (between from to rows) o o
     sweep-none apart none ledger = record {
       options = refl;
       ordered = ledger;
       here = λ x. ap (λ (v : Option Kept). option_or v (look g o.entries x))
-          (sym (ap (λ (l : List Row). shown start_of stop_of o.options.distance kept l x) none) ∙ shown-kept apart x);
+          (sym (ap (λ (l : List RecordValue). shown start_of stop_of o.options.distance kept l x) none) ∙ shown-kept apart x);
       others = λ k other. refl;
     }
 
     -- a block is put in so many steps, which its records pay for
-    pub sweep-pays : (now : KeptBlocks) (start stop : ℕ) (left : List Row) → IsSweeping now start stop left
+    pub sweep-pays : (now : KeptBlocks) (start stop : ℕ) (left : List RecordValue) → IsSweeping now start stop left
         → 4 * length (between_on g.rank from start rows) + (3 + length (between_on g.rank start stop rows)) ≤ 4 * length (between_on g.rank from stop rows)
     sweep-pays now start stop left s =
         let first = s.put.last.block.starts in
-        let is = member-in g from to rows first.0 (subst (λ (l : List Row). Mem first.0 l) (sym s.all) (mem-left s.passed left first.0 first.1)) in
+        let is = member-in g from to rows first.0 (subst (λ (l : List RecordValue). Mem first.0 l) (sym s.all) (mem-left s.passed left first.0 first.1)) in
         let long : start < stop = s.put.last.block.long in
         omega (
           arith,
@@ -311,7 +312,7 @@ module _ (o : KeptBlocks) (genome : Sequences) (rows : List Row) (g : Group) (fr
         )
 
 -- what a sweep knows of a track's records
-pub swept-from : (o : KeptBlocks) (genome : Sequences) (rows : List Row) (g : Group) (from to width : ℕ) → AreInOrder rows → All (Fits genome width) rows
+pub swept-from : (o : KeptBlocks) (genome : Sequences) (rows : List RecordValue) (g : Group) (from to width : ℕ) → AreInOrder rows → All (Fits genome width) rows
     → All (λ r. r.stop ≤ to) (members_between g from to rows) → IsSwept o genome rows g from to
 swept-from o genome rows g from to width order fit stops = record {
   ordered = order;

@@ -5,8 +5,8 @@ use Rattle.std.proofs.lemmas.Bool.{cond-true, cond-false, cases_lt, cases_eq, fa
 use Rattle.iv_text.proofs.ListLemmas.{Mem, filter-weaker, filter-weaker_more}
 use Rattle.iv_cover.proofs.Cover.{starts_in, starts_in-true, starts_in-from}
 use Rattle.iv_blocks.specs.KeptBlocks.{Kept}
-use Rattle.iv_blocks.specs.Lookups.{IsFirstBlock}
-use Rattle.iv_blocks.specs.Repairs.{JoinsAfter, count_from}
+use Rattle.iv_blocks.specs.Inside.Lookups.{IsFirstBlock}
+use Rattle.iv_blocks.specs.Inside.Repairs.{JoinsAfter, count_from}
 
 pub none-some : (b : Kept) → ◌≡◌ {A = Option Kept} None (Some b) → ⊥
 none-some b e = cc

@@ -8,7 +8,7 @@ use Rattle.std.proofs.lemmas.Option.{slice_get-map}
 use Rattle.iv_text.specs.Genome.{Sequences, seq_count, sequence_name, sequence_length}
 use Rattle.iv_text.specs.Named.{names_of}
 use Rattle.iv_text.specs.Read.{Fits}
-use Rattle.iv_text.specs.Row.{Row}
+use Rattle.iv_text.specs.RecordValue.{RecordValue}
 use Rattle.iv_cover.specs.Blocks.{block_at, blocks_below}
 use Rattle.iv_cover.specs.TrackBlocks.{start_of, stop_of}
 use Rattle.iv_cover.proofs.Cover.{no_start-test, block_at-none}
@@ -38,24 +38,24 @@ flat_map-flat_map {Z} h f (x ∷ xs) = flat_map-append h (f x) (flat_map f xs) �
 
 -- ---- groups
 
-pub group-in : (stranded : Bool) (s : ℕ) (t : Bool) (rows : List Row) (q : Row) → Mem q (group stranded s t rows) → Mem q rows × (q.seq ≡ s)
+pub group-in : (stranded : Bool) (s : ℕ) (t : Bool) (rows : List RecordValue) (q : RecordValue) → Mem q (group stranded s t rows) → Mem q rows × (q.seq ≡ s)
 group-in stranded s t rows q m =
     let both = mem-filter (is_in_group stranded s t) rows q m in
     (both.0, eqb-true _ _ (and_parts (q.seq == s) (is_on_side stranded t q) both.1).0)
 
 -- with strands together no record is on the other side
-pub group-other : (s : ℕ) (rows : List Row) → group false s true rows ≡ []
+pub group-other : (s : ℕ) (rows : List RecordValue) → group false s true rows ≡ []
 group-other s rows = filter-none (is_in_group false s true) rows (λ q m. and_right (q.seq == s) false refl)
 
 pub name_is : (g : Sequences) (rank : ℕ) → name_of (names_of g) rank ≡ sequence_name g rank
 name_is g rank = ap (λ o. unwrap_or o []) (slice_get-map (λ (s : List ℕ × ℕ). s.0) g rank)
 
 -- the blocks of one side of a sequence
-abbrev pub side_blocks : Options → Sequences → List Row → ℕ → Bool → List (ℕ × (ℕ × List Row))
+abbrev pub side_blocks : Options → Sequences → List RecordValue → ℕ → Bool → List (ℕ × (ℕ × List RecordValue))
 side_blocks o g rows s t = blocks_below start_of stop_of o.distance (group o.stranded s t rows) (sequence_length g s)
 
 -- the entry of a block
-abbrev pub entry_of : Options → Sequences → ℕ → Bool → ℕ × (ℕ × List Row) → Key × Kept
+abbrev pub entry_of : Options → Sequences → ℕ → Bool → ℕ × (ℕ × List RecordValue) → Key × Kept
 entry_of o g s t b = ((s, t, b.0), kept_block (sequence_name g s) (listed o.summaries) b.1)
 
 option_map-map : {A B C : Type 0} (h : B → C) (f : A → B) (o : Option A) → option_map h (option_map f o) ≡ option_map (λ a. h (f a)) o
@@ -63,27 +63,27 @@ option_map-map h f None = refl
 option_map-map h f (Some a) = refl
 
 -- the entries of a side are those of its blocks
-pub side-is : (o : Options) (g : Sequences) (rows : List Row) (s : ℕ) (t : Bool) (n : ℕ)
+pub side-is : (o : Options) (g : Sequences) (rows : List RecordValue) (s : ℕ) (t : Bool) (n : ℕ)
     → side_entries (kept_at o (names_of g) rows) s t n ≡ map (entry_of o g s t) (blocks_below start_of stop_of o.distance (group o.stranded s t rows) n)
 side-is o g rows s t n =
-    let at : ℕ → Option (ℕ × List Row) = λ p. block_at start_of stop_of o.distance (group o.stranded s t rows) p in
+    let at : ℕ → Option (ℕ × List RecordValue) = λ p. block_at start_of stop_of o.distance (group o.stranded s t rows) p in
     values-agree (λ p. option_map (λ v. ((s, t, p), v)) (kept_at o (names_of g) rows (s, t, p))) (λ p. option_map (entry_of o g s t) (option_map (λ b. (p, b)) (at p))) n
     (λ p below.
     option_map-map (λ v. ((s, t, p), v)) (kept_block (name_of (names_of g) s) (listed o.summaries)) (at p)
-    ∙ ap (λ name. option_map (λ (b : ℕ × List Row). ((s, t, p), kept_block name (listed o.summaries) b)) (at p)) (name_is g s)
+    ∙ ap (λ name. option_map (λ (b : ℕ × List RecordValue). ((s, t, p), kept_block name (listed o.summaries) b)) (at p)) (name_is g s)
     ∙ sym (option_map-map (entry_of o g s t) (λ b. (p, b)) (at p)))
     ∙ sym (map-filter_map (entry_of o g s t) (λ p. option_map (λ b. (p, b)) (at p)) (range_with_len 0 n))
 
-pub side-other : (o : Options) (g : Sequences) (rows : List Row) (s : ℕ) (n : ℕ) → o.stranded ≡ false
+pub side-other : (o : Options) (g : Sequences) (rows : List RecordValue) (s : ℕ) (n : ℕ) → o.stranded ≡ false
     → side_entries (kept_at o (names_of g) rows) s true n ≡ []
 side-other o g rows s n together =
     let none : group o.stranded s true rows ≡ [] = ap (λ b. group b s true rows) together ∙ group-other s rows in
     side-is o g rows s true n
-    ∙ ap (λ (l : List Row). map (entry_of o g s true) (blocks_below start_of stop_of o.distance l n)) none
+    ∙ ap (λ (l : List RecordValue). map (entry_of o g s true) (blocks_below start_of stop_of o.distance l n)) none
     ∙ ap (map (entry_of o g s true)) (blocks-none o.distance n)
 
 -- the entries of both sides are those of the sides that are printed
-pub sides-are : (o : Options) (g : Sequences) (rows : List Row) (s : ℕ)
+pub sides-are : (o : Options) (g : Sequences) (rows : List RecordValue) (s : ℕ)
     → rank_entries (kept_at o (names_of g) rows) (sequence_length g) s ≡ flat_map (λ t. map (entry_of o g s t) (side_blocks o g rows s t)) (sides o.stranded)
 sides-are o g rows s = go o.stranded refl
   where
@@ -102,8 +102,8 @@ sides-are o g rows s = go o.stranded refl
         ap (λ (l : Entries). l ++ side_entries (kept_at o (names_of g) rows) s true (sequence_length g s)) (side-is o g rows s false (sequence_length g s))
         ∙ ap (λ (l : Entries). first ++ l) (side-other o g rows s (sequence_length g s) is)
 
-module _ (o : Options) (g : Sequences) (width : ℕ) (rows : List Row) (fit : All (Fits g width) rows) where
-  no_block : (s : ℕ) (t : Bool) (p : ℕ) → ((q : Row) → Mem q rows → q.seq ≡ s → q.start ≡ p → ⊥) → kept_at o (names_of g) rows (s, t, p) ≡ None
+module _ (o : Options) (g : Sequences) (width : ℕ) (rows : List RecordValue) (fit : All (Fits g width) rows) where
+  no_block : (s : ℕ) (t : Bool) (p : ℕ) → ((q : RecordValue) → Mem q rows → q.seq ≡ s → q.start ≡ p → ⊥) → kept_at o (names_of g) rows (s, t, p) ≡ None
   no_block s t p none =
       ap (option_map (kept_block (name_of (names_of g) s) (listed o.summaries)))
       (block_at-none start_of stop_of o.distance (group o.stranded s t rows) p

@@ -6,9 +6,9 @@ use Rattle.std.specs.BTreeMap.{insert_entry}
 use Rattle.std.proofs.lemmas.Bool.{cond-true, cond-false, cases_eq, false_from_ne_true}
 use Rattle.std.proofs.lemmas.Map.Lookups.{CmpEqualImpliesEq, exact_pairs, exact_unsigned}
 use Rattle.iv_track.specs.Entries.{value_at}
-use Rattle.iv_blocks.specs.Groups.{is_minus}
+use Rattle.iv_blocks.specs.Inside.Groups.{is_minus}
 use Rattle.iv_blocks.specs.KeptBlocks.{Key, key_cmp, Kept, Entries}
-use Rattle.iv_blocks.specs.Putting.{key_of, IsOfOther}
+use Rattle.iv_blocks.specs.Inside.Insertion.{key_of, IsOfOther}
 use Rattle.iv_blocks.specs.declared.group.Group.{Group}
 
 -- the order of keys is a total order

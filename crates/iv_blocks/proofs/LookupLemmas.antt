@@ -7,10 +7,10 @@ use Rattle.std.proofs.lemmas.Cmp.{nat_cmp_total, ranked, tied_itself}
 use Rattle.std.proofs.lemmas.Map.Keys.{le_from_is_le}
 use Rattle.iv_track.specs.Entries.{IsLedger, value_at, first_from, last_until}
 use Rattle.iv_track.proofs.NumberOrder.{le-cmp, ge-cmp, ge-from}
-use Rattle.iv_blocks.specs.Groups.{is_minus}
+use Rattle.iv_blocks.specs.Inside.Groups.{is_minus}
 use Rattle.iv_blocks.specs.KeptBlocks.{Key, key_cmp, Kept, Entries}
-use Rattle.iv_blocks.specs.Putting.{key_of}
-use Rattle.iv_blocks.specs.Lookups.{kept_in, IsLastBlock, IsFirstBlock}
+use Rattle.iv_blocks.specs.Inside.Insertion.{key_of}
+use Rattle.iv_blocks.specs.Inside.Lookups.{kept_in, IsLastBlock, IsFirstBlock}
 use Rattle.iv_blocks.specs.declared.group.Group.{Group}
 use Rattle.iv_blocks.proofs.EntriesLemmas.{IsFirst, IsLast, first-found, last-found}
 use Rattle.iv_blocks.proofs.Keys.{keys_total}

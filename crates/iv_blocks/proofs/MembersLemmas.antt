@@ -5,24 +5,25 @@ use Rattle.std.proofs.lemmas.Bool.{cond-true, cond-false, cases_Bool, and_parts,
 use Rattle.std.proofs.lemmas.Cmp.{ranked, by_ranked}
 use Rattle.std.proofs.lemmas.Map.Keys.{le_from_is_le}
 use Rattle.iv_text.specs.Ordered.{AreInOrder}
-use Rattle.iv_text.specs.Row.{Row, row_cmp}
+use Rattle.iv_text.specs.RecordValue.{RecordValue, record_cmp}
 use Rattle.iv_track.specs.Tracked.{is_from}
 use Rattle.iv_track.proofs.NumberOrder.{le-cmp}
 use Rattle.iv_text.proofs.InOrderLemmas.{all-recursion, recursion-all, in_order-filter}
 use Rattle.iv_text.proofs.ListLemmas.{Mem, mem-filter, filter-agree, filter-filter, filter-none, same_tests}
 use Rattle.iv_text.proofs.PrecedesLemmas.{Precedes, precedes-from}
-use Rattle.iv_blocks.specs.MembersLeft.{MembersLeft, IsAhead}
-use Rattle.iv_blocks.specs.Groups.{is_in_group, is_on_side, starts_between, between_on, members_between, is_apart, is_minus}
+use Rattle.iv_blocks.specs.Inside.MembersLeft.{MembersLeft, IsAhead}
+use Rattle.iv_blocks.specs.Groups.{is_in_group, is_on_side}
+use Rattle.iv_blocks.specs.Inside.Groups.{starts_between, between_on, members_between, is_apart, is_minus}
 use Rattle.iv_blocks.specs.declared.group.Group.{Group}
 
 -- ---- lists in order
 
 -- each record of the first part is before each of the second
-pub in_order-parts : (xs ys : List Row) → AreInOrder (xs ++ ys) → (q r : Row) → Mem q xs → Mem r ys → Precedes q r
+pub in_order-parts : (xs ys : List RecordValue) → AreInOrder (xs ++ ys) → (q r : RecordValue) → Mem q xs → Mem r ys → Precedes q r
 in_order-parts [] ys h q r m n = absurd m
-in_order-parts (x ∷ xs) ys h q r (inl at) n = subst (λ (k : Row). Precedes k r) at (precedes-from x r (all-recursion (λ y. is_le (row_cmp x y) ≡ true) (xs ++ ys) h.0 r (later xs ys n)))
+in_order-parts (x ∷ xs) ys h q r (inl at) n = subst (λ (k : RecordValue). Precedes k r) at (precedes-from x r (all-recursion (λ y. is_le (record_cmp x y) ≡ true) (xs ++ ys) h.0 r (later xs ys n)))
   where
-    later : (xs ys : List Row) → Mem r ys → Mem r (xs ++ ys)
+    later : (xs ys : List RecordValue) → Mem r ys → Mem r (xs ++ ys)
     later [] ys n = n
     later (x ∷ xs) ys n = inr (later xs ys n)
 in_order-parts (x ∷ xs) ys h q r (inr m) n = in_order-parts xs ys h.1 q r m n
@@ -39,7 +40,7 @@ le-then o p (inl e) = rw e refl
 le-then o p (inr e) = rw (e.0, e.1) refl
 
 -- from a place on: on a later sequence, or on this one and no earlier
-pub from-true : (rank from : ℕ) (q : Row) → is_from rank from q ≡ true → (rank < q.seq) ⊎ ((rank ≡ q.seq) × (from ≤ q.start))
+pub from-true : (rank from : ℕ) (q : RecordValue) → is_from rank from q ≡ true → (rank < q.seq) ⊎ ((rank ≡ q.seq) × (from ≤ q.start))
 from-true rank from q e = elim (then-le (nat_cmp rank q.seq) (nat_cmp from q.start) e) [
   | inl less ↦ inl (by_ranked (rank < q.seq) (rank ≡ q.seq) (q.seq < rank) (nat_cmp rank q.seq) (ranked rank q.seq _ refl) (λ _ l. l) (λ f _. cc) (λ f _. cc))
   | inr equal ↦ inr (
@@ -51,19 +52,19 @@ from-true rank from q e = elim (then-le (nat_cmp rank q.seq) (nat_cmp from q.sta
 equal-from : (a b : ℕ) → a ≡ b → nat_cmp a b ≡ Equal
 equal-from a b same = by_ranked (a < b) (a ≡ b) (b < a) (nat_cmp a b) (ranked a b _ refl) (λ _ l. absurd (omega arith)) (λ e _. e) (λ _ l. absurd (omega arith))
 
-pub from-here : (rank from : ℕ) (q : Row) → rank ≡ q.seq → from ≤ q.start → is_from rank from q ≡ true
+pub from-here : (rank from : ℕ) (q : RecordValue) → rank ≡ q.seq → from ≤ q.start → is_from rank from q ≡ true
 from-here rank from q at after = le-then (nat_cmp rank q.seq) (nat_cmp from q.start) (inr (equal-from rank q.seq at, le-cmp from q.start after))
 
 -- ---- what is between two starts
 
-pub between-true : (from to : ℕ) (q : Row) → starts_between from to q ≡ true → (from ≤ q.start) × (q.start < to)
+pub between-true : (from to : ℕ) (q : RecordValue) → starts_between from to q ≡ true → (from ≤ q.start) × (q.start < to)
 between-true from to q e = let both = and_parts (nat_le from q.start) (nat_lt q.start to) e in (leb-true _ _ both.0, ltb-true _ _ both.1)
 
-pub between-from : (from to : ℕ) (q : Row) → from ≤ q.start → q.start < to → starts_between from to q ≡ true
+pub between-from : (from to : ℕ) (q : RecordValue) → from ≤ q.start → q.start < to → starts_between from to q ≡ true
 between-from from to q above below = and_from _ _ (le-leb _ _ above) (lt-ltb _ _ below)
 
 -- a test of records on one sequence, from a start on and below another, as a walk from there on sees it
-pub walked : (p : Row → Bool) (rank from to : ℕ) (rows : List Row) → ((q : Row) → p q ≡ true → q.seq ≡ rank)
+pub walked : (p : RecordValue → Bool) (rank from to : ℕ) (rows : List RecordValue) → ((q : RecordValue) → p q ≡ true → q.seq ≡ rank)
     → filter (λ q. p q && starts_between 0 to q) (filter (is_from rank from) rows) ≡ filter (λ q. p q && starts_between from to q) rows
 walked p rank from to rows on =
     filter-filter (λ q. p q && starts_between 0 to q) (is_from rank from) rows
@@ -83,27 +84,27 @@ walked p rank from to rows on =
     and_from _ _ (from-here rank from q (sym (on q both.0)) range.0) (and_from _ _ both.0 (between-from 0 to q (omega arith) range.1))))
 
 -- in a range without a place there is none
-pub none_between : (p : Row → Bool) (from to : ℕ) (rows : List Row) → to ≤ from → filter (λ q. p q && starts_between from to q) rows ≡ []
+pub none_between : (p : RecordValue → Bool) (from to : ℕ) (rows : List RecordValue) → to ≤ from → filter (λ q. p q && starts_between from to q) rows ≡ []
 none_between p from to rows empty = filter-none _ rows (λ q m. false_from_ne_true _ (λ e.
     let both = and_parts (p q) (starts_between from to q) e in
     let range = between-true from to q both.1 in
     omega arith))
 
-pub in_group-on : (g : Group) (q : Row) → is_in_group (is_apart g.side) g.rank (is_minus g.side) q ≡ true → q.seq ≡ g.rank
+pub in_group-on : (g : Group) (q : RecordValue) → is_in_group (is_apart g.side) g.rank (is_minus g.side) q ≡ true → q.seq ≡ g.rank
 in_group-on g q e = eqb-true _ _ (and_parts (q.seq == g.rank) (is_on_side (is_apart g.side) (is_minus g.side) q) e).0
 
-on-rank : (rank : ℕ) (q : Row) → (q.seq == rank) ≡ true → q.seq ≡ rank
+on-rank : (rank : ℕ) (q : RecordValue) → (q.seq == rank) ≡ true → q.seq ≡ rank
 on-rank rank q e = eqb-true _ _ e
 
 -- what is ahead of a walk from a place on
-pub members-walked : (g : Group) (from to : ℕ) (rows : List Row) → members_between g 0 to (filter (is_from g.rank from) rows) ≡ members_between g from to rows
+pub members-walked : (g : Group) (from to : ℕ) (rows : List RecordValue) → members_between g 0 to (filter (is_from g.rank from) rows) ≡ members_between g from to rows
 members-walked g from to rows = walked (is_in_group (is_apart g.side) g.rank (is_minus g.side)) g.rank from to rows (in_group-on g)
 
-pub records-walked : (rank from to : ℕ) (rows : List Row) → between_on rank 0 to (filter (is_from rank from) rows) ≡ between_on rank from to rows
+pub records-walked : (rank from to : ℕ) (rows : List RecordValue) → between_on rank 0 to (filter (is_from rank from) rows) ≡ between_on rank from to rows
 records-walked rank from to rows = walked (λ q. q.seq == rank) rank from to rows (on-rank rank)
 
 -- what a new walk shows: it begins at the range's start, or the range is empty and it ends at once
-pub coming-walked : (g : Group) (from to begin end : ℕ) (rows left : List Row) → left ≡ filter (is_from g.rank begin) rows
+pub coming-walked : (g : Group) (from to begin end : ℕ) (rows left : List RecordValue) → left ≡ filter (is_from g.rank begin) rows
     → ((begin ≡ from) × (end ≡ to)) ⊎ ((to ≤ from) × (end ≡ 0))
     → ◌≡◌ {A = MembersLeft} (record { members = members_between g 0 end left; records = length (between_on g.rank 0 end left) })
     (record { members = members_between g from to rows; records = length (between_on g.rank from to rows) })
@@ -119,9 +120,9 @@ coming-walked g from to begin end rows left is (inr empty) =
     rw empty.1 (none_between (λ q. q.seq == g.rank) 0 0 left (omega arith) ∙ sym (none_between (λ q. q.seq == g.rank) from to rows empty.0)) in
     λ i. record { members = members i; records = length (records i) }
 
-pub ahead-walked : (rank from : ℕ) (rows : List Row) → AreInOrder rows → IsAhead rank (filter (is_from rank from) rows)
+pub ahead-walked : (rank from : ℕ) (rows : List RecordValue) → AreInOrder rows → IsAhead rank (filter (is_from rank from) rows)
 ahead-walked rank from rows order = record {
-  ordered = in_order-filter row_cmp (is_from rank from) rows order;
+  ordered = in_order-filter record_cmp (is_from rank from) rows order;
   ranks = recursion-all (λ r. rank ≤ r.seq) _ (λ q m. elim (from-true rank from q (mem-filter (is_from rank from) rows q m).1) [
     | inl later ↦ omega arith
     | inr here ↦ omega (arith, here.0)
@@ -130,11 +131,11 @@ ahead-walked rank from rows order = record {
 
 -- ---- one more step of a walk
 
-pub ahead-rest : (rank : ℕ) (r : Row) (rows : List Row) → IsAhead rank (r ∷ rows) → IsAhead rank rows
+pub ahead-rest : (rank : ℕ) (r : RecordValue) (rows : List RecordValue) → IsAhead rank (r ∷ rows) → IsAhead rank rows
 ahead-rest rank r rows h = record { ordered = h.ordered.1; ranks = h.ranks.1 }
 
 -- a record on another sequence, or from the end on, has nothing of the range after it
-pub past-none : (p : Row → Bool) (rank to : ℕ) (r : Row) (rows : List Row) → ((q : Row) → p q ≡ true → q.seq ≡ rank) → IsAhead rank (r ∷ rows)
+pub past-none : (p : RecordValue → Bool) (rank to : ℕ) (r : RecordValue) (rows : List RecordValue) → ((q : RecordValue) → p q ≡ true → q.seq ≡ rank) → IsAhead rank (r ∷ rows)
     → (r.seq ≡ rank → ⊥) ⊎ (to ≤ r.start) → filter (λ q. p q && starts_between 0 to q) (r ∷ rows) ≡ []
 past-none p rank to r rows on h past = filter-none _ (r ∷ rows) (λ q m. false_from_ne_true _ (λ e.
     let both = and_parts (p q) (starts_between 0 to q) e in
@@ -143,46 +144,46 @@ past-none p rank to r rows on h past = filter-none _ (r ∷ rows) (λ q m. false
     let first : rank ≤ r.seq = h.ranks.0 in
     let before : Precedes r q ⊎ (r ≡ q) = elim m [
       | inl same ↦ inr same
-      | inr later ↦ inl (precedes-from r q (all-recursion (λ y. is_le (row_cmp r y) ≡ true) rows h.ordered.0 q later))
+      | inr later ↦ inl (precedes-from r q (all-recursion (λ y. is_le (record_cmp r y) ≡ true) rows h.ordered.0 q later))
     ] in
     elim past [
       | inl other ↦ elim before [
         | inl is_there ↦ elim is_there [ inl less ↦ omega arith | inr equal ↦ other (omega (arith, equal.0)) ]
-        | inr same ↦ other (ap (λ (k : Row). k.seq) same ∙ at)
+        | inr same ↦ other (ap (λ (k : RecordValue). k.seq) same ∙ at)
       ]
       | inr end ↦ elim before [
         | inl is_there ↦ elim is_there [ inl less ↦ omega arith | inr equal ↦ omega (arith, equal.1) ]
-        | inr same ↦ omega (arith, ap (λ (k : Row). k.start) same)
+        | inr same ↦ omega (arith, ap (λ (k : RecordValue). k.start) same)
       ]
     ]))
 
-pub past-members : (g : Group) (to : ℕ) (r : Row) (rows : List Row) → IsAhead g.rank (r ∷ rows) → (r.seq ≡ g.rank → ⊥) ⊎ (to ≤ r.start) → members_between g 0 to (r ∷ rows) ≡ []
+pub past-members : (g : Group) (to : ℕ) (r : RecordValue) (rows : List RecordValue) → IsAhead g.rank (r ∷ rows) → (r.seq ≡ g.rank → ⊥) ⊎ (to ≤ r.start) → members_between g 0 to (r ∷ rows) ≡ []
 past-members g to r rows h past = past-none (is_in_group (is_apart g.side) g.rank (is_minus g.side)) g.rank to r rows (in_group-on g) h past
 
-pub past-records : (rank to : ℕ) (r : Row) (rows : List Row) → IsAhead rank (r ∷ rows) → (r.seq ≡ rank → ⊥) ⊎ (to ≤ r.start) → between_on rank 0 to (r ∷ rows) ≡ []
+pub past-records : (rank to : ℕ) (r : RecordValue) (rows : List RecordValue) → IsAhead rank (r ∷ rows) → (r.seq ≡ rank → ⊥) ⊎ (to ≤ r.start) → between_on rank 0 to (r ∷ rows) ≡ []
 past-records rank to r rows h past = past-none (λ q. q.seq == rank) rank to r rows (on-rank rank) h past
 
 -- none in a list is none in its rest
-pub rest-none : (p : Row → Bool) (r : Row) (rows : List Row) → filter p (r ∷ rows) ≡ [] → filter p rows ≡ []
+pub rest-none : (p : RecordValue → Bool) (r : RecordValue) (rows : List RecordValue) → filter p (r ∷ rows) ≡ [] → filter p rows ≡ []
 rest-none p r rows none = elim (cases_Bool (p r)) [
   | inl e ↦ let never : r ∷ filter p rows ≡ [] = sym (cond-true (p r) (r ∷ filter p rows) (filter p rows) e) ∙ none in cc
   | inr e ↦ sym (cond-false (p r) (r ∷ filter p rows) (filter p rows) e) ∙ none
 ]
 
 -- a record within the range is one of those ahead
-pub here-records : (rank to : ℕ) (r : Row) (rows : List Row) → r.seq ≡ rank → r.start < to → length (between_on rank 0 to (r ∷ rows)) ≡ length (between_on rank 0 to rows) + 1
+pub here-records : (rank to : ℕ) (r : RecordValue) (rows : List RecordValue) → r.seq ≡ rank → r.start < to → length (between_on rank 0 to (r ∷ rows)) ≡ length (between_on rank 0 to rows) + 1
 here-records rank to r rows at below =
     ap length (cond-true ((r.seq == rank) && starts_between 0 to r) (r ∷ between_on rank 0 to rows) (between_on rank 0 to rows)
     (and_from _ _ (eq-eqb _ _ at) (between-from 0 to r (omega arith) below))) ∙ omega arith
 
 -- and a member if it is in the group
-pub here-member : (g : Group) (to : ℕ) (r : Row) (rows : List Row) → r.start < to → is_in_group (is_apart g.side) g.rank (is_minus g.side) r ≡ true
+pub here-member : (g : Group) (to : ℕ) (r : RecordValue) (rows : List RecordValue) → r.start < to → is_in_group (is_apart g.side) g.rank (is_minus g.side) r ≡ true
     → members_between g 0 to (r ∷ rows) ≡ r ∷ members_between g 0 to rows
 here-member g to r rows below in_group =
     cond-true (is_in_group (is_apart g.side) g.rank (is_minus g.side) r && starts_between 0 to r) (r ∷ members_between g 0 to rows) (members_between g 0 to rows)
     (and_from _ _ in_group (between-from 0 to r (omega arith) below))
 
-pub other-member : (g : Group) (to : ℕ) (r : Row) (rows : List Row) → is_in_group (is_apart g.side) g.rank (is_minus g.side) r ≡ false
+pub other-member : (g : Group) (to : ℕ) (r : RecordValue) (rows : List RecordValue) → is_in_group (is_apart g.side) g.rank (is_minus g.side) r ≡ false
     → members_between g 0 to (r ∷ rows) ≡ members_between g 0 to rows
 other-member g to r rows other =
     cond-false (is_in_group (is_apart g.side) g.rank (is_minus g.side) r && starts_between 0 to r) (r ∷ members_between g 0 to rows) (members_between g 0 to rows)

@@ -4,7 +4,7 @@ use Rattle.std.specs.Prelude.{codes, decimal}
 use Rattle.std.specs.List.{flat_map, range_with_len}
 use Rattle.std.proofs.lemmas.List.Folds.{flat_map-map}
 use Rattle.iv_text.specs.Genome.{Sequences, seq_count, sequence_name, sequence_length}
-use Rattle.iv_text.specs.Row.{Row}
+use Rattle.iv_text.specs.RecordValue.{RecordValue}
 use Rattle.iv_cover.specs.Blocks.{blocks_below}
 use Rattle.iv_cover.specs.TrackBlocks.{start_of, stop_of, block_on, blocks_on, blocks_of}
 use Rattle.iv_text.specs.Covering.{on}
@@ -15,11 +15,11 @@ use Rattle.iv_blocks.specs.declared.options.Options.{Options}
 use Rattle.iv_blocks.proofs.ClusterLemmas.{on-is}
 use Rattle.iv_blocks.proofs.KeptLemmas.{flat_map-agree, flat_map-flat_map}
 use Rattle.iv_blocks.specs.PlainOptions.{IsPlain}
-use Rattle.iv_blocks.specs.BlockSweeps.{interval_of, interval_row}
+use Rattle.iv_blocks.specs.Inside.BlockSweeps.{interval_of, interval_row}
 
-module _ (d : ℕ) (g : Sequences) (rows : List Row) (o : Options) (plain : IsPlain d o) where
+module _ (d : ℕ) (g : Sequences) (rows : List RecordValue) (o : Options) (plain : IsPlain d o) where
   -- the row of a block without summaries
-  plain-row : (s : ℕ) (b : ℕ × (ℕ × List Row)) → interval_row g (interval_of (block_on s b)) ≡ block_row (sequence_name g s) [] b
+  plain-row : (s : ℕ) (b : ℕ × (ℕ × List RecordValue)) → interval_row g (interval_of (block_on s b)) ≡ block_row (sequence_name g s) [] b
   plain-row s b = ap (λ (l : List ℕ). l ++ codes "\n") (sym (append-nil (sequence_name g s ++ codes "\t" ++ decimal b.0 ++ codes "\t" ++ decimal b.1.0)))
 
   -- the rows of a sequence
@@ -28,7 +28,7 @@ module _ (d : ℕ) (g : Sequences) (rows : List Row) (o : Options) (plain : IsPl
       flat_map-map (λ b. interval_row g (interval_of b)) (block_on s) (blocks_below start_of stop_of d (on s rows) (sequence_length g s))
       ∙ flat_map-agree (λ b. interval_row g (interval_of (block_on s b))) (block_row (sequence_name g s) []) (blocks_below start_of stop_of d (on s rows) (sequence_length g s)) (plain-row s)
       ∙ ap (λ (asked : List ColumnSummary). flat_map (block_row (sequence_name g s) asked) (blocks_below start_of stop_of d (on s rows) (sequence_length g s))) (sym plain.nothing)
-      ∙ ap (λ (l : List Row). flat_map (block_row (sequence_name g s) (listed o.summaries)) (blocks_below start_of stop_of d l (sequence_length g s))) (sym (on-is s rows))
+      ∙ ap (λ (l : List RecordValue). flat_map (block_row (sequence_name g s) (listed o.summaries)) (blocks_below start_of stop_of d l (sequence_length g s))) (sym (on-is s rows))
       ∙ ap (λ (n : ℕ). flat_map (block_row (sequence_name g s) (listed o.summaries)) (blocks_below start_of stop_of n (group false s false rows) (sequence_length g s))) (sym plain.far)
       ∙ ap (λ (apart : Bool). flat_map (block_row (sequence_name g s) (listed o.summaries)) (blocks_below start_of stop_of o.distance (group apart s false rows) (sequence_length g s))) (sym plain.together)
       ∙ sym (append-nil (side_rows o g rows s false))

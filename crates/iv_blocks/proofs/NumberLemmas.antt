@@ -7,7 +7,7 @@ use Rattle.std.proofs.lemmas.Bool.{cases_lt, cases_eq, both_ways, cond-true, fal
 use Rattle.std.proofs.lemmas.List.Sums.{sum-map, sum_by-append, sum_by-cons}
 use Rattle.iv_text.specs.Genome.{Sequences, sequence_length}
 use Rattle.iv_text.specs.Read.{IsOnGenome}
-use Rattle.iv_text.specs.Row.{Row}
+use Rattle.iv_text.specs.RecordValue.{RecordValue}
 use Rattle.iv_cover.specs.BlockLaws.{BelongsTo}
 use Rattle.iv_cover.specs.Blocks.{is_block_start, block_at, block_stop, members}
 use Rattle.iv_cover.specs.TrackBlocks.{start_of, stop_of}
@@ -69,30 +69,30 @@ total-rise h m (suc n) low = elim (cases_eq m (suc n)) [
   | inr ne ↦ omega (arith, total-rise h m n (omega arith), total-more h n)
 ]
 
-module _ (d : ℕ) (g : Sequences) (rows : List Row) (lie : All (IsOnGenome g) rows) where
+module _ (d : ℕ) (g : Sequences) (rows : List RecordValue) (lie : All (IsOnGenome g) rows) where
   -- the block that starts at a position of a sequence
-  abbrev pub at : ℕ → ℕ → Option (ℕ × (ℕ × List Row))
+  abbrev pub at : ℕ → ℕ → Option (ℕ × (ℕ × List RecordValue))
   at s x = option_map (λ b. (x, b)) (block_at start_of stop_of d (on s rows) x)
 
   -- where the block of a record starts
-  abbrev pub own : Row → ℕ
+  abbrev pub own : RecordValue → ℕ
   own r = home start_of stop_of d (on r.seq rows) r
 
-  in-own : (r : Row) → Contains rows r → Mem r (on r.seq rows)
+  in-own : (r : RecordValue) → Contains rows r → Mem r (on r.seq rows)
   in-own r there = on-from r.seq rows r (contains-mem rows r there) refl
 
-  own-block : (r : Row) → Contains rows r → at r.seq (own r) ≡ Some (own r, (block_stop start_of stop_of d (on r.seq rows) (own r), members start_of stop_of d (on r.seq rows) (own r)))
+  own-block : (r : RecordValue) → Contains rows r → at r.seq (own r) ≡ Some (own r, (block_stop start_of stop_of d (on r.seq rows) (own r), members start_of stop_of d (on r.seq rows) (own r)))
   own-block r there =
       let starts = home-starts start_of stop_of d (on r.seq rows) r (in-own r there) in
-      ap (option_map (λ (b : ℕ × List Row). (own r, b))) (cond-true (is_block_start start_of stop_of d (on r.seq rows) (own r)) _ _ starts)
+      ap (option_map (λ (b : ℕ × List RecordValue). (own r, b))) (cond-true (is_block_start start_of stop_of d (on r.seq rows) (own r)) _ _ starts)
 
   -- the number on its own sequence
-  pub own-number : (r : Row) → blocks_before d rows r.seq (r.start + 1) ≡ length (values (at r.seq) (suc (own r)))
+  pub own-number : (r : RecordValue) → blocks_before d rows r.seq (r.start + 1) ≡ length (values (at r.seq) (suc (own r)))
   own-number r = ap (λ n. blocks_before d rows r.seq n) (add-one r.start)
-      ∙ ap (λ (l : List (ℕ × (ℕ × List Row))). length l) (blocks-home start_of stop_of d (on r.seq rows) r)
+      ∙ ap (λ (l : List (ℕ × (ℕ × List RecordValue))). length l) (blocks-home start_of stop_of d (on r.seq rows) r)
 
   -- a block that starts later has a greater number
-  later-block : (q r : Row) → Contains rows r → q.seq ≡ r.seq → own q < own r → block_number d g rows q < block_number d g rows r
+  later-block : (q r : RecordValue) → Contains rows r → q.seq ≡ r.seq → own q < own r → block_number d g rows q < block_number d g rows r
   later-block q r there same low =
       let grow = values-grow (at r.seq) (suc (own q)) (own r) (suc (own r)) _ low (omega arith) (own-block r there) in
       let first : blocks_before d rows q.seq (q.start + 1) ≡ length (values (at r.seq) (suc (own q))) = own-number q ∙ ap (λ s. length (values (at s) (suc (own q)))) same in
@@ -100,7 +100,7 @@ module _ (d : ℕ) (g : Sequences) (rows : List Row) (lie : All (IsOnGenome g) r
       omega (arith, grow, first, own-number r, sums)
 
   -- and so has one on a later sequence
-  later-sequence : (q r : Row) → Contains rows q → Contains rows r → q.seq < r.seq → block_number d g rows q < block_number d g rows r
+  later-sequence : (q r : RecordValue) → Contains rows q → Contains rows r → q.seq < r.seq → block_number d g rows q < block_number d g rows r
   later-sequence q r here there low =
       let h : ℕ → ℕ = λ rank. blocks_before d rows rank (sequence_length g rank) in
       let is_placed = all-mem (IsOnGenome g) rows lie q (contains-mem rows q here) in
@@ -109,12 +109,12 @@ module _ (d : ℕ) (g : Sequences) (rows : List Row) (lie : All (IsOnGenome g) r
       let first = values-grow (at r.seq) 0 (own r) (suc (own r)) _ (omega arith) (omega arith) (own-block r there) in
       omega (arith, within, first, own-number r, total-more h q.seq, total-rise h (suc q.seq) r.seq (omega arith))
 
-  pub same-home : (s x : ℕ) (r : Row) → Contains (members start_of stop_of d (on s rows) x) r → home start_of stop_of d (on s rows) r ≡ x
+  pub same-home : (s x : ℕ) (r : RecordValue) → Contains (members start_of stop_of d (on s rows) x) r → home start_of stop_of d (on s rows) r ≡ x
   same-home s x r belongs =
       let facts = (member-means start_of stop_of d (on s rows) x r).0 belongs in
       last-is (is_block_start start_of stop_of d (on s rows)) r.start x facts.2 facts.1 (λ k above below. false_from_ne_true _ (facts.3 k above below))
 
-  home-belongs : (r : Row) → Contains rows r → Contains (members start_of stop_of d (on r.seq rows) (own r)) r
+  home-belongs : (r : RecordValue) → Contains rows r → Contains (members start_of stop_of d (on r.seq rows) (own r)) r
   home-belongs r there =
       let m = in-own r there in
       (member-means start_of stop_of d (on r.seq rows) (own r) r).1 (
@@ -124,7 +124,7 @@ module _ (d : ℕ) (g : Sequences) (rows : List Row) (lie : All (IsOnGenome g) r
         λ k above below passes. both_ways _ (home-last start_of stop_of d (on r.seq rows) r k above below) passes,
       )
 
-  pub number-means : (q r : Row) → Contains rows q → Contains rows r
+  pub number-means : (q r : RecordValue) → Contains rows q → Contains rows r
       → (block_number d g rows q ≡ block_number d g rows r) ↔ ((q.seq ≡ r.seq) × ((x : ℕ) × BelongsTo d (on r.seq rows) x q × BelongsTo d (on r.seq rows) x r))
   number-means q r here there = (
     λ same. elim (cases_lt q.seq r.seq) [

@@ -7,27 +7,27 @@ use Rattle.std.proofs.lemmas.List.Elements.{All-weaker}
 use Rattle.iv_text.specs.Genome.{Sequences, seq_count, sequence_length}
 use Rattle.iv_text.specs.Named.{names_of}
 use Rattle.iv_text.specs.Read.{Fits, IsOnGenome}
-use Rattle.iv_text.specs.Row.{Row}
+use Rattle.iv_text.specs.RecordValue.{RecordValue}
 use Rattle.iv_cover.specs.Blocks.{blocks_below}
 use Rattle.iv_cover.specs.TrackBlocks.{Group, start_of, stop_of, block_on, blocks_on, blocks_of, with_members}
 use Rattle.iv_text.specs.Covering.{on}
 use Rattle.iv_text.proofs.ListLemmas.{filter-agree}
 use Rattle.iv_track.specs.Entries.{IsLedger, value_at}
 use Rattle.iv_track.proofs.CountedLemmas.{given-items}
-use Rattle.iv_cover.specs.Coming.{coming, is_joined}
+use Rattle.iv_cover.specs.Inside.Coming.{coming, is_joined}
 use Rattle.iv_cover.specs.declared.block.Block.{Block}
 use Rattle.iv_cover.specs.declared.column.ColumnSummary.{ColumnSummary}
 use Rattle.iv_cover.proofs.Comings.{coming-begun, coming-joined, coming-split_up}
 use Rattle.iv_blocks.specs.Groups.{is_in_group, group, sides, listed}
 use Rattle.iv_blocks.specs.KeptBlocks.{Key, Entries, key_cmp, kept_at}
-use Rattle.iv_blocks.specs.Plain.{kept_entry, entries_with, plain_entry, GivesKept}
+use Rattle.iv_blocks.specs.Inside.Plain.{kept_entry, entries_with, plain_entry, GivesKept}
 use Rattle.iv_blocks.specs.declared.options.Options.{Options}
 use Rattle.iv_blocks.proofs.EntryLemmas.{rank_entries, all_entries}
 use Rattle.iv_blocks.proofs.InOrderLemmas.{all-ordered, all-look}
 use Rattle.iv_blocks.proofs.KeptLemmas.{flat_map-agree, side_blocks, entry_of, sides-are, none-past, none-later}
 
 -- records that fit a genome are on it
-pub all-lie : (g : Sequences) (width : ℕ) (rows : List Row) → All (Fits g width) rows → All (IsOnGenome g) rows
+pub all-lie : (g : Sequences) (width : ℕ) (rows : List RecordValue) → All (Fits g width) rows → All (IsOnGenome g) rows
 all-lie g width rows fit = All-weaker (Fits g width) (IsOnGenome g) (λ r fits. fits.is_placed) rows fit
 
 pub map-flat_map : {X Y Z : Type 0} (h : Y → Z) (f : X → List Y) (xs : List X) → map h (flat_map f xs) ≡ flat_map (λ x. map h (f x)) xs
@@ -42,7 +42,7 @@ map-flat_map h f (x ∷ xs) = map-both (f x) (flat_map f xs) ∙ ap (λ l. map h
 pub drained : (bs : List Group) (es : Entries) → Drains GivesKept bs es → es ≡ map plain_entry bs
 drained bs es run = given-items bs es (map plain_entry bs) run (YieldsList-from_shown GivesKept (λ e. e) (map plain_entry) (λ s t h. ap length h.0) (λ s x t h. h) bs)
 
-module _ (o : Options) (g : Sequences) (width : ℕ) (rows : List Row) (fit : All (Fits g width) rows) (together : o.stranded ≡ false) where
+module _ (o : Options) (g : Sequences) (width : ℕ) (rows : List RecordValue) (fit : All (Fits g width) rows) (together : o.stranded ≡ false) where
   -- the records of a sequence are its one group
   group-on : (s : ℕ) → group o.stranded s false rows ≡ on s rows
   group-on s = ap (λ b. group b s false rows) together
@@ -52,7 +52,7 @@ module _ (o : Options) (g : Sequences) (width : ℕ) (rows : List Row) (fit : Al
       and-true true = refl
       and-true false = refl
 
-  kept-block : (s : ℕ) (bs : List (ℕ × (ℕ × List Row))) → map (kept_entry g (listed o.summaries)) (map (block_on s) bs) ≡ map (entry_of o g s false) bs
+  kept-block : (s : ℕ) (bs : List (ℕ × (ℕ × List RecordValue))) → map (kept_entry g (listed o.summaries)) (map (block_on s) bs) ≡ map (entry_of o g s false) bs
   kept-block s [] = refl
   kept-block s (b ∷ bs) = ap (λ (l : Entries). entry_of o g s false b ∷ l) (kept-block s bs)
 
@@ -95,14 +95,14 @@ module _ (o : Options) (g : Sequences) (width : ℕ) (rows : List Row) (fit : Al
 
 module _ (g : Sequences) (summaries : List ColumnSummary) (d : ℕ) where
   -- the first record opens a block
-  pub entries-begun : (r : Row) (rows : List Row) (block : Block) → block ≡ record { sequence = r.seq; start = r.start; stop = r.stop }
+  pub entries-begun : (r : RecordValue) (rows : List RecordValue) (block : Block) → block ≡ record { sequence = r.seq; start = r.start; stop = r.stop }
       → entries_with g summaries d [] block (r ∷ []) rows ≡ map (kept_entry g summaries) (coming d None (r ∷ rows))
   entries-begun r rows block is = ap (map (kept_entry g summaries)) (sym (coming-begun d r rows block is))
 
-  pub entries-alike : (es fs : Entries) (b c : Block) (ms ns rows : List Row) → es ≡ fs → b ≡ c → ms ≡ ns → entries_with g summaries d es b ms rows ≡ entries_with g summaries d fs c ns rows
+  pub entries-alike : (es fs : Entries) (b c : Block) (ms ns rows : List RecordValue) → es ≡ fs → b ≡ c → ms ≡ ns → entries_with g summaries d es b ms rows ≡ entries_with g summaries d fs c ns rows
   entries-alike es fs b c ms ns rows p q r = λ i. entries_with g summaries d (p i) (q i) (r i) rows
 
-  module _ (entries : Entries) (block : Block) (members : List Row) (r : Row) (rows : List Row) (next : Block)
+  module _ (entries : Entries) (block : Block) (members : List RecordValue) (r : RecordValue) (rows : List RecordValue) (next : Block)
       (next_is : next ≡ record { sequence = r.seq; start = r.start; stop = r.stop }) (test : Bool) (test_is : test ≡ ((next.sequence == block.sequence) && nat_le next.start (block.stop + d))) where
     is_test : is_joined d (with_members block members) r ≡ test
     is_test = sym (test_is ∙ ap (λ (n : Block). (n.sequence == block.sequence) && nat_le n.start (block.stop + d)) next_is)

@@ -2,7 +2,7 @@
 use Rattle.std.proofs.Common.{◌≡◌, ◌⊎◌, inl, inr, ℕ, ◌+◌, ◌-◌, ◌<◌, ◌≤◌, false, if◌then◌else◌, ◌==◌, ◌&&◌, List, length, filter, Option, Some, None, refl, sym, ap, subst, ◌∙◌, arith, eq-eqb, ne_eqb}
 use Rattle.std.specs.Option.{option_map, option_or}
 use Rattle.std.proofs.lemmas.Bool.{cond-true, cond-false, cases_Bool, cases_lt, cases_eq, both_ways}
-use Rattle.iv_text.specs.Row.{Row}
+use Rattle.iv_text.specs.RecordValue.{RecordValue}
 use Rattle.iv_cover.specs.Blocks.{is_block_start, block_stop, block_at}
 use Rattle.iv_cover.specs.TrackBlocks.{start_of, stop_of}
 use Rattle.iv_text.proofs.ListLemmas.{Mem, mem-filter, filter-weaker}
@@ -10,8 +10,8 @@ use Rattle.iv_cover.proofs.Groups.{HasOneMore}
 use Rattle.iv_cover.proofs.Cover.{Lasting, lasting-fewer, IsBlock, IsRun, Free, run-alone, run-first, run-all, covered-more, block_unique, block_at_start, block-test, block-stop, block_at-some, block_at-none, no_start-test, none_within, stops_within, same_outside, removed_within, starts_in, starts_in-true, starts_in-from, home, home-starts, home-le, home-last, home-in, stops, free-past_last, free-none}
 use Rattle.iv_cover.specs.declared.column.ColumnSummary.{ColumnSummary}
 use Rattle.iv_blocks.specs.KeptBlocks.{Kept, kept_block, within_block}
-use Rattle.iv_blocks.specs.Lookups.{IsLastBlock}
-use Rattle.iv_blocks.specs.Repairs.{JoinsOne, JoinsNone, JoinsBefore, JoinsAfter, count_from}
+use Rattle.iv_blocks.specs.Inside.Lookups.{IsLastBlock}
+use Rattle.iv_blocks.specs.Inside.Repairs.{JoinsOne, JoinsNone, JoinsBefore, JoinsAfter, count_from}
 use Rattle.iv_blocks.proofs.Joining.{none-some, some-same, count-records}
 
 or-none : {A : Type 0} (o : Option A) → option_or o None ≡ o
@@ -20,17 +20,17 @@ or-none (Some a) = refl
 
 module _ (d : ℕ) (name : List ℕ) (summaries : List ColumnSummary) where
   -- what is to be kept of the block of the records that starts at x, if there is one
-  abbrev pub shown : List Row → ℕ → Option Kept
+  abbrev pub shown : List RecordValue → ℕ → Option Kept
   shown G x = option_map (kept_block name summaries) (block_at start_of stop_of d G x)
 
-  pub shown-some : (G : List Row) (x s : ℕ) → Lasting start_of stop_of d G → IsBlock start_of stop_of d G x s → shown G x ≡ Some (kept_block name summaries (s, filter (starts_in start_of stop_of d x s) G))
+  pub shown-some : (G : List RecordValue) (x s : ℕ) → Lasting start_of stop_of d G → IsBlock start_of stop_of d G x s → shown G x ≡ Some (kept_block name summaries (s, filter (starts_in start_of stop_of d x s) G))
   shown-some G x s lasting block = ap (option_map (kept_block name summaries)) (block_at-some start_of stop_of d G x s lasting block)
 
-  pub shown-none : (G : List Row) (x : ℕ) → is_block_start start_of stop_of d G x ≡ false → shown G x ≡ None
+  pub shown-none : (G : List RecordValue) (x : ℕ) → is_block_start start_of stop_of d G x ≡ false → shown G x ≡ None
   shown-none G x e = ap (option_map (kept_block name summaries)) (block_at-none start_of stop_of d G x e)
 
   -- what is kept is kept of a block
-  pub shown-is : (G : List Row) (x : ℕ) (b : Kept) → Lasting start_of stop_of d G → shown G x ≡ Some b → IsBlock start_of stop_of d G x b.stop
+  pub shown-is : (G : List RecordValue) (x : ℕ) (b : Kept) → Lasting start_of stop_of d G → shown G x ≡ Some b → IsBlock start_of stop_of d G x b.stop
   shown-is G x b lasting e = elim (cases_Bool (is_block_start start_of stop_of d G x)) [
     | inl starts ↦
         let block = block_at_start start_of stop_of d G x lasting starts in
@@ -41,7 +41,7 @@ module _ (d : ℕ) (name : List ℕ) (summaries : List ColumnSummary) where
   ]
 
   -- if nothing is kept no block starts
-  pub none-shown_is : (G : List Row) (x : ℕ) → Lasting start_of stop_of d G → shown G x ≡ None → is_block_start start_of stop_of d G x ≡ false
+  pub none-shown_is : (G : List RecordValue) (x : ℕ) → Lasting start_of stop_of d G → shown G x ≡ None → is_block_start start_of stop_of d G x ≡ false
   none-shown_is G x lasting e = elim (cases_Bool (is_block_start start_of stop_of d G x)) [
     | inl starts ↦
         let stop : ℕ = block_stop start_of stop_of d G x in
@@ -50,12 +50,12 @@ module _ (d : ℕ) (name : List ℕ) (summaries : List ColumnSummary) where
   ]
 
   -- H has r, and the group without r is G
-  module _ (G H : List Row) (r : Row) (more : HasOneMore G r H) (lasting : Lasting start_of stop_of d H) where
+  module _ (G H : List RecordValue) (r : RecordValue) (more : HasOneMore G r H) (lasting : Lasting start_of stop_of d H) where
     lasting_G : Lasting start_of stop_of d G
     lasting_G = lasting-fewer start_of stop_of d G H r more lasting
 
     -- how many records there are in r's block
-    pub home-count : (low to : ℕ) (rows : List Row) → IsBlock start_of stop_of d H low to → low ≤ r.start → r.start < to
+    pub home-count : (low to : ℕ) (rows : List RecordValue) → IsBlock start_of stop_of d H low to → low ≤ r.start → r.start < to
         → within_block d H rows r ≡ length (filter (λ q. (q.seq == r.seq) && starts_in start_of stop_of d low to q) rows)
     home-count low to rows block above below =
         ap (λ (h : ℕ). length (filter (λ q. (q.seq == r.seq) && starts_in start_of stop_of d h (block_stop start_of stop_of d H h) q) rows)) (home-in start_of stop_of d H low to block r more.added above below)
@@ -107,14 +107,14 @@ module _ (d : ℕ) (name : List ℕ) (summaries : List ColumnSummary) where
           block : IsBlock start_of stop_of d H b.0 b.1
           block = found-block b entry
 
-          part : List Row
+          part : List RecordValue
           part = filter (starts_in start_of stop_of d b.0 b.1) G
 
-          in-part : (q : Row) → Mem q part → (b.0 ≤ q.start) × (q.start < b.1)
+          in-part : (q : RecordValue) → Mem q part → (b.0 ≤ q.start) × (q.start < b.1)
           in-part q m = starts_in-true start_of stop_of d b.0 b.1 q (mem-filter (starts_in start_of stop_of d b.0 b.1) G q m).1
 
           -- outside the block nothing is put, and what was there is right
-          outside : (x < b.0) ⊎ (b.1 + d < x) → ((q : Row) → Mem q part → q.start ≡ x → ⊥) → new x ≡ shown G x
+          outside : (x < b.0) ⊎ (b.1 + d < x) → ((q : RecordValue) → Mem q part → q.start ≡ x → ⊥) → new x ≡ shown G x
           outside out none =
               put x
               ∙ ap (λ (o : Option Kept). option_or o (mid x)) (shown-none part x (no_start-test start_of stop_of d part x none))

@@ -9,9 +9,9 @@ use Rattle.std.specs.Cmp.{Equal-is}
 use Rattle.iv_track.specs.Entries.{IsLedger, value_at}
 use Rattle.iv_text.proofs.ListLemmas.{same_tests}
 use Rattle.iv_blocks.specs.KeptBlocks.{Key, key_cmp, Kept, Entries, KeptBlocks}
-use Rattle.iv_blocks.specs.Lookups.{kept_in}
-use Rattle.iv_blocks.specs.Putting.{key_of, IsOfOther}
-use Rattle.iv_blocks.specs.Repairs.{KeepsOthers}
+use Rattle.iv_blocks.specs.Inside.Lookups.{kept_in}
+use Rattle.iv_blocks.specs.Inside.Insertion.{key_of, IsOfOther}
+use Rattle.iv_blocks.specs.Inside.Repairs.{KeepsOthers}
 use Rattle.iv_blocks.specs.declared.group.Group.{Group}
 use Rattle.iv_blocks.proofs.EntriesLemmas.{value_at-remove_entry}
 use Rattle.iv_blocks.proofs.Keys.{keys_total, keys_exact}

@@ -5,19 +5,20 @@ use Rattle.std.proofs.lemmas.List.Folds.{flat_map-map}
 use Rattle.iv_text.specs.Genome.{Sequences, seq_count, sequence_name, sequence_length}
 use Rattle.iv_text.specs.Ordered.{AreInOrder}
 use Rattle.iv_text.specs.Read.{IsOnGenome}
-use Rattle.iv_text.specs.Row.{Row, row_cmp}
+use Rattle.iv_text.specs.RecordValue.{RecordValue, record_cmp}
 use Rattle.iv_cover.specs.Blocks.{blocks_below}
-use Rattle.iv_cover.specs.Coming.{coming}
+use Rattle.iv_cover.specs.Inside.Coming.{coming}
 use Rattle.iv_cover.specs.TrackBlocks.{Group, start_of, stop_of, block_on, blocks_on}
 use Rattle.iv_text.specs.Covering.{on}
 use Rattle.iv_text.proofs.InOrderLemmas.{in_order-filter}
 use Rattle.iv_cover.proofs.Merging.{gathered-more, gathered-none_from, merge-all, on-none, blocks-none}
 use Rattle.iv_text.proofs.ListLemmas.{all-mem, mem-all, filter-filter, filter-all}
-use Rattle.iv_blocks.specs.Groups.{group, is_in_group, is_on_side, listed, sides, is_on}
+use Rattle.iv_blocks.specs.Groups.{group, is_in_group, is_on_side, listed, sides}
+use Rattle.iv_blocks.specs.Inside.Groups.{is_on}
 use Rattle.iv_blocks.specs.MergeRows.{side_rows}
 use Rattle.iv_blocks.specs.declared.options.Options.{Options}
 use Rattle.iv_blocks.proofs.KeptLemmas.{flat_map-agree, group-in}
-use Rattle.iv_blocks.specs.MergeSweeps.{group_row, group_rows, sequence_rows}
+use Rattle.iv_blocks.specs.Inside.MergeSweeps.{group_row, group_rows, sequence_rows}
 use Rattle.iv_blocks.specs.declared.group.Side.TheVariants.{Plus, Minus}
 
 -- the first of the ranks that are left
@@ -28,7 +29,7 @@ ranks-next f rank count low =
 
 -- ---- strands apart
 
-pub apart : (o : Options) (name : List ℕ) (rows : List Row) → o.stranded ≡ true
+pub apart : (o : Options) (name : List ℕ) (rows : List RecordValue) → o.stranded ≡ true
     → sequence_rows o name rows ≡ group_rows o name (filter (is_on Plus) rows) ++ group_rows o name (filter (is_on Minus) rows)
 apart o name rows is =
     ap (λ (b : Bool). flat_map (λ minus. group_rows o name (filter (is_on_side b minus) rows)) (sides b)) is
@@ -36,19 +37,19 @@ apart o name rows is =
 
 -- ---- the rows of one sequence
 
-module _ (o : Options) (g : Sequences) (rows : List Row) (order : AreInOrder rows) (lie : All (IsOnGenome g) rows) where
+module _ (o : Options) (g : Sequences) (rows : List RecordValue) (order : AreInOrder rows) (lie : All (IsOnGenome g) rows) where
   -- the rows of the sequence of this rank
   abbrev pub rank_rows : ℕ → List ℕ
   rank_rows rank = flat_map (side_rows o g rows rank) (sides o.stranded)
 
   -- the group's records
-  abbrev of : ℕ → Bool → List Row
+  abbrev of : ℕ → Bool → List RecordValue
   of rank minus = group o.stranded rank minus rows
 
   elsewhere : (rank : ℕ) (minus : Bool) (k : ℕ) → (k ≡ rank → ⊥) → blocks_on o.distance g (of rank minus) k ≡ []
   elsewhere rank minus k other =
       let none : on k (of rank minus) ≡ [] = on-none k (of rank minus) (λ q m at. other (sym at ∙ (group-in o.stranded rank minus rows q m).1)) in
-      ap (λ (l : List Row). map (block_on k) (blocks_below start_of stop_of o.distance l (sequence_length g k))) none
+      ap (λ (l : List RecordValue). map (block_on k) (blocks_below start_of stop_of o.distance l (sequence_length g k))) none
       ∙ ap (map (block_on k)) (blocks-none o.distance (sequence_length g k))
 
   -- its blocks are those of the one sequence
@@ -57,20 +58,20 @@ module _ (o : Options) (g : Sequences) (rows : List Row) (order : AreInOrder row
   one-sequence rank minus low =
       let G = of rank minus in
       let f = blocks_on o.distance g G in
-      let same : on rank G ≡ G = filter-all (λ (q : Row). q.seq == rank) G (λ q m. eq-eqb q.seq rank (group-in o.stranded rank minus rows q m).1) in
-      merge-all o.distance g G (in_order-filter row_cmp (is_in_group o.stranded rank minus) rows order)
+      let same : on rank G ≡ G = filter-all (λ (q : RecordValue). q.seq == rank) G (λ q m. eq-eqb q.seq rank (group-in o.stranded rank minus rows q m).1) in
+      merge-all o.distance g G (in_order-filter record_cmp (is_in_group o.stranded rank minus) rows order)
       (mem-all (IsOnGenome g) G (λ q m. all-mem (IsOnGenome g) rows lie q (group-in o.stranded rank minus rows q m).0))
       ∙ gathered-none_from f (seq_count g) (suc rank) (omega arith) (λ j above below. elsewhere rank minus j (λ at. omega (arith, at)))
       ∙ gathered-more f rank
       ∙ ap (λ (l : List Group). l ++ f rank) (gathered-none_from f rank 0 (omega arith) (λ j above below. elsewhere rank minus j (λ at. omega (arith, at))))
-      ∙ ap (λ (l : List Row). map (block_on rank) (blocks_below start_of stop_of o.distance l (sequence_length g rank))) same
+      ∙ ap (λ (l : List RecordValue). map (block_on rank) (blocks_below start_of stop_of o.distance l (sequence_length g rank))) same
 
   side-is : (rank : ℕ) (minus : Bool) → rank < seq_count g
       → group_rows o (sequence_name g rank) (filter (is_on_side o.stranded minus) (on rank rows)) ≡ side_rows o g rows rank minus
   side-is rank minus low =
       let name = sequence_name g rank in
       let asked = listed o.summaries in
-      ap (group_rows o name) (filter-filter (is_on_side o.stranded minus) (λ (q : Row). q.seq == rank) rows)
+      ap (group_rows o name) (filter-filter (is_on_side o.stranded minus) (λ (q : RecordValue). q.seq == rank) rows)
       ∙ ap (flat_map (group_row name asked)) (one-sequence rank minus low)
       ∙ flat_map-map (group_row name asked) (block_on rank) (blocks_below start_of stop_of o.distance (of rank minus) (sequence_length g rank))
 
@@ -80,12 +81,12 @@ module _ (o : Options) (g : Sequences) (rows : List Row) (order : AreInOrder row
       (λ minus. side-is rank minus low)
 
   -- the rows of the first of the sequences that are left, as they are put, and those of the sequences after it
-  pub rows-next : (p : Options) (name : List ℕ) (here : List Row) (rank : ℕ) → rank < seq_count g → p ≡ o → name ≡ sequence_name g rank → here ≡ on rank rows
+  pub rows-next : (p : Options) (name : List ℕ) (here : List RecordValue) (rank : ℕ) → rank < seq_count g → p ≡ o → name ≡ sequence_name g rank → here ≡ on rank rows
       → flat_map rank_rows (range_with_len rank (seq_count g - rank)) ≡ sequence_rows p name here ++ flat_map rank_rows (range_with_len (rank + 1) (seq_count g - (rank + 1)))
   rows-next p name here rank low options named is =
       let rest : List ℕ = flat_map rank_rows (range_with_len (rank + 1) (seq_count g - (rank + 1))) in
       ranks-next rank_rows rank (seq_count g) low
       ∙ ap (λ (l : List ℕ). l ++ rest) (sym (rank-is rank low))
-      ∙ ap (λ (l : List Row). sequence_rows o (sequence_name g rank) l ++ rest) (sym is)
+      ∙ ap (λ (l : List RecordValue). sequence_rows o (sequence_name g rank) l ++ rest) (sym is)
       ∙ ap (λ (n : List ℕ). sequence_rows o n here ++ rest) (sym named)
       ∙ ap (λ (q : Options). sequence_rows q name here ++ rest) (sym options)

@@ -3,25 +3,25 @@ use Rattle.std.specs.Prelude.{ℕ, ◌+◌, ◌++◌, List, length, map, sum, co
 use Rattle.std.specs.List.{flat_map, range_with_len}
 use Rattle.iv_text.specs.Genome.{Sequences, sequence_length}
 use Rattle.iv_text.specs.RecordText.{record_text}
-use Rattle.iv_text.specs.Row.{Row}
+use Rattle.iv_text.specs.RecordValue.{RecordValue}
 use Rattle.iv_cover.specs.Blocks.{blocks_below}
 use Rattle.iv_text.specs.Covering.{on}
 use Rattle.iv_cover.specs.TrackBlocks.{start_of, stop_of}
 
 -- how many blocks start below a position of the sequence of this rank
-abbrev pub blocks_before : ℕ → List Row → ℕ → ℕ → ℕ
+abbrev pub blocks_before : ℕ → List RecordValue → ℕ → ℕ → ℕ
 blocks_before d rows rank position = length (blocks_below start_of stop_of d (on rank rows) position)
 
 -- the number of a record's block, from 1: how many blocks there are on sequences of lower rank, and on its own up to its own
-abbrev pub block_number : ℕ → Sequences → List Row → Row → ℕ
+abbrev pub block_number : ℕ → Sequences → List RecordValue → RecordValue → ℕ
 block_number d g rows r =
     sum (map (λ rank. blocks_before d rows rank (sequence_length g rank)) (range_with_len 0 r.seq))
     + blocks_before d rows r.seq (r.start + 1)
 
 -- the row of a record: its columns, the number of its block, and a line feed
-abbrev pub cluster_row : ℕ → Sequences → List Row → Row → List ℕ
+abbrev pub cluster_row : ℕ → Sequences → List RecordValue → RecordValue → List ℕ
 cluster_row d g rows r = record_text g r ++ codes "\t" ++ decimal (block_number d g rows r) ++ codes "\n"
 
 -- all rows: one for each record, in the order of the track
-abbrev pub cluster_text : ℕ → Sequences → List Row → List ℕ
+abbrev pub cluster_text : ℕ → Sequences → List RecordValue → List ℕ
 cluster_text d g rows = flat_map (cluster_row d g rows) rows

@@ -2,7 +2,7 @@
 use Rattle.std.specs.Prelude.{ℕ, ◌++◌, ◌==◌, Bool, ◌||◌, not, List, [], codes, decimal, if◌then◌else◌}
 use Rattle.std.specs.List.{flat_map, range_with_len, list_any}
 use Rattle.iv_text.specs.Genome.{Sequences, seq_count, sequence_name, sequence_length}
-use Rattle.iv_text.specs.Row.{Row}
+use Rattle.iv_text.specs.RecordValue.{RecordValue}
 use Rattle.iv_cover.specs.Depth.{depth}
 use Rattle.iv_cover.specs.Runs.{Run, empty_runs}
 
@@ -11,16 +11,16 @@ abbrev pub gap_row : List ℕ → Run → List ℕ
 gap_row name gap = name ++ codes "\t" ++ decimal gap.start ++ codes "\t" ++ decimal gap.stop ++ codes "\n"
 
 -- the sequence of this rank is shown: each is, or if only some are, those with a record
-abbrev pub is_shown : Bool → List Row → ℕ → Bool
+abbrev pub is_shown : Bool → List RecordValue → ℕ → Bool
 is_shown limited rows rank = not limited || list_any (λ r. r.seq == rank) rows
 
 -- the rows of a sequence: one for each maximal interval that no record covers
-abbrev pub gap_rows : Bool → Sequences → List Row → ℕ → List ℕ
+abbrev pub gap_rows : Bool → Sequences → List RecordValue → ℕ → List ℕ
 gap_rows limited g rows rank =
     if is_shown limited rows rank
     then flat_map (gap_row (sequence_name g rank)) (empty_runs (depth rows rank) 0 (sequence_length g rank))
     else []
 
 -- all rows: those of each sequence, by rank
-abbrev pub complement_text : Bool → Sequences → List Row → List ℕ
+abbrev pub complement_text : Bool → Sequences → List RecordValue → List ℕ
 complement_text limited g rows = flat_map (gap_rows limited g rows) (range_with_len 0 (seq_count g))

@@ -3,7 +3,7 @@ use Rattle.std.specs.Prelude.{◌≡◌, ℕ, ◌+◌, ◌*◌, ◌==◌, ◌&&�
 use Rattle.std.specs.Option.{option_map, unwrap_or}
 use Rattle.std.specs.declared.cmp.Ordering.{Ordering}
 use Rattle.std.specs.Ordering.{nat_cmp, bool_cmp, ordering_then}
-use Rattle.iv_text.specs.Row.{Row}
+use Rattle.iv_text.specs.RecordValue.{RecordValue}
 use Rattle.iv_track.specs.Entries.{IsLedger, value_at}
 use Rattle.iv_cover.specs.Blocks.{last_passing, is_block_start, block_stop, block_at}
 use Rattle.iv_cover.specs.TrackBlocks.{start_of, stop_of}
@@ -34,19 +34,19 @@ abbrev pub name_of : List (List ℕ) → ℕ → List ℕ
 name_of names rank = unwrap_or (slice_get names rank) []
 
 -- a block that stops at b.0 and has the records b.1, as it is kept
-abbrev pub kept_block : List ℕ → List ColumnSummary → ℕ × List Row → Kept
+abbrev pub kept_block : List ℕ → List ColumnSummary → ℕ × List RecordValue → Kept
 kept_block name summaries b = record { stop = b.0; results = results_over name summaries b.1 }
 
 -- the block of a group that starts at a position, if there is one
-abbrev pub block_of : Options → List Row → Key → Option (ℕ × List Row)
+abbrev pub block_of : Options → List RecordValue → Key → Option (ℕ × List RecordValue)
 block_of o rows k = block_at start_of stop_of o.distance (group o.stranded k.0 k.1 rows) k.2
 
 -- what is to be kept at a key
-abbrev pub kept_at : Options → List (List ℕ) → List Row → Key → Option Kept
+abbrev pub kept_at : Options → List (List ℕ) → List RecordValue → Key → Option Kept
 kept_at o names rows k = option_map (kept_block (name_of names k.0) (listed o.summaries)) (block_of o rows k)
 
 -- the entries are the blocks of the records: at each key is the block that starts there, if there is one
-pub record AreBlocksOf (o : Options) (names : List (List ℕ)) (rows : List Row) (entries : Entries) : Type 0 where
+pub record AreBlocksOf (o : Options) (names : List (List ℕ)) (rows : List RecordValue) (entries : Entries) : Type 0 where
   pub ordered : IsLedger key_cmp entries
   pub blocks : (k : Key) → value_at key_cmp entries k ≡ kept_at o names rows k
 
@@ -56,19 +56,19 @@ pub record KeptBlocks : Type 0 where
   pub entries : Entries
 
 -- how many records, of any strand, start within the block of these that r belongs to
-abbrev pub within_block : ℕ → List Row → List Row → Row → ℕ
+abbrev pub within_block : ℕ → List RecordValue → List RecordValue → RecordValue → ℕ
 within_block d own rows r =
     let x = last_passing (is_block_start start_of stop_of d own) r.start in
     let stop = block_stop start_of stop_of d own x in
     length (filter (λ q. (q.seq == r.seq) && (nat_le x q.start && nat_lt q.start stop)) rows)
 
 -- how many records there are around r: those on its sequence that start within its block; none if r is in no block
-abbrev pub around : Options → List Row → Row → ℕ
+abbrev pub around : Options → List RecordValue → RecordValue → ℕ
 around o rows r =
     if is_on_side o.stranded false r then within_block o.distance (group o.stranded r.seq false rows) rows r
     else if is_on_side o.stranded true r then within_block o.distance (group o.stranded r.seq true rows) rows r
     else 0
 
 -- how many steps a repair takes at most
-abbrev pub block_steps : Options → List Row → Row → ℕ
+abbrev pub block_steps : Options → List RecordValue → RecordValue → ℕ
 block_steps o rows r = 16 + 8 * around o rows r

@@ -1,15 +1,7 @@
 pub mod Groups
-pub mod Plain
-pub mod MembersLeft
 pub mod KeptBlocks
-pub mod BlockStorage
-pub mod Putting
-pub mod Lookups
-pub mod Repairs
-pub mod BlockCursor
 pub mod MergeRows
 pub mod ClusterRows
 pub mod ComplementRows
 pub mod PlainOptions
-pub mod BlockSweeps
-pub mod MergeSweeps
+pub mod Inside

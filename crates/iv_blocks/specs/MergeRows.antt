@@ -2,7 +2,7 @@
 use Rattle.std.specs.Prelude.{ℕ, ◌++◌, Bool, List, codes, decimal}
 use Rattle.std.specs.List.{flat_map, range_with_len}
 use Rattle.iv_text.specs.Genome.{Sequences, seq_count, sequence_name, sequence_length}
-use Rattle.iv_text.specs.Row.{Row}
+use Rattle.iv_text.specs.RecordValue.{RecordValue}
 use Rattle.iv_cover.specs.Blocks.{blocks_below}
 use Rattle.iv_cover.specs.TrackBlocks.{start_of, stop_of}
 use Rattle.iv_cover.specs.Columns.{results_over}
@@ -12,22 +12,22 @@ use Rattle.iv_blocks.specs.declared.options.Options.{Options}
 
 -- the row of a block that starts at b.0, stops at b.1.0 and has the records b.1.1: the sequence's name, start and stop between
 -- tabs, the results, and a line feed
-abbrev pub block_row : List ℕ → List ColumnSummary → ℕ × (ℕ × List Row) → List ℕ
+abbrev pub block_row : List ℕ → List ColumnSummary → ℕ × (ℕ × List RecordValue) → List ℕ
 block_row name summaries b =
     name ++ codes "\t" ++ decimal b.0 ++ codes "\t" ++ decimal b.1.0 ++ results_over name summaries b.1.1 ++ codes "\n"
 
 -- the rows of one side of a sequence: one for each block, by start
-abbrev pub side_rows : Options → Sequences → List Row → ℕ → Bool → List ℕ
+abbrev pub side_rows : Options → Sequences → List RecordValue → ℕ → Bool → List ℕ
 side_rows o g rows rank minus =
     flat_map (block_row (sequence_name g rank) (listed o.summaries))
     (blocks_below start_of stop_of o.distance (group o.stranded rank minus rows) (sequence_length g rank))
 
 -- all rows: those of each sequence by rank, and within it of each side
-abbrev pub merge_text : Options → Sequences → List Row → List ℕ
+abbrev pub merge_text : Options → Sequences → List RecordValue → List ℕ
 merge_text o g rows = flat_map (λ rank. flat_map (side_rows o g rows rank) (sides o.stranded)) (range_with_len 0 (seq_count g))
 
 -- all blocks: those of each sequence by rank, and within it of each side
-abbrev pub all_blocks : Options → Sequences → List Row → List (ℕ × (ℕ × List Row))
+abbrev pub all_blocks : Options → Sequences → List RecordValue → List (ℕ × (ℕ × List RecordValue))
 all_blocks o g rows =
     flat_map (λ rank. flat_map (λ minus. blocks_below start_of stop_of o.distance (group o.stranded rank minus rows) (sequence_length g rank)) (sides o.stranded))
     (range_with_len 0 (seq_count g))

@@ -3,7 +3,7 @@ ghost use Rattle.std.specs.Prelude.{◌≡◌, ℕ, List, [], None, map};
 ghost use Rattle.std.specs.Map.Iter.{TakesFirst};
 ghost use Rattle.iv_track.specs.Steps.{TakesUpTo};
 ghost use Rattle.iv_cover.specs.declared.block.Block.{Block};
-ghost use Rattle.iv_blocks.specs.BlockCursor.{interval_of, starts_until, GivesPassing, TakesForEach};
+ghost use Rattle.iv_blocks.specs.Inside.BlockCursor.{interval_of, starts_until, GivesPassing, TakesForEach};
 
 use crate::blocks::Blocks;
 use crate::group::{FIRST_KEY, Key};
@@ -44,7 +44,7 @@ pub(crate) struct BlockCursor<'a, A: Allocator + Copy> {
 impl<'a, A: Allocator + Copy> Model for BlockCursor<'a, A> {
     ghost use Rattle.std.specs.Prelude.{◌≡◌, List, [], None};
     ghost use Rattle.iv_cover.specs.declared.block.Block.{Block};
-    ghost use Rattle.iv_blocks.specs.BlockCursor.{ahead_of};
+    ghost use Rattle.iv_blocks.specs.Inside.BlockCursor.{ahead_of};
 
     ghost Value = { List Block };
 

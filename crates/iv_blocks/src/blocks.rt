@@ -70,7 +70,7 @@ impl<A: Allocator + Copy> Kept<A> for Blocks<A> {
             ledger: Ledger::new(alloc),
         };
         for rank in 0..genome.count() {
-            blocks.put_sequence(track, genome, rank, meter)?;
+            blocks.insert_sequence(track, genome, rank, meter)?;
         }
         Ok(blocks)
     }
@@ -86,10 +86,10 @@ impl<A: Allocator + Copy> Kept<A> for Blocks<A> {
         let Some(group) = Group::of(self.options.stranded, row) else {
             return Ok(());
         };
-        let (start, stop) = place(row);
+        let (start, stop) = bounds_of(row);
         let (low, high) = self.join_before(group, start, stop, meter);
         let high = self.join_after(group, start, high, meter);
-        self.put_block(track, genome, group, low, high, meter)
+        self.insert_block(track, genome, group, low, high, meter)
     }
 
     /// The record's block is taken out, and the others that were in it are put as blocks again.
@@ -103,19 +103,19 @@ impl<A: Allocator + Copy> Kept<A> for Blocks<A> {
         let Some(group) = Group::of(self.options.stranded, row) else {
             return Ok(());
         };
-        let (start, _) = place(row);
+        let (start, _) = bounds_of(row);
         let Some((start, stop)) = self.before(group, start, meter) else {
             unreachable!()
         };
         self.take(group, start, meter);
-        self.put_blocks(track, genome, group, start, stop, meter)
+        self.insert_blocks(track, genome, group, start, stop, meter)
     }
 }
 
 /// Where a record starts and stops.
-pub(crate) fn place(row: &RecordRef<'_>) -> (u32, u32)
+pub(crate) fn bounds_of(row: &RecordRef<'_>) -> (u32, u32)
     ensures { result ≡ (row.now.start, row.now.stop) }
 {
-    row.law_of_place();
+    row.lemma_of_interval();
     (row.start() as u32, row.stop() as u32)
 }

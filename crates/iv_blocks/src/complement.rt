@@ -6,7 +6,7 @@ ghost use Rattle.iv_text.specs.Genome.{seq_count};
 ghost use Rattle.iv_text.specs.Named.{names_of};
 ghost use Rattle.iv_text.specs.Read.{Fits};
 ghost use Rattle.iv_track.specs.Steps.{TakesUpTo};
-ghost use Rattle.iv_blocks.specs.BlockCursor.{gap_between, gaps_between, starts_until, drop_while, texts, TakesForEach};
+ghost use Rattle.iv_blocks.specs.Inside.BlockCursor.{gap_between, gaps_between, starts_until, drop_while, texts, TakesForEach};
 ghost use Rattle.iv_blocks.specs.KeptBlocks.{AreBlocksOf};
 ghost use Rattle.iv_blocks.specs.ComplementRows.{complement_text, gap_row};
 ghost use Rattle.iv_blocks.specs.Groups.{joined};

@@ -2,10 +2,10 @@
 ghost use Rattle.std.specs.Prelude.{◌≡◌, ◌++◌, ◌∷◌, [], None, false, map, IfOk, OnOk};
 ghost use Rattle.std.specs.Iterator.{item_count};
 ghost use Rattle.iv_text.specs.Ordered.{AreInOrder};
-ghost use Rattle.iv_cover.specs.Coming.{coming};
+ghost use Rattle.iv_cover.specs.Inside.Coming.{coming};
 ghost use Rattle.iv_cover.specs.TrackBlocks.{with_members};
 ghost use Rattle.iv_blocks.specs.Groups.{listed};
-ghost use Rattle.iv_blocks.specs.Plain.{kept_entry, GivesKept};
+ghost use Rattle.iv_blocks.specs.Inside.Plain.{kept_entry, GivesKept};
 
 use crate::group::Key;
 use crate::kept_block::KeptBlock;
@@ -35,18 +35,18 @@ pub(crate) fn entries_of<A: Allocator + Copy>(
     let Some(first) = rows.next(meter) else {
         return Ok(entries);
     };
-    first.law_of_place();
+    first.lemma_of_interval();
     let mut block = Block::of(first);
     let mut members = Vec::new(alloc);
     let mut memory = Vec::new(alloc);
     members.push(first)?;
     while let Some(record) = rows.next(meter) {
-        record.law_of_place();
+        record.lemma_of_interval();
         let next = Block::of(record);
         if block.is_joined_by(next, options.distance) {
             block = block.with(next);
         } else {
-            memory = put_entry(
+            memory = push_entry(
                 alloc,
                 options,
                 genome,
@@ -60,7 +60,7 @@ pub(crate) fn entries_of<A: Allocator + Copy>(
         }
         members.push(record)?;
     }
-    put_entry(
+    push_entry(
         alloc,
         options,
         genome,
@@ -74,7 +74,7 @@ pub(crate) fn entries_of<A: Allocator + Copy>(
 
 /// Makes the results of a block over its members, and puts it at the end of the entries. The results are written in the memory of a
 /// text that is no longer needed, and copied from there. It is given back.
-fn put_entry<A: Allocator + Copy>(
+fn push_entry<A: Allocator + Copy>(
     alloc: A,
     options: &Options,
     genome: &Genome<A>,

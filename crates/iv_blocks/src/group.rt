@@ -3,9 +3,10 @@ ghost use Rattle.std.specs.Prelude.{◌≡◌, if◌then◌else◌, not, Bool, t
 ghost use Rattle.std.specs.Iterator.{YieldsFirstRef};
 ghost use Rattle.iv_text.specs.Ordered.{AreInOrder};
 ghost use Rattle.iv_track.specs.Steps.{TakesUpTo};
-ghost use Rattle.iv_blocks.specs.Groups.{between_on, is_apart, is_in_group, is_minus as is_minus_side, is_on, is_on_side, is_strand, members_between};
-ghost use Rattle.iv_blocks.specs.MembersLeft.{TakesForEach, end_step};
-ghost use Rattle.iv_blocks.specs.Putting.{key_of};
+ghost use Rattle.iv_blocks.specs.Groups.{is_in_group, is_on_side, is_strand};
+ghost use Rattle.iv_blocks.specs.Inside.Groups.{between_on, is_apart, is_minus as is_minus_side, is_on, members_between};
+ghost use Rattle.iv_blocks.specs.Inside.MembersLeft.{TakesForEach, end_step};
+ghost use Rattle.iv_blocks.specs.Inside.Insertion.{key_of};
 
 use iv_index::TextRecord;
 use iv_text::{Record, RecordRef, Strand};
@@ -122,8 +123,8 @@ pub(crate) struct Members<'a, A: Allocator + Copy> {
 
 impl<'a, A: Allocator + Copy> Model for Members<'a, A> {
     ghost use Rattle.std.specs.Prelude.{length};
-    ghost use Rattle.iv_blocks.specs.MembersLeft.{MembersLeft, IsAhead};
-    ghost use Rattle.iv_blocks.specs.Groups.{between_on, members_between};
+    ghost use Rattle.iv_blocks.specs.Inside.MembersLeft.{MembersLeft, IsAhead};
+    ghost use Rattle.iv_blocks.specs.Inside.Groups.{between_on, members_between};
 
     ghost Value = { MembersLeft };
 

@@ -97,7 +97,7 @@ impl<A: Allocator> LongBlock<A> {
 
 impl<A: Allocator> Model for KeptBlock<A> {
     ghost use Rattle.iv_blocks.specs.KeptBlocks.{Kept};
-    ghost use Rattle.iv_blocks.specs.BlockStorage.{block_at};
+    ghost use Rattle.iv_blocks.specs.Inside.BlockStorage.{block_at};
 
     ghost Value = { Kept };
 

@@ -9,7 +9,7 @@ mod complement;
 mod entries;
 mod group;
 mod kept_block;
-mod laws;
+mod lemmas;
 mod merge;
 mod merge_sweep;
 mod options;
@@ -18,7 +18,7 @@ mod side_blocks;
 mod sweeps;
 
 pub use blocks::Blocks;
-pub use laws::{gaps_are_maximal, numbers_are_of_blocks};
+pub use lemmas::{gaps_are_maximal, numbers_are_of_blocks};
 pub use merge_sweep::MergeSweep;
 pub use options::{Options, Summaries};
 pub use sweeps::{put_cluster, put_complement, put_merge};

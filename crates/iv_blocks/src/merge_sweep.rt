@@ -4,9 +4,10 @@ ghost use Rattle.iv_bytes.specs.Sinks.{Puts};
 ghost use Rattle.iv_text.specs.Ordered.{AreInOrder};
 ghost use Rattle.iv_text.specs.Read.{IsOnGenome};
 ghost use Rattle.iv_cover.specs.Results.{HasRoom};
-ghost use Rattle.iv_blocks.specs.Groups.{is_on, listed};
+ghost use Rattle.iv_blocks.specs.Groups.{listed};
+ghost use Rattle.iv_blocks.specs.Inside.Groups.{is_on};
 ghost use Rattle.iv_blocks.specs.MergeRows.{merge_text};
-ghost use Rattle.iv_blocks.specs.MergeSweeps.{group_row, group_rows, sequence_rows};
+ghost use Rattle.iv_blocks.specs.Inside.MergeSweeps.{group_row, group_rows, sequence_rows};
 
 use crate::group::Side;
 use crate::options::Options;
@@ -29,12 +30,12 @@ pub struct MergeSweep<'t, A: Allocator = Global> {
 
 impl<'t, A: Allocator> Model for MergeSweep<'t, A> {
     ghost use Rattle.std.specs.Prelude.{List, length, vec_capacity};
-    ghost use Rattle.iv_text.specs.Row.{Row};
+    ghost use Rattle.iv_text.specs.RecordValue.{RecordValue};
     ghost use Rattle.iv_blocks.specs.Groups.{listed};
     ghost use Rattle.iv_blocks.specs.declared.options.Options.{Options};
     ghost use Rattle.iv_cover.specs.Results.{HasRoom};
 
-    ghost Value = { Options × List Row };
+    ghost Value = { Options × List RecordValue };
 
     ghost view = { λ s. (s.options, s.records) };
 

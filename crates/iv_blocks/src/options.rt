@@ -1,6 +1,7 @@
 //! The options of a merge.
 ghost use Rattle.std.specs.Prelude.{◌≡◌, ◌↔◌, [], nat_lt, IsTrue, IsFalse};
-ghost use Rattle.iv_blocks.specs.Groups.{listed, filled, pushed, joined as only_joined};
+ghost use Rattle.iv_blocks.specs.Groups.{listed, filled, joined as only_joined};
+ghost use Rattle.iv_blocks.specs.Inside.Groups.{pushed};
 ghost use Rattle.iv_blocks.specs.PlainOptions.{IsPlain};
 
 use iv_cover::{Column, ColumnSummary, Op};
@@ -63,7 +64,7 @@ pub struct Options {
 
 impl Options {
     /// Records of both strands are joined, at most this many bases apart, and there are no summaries.
-    pub fn joined(distance: u32) -> Options
+    pub fn unstranded(distance: u32) -> Options
         ensures { result ≡ only_joined distance }
     {
         Options {

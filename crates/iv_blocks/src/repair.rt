@@ -6,13 +6,14 @@ ghost use Rattle.iv_text.specs.Read.{Fits};
 ghost use Rattle.iv_track.specs.Entries.{IsLedger};
 ghost use Rattle.iv_track.specs.Steps.{TakesUpTo};
 ghost use Rattle.iv_cover.specs.Columns.{results_over};
-ghost use Rattle.iv_blocks.specs.Groups.{between, between_on, is_apart, is_minus, members_between, listed};
+ghost use Rattle.iv_blocks.specs.Groups.{listed};
+ghost use Rattle.iv_blocks.specs.Inside.Groups.{between, between_on, is_apart, is_minus, members_between};
 ghost use Rattle.iv_blocks.specs.KeptBlocks.{key_cmp};
-ghost use Rattle.iv_blocks.specs.Lookups.{kept_in, IsLastBlock, IsFirstBlock};
-ghost use Rattle.iv_blocks.specs.Putting.{ArePut, ArePutOn, key_of, with_block};
-ghost use Rattle.iv_blocks.specs.Repairs.{without_block, KeepsOthers, JoinsBefore, JoinsAfter, count_from};
+ghost use Rattle.iv_blocks.specs.Inside.Lookups.{kept_in, IsLastBlock, IsFirstBlock};
+ghost use Rattle.iv_blocks.specs.Inside.Insertion.{AreInserted, AreInsertedOn, key_of, with_block};
+ghost use Rattle.iv_blocks.specs.Inside.Repairs.{without_block, KeepsOthers, JoinsBefore, JoinsAfter, count_from};
 
-use crate::blocks::{Blocks, place};
+use crate::blocks::{Blocks, bounds_of};
 use crate::group::{Group, Key, Members, Side};
 use crate::kept_block::KeptBlock;
 use iv_cover::results;
@@ -120,7 +121,7 @@ impl<A: Allocator + Copy> Blocks<A> {
     }
 
     /// Puts the blocks of the records on the sequence of this rank over what is there, those of each strand.
-    pub(crate) fn put_sequence(
+    pub(crate) fn insert_sequence(
         &mut self,
         track: &Track<A>,
         genome: &Genome<A>,
@@ -129,19 +130,19 @@ impl<A: Allocator + Copy> Blocks<A> {
     ) -> Result<(), AllocError>
         requires apart { self.old.options.stranded ≡ true }
         requires fit { All (Fits genome.now track.now.width) track.now.rows }
-        ensures { OnOk result (ArePutOn rank (names_of genome.now) track.now.rows self.old self.new) }
+        ensures { OnOk result (AreInsertedOn rank (names_of genome.now) track.now.rows self.old self.new) }
     {
-        let length = genome.short_length(rank).unwrap_or(0);
+        let length = genome.length_u32(rank).unwrap_or(0);
         let plus = Group {
             rank,
             side: Side::Plus,
         };
-        self.put_blocks(track, genome, plus, 0, length, meter)?;
+        self.insert_blocks(track, genome, plus, 0, length, meter)?;
         let minus = Group {
             rank,
             side: Side::Minus,
         };
-        self.put_blocks(track, genome, minus, 0, length, meter)
+        self.insert_blocks(track, genome, minus, 0, length, meter)
     }
 
     /// Puts the blocks of a group's records that start at `from` or after and below `to`, over what is there: they are the
@@ -149,7 +150,7 @@ impl<A: Allocator + Copy> Blocks<A> {
     ///
     /// None of these records stops past `to`. At most 2 steps, and 5 for each record, of any strand, that starts there.
     /// After a refusal some of the blocks may be put.
-    pub(crate) fn put_blocks(
+    pub(crate) fn insert_blocks(
         &mut self,
         track: &Track<A>,
         genome: &Genome<A>,
@@ -161,7 +162,7 @@ impl<A: Allocator + Copy> Blocks<A> {
         requires apart { is_apart group.side ≡ self.old.options.stranded }
         requires fit { All (Fits genome.now track.now.width) track.now.rows }
         requires stops { All (λ r. r.stop ≤ to) (members_between group from to track.now.rows) }
-        ensures ok { OnOk result (ArePut group (names_of genome.now) (between from to track.now.rows) self.old self.new) }
+        ensures ok { OnOk result (AreInserted group (names_of genome.now) (between from to track.now.rows) self.old self.new) }
         ensures steps { TakesUpTo meter.old meter.new (2 + 5 * length (between_on group.rank from to track.now.rows)) }
     {
         // The keys of the ledger ascend, even if nothing is put.
@@ -171,24 +172,24 @@ impl<A: Allocator + Copy> Blocks<A> {
         let Some(first) = members.next(meter) else {
             return Ok(());
         };
-        let (mut start, mut stop) = place(&first.as_ref());
+        let (mut start, mut stop) = bounds_of(&first.as_ref());
         while let Some(row) = members.next(meter) {
-            let (next_start, next_stop) = place(&row.as_ref());
+            let (next_start, next_stop) = bounds_of(&row.as_ref());
             if u64::from(next_start) <= u64::from(stop) + distance {
                 stop = stop.max(next_stop);
             } else {
-                self.put_block(track, genome, group, start, stop, meter)?;
+                self.insert_block(track, genome, group, start, stop, meter)?;
                 (start, stop) = (next_start, next_stop);
             }
         }
-        self.put_block(track, genome, group, start, stop, meter)
+        self.insert_block(track, genome, group, start, stop, meter)
     }
 
     /// Puts the block of a group's records that start at `start` or after and below `stop`, over what is there.
     ///
     /// At most 3 steps, and one for each record, of any strand, that starts there.
     /// After a refusal the blocks are as before.
-    pub(crate) fn put_block(
+    pub(crate) fn insert_block(
         &mut self,
         track: &Track<A>,
         genome: &Genome<A>,

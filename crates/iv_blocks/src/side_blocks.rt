@@ -4,14 +4,14 @@ ghost use Rattle.std.specs.Iterator.{YieldsFirst, item_count};
 ghost use Rattle.iv_text.specs.Genome.{Sequences};
 ghost use Rattle.iv_text.specs.Ordered.{AreInOrder};
 ghost use Rattle.iv_text.specs.Read.{IsOnGenome};
-ghost use Rattle.iv_text.specs.Row.{Row};
+ghost use Rattle.iv_text.specs.RecordValue.{RecordValue};
 ghost use Rattle.iv_cover.specs.Columns.{column_value};
-ghost use Rattle.iv_cover.specs.Coming.{coming};
+ghost use Rattle.iv_cover.specs.Inside.Coming.{coming};
 ghost use Rattle.iv_cover.specs.TrackBlocks.{blocks_of, with_members};
-ghost use Rattle.iv_blocks.specs.Groups.{is_on};
+ghost use Rattle.iv_blocks.specs.Inside.Groups.{is_on};
 
 use crate::group::Side;
-use iv_cover::{Block, Column, Spelled, Value, Values};
+use iv_cover::{Block, Column, ParsedNumber, Value, Values};
 use iv_index::{TextRecord, TextRecords};
 use std::marker::Model;
 
@@ -44,9 +44,9 @@ pub(crate) struct SideBlocks<'t> {
 
 impl<'t> Model for SideBlocks<'t> {
     ghost use Rattle.std.specs.Prelude.{List, None, filter};
-    ghost use Rattle.iv_cover.specs.Coming.{coming};
+    ghost use Rattle.iv_cover.specs.Inside.Coming.{coming};
     ghost use Rattle.iv_cover.specs.TrackBlocks.{Group};
-    ghost use Rattle.iv_blocks.specs.Groups.{is_on};
+    ghost use Rattle.iv_blocks.specs.Inside.Groups.{is_on};
 
     ghost Value = { List Group };
 
@@ -102,7 +102,7 @@ impl<'t> Iterator for SideBlocks<'t> {
 /// The records from the first on the side on.
 fn ahead_on<'t>(side: Side, records: &TextRecords<'t>) -> TextRecords<'t>
     ensures same { filter (is_on side) result ≡ filter (is_on side) records.now }
-    ensures first { (r : Row) (rs : List Row) → result ≡ r ∷ rs → is_on side r ≡ true }
+    ensures first { (r : RecordValue) (rs : List RecordValue) → result ≡ r ∷ rs → is_on side r ≡ true }
 {
     let mut ahead = records.again();
     while let Some((record, others)) = ahead.split_first() {
@@ -127,12 +127,12 @@ fn block_from(
     ensures within { result.1 ≤ length others.entry + 1 }
     ensures next { coming distance None (filter (is_on side) (first.now ∷ others.entry)) ≡ with_members result.0 (filter (is_on side) (take result.1 (first.now ∷ others.entry))) ∷ coming distance None (filter (is_on side) (drop result.1 (first.now ∷ others.entry))) }
 {
-    first.law_of_place();
+    first.lemma_of_interval();
     let mut block = Block::of(first);
     let mut count = 1;
     for record in others {
         if side.has(&record) {
-            record.law_of_place();
+            record.lemma_of_interval();
             let next = Block::of(&record);
             if !block.is_joined_by(next, distance) {
                 return (block, count);
@@ -155,10 +155,10 @@ pub(crate) struct SideRecords<'t> {
 
 impl<'t> Model for SideRecords<'t> {
     ghost use Rattle.std.specs.Prelude.{List, filter};
-    ghost use Rattle.iv_text.specs.Row.{Row};
-    ghost use Rattle.iv_blocks.specs.Groups.{is_on};
+    ghost use Rattle.iv_text.specs.RecordValue.{RecordValue};
+    ghost use Rattle.iv_blocks.specs.Inside.Groups.{is_on};
 
-    ghost Value = { List Row };
+    ghost Value = { List RecordValue };
 
     ghost view = { λ m. filter (is_on m.side) m.records };
 }
@@ -204,7 +204,7 @@ impl<'t> Values<'t> for SideRecords<'t> {
     }
 
     fn count(&self) -> u64 {
-        self.law_of_size();
+        self.lemma_of_size();
         let mut count: u64 = 0;
         for _member in self.again() {
             count += 1;
@@ -217,12 +217,12 @@ impl<'t> Values<'t> for SideRecords<'t> {
         Some(Value::of(column, name, &member.to_ref()))
     }
 
-    fn next_number(&mut self, name: &'t [u8], column: Column) -> Option<Spelled> {
+    fn next_number(&mut self, name: &'t [u8], column: Column) -> Option<ParsedNumber> {
         let member = self.next()?;
-        Some(Spelled::of_column(column, name, &member.to_ref()))
+        Some(ParsedNumber::of_column(column, name, &member.to_ref()))
     }
 
-    fn law_of_size(&self) {
+    fn lemma_of_size(&self) {
         let _few = self.records.len();
     }
 }

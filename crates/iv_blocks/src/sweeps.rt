@@ -6,10 +6,10 @@ ghost use Rattle.iv_bytes.specs.Sinks.{Puts};
 ghost use Rattle.iv_text.specs.Genome.{Sequences};
 ghost use Rattle.iv_text.specs.Ordered.{AreInOrder};
 ghost use Rattle.iv_text.specs.Read.{IsOnGenome};
-ghost use Rattle.iv_index.specs.Spans.{row_of_span, span_rows};
-ghost use Rattle.iv_cover.specs.Coming.{coming};
+ghost use Rattle.iv_index.specs.Inside.Spans.{row_of_span, span_rows};
+ghost use Rattle.iv_cover.specs.Inside.Coming.{coming};
 ghost use Rattle.iv_cover.specs.TrackBlocks.{GivesFirst, blocks_of};
-ghost use Rattle.iv_blocks.specs.BlockSweeps.{interval_of, interval_row, next_start, numbered_row};
+ghost use Rattle.iv_blocks.specs.Inside.BlockSweeps.{interval_of, interval_row, next_start, numbered_row};
 ghost use Rattle.iv_blocks.specs.ClusterRows.{cluster_text};
 ghost use Rattle.iv_blocks.specs.ComplementRows.{complement_text};
 ghost use Rattle.iv_blocks.specs.MergeRows.{merge_text};
@@ -127,10 +127,10 @@ pub(crate) struct SpanBlocks<'s> {
 
 impl<'s> Model for SpanBlocks<'s> {
     ghost use Rattle.std.specs.Prelude.{List, None, map};
-    ghost use Rattle.iv_cover.specs.Coming.{coming};
+    ghost use Rattle.iv_cover.specs.Inside.Coming.{coming};
     ghost use Rattle.iv_cover.specs.declared.block.Block.{Block};
-    ghost use Rattle.iv_index.specs.Spans.{span_rows};
-    ghost use Rattle.iv_blocks.specs.BlockSweeps.{interval_of};
+    ghost use Rattle.iv_index.specs.Inside.Spans.{span_rows};
+    ghost use Rattle.iv_blocks.specs.Inside.BlockSweeps.{interval_of};
 
     ghost Value = { List Block };
 

@@ -4,26 +4,26 @@ use Rattle.std.specs.Prelude.{All, map}
 use Rattle.std.specs.Option.{option_map}
 use Rattle.iv_text.specs.Genome.{Sequences}
 use Rattle.iv_text.specs.BedFile.{Bed}
-use Rattle.iv_text.specs.KeptDrafts.{kept_bed}
+use Rattle.iv_text.specs.BedReading.{projected_bed}
 use Rattle.iv_text.specs.Read.{Fits}
-use Rattle.iv_text.specs.Row.{Row}
-use Rattle.iv_text.proofs.KeptLemmas.{fit-all}
+use Rattle.iv_text.specs.RecordValue.{RecordValue}
+use Rattle.iv_text.proofs.BedReadingLemmas.{fit-all}
 use Rattle.iv_workspace.specs.States.{State, begun}
 use Rattle.iv_run.specs.declared.fault.CliFault.{CliFault}
 use Rattle.iv_run.specs.declared.fault.CliFault.TheVariants.{Memory}
 use Rattle.iv_run.specs.Loading.{IsReport, Parsed, parsed}
-use Rattle.iv_run.specs.SoFar.{AreKept, ReportsKept, kept_files}
+use Rattle.iv_run.specs.SoFar.{AreProjected, ReportsProjected, kept_files}
 use Rattle.iv_cli.specs.Loading.{loaded, session_of}
 
 -- what is kept of whole records is the records
-same-all : (rows : List Row) → map (λ (r : Row). r) rows ≡ rows
+same-all : (rows : List RecordValue) → map (λ (r : RecordValue). r) rows ≡ rows
 same-all [] = refl
-same-all (r ∷ rows) = ap (λ (l : List Row). r ∷ l) (same-all rows)
+same-all (r ∷ rows) = ap (λ (l : List RecordValue). r ∷ l) (same-all rows)
 
-same-bed : (b : Bed) → kept_bed (λ r. r) b ≡ b
-same-bed b = ap (λ (l : List Row). record { width = b.width; rows = l }) (same-all b.rows)
+same-bed : (b : Bed) → projected_bed (λ r. r) b ≡ b
+same-bed b = ap (λ (l : List RecordValue). record { width = b.width; rows = l }) (same-all b.rows)
 
-same-beside : (o : Option Bed) → option_map (kept_bed (λ r. r)) o ≡ o
+same-beside : (o : Option Bed) → option_map (projected_bed (λ r. r)) o ≡ o
 same-beside None = refl
 same-beside (Some b) = ap Some (same-bed b)
 
@@ -31,11 +31,11 @@ same-files : (files : Parsed) → kept_files (λ r. r) files ≡ files
 same-files files = λ i. record files { first = same-bed files.first i; second = same-beside files.second i }
 
 -- records that fit a genome
-pub fits-beside : (g : Sequences) (limit : ℕ) (o : Option Bed) → IfSome o (AreKept (λ r. r) g limit) → IfSome o (λ file. All (Fits g file.width) file.rows)
+pub fits-beside : (g : Sequences) (limit : ℕ) (o : Option Bed) → IfSome o (AreProjected (λ r. r) g limit) → IfSome o (λ file. All (Fits g file.width) file.rows)
 fits-beside g limit None kept = tt
 fits-beside g limit (Some file) kept = fit-all g file.width file.rows kept.kept_all
 
-pub few-beside : (g : Sequences) (limit : ℕ) (o : Option Bed) → IfSome o (AreKept (λ r. r) g limit) → IfSome o (λ file. length file.rows ≤ limit)
+pub few-beside : (g : Sequences) (limit : ℕ) (o : Option Bed) → IfSome o (AreProjected (λ r. r) g limit) → IfSome o (λ file. length file.rows ≤ limit)
 few-beside g limit None kept = tt
 few-beside g limit (Some file) kept = kept.few
 
@@ -52,7 +52,7 @@ report-err (Err k) said is = is
 
 module _ (width : ℕ) (sizes text : List ℕ) (other bases : Option (List ℕ)) (limit : ℕ) where
   -- the files are sound, and all of their records is kept
-  pub begins : (files : Parsed) (r : Result State CliFault) → ReportsKept (λ r. r) (Ok files) (parsed width sizes text other bases limit)
+  pub begins : (files : Parsed) (r : Result State CliFault) → ReportsProjected (λ r. r) (Ok files) (parsed width sizes text other bases limit)
       → IfOk r (λ s. s ≡ begun files.genome files.first files.second files.bases files.limit) → IfErr r (λ k. k ≡ Memory) → IsReport r (loaded width sizes text other bases limit)
   begins files (Ok s) all ok err =
       ap session_of (all.1 ∙ ap Ok (sym (all.2 ∙ same-files all.0))) ∙ ap Ok (sym ok)

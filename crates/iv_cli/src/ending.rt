@@ -19,7 +19,7 @@ pub enum Ending {
     Done,
     /// Lines of the script were refused, and all else was done. The messages name each.
     Refused,
-    /// The words on the command line are wrong; the number of their fault in the table of faults.
+    /// The arguments are wrong; the number of their fault in the table of faults.
     Words(u8),
     /// A file is damaged; its first fault.
     Damaged(Slot, LoadFault),
@@ -48,7 +48,7 @@ impl From<AllocError> for Ending {
     }
 }
 
-/// The ending if the system does not give the words: they are no text, or an allocation failed.
+/// The ending if the system does not give the arguments: they are no text, or an allocation failed.
 impl From<io::Error> for Ending {
     ghost use Rattle.std.specs.Prelude.{◌≡◌};
     ghost use Rattle.std.specs.IoError.{error_kind};
@@ -64,7 +64,7 @@ impl From<io::Error> for Ending {
     }
 }
 
-/// The ending if the words are no plan, or an allocation failed.
+/// The ending if the arguments are no plan, or an allocation failed.
 impl From<Fault> for Ending {
     ghost use Rattle.std.specs.Prelude.{◌≡◌};
     ghost use Rattle.iv_cli.specs.Endings.{ending_of_words};
@@ -195,7 +195,7 @@ impl Ending {
     }
 }
 
-/// The text of a fault of words.
+/// The text of a fault of arguments.
 fn words_text(code: u8) -> &'static [u8]
     ensures { result.now ≡ text_of_words code }
 {

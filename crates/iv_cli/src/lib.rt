@@ -1,12 +1,12 @@
 //! The command line: the session that a run's files begin, and how a run ends, with its exit status and its line on standard
-//! error. It passes on the words of a run, and what is done with its files.
+//! error. It re-exports the arguments of a run, and what is done with its files.
 #![tactic(auto)]
 
 mod ending;
 mod loading;
 
 pub use ending::{Ending, run_status, status};
-pub use iv_args::{Notice, Plan, Run, Slot};
+pub use iv_args::{Notice, Plan, Slot, Subcommand};
 pub use iv_run::{CliFault, FileFault, Inputs, Loading, read_all, shot};
 pub use iv_text::Fault;
 pub use loading::{begin_session, load};

@@ -8,13 +8,13 @@ ghost use Rattle.iv_run.specs.SoFar.{SaysSecond};
 ghost use Rattle.iv_cli.specs.Loading.{loaded};
 
 use iv_args::Plan;
-use iv_run::{CliFault, Inputs, KeptFile, LoadedFiles, Loading};
+use iv_run::{CliFault, Inputs, LoadedFiles, Loading, ParsedFile};
 use iv_text::{BedBatches, Record};
 use iv_workspace::Session;
 use std::alloc::Allocator;
 
 /// The records of a file that may be left out.
-fn into_bed<A: Allocator + Copy>(file: Option<KeptFile<Record<A>, A>>) -> Option<BedBatches<A>>
+fn into_bed<A: Allocator + Copy>(file: Option<ParsedFile<Record<A>, A>>) -> Option<BedBatches<A>>
     ensures { result ≡ file }
 {
     match file {

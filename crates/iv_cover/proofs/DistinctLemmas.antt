@@ -20,7 +20,7 @@ use Rattle.iv_text.specs.Ordered.{InOrder}
 use Rattle.iv_text.proofs.OrderedLemmas.{in_order-sorted}
 use Rattle.iv_cover.specs.Summaries.{with_value, different}
 use Rattle.iv_cover.proofs.DifferentLemmas.{one_list, ascends-different, different-has, different-from}
-use Rattle.iv_cover.specs.Results.{after_commas}
+use Rattle.iv_cover.specs.Inside.Results.{after_commas}
 
 abbrev cmp : List ℕ → List ℕ → Ordering
 cmp = slice_cmp nat_cmp

@@ -17,4 +17,4 @@ pub mod EmptyMeanings
 pub mod DifferentLemmas
 pub mod FirstLemmas
 pub mod DistinctLemmas
-pub mod SpelledLemmas
+pub mod ParsedNumberLemmas

@@ -9,9 +9,9 @@ use Rattle.std.proofs.lemmas.Bool.Decides.{nat_tests}
 use Rattle.std.proofs.lemmas.Fmt.{digits_decimal, digits_value-decimal, length-decimal-le, decimal_nonempty}
 use Rattle.std.proofs.lemmas.Str.Parse.{IsNumeralModel, numerals_by_fold, tells_all_ascii_digits}
 use Rattle.iv_text.specs.Number.{decimal_from, number_up_to}
-use Rattle.iv_cover.specs.Spelled.{spelled, spelled_as}
+use Rattle.iv_cover.specs.ParsedNumber.{spelled, spelled_as}
 use Rattle.iv_cover.specs.Summaries.{number_of}
-use Rattle.iv_cover.specs.declared.number.Spelled.TheVariants.{Missing, Number}
+use Rattle.iv_cover.specs.declared.number.ParsedNumber.TheVariants.{Missing, Number}
 
 own : IsNumeralModel (λ ds. all_ascii_digits ds ≡ true) (decimal_from 0)
 own = numerals_by_fold _ tells_all_ascii_digits decimal_from (search rules)

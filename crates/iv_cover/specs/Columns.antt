@@ -1,7 +1,7 @@
 -- The columns of records, and the results over a block's records.
 use Rattle.std.specs.Prelude.{ℕ, ◌==◌, ◌++◌, if◌then◌else◌, List, map, Option, None, Some, codes, decimal}
 use Rattle.std.specs.List.{flat_map}
-use Rattle.iv_text.specs.Row.{Row}
+use Rattle.iv_text.specs.RecordValue.{RecordValue}
 use Rattle.iv_text.specs.RecordText.{strand_text}
 use Rattle.iv_cover.specs.Summaries.{summary_of}
 use Rattle.iv_cover.specs.declared.column.Column.{Column}
@@ -20,7 +20,7 @@ column_numbered n =
     else None
 
 -- the value of a record's column, if its sequence has this name; empty beyond the record's width
-abbrev pub column_value : List ℕ → Column → Row → List ℕ
+abbrev pub column_value : List ℕ → Column → RecordValue → List ℕ
 column_value sequence Sequence r = sequence
 column_value sequence Start r = decimal r.start
 column_value sequence Stop r = decimal r.stop
@@ -29,9 +29,9 @@ column_value sequence Score r = r.score
 column_value sequence Strand r = strand_text r.strand
 
 -- the result over records on a sequence of this name
-abbrev pub result_over : List ℕ → List Row → ColumnSummary → List ℕ
+abbrev pub result_over : List ℕ → List RecordValue → ColumnSummary → List ℕ
 result_over sequence rows s = summary_of s.op (map (column_value sequence s.column) rows)
 
 -- all results over records on a sequence of this name, each with a TAB in front of it
-abbrev pub results_over : List ℕ → List ColumnSummary → List Row → List ℕ
+abbrev pub results_over : List ℕ → List ColumnSummary → List RecordValue → List ℕ
 results_over sequence summaries rows = flat_map (λ s. codes "\t" ++ result_over sequence rows s) summaries

@@ -1,13 +1,11 @@
 pub mod Blocks
 pub mod TrackBlocks
-pub mod Coming
 pub mod BlockLaws
 pub mod Runs
 pub mod Depth
 pub mod Kept
 pub mod Summaries
-pub mod Spelled
-pub mod NumberFolds
+pub mod ParsedNumber
 pub mod Columns
-pub mod Values
 pub mod Results
+pub mod Inside

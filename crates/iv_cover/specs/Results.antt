@@ -1,7 +1,6 @@
 -- The results of several summaries, the room that they need, and values in the midst of a text.
-use Rattle.std.specs.Prelude.{◌≡◌, ℕ, ◌≤◌, ◌++◌, ◌∷◌, List, All, codes}
+use Rattle.std.specs.Prelude.{◌≡◌, ℕ, ◌≤◌, ◌++◌, List, All, codes}
 use Rattle.std.specs.List.{flat_map}
-use Rattle.iv_text.specs.Bytes.{comma}
 use Rattle.iv_cover.specs.Summaries.{summary_of}
 use Rattle.iv_cover.specs.declared.column.Column.{Column}
 use Rattle.iv_cover.specs.declared.column.ColumnSummary.{ColumnSummary}
@@ -14,7 +13,3 @@ results_of values summaries = flat_map (λ s. codes "\t" ++ summary_of s.op (val
 -- if the different ones of so many values are asked for, there is room for so many
 abbrev pub HasRoom : ℕ → ℕ → List ColumnSummary → Type 0
 HasRoom room count summaries = All (λ s. s.op ≡ Distinct → count ≤ room) summaries
-
--- values, each with a comma in front of it
-abbrev pub after_commas : List (List ℕ) → List ℕ
-after_commas values = flat_map (λ value. comma ∷ value) values

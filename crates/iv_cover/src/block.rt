@@ -3,7 +3,7 @@ ghost use Rattle.std.specs.Prelude.{◌≡◌, ◌+◌, ◌==◌, ◌&&◌, nat_
 ghost use Rattle.iv_text.specs.Genome.{Sequences};
 ghost use Rattle.iv_text.specs.Ordered.{AreInOrder};
 ghost use Rattle.iv_text.specs.Read.{IsOnGenome};
-ghost use Rattle.iv_text.specs.Row.{IsPlaced};
+ghost use Rattle.iv_text.specs.RecordValue.{IsPlaced};
 ghost use Rattle.iv_cover.specs.TrackBlocks.{blocks_of, GivesFirst};
 
 use iv_text::{BedRecord, Record};
@@ -20,10 +20,10 @@ pub struct Block {
 }
 
 impl Block {
-    /// A block of one record. That its place is of 32 bits is what `law_of_place` of each kind of record says.
+    /// A block of one record. That its place is of 32 bits is what `lemma_of_interval` of each kind of record says.
     pub fn of<R: BedRecord>(row: &R) -> Block
-        requires { IsPlaced (R.as_row row.now) }
-        ensures { result ≡ record { sequence = (R.as_row row.now).seq; start = (R.as_row row.now).start; stop = (R.as_row row.now).stop } }
+        requires { IsPlaced (R.as_record row.now) }
+        ensures { result ≡ record { sequence = (R.as_record row.now).seq; start = (R.as_record row.now).start; stop = (R.as_record row.now).stop } }
     {
         Block {
             sequence: row.seq(),
@@ -67,7 +67,7 @@ pub struct BlockWalk<'a, A: Allocator + Copy = Global> {
 
 impl<'a, A: Allocator + Copy> Model for BlockWalk<'a, A> {
     ghost use Rattle.std.specs.Prelude.{List, None};
-    ghost use Rattle.iv_cover.specs.Coming.{coming, left};
+    ghost use Rattle.iv_cover.specs.Inside.Coming.{coming, left};
     ghost use Rattle.iv_cover.specs.TrackBlocks.{Group};
 
     ghost Value = { List Group };
@@ -98,10 +98,10 @@ impl<'a, A: Allocator + Copy> BlockWalk<'a, A> {
             Some(record) => record,
             None => self.rows.next(meter)?,
         };
-        first.law_of_place();
+        first.lemma_of_interval();
         let mut block = Block::of(first);
         while let Some(record) = self.rows.next(meter) {
-            record.law_of_place();
+            record.lemma_of_interval();
             let next = Block::of(record);
             if !block.is_joined_by(next, self.distance) {
                 self.ahead = Some(record);

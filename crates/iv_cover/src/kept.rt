@@ -3,7 +3,7 @@ ghost use Rattle.std.specs.Prelude.{◌≡◌, ℕ, List, All, IfOk, OnOk};
 ghost use Rattle.iv_text.specs.Named.{names_of};
 ghost use Rattle.iv_text.specs.Ordered.{added as with_one};
 ghost use Rattle.iv_text.specs.Read.{Fits};
-ghost use Rattle.iv_text.specs.Row.{Row};
+ghost use Rattle.iv_text.specs.RecordValue.{RecordValue};
 ghost use Rattle.iv_track.specs.Steps.{TakesUpTo};
 ghost use Rattle.iv_cover.specs.Kept.{IsRightWithout};
 
@@ -21,9 +21,9 @@ pub trait Kept<A: Allocator + Copy> {
     /// What the state was built for.
     ghost built_for: { Self → Self.Settings };
     /// Whether the state is right for a genome of these names and these records in order.
-    ghost is_right: { Self → List (List ℕ) → List Row → Type 0 };
+    ghost is_right: { Self → List (List ℕ) → List RecordValue → Type 0 };
     /// How many steps a repair takes at most, with the record among the records.
-    ghost repair_steps: { Self.Settings → List Row → Row → ℕ };
+    ghost repair_steps: { Self.Settings → List RecordValue → RecordValue → ℕ };
 
     /// The state for a track as it is.
     fn build(

@@ -5,7 +5,7 @@
 mod block;
 mod column;
 mod kept;
-mod laws;
+mod lemmas;
 mod number;
 mod op;
 mod result_texts;
@@ -16,11 +16,11 @@ mod values;
 pub use block::{Block, BlockWalk};
 pub use column::{Column, ColumnSummary, asks_distinct};
 pub use kept::Kept;
-pub use laws::{
+pub use lemmas::{
     blocks_start_after_gaps, blocks_stop_with_their_last_record, different_values_ascend,
     gaps_separate_blocks, records_belong_to_one_block, runs_are_the_tiling,
 };
-pub use number::Spelled;
+pub use number::ParsedNumber;
 pub use op::Op;
 pub use result_texts::{results, results_in, summary};
 pub use summaries::put_results;

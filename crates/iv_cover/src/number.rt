@@ -2,8 +2,8 @@
 ghost use Rattle.std.specs.Prelude.{◌≡◌, ◌≤◌, ◌+◌, ◌<◌, ◌^◌, ◌∷◌, List, ℕ, None, unsigned_abs, IfOk, IfSome, OnErr, decimal};
 ghost use Rattle.std.specs.Option.{option_and_then};
 ghost use Rattle.iv_cover.specs.Columns.{column_value};
-ghost use Rattle.iv_cover.specs.NumberFolds.{both_of, with_number, size, going};
-ghost use Rattle.iv_cover.specs.Spelled.{IsShort, spelled};
+ghost use Rattle.iv_cover.specs.Inside.NumberFolds.{both_of, with_number, size, going};
+ghost use Rattle.iv_cover.specs.ParsedNumber.{IsShort, spelled};
 ghost use Rattle.iv_cover.specs.Summaries.{number_of, numbers_of, taken_together};
 
 use crate::column::Column;
@@ -27,7 +27,7 @@ pub(crate) fn read_number(value: &[u8]) -> Option<i128>
 
 /// What a value is to an operation on numbers.
 #[derive(Clone, Copy, Debug, PartialEq, Eq)]
-pub enum Spelled {
+pub enum ParsedNumber {
     /// A full stop, which is left out.
     Missing,
     /// An optional minus sign, and 1 to 15 digits.
@@ -36,41 +36,41 @@ pub enum Spelled {
     Other,
 }
 
-impl Spelled {
+impl ParsedNumber {
     /// What a value spells.
-    pub(crate) fn of(value: &[u8]) -> Spelled
+    pub(crate) fn of(value: &[u8]) -> ParsedNumber
         ensures value { result ≡ spelled value.now }
         ensures short { IsShort result }
     {
         if value == b".".as_slice() {
-            return Spelled::Missing;
+            return ParsedNumber::Missing;
         }
         match read_number(value) {
-            Some(number) => Spelled::Number(number),
-            None => Spelled::Other,
+            Some(number) => ParsedNumber::Number(number),
+            None => ParsedNumber::Other,
         }
     }
 
     /// What the value of a record's column spells, if its sequence has this name. A position isn't written first.
-    pub fn of_column<'a>(column: Column, sequence: &'a [u8], row: &RecordRef<'a>) -> Spelled
+    pub fn of_column<'a>(column: Column, sequence: &'a [u8], row: &RecordRef<'a>) -> ParsedNumber
         ensures value { result ≡ spelled (column_value sequence.now column row.now) }
         ensures short { IsShort result }
     {
-        row.law_of_place();
+        row.lemma_of_interval();
         match column {
-            Column::Start => Spelled::of_position(row.start()),
-            Column::Stop => Spelled::of_position(row.stop()),
-            _ => Spelled::of(Value::of(column, sequence, row).as_slice()),
+            Column::Start => ParsedNumber::of_position(row.start()),
+            Column::Stop => ParsedNumber::of_position(row.stop()),
+            _ => ParsedNumber::of(Value::of(column, sequence, row).as_slice()),
         }
     }
 
     /// What a position spells, in decimal.
-    fn of_position(position: u64) -> Spelled
+    fn of_position(position: u64) -> ParsedNumber
         requires { position < 2 ^ 32 }
         ensures value { result ≡ spelled (decimal position) }
         ensures short { IsShort result }
     {
-        Spelled::Number(i128::from(position))
+        ParsedNumber::Number(i128::from(position))
     }
 }
 
@@ -93,14 +93,14 @@ impl NumberFold {
     ) -> Option<i128>
         ensures { result ≡ option_and_then (taken_together (both_of self)) (numbers_of (V.left name.now column values.now)) }
     {
-        values.law_of_size();
+        values.lemma_of_size();
         let mut left = values.again();
         let mut taken = None;
         while let Some(spelled) = left.next_number(name, column) {
             match spelled {
-                Spelled::Missing => {}
-                Spelled::Number(number) => taken = Some(self.with_number(taken, number)),
-                Spelled::Other => return None,
+                ParsedNumber::Missing => {}
+                ParsedNumber::Number(number) => taken = Some(self.with_number(taken, number)),
+                ParsedNumber::Other => return None,
             }
         }
         taken

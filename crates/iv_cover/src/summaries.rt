@@ -69,7 +69,7 @@ pub(crate) fn put_result<'t, V: Values<'t>, A: Allocator, S: Sink>(
 fn put_count<'t, V: Values<'t>, S: Sink>(values: &V, sink: &mut S) -> Result<(), WriteFault>
     ensures { (name : List ℕ) (column : Column) → Puts (S.state sink.old) (S.state sink.new) result (decimal (length (V.left name column values.now))) }
 {
-    values.law_of_size();
+    values.lemma_of_size();
     put_all(sink, itoa::Buffer::new().format(values.count()).as_bytes())
 }
 
@@ -143,7 +143,7 @@ fn fill<'t, V: Values<'t>, A: Allocator>(
     ensures values { room.new.items ≡ V.left name.now column values.now }
     ensures room { vec_capacity room.old ≤ vec_capacity room.new }
 {
-    values.law_of_size();
+    values.lemma_of_size();
     room.clear();
     let mut left = values.again();
     while let Some(value) = left.next_value(name, column) {

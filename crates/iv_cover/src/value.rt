@@ -1,7 +1,7 @@
 //! The value of a record's column.
 ghost use Rattle.std.specs.Prelude.{◌≡◌, decimal};
 ghost use Rattle.iv_cover.specs.Columns.{column_value};
-ghost use Rattle.iv_cover.specs.Values.{kind_text};
+ghost use Rattle.iv_cover.specs.Inside.Values.{kind_text};
 
 use crate::column::Column;
 use itoa::write_digits;
@@ -23,7 +23,7 @@ enum Kind<'a> {
 
 impl<'a> Model for Value<'a> {
     ghost use Rattle.std.specs.Prelude.{List, ℕ};
-    ghost use Rattle.iv_cover.specs.Values.{kind_text};
+    ghost use Rattle.iv_cover.specs.Inside.Values.{kind_text};
 
     ghost Value = { List ℕ };
 

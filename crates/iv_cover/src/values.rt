@@ -2,11 +2,11 @@
 ghost use Rattle.std.specs.Prelude.{◌≡◌, ◌<◌, ◌^◌, ℕ, List, length, map, IfSome};
 ghost use Rattle.std.specs.Iterator.{YieldsFirst};
 ghost use Rattle.iv_cover.specs.Columns.{column_value};
-ghost use Rattle.iv_cover.specs.Spelled.{IsShort, SpellsFirst};
+ghost use Rattle.iv_cover.specs.ParsedNumber.{IsShort, SpellsFirst};
 ghost use Rattle.iv_cover.specs.declared.column.Column.{Column};
 
 use crate::column::Column;
-use crate::number::Spelled;
+use crate::number::ParsedNumber;
 use crate::value::Value;
 use iv_text::Record;
 use std::alloc::Allocator;
@@ -33,12 +33,12 @@ pub trait Values<'t>: Drop {
         ensures { YieldsFirst (left name.now column) self.old result self.new };
 
     /// What the next value of a column spells, if the records' sequence has this name; `None` after the last.
-    fn next_number(&mut self, name: &'t [u8], column: Column) -> Option<Spelled>
+    fn next_number(&mut self, name: &'t [u8], column: Column) -> Option<ParsedNumber>
         ensures value { SpellsFirst (left name.now column) self.old result self.new }
         ensures short { IfSome result IsShort };
 
     /// A lemma for callers' proofs: 64 bits count the values of a column. The call does nothing.
-    fn law_of_size(&self)
+    fn lemma_of_size(&self)
         ensures few { size self.now < 2 ^ 64 }
         ensures each { (name : List ℕ) (column : Column) → length (left name column self.now) ≡ size self.now };
 }
@@ -63,14 +63,14 @@ impl<'t, A: Allocator> Values<'t> for &'t [&'t Record<A>] {
         Some(Value::of(column, name, &first.as_ref()))
     }
 
-    fn next_number(&mut self, name: &'t [u8], column: Column) -> Option<Spelled> {
+    fn next_number(&mut self, name: &'t [u8], column: Column) -> Option<ParsedNumber> {
         let rows = *self;
         let first = rows.first()?;
         *self = &rows[1..];
-        Some(Spelled::of_column(column, name, &first.as_ref()))
+        Some(ParsedNumber::of_column(column, name, &first.as_ref()))
     }
 
-    fn law_of_size(&self) {
+    fn lemma_of_size(&self) {
         let _few = self.len();
     }
 }
@@ -95,14 +95,14 @@ impl<'t> Values<'t> for &'t [&'t [u8]] {
         Some(Value::text(first))
     }
 
-    fn next_number(&mut self, _name: &'t [u8], _column: Column) -> Option<Spelled> {
+    fn next_number(&mut self, _name: &'t [u8], _column: Column) -> Option<ParsedNumber> {
         let texts = *self;
         let first = texts.first()?;
         *self = &texts[1..];
-        Some(Spelled::of(first))
+        Some(ParsedNumber::of(first))
     }
 
-    fn law_of_size(&self) {
+    fn lemma_of_size(&self) {
         let _few = self.len();
     }
 }

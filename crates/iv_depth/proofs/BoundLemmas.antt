@@ -10,20 +10,21 @@ use Rattle.std.proofs.lemmas.Cmp.{nat_cmp_total, tied_itself}
 use Rattle.std.proofs.lemmas.Bool.{cases_lt, lt-leb, le-leb, eq-eqb, false≢true}
 use Rattle.std.proofs.lemmas.Bool.Decides.{eqb_tells}
 use Rattle.std.proofs.lemmas.List.Sums.{count_by-le-length}
-use Rattle.iv_text.specs.Row.{Row}
+use Rattle.iv_text.specs.RecordValue.{RecordValue}
 use Rattle.iv_text.specs.Covering.{covers}
 use Rattle.iv_cover.specs.Depth.{depth}
-use Rattle.iv_depth.specs.Changes.{Place, Entries, total, reaches, AreChangesOf, Bumps}
+use Rattle.iv_depth.specs.Changes.{ChangeKey, Entries, total, reaches, AreChangesOf}
+use Rattle.iv_depth.specs.Inside.Changes.{Bumps}
 use Rattle.iv_track.specs.Entries.{pair_cmp}
 use Rattle.iv_track.proofs.NumberOrder.{pair_same}
 
-place-tied : (k : Place) → is_at (pair_cmp k) k ≡ true
+place-tied : (k : ChangeKey) → is_at (pair_cmp k) k ≡ true
 place-tied k =
     let a : nat_cmp k.0 k.0 ≡ Equal = tied_itself nat_cmp_total k.0 in
     let b : nat_cmp k.1 k.1 ≡ Equal = tied_itself nat_cmp_total k.1 in
     rw (a, b) refl
 
-total-none : (k : Place) (entries : Entries) → AllByRecursion (λ y. pair_cmp k y ≡ Less) (keys_of entries)
+total-none : (k : ChangeKey) (entries : Entries) → AllByRecursion (λ y. pair_cmp k y ≡ Less) (keys_of entries)
     → total (is_at (pair_cmp k)) entries ≡ pos 0
 total-none k [] h = refl
 total-none k (e ∷ entries) h =
@@ -32,7 +33,7 @@ total-none k (e ∷ entries) h =
     rw (less, rest) refl
 
 -- the change at a place is all that there is at it
-total-found : (k : Place) (entries : Entries) (z : ℤ) → IsStrictlySortedBy pair_cmp (keys_of entries)
+total-found : (k : ChangeKey) (entries : Entries) (z : ℤ) → IsStrictlySortedBy pair_cmp (keys_of entries)
     → lookup (is_at (pair_cmp k)) entries ≡ Some z → total (is_at (pair_cmp k)) entries ≡ z
 unfolding IsStrictlySortedBy
 total-found k [] z sorted found = cc
@@ -45,12 +46,12 @@ total-found k (e ∷ entries) z sorted found = go (λ there. total-found k entri
         let value : e.1 ≡ z = cc in
         let same : e.0 ≡ k = pair_same k e.0 is in
         let rest : total (is_at (pair_cmp k)) entries ≡ pos 0
-        = total-none k entries (subst (λ (j : Place). AllByRecursion (λ y. pair_cmp j y ≡ Less) (keys_of entries)) same sorted.0) in
+        = total-none k entries (subst (λ (j : ChangeKey). AllByRecursion (λ y. pair_cmp j y ≡ Less) (keys_of entries)) same sorted.0) in
         rw is (omega (arith, ints, value, rest))
     go further false is = let rest = further (rw is at found) in rw is (omega (arith, ints, rest))
 
 -- a place elsewhere is reached by the next position if it is by this one
-reaches-elsewhere : (s p : ℕ) (place : Place) → is_at (pair_cmp (s, p + 1)) place ≡ false → reaches s (p + 1) place ≡ reaches s p place
+reaches-elsewhere : (s p : ℕ) (place : ChangeKey) → is_at (pair_cmp (s, p + 1)) place ≡ false → reaches s (p + 1) place ≡ reaches s p place
 reaches-elsewhere s p place is = go (eqb_tells place.0 s)
   where
     go : ((eqb place.0 s ≡ true) × (place.0 ≡ s)) ⊎ ((eqb place.0 s ≡ false) × (place.0 ≢ s)) → reaches s (p + 1) place ≡ reaches s p place
@@ -102,7 +103,7 @@ total-start s (e ∷ entries) = go (total-start s entries) (is_at (pair_cmp (s, 
             rw (on.0, lt-leb e.0.1 0 (omega (arith, other))) refl
 
 -- a change is the difference of two sums
-pub change-bounded : (entries : Entries) (n : ℕ) (place : Place) (z : ℤ) → IsStrictlySortedBy pair_cmp (keys_of entries)
+pub change-bounded : (entries : Entries) (n : ℕ) (place : ChangeKey) (z : ℤ) → IsStrictlySortedBy pair_cmp (keys_of entries)
     → ((s p : ℕ) → (negsuc n ≤ℤ total (reaches s p) entries) × (total (reaches s p) entries ≤ℤ pos n))
     → lookup (is_at (pair_cmp place)) entries ≡ Some z → (negsuc (2 * n + 1) ≤ℤ z) × (z ≤ℤ pos (2 * n + 1))
 change-bounded entries n place z sorted within found = go place.0 place.1 found
@@ -116,14 +117,14 @@ change-bounded entries n place z sorted within found = go place.0 place.1 found
         let at : total (is_at (pair_cmp (s, p + 1))) entries ≡ z = total-found (s, p + 1) entries z sorted there in
         (omega (arith, ints, at, total-step s p entries, within s p, within s (p + 1)), omega (arith, ints, at, total-step s p entries, within s p, within s (p + 1)))
 
-pub AreChangesOf-within : (records : List Row) (entries : Entries) → AreChangesOf records entries
+pub AreChangesOf-within : (records : List RecordValue) (entries : Entries) → AreChangesOf records entries
     → (s p : ℕ) → (negsuc (length records) ≤ℤ total (reaches s p) entries) × (total (reaches s p) entries ≤ℤ pos (length records))
 AreChangesOf-within records entries h s p =
     let few : depth records s p ≤ length records = count_by-le-length (covers s p) records in
     let is : total (reaches s p) entries ≡ pos (depth records s p) = h.depths s p in
     (omega (arith, ints, is), omega (arith, ints, is))
 
-pub Bumps-within : (n : ℕ) (old new : Entries) (place : Place) (by : ℤ) → Bumps old new place by → negsuc 0 ≤ℤ by → by ≤ℤ pos 1
+pub Bumps-within : (n : ℕ) (old new : Entries) (place : ChangeKey) (by : ℤ) → Bumps old new place by → negsuc 0 ≤ℤ by → by ≤ℤ pos 1
     → ((s p : ℕ) → (negsuc n ≤ℤ total (reaches s p) old) × (total (reaches s p) old ≤ℤ pos n))
     → (s p : ℕ) → (negsuc (n + 1) ≤ℤ total (reaches s p) new) × (total (reaches s p) new ≤ℤ pos (n + 1))
 Bumps-within n old new place by h low high within s p = go (reaches s p place) (h.sums (reaches s p))
@@ -133,7 +134,7 @@ Bumps-within n old new place by h low high within s p = go (reaches s p place) (
     go true e = (omega (arith, ints, e, within s p), omega (arith, ints, e, within s p))
     go false e = (omega (arith, ints, e, within s p), omega (arith, ints, e, within s p))
 
-pub change-small : (entries : Entries) (n : ℕ) (place : Place) → IsStrictlySortedBy pair_cmp (keys_of entries) → n < 2 ^ 38
+pub change-small : (entries : Entries) (n : ℕ) (place : ChangeKey) → IsStrictlySortedBy pair_cmp (keys_of entries) → n < 2 ^ 38
     → ((s p : ℕ) → (negsuc n ≤ℤ total (reaches s p) entries) × (total (reaches s p) entries ≤ℤ pos n))
     → (z : ℤ) → lookup (is_at (pair_cmp place)) entries ≡ Some z → (negsuc (2 ^ 40) ≤ℤ z) × (z ≤ℤ pos (2 ^ 40))
 change-small entries n place sorted few within z found =

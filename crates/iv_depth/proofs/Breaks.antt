@@ -12,8 +12,8 @@ use Rattle.std.proofs.lemmas.Cmp.{ranked, tied_itself}
 use Rattle.std.specs.Cmp.{nat_cmp_total}
 use Rattle.std.proofs.lemmas.List.Elements.{All-head, All-tail}
 use Rattle.iv_track.specs.Entries.{IsLedger, pair_cmp}
-use Rattle.iv_depth.specs.Changes.{Place, Entries, total, reaches}
-use Rattle.iv_depth.specs.Walks.{on, level, AreBreaks, Follows}
+use Rattle.iv_depth.specs.Changes.{ChangeKey, Entries, total, reaches}
+use Rattle.iv_depth.specs.Inside.Walks.{on, level, AreBreaks, Follows}
 
 -- no break is before the first
 level-before : (from to : ℕ) (breaks : List (ℕ × ℤ)) (p : ℕ) → AreBreaks from to breaks → p < from → level breaks p ≡ pos 0
@@ -126,13 +126,13 @@ AreBreaks-rising from to value (b ∷ breaks) h low same = go (cases_lt to b.0)
         let before : level (b ∷ breaks) q ≡ pos 0 = level-unrisen b.0 (b ∷ breaks) q (omega arith, h.1, h.2) (omega arith) in
         absurd (h.1 (omega (arith, ints, at, none, before, same q (omega arith))))
 
-above : (rank : ℕ) (place next : Place) → place.0 ≡ rank → next.0 ≡ rank → pair_cmp place next ≡ Less → place.1 < next.1
+above : (rank : ℕ) (place next : ChangeKey) → place.0 ≡ rank → next.0 ≡ rank → pair_cmp place next ≡ Less → place.1 < next.1
 above rank place next p n h =
     let tied : nat_cmp rank rank ≡ Equal = tied_itself nat_cmp_total rank in
     let by_position : nat_cmp place.1 next.1 ≡ Less = rw (p, n, tied) at h in
     ranked place.1 next.1 Less (sym by_position)
 
-Rising-past : (rank : ℕ) (place : Place) (entries : Entries) → place.0 ≡ rank
+Rising-past : (rank : ℕ) (place : ChangeKey) (entries : Entries) → place.0 ≡ rank
     → AllByRecursion (λ next. pair_cmp place next ≡ Less) (keys_of entries) → IsLedger pair_cmp entries
     → All (λ z. z ≢ pos 0) (values_of entries) → Rising (place.1 + 1) (on rank entries)
 unfolding IsStrictlySortedBy

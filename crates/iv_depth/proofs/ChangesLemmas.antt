@@ -3,7 +3,7 @@ use Rattle.std.proofs.Common.{◌≡◌, ◌≢◌, All, sym, ap, ◌∙◌, ℕ
 use Rattle.std.specs.Prelude.{ℤ, pos, negsuc, ◌+ℤ◌, if◌then◌else◌}
 use Rattle.std.proofs.lemmas.Int.{ints}
 use Rattle.std.proofs.lemmas.Bool.{cases_lt, lt-leb, le-leb, lt-ltb, le-ltb}
-use Rattle.iv_text.specs.Row.{Row}
+use Rattle.iv_text.specs.RecordValue.{RecordValue}
 use Rattle.iv_text.specs.Covering.{covers}
 use Rattle.iv_cover.proofs.DepthLemmas.{depth-cons}
 use Rattle.std.specs.Map.{lookup, remove_entry, set_value, values_of}
@@ -16,7 +16,8 @@ use Rattle.std.proofs.lemmas.Map.Views.{All-values-insert_entry, All-values-set_
 use Rattle.std.specs.BTreeMap.{is_at, insert_entry}
 use Rattle.iv_track.proofs.NumberOrder.{pair_total, pair_same}
 use Rattle.iv_track.specs.Entries.{IsLedger, value_at, pair_cmp}
-use Rattle.iv_depth.specs.Changes.{Place, Entries, total, reaches, AreChangesOf, Bumps, Shifts}
+use Rattle.iv_depth.specs.Changes.{ChangeKey, Entries, total, reaches, AreChangesOf}
+use Rattle.iv_depth.specs.Inside.Changes.{Bumps, Shifts}
 
 module _ {K : Type 0} (passes : K → Bool) where
   -- a new entry
@@ -74,7 +75,7 @@ module _ {K : Type 0} (passes : K → Bool) where
           rw is (omega (arith, ints, rest))
 
 -- a change at a record's start and the opposite one at its stop change the sums at the positions that it covers
-shifted : (r : Row) (rank p : ℕ) (by back : ℤ) → r.start < r.stop → back +ℤ by ≡ pos 0
+shifted : (r : RecordValue) (rank p : ℕ) (by back : ℤ) → r.start < r.stop → back +ℤ by ≡ pos 0
     → (if reaches rank p (r.seq, r.start) then by else pos 0) +ℤ (if reaches rank p (r.seq, r.stop) then back else pos 0)
     ≡ (if covers rank p r then by else pos 0)
 shifted r rank p by back h none = go (eqb r.seq rank) (cases_lt p r.start) (cases_lt p r.stop)
@@ -88,7 +89,7 @@ shifted r rank p by back h none = go (eqb r.seq rank) (cases_lt p r.start) (case
     go true (inr since) (inr past) = rw (le-leb r.start p since, le-leb r.stop p past, le-ltb p r.stop past) (omega (arith, ints, none))
 
 -- such two changes
-pub Shifts-of : (r : Row) (by back : ℤ) (entries between after : Entries) (rank stop : ℕ) → r.start < r.stop
+pub Shifts-of : (r : RecordValue) (by back : ℤ) (entries between after : Entries) (rank stop : ℕ) → r.start < r.stop
     → Bumps entries between (r.seq, r.start) by → Bumps between after (rank, stop) back → rank ≡ r.seq → stop ≡ r.stop → back +ℤ by ≡ pos 0
     → Shifts r by entries after
 Shifts-of r by back entries between after rank stop h first last same_rank same_stop none =
@@ -101,7 +102,7 @@ Shifts-of r by back entries between after rank stop h first last same_rank same_
     }
 
 -- one more at each position that a record covers is one more record
-pub AreChangesOf-added : (r : Row) (records : List Row) (entries after : Entries) → Shifts r (pos 1) entries after
+pub AreChangesOf-added : (r : RecordValue) (records : List RecordValue) (entries after : Entries) → Shifts r (pos 1) entries after
     → AreChangesOf records entries → AreChangesOf (r ∷ records) after
 AreChangesOf-added r records entries after shift old = record {
   ordered = shift.ordered;
@@ -114,7 +115,7 @@ AreChangesOf-added r records entries after shift old = record {
     more false a b n m e f h = omega (arith, ints)
 
 -- and one less is one record less
-pub AreChangesOf-removed : (r : Row) (records : List Row) (entries after : Entries) → Shifts r (negsuc 0) entries after
+pub AreChangesOf-removed : (r : RecordValue) (records : List RecordValue) (entries after : Entries) → Shifts r (negsuc 0) entries after
     → AreChangesOf (r ∷ records) entries → AreChangesOf records after
 AreChangesOf-removed r records entries after shift old = record {
   ordered = shift.ordered;
@@ -135,7 +136,7 @@ All-values-remove_entry test P (e ∷ entries) all = go (All-values-remove_entry
     go rest false is = rw is (All-cons P e.1 (values_of (remove_entry test entries)) (All-head P e.1 (values_of entries) all) rest)
 
 -- a place without a change gets one
-pub Bumps-insert_entry : (entries : Entries) (place : Place) (by : ℤ) → lookup (is_at (pair_cmp place)) entries ≡ None
+pub Bumps-insert_entry : (entries : Entries) (place : ChangeKey) (by : ℤ) → lookup (is_at (pair_cmp place)) entries ≡ None
     → by ≢ pos 0 → IsLedger pair_cmp (insert_entry pair_cmp entries place by) → Bumps entries (insert_entry pair_cmp entries place by) place by
 Bumps-insert_entry entries place by absent other ordered = record {
   ordered = ordered;
@@ -144,7 +145,7 @@ Bumps-insert_entry entries place by absent other ordered = record {
 }
 
 -- a change that becomes 0 is taken out
-pub Bumps-remove_entry : (entries : Entries) (place : Place) (old by : ℤ) → lookup (is_at (pair_cmp place)) entries ≡ Some old
+pub Bumps-remove_entry : (entries : Entries) (place : ChangeKey) (old by : ℤ) → lookup (is_at (pair_cmp place)) entries ≡ Some old
     → old +ℤ by ≡ pos 0 → IsLedger pair_cmp (remove_entry (is_at (pair_cmp place)) entries)
     → Bumps entries (remove_entry (is_at (pair_cmp place)) entries) place by
 Bumps-remove_entry entries place old by found none ordered = record {
@@ -158,7 +159,7 @@ Bumps-remove_entry entries place old by found none ordered = record {
     sums a b false e = omega (arith, ints)
 
 -- another change is set
-pub Bumps-set_value : (entries : Entries) (place : Place) (old by : ℤ) → lookup (is_at (pair_cmp place)) entries ≡ Some old
+pub Bumps-set_value : (entries : Entries) (place : ChangeKey) (old by : ℤ) → lookup (is_at (pair_cmp place)) entries ≡ Some old
     → old +ℤ by ≢ pos 0 → IsLedger pair_cmp (set_value (is_at (pair_cmp place)) entries (old +ℤ by))
     → Bumps entries (set_value (is_at (pair_cmp place)) entries (old +ℤ by)) place by
 Bumps-set_value entries place old by found other ordered = record {
@@ -217,7 +218,7 @@ lookup-set test (e ∷ entries) old new found = go (λ there. lookup-set test en
     go further true is = rw (is, is) refl
     go further false is = rw (is, is) (further (rw is at found))
 
-module _ (entries between after : Entries) (place : Place) (before by : ℤ) (ordered : IsLedger pair_cmp entries)
+module _ (entries between after : Entries) (place : ChangeKey) (before by : ℤ) (ordered : IsLedger pair_cmp entries)
     (found : value_at pair_cmp entries place ≡ Some before) (put : between ≡ insert_entry pair_cmp entries place by) where
   between-is : between ≡ set_value (is_at (pair_cmp place)) entries by
   between-is = put ∙ insert_entry-found pair_cmp pair_total entries place before by ordered found

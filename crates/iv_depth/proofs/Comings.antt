@@ -3,13 +3,13 @@ use Rattle.std.proofs.Common.{◌≡◌, [], ◌∷◌, refl, sym, ◌∙◌, ap
 use Rattle.std.specs.Prelude.{ℤ}
 use Rattle.std.specs.Map.Iter.{TakesFirst}
 use Rattle.std.specs.Ordering.{is_le, nat_cmp}
-use Rattle.iv_track.proofs.PlaceLemmas.{le_then, zero_le}
-use Rattle.iv_depth.specs.Changes.{Place, Entries}
+use Rattle.iv_track.proofs.EntryIndexLemmas.{le_then, zero_le}
+use Rattle.iv_depth.specs.Changes.{ChangeKey, Entries}
 use Rattle.iv_track.specs.Entries.{pair_cmp}
-use Rattle.iv_depth.specs.Walks.{ahead_of}
+use Rattle.iv_depth.specs.Inside.Walks.{ahead_of}
 
 -- what is read ahead, and what is left, are all
-pub ahead-read : (old new : Entries) (given : Option (Place × ℤ)) → TakesFirst (λ (e : Place × ℤ). e) old given new → ahead_of given new ≡ old
+pub ahead-read : (old new : Entries) (given : Option (ChangeKey × ℤ)) → TakesFirst (λ (e : ChangeKey × ℤ). e) old given new → ahead_of given new ≡ old
 ahead-read old new None took = took.1 ∙ sym took.0
 ahead-read old new (Some e) took = sym took
 

@@ -9,9 +9,9 @@ use Rattle.std.proofs.lemmas.Bool.Decides.{eqb_tells}
 use Rattle.std.proofs.lemmas.List.Elements.{filter-append}
 use Rattle.iv_cover.specs.Runs.{Run, runs}
 use Rattle.iv_depth.specs.DepthRows.{covered_runs}
-use Rattle.iv_depth.specs.Changes.{Place, Entries}
+use Rattle.iv_depth.specs.Changes.{ChangeKey, Entries}
 use Rattle.iv_depth.proofs.Stretches.{runs-one, runs-split}
-use Rattle.iv_depth.specs.Walks.{on, AreBreaks, Follows}
+use Rattle.iv_depth.specs.Inside.Walks.{on, AreBreaks, Follows}
 use Rattle.iv_depth.proofs.Breaks.{Follows-end, Step-at}
 
 -- 1 if a run above 0 is open
@@ -95,13 +95,13 @@ abbrev counted : Entries → ℕ → ℕ → ℕ
 counted entries rank zero = 0
 counted entries rank (suc n) = length (on rank entries) + counted entries (rank + 1) n
 
-counted-off : (e : Place × ℤ) (entries : Entries) (rank n : ℕ) → e.0.0 < rank → counted (e ∷ entries) rank n ≡ counted entries rank n
+counted-off : (e : ChangeKey × ℤ) (entries : Entries) (rank n : ℕ) → e.0.0 < rank → counted (e ∷ entries) rank n ≡ counted entries rank n
 counted-off e entries rank zero low = refl
 counted-off e entries rank (suc n) low =
     let off : eqb e.0.0 rank ≡ false = ne_eqb e.0.0 rank (λ is. absurd (omega (arith, is))) in
     rw (off, counted-off e entries (rank + 1) n (omega arith)) refl
 
-counted-one : (e : Place × ℤ) (entries : Entries) (rank n : ℕ) → rank ≤ e.0.0 → e.0.0 < rank + n → counted (e ∷ entries) rank n ≡ 1 + counted entries rank n
+counted-one : (e : ChangeKey × ℤ) (entries : Entries) (rank n : ℕ) → rank ≤ e.0.0 → e.0.0 < rank + n → counted (e ∷ entries) rank n ≡ 1 + counted entries rank n
 counted-one e entries rank zero low high = absurd (omega arith)
 counted-one e entries rank (suc n) low high =
     let cases = eqb_tells e.0.0 rank in

@@ -11,14 +11,15 @@ use Rattle.iv_text.specs.Genome.{Sequences, seq_count, sequence_length}
 use Rattle.iv_text.specs.Ordered.{added}
 use Rattle.std.specs.List.{AllByRecursion}
 use Rattle.iv_text.specs.Read.{Fits, IsOnGenome}
-use Rattle.iv_text.specs.Row.{Row, row_cmp}
+use Rattle.iv_text.specs.RecordValue.{RecordValue, record_cmp}
 use Rattle.iv_text.proofs.OrderedLemmas.{length-added}
 use Rattle.iv_text.specs.Covering.{covers}
 use Rattle.iv_cover.specs.Depth.{depth}
-use Rattle.iv_depth.specs.Changes.{Entries, AreChanges, AreChangesOf}
+use Rattle.iv_depth.specs.Changes.{Entries, AreChangesOf}
+use Rattle.iv_depth.specs.Inside.Changes.{AreChanges}
 use Rattle.iv_depth.specs.DepthRows.{covered_runs, all_covered_runs, text_by, depth_text}
 use Rattle.iv_depth.specs.declared.depth_rows.DepthRows.{DepthRows}
-use Rattle.iv_depth.specs.Walks.{on, AreAhead, depth_by}
+use Rattle.iv_depth.specs.Inside.Walks.{on, AreAhead, depth_by}
 use Rattle.iv_cover.proofs.RunsLemmas.{runs-none}
 use Rattle.iv_cover.proofs.DepthLemmas.{depth-cons}
 use Rattle.iv_depth.proofs.Sequences.{AreAhead-begin}
@@ -28,18 +29,18 @@ use Rattle.iv_depth.proofs.Counts.{breaks-few, entries-few}
 -- ---- the depth is the same whatever the order of the records
 
 -- the changes of records are those of others of the same depth
-AreChangesOf-same : (xs ys : List Row) (entries : Entries) → ((rank p : ℕ) → depth ys rank p ≡ depth xs rank p) → AreChangesOf xs entries → AreChangesOf ys entries
+AreChangesOf-same : (xs ys : List RecordValue) (entries : Entries) → ((rank p : ℕ) → depth ys rank p ≡ depth xs rank p) → AreChangesOf xs entries → AreChangesOf ys entries
 AreChangesOf-same xs ys entries same h = record {
   ordered = h.ordered;
   changes = h.changes;
   depths = λ rank p. h.depths rank p ∙ ap pos (sym (same rank p));
 }
 
-depth-with : (rows : List Row) (r : Row) (rank p : ℕ) → depth (added rows r) rank p ≡ depth (r ∷ rows) rank p
+depth-with : (rows : List RecordValue) (r : RecordValue) (rank p : ℕ) → depth (added rows r) rank p ≡ depth (r ∷ rows) rank p
 depth-with [] r rank p = refl
-depth-with (q ∷ rows) r rank p = go (is_le (row_cmp r q)) refl (depth-with rows r rank p)
+depth-with (q ∷ rows) r rank p = go (is_le (record_cmp r q)) refl (depth-with rows r rank p)
   where
-    go : (b : Bool) → is_le (row_cmp r q) ≡ b → depth (added rows r) rank p ≡ depth (r ∷ rows) rank p → depth (added (q ∷ rows) r) rank p ≡ depth (r ∷ q ∷ rows) rank p
+    go : (b : Bool) → is_le (record_cmp r q) ≡ b → depth (added rows r) rank p ≡ depth (r ∷ rows) rank p → depth (added (q ∷ rows) r) rank p ≡ depth (r ∷ q ∷ rows) rank p
     go true is rest = rw is refl
     go false is rest =
         let kept : depth (q ∷ added rows r) rank p ≡ depth (r ∷ q ∷ rows) rank p = omega (
@@ -53,20 +54,20 @@ depth-with (q ∷ rows) r rank p = go (is_le (row_cmp r q)) refl (depth-with row
         rw is kept
 
 -- a record in its place, or in front
-pub AreChangesOf-placed : (rows : List Row) (r : Row) (entries : Entries) → AreChangesOf (r ∷ rows) entries → AreChangesOf (added rows r) entries
+pub AreChangesOf-placed : (rows : List RecordValue) (r : RecordValue) (entries : Entries) → AreChangesOf (r ∷ rows) entries → AreChangesOf (added rows r) entries
 AreChangesOf-placed rows r entries h = AreChangesOf-same (r ∷ rows) (added rows r) entries (depth-with rows r) h
 
-pub AreChangesOf-in_front : (rows : List Row) (r : Row) (entries : Entries) → AreChangesOf (added rows r) entries → AreChangesOf (r ∷ rows) entries
+pub AreChangesOf-in_front : (rows : List RecordValue) (r : RecordValue) (entries : Entries) → AreChangesOf (added rows r) entries → AreChangesOf (r ∷ rows) entries
 AreChangesOf-in_front rows r entries h = AreChangesOf-same (added rows r) (r ∷ rows) entries (λ rank p. sym (depth-with rows r rank p)) h
 
 -- ---- the depth of records on a genome
 
 -- past the stops there is no depth
-depth-past : (rows : List Row) (rank to p : ℕ) → All (λ r. r.seq ≡ rank → r.stop ≤ to) rows → to ≤ p → depth rows rank p ≡ 0
+depth-past : (rows : List RecordValue) (rank to p : ℕ) → All (λ r. r.seq ≡ rank → r.stop ≤ to) rows → to ≤ p → depth rows rank p ≡ 0
 depth-past [] rank to p fit past = refl
 depth-past (r ∷ rows) rank to p fit past =
-    let rest : depth rows rank p ≡ 0 = depth-past rows rank to p (All-tail (λ (r : Row). r.seq ≡ rank → r.stop ≤ to) r rows fit) past in
-    let first : r.seq ≡ rank → r.stop ≤ to = All-head (λ (r : Row). r.seq ≡ rank → r.stop ≤ to) r rows fit in
+    let rest : depth rows rank p ≡ 0 = depth-past rows rank to p (All-tail (λ (r : RecordValue). r.seq ≡ rank → r.stop ≤ to) r rows fit) past in
+    let first : r.seq ≡ rank → r.stop ≤ to = All-head (λ (r : RecordValue). r.seq ≡ rank → r.stop ≤ to) r rows fit in
     let cases = eqb_tells r.seq rank in
     let none : cond {A = ℕ} (covers rank p r) 1 0 ≡ 0 = elim cases [
       | inl here ↦ let stops : r.stop ≤ to = first here.1 in
@@ -79,7 +80,7 @@ depth-past (r ∷ rows) rank to p fit past =
     cond-and_false true = refl
     cond-and_false false = refl
 
-pub depth-ends : (g : Sequences) (rows : List Row) → All (IsOnGenome g) rows → (rank p : ℕ) → sequence_length g rank ≤ p → depth rows rank p ≡ 0
+pub depth-ends : (g : Sequences) (rows : List RecordValue) → All (IsOnGenome g) rows → (rank p : ℕ) → sequence_length g rank ≤ p → depth rows rank p ≡ 0
 depth-ends g rows on_genome rank p past = depth-past rows rank (sequence_length g rank) p
     (λ k d within is. subst (λ (s : ℕ). (get_or rows k d).stop ≤ sequence_length g s) is (on_genome k d within).within.1) past
 
@@ -87,7 +88,7 @@ any-rank : (entries : Entries) → AllByRecursion (λ e. 0 ≤ e.0.0) entries
 any-rank [] = tt
 any-rank (e ∷ entries) = (omega arith, any-rank entries)
 
-module _ (g : Sequences) (width : ℕ) (rows : List Row) (entries : Entries) (fit : All (Fits g width) rows) (h : AreChangesOf rows entries) where
+module _ (g : Sequences) (width : ℕ) (rows : List RecordValue) (entries : Entries) (fit : All (Fits g width) rows) (h : AreChangesOf rows entries) where
   depth-by : (rank p : ℕ) → depth_by entries rank p ≡ depth rows rank p
   depth-by rank p = ap nat_abs (h.depths rank p)
 
@@ -122,17 +123,17 @@ module _ (g : Sequences) (width : ℕ) (rows : List Row) (entries : Entries) (fi
 
 -- ---- before an edit
 
-pub AreChanges-without : (rows others : List Row) (r : Row) (entries : Entries) → rows ≡ added others r → length rows < 2 ^ 32
+pub AreChanges-without : (rows others : List RecordValue) (r : RecordValue) (entries : Entries) → rows ≡ added others r → length rows < 2 ^ 32
     → AreChangesOf others entries → AreChanges entries
 AreChanges-without rows others r entries is few h = record {
   rows = others;
   right = h;
-  few = omega (arith, few, ap (λ (l : List Row). length l) is, length-added row_cmp others r);
+  few = omega (arith, few, ap (λ (l : List RecordValue). length l) is, length-added record_cmp others r);
 }
 
-pub AreChanges-with : (rows : List Row) (r : Row) (entries : Entries) → length rows + 1 < 2 ^ 32 → AreChangesOf (added rows r) entries → AreChanges entries
+pub AreChanges-with : (rows : List RecordValue) (r : RecordValue) (entries : Entries) → length rows + 1 < 2 ^ 32 → AreChangesOf (added rows r) entries → AreChanges entries
 AreChanges-with rows r entries few h = record {
   rows = added rows r;
   right = h;
-  few = omega (arith, few, length-added row_cmp rows r);
+  few = omega (arith, few, length-added record_cmp rows r);
 }

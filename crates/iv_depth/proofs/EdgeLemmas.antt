@@ -9,7 +9,7 @@ use Rattle.std.specs.Ordering.{is_le}
 use Rattle.iv_text.specs.Genome.{Sequences, sequence_length}
 use Rattle.iv_text.specs.Ordered.{AreInOrder}
 use Rattle.iv_text.specs.Read.{IsOnGenome}
-use Rattle.iv_text.specs.Row.{Row, row_cmp}
+use Rattle.iv_text.specs.RecordValue.{RecordValue, record_cmp}
 use Rattle.iv_cover.specs.Depth.{depth}
 use Rattle.iv_text.specs.Covering.{on}
 use Rattle.iv_cover.specs.TrackBlocks.{start_of, stop_of}
@@ -18,11 +18,11 @@ use Rattle.iv_text.proofs.InOrderLemmas.{all-recursion}
 use Rattle.iv_text.proofs.PrecedesLemmas.{Precedes, precedes-from}
 use Rattle.iv_text.proofs.ListLemmas.{Mem}
 use Rattle.iv_index.proofs.SequenceLemmas.{is_from, from-here}
-use Rattle.iv_index.specs.Spans.{row_of_span, span_rows}
+use Rattle.iv_index.specs.Inside.Spans.{row_of_span, span_rows}
 use Rattle.iv_index.specs.declared.span.Span.{Span}
 use Rattle.std.specs.Prelude.{ℤ, pos, ◌+ℤ◌}
-use Rattle.iv_depth.specs.DepthChanges.{IsChange}
-use Rattle.iv_depth.specs.Edges.{up_to, Rise, AreWithin, AreStopsOf, IsEdge, IsPassing, PassesEdge, IsAhead, starts_of, stops_of}
+use Rattle.iv_depth.specs.Inside.DepthChanges.{IsChange}
+use Rattle.iv_depth.specs.Inside.Edges.{up_to, Rise, AreWithin, AreStopsOf, IsEdge, IsPassing, PassesEdge, IsAhead, starts_of, stops_of}
 use Rattle.iv_depth.proofs.DepthLemmas.{depth-ends}
 use Rattle.iv_depth.proofs.OrderLemmas.{up_to-sum}
 
@@ -209,15 +209,15 @@ module _ (f : ℕ → ℕ) (from limit depth : ℕ) (starts stops : List ℕ) (a
 -- ---- the records of one sequence
 
 -- places start and stop where their records do
-starts-are : (places : List Span) (rows : List Row) → span_rows places ≡ rows → starts_of places ≡ map start_of rows
+starts-are : (places : List Span) (rows : List RecordValue) → span_rows places ≡ rows → starts_of places ≡ map start_of rows
 starts-are places rows same = sym (map-map start_of row_of_span places) ∙ ap (map start_of) same
 
-stops-are : (places : List Span) (rows : List Row) → span_rows places ≡ rows → stops_of places ≡ map stop_of rows
+stops-are : (places : List Span) (rows : List RecordValue) → span_rows places ≡ rows → stops_of places ≡ map stop_of rows
 stops-are places rows same = sym (map-map stop_of row_of_span places) ∙ ap (map stop_of) same
 
 module _ (g : Sequences) (rank : ℕ) where
   -- as many records cover p as start up to it, less those that stop up to it
-  edges-depth : (p : ℕ) (rows : List Row) → All (IsOnGenome g) rows
+  edges-depth : (p : ℕ) (rows : List RecordValue) → All (IsOnGenome g) rows
       → depth rows rank p + up_to p (map stop_of (on rank rows)) ≡ up_to p (map start_of (on rank rows))
   edges-depth p [] h = refl
   edges-depth p (r ∷ rows) h =
@@ -239,7 +239,7 @@ module _ (g : Sequences) (rank : ℕ) where
       go here some (inr begun) (inr past) rest =
           rw (depth-cons r rows rank p, here, le-leb r.start p begun, le-leb r.stop p past, le-ltb p r.stop past) (omega (arith, rest))
 
-  stops-within : (rows : List Row) → All (IsOnGenome g) rows → AreWithin (sequence_length g rank) (map stop_of (on rank rows))
+  stops-within : (rows : List RecordValue) → All (IsOnGenome g) rows → AreWithin (sequence_length g rank) (map stop_of (on rank rows))
   stops-within [] h = tt
   stops-within (r ∷ rows) h =
       let rest = stops-within rows (All-tail (IsOnGenome g) r rows h) in
@@ -251,31 +251,31 @@ module _ (g : Sequences) (rank : ℕ) where
       ]
 
   -- starts rise with the records
-  starts-rise : (from : ℕ) (rows : List Row) → AreInOrder rows → ((r : Row) → Mem r rows → r.seq ≡ rank → from ≤ r.start) → Rise from (map start_of (on rank rows))
+  starts-rise : (from : ℕ) (rows : List RecordValue) → AreInOrder rows → ((r : RecordValue) → Mem r rows → r.seq ≡ rank → from ≤ r.start) → Rise from (map start_of (on rank rows))
   starts-rise from [] order low = tt
   starts-rise from (r ∷ rows) order low = elim (cases_Bool (r.seq == rank)) [
     | inl here ↦
         let at : r.seq ≡ rank = eqb-true r.seq rank here in
-        rw here (low r (inl refl) at, starts-rise r.start rows order.1 (λ q m on_it. after q at on_it (precedes-from r q (all-recursion (λ y. is_le (row_cmp r y) ≡ true) rows order.0 q m))))
+        rw here (low r (inl refl) at, starts-rise r.start rows order.1 (λ q m on_it. after q at on_it (precedes-from r q (all-recursion (λ y. is_le (record_cmp r y) ≡ true) rows order.0 q m))))
     | inr off ↦ rw off (starts-rise from rows order.1 (λ q m on_it. low q (inr m) on_it))
   ]
     where
-      after : (q : Row) → r.seq ≡ rank → q.seq ≡ rank → Precedes r q → r.start ≤ q.start
+      after : (q : RecordValue) → r.seq ≡ rank → q.seq ≡ rank → Precedes r q → r.start ≤ q.start
       after q at on_it (inl lower) = absurd (omega (arith, at, on_it))
       after q at on_it (inr same) = same.1
 
-  module _ (rows left here : List Row) (places : List Span) (left_is : left ≡ filter (is_from rank) rows) (here_is : here ≡ on rank left)
+  module _ (rows left here : List RecordValue) (places : List Span) (left_is : left ≡ filter (is_from rank) rows) (here_is : here ≡ on rank left)
       (same : span_rows places ≡ here) where
     pub places-few : length places ≤ length rows
     places-few =
         omega (
           arith,
           length-map places row_of_span,
-          ap (λ (l : List Row). length l) same,
-          ap (λ (l : List Row). length l) here_is,
-          length-filter (λ (r : Row). r.seq == rank) left,
-          count_by-le-length (λ (r : Row). r.seq == rank) left,
-          ap (λ (l : List Row). length l) left_is,
+          ap (λ (l : List RecordValue). length l) same,
+          ap (λ (l : List RecordValue). length l) here_is,
+          length-filter (λ (r : RecordValue). r.seq == rank) left,
+          count_by-le-length (λ (r : RecordValue). r.seq == rank) left,
+          ap (λ (l : List RecordValue). length l) left_is,
           length-filter (is_from rank) rows,
           count_by-le-length (is_from rank) rows,
         )

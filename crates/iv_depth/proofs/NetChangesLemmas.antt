@@ -19,14 +19,14 @@ use Rattle.std.proofs.lemmas.List.Sums.{sum_by_push}
 use Rattle.std.proofs.lemmas.Map.{lookup-none}
 use Rattle.std.proofs.lemmas.Map.Entries.{lookup_head, lookup_tail, none_below_head, none_past_head}
 use Rattle.std.proofs.lemmas.Map.Keys.{IsDistinct-from_sorted, sorted_tail}
-use Rattle.iv_text.specs.Row.{Row, IsPlaced}
+use Rattle.iv_text.specs.RecordValue.{RecordValue, IsPlaced}
 use Rattle.iv_text.specs.Covering.{covers}
 use Rattle.iv_cover.specs.Depth.{depth}
 use Rattle.iv_track.proofs.NumberOrder.{pair_total, pair_exact}
 use Rattle.iv_track.specs.Entries.{IsLedger, value_at, pair_cmp}
-use Rattle.iv_depth.specs.Changes.{Place, Entries, total, reaches, AreChangesOf}
-use Rattle.iv_depth.specs.Edges.{Rise, BeginsElse, PassesEdge}
-use Rattle.iv_depth.specs.NetChanges.{key_of, place_of, reached, AreEdgesOf, Keys, RiseFrom, net, IsLeast, SkipsKeys, TakesChange, GivesChange}
+use Rattle.iv_depth.specs.Changes.{ChangeKey, Entries, total, reaches, AreChangesOf}
+use Rattle.iv_depth.specs.Inside.Edges.{Rise, BeginsElse, PassesEdge}
+use Rattle.iv_depth.specs.Inside.NetChanges.{key_of, place_of, reached, AreEdgesOf, Keys, RiseFrom, net, IsLeast, SkipsKeys, TakesChange, GivesChange}
 use Rattle.iv_depth.proofs.OrderLemmas.{rise-sorted}
 
 -- ---- keys
@@ -54,7 +54,7 @@ place-key rank p low =
 -- ---- the starts and stops of a list of records, one after another
 
 -- a record covers from its start up to its stop
-record-reaches : (r : Row) (rank p : ℕ) → r.start < r.stop
+record-reaches : (r : RecordValue) (rank p : ℕ) → r.start < r.stop
     → cond {A = ℕ} (covers rank p r) 1 0 + cond {A = ℕ} (reaches rank p (r.seq, r.stop)) 1 0 ≡ cond {A = ℕ} (reaches rank p (r.seq, r.start)) 1 0
 record-reaches r rank p h = go (eqb r.seq rank) (cases_lt p r.start) (cases_lt p r.stop)
   where
@@ -67,30 +67,30 @@ record-reaches r rank p h = go (eqb r.seq rank) (cases_lt p r.start) (cases_lt p
     go true (inr since) (inr past) = rw (le-leb r.start p since, le-leb r.stop p past, le-ltb p r.stop past) refl
 
 -- the keys are those of the records in front of the ones that are left
-pub record IsGathered (rows left : List Row) (starts stops : List ℕ) : Type 0 where
-  pub done : List Row
+pub record IsGathered (rows left : List RecordValue) (starts stops : List ℕ) : Type 0 where
+  pub done : List RecordValue
   pub all : rows ≡ done ++ left
   pub depths : (rank p : ℕ) → depth done rank p + reached rank p stops ≡ reached rank p starts
 
-pub gathered-begin : (rows left : List Row) (starts stops : List ℕ) → left ≡ rows → starts ≡ [] → stops ≡ [] → IsGathered rows left starts stops
+pub gathered-begin : (rows left : List RecordValue) (starts stops : List ℕ) → left ≡ rows → starts ≡ [] → stops ≡ [] → IsGathered rows left starts stops
 gathered-begin rows left starts stops all no_starts no_stops = record { done = []; all = sym all; depths = λ rank p. rw (no_starts, no_stops) refl }
 
-pub gathered-next : (rows left after : List Row) (r : Row) (starts stops more_starts more_stops : List ℕ) (start stop : ℕ) → IsPlaced r → left ≡ r ∷ after
+pub gathered-next : (rows left after : List RecordValue) (r : RecordValue) (starts stops more_starts more_stops : List ℕ) (start stop : ℕ) → IsPlaced r → left ≡ r ∷ after
     → start ≡ key_of r.seq r.start → stop ≡ key_of r.seq r.stop → more_starts ≡ starts ++ start ∷ [] → more_stops ≡ stops ++ stop ∷ []
     → IsGathered rows left starts stops → IsGathered rows after more_starts more_stops
 gathered-next rows left after r starts stops more_starts more_stops start stop placed is start_is stop_is starts_are stops_are g = record {
   done = g.done ++ r ∷ [];
-  all = g.all ∙ ap (λ (l : List Row). g.done ++ l) is ∙ sym (append_assoc g.done (r ∷ []) after);
+  all = g.all ∙ ap (λ (l : List RecordValue). g.done ++ l) is ∙ sym (append_assoc g.done (r ∷ []) after);
   depths = λ rank p.
       let one : ℕ → ℕ = λ key. cond {A = ℕ} (reaches rank p (place_of key)) 1 0 in
       let records : depth (g.done ++ r ∷ []) rank p ≡ depth g.done rank p + cond {A = ℕ} (covers rank p r) 1 0
       = sum_by_push (λ x. cond {A = ℕ} (covers rank p x) 1 0) g.done r in
       let begun : reached rank p more_starts ≡ reached rank p starts + cond {A = ℕ} (reaches rank p (r.seq, r.start)) 1 0
       = ap (λ (l : List ℕ). reached rank p l) starts_are ∙ sum_by_push one starts start
-      ∙ ap (λ (k : Place). reached rank p starts + cond {A = ℕ} (reaches rank p k) 1 0) (ap place_of start_is ∙ place-key r.seq r.start (omega (arith, placed.some, placed.stop))) in
+      ∙ ap (λ (k : ChangeKey). reached rank p starts + cond {A = ℕ} (reaches rank p k) 1 0) (ap place_of start_is ∙ place-key r.seq r.start (omega (arith, placed.some, placed.stop))) in
       let ended : reached rank p more_stops ≡ reached rank p stops + cond {A = ℕ} (reaches rank p (r.seq, r.stop)) 1 0
       = ap (λ (l : List ℕ). reached rank p l) stops_are ∙ sum_by_push one stops stop
-      ∙ ap (λ (k : Place). reached rank p stops + cond {A = ℕ} (reaches rank p k) 1 0) (ap place_of stop_is ∙ place-key r.seq r.stop placed.stop) in
+      ∙ ap (λ (k : ChangeKey). reached rank p stops + cond {A = ℕ} (reaches rank p k) 1 0) (ap place_of stop_is ∙ place-key r.seq r.stop placed.stop) in
       sum _ _ _ _ _ _ _ _ _ (g.depths rank p) records begun ended (record-reaches r rank p placed.some);
 }
   where
@@ -98,14 +98,14 @@ gathered-next rows left after r starts stops more_starts more_stops start stop p
     sum d s t d' s' t' c a b e f g h i = omega arith
 
 -- all of them, sorted
-pub gathered-all : (rows left : List Row) (some_starts some_stops starts stops : List ℕ) → left ≡ [] → IsGathered rows left some_starts some_stops
+pub gathered-all : (rows left : List RecordValue) (some_starts some_stops starts stops : List ℕ) → left ≡ [] → IsGathered rows left some_starts some_stops
     → IsPermutation some_starts starts → IsSorted nat_cmp starts → IsPermutation some_stops stops → IsSorted nat_cmp stops → AreEdgesOf rows starts stops
 gathered-all rows left some_starts some_stops starts stops none g starts_moved starts_sorted stops_moved stops_sorted = record {
   starts_rise = rise-sorted starts (IsNonDecreasingBy-from_sort (λ x. x) starts starts_sorted);
   stops_rise = rise-sorted stops (IsNonDecreasingBy-from_sort (λ x. x) stops stops_sorted);
   depths = λ rank p.
-      let all : rows ≡ g.done = g.all ∙ ap (λ (l : List Row). g.done ++ l) none ∙ append-nil g.done in
-      let records : depth rows rank p ≡ depth g.done rank p = ap (λ (l : List Row). depth l rank p) all in
+      let all : rows ≡ g.done = g.all ∙ ap (λ (l : List RecordValue). g.done ++ l) none ∙ append-nil g.done in
+      let records : depth rows rank p ≡ depth g.done rank p = ap (λ (l : List RecordValue). depth l rank p) all in
       let one : ℕ → ℕ = λ key. cond {A = ℕ} (reaches rank p (place_of key)) 1 0 in
       let begun : reached rank p starts ≡ reached rank p some_starts = sum_by-IsPermutation one some_starts starts starts_moved in
       let ended : reached rank p stops ≡ reached rank p some_stops = sum_by-IsPermutation one some_stops stops stops_moved in
@@ -150,7 +150,7 @@ module _ (from key begun ended : ℕ) (old : Keys) (starts stops starts_after st
       go true a b c d e f = omega (arith, ints, sum, e, f)
       go false a b c d e f = omega (arith, ints, e, f)
 
-  pub takes-change : (place : Place) (z : ℤ) → place ≡ place_of key → pos ended +ℤ z ≡ pos begun → begun ≢ ended
+  pub takes-change : (place : ChangeKey) (z : ℤ) → place ≡ place_of key → pos ended +ℤ z ≡ pos begun → begun ≢ ended
       → TakesChange from old place z (record { starts = starts_after; stops = stops_after })
   takes-change place z place_is sum other = record {
     key = key;
@@ -202,7 +202,7 @@ given-past : (keys : Keys) (from k : ℕ) (es : Entries) (last : Keys) → k < f
 given-past keys from k [] last low rise y = tt
 given-past keys from k (e ∷ es) last low rise y =
     let t : TakesChange from keys e.0 e.1 y.0 = y.1 from rise in (
-      subst (λ (p : Place). pair_cmp (place_of k) p ≡ Less) (sym t.is) (key-order k t.key (omega (arith, low, t.low))),
+      subst (λ (p : ChangeKey). pair_cmp (place_of k) p ≡ Less) (sym t.is) (key-order k t.key (omega (arith, low, t.low))),
       given-past y.0 (t.key + 1) k es last (omega (arith, low, t.low)) t.later y.2,
     )
 
@@ -211,7 +211,7 @@ unfolding IsStrictlySortedBy
 given-ledger keys from [] last rise y = tt
 given-ledger keys from (e ∷ es) last rise y =
     let t : TakesChange from keys e.0 e.1 y.0 = y.1 from rise in (
-      subst (λ (p : Place). AllByRecursion (λ q. pair_cmp p q ≡ Less) (keys_of es)) (sym t.is) (given-past y.0 (t.key + 1) t.key es last (omega arith) t.later y.2),
+      subst (λ (p : ChangeKey). AllByRecursion (λ q. pair_cmp p q ≡ Less) (keys_of es)) (sym t.is) (given-past y.0 (t.key + 1) t.key es last (omega arith) t.later y.2),
       given-ledger y.0 (t.key + 1) es last t.later y.2,
     )
 
@@ -221,7 +221,7 @@ given-others keys from (e ∷ es) last rise y =
     let t : TakesChange from keys e.0 e.1 y.0 = y.1 from rise in
     (t.other, given-others y.0 (t.key + 1) es last t.later y.2)
 
-module _ (passes : Place → Bool) where
+module _ (passes : ChangeKey → Bool) where
   abbrev at_key : ℕ → Bool
   at_key key = passes (place_of key)
 
@@ -232,27 +232,27 @@ module _ (passes : Place → Bool) where
       let t : TakesChange from keys e.0 e.1 y.0 = y.1 from rise in
       let rest : total passes es ≡ net at_key y.0 = given-sums y.0 (t.key + 1) es last t.later y.2 none in
       ap (λ (z : ℤ). (if passes e.0 then e.1 else pos 0) +ℤ z) rest
-      ∙ ap (λ (p : Place). (if passes p then e.1 else pos 0) +ℤ net at_key y.0) t.is
+      ∙ ap (λ (p : ChangeKey). (if passes p then e.1 else pos 0) +ℤ net at_key y.0) t.is
       ∙ sym (t.sums at_key)
 
 -- ledgers with the same values are one
-at-head : (e : Place × ℤ) (es : Entries) → value_at pair_cmp (e ∷ es) e.0 ≡ Some e.1
+at-head : (e : ChangeKey × ℤ) (es : Entries) → value_at pair_cmp (e ∷ es) e.0 ≡ Some e.1
 at-head e es = lookup_head (is_at (pair_cmp e.0)) e es (ap is_eq (tied_itself pair_total e.0))
 
-none-below : (k : Place) (e : Place × ℤ) (es : Entries) → IsLedger pair_cmp (e ∷ es) → pair_cmp k e.0 ≡ Less → value_at pair_cmp (e ∷ es) k ≡ None
+none-below : (k : ChangeKey) (e : ChangeKey × ℤ) (es : Entries) → IsLedger pair_cmp (e ∷ es) → pair_cmp k e.0 ≡ Less → value_at pair_cmp (e ∷ es) k ≡ None
 none-below k e es s less = lookup-none (is_at (pair_cmp k)) (e ∷ es) (none_below_head pair_total k e es s less)
 
-none-past : (k : Place) (e : Place × ℤ) (es : Entries) → IsLedger pair_cmp (e ∷ es) → is_at (pair_cmp k) e.0 ≡ true → value_at pair_cmp es k ≡ None
+none-past : (k : ChangeKey) (e : ChangeKey × ℤ) (es : Entries) → IsLedger pair_cmp (e ∷ es) → is_at (pair_cmp k) e.0 ≡ true → value_at pair_cmp es k ≡ None
 none-past k e es s tie = lookup-none (is_at (pair_cmp k)) es (none_past_head (eq_by_cmp_equiv pair_total) k e es (IsDistinct-from_sorted pair_cmp (keys_of (e ∷ es)) s) tie)
 
-one-ledger : (es fs : Entries) → IsLedger pair_cmp es → IsLedger pair_cmp fs → ((k : Place) → value_at pair_cmp es k ≡ value_at pair_cmp fs k) → es ≡ fs
+one-ledger : (es fs : Entries) → IsLedger pair_cmp es → IsLedger pair_cmp fs → ((k : ChangeKey) → value_at pair_cmp es k ≡ value_at pair_cmp fs k) → es ≡ fs
 one-ledger [] [] s t same = refl
 one-ledger [] (f ∷ fs) s t same = let none : None ≡ Some f.1 = same f.0 ∙ at-head f fs in cc
 one-ledger (e ∷ es) [] s t same = let none : Some e.1 ≡ None = sym (at-head e es) ∙ same e.0 in cc
 one-ledger (e ∷ es) (f ∷ fs) s t same =
     go (λ tails. one-ledger es fs (sorted_tail pair_cmp e.0 (keys_of es) s) (sorted_tail pair_cmp f.0 (keys_of fs) t) tails) (pair_cmp e.0 f.0) refl
   where
-    go : (((k : Place) → value_at pair_cmp es k ≡ value_at pair_cmp fs k) → es ≡ fs) → (o : Ordering) → pair_cmp e.0 f.0 ≡ o → e ∷ es ≡ f ∷ fs
+    go : (((k : ChangeKey) → value_at pair_cmp es k ≡ value_at pair_cmp fs k) → es ≡ fs) → (o : Ordering) → pair_cmp e.0 f.0 ≡ o → e ∷ es ≡ f ∷ fs
     go further Less is = let none : Some e.1 ≡ None = sym (at-head e es) ∙ same e.0 ∙ none-below e.0 f fs t is in cc
     go further Greater is =
         let less : pair_cmp f.0 e.0 ≡ Less = pair_total.antisymm f.0 e.0 ∙ ap ordering_reverse is in
@@ -265,18 +265,18 @@ one-ledger (e ∷ es) (f ∷ fs) s t same =
         let rest : es ≡ fs = further (λ k. tail k keys (cases_Bool (is_at (pair_cmp k) e.0))) in
         λ i. (keys i, values i) ∷ rest i
       where
-        tail : (k : Place) → e.0 ≡ f.0 → (is_at (pair_cmp k) e.0 ≡ true) ⊎ (is_at (pair_cmp k) e.0 ≡ false) → value_at pair_cmp es k ≡ value_at pair_cmp fs k
+        tail : (k : ChangeKey) → e.0 ≡ f.0 → (is_at (pair_cmp k) e.0 ≡ true) ⊎ (is_at (pair_cmp k) e.0 ≡ false) → value_at pair_cmp es k ≡ value_at pair_cmp fs k
         tail k keys (inl tie) = none-past k e es s tie ∙ sym (none-past k f fs t (ap (is_at (pair_cmp k)) (sym keys) ∙ tie))
         tail k keys (inr apart) =
             sym (lookup_tail (is_at (pair_cmp k)) e es apart) ∙ same k ∙ lookup_tail (is_at (pair_cmp k)) f fs (ap (is_at (pair_cmp k)) (sym keys) ∙ apart)
 
-pub edges-rise : (rows : List Row) (starts stops : List ℕ) → AreEdgesOf rows starts stops → RiseFrom 0 (record { starts = starts; stops = stops })
+pub edges-rise : (rows : List RecordValue) (starts stops : List ℕ) → AreEdgesOf rows starts stops → RiseFrom 0 (record { starts = starts; stops = stops })
 edges-rise rows starts stops h = record { starts = h.starts_rise; stops = h.stops_rise }
 
 -- the changes that the edges of records give are those of the records
-pub edges-changes : (rows : List Row) (starts stops : List ℕ) (es entries : Entries) → AreEdgesOf rows starts stops
+pub edges-changes : (rows : List RecordValue) (starts stops : List ℕ) (es entries : Entries) → AreEdgesOf rows starts stops
     → Drains GivesChange (record { starts = starts; stops = stops }) es → IsLedger pair_cmp entries
-    → ((k : Place) → value_at pair_cmp entries k ≡ value_at pair_cmp es k) → AreChangesOf rows entries
+    → ((k : ChangeKey) → value_at pair_cmp entries k ≡ value_at pair_cmp es k) → AreChangesOf rows entries
 edges-changes rows starts stops es entries h run ordered same =
     let keys : Keys = record { starts = starts; stops = stops } in
     let rise : RiseFrom 0 keys = edges-rise rows starts stops h in

@@ -8,7 +8,7 @@ use Rattle.std.specs.Prelude.{sum_by, nat_le, if◌then◌else◌}
 use Rattle.std.proofs.lemmas.List.{take_all, length-map}
 use Rattle.std.proofs.lemmas.List.Elements.{All-head, All-tail}
 use Rattle.iv_index.specs.declared.span.Span.{Span}
-use Rattle.iv_depth.specs.Edges.{Rise, AreWithin, AreStopsOf, up_to, stops_of}
+use Rattle.iv_depth.specs.Inside.Edges.{Rise, AreWithin, AreStopsOf, up_to, stops_of}
 
 pub up_to-sum : (p : ℕ) (ns : List ℕ) → up_to p ns ≡ sum_by (λ n. if nat_le n p then 1 else 0) ns
 up_to-sum p [] = refl

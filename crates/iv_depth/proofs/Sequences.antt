@@ -10,9 +10,9 @@ use Rattle.std.specs.Map.{keys_of, values_of}
 use Rattle.std.proofs.lemmas.Cmp.{ranked}
 use Rattle.iv_text.specs.Genome.{Sequences, sequence_length}
 use Rattle.iv_track.specs.Entries.{IsLedger, pair_cmp}
-use Rattle.iv_depth.specs.Changes.{Place, Entries, total, reaches}
-use Rattle.iv_depth.specs.DepthChanges.{IsChange}
-use Rattle.iv_depth.specs.Walks.{on, Follows, AreAhead}
+use Rattle.iv_depth.specs.Changes.{ChangeKey, Entries, total, reaches}
+use Rattle.iv_depth.specs.Inside.DepthChanges.{IsChange}
+use Rattle.iv_depth.specs.Inside.Walks.{on, Follows, AreAhead}
 use Rattle.iv_depth.proofs.Breaks.{AreBreaks-on, Follows-on, Follows-end, Step-at}
 
 -- entries of higher ranks are not on this sequence
@@ -26,12 +26,12 @@ on-here : (rank p : ℕ) (z : ℤ) (entries : Entries) → on rank (((rank, p), 
 on-here rank p z entries = rw (eq-eqb rank rank refl) refl
 
 -- entries in order are of no lower rank than the first
-ranks-rise : (e : Place × ℤ) (rest : Entries) (rank : ℕ) → rank ≤ e.0.0
+ranks-rise : (e : ChangeKey × ℤ) (rest : Entries) (rank : ℕ) → rank ≤ e.0.0
     → IsLedger pair_cmp (e ∷ rest) → AllByRecursion (λ x. rank ≤ x.0.0) (e ∷ rest)
 unfolding IsStrictlySortedBy
 ranks-rise e rest rank low sorted = (low, later rest sorted.0)
   where
-    rise : (j k : Place) → pair_cmp j k ≡ Less → j.0 ≤ k.0
+    rise : (j k : ChangeKey) → pair_cmp j k ≡ Less → j.0 ≤ k.0
     rise j k less = go (nat_cmp j.0 k.0) refl
       where
         go : (o : Ordering) → nat_cmp j.0 k.0 ≡ o → j.0 ≤ k.0

@@ -1,18 +1,17 @@
 -- Net changes of depth, by place. This is what is kept, as seen by proofs; the rows are defined without it.
-use Rattle.std.specs.Prelude.{◌≡◌, ◌≢◌, ℕ, ◌<◌, ◌^◌, ◌==◌, ◌&&◌, if◌then◌else◌, nat_le, Bool, List, [], ◌∷◌, length, ℤ, pos, ◌+ℤ◌, All}
+use Rattle.std.specs.Prelude.{◌≡◌, ◌≢◌, ℕ, ◌==◌, ◌&&◌, nat_le, Bool, List, [], ◌∷◌, ℤ, pos, ◌+ℤ◌, All}
 use Rattle.std.specs.Map.{values_of}
-use Rattle.iv_text.specs.Row.{Row}
+use Rattle.iv_text.specs.RecordValue.{RecordValue}
 use Rattle.iv_track.specs.Entries.{IsLedger, pair_cmp}
-use Rattle.iv_text.specs.Covering.{covers}
 use Rattle.iv_cover.specs.Depth.{depth}
 
 -- a place: the rank of a sequence and a position on it, from 0
-abbrev pub Place : Type 0
-Place = ℕ × ℕ
+abbrev pub ChangeKey : Type 0
+ChangeKey = ℕ × ℕ
 
 -- places with a net change of depth at each
 abbrev pub Entries : Type 0
-Entries = List (Place × ℤ)
+Entries = List (ChangeKey × ℤ)
 
 -- the sum of the changes at the places that pass
 abbrev pub total : {K : Type 0} → (K → Bool) → List (K × ℤ) → ℤ
@@ -20,30 +19,11 @@ total passes [] = pos 0
 total passes (e ∷ entries) = (if passes e.0 then e.1 else pos 0) +ℤ total passes entries
 
 -- the place is on the sequence of this rank, at p or before
-abbrev pub reaches : ℕ → ℕ → Place → Bool
+abbrev pub reaches : ℕ → ℕ → ChangeKey → Bool
 reaches rank p place = (place.0 == rank) && nat_le place.1 p
 
 -- these are the net changes of the records' depth: places ascend, no change is 0, and up to each position they sum to its depth
-pub record AreChangesOf (rows : List Row) (entries : Entries) : Type 0 where
+pub record AreChangesOf (rows : List RecordValue) (entries : Entries) : Type 0 where
   pub ordered : IsLedger pair_cmp entries
   pub changes : All (λ z. z ≢ pos 0) (values_of entries)
   pub depths : (rank p : ℕ) → total (reaches rank p) entries ≡ pos (depth rows rank p)
-
--- these are the net changes of the depth of some records, which are few
-pub record AreChanges (entries : Entries) : Type 0 where
-  pub rows : List Row
-  pub right : AreChangesOf rows entries
-  pub few : length rows < 2 ^ 32
-
--- the new entries have this change more at the place, and as before places ascend and no change is 0
-pub record Bumps (old new : Entries) (place : Place) (by : ℤ) : Type 0 where
-  pub ordered : IsLedger pair_cmp new
-  pub changes : All (λ z. z ≢ pos 0) (values_of old) → All (λ z. z ≢ pos 0) (values_of new)
-  pub sums : (passes : Place → Bool) → total passes new ≡ total passes old +ℤ (if passes place then by else pos 0)
-
--- the new entries change the depth by this number at each position that the record covers, and as before places ascend and no
--- change is 0
-pub record Shifts (r : Row) (by : ℤ) (old new : Entries) : Type 0 where
-  pub ordered : IsLedger pair_cmp new
-  pub changes : All (λ z. z ≢ pos 0) (values_of old) → All (λ z. z ≢ pos 0) (values_of new)
-  pub sums : (rank p : ℕ) → total (reaches rank p) new ≡ total (reaches rank p) old +ℤ (if covers rank p r then by else pos 0)

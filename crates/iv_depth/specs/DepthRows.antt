@@ -2,7 +2,7 @@
 use Rattle.std.specs.Prelude.{ℕ, ◌+◌, ◌-◌, ◌++◌, nat_lt, filter, List, codes, decimal}
 use Rattle.std.specs.List.{flat_map, range_with_len}
 use Rattle.iv_text.specs.Genome.{Sequences, seq_count, sequence_name, sequence_length}
-use Rattle.iv_text.specs.Row.{Row}
+use Rattle.iv_text.specs.RecordValue.{RecordValue}
 use Rattle.iv_cover.specs.Depth.{depth}
 use Rattle.iv_cover.specs.Runs.{Run, runs}
 use Rattle.iv_depth.specs.declared.depth_rows.DepthRows.{DepthRows}
@@ -36,9 +36,9 @@ abbrev pub text_by : DepthRows → Sequences → (ℕ → ℕ → ℕ) → List 
 text_by shown g f = flat_map (sequence_text shown g f) (range_with_len 0 (seq_count g))
 
 -- the rows of the records' depth
-abbrev pub depth_text : DepthRows → Sequences → List Row → List ℕ
+abbrev pub depth_text : DepthRows → Sequences → List RecordValue → List ℕ
 depth_text shown g rows = text_by shown g (depth rows)
 
 -- the maximal runs of a depth above 0 on all sequences
-abbrev pub all_covered_runs : Sequences → List Row → List Run
+abbrev pub all_covered_runs : Sequences → List RecordValue → List Run
 all_covered_runs g rows = flat_map (λ rank. covered_runs (depth rows rank) 0 (sequence_length g rank)) (range_with_len 0 (seq_count g))

@@ -1,6 +1,3 @@
 pub mod DepthRows
 pub mod Changes
-pub mod DepthChanges
-pub mod Walks
-pub mod Edges
-pub mod NetChanges
+pub mod Inside

@@ -2,8 +2,9 @@
 ghost use Rattle.std.specs.Prelude.{◌≡◌, ◌<◌, ℕ, OnSome};
 ghost use Rattle.std.specs.Map.Iter.{TakesFirst};
 ghost use Rattle.iv_text.specs.Genome.{Sequences};
-ghost use Rattle.iv_track.specs.Steps.{TakesForEach, TakesUpTo};
-ghost use Rattle.iv_depth.specs.DepthChanges.{Gives};
+ghost use Rattle.iv_track.specs.Steps.{TakesUpTo};
+ghost use Rattle.iv_track.specs.Inside.Steps.{TakesForEach};
+ghost use Rattle.iv_depth.specs.Inside.DepthChanges.{Gives};
 
 use crate::changes::Changes;
 use iv_track::{Meter, Walk};
@@ -50,7 +51,7 @@ pub(crate) struct ChangeCursor<'a, A: Allocator + Copy> {
 impl<'a, A: Allocator + Copy> Model for ChangeCursor<'a, A> {
     ghost use Rattle.std.specs.Prelude.{◌≡◌, [], None};
     ghost use Rattle.iv_depth.specs.Changes.{Entries};
-    ghost use Rattle.iv_depth.specs.Walks.{ahead_of};
+    ghost use Rattle.iv_depth.specs.Inside.Walks.{ahead_of};
 
     ghost Value = { Entries };
 
@@ -73,7 +74,7 @@ impl<'a, A: Allocator + Copy> ChangeCursor<'a, A> {
 
 impl<'a, A: Allocator + Copy> DepthChanges for ChangeCursor<'a, A> {
     ghost use Rattle.std.specs.Prelude.{length};
-    ghost use Rattle.iv_depth.specs.Walks.{AreAhead};
+    ghost use Rattle.iv_depth.specs.Inside.Walks.{AreAhead};
 
     type Meter = Meter;
 

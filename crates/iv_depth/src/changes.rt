@@ -1,9 +1,10 @@
 //! Changes of depth, and their edits.
 ghost use Rattle.std.specs.Prelude.{◌≡◌, ◌≢◌, ℤ, pos, negsuc, ◌≤ℤ◌, ◌^◌, List, ◌∷◌, Some, OnOk};
-ghost use Rattle.iv_text.specs.Row.{Row};
+ghost use Rattle.iv_text.specs.RecordValue.{RecordValue};
 ghost use Rattle.iv_track.specs.Entries.{pair_cmp, value_at};
 ghost use Rattle.iv_track.specs.Steps.{TakesUpTo};
-ghost use Rattle.iv_depth.specs.Changes.{AreChanges, AreChangesOf, Bumps, Shifts};
+ghost use Rattle.iv_depth.specs.Changes.{AreChangesOf};
+ghost use Rattle.iv_depth.specs.Inside.Changes.{AreChanges, Bumps, Shifts};
 
 use iv_text::RecordRef;
 use iv_track::{Ledger, Meter};
@@ -21,7 +22,7 @@ pub(crate) fn add_record<A: Allocator + Copy>(
     meter: &mut Meter,
 ) -> Result<(), AllocError>
     requires { AreChanges changes.old }
-    ensures ok { OnOk result ((rows : List Row) → AreChangesOf rows changes.old → AreChangesOf (row.now ∷ rows) changes.new) }
+    ensures ok { OnOk result ((rows : List RecordValue) → AreChangesOf rows changes.old → AreChangesOf (row.now ∷ rows) changes.new) }
     ensures steps { TakesUpTo meter.old meter.new 4 }
 {
     shift(changes, row, 1, meter)
@@ -36,7 +37,7 @@ pub(crate) fn take_record<A: Allocator + Copy>(
     meter: &mut Meter,
 ) -> Result<(), AllocError>
     requires { AreChanges changes.old }
-    ensures ok { OnOk result ((rows : List Row) → AreChangesOf (row.now ∷ rows) changes.old → AreChangesOf rows changes.new) }
+    ensures ok { OnOk result ((rows : List RecordValue) → AreChangesOf (row.now ∷ rows) changes.old → AreChangesOf rows changes.new) }
     ensures steps { TakesUpTo meter.old meter.new 4 }
 {
     shift(changes, row, -1, meter)
@@ -54,7 +55,7 @@ fn shift<A: Allocator + Copy>(
     ensures ok { OnOk result (Shifts row.now by changes.old changes.new) }
     ensures steps { TakesUpTo meter.old meter.new 4 }
 {
-    row.law_of_place();
+    row.lemma_of_interval();
     bump(changes, (row.seq(), row.start() as u32), by, meter)?;
     bump(changes, (row.seq(), row.stop() as u32), -by, meter)
 }

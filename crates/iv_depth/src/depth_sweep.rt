@@ -3,9 +3,9 @@ ghost use Rattle.std.specs.Prelude.{◌≡◌, ◌≤◌, All, IfOk, length};
 ghost use Rattle.iv_bytes.specs.Sinks.{Puts};
 ghost use Rattle.iv_text.specs.Ordered.{AreInOrder};
 ghost use Rattle.iv_text.specs.Read.{IsOnGenome};
-ghost use Rattle.iv_index.specs.Spans.{span_rows};
+ghost use Rattle.iv_index.specs.Inside.Spans.{span_rows};
 ghost use Rattle.iv_depth.specs.DepthRows.{depth_text};
-ghost use Rattle.iv_depth.specs.Edges.{AreStopsOf};
+ghost use Rattle.iv_depth.specs.Inside.Edges.{AreStopsOf};
 
 use crate::depth_rows::{DepthRows, put_sequence};
 use crate::edges::Edges;
@@ -25,10 +25,10 @@ pub struct DepthSweep<'s, A: Allocator = Global> {
 
 impl<'s, A: Allocator> Model for DepthSweep<'s, A> {
     ghost use Rattle.std.specs.Prelude.{List, ◌≡◌, length};
-    ghost use Rattle.iv_text.specs.Row.{Row};
-    ghost use Rattle.iv_index.specs.Spans.{span_rows};
+    ghost use Rattle.iv_text.specs.RecordValue.{RecordValue};
+    ghost use Rattle.iv_index.specs.Inside.Spans.{span_rows};
 
-    ghost Value = { List Row };
+    ghost Value = { List RecordValue };
 
     ghost view = { λ s. span_rows s.spans.now };
 

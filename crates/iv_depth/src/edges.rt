@@ -1,6 +1,6 @@
 //! The positions where records start or stop, from the least on.
 ghost use Rattle.std.specs.Prelude.{◌≡◌, ◌+◌, ℕ, [], MatchOption, length, map};
-ghost use Rattle.iv_depth.specs.Edges.{BeginsElse, IsEdge, PassesEdge, Rise, starts_of};
+ghost use Rattle.iv_depth.specs.Inside.Edges.{BeginsElse, IsEdge, PassesEdge, Rise, starts_of};
 
 use crate::change_cursor::DepthChanges;
 use iv_index::Span;
@@ -15,7 +15,7 @@ pub(crate) struct Edges<'a> {
 impl<'a> DepthChanges for Edges<'a> {
     ghost use Rattle.std.specs.Prelude.{◌+◌, length};
     ghost use Rattle.iv_text.specs.Genome.{sequence_length};
-    ghost use Rattle.iv_depth.specs.Edges.{IsAhead, starts_of};
+    ghost use Rattle.iv_depth.specs.Inside.Edges.{IsAhead, starts_of};
 
     type Meter = ();
 

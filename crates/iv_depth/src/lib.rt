@@ -7,10 +7,10 @@ mod depth;
 mod depth_rows;
 mod depth_sweep;
 mod edges;
-mod laws;
+mod lemmas;
 mod net_changes;
 
 pub use depth::Depth;
 pub use depth_rows::DepthRows;
 pub use depth_sweep::DepthSweep;
-pub use laws::{covered_rows_hold_covered_positions, depth_rows_tile_a_sequence};
+pub use lemmas::{covered_rows_hold_covered_positions, depth_rows_tile_a_sequence};

@@ -1,7 +1,7 @@
 //! Net changes of depth, from where the records of a track start and stop.
 ghost use Rattle.std.specs.Prelude.{◌≡◌, [], IfOk, MatchOption};
 ghost use Rattle.std.specs.Iterator.{at_most};
-ghost use Rattle.iv_depth.specs.NetChanges.{AreEdgesOf, GivesChange, IsLeast, key_of, place_of};
+ghost use Rattle.iv_depth.specs.Inside.NetChanges.{AreEdgesOf, GivesChange, IsLeast, key_of, place_of};
 
 use crate::edges::pass;
 use iv_index::order_neighbors;
@@ -28,7 +28,7 @@ pub(crate) fn edges_of<A: Allocator + Copy>(
     let mut rows = track.walk(0, 0, meter);
     while let Some(row) = rows.next(meter) {
         let row = row.as_ref();
-        row.law_of_place();
+        row.lemma_of_interval();
         starts.push(packed(row.seq(), row.start() as u32))?;
         stops.push(packed(row.seq(), row.stop() as u32))?;
     }
@@ -62,7 +62,7 @@ pub(crate) struct NetChanges<'a> {
 }
 
 impl<'a> Model for NetChanges<'a> {
-    ghost use Rattle.iv_depth.specs.NetChanges.{Keys};
+    ghost use Rattle.iv_depth.specs.Inside.NetChanges.{Keys};
 
     ghost Value = { Keys };
 

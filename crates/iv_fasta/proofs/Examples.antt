@@ -3,7 +3,7 @@ use Rattle.std.proofs.Common.{◌≡◌, ℕ, List, [], ◌∷◌, true, false, 
 use Rattle.std.specs.Fmt.{digits}
 use Rattle.std.specs.Prelude.{codes}
 use Rattle.iv_text.specs.Genome.{Sequences}
-use Rattle.iv_text.specs.Row.{Row}
+use Rattle.iv_text.specs.RecordValue.{RecordValue}
 use Rattle.iv_text.specs.declared.fault.LoadCause.TheVariants as cause
 use Rattle.iv_text.specs.declared.record_ref.Strand.{Strand}
 use Rattle.iv_text.specs.declared.record_ref.Strand.TheVariants.{Plus, Minus, Dot}
@@ -48,11 +48,11 @@ repeated = refl
 abbrev fasta : Bases
 fasta = Some (codes "ACGTNacgtR") ∷ None ∷ []
 
-abbrev on : Strand → ℕ → ℕ → ℕ → Row
+abbrev on : Strand → ℕ → ℕ → ℕ → RecordValue
 on strand seq start stop = record { seq = seq; start = start; stop = stop; name = codes "n"; score = codes "0"; strand = Some strand; width = 6 }
 
 -- the FASTA file lacks the sequence of the last one
-abbrev rows : List Row
+abbrev rows : List RecordValue
 rows = on Minus 0 2 6 ∷ on Dot 0 2 6 ∷ on Minus 0 9 10 ∷ on Plus 1 0 5 ∷ []
 
 pub plain-rows : fasta_text (record { stranded = false; tab = false }) g fasta rows ≡ codes ">s:2-6\nGTNa\n>s:2-6\nGTNa\n>s:9-10\nR\n"

@@ -12,7 +12,7 @@ use Rattle.iv_text.specs.declared.fault.LoadCause.TheVariants as cause
 use Rattle.iv_text.specs.declared.fault.LoadFault.{LoadFault}
 use Rattle.iv_text.proofs.FileLawLemmas.{IsRun, run-value, run-fault}
 use Rattle.iv_fasta.specs.Fasta.{Found, Stretch, Bases, header_name, is_no_base, has_wrong_length, by_rank, with_bases, with_lengths, after_fasta_line, after_fasta_lines, fasta_of}
-use Rattle.iv_fasta.specs.FastaLaws.{is_header, before_header, sequences_from, sequences_said, line_cause, HaveRightLengths, IsFirstWrongLength}
+use Rattle.iv_fasta.specs.Inside.FastaLaws.{is_header, before_header, sequences_from, sequences_said, line_cause, HaveRightLengths, IsFirstWrongLength}
 
 -- ---- the lines before the next header
 

@@ -13,7 +13,7 @@ use Rattle.iv_text.specs.Read.{length_of}
 use Rattle.iv_text.specs.declared.fault.LoadCause.TheVariants as cause
 use Rattle.iv_text.specs.declared.fault.LoadFault.{LoadFault}
 use Rattle.iv_fasta.specs.Fasta.{Stretch, Found, Bases, differs, has_wrong_length, by_rank, with_lengths, bases_of, HasLengthsOf}
-use Rattle.iv_fasta.specs.Places.{bases_at}
+use Rattle.iv_fasta.specs.Inside.BaseRanges.{bases_at}
 use Rattle.iv_fasta.specs.declared.fasta_draft.BaseRange.{BaseRange}
 
 differs-named : (g : Sequences) (name : List ℕ) (count r n : ℕ) → Some r ≡ rank_of g name → length_at g r ≡ Some n → not (count == n) ≡ differs g name count

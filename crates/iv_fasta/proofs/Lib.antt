@@ -2,9 +2,9 @@ pub mod ComplementLemmas
 pub mod HalvesLemmas
 pub mod LineLemmas
 pub mod CutLemmas
-pub mod KeptLemmas
+pub mod CompactedLemmas
 pub mod LengthLemmas
-pub mod PlaceLemmas
+pub mod BaseRangeLemmas
 pub mod JoinLemmas
 pub mod OppositeLemmas
 pub mod RowLemmas

@@ -5,9 +5,10 @@ use Rattle.std.specs.Prelude.{codes, if◌then◌else◌}
 use Rattle.std.specs.List.{slice_range}
 use Rattle.std.specs.Option.{option_map}
 use Rattle.iv_text.specs.Genome.{Sequences}
-use Rattle.iv_text.specs.Row.{Row}
+use Rattle.iv_text.specs.RecordValue.{RecordValue}
 use Rattle.iv_fasta.specs.Fasta.{Bases, bases_of}
-use Rattle.iv_fasta.specs.FastaRows.{head, shown_strand, shown_bases, framed, front, row_beside, fasta_rows}
+use Rattle.iv_fasta.specs.FastaRows.{head, shown_strand, shown_bases, framed, row_beside, fasta_rows}
+use Rattle.iv_fasta.specs.Inside.FastaRows.{front}
 use Rattle.iv_fasta.specs.declared.rows.FastaRows.{FastaRows}
 
 framed-by : (tab : Bool) (heading bases : List ℕ)
@@ -16,7 +17,7 @@ framed-by : (tab : Bool) (heading bases : List ℕ)
 framed-by true heading bases = simp append_assoc
 framed-by false heading bases = simp append_assoc
 
-row-there : (shown : FastaRows) (g : Sequences) (r : Row) (part : List ℕ) (o : Option (List ℕ)) → Some part ≡ option_map (λ bases. slice_range bases r.start r.stop) o
+row-there : (shown : FastaRows) (g : Sequences) (r : RecordValue) (part : List ℕ) (o : Option (List ℕ)) → Some part ≡ option_map (λ bases. slice_range bases r.start r.stop) o
     → row_beside shown g r o ≡ front shown g r ++ (shown_bases (shown_strand shown r) part ++ codes "\n")
 row-there shown g r part None there = cc
 row-there shown g r part (Some bases) there =
@@ -24,6 +25,6 @@ row-there shown g r part (Some bases) there =
     ∙ framed-by shown.tab (head shown g r) (shown_bases (shown_strand shown r) part)
 
 -- the row of a record whose bases are these
-pub row-is : (shown : FastaRows) (g : Sequences) (fasta : Bases) (r : Row) (part : List ℕ) → Some part ≡ option_map (λ bases. slice_range bases r.start r.stop) (bases_of fasta r.seq)
+pub row-is : (shown : FastaRows) (g : Sequences) (fasta : Bases) (r : RecordValue) (part : List ℕ) → Some part ≡ option_map (λ bases. slice_range bases r.start r.stop) (bases_of fasta r.seq)
     → fasta_rows shown g fasta r ≡ front shown g r ++ (shown_bases (shown_strand shown r) part ++ codes "\n")
 row-is shown g fasta r part there = row-there shown g r part (bases_of fasta r.seq) there

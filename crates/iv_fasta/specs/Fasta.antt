@@ -1,6 +1,6 @@
 -- The bases that a FASTA file says, or its first fault.
-use Rattle.std.specs.Prelude.{◌≡◌, ℕ, ◌+◌, ◌++◌, ◌==◌, ◌&&◌, ◌||◌, nat_lt, Bool, true, false, not, cond, List, [], ◌∷◌, Option, None, Some, Result, Ok, Err, length, map, find, drop, slice_get}
-use Rattle.std.specs.List.{list_any, before_first, concat}
+use Rattle.std.specs.Prelude.{◌≡◌, ℕ, ◌+◌, ◌++◌, ◌==◌, ◌&&◌, ◌||◌, nat_lt, Bool, not, cond, List, [], ◌∷◌, Option, None, Some, Result, Ok, Err, length, map, find, drop, slice_get}
+use Rattle.std.specs.List.{list_any, before_first}
 use Rattle.std.specs.Map.{lookup}
 use Rattle.std.specs.Option.{is_some, option_map, unwrap_or}
 use Rattle.std.specs.Str.{bytes_eq}
@@ -11,8 +11,8 @@ use Rattle.iv_text.specs.Genome.{Sequences, rank_of, length_at}
 use Rattle.iv_text.specs.Read.{length_of}
 use Rattle.iv_text.specs.GenomeFile.{begins_with, bad_name}
 use Rattle.iv_text.specs.declared.fault.LoadCause.{LoadCause}
-use Rattle.iv_text.specs.declared.fault.LoadCause.TheVariants as cause
 use Rattle.iv_text.specs.declared.fault.LoadFault.{LoadFault}
+use Rattle.iv_text.specs.declared.fault.LoadCause.TheVariants as cause
 
 -- what is under a name: the number of its header's line, and its bases, joined over their lines
 pub record Stretch : Type 0 where
@@ -103,18 +103,3 @@ abbrev pub HasLengthsOf : Sequences → Bases → Type 0
 HasLengthsOf g fasta = (seq : ℕ) (bases : List ℕ) → bases_of fasta seq ≡ Some bases → length_at g seq ≡ Some (length bases)
 
 -- ---- words of the lemma on joined lines
-
--- the line is the header of one more sequence: its name is good and new
-pub record IsNewHeader (found : Found) (line : List ℕ) : Type 0 where
-  pub begins : begins_with header_sign line ≡ true
-  pub good : bad_name (header_name line) ≡ false
-  pub new : place_of found (header_name line) ≡ None
-
--- the line is empty or all bases, and no header
-pub record IsBaseLine (line : List ℕ) : Type 0 where
-  pub no_header : begins_with header_sign line ≡ false
-  pub all_bases : list_any is_no_base line ≡ false
-
--- the sequences with one more: its header's line has this number, and its bases are those of all these lines
-abbrev pub with_joined : ℕ → Found → List ℕ → List (List ℕ) → Found
-with_joined n found header base_lines = found ++ (header_name header, record { line = n; bases = concat base_lines }) ∷ []

@@ -1,8 +1,8 @@
 -- The rows of getfasta.
-use Rattle.std.specs.Prelude.{ℕ, ◌++◌, Bool, true, false, if◌then◌else◌, List, [], ◌∷◌, Option, None, Some, map, reverse, codes, decimal, slice_range}
+use Rattle.std.specs.Prelude.{ℕ, ◌++◌, Bool, true, false, List, [], ◌∷◌, Option, None, Some, map, reverse, codes, decimal, slice_range}
 use Rattle.std.specs.List.{flat_map}
 use Rattle.iv_text.specs.Genome.{Sequences, sequence_name}
-use Rattle.iv_text.specs.Row.{Row, strand_byte}
+use Rattle.iv_text.specs.RecordValue.{RecordValue, strand_byte}
 use Rattle.iv_text.specs.declared.record_ref.Strand.{Strand}
 use Rattle.iv_text.specs.declared.record_ref.Strand.TheVariants.{Plus, Minus, Dot}
 use Rattle.iv_fasta.specs.Complement.{complement}
@@ -15,11 +15,11 @@ bracketed None = []
 bracketed (Some s) = codes "(" ++ strand_byte s ∷ codes ")"
 
 -- the strand of a record if strands are shown
-abbrev pub shown_strand : FastaRows → Row → Option Strand
+abbrev pub shown_strand : FastaRows → RecordValue → Option Strand
 shown_strand shown r = if shown.stranded then r.strand else None
 
 -- the head of a record: its sequence, from where to where, and the strand if it is shown
-abbrev pub head : FastaRows → Sequences → Row → List ℕ
+abbrev pub head : FastaRows → Sequences → RecordValue → List ℕ
 head shown g r = sequence_name g r.seq ++ codes ":" ++ decimal r.start ++ codes "-" ++ decimal r.stop ++ bracketed (shown_strand shown r)
 
 -- the record is on the strand `-`
@@ -44,19 +44,14 @@ framed shown heading bases =
     else codes ">" ++ heading ++ codes "\n" ++ bases ++ codes "\n"
 
 -- the row of a record beside the bases of its sequence: nothing if there are none
-abbrev pub row_beside : FastaRows → Sequences → Row → Option (List ℕ) → List ℕ
+abbrev pub row_beside : FastaRows → Sequences → RecordValue → Option (List ℕ) → List ℕ
 row_beside shown g r None = []
 row_beside shown g r (Some bases) = framed shown (head shown g r) (shown_bases (shown_strand shown r) (slice_range bases r.start r.stop))
 
 -- the row of a record
-abbrev pub fasta_rows : FastaRows → Sequences → Bases → Row → List ℕ
+abbrev pub fasta_rows : FastaRows → Sequences → Bases → RecordValue → List ℕ
 fasta_rows shown g fasta r = row_beside shown g r (bases_of fasta r.seq)
 
 -- all rows: those of each record, in the order of the list
-abbrev pub fasta_text : FastaRows → Sequences → Bases → List Row → List ℕ
+abbrev pub fasta_text : FastaRows → Sequences → Bases → List RecordValue → List ℕ
 fasta_text shown g fasta rows = flat_map (fasta_rows shown g fasta) rows
-
--- what is before the bases of a row (for a private function: no part of what is promised)
-abbrev pub front : FastaRows → Sequences → Row → List ℕ
-front shown g r =
-    (if shown.tab then [] else codes ">") ++ head shown g r ++ (if shown.tab then codes "\t" else codes "\n")

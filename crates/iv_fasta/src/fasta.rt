@@ -22,7 +22,7 @@ pub struct Fasta<A: Allocator = Global> {
 impl<A: Allocator> Model for Fasta<A> {
     ghost use Rattle.std.specs.Prelude.{All, length};
     ghost use Rattle.iv_fasta.specs.Fasta.{Bases};
-    ghost use Rattle.iv_fasta.specs.Places.{placed, IsPlacedWithin};
+    ghost use Rattle.iv_fasta.specs.Inside.BaseRanges.{placed, IsPlacedWithin};
 
     ghost Value = { Bases };
 
@@ -32,7 +32,7 @@ impl<A: Allocator> Model for Fasta<A> {
 }
 
 /// The place at this rank, if there is one.
-fn place_in<A: Allocator>(places: &Vec<Option<BaseRange>, A>, seq: u32) -> Option<BaseRange>
+fn range_in<A: Allocator>(places: &Vec<Option<BaseRange>, A>, seq: u32) -> Option<BaseRange>
     ensures { result ≡ unwrap_or (slice_get places.now.items seq) None }
 {
     *places.get(seq as usize)?
@@ -55,11 +55,11 @@ impl<A: Allocator + Copy> Fasta<A> {
     {
         let draft = FastaDraft::read(alloc, genome, text)?;
         draft.check_lengths(genome)?;
-        genome.law_of_names();
-        match draft.places(alloc, genome) {
+        genome.lemma_of_names();
+        match draft.ranges(alloc, genome) {
             Ok(places) => {
                 let FastaDraft { text, .. } = draft;
-                let bases = text.into_kept();
+                let bases = text.into_compacted();
                 Ok(Fasta { places, bases })
             }
             Err(refused) => Err(LoadFault::at(0, LoadCause::from(refused))),
@@ -71,14 +71,14 @@ impl<A: Allocator + Copy> Fasta<A> {
     pub fn covers(&self, seq: u32) -> bool
         ensures { result ≡ is_some (bases_of self.now seq) }
     {
-        place_in(&self.places, seq).is_some()
+        range_in(&self.places, seq).is_some()
     }
 
     /// How many bases the sequence of this rank has, if the file has it.
     pub fn length(&self, seq: u32) -> Option<u64>
         ensures { result ≡ option_map length (bases_of self.now seq) }
     {
-        let place = place_in(&self.places, seq)?;
+        let place = range_in(&self.places, seq)?;
         Some((place.stop - place.start) as u64)
     }
 
@@ -88,7 +88,7 @@ impl<A: Allocator + Copy> Fasta<A> {
     pub fn bases(&self, seq: u32, start: u64, stop: u64) -> Option<&[u8]>
         ensures { option_copied result ≡ option_map (λ bases. slice_range bases start stop) (bases_of self.now seq) }
     {
-        let place = place_in(&self.places, seq)?;
+        let place = range_in(&self.places, seq)?;
         let length = place.stop - place.start;
         let to = length.min(stop as usize);
         let from = to.min(start as usize);

@@ -11,11 +11,11 @@ ghost use Rattle.iv_text.specs.Named.{place_of};
 ghost use Rattle.iv_text.specs.declared.name_map.NameHasher.TheVariants as hasher;
 ghost use Rattle.iv_text.specs.declared.fault.LoadCause.TheVariants as cause;
 ghost use Rattle.iv_fasta.specs.Fasta.{header_sign, is_blank, is_no_base, Stretch, header_name, has_wrong_length, differs as differs_in, with_header, with_lengths, by_rank, bases_of};
-ghost use Rattle.iv_fasta.specs.Places.{bases_at, placed, EndsWithin, IsPlacedWithin};
-ghost use Rattle.iv_fasta.specs.Drafts.{cut, end_at, StartInOrder, StartInOrder-prop, sequence_at, drafted, headed, with_kept_line, after_kept_lines};
+ghost use Rattle.iv_fasta.specs.Inside.BaseRanges.{bases_at, placed, EndsWithin, IsPlacedWithin};
+ghost use Rattle.iv_fasta.specs.Inside.Drafts.{cut, end_at, StartInOrder, StartInOrder-prop, sequence_at, drafted, headed, with_compacted_line, after_compacted_lines};
 
 use iv_text::{
-    AfterText, Genome, LoadCause, LoadFault, NameMap, is_bad_name, lines_of, split_line,
+    ContentSeed, Genome, LoadCause, LoadFault, NameMap, is_bad_name, lines_of, split_line,
 };
 use std::alloc::{AllocError, Allocator};
 use std::hash::{DefaultHasher, Hasher};
@@ -32,40 +32,40 @@ pub(crate) struct BaseRange {
 ///
 /// So the bases take no memory of their own. Its model is the pair of both.
 #[derive(Drop)]
-pub(crate) struct KeptText<A: Allocator> {
+pub(crate) struct CompactedText<A: Allocator> {
     bytes: Vec<u8, A>,
-    kept: usize,
+    compacted: usize,
     read: usize,
 }
 
-impl<A: Allocator> Model for KeptText<A> {
+impl<A: Allocator> Model for CompactedText<A> {
     ghost use Rattle.std.specs.Prelude.{take, drop, length, ◌≤◌};
-    ghost use Rattle.iv_fasta.specs.Drafts.{Halves};
+    ghost use Rattle.iv_fasta.specs.Inside.Drafts.{Halves};
 
     ghost Value = { Halves };
 
-    ghost view = { λ t. record { kept = take t.kept t.bytes.items; coming = drop t.read t.bytes.items } };
+    ghost view = { λ t. record { compacted = take t.compacted t.bytes.items; coming = drop t.read t.bytes.items } };
 
-    ghost invariant = { λ t. (t.kept ≤ t.read) × (t.read ≤ length t.bytes.items) };
+    ghost invariant = { λ t. (t.compacted ≤ t.read) × (t.read ≤ length t.bytes.items) };
 }
 
-impl<A: Allocator> KeptText<A> {
+impl<A: Allocator> CompactedText<A> {
     /// A text of which nothing was read.
     pub(crate) fn of(bytes: Vec<u8, A>) -> Self
-        ensures { result ≡ record { kept = []; coming = bytes.items } }
+        ensures { result ≡ record { compacted = []; coming = bytes.items } }
     {
-        KeptText {
+        CompactedText {
             bytes,
-            kept: 0,
+            compacted: 0,
             read: 0,
         }
     }
 
     /// How many bases are kept.
     pub(crate) fn count(&self) -> usize
-        ensures { result ≡ length self.now.kept }
+        ensures { result ≡ length self.now.compacted }
     {
-        self.kept
+        self.compacted
     }
 
     /// What is still to be read.
@@ -76,28 +76,28 @@ impl<A: Allocator> KeptText<A> {
     }
 
     /// Reads so many bytes, of which so many in front are kept.
-    pub(crate) fn read(&mut self, bytes: usize, kept: usize)
-        requires front { kept ≤ bytes }
+    pub(crate) fn read(&mut self, bytes: usize, compacted: usize)
+        requires front { compacted ≤ bytes }
         requires within { bytes ≤ length self.old.coming }
-        ensures kept { self.new.kept ≡ self.old.kept ++ take kept self.old.coming }
+        ensures compacted { self.new.compacted ≡ self.old.compacted ++ take compacted self.old.coming }
         ensures coming { self.new.coming ≡ drop bytes self.old.coming }
     {
         self.bytes
-            .copy_within(self.read..self.read + kept, self.kept);
-        self.kept += kept;
+            .copy_within(self.read..self.read + compacted, self.compacted);
+        self.compacted += compacted;
         self.read += bytes;
     }
 
     /// The bases that are kept. The memory of the rest is given back.
-    pub(crate) fn into_kept(self) -> Vec<u8, A>
-        ensures { result.items ≡ self.kept }
+    pub(crate) fn into_compacted(self) -> Vec<u8, A>
+        ensures { result.items ≡ self.compacted }
     {
-        let KeptText {
+        let CompactedText {
             mut bytes,
-            kept,
+            compacted,
             ..
         } = self;
-        bytes.truncate(kept);
+        bytes.truncate(compacted);
         bytes.shrink_to_fit();
         bytes
     }
@@ -144,7 +144,7 @@ pub(crate) struct Header {
 }
 
 /// For names that are hashed after all headers of a text.
-fn after_headers(text: &[u8]) -> AfterText
+fn after_headers(text: &[u8]) -> ContentSeed
     ensures { result.begun ≡ hasher.Seeded (fold write initial (filter (begins_with header_sign) (lines text.now))) }
 {
     let mut begun = DefaultHasher::new();
@@ -153,7 +153,7 @@ fn after_headers(text: &[u8]) -> AfterText
             begun.write(line);
         }
     }
-    AfterText::begun(begun)
+    ContentSeed::begun(begun)
 }
 
 /// Adds a header at the end, if a text begins with it that has all those after it. After a fault the headers are as before.
@@ -193,9 +193,9 @@ fn end_before<A: Allocator + Copy>(
 #[derive(Drop)]
 pub(crate) struct FastaDraft<A: Allocator> {
     headers: NameMap<Header, A>,
-    pub(crate) text: KeptText<A>,
+    pub(crate) text: CompactedText<A>,
     named: bool,
-    ghost in_order: { StartInOrder 0 headers (length text.kept) } by { StartInOrder-prop 0 headers (length text.kept) },
+    ghost in_order: { StartInOrder 0 headers (length text.compacted) } by { StartInOrder-prop 0 headers (length text.compacted) },
 }
 
 /// Whether the genome names a sequence so, and says another number of bases of it.
@@ -211,20 +211,20 @@ fn differs<A: Allocator + Copy>(genome: &Genome<A>, name: &[u8], count: usize) -
 impl<A: Allocator + Copy> FastaDraft<A> {
     /// The draft before any line is read.
     fn of(alloc: A, text: Vec<u8, A>) -> Self
-        ensures draft { drafted result.headers result.text.kept result.named ≡ record { found = []; named = false } }
+        ensures draft { drafted result.headers result.text.compacted result.named ≡ record { found = []; named = false } }
         ensures coming { result.text.coming ≡ text.items }
     {
         FastaDraft {
-            headers: NameMap::new(alloc, AfterText::of(b"")),
-            text: KeptText::of(text),
+            headers: NameMap::new(alloc, ContentSeed::of(b"")),
+            text: CompactedText::of(text),
             named: false,
         }
     }
 
     /// What is kept of a FASTA file, in its text, or the first fault of the first faulty line.
     pub(crate) fn read(alloc: A, genome: &Genome<A>, text: Vec<u8, A>) -> Result<Self, LoadFault>
-        ensures ok { IfOk result (λ d. after_kept_lines genome.now 1 (record { found = []; named = false }) (lines text.items) ≡ Ok (drafted d.headers d.text.kept d.named)) }
-        ensures err { IfErr result (λ f. (f ≡ record { line = 0; cause = cause.Memory }) ⊎ (after_kept_lines genome.now 1 (record { found = []; named = false }) (lines text.items) ≡ Err f)) }
+        ensures ok { IfOk result (λ d. after_compacted_lines genome.now 1 (record { found = []; named = false }) (lines text.items) ≡ Ok (drafted d.headers d.text.compacted d.named)) }
+        ensures err { IfErr result (λ f. (f ≡ record { line = 0; cause = cause.Memory }) ⊎ (after_compacted_lines genome.now 1 (record { found = []; named = false }) (lines text.items) ≡ Err f)) }
     {
         let mut draft = FastaDraft::of(alloc, text);
         let mut number: u64 = 1;
@@ -240,10 +240,10 @@ impl<A: Allocator + Copy> FastaDraft<A> {
     /// Takes the next line, which has this number.
     fn take_line(&mut self, alloc: A, genome: &Genome<A>, number: u64) -> Result<(), LoadCause>
         requires { 0 < length self.old.text.coming }
-        ensures ok { OnOk result (after_kept_lines genome.now number (drafted self.old.headers self.old.text.kept self.old.named) (lines self.old.text.coming)
-            ≡ after_kept_lines genome.now (number + 1) (drafted self.new.headers self.new.text.kept self.new.named) (lines self.new.text.coming)) }
+        ensures ok { OnOk result (after_compacted_lines genome.now number (drafted self.old.headers self.old.text.compacted self.old.named) (lines self.old.text.coming)
+            ≡ after_compacted_lines genome.now (number + 1) (drafted self.new.headers self.new.text.compacted self.new.named) (lines self.new.text.coming)) }
         ensures less { OnOk result (length self.new.text.coming < length self.old.text.coming) }
-        ensures err { IfErr result (λ c. (c ≡ cause.Memory) ⊎ (after_kept_lines genome.now number (drafted self.old.headers self.old.text.kept self.old.named) (lines self.old.text.coming)
+        ensures err { IfErr result (λ c. (c ≡ cause.Memory) ⊎ (after_compacted_lines genome.now number (drafted self.old.headers self.old.text.compacted self.old.named) (lines self.old.text.coming)
             ≡ Err (record { line = number; cause = c }))) }
     {
         let (line, next) = split_line(self.text.coming());
@@ -258,8 +258,8 @@ impl<A: Allocator + Copy> FastaDraft<A> {
             return Ok(());
         }
         self.check_bases(line)?;
-        let kept = if self.named { count } else { 0 };
-        self.text.read(next, kept);
+        let compacted = if self.named { count } else { 0 };
+        self.text.read(next, compacted);
         Ok(())
     }
 
@@ -274,15 +274,15 @@ impl<A: Allocator + Copy> FastaDraft<A> {
         requires some { 0 < count }
         requires within { count ≤ length self.old.text.coming }
         ensures text { self.new.text ≡ self.old.text }
-        ensures ok { OnOk result (headed genome.now (header_name (take count self.old.text.coming)) (with_header number (cut self.old.headers self.old.text.kept) (header_name (take count self.old.text.coming)))
-            ≡ Ok (drafted self.new.headers self.new.text.kept self.new.named)) }
-        ensures err { IfErr result (λ c. (c ≡ cause.Memory) ⊎ (with_header number (cut self.old.headers self.old.text.kept) (header_name (take count self.old.text.coming)) ≡ Err c)) }
+        ensures ok { OnOk result (headed genome.now (header_name (take count self.old.text.coming)) (with_header number (cut self.old.headers self.old.text.compacted) (header_name (take count self.old.text.coming)))
+            ≡ Ok (drafted self.new.headers self.new.text.compacted self.new.named)) }
+        ensures err { IfErr result (λ c. (c ≡ cause.Memory) ⊎ (with_header number (cut self.old.headers self.old.text.compacted) (header_name (take count self.old.text.coming)) ≡ Err c)) }
     {
         let name = before_blank(&self.text.coming()[1..count]);
         if is_bad_name(name) {
             return Err(LoadCause::Name);
         }
-        if self.headers.place(name).is_some() {
+        if self.headers.index_of(name).is_some() {
             return Err(LoadCause::Repeated);
         }
         let start = self.text.count();
@@ -297,9 +297,9 @@ impl<A: Allocator + Copy> FastaDraft<A> {
 
     /// Whether a line of bases may come here, or its fault.
     fn check_bases(&self, line: &[u8]) -> Result<(), LoadCause>
-        ensures ok { OnOk result (with_kept_line (drafted self.now.headers self.now.text.kept self.now.named) line.now
-            ≡ Ok (drafted self.now.headers (self.now.text.kept ++ cond self.now.named line.now []) self.now.named)) }
-        ensures err { IfErr result (λ c. with_kept_line (drafted self.now.headers self.now.text.kept self.now.named) line.now ≡ Err c) }
+        ensures ok { OnOk result (with_compacted_line (drafted self.now.headers self.now.text.compacted self.now.named) line.now
+            ≡ Ok (drafted self.now.headers (self.now.text.compacted ++ cond self.now.named line.now []) self.now.named)) }
+        ensures err { IfErr result (λ c. with_compacted_line (drafted self.now.headers self.now.text.compacted self.now.named) line.now ≡ Err c) }
     {
         if self.headers.len() == 0 {
             return Err(LoadCause::BasesFirst);
@@ -312,8 +312,8 @@ impl<A: Allocator + Copy> FastaDraft<A> {
 
     /// Where the bases of the sequence at this place lie, with its name and the number of its header's line.
     fn sequence(&self, place: usize) -> Option<(&[u8], u64, BaseRange)>
-        ensures value { option_map (λ s. (s.0.now, sequence_at self.now.text.kept s.1 s.2)) result ≡ slice_get (cut self.now.headers self.now.text.kept) place }
-        ensures within { IfSome result (λ s. EndsWithin (length self.now.text.kept) s.2) }
+        ensures value { option_map (λ s. (s.0.now, sequence_at self.now.text.compacted s.1 s.2)) result ≡ slice_get (cut self.now.headers self.now.text.compacted) place }
+        ensures within { IfSome result (λ s. EndsWithin (length self.now.text.compacted) s.2) }
     {
         let (name, header) = self.headers.at(place)?;
         let start = header.start;
@@ -323,8 +323,8 @@ impl<A: Allocator + Copy> FastaDraft<A> {
 
     /// Whether each sequence that the genome names has the length that it says, or the fault of the first that has not.
     pub(crate) fn check_lengths(&self, genome: &Genome<A>) -> Result<(), LoadFault>
-        ensures ok { OnOk result (find (has_wrong_length genome.now) (cut self.now.headers self.now.text.kept) ≡ None) }
-        ensures err { IfErr result (λ f. with_lengths genome.now (cut self.now.headers self.now.text.kept) ≡ Err f) }
+        ensures ok { OnOk result (find (has_wrong_length genome.now) (cut self.now.headers self.now.text.compacted) ≡ None) }
+        ensures err { IfErr result (λ f. with_lengths genome.now (cut self.now.headers self.now.text.compacted) ≡ Err f) }
     {
         for place in 0..self.headers.len() {
             let Some((name, line, bases)) = self.sequence(place) else {
@@ -338,11 +338,11 @@ impl<A: Allocator + Copy> FastaDraft<A> {
     }
 
     /// Where the bases of the sequence of this name lie, if there is one.
-    fn place_of(&self, name: &[u8]) -> Option<BaseRange>
-        ensures value { option_map (bases_at self.now.text.kept) result ≡ option_map (λ (s : Stretch). s.bases) (lookup (bytes_eq name.now) (cut self.now.headers self.now.text.kept)) }
-        ensures within { IsPlacedWithin (length self.now.text.kept) result }
+    fn range_of(&self, name: &[u8]) -> Option<BaseRange>
+        ensures value { option_map (bases_at self.now.text.compacted) result ≡ option_map (λ (s : Stretch). s.bases) (lookup (bytes_eq name.now) (cut self.now.headers self.now.text.compacted)) }
+        ensures within { IsPlacedWithin (length self.now.text.compacted) result }
     {
-        match self.headers.place(name) {
+        match self.headers.index_of(name) {
             Some(place) => match self.sequence(place) {
                 Some((_, _, bases)) => Some(bases),
                 None => None,
@@ -352,28 +352,28 @@ impl<A: Allocator + Copy> FastaDraft<A> {
     }
 
     /// Where the bases of the sequence of this rank lie, if there is one.
-    fn place_at(&self, genome: &Genome<A>, rank: u32) -> Option<BaseRange>
-        ensures value { option_map (bases_at self.now.text.kept) result ≡ bases_of (by_rank genome.now (cut self.now.headers self.now.text.kept)) rank }
-        ensures within { IsPlacedWithin (length self.now.text.kept) result }
+    fn range_at(&self, genome: &Genome<A>, rank: u32) -> Option<BaseRange>
+        ensures value { option_map (bases_at self.now.text.compacted) result ≡ bases_of (by_rank genome.now (cut self.now.headers self.now.text.compacted)) rank }
+        ensures within { IsPlacedWithin (length self.now.text.compacted) result }
     {
         match genome.name(rank) {
-            Some(name) => self.place_of(name),
+            Some(name) => self.range_of(name),
             None => None,
         }
     }
 
     /// Where the bases of each sequence of the genome lie, by rank.
-    pub(crate) fn places(
+    pub(crate) fn ranges(
         &self,
         alloc: A,
         genome: &Genome<A>,
     ) -> Result<Vec<Option<BaseRange>, A>, AllocError>
-        ensures value { IfOk result (λ places. placed places.items self.now.text.kept ≡ by_rank genome.now (cut self.now.headers self.now.text.kept)) }
-        ensures within { IfOk result (λ places. All (IsPlacedWithin (length self.now.text.kept)) places.items) }
+        ensures value { IfOk result (λ places. placed places.items self.now.text.compacted ≡ by_rank genome.now (cut self.now.headers self.now.text.compacted)) }
+        ensures within { IfOk result (λ places. All (IsPlacedWithin (length self.now.text.compacted)) places.items) }
     {
         let mut places = Vec::new(alloc);
         for rank in 0..genome.count() {
-            places.push(self.place_at(genome, rank))?;
+            places.push(self.range_at(genome, rank))?;
         }
         Ok(places)
     }

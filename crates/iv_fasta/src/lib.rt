@@ -3,9 +3,9 @@
 
 mod fasta;
 mod fasta_draft;
-mod laws;
+mod lemmas;
 mod rows;
 
 pub use fasta::Fasta;
-pub use laws::{fasta_or_first_fault, joined_lines_are_a_sequence};
+pub use lemmas::{fasta_or_first_fault, joined_lines_are_a_sequence};
 pub use rows::{FastaRows, complement, print_fasta, put_fasta};

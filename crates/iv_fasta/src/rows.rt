@@ -1,7 +1,8 @@
 //! The rows of getfasta, and the complement of bases.
 ghost use Rattle.std.specs.Prelude.{◌≡◌, [], if◌then◌else◌, length, codes};
 ghost use Rattle.iv_bytes.specs.Sinks.{Puts};
-ghost use Rattle.iv_fasta.specs.FastaRows.{opposite, bracketed, shown_strand as strand_of, is_minus as says_minus, shown_bases, front, fasta_rows, fasta_text};
+ghost use Rattle.iv_fasta.specs.FastaRows.{opposite, bracketed, shown_strand as strand_of, is_minus as says_minus, shown_bases, fasta_rows, fasta_text};
+ghost use Rattle.iv_fasta.specs.Inside.FastaRows.{front};
 ghost use Rattle.iv_fasta.specs.Complement.{complement as complement_of};
 
 use crate::fasta::Fasta;
@@ -55,7 +56,7 @@ pub fn put_fasta<R: BedRecord, A: Allocator + Copy, S: Sink>(
     fasta: &Fasta<A>,
     sink: &mut S,
 ) -> Result<(), WriteFault>
-    ensures { Puts (S.state sink.old) (S.state sink.new) result (fasta_rows shown genome.now fasta.now (R.as_row row.now)) }
+    ensures { Puts (S.state sink.old) (S.state sink.new) result (fasta_rows shown genome.now fasta.now (R.as_record row.now)) }
 {
     let Some(bases) = fasta.bases(row.seq(), row.start(), row.stop()) else {
         return Ok(());
@@ -68,7 +69,7 @@ pub fn put_fasta<R: BedRecord, A: Allocator + Copy, S: Sink>(
 
 /// The strand of a record if strands are shown.
 fn shown_strand<R: BedRecord>(shown: FastaRows, row: &R) -> Option<Strand>
-    ensures { result ≡ strand_of shown (R.as_row row.now) }
+    ensures { result ≡ strand_of shown (R.as_record row.now) }
 {
     if shown.stranded {
         row.to_ref().strand()
@@ -85,8 +86,8 @@ fn put_front<R: BedRecord, A: Allocator + Copy, S: Sink>(
     strand: Option<Strand>,
     sink: &mut S,
 ) -> Result<(), WriteFault>
-    requires { strand ≡ strand_of shown (R.as_row row.now) }
-    ensures { Puts (S.state sink.old) (S.state sink.new) result (front shown genome.now (R.as_row row.now)) }
+    requires { strand ≡ strand_of shown (R.as_record row.now) }
+    ensures { Puts (S.state sink.old) (S.state sink.new) result (front shown genome.now (R.as_record row.now)) }
 {
     let sequence = genome.name_of(row.seq());
     let mut start = itoa::Buffer::new();

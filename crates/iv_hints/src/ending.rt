@@ -11,7 +11,7 @@ use iv_cli::Ending;
 use iv_text::{LoadCause, LoadFault};
 use std::alloc::{AllocError, Global};
 
-/// The hint below the line of an ending, given the words after the program's name, the line of the script at which the run ended
+/// The hint below the line of an ending, given the arguments after the program's name, the line of the script at which the run ended
 /// early (0 if at none), and the files, which are read again.
 ///
 /// # Errors
@@ -44,7 +44,7 @@ pub fn hint_of<F: HintFiles>(
     Ok(hint)
 }
 
-/// The hint if the system doesn't give the words.
+/// The hint if the system doesn't give the arguments.
 ///
 /// # Errors
 ///
@@ -93,7 +93,7 @@ fn put_output(line: u64, hint: &mut Hint) -> Result<(), AllocError> {
     ])
 }
 
-/// Puts the hint of a run whose words ask for a plan.
+/// Puts the hint of a run whose arguments ask for a plan.
 fn put_of_plan<F: HintFiles>(
     alloc: Global,
     plan: &Plan<'_>,

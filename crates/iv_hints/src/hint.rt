@@ -1,6 +1,6 @@
 //! A hint: at most three indented lines.
 ghost use Rattle.std.specs.Prelude.{◌≡◌, ◌≤◌, ◌<◌, true};
-ghost use Rattle.iv_hints.specs.Shown.{AreShown, feeds, is_letter};
+ghost use Rattle.iv_hints.specs.Inside.Shown.{AreShown, feeds, is_letter};
 
 use itoa::Buffer;
 use std::alloc::{AllocError, Global};

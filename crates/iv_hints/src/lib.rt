@@ -1,6 +1,6 @@
 //! Hints: what a person at a terminal reads below the line of an ending, one to three indented lines.
 //!
-//! A hint is no promise. It is worked out after the run, from the words of the command line and from its files, read again.
+//! A hint is no promise. It is worked out after the run, from the arguments and from its files, read again.
 #![tactic(auto)]
 
 mod damage;

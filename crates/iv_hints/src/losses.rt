@@ -3,7 +3,7 @@ use crate::files::{FRONT_BYTES, HintFiles, front_of};
 use crate::hint::Hint;
 use crate::mistake::value_after;
 use crate::records::{alike_in, column, is_digits, is_record, length_in};
-use iv_args::{Plan, Run, Slot};
+use iv_args::{Plan, Slot, Subcommand};
 use iv_text::{lines_of, split_first_column};
 use std::alloc::{AllocError, Global};
 
@@ -29,8 +29,8 @@ pub(crate) fn put_loss<F: HintFiles>(
         ]);
     }
     match plan.run() {
-        Run::Merge => put_fraction(alloc, plan, files, hint),
-        Run::Getfasta => put_no_bases(alloc, plan, files, hint),
+        Subcommand::Merge => put_fraction(alloc, plan, files, hint),
+        Subcommand::Getfasta => put_no_bases(alloc, plan, files, hint),
         _ => Ok(()),
     }
 }

@@ -1,45 +1,45 @@
-//! What is wrong with the words of a command line.
+//! What is wrong with the arguments of a command line.
 use crate::records::count_of;
 use crate::vocabulary::{
     Value, is_between, is_operation, is_other_option, is_other_subcommand, lists, needed_of,
     options_of, value_of,
 };
-use iv_args::Run;
+use iv_args::Subcommand;
 use iv_text::read_number;
 
-/// The first mistake in the words after the program's name, of those that can be named.
+/// The first mistake in the arguments after the program's name, of those that can be named.
 #[derive(Clone, Copy, Debug, PartialEq, Eq)]
 pub(crate) enum Mistake<'a> {
-    /// There are no words.
+    /// There are no arguments.
     NoWords,
-    /// The first word is an option.
+    /// The first argument is an option.
     OptionFirst(&'a [u8]),
-    /// The first word, or the one that help is asked on, is no subcommand.
+    /// The first argument, or the one that help is asked on, is no subcommand.
     NoSubcommand(&'a [u8]),
     /// It is one that only bedtools has.
     OtherSubcommand(&'a [u8]),
-    /// Help is asked for beside other words.
-    HelpBesideWords(Run),
-    /// The name of a script is among the words of a session.
+    /// Help is asked for beside other arguments.
+    HelpBesideWords(Subcommand),
+    /// The name of a script is among the arguments of a session.
     Script(&'a [u8]),
-    /// A word is no option and belongs to none.
-    StrayWord(Run, &'a [u8]),
-    /// An option and its value are one word.
+    /// An argument is no option and belongs to none.
+    StrayWord(Subcommand, &'a [u8]),
+    /// An option and its value are one argument.
     OneWord(&'a [u8]),
     /// The option that names the records in other runs.
-    RecordsOption(Run, &'a [u8]),
+    RecordsOption(Subcommand, &'a [u8]),
     /// An option that only bedtools has.
     OtherOption(&'a [u8]),
     /// No option of this kind of run.
-    NoOption(Run, &'a [u8]),
+    NoOption(Subcommand, &'a [u8]),
     /// The value of an option is missing.
-    NoValue(Run, &'a [u8]),
+    NoValue(Subcommand, &'a [u8]),
     /// The value of an option is none.
-    WrongValue(Run, &'a [u8], &'a [u8]),
+    WrongValue(Subcommand, &'a [u8], &'a [u8]),
     /// An option is given twice.
     Twice(&'a [u8]),
     /// An option is missing that names a file.
-    Missing(Run, &'a [u8]),
+    Missing(Subcommand, &'a [u8]),
     /// `genomecov` has none of its modes, or several.
     Modes,
     /// `intersect` has several options of which one can be given.
@@ -50,32 +50,32 @@ pub(crate) enum Mistake<'a> {
     Lengths(usize, usize),
 }
 
-/// Whether a word asks for help.
+/// Whether an argument asks for help.
 fn asks_help(word: &[u8]) -> bool {
     matches!(word, b"--help" | b"-h" | b"help")
 }
 
-/// Whether a word looks like an option.
+/// Whether an argument looks like an option.
 fn is_option_like(word: &[u8]) -> bool {
     matches!(word, [b'-', _, ..])
 }
 
 impl<'a> Mistake<'a> {
-    /// The mistake in the words after the program's name, if it is found.
+    /// The mistake in the arguments after the program's name, if it is found.
     pub(crate) fn of(words: &[&'a [u8]]) -> Option<Mistake<'a>> {
         match words {
             [] => Some(Mistake::NoWords),
             [word, subject, ..] if asks_help(word) => Mistake::of_subject(subject),
-            [word, rest @ ..] => match Run::of(word) {
+            [word, rest @ ..] => match Subcommand::of(word) {
                 Some(run) => Mistake::of_run(run, rest),
                 None => Mistake::of_subject(word),
             },
         }
     }
 
-    /// The mistake if a word should be a subcommand.
+    /// The mistake if an argument should be a subcommand.
     fn of_subject(word: &'a [u8]) -> Option<Mistake<'a>> {
-        if let Some(run) = Run::of(word) {
+        if let Some(run) = Subcommand::of(word) {
             Some(Mistake::HelpBesideWords(run))
         } else if is_other_subcommand(word) {
             Some(Mistake::OtherSubcommand(word))
@@ -86,8 +86,8 @@ impl<'a> Mistake<'a> {
         }
     }
 
-    /// The mistake in the words after a subcommand.
-    fn of_run(run: Run, words: &[&'a [u8]]) -> Option<Mistake<'a>> {
+    /// The mistake in the arguments after a subcommand.
+    fn of_run(run: Subcommand, words: &[&'a [u8]]) -> Option<Mistake<'a>> {
         if words.iter().any(|word| matches!(*word, b"--help" | b"-h")) {
             return Some(Mistake::HelpBesideWords(run));
         }
@@ -97,8 +97,8 @@ impl<'a> Mistake<'a> {
             .or_else(|| Mistake::of_view(run, words))
     }
 
-    /// The first word that is no option and no value, or no value that its option takes.
-    fn of_each(run: Run, words: &[&'a [u8]]) -> Option<Mistake<'a>> {
+    /// The first argument that is no option and no value, or no value that its option takes.
+    fn of_each(run: Subcommand, words: &[&'a [u8]]) -> Option<Mistake<'a>> {
         let mut option: Option<&'a [u8]> = None;
         for word in words {
             match option {
@@ -117,7 +117,7 @@ impl<'a> Mistake<'a> {
     }
 
     /// The mistake of a value that the option before it doesn't take.
-    fn of_value(run: Run, option: &'a [u8], value: &'a [u8]) -> Mistake<'a> {
+    fn of_value(run: Subcommand, option: &'a [u8], value: &'a [u8]) -> Mistake<'a> {
         if lists(options_of(run), value) {
             Mistake::NoValue(run, option)
         } else {
@@ -125,11 +125,11 @@ impl<'a> Mistake<'a> {
         }
     }
 
-    /// The mistake of a word that is no option.
-    fn of_word(run: Run, word: &'a [u8]) -> Mistake<'a> {
+    /// The mistake of an argument that is no option.
+    fn of_word(run: Subcommand, word: &'a [u8]) -> Mistake<'a> {
         if !is_option_like(word) {
             return match run {
-                Run::Session => Mistake::Script(word),
+                Subcommand::Session => Mistake::Script(word),
                 _ => Mistake::StrayWord(run, word),
             };
         }
@@ -145,7 +145,7 @@ impl<'a> Mistake<'a> {
     }
 
     /// An option that is given twice.
-    fn of_doubles(run: Run, words: &[&'a [u8]]) -> Option<Mistake<'a>> {
+    fn of_doubles(run: Subcommand, words: &[&'a [u8]]) -> Option<Mistake<'a>> {
         for option in options_of(run).split(is_between) {
             if words.iter().filter(|word| **word == option).count() > 1 {
                 return Some(Mistake::Twice(option));
@@ -155,7 +155,7 @@ impl<'a> Mistake<'a> {
     }
 
     /// An option that is missing.
-    fn of_missing(run: Run, words: &[&'a [u8]]) -> Option<Mistake<'a>> {
+    fn of_missing(run: Subcommand, words: &[&'a [u8]]) -> Option<Mistake<'a>> {
         for option in options_of(run).split(is_between).take(needed_of(run)) {
             if !words.contains(&option) {
                 return Some(Mistake::Missing(run, option));
@@ -165,11 +165,11 @@ impl<'a> Mistake<'a> {
     }
 
     /// The mistake of options that don't go together.
-    fn of_view(run: Run, words: &[&'a [u8]]) -> Option<Mistake<'a>> {
+    fn of_view(run: Subcommand, words: &[&'a [u8]]) -> Option<Mistake<'a>> {
         match run {
-            Run::Genomecov => Some(Mistake::Modes),
-            Run::Intersect => Some(Mistake::Exclusive),
-            Run::Merge => Mistake::of_lists(words),
+            Subcommand::Genomecov => Some(Mistake::Modes),
+            Subcommand::Intersect => Some(Mistake::Exclusive),
+            Subcommand::Merge => Mistake::of_lists(words),
             _ => None,
         }
     }
@@ -184,8 +184,8 @@ impl<'a> Mistake<'a> {
     }
 }
 
-/// Whether a word is a value that an option takes.
-fn is_value(run: Run, option: &[u8], word: &[u8]) -> bool {
+/// Whether an argument is a value that an option takes.
+fn is_value(run: Subcommand, option: &[u8], word: &[u8]) -> bool {
     match value_of(run, option) {
         Value::Nothing => false,
         Value::File => !lists(options_of(run), word),
@@ -215,7 +215,7 @@ fn count_items(list: &[u8]) -> usize {
     count_of(list, b',').saturating_add(1)
 }
 
-/// The word after an option.
+/// The argument after an option.
 pub(crate) fn value_after<'a>(words: &[&'a [u8]], option: &[u8]) -> Option<&'a [u8]> {
     let at = words.iter().position(|word| *word == option)?;
     words.iter().skip(at).nth(1).copied()

@@ -1,5 +1,5 @@
 //! The subcommands and options, of bedkeep and of bedtools.
-use iv_args::Run;
+use iv_args::Subcommand;
 
 /// The words that a command line begins with.
 pub(crate) const FIRST_WORDS: &[u8] =
@@ -65,50 +65,50 @@ pub(crate) fn is_operation(word: &[u8]) -> bool {
 }
 
 /// The options of a kind of run.
-pub(crate) fn options_of(run: Run) -> &'static [u8] {
+pub(crate) fn options_of(run: Subcommand) -> &'static [u8] {
     match run {
-        Run::Session => b"-g -i -b -fi -width",
-        Run::Merge => b"-g -i -d -s -c -o -width",
-        Run::Cluster => b"-g -i -d -width",
-        Run::Complement => b"-g -i -L -width",
-        Run::Genomecov => b"-g -i -bg -bga -d -width",
-        Run::Intersect => b"-g -a -b -wa -wb -u -v -c -width",
-        Run::Subtract => b"-g -a -b -A -width",
-        Run::Getfasta => b"-g -bed -fi -s -tab -width",
+        Subcommand::Session => b"-g -i -b -fi -width",
+        Subcommand::Merge => b"-g -i -d -s -c -o -width",
+        Subcommand::Cluster => b"-g -i -d -width",
+        Subcommand::Complement => b"-g -i -L -width",
+        Subcommand::Genomecov => b"-g -i -bg -bga -d -width",
+        Subcommand::Intersect => b"-g -a -b -wa -wb -u -v -c -width",
+        Subcommand::Subtract => b"-g -a -b -A -width",
+        Subcommand::Getfasta => b"-g -bed -fi -s -tab -width",
     }
 }
 
 /// How many of the options of a kind of run it has to have: the first of them.
-pub(crate) fn needed_of(run: Run) -> usize {
+pub(crate) fn needed_of(run: Subcommand) -> usize {
     match run {
-        Run::Intersect | Run::Subtract | Run::Getfasta => 3,
+        Subcommand::Intersect | Subcommand::Subtract | Subcommand::Getfasta => 3,
         _ => 2,
     }
 }
 
 /// The option that names the file of the records.
-pub(crate) fn records_option(run: Run) -> &'static [u8] {
+pub(crate) fn records_option(run: Subcommand) -> &'static [u8] {
     match run {
-        Run::Intersect | Run::Subtract => b"-a",
-        Run::Getfasta => b"-bed",
+        Subcommand::Intersect | Subcommand::Subtract => b"-a",
+        Subcommand::Getfasta => b"-bed",
         _ => b"-i",
     }
 }
 
 /// What the word after an option of a run has to be.
-pub(crate) fn value_of(run: Run, option: &[u8]) -> Value {
+pub(crate) fn value_of(run: Subcommand, option: &[u8]) -> Value {
     match option {
         b"-g" | b"-i" | b"-a" | b"-bed" | b"-b" | b"-fi" => Value::File,
         b"-width" => Value::Width,
-        b"-d" if run != Run::Genomecov => Value::Distance,
-        b"-c" if run == Run::Merge => Value::Columns,
+        b"-d" if run != Subcommand::Genomecov => Value::Distance,
+        b"-c" if run == Subcommand::Merge => Value::Columns,
         b"-o" => Value::Operations,
         _ => Value::Nothing,
     }
 }
 
 /// What comes after an option of a run, in a few words.
-pub(crate) fn meaning_of(run: Run, option: &[u8]) -> &'static [u8] {
+pub(crate) fn meaning_of(run: Subcommand, option: &[u8]) -> &'static [u8] {
     match value_of(run, option) {
         Value::Nothing => b"nothing",
         Value::File => match option {

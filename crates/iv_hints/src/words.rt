@@ -1,32 +1,32 @@
-//! The hint on words of the command line that ask for no run.
+//! The hint on arguments that ask for no run.
 use crate::hint::Hint;
 use crate::mistake::Mistake;
 use crate::nearest::Nearest;
 use crate::vocabulary::{FIRST_WORDS, is_between, meaning_of, options_of, records_option};
 use itoa::Buffer;
-use iv_args::Run;
+use iv_args::Subcommand;
 use std::alloc::{AllocError, Global};
 
-/// The word of a kind of run.
-pub(crate) fn word_of(run: Run) -> &'static [u8] {
+/// The argument of a kind of run.
+pub(crate) fn word_of(run: Subcommand) -> &'static [u8] {
     match run {
-        Run::Session => b"session",
-        Run::Merge => b"merge",
-        Run::Cluster => b"cluster",
-        Run::Complement => b"complement",
-        Run::Genomecov => b"genomecov",
-        Run::Intersect => b"intersect",
-        Run::Subtract => b"subtract",
-        Run::Getfasta => b"getfasta",
+        Subcommand::Session => b"session",
+        Subcommand::Merge => b"merge",
+        Subcommand::Cluster => b"cluster",
+        Subcommand::Complement => b"complement",
+        Subcommand::Genomecov => b"genomecov",
+        Subcommand::Intersect => b"intersect",
+        Subcommand::Subtract => b"subtract",
+        Subcommand::Getfasta => b"getfasta",
     }
 }
 
-/// Puts the hint on words that ask for no run.
+/// Puts the hint on arguments that ask for no run.
 pub(crate) fn put_words(alloc: Global, words: &[&[u8]], hint: &mut Hint) -> Result<(), AllocError> {
     if let Some(mistake) = Mistake::of(words) {
         put_mistake(alloc, mistake, hint)?;
     }
-    match words.first().and_then(|word| Run::of(word)) {
+    match words.first().and_then(|word| Subcommand::of(word)) {
         Some(run) => hint.line(&[b"try: bedkeep ", word_of(run), b" --help"]),
         None => hint.line(&[b"try: bedkeep --help"]),
     }
@@ -69,7 +69,7 @@ fn put_usage(hint: &mut Hint) -> Result<(), AllocError> {
     ])
 }
 
-/// Puts that a word is no subcommand, and which is near.
+/// Puts that an argument is no subcommand, and which is near.
 fn put_no_subcommand(alloc: Global, word: &[u8], hint: &mut Hint) -> Result<(), AllocError> {
     let mut nearest = Nearest::to(word);
     for known in FIRST_WORDS.split(is_between) {
@@ -87,7 +87,7 @@ fn put_no_subcommand(alloc: Global, word: &[u8], hint: &mut Hint) -> Result<(), 
     }
 }
 
-/// Puts that a word of bedtools is not there.
+/// Puts that an argument of bedtools is not there.
 fn put_not_there(word: &[u8], hint: &mut Hint) -> Result<(), AllocError> {
     hint.line(&[
         word,
@@ -95,8 +95,13 @@ fn put_not_there(word: &[u8], hint: &mut Hint) -> Result<(), AllocError> {
     ])
 }
 
-/// Puts that a word is no option, and which is near.
-fn put_no_option(alloc: Global, run: Run, word: &[u8], hint: &mut Hint) -> Result<(), AllocError> {
+/// Puts that an argument is no option, and which is near.
+fn put_no_option(
+    alloc: Global,
+    run: Subcommand,
+    word: &[u8],
+    hint: &mut Hint,
+) -> Result<(), AllocError> {
     let mut nearest = Nearest::to(word);
     for known in options_of(run).split(is_between) {
         nearest.look_at(alloc, known)?;
@@ -108,7 +113,7 @@ fn put_no_option(alloc: Global, run: Run, word: &[u8], hint: &mut Hint) -> Resul
     }
 }
 
-/// Puts what a word isn't, and which one is near.
+/// Puts what an argument isn't, and which one is near.
 fn put_near(
     word: &[u8],
     text: &[u8],

@@ -8,35 +8,36 @@ use Rattle.std.specs.declared.cmp.Ordering.TheVariants.{Less, Equal, Greater}
 use Rattle.std.proofs.lemmas.List.Elements.{All-from_recursion, recursion_from_All}
 use Rattle.std.proofs.lemmas.List.Sums.{sum_by-cons}
 use Rattle.iv_text.specs.Genome.{Sequences}
-use Rattle.iv_text.specs.KeptDrafts.{IsKept}
+use Rattle.iv_text.specs.BedReading.{IsProjected}
 use Rattle.iv_text.specs.Ordered.{added, ordered, AreInOrder}
 use Rattle.iv_text.specs.Read.{IsOnGenome}
-use Rattle.iv_text.specs.Row.{Row, beside_cmp, row_cmp}
+use Rattle.iv_text.specs.RecordValue.{RecordValue, beside_cmp, record_cmp}
 use Rattle.iv_text.proofs.OrderedLemmas.{ordered-in_order, rows-alone}
-use Rattle.iv_index.specs.Places.{bare, row_at, rows_at}
-use Rattle.iv_index.specs.declared.place.Place.{Place}
+use Rattle.iv_index.specs.Locators.{bare}
+use Rattle.iv_index.specs.Inside.Locators.{row_at, rows_at}
+use Rattle.iv_index.specs.declared.locator.Locator.{Locator}
 
 -- ---- records of places
 
 -- at width 3 the records of places are bare
-pub rows-bare : (w : ℕ) (text : List ℕ) (places : List Place) → rows_at 3 text places ≡ map bare (rows_at w text places)
+pub rows-bare : (w : ℕ) (text : List ℕ) (places : List Locator) → rows_at 3 text places ≡ map bare (rows_at w text places)
 rows-bare w text [] = refl
-rows-bare w text (p ∷ places) = ap (λ (l : List Row). row_at 3 text p ∷ l) (rows-bare w text places)
+rows-bare w text (p ∷ places) = ap (λ (l : List RecordValue). row_at 3 text p ∷ l) (rows-bare w text places)
 
 -- ---- on the genome
 
 -- they are on it where they were
-pub on_genome-bare : (g : Sequences) (rows : List Row) → All (IsOnGenome g) rows → All (IsOnGenome g) (map bare rows)
+pub on_genome-bare : (g : Sequences) (rows : List RecordValue) → All (IsOnGenome g) rows → All (IsOnGenome g) (map bare rows)
 on_genome-bare g rows lie = All-from_recursion (IsOnGenome g) (map bare rows) (by rows (recursion_from_All (IsOnGenome g) rows lie))
   where
-    by : (rows : List Row) → AllByRecursion (IsOnGenome g) rows → AllByRecursion (IsOnGenome g) (map bare rows)
+    by : (rows : List RecordValue) → AllByRecursion (IsOnGenome g) rows → AllByRecursion (IsOnGenome g) (map bare rows)
     by [] all = tt
     by (r ∷ rows) all = (record { some = all.0.some; within = all.0.within }, by rows all.1)
 
--- so is what is kept of records that fit it, if only their places are
-pub kept-on_genome : (g : Sequences) (w : ℕ) (rows : List Row) → All (IsKept bare g w) rows → All (IsOnGenome g) rows
+-- so is what is held of records that fit it, if only their places are
+pub kept-on_genome : (g : Sequences) (w : ℕ) (rows : List RecordValue) → All (IsProjected bare g w) rows → All (IsOnGenome g) rows
 kept-on_genome g w rows kept k e within =
-    let one : IsKept bare g w (get_or rows k e) = kept k e within in
+    let one : IsProjected bare g w (get_or rows k e) = kept k e within in
     subst (IsOnGenome g) (sym one.2) (record { some = one.1.is_placed.some; within = one.1.is_placed.within })
 
 -- ---- their order
@@ -51,45 +52,45 @@ le_first Equal Equal Less d h = refl
 le_first Equal Equal Greater d h = cc
 le_first Equal Equal Equal d h = refl
 
-bare-le : (x y : Row) → is_le (row_cmp x y) ≡ true → is_le (row_cmp (bare x) (bare y)) ≡ true
+bare-le : (x y : RecordValue) → is_le (record_cmp x y) ≡ true → is_le (record_cmp (bare x) (bare y)) ≡ true
 bare-le x y h = le_first (nat_cmp x.seq y.seq) (nat_cmp x.start y.start) (nat_cmp x.stop y.stop) (beside_cmp x y) h
 
-in_order-bare : (rows : List Row) → AreInOrder rows → AreInOrder (map bare rows)
+in_order-bare : (rows : List RecordValue) → AreInOrder rows → AreInOrder (map bare rows)
 in_order-bare [] up = tt
 in_order-bare (r ∷ rows) up = (by rows up.0, in_order-bare rows up.1)
   where
-    by : (xs : List Row) → AllByRecursion (λ y. is_le (row_cmp r y) ≡ true) xs → AllByRecursion (λ y. is_le (row_cmp (bare r) y) ≡ true) (map bare xs)
+    by : (xs : List RecordValue) → AllByRecursion (λ y. is_le (record_cmp r y) ≡ true) xs → AllByRecursion (λ y. is_le (record_cmp (bare r) y) ≡ true) (map bare xs)
     by [] all = tt
     by (x ∷ xs) all = (bare-le r x all.0, by xs all.1)
 
 -- as many records in order pass a test as did before
-module _ (p : Row → Bool) where
-  count-cons : (x : Row) (xs : List Row) → count_by p (x ∷ xs) ≡ cond (p x) 1 0 + count_by p xs
+module _ (p : RecordValue → Bool) where
+  count-cons : (x : RecordValue) (xs : List RecordValue) → count_by p (x ∷ xs) ≡ cond (p x) 1 0 + count_by p xs
   count-cons x xs = sum_by-cons (λ r. cond (p r) 1 0) x xs
 
-  count-either : (b : Bool) (x q : Row) (xs ys : List Row) → count_by p ys ≡ cond (p x) 1 0 + count_by p xs → count_by p (cond b (x ∷ q ∷ xs) (q ∷ ys)) ≡ cond (p x) 1 0 + count_by p (q ∷ xs)
+  count-either : (b : Bool) (x q : RecordValue) (xs ys : List RecordValue) → count_by p ys ≡ cond (p x) 1 0 + count_by p xs → count_by p (cond b (x ∷ q ∷ xs) (q ∷ ys)) ≡ cond (p x) 1 0 + count_by p (q ∷ xs)
   count-either true x q xs ys e = count-cons x (q ∷ xs)
   count-either false x q xs ys e = omega (arith, count-cons q ys, count-cons q xs, e)
 
-  count-added : (xs : List Row) (x : Row) → count_by p (added xs x) ≡ cond (p x) 1 0 + count_by p xs
+  count-added : (xs : List RecordValue) (x : RecordValue) → count_by p (added xs x) ≡ cond (p x) 1 0 + count_by p xs
   count-added [] x = count-cons x []
-  count-added (q ∷ xs) x = count-either (is_le (row_cmp x q)) x q xs (added xs x) (count-added xs x)
+  count-added (q ∷ xs) x = count-either (is_le (record_cmp x q)) x q xs (added xs x) (count-added xs x)
 
-  count-all_added : (xs start : List Row) → count_by p (fold added start xs) ≡ count_by p start + count_by p xs
+  count-all_added : (xs start : List RecordValue) → count_by p (fold added start xs) ≡ count_by p start + count_by p xs
   count-all_added [] start = omega arith
   count-all_added (x ∷ xs) start = omega (arith, count-all_added xs (added start x), count-added start x, count-cons x xs)
 
-  count-ordered : (rows : List Row) → count_by p (ordered rows) ≡ count_by p rows
+  count-ordered : (rows : List RecordValue) → count_by p (ordered rows) ≡ count_by p rows
   count-ordered rows = count-all_added rows [] ∙ omega arith
 
-pub count-bare : (p : Row → Bool) (rows : List Row) → count_by p (map bare rows) ≡ count_by (λ r. p (bare r)) rows
+pub count-bare : (p : RecordValue → Bool) (rows : List RecordValue) → count_by p (map bare rows) ≡ count_by (λ r. p (bare r)) rows
 count-bare p [] = refl
 count-bare p (r ∷ rows) = omega (arith, count-cons p (bare r) (map bare rows), count-cons (λ x. p (bare x)) r rows, count-bare p rows)
 
 -- it is all one whether columns are dropped before records are put in order or after
-pub ordered-bare : (rows : List Row) → ordered (map bare rows) ≡ map bare (ordered rows)
+pub ordered-bare : (rows : List RecordValue) → ordered (map bare rows) ≡ map bare (ordered rows)
 ordered-bare rows = rows-alone (ordered (map bare rows)) (map bare (ordered rows)) (ordered-in_order (map bare rows)) (in_order-bare (ordered rows) (ordered-in_order rows))
-    (λ r. count-ordered (λ q. is_eq (row_cmp r q)) (map bare rows)
-    ∙ count-bare (λ q. is_eq (row_cmp r q)) rows
-    ∙ sym (count-ordered (λ q. is_eq (row_cmp r (bare q))) rows)
-    ∙ sym (count-bare (λ q. is_eq (row_cmp r q)) (ordered rows)))
+    (λ r. count-ordered (λ q. is_eq (record_cmp r q)) (map bare rows)
+    ∙ count-bare (λ q. is_eq (record_cmp r q)) rows
+    ∙ sym (count-ordered (λ q. is_eq (record_cmp r (bare q))) rows)
+    ∙ sym (count-bare (λ q. is_eq (record_cmp r q)) (ordered rows)))

@@ -9,27 +9,29 @@ use Rattle.std.proofs.lemmas.Bool.Decides.{nat_tests}
 use Rattle.std.proofs.lemmas.List.Elements.{All-from_recursion, recursion_from_All, All-map}
 use Rattle.std.proofs.lemmas.List.Kept.{AllPairs-cons}
 use Rattle.iv_text.specs.Ordered.{AreInOrder}
-use Rattle.iv_text.specs.Row.{Row, row_cmp}
+use Rattle.iv_text.specs.RecordValue.{RecordValue, record_cmp}
 use Rattle.iv_text.proofs.PrecedesLemmas.{precedes-from}
-use Rattle.iv_index.specs.Cover.{is_covered, AreApart}
-use Rattle.iv_index.specs.Joins.{touches, grown, joined, joined_from}
-use Rattle.iv_index.specs.Places.{HasBase, bare, row_at, rows_at}
-use Rattle.iv_index.specs.declared.place.Place.{Place}
+use Rattle.iv_index.specs.Cover.{is_covered}
+use Rattle.iv_index.specs.Inside.Cover.{AreApart}
+use Rattle.iv_index.specs.Inside.Joins.{touches, grown, joined, joined_from}
+use Rattle.iv_index.specs.Locators.{bare}
+use Rattle.iv_index.specs.Inside.Locators.{HasBase, row_at, rows_at}
+use Rattle.iv_index.specs.declared.locator.Locator.{Locator}
 
 -- the place covers position p of the sequence of this rank
-abbrev on : ℕ → ℕ → Place → Bool
+abbrev on : ℕ → ℕ → Locator → Bool
 on seq p place = (place.span.seq == seq) && (nat_le place.span.start p && nat_lt p place.span.stop)
 
 -- b doesn't start before a
-abbrev Before : Place → Place → Type 0
+abbrev Before : Locator → Locator → Type 0
 Before a b = (a.span.seq ≤ b.span.seq) × (a.span.seq ≡ b.span.seq → a.span.start ≤ b.span.start)
 
 -- b is on the sequence of a and starts past its stop, or on a later one
-abbrev Past : Place → Place → Type 0
+abbrev Past : Locator → Locator → Type 0
 Past a b = (a.span.seq ≤ b.span.seq) × (a.span.seq ≡ b.span.seq → a.span.stop < b.span.start)
 
 -- each place is so beside each that comes after it
-abbrev pub InTurn : (Place → Place → Type 0) → List Place → Type 0
+abbrev pub InTurn : (Locator → Locator → Type 0) → List Locator → Type 0
 InTurn R [] = Unit {0}
 InTurn R (x ∷ xs) = AllByRecursion (R x) xs × InTurn R xs
 
@@ -40,7 +42,7 @@ or_assoc true b c = refl
 or_assoc false b c = refl
 
 -- two places that touch, as one place
-on-grown : (seq p : ℕ) (k x : Place) → touches k x ≡ true → Before k x → on seq p (grown k x) ≡ (on seq p k || on seq p x)
+on-grown : (seq p : ℕ) (k x : Locator) → touches k x ≡ true → Before k x → on seq p (grown k x) ≡ (on seq p k || on seq p x)
 on-grown seq p k x touch before =
     let parts = and_parts (k.span.seq == x.span.seq) (nat_le x.span.start k.span.stop) touch in
     let same : k.span.seq ≡ x.span.seq = eqb-true k.span.seq x.span.seq parts.0 in
@@ -48,7 +50,7 @@ on-grown seq p k x touch before =
     let begin : k.span.start ≤ x.span.start = before.1 same in
     grind (arith, nat_tests)
 
-cover_from : (seq p : ℕ) (k : Place) (xs : List Place) → InTurn Before (k ∷ xs) → list_any (on seq p) (joined_from k xs) ≡ (on seq p k || list_any (on seq p) xs)
+cover_from : (seq p : ℕ) (k : Locator) (xs : List Locator) → InTurn Before (k ∷ xs) → list_any (on seq p) (joined_from k xs) ≡ (on seq p k || list_any (on seq p) xs)
 cover_from seq p k [] turn = refl
 cover_from seq p k (x ∷ xs) turn = (elim (touches k x) as (λ c. touches k x ≡ c → list_any (on seq p) (cond c (joined_from (grown k x) xs) (k ∷ joined_from x xs)) ≡ (on seq p k || (on seq p x || list_any (on seq p) xs))) [
   | true ↦ λ touch.
@@ -58,17 +60,17 @@ cover_from seq p k (x ∷ xs) turn = (elim (touches k x) as (λ c. touches k x �
   | false ↦ λ _. ap (λ b. on seq p k || b) (cover_from seq p x xs turn.1)
 ]) refl
 
-cover-joined : (seq p : ℕ) (xs : List Place) → InTurn Before xs → list_any (on seq p) (joined xs) ≡ list_any (on seq p) xs
+cover-joined : (seq p : ℕ) (xs : List Locator) → InTurn Before xs → list_any (on seq p) (joined xs) ≡ list_any (on seq p) xs
 cover-joined seq p [] turn = refl
 cover-joined seq p (x ∷ xs) turn = cover_from seq p x xs turn
 
-cover-rows : (w : ℕ) (text : List ℕ) (seq p : ℕ) (xs : List Place) → is_covered (rows_at w text xs) seq p ≡ list_any (on seq p) xs
+cover-rows : (w : ℕ) (text : List ℕ) (seq p : ℕ) (xs : List Locator) → is_covered (rows_at w text xs) seq p ≡ list_any (on seq p) xs
 cover-rows w text seq p [] = refl
 cover-rows w text seq p (x ∷ xs) = ap (λ b. on seq p x || b) (cover-rows w text seq p xs)
 
 -- ---- that they are apart
 
-past-untouched : (k x : Place) → touches k x ≡ false → Before k x → Past k x
+past-untouched : (k x : Locator) → touches k x ≡ false → Before k x → Past k x
 past-untouched k x not before = (
   before.0,
   λ same. elim (and_cases (k.span.seq == x.span.seq) (nat_le x.span.start k.span.stop) not) [
@@ -77,7 +79,7 @@ past-untouched k x not before = (
   ],
 )
 
-past-before : (j k x : Place) → Past j k → Before k x → Past j x
+past-before : (j k x : Locator) → Past j k → Before k x → Past j x
 past-before j k x past before =
     let low : j.span.seq ≤ k.span.seq = past.0 in
     let high : k.span.seq ≤ x.span.seq = before.0 in (
@@ -90,57 +92,57 @@ past-before j k x past before =
           omega arith,
     )
 
-past_from : (j k : Place) (xs : List Place) → Past j k → InTurn Before (k ∷ xs) → AllByRecursion (Past j) (joined_from k xs)
+past_from : (j k : Locator) (xs : List Locator) → Past j k → InTurn Before (k ∷ xs) → AllByRecursion (Past j) (joined_from k xs)
 past_from j k [] past turn = (past, tt)
 past_from j k (x ∷ xs) past turn = elim (touches k x) as (λ c. AllByRecursion (Past j) (cond c (joined_from (grown k x) xs) (k ∷ joined_from x xs))) [
   | true ↦ past_from j (grown k x) xs past (turn.0.1, turn.1.1)
   | false ↦ (past, past_from j x xs (past-before j k x past turn.0.0) turn.1)
 ]
 
-apart_from : (k : Place) (xs : List Place) → InTurn Before (k ∷ xs) → InTurn Past (joined_from k xs)
+apart_from : (k : Locator) (xs : List Locator) → InTurn Before (k ∷ xs) → InTurn Past (joined_from k xs)
 apart_from k [] turn = (tt, tt)
 apart_from k (x ∷ xs) turn = (elim (touches k x) as (λ c. touches k x ≡ c → InTurn Past (cond c (joined_from (grown k x) xs) (k ∷ joined_from x xs))) [
   | true ↦ λ _. apart_from (grown k x) xs (turn.0.1, turn.1.1)
   | false ↦ λ not. (past_from k x xs (past-untouched k x not turn.0.0) turn.1, apart_from x xs turn.1)
 ]) refl
 
-apart-joined : (xs : List Place) → InTurn Before xs → InTurn Past (joined xs)
+apart-joined : (xs : List Locator) → InTurn Before xs → InTurn Past (joined xs)
 apart-joined [] turn = tt
 apart-joined (x ∷ xs) turn = apart_from x xs turn
 
 -- ---- that each has a base
 
-bases_from : (k : Place) (xs : List Place) → HasBase k → AllByRecursion HasBase xs → AllByRecursion HasBase (joined_from k xs)
+bases_from : (k : Locator) (xs : List Locator) → HasBase k → AllByRecursion HasBase xs → AllByRecursion HasBase (joined_from k xs)
 bases_from k [] some all = (some, tt)
 bases_from k (x ∷ xs) some all = elim (touches k x) as (λ c. AllByRecursion HasBase (cond c (joined_from (grown k x) xs) (k ∷ joined_from x xs))) [
   | true ↦ bases_from (grown k x) xs (omega arith) all.1
   | false ↦ (some, bases_from x xs all.0 all.1)
 ]
 
-bases : (xs : List Place) → AllByRecursion HasBase xs → AllByRecursion HasBase (joined xs)
+bases : (xs : List Locator) → AllByRecursion HasBase xs → AllByRecursion HasBase (joined xs)
 bases [] all = all
 bases (x ∷ xs) all = bases_from x xs all.0 all.1
 
-pub bases-joined : (xs : List Place) → All HasBase xs → All HasBase (joined xs)
+pub bases-joined : (xs : List Locator) → All HasBase xs → All HasBase (joined xs)
 bases-joined xs all = All-from_recursion HasBase (joined xs) (bases xs (recursion_from_All HasBase xs all))
 
 -- ---- their records
 
-before : (a b : Row) → is_le (row_cmp a b) ≡ true → (a.seq ≤ b.seq) × (a.seq ≡ b.seq → a.start ≤ b.start)
+before : (a b : RecordValue) → is_le (record_cmp a b) ≡ true → (a.seq ≤ b.seq) × (a.seq ≡ b.seq → a.start ≤ b.start)
 before a b h = elim (precedes-from a b h) [
   | inl later ↦ (omega (arith, later), λ e. absurd (omega (arith, later, e)))
   | inr same ↦ (omega (arith, same.0), λ e. same.1)
 ]
 
-each-before : (w : ℕ) (text : List ℕ) (x : Place) (xs : List Place) → AllByRecursion (λ y. is_le (row_cmp (row_at w text x) y) ≡ true) (rows_at w text xs) → AllByRecursion (Before x) xs
+each-before : (w : ℕ) (text : List ℕ) (x : Locator) (xs : List Locator) → AllByRecursion (λ y. is_le (record_cmp (row_at w text x) y) ≡ true) (rows_at w text xs) → AllByRecursion (Before x) xs
 each-before w text x [] all = tt
 each-before w text x (y ∷ ys) all = (before (row_at w text x) (row_at w text y) all.0, each-before w text x ys all.1)
 
-in-turn : (w : ℕ) (text : List ℕ) (xs : List Place) → AreInOrder (rows_at w text xs) → InTurn Before xs
+in-turn : (w : ℕ) (text : List ℕ) (xs : List Locator) → AreInOrder (rows_at w text xs) → InTurn Before xs
 in-turn w text [] order = tt
 in-turn w text (x ∷ xs) order = (each-before w text x xs order.0, in-turn w text xs order.1)
 
-row-le : (a b : Row) → a.seq ≤ b.seq → (a.seq ≡ b.seq → a.start < b.start) → is_le (row_cmp a b) ≡ true
+row-le : (a b : RecordValue) → a.seq ≤ b.seq → (a.seq ≡ b.seq → a.start < b.start) → is_le (record_cmp a b) ≡ true
 row-le a b low starts = elim (cases_lt a.seq b.seq) [
   | inl less ↦ rw (lt-ltb a.seq b.seq less) refl
   | inr not ↦
@@ -149,39 +151,39 @@ row-le a b low starts = elim (cases_lt a.seq b.seq) [
       rw (tied, lt-ltb a.start b.start (starts same)) refl
 ]
 
-each-after : (w : ℕ) (text : List ℕ) (x : Place) (xs : List Place) → HasBase x → AllByRecursion (Past x) xs → AllByRecursion (λ y. is_le (row_cmp (row_at w text x) y) ≡ true) (rows_at w text xs)
+each-after : (w : ℕ) (text : List ℕ) (x : Locator) (xs : List Locator) → HasBase x → AllByRecursion (Past x) xs → AllByRecursion (λ y. is_le (record_cmp (row_at w text x) y) ≡ true) (rows_at w text xs)
 each-after w text x [] some all = tt
 each-after w text x (y ∷ ys) some all = (
   row-le (row_at w text x) (row_at w text y) all.0.0 (λ same. let far : x.span.stop < y.span.start = all.0.1 same in omega arith),
   each-after w text x ys some all.1,
 )
 
-order-apart : (w : ℕ) (text : List ℕ) (xs : List Place) → AllByRecursion HasBase xs → InTurn Past xs → AreInOrder (rows_at w text xs)
+order-apart : (w : ℕ) (text : List ℕ) (xs : List Locator) → AllByRecursion HasBase xs → InTurn Past xs → AreInOrder (rows_at w text xs)
 order-apart w text [] some turn = tt
 order-apart w text (x ∷ xs) some turn = (each-after w text x xs some.0 turn.0, order-apart w text xs some.1 turn.1)
 
-each-apart : (w : ℕ) (text : List ℕ) (x : Place) (xs : List Place) → AllByRecursion (Past x) xs → AllByRecursion (λ (y : Row). x.span.seq ≡ y.seq → x.span.stop < y.start) (rows_at w text xs)
+each-apart : (w : ℕ) (text : List ℕ) (x : Locator) (xs : List Locator) → AllByRecursion (Past x) xs → AllByRecursion (λ (y : RecordValue). x.span.seq ≡ y.seq → x.span.stop < y.start) (rows_at w text xs)
 each-apart w text x [] all = tt
 each-apart w text x (y ∷ ys) all = (all.0.1, each-apart w text x ys all.1)
 
-rows-apart : (w : ℕ) (text : List ℕ) (xs : List Place) → InTurn Past xs → AreApart (rows_at w text xs)
+rows-apart : (w : ℕ) (text : List ℕ) (xs : List Locator) → InTurn Past xs → AreApart (rows_at w text xs)
 rows-apart w text [] turn = λ i j d low high. absurd (omega arith)
 rows-apart w text (x ∷ xs) turn =
-    AllPairs-cons (λ (a b : Row). a.seq ≡ b.seq → a.stop < b.start) (row_at w text x) (rows_at w text xs)
-    (All-from_recursion (λ (y : Row). x.span.seq ≡ y.seq → x.span.stop < y.start) (rows_at w text xs) (each-apart w text x xs turn.0)) (rows-apart w text xs turn.1)
+    AllPairs-cons (λ (a b : RecordValue). a.seq ≡ b.seq → a.stop < b.start) (row_at w text x) (rows_at w text xs)
+    (All-from_recursion (λ (y : RecordValue). x.span.seq ≡ y.seq → x.span.stop < y.start) (rows_at w text xs) (each-apart w text x xs turn.0)) (rows-apart w text xs turn.1)
 
 -- the records of joined places cover what those of the places do
-pub covered-joined : (w v : ℕ) (text : List ℕ) (xs : List Place) → AreInOrder (rows_at w text xs) → (seq p : ℕ) → is_covered (rows_at v text (joined xs)) seq p ≡ is_covered (rows_at w text xs) seq p
+pub covered-joined : (w v : ℕ) (text : List ℕ) (xs : List Locator) → AreInOrder (rows_at w text xs) → (seq p : ℕ) → is_covered (rows_at v text (joined xs)) seq p ≡ is_covered (rows_at w text xs) seq p
 covered-joined w v text xs order seq p = cover-rows v text seq p (joined xs) ∙ cover-joined seq p xs (in-turn w text xs order) ∙ sym (cover-rows w text seq p xs)
 
 -- they are apart
-pub rows-joined_apart : (w v : ℕ) (text : List ℕ) (xs : List Place) → AreInOrder (rows_at w text xs) → AreApart (rows_at v text (joined xs))
+pub rows-joined_apart : (w v : ℕ) (text : List ℕ) (xs : List Locator) → AreInOrder (rows_at w text xs) → AreApart (rows_at v text (joined xs))
 rows-joined_apart w v text xs order = rows-apart v text (joined xs) (apart-joined xs (in-turn w text xs order))
 
 -- they are in order
-pub rows-joined_order : (w v : ℕ) (text : List ℕ) (xs : List Place) → All HasBase xs → AreInOrder (rows_at w text xs) → AreInOrder (rows_at v text (joined xs))
+pub rows-joined_order : (w v : ℕ) (text : List ℕ) (xs : List Locator) → All HasBase xs → AreInOrder (rows_at w text xs) → AreInOrder (rows_at v text (joined xs))
 rows-joined_order w v text xs some order = order-apart v text (joined xs) (bases xs (recursion_from_All HasBase xs some)) (apart-joined xs (in-turn w text xs order))
 
 -- records in three columns are what they are in three columns
-pub all-bare : (rows : List Row) → All (λ r. r ≡ bare r) (map bare rows)
-all-bare rows = All-map (λ (r : Row). r ≡ bare r) bare rows (λ k d h. refl)
+pub all-bare : (rows : List RecordValue) → All (λ r. r ≡ bare r) (map bare rows)
+all-bare rows = All-map (λ (r : RecordValue). r ≡ bare r) bare rows (λ k d h. refl)

@@ -1,4 +1,4 @@
-pub mod PlaceLemmas
+pub mod LocatorLemmas
 pub mod ReadingLemmas
 pub mod OrderLemmas
 pub mod SortedLemmas

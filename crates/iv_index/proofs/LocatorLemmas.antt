@@ -1,9 +1,9 @@
 -- The line at a byte of a text.
 use Rattle.std.proofs.Common.{◌≡◌, ℕ, ◌+◌, ◌-◌, ◌≤◌, List, [], ◌∷◌, length, take, drop, refl, sym, ap, ◌∙◌}
 use Rattle.std.proofs.lemmas.List.{drop_all, drop-drop}
-use Rattle.iv_text.proofs.KeptLemmas.{rest-whole}
+use Rattle.iv_text.proofs.BedReadingLemmas.{rest-whole}
 use Rattle.iv_text.specs.Lines.{lines}
-use Rattle.iv_index.specs.Places.{line_at}
+use Rattle.iv_index.specs.Inside.Locators.{line_at}
 
 pub line-past : (text : List ℕ) (at : ℕ) → length text ≤ at → line_at text at ≡ []
 unfolding line_at

@@ -18,7 +18,7 @@ use Rattle.std.specs.Cmp.Lexicographic.{slice_cmp}
 use Rattle.std.specs.Option.{option_cmp}
 use Rattle.iv_text.proofs.OrderedLemmas.{ordered-sorted}
 use Rattle.iv_text.specs.Ordered.{ordered}
-use Rattle.iv_text.specs.Row.{Row, beside_cmp, row_cmp, rows_total, strand_cmp}
+use Rattle.iv_text.specs.RecordValue.{RecordValue, beside_cmp, record_cmp, rows_total, strand_cmp}
 use Rattle.iv_text.specs.declared.record_ref.Strand.{Strand}
 
 pub then_equal : (o : Ordering) → ordering_then o Equal ≡ o
@@ -50,7 +50,7 @@ tied Equal Equal Greater o h = cc
 tied Equal Equal Equal o h = refl
 
 -- name, score and strand decide among records of one width
-pub columns-cmp : (a b : Row) (name_a score_a : List ℕ) (strand_a : Option Strand) (name_b score_b : List ℕ) (strand_b : Option Strand) → a.width ≡ b.width
+pub columns-cmp : (a b : RecordValue) (name_a score_a : List ℕ) (strand_a : Option Strand) (name_b score_b : List ℕ) (strand_b : Option Strand) → a.width ≡ b.width
     → name_a ≡ a.name → score_a ≡ a.score → strand_a ≡ a.strand → name_b ≡ b.name → score_b ≡ b.score → strand_b ≡ b.strand
     → ordering_then (slice_cmp nat_cmp name_a name_b) (ordering_then (slice_cmp nat_cmp score_a score_b) (option_cmp strand_cmp strand_a strand_b)) ≡ beside_cmp a b
 columns-cmp a b name_a score_a strand_a name_b score_b strand_b width na sa ta nb sb tb =
@@ -66,19 +66,19 @@ sorted-map cmp key e xs up = λ k d from to.
     rw (get_or-map key xs (k + 1) e d within, get_or-map key xs k e d (omega arith)) (up k e from within)
 
 -- things that a sort by their records has moved
-pub sorted-rows : {X : Type 0} (row : X → Row) (e : X) (old new : List X) → IsPermutation old new
-    → IsSortedBy (λ x y. is_lt (row_cmp (row x) (row y))) new → map row new ≡ ordered (map row old)
+pub sorted-rows : {X : Type 0} (row : X → RecordValue) (e : X) (old new : List X) → IsPermutation old new
+    → IsSortedBy (λ x y. is_lt (record_cmp (row x) (row y))) new → map row new ≡ ordered (map row old)
 sorted-rows row e old new moved up =
-    ordered-sorted (map row old) (map row new) (IsPermutation-map row old new moved) (sorted-map row_cmp row e new up)
+    ordered-sorted (map row old) (map row new) (IsPermutation-map row old new moved) (sorted-map record_cmp row e new up)
 
 -- what a sort by records says of its closure, if each call compares the records of two things
-pub sorted-by-rows : {X F : Type 0} {g : Mut F (Bor X × (Bor X × Unit {0})) Ordering} {f : F} (row : X → Row) (ps : List X)
+pub sorted-by-rows : {X F : Type 0} {g : Mut F (Bor X × (Bor X × Unit {0})) Ordering} {f : F} (row : X → RecordValue) (ps : List X)
     → ((lt : X → X → Bool) → IsStrictWeakOrder lt → ComparesAs g lt f → IsSortedBy lt ps)
-    → ((a : Bor X × (Bor X × Unit {0})) (r : Ordering) (f' : F) → Called g f a r f' → (r ≡ row_cmp (row a.0.now) (row a.1.0.now)) × (f' ≡ f))
-    → IsSortedBy (λ x y. is_lt (row_cmp (row x) (row y))) ps
+    → ((a : Bor X × (Bor X × Unit {0})) (r : Ordering) (f' : F) → Called g f a r f' → (r ≡ record_cmp (row a.0.now) (row a.1.0.now)) × (f' ≡ f))
+    → IsSortedBy (λ x y. is_lt (record_cmp (row x) (row y))) ps
 sorted-by-rows {g = g} {f = f} row ps up h =
-    up (λ x y. is_lt (row_cmp (row x) (row y))) (ranks_by rows_total row)
-    (always_returns_same g (λ a r. is_lt r ≡ is_lt (row_cmp (row a.0.now) (row a.1.0.now))) f (λ a r f' k. (ap is_lt (h a r f' k).0, (h a r f' k).1)))
+    up (λ x y. is_lt (record_cmp (row x) (row y))) (ranks_by rows_total row)
+    (always_returns_same g (λ a r. is_lt r ≡ is_lt (record_cmp (row a.0.now) (row a.1.0.now))) f (λ a r f' k. (ap is_lt (h a r f' k).0, (h a r f' k).1)))
 
 -- what `is_sorted_by` says of its closure, if each call tells that the second doesn't belong in front of the first
 pub in-order : {X F : Type 0} {g : Mut F (Bor X × (Bor X × Unit {0})) Bool} {f : F} (d : X) (lt : X → X → Bool) (ps : List X) (r : Bool)

@@ -6,39 +6,39 @@ use Rattle.std.proofs.lemmas.Bool.Decides.{nat_tests}
 use Rattle.std.proofs.lemmas.List.{drop_all, get_or_past}
 use Rattle.std.proofs.lemmas.List.Elements.{All-nil, All-cons, All-head, All-tail}
 use Rattle.iv_text.proofs.ReadLemmas.{hit}
-use Rattle.iv_text.proofs.KeptLemmas.{begun-sound, fit-all, kept-all, rows-all, sound-kept, whole-file}
+use Rattle.iv_text.proofs.BedReadingLemmas.{begun-sound, fit-all, kept-all, rows-all, sound-kept, whole-file}
 use Rattle.iv_text.specs.Fields.{columns}
 use Rattle.iv_text.specs.Genome.{Sequences}
-use Rattle.iv_text.specs.KeptDrafts.{AreSound, Held, RefusesLines, Shows, TakesLines, after, begun, byte_after, none_held, shown}
+use Rattle.iv_text.specs.BedReading.{AreSound, Held, RefusesLines, Shows, TakesLines, after, begun, byte_after, none_held, shown}
 use Rattle.iv_text.specs.Lines.{lines}
 use Rattle.iv_text.specs.Read.{read, row, or_fault, has_fault, faults, column, Fits}
-use Rattle.iv_text.specs.Row.{Row, strand_of}
+use Rattle.iv_text.specs.RecordValue.{RecordValue, strand_of}
 use Rattle.iv_text.specs.BedFile.{Draft, bed_of, finished}
 use Rattle.iv_text.specs.declared.fault.Fault.{Fault}
 use Rattle.iv_text.specs.declared.fault.Fault.TheVariants as fault
 use Rattle.iv_text.specs.declared.fault.LoadFault.{LoadFault}
-use Rattle.iv_index.proofs.PlaceLemmas.{line-is}
-use Rattle.iv_index.specs.Places.{HasBase, line_at, place_at, row_of, row_at, rows_at}
-use Rattle.iv_index.specs.Drafts.{ArePlaces}
-use Rattle.iv_index.specs.declared.place.Place.{Place}
+use Rattle.iv_index.proofs.LocatorLemmas.{line-is}
+use Rattle.iv_index.specs.Inside.Locators.{HasBase, line_at, locator_at, row_of, row_at, rows_at}
+use Rattle.iv_index.specs.Inside.Drafts.{AreLocators}
+use Rattle.iv_index.specs.declared.locator.Locator.{Locator}
 
 -- ---- the record of a line
 
-or_fault-ok : (o : Option Fault) (q r : Row) → or_fault o q ≡ Ok r → q ≡ r
+or_fault-ok : (o : Option Fault) (q r : RecordValue) → or_fault o q ≡ Ok r → q ≡ r
 or_fault-ok None q r h = cc
 or_fault-ok (Some f) q r h = cc
 
-row-is : (g : Sequences) (w : ℕ) (line : List ℕ) (r : Row) → read g w line ≡ Ok r → row g w (columns line) ≡ r
+row-is : (g : Sequences) (w : ℕ) (line : List ℕ) (r : RecordValue) → read g w line ≡ Ok r → row g w (columns line) ≡ r
 row-is g w line r says = or_fault-ok (find (has_fault g w (columns line)) faults) (row g w (columns line)) r says
 
-or_fault-hit : (o : Option Fault) (f : Fault) (q r : Row) → o ≡ Some f → or_fault o q ≡ Ok r → ⊥
+or_fault-hit : (o : Option Fault) (f : Fault) (q r : RecordValue) → o ≡ Some f → or_fault o q ≡ Ok r → ⊥
 or_fault-hit None f q r is h = cc
 or_fault-hit (Some e) f q r is h = cc
 
 other_faults : List Fault
 other_faults = fault.UnknownSeq ∷ fault.StartNumber ∷ fault.StopNumber ∷ fault.Order ∷ fault.PastEnd ∷ fault.Name ∷ fault.Score ∷ fault.Strand ∷ []
 
-count-is : (g : Sequences) (w : ℕ) (line : List ℕ) (r : Row) → read g w line ≡ Ok r → length (columns line) ≡ w
+count-is : (g : Sequences) (w : ℕ) (line : List ℕ) (r : RecordValue) → read g w line ≡ Ok r → length (columns line) ≡ w
 unfolding other_faults
 count-is g w line r says = by (length (columns line) == w) refl
   where
@@ -57,21 +57,21 @@ wanted {X} k w x d beyond = by (nat_le k w) refl
     by false e = sym (beyond (grind (arith, nat_tests, e)))
 
 -- the record of a line is that of its place
-pub place-row : (g : Sequences) (w : ℕ) (line : List ℕ) (r : Row) (p : Place) → read g w line ≡ Ok r → p.span.seq ≡ r.seq → p.span.start ≡ r.start → p.span.stop ≡ r.stop → r ≡ row_of w line p
+pub place-row : (g : Sequences) (w : ℕ) (line : List ℕ) (r : RecordValue) (p : Locator) → read g w line ≡ Ok r → p.span.seq ≡ r.seq → p.span.start ≡ r.start → p.span.stop ≡ r.stop → r ≡ row_of w line p
 place-row g w line r p says rank start stop =
     let cs = columns line in
     let is : row g w cs ≡ r = row-is g w line r says in
     let count : length cs ≡ w = count-is g w line r says in
-    let name : r.name ≡ cond (nat_le 4 w) (column cs 3) [] = ap (λ (q : Row). q.name) (sym is) ∙ sym (wanted 4 w (column cs 3) [] (λ low. column-past cs 3 (omega arith))) in
-    let score : r.score ≡ cond (nat_le 5 w) (column cs 4) [] = ap (λ (q : Row). q.score) (sym is) ∙ sym (wanted 5 w (column cs 4) [] (λ low. column-past cs 4 (omega arith))) in
-    let strand : r.strand ≡ cond (nat_le 6 w) (strand_of (column cs 5)) None = ap (λ (q : Row). q.strand) (sym is) ∙ sym (wanted 6 w (strand_of (column cs 5)) None (λ low. ap strand_of (column-past cs 5 (omega arith)))) in
-    let width : r.width ≡ w = ap (λ (q : Row). q.width) (sym is) in
+    let name : r.name ≡ cond (nat_le 4 w) (column cs 3) [] = ap (λ (q : RecordValue). q.name) (sym is) ∙ sym (wanted 4 w (column cs 3) [] (λ low. column-past cs 3 (omega arith))) in
+    let score : r.score ≡ cond (nat_le 5 w) (column cs 4) [] = ap (λ (q : RecordValue). q.score) (sym is) ∙ sym (wanted 5 w (column cs 4) [] (λ low. column-past cs 4 (omega arith))) in
+    let strand : r.strand ≡ cond (nat_le 6 w) (strand_of (column cs 5)) None = ap (λ (q : RecordValue). q.strand) (sym is) ∙ sym (wanted 6 w (strand_of (column cs 5)) None (λ low. ap strand_of (column-past cs 5 (omega arith)))) in
+    let width : r.width ≡ w = ap (λ (q : RecordValue). q.width) (sym is) in
     λ i. record { seq = sym rank i; start = sym start i; stop = sym stop i; name = name i; score = score i; strand = strand i; width = width i }
 
 -- ---- a whole file
 
 -- the record of a place in a text, of as many columns as its line has
-abbrev row_in : List ℕ → Place → Row
+abbrev row_in : List ℕ → Locator → RecordValue
 row_in text p = row_of (length (columns (line_at text p.line))) (line_at text p.line) p
 
 no-line : (line : List ℕ) (others : List (List ℕ)) → lines [] ≡ line ∷ others → ⊥
@@ -86,32 +86,32 @@ line-within text at line others are = by (nat_le (length text) at) refl
     by false e = grind (arith, nat_tests, e)
 
 -- records that fit have a base
-fits-base : (g : Sequences) (w v : ℕ) (text : List ℕ) (ps : List Place) → All (Fits g w) (rows_at v text ps) → All HasBase ps
+fits-base : (g : Sequences) (w v : ℕ) (text : List ℕ) (ps : List Locator) → All (Fits g w) (rows_at v text ps) → All HasBase ps
 fits-base g w v text [] fit = All-nil HasBase
 fits-base g w v text (p ∷ ps) fit =
     All-cons HasBase p ps (All-head (Fits g w) (row_at v text p) (rows_at v text ps) fit).is_placed.some (fits-base g w v text ps (All-tail (Fits g w) (row_at v text p) (rows_at v text ps) fit))
 
 -- records of one width are those of that width
-rows-in : (g : Sequences) (w : ℕ) (text : List ℕ) (ps : List Place) → All (Fits g w) (map (row_in text) ps) → map (row_in text) ps ≡ rows_at w text ps
+rows-in : (g : Sequences) (w : ℕ) (text : List ℕ) (ps : List Locator) → All (Fits g w) (map (row_in text) ps) → map (row_in text) ps ≡ rows_at w text ps
 rows-in g w text [] fit = refl
 rows-in g w text (p ∷ ps) fit =
     let wide : length (columns (line_at text p.line)) ≡ w = (All-head (Fits g w) (row_in text p) (map (row_in text) ps) fit).width_is in
     λ i. row_of (wide i) (line_at text p.line) p ∷ rows-in g w text ps (All-tail (Fits g w) (row_in text p) (map (row_in text) ps) fit) i
 
 -- the places are those of the records that the text says
-pub record AreRead (g : Sequences) (limit empty : ℕ) (text : List ℕ) (w : ℕ) (places : List Place) : Type 0 where
+pub record AreRead (g : Sequences) (limit empty : ℕ) (text : List ℕ) (w : ℕ) (places : List Locator) : Type 0 where
   pub says : bed_of g empty limit text ≡ Ok (record { width = w; rows = rows_at w text places })
   pub fit : All (Fits g w) (rows_at w text places)
   pub few : length (rows_at w text places) ≤ limit
-  pub places_are : ArePlaces w places
+  pub places_are : AreLocators w places
 
 module _ (g : Sequences) (limit empty : ℕ) (text : List ℕ) (small : length text < 2 ^ 32) where
   -- a place that is kept shows the record of its line
-  shows-places : Shows place_at g (λ r. r) (row_in text) 0 text
+  shows-places : Shows locator_at g (λ r. r) (row_in text) 0 text
   shows-places = record {
     again = λ r. refl;
     shows = λ skipped w line others r are reads.
-        let p : Place = place_at r (byte_after 0 skipped) in
+        let p : Locator = locator_at r (byte_after 0 skipped) in
         let within : skipped < length text = line-within text skipped line others are in
         let at : byte_after 0 skipped ≡ skipped = ap (λ (n : ℕ). n % 2 ^ 32) (omega arith) ∙ mod-eq_of_lt (omega (arith, within, small)) in
         let line_is : line_at text p.line ≡ line = ap (line_at text) at ∙ line-is text skipped line others are in
@@ -128,17 +128,17 @@ module _ (g : Sequences) (limit empty : ℕ) (text : List ℕ) (small : length t
       ∙ ap (λ (ls : List (List ℕ)). finished empty (after (λ r. r) g limit begun.read ls)) (sym (append-nil (lines text)))
       ∙ ap (finished empty) is
 
-  pub text-refused : (old : Held Place) (f : LoadFault) → old ≡ none_held → RefusesLines place_at g limit old text f → bed_of g empty limit text ≡ Err f
+  pub text-refused : (old : Held Locator) (f : LoadFault) → old ≡ none_held → RefusesLines locator_at g limit old text f → bed_of g empty limit text ≡ Err f
   text-refused old f none refuses =
-      let begun_refuses : RefusesLines place_at g limit none_held text f = subst (λ (h : Held Place). RefusesLines place_at g limit h text f) none refuses in
+      let begun_refuses : RefusesLines locator_at g limit none_held text f = subst (λ (h : Held Locator). RefusesLines locator_at g limit h text f) none refuses in
       says (Err f) (begun_refuses (λ r. r) (row_in text) shows-places [])
 
-  pub text-read : (old now : Held Place) → old ≡ none_held → TakesLines place_at g limit old now text → 3 ≤ empty → empty ≤ 6
+  pub text-read : (old now : Held Locator) → old ≡ none_held → TakesLines locator_at g limit old now text → 3 ≤ empty → empty ≤ 6
       → AreRead g limit empty text (unwrap_or now.width empty) now.kept
   text-read old now none takes low high =
       let w : ℕ = unwrap_or now.width empty in
-      let rows : List Row = map (row_in text) now.kept in
-      let begun_takes : TakesLines place_at g limit none_held now text = subst (λ (h : Held Place). TakesLines place_at g limit h now text) none takes in
+      let rows : List RecordValue = map (row_in text) now.kept in
+      let begun_takes : TakesLines locator_at g limit none_held now text = subst (λ (h : Held Locator). TakesLines locator_at g limit h now text) none takes in
       let taken = begun_takes (λ r. r) (row_in text) shows-places in
       let sound : AreSound (λ r. r) g limit (shown (row_in text) now) = taken.0 (begun-sound (λ r. r) g limit) in
       let wide = sound-kept (λ r. r) g limit (shown (row_in text) now) empty sound low high in
@@ -148,8 +148,8 @@ module _ (g : Sequences) (limit empty : ℕ) (text : List ℕ) (small : length t
       record {
         says =
             says (Ok (record { width = now.width; rows = map (λ r. r) rows })) (taken.1 [])
-            ∙ ap (λ (l : List Row). Ok (record { width = w; rows = l })) (rows-all rows ∙ same);
+            ∙ ap (λ (l : List RecordValue). Ok (record { width = w; rows = l })) (rows-all rows ∙ same);
         fit = fit_at;
-        few = subst (λ (l : List Row). length l ≤ limit) same sound.few;
+        few = subst (λ (l : List RecordValue). length l ≤ limit) same sound.few;
         places_are = record { low = wide.0; high = wide.1; some = fits-base g w w text now.kept fit_at };
       }

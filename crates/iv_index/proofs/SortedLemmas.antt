@@ -6,12 +6,12 @@ use Rattle.iv_text.specs.BedFile.{Bed}
 use Rattle.iv_text.specs.Genome.{Sequences}
 use Rattle.iv_text.specs.Ordered.{ordered, AreInOrder}
 use Rattle.iv_text.specs.Read.{Fits, IsOnGenome}
-use Rattle.iv_text.specs.Row.{Row, row_cmp}
+use Rattle.iv_text.specs.RecordValue.{RecordValue, record_cmp}
 use Rattle.iv_text.proofs.OrderedLemmas.{all-all_added, ordered-in_order}
 
 -- what all records of a list have, those of the list in order have
-pub ordered-all : (P : Row → Type 0) (rows : List Row) → All P rows → All P (ordered rows)
-ordered-all P rows all = All-from_recursion P (ordered rows) (all-all_added row_cmp P rows [] (recursion_from_All P rows all) tt)
+pub ordered-all : (P : RecordValue → Type 0) (rows : List RecordValue) → All P rows → All P (ordered rows)
+ordered-all P rows all = All-from_recursion P (ordered rows) (all-all_added record_cmp P rows [] (recursion_from_All P rows all) tt)
 
 -- records that fit a genome lie on it
 pub on_genome-fit : (g : Sequences) (file : Bed) → All (Fits g file.width) file.rows → All (IsOnGenome g) file.rows

@@ -1,5 +1,3 @@
-pub mod Places
-pub mod Drafts
+pub mod Locators
 pub mod Cover
-pub mod Joins
-pub mod Spans
+pub mod Inside

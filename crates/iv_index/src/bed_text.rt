@@ -4,19 +4,21 @@ ghost use Rattle.iv_text.specs.BedFile.{bed_of};
 ghost use Rattle.iv_text.specs.Ordered.{AreInOrder, ordered};
 ghost use Rattle.iv_text.specs.Read.{Fits};
 ghost use Rattle.iv_text.specs.declared.fault.LoadCause.TheVariants as cause;
-ghost use Rattle.iv_index.specs.Joins.{grown, joined, touches};
-ghost use Rattle.iv_index.specs.Cover.{AreApart, is_covered};
-ghost use Rattle.iv_index.specs.Places.{bare};
+ghost use Rattle.iv_index.specs.Inside.Joins.{grown, joined, touches};
+ghost use Rattle.iv_index.specs.Cover.{is_covered};
+ghost use Rattle.iv_index.specs.Inside.Cover.{AreApart};
+ghost use Rattle.iv_index.specs.Locators.{bare};
+ghost use Rattle.iv_text.specs.Widths.{IsWidth};
 
-use crate::order::{are_in_order, compare, order_places};
-use crate::place::Place;
+use crate::locator::Locator;
+use crate::order::{are_in_order, compare, order_locators};
 use crate::text_records::TextRecords;
-use iv_text::{Genome, KeptLines, LoadFault};
+use iv_text::{BedLines, Genome, LoadFault};
 use std::alloc::{AllocError, Allocator, Global};
 use std::marker::Model;
 
 /// Joins a place to one that doesn't start past it, if the two overlap or are book-ended. Says whether they do.
-fn take_in(last: &mut Place, place: &Place) -> bool
+fn take_in(last: &mut Locator, place: &Locator) -> bool
     ensures touches { result ≡ touches last.old place.now }
     ensures new { last.new ≡ cond (touches last.old place.now) (grown last.old place.now) last.old }
 {
@@ -29,7 +31,7 @@ fn take_in(last: &mut Place, place: &Place) -> bool
 
 /// Joins places that are in order, each to the one before it if the two overlap or are book-ended. It is one pass,
 /// and takes no memory.
-pub(crate) fn join_places<A: Allocator>(places: &mut Vec<Place, A>)
+pub(crate) fn join_locators<A: Allocator>(places: &mut Vec<Locator, A>)
     ensures { places.new.items ≡ joined places.old.items }
 {
     places.dedup_by(|place, last| take_in(last, place));
@@ -42,20 +44,20 @@ pub(crate) fn join_places<A: Allocator>(places: &mut Vec<Place, A>)
 #[derive(Drop)]
 pub struct BedText<'t, A: Allocator = Global> {
     text: &'t [u8],
-    places: Vec<Place, A>,
+    places: Vec<Locator, A>,
     width: u8,
 }
 
 impl<'t, A: Allocator> Model for BedText<'t, A> {
     ghost use Rattle.iv_text.specs.BedFile.{Bed};
-    ghost use Rattle.iv_index.specs.Drafts.{ArePlaces};
-    ghost use Rattle.iv_index.specs.Places.{rows_at};
+    ghost use Rattle.iv_index.specs.Inside.Drafts.{AreLocators};
+    ghost use Rattle.iv_index.specs.Inside.Locators.{rows_at};
 
     ghost Value = { Bed };
 
     ghost view = { λ b. record { width = b.width; rows = rows_at b.width b.text.now b.places.items } };
 
-    ghost invariant = { λ b. ArePlaces b.width b.places.items };
+    ghost invariant = { λ b. AreLocators b.width b.places.items };
 }
 
 impl<'t, A: Allocator + Copy> BedText<'t, A> {
@@ -72,14 +74,14 @@ impl<'t, A: Allocator + Copy> BedText<'t, A> {
         limit: u32,
         text: &'t [u8],
     ) -> Result<BedText<'t, A>, LoadFault>
-        requires width { (3 ≤ empty_width) × (empty_width ≤ 6) }
+        requires width { IsWidth empty_width }
         requires small { length text.now < 2 ^ 32 }
         ensures ok { IfOk result (λ b. bed_of genome.now empty_width limit text.now ≡ Ok b) }
         ensures fit { IfOk result (λ b. All (Fits genome.now b.width) b.rows) }
         ensures few { IfOk result (λ b. length b.rows ≤ limit) }
         ensures err { IfErr result (λ f. (f ≡ record { line = 0; cause = cause.Memory }) ⊎ (bed_of genome.now empty_width limit text.now ≡ Err f)) }
     {
-        let mut lines: KeptLines<Place, A> = KeptLines::new(alloc);
+        let mut lines: BedLines<Locator, A> = BedLines::new(alloc);
         lines.take_lines(alloc, genome, limit, text)?;
         let (width, places) = lines.finish();
         let places = places.into_vec()?;
@@ -93,7 +95,7 @@ impl<'t, A: Allocator + Copy> BedText<'t, A> {
     /// The number of columns of each record, 3 to 6.
     pub fn width(&self) -> u8
         ensures value { result ≡ self.now.width }
-        ensures known { (3 ≤ result) × (result ≤ 6) }
+        ensures known { IsWidth result }
     {
         self.width
     }
@@ -102,7 +104,7 @@ impl<'t, A: Allocator + Copy> BedText<'t, A> {
     pub fn records(&self) -> TextRecords<'_>
         ensures { result ≡ self.now.rows }
     {
-        TextRecords::of_places(self.text, self.places.as_slice(), self.width)
+        TextRecords::of_locators(self.text, self.places.as_slice(), self.width)
     }
 
     /// Drops the columns after the third: of each record only its place is kept.
@@ -126,7 +128,7 @@ impl<'t, A: Allocator + Copy> BedText<'t, A> {
         if are_in_order(text, width, &self.places) {
             return Ok(());
         }
-        order_places(alloc, text, width, &mut self.places)?;
+        order_locators(alloc, text, width, &mut self.places)?;
         self.places
             .sort_unstable_by(|first, second| compare(text, width, first, second));
         Ok(())
@@ -144,12 +146,12 @@ impl<'t, A: Allocator + Copy> BedText<'t, A> {
         ensures covered { (seq p : ℕ) → is_covered self.new.rows seq p ≡ is_covered self.old.rows seq p }
         ensures apart { AreApart self.new.rows }
     {
-        join_places(&mut self.places);
+        join_locators(&mut self.places);
         self.drop_columns();
     }
 
     /// A lemma for callers' proofs: each record has a base. The call does nothing.
-    pub fn law_of_bases(&self)
+    pub fn lemma_of_bases(&self)
         ensures { All (λ r. r.start < r.stop) self.now.rows }
     {
         // What is read has its invariant.

@@ -1,14 +1,14 @@
-//! The records of a BED file as places in its text, or as places alone.
+//! The records of a BED file as places in its text, or as intervals alone.
 #![tactic(auto)]
 
 mod bed_text;
+mod locator;
 mod order;
-mod place;
 mod span;
 mod text_records;
 
 pub use bed_text::BedText;
+pub use locator::Locator;
 pub use order::{order_nearly, order_neighbors};
-pub use place::Place;
 pub use span::{Span, sort_spans, split_sequence};
 pub use text_records::{TextRecord, TextRecords};

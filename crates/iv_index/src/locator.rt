@@ -2,49 +2,50 @@
 ghost use Rattle.std.specs.Prelude.{◌≡◌, ◌≤◌, [], None, cond, drop, nat_le, refl};
 ghost use Rattle.iv_text.specs.Fields.{columns as columns_of};
 ghost use Rattle.iv_text.specs.Read.{column};
-ghost use Rattle.iv_text.specs.Row.{strand_of};
-ghost use Rattle.iv_index.specs.Places.{bare, place_at, row_of, line_at, row_at};
+ghost use Rattle.iv_text.specs.RecordValue.{strand_of};
+ghost use Rattle.iv_index.specs.Locators.{bare};
+ghost use Rattle.iv_index.specs.Inside.Locators.{locator_at, row_of, line_at, row_at};
 
 use crate::span::Span;
-use iv_text::{Fields, FromRecord, RecordRef, ShortLine, Strand, columns, read_strand, split_line};
+use iv_text::{FastLine, Fields, FromRecord, RecordRef, Strand, columns, read_strand, split_line};
 use std::alloc::{AllocError, Allocator};
 
 /// Where a record is, and where its line begins in the text of its file.
 #[derive(Clone, Copy, Debug, PartialEq, Eq)]
-pub struct Place {
+pub struct Locator {
     /// Where the record is, 0-based and half-open.
     pub span: Span,
     /// The byte of the text at which its line begins.
     pub line: u32,
 }
 
-impl<A: Allocator + Copy> FromRecord<A> for Place {
-    ghost kept = { bare };
+impl<A: Allocator + Copy> FromRecord<A> for Locator {
+    ghost projected = { bare };
 
-    ghost as_row = { row_of 3 [] };
+    ghost as_record = { row_of 3 [] };
 
-    ghost kept_of = { place_at };
+    ghost held_of = { locator_at };
 
     ghost again = { λ r. refl };
 
     ghost stands = { λ r at. refl };
 
-    fn from_record(alloc: A, record: &RecordRef<'_>, at: u32) -> Result<Place, AllocError> {
+    fn from_record(alloc: A, record: &RecordRef<'_>, at: u32) -> Result<Locator, AllocError> {
         let span = Span::from_record(alloc, record, at)?;
-        Ok(Place { span, line: at })
+        Ok(Locator { span, line: at })
     }
 
     fn most_in_batch() -> usize {
         usize::MAX
     }
 
-    fn is_place_alone(_width: u8) -> bool {
+    fn is_interval_alone(_width: u8) -> bool {
         true
     }
 
-    fn from_place(alloc: A, width: u8, line: &ShortLine, at: u32) -> Option<Place> {
-        let span = Span::from_place(alloc, width, line, at)?;
-        Some(Place { span, line: at })
+    fn from_interval(alloc: A, width: u8, line: &FastLine, at: u32) -> Option<Locator> {
+        let span = Span::from_interval(alloc, width, line, at)?;
+        Some(Locator { span, line: at })
     }
 }
 
@@ -90,7 +91,7 @@ fn optional_columns_in(line: &[u8], width: u8) -> OptionalColumns<'_>
 }
 
 /// Name, score and strand of the record of a place. At width 3 its line isn't looked at.
-pub(crate) fn optional_columns_of(text: &[u8], place: Place, width: u8) -> OptionalColumns<'_>
+pub(crate) fn optional_columns_of(text: &[u8], place: Locator, width: u8) -> OptionalColumns<'_>
     ensures name { result.name.now ≡ (row_at width text.now place).name }
     ensures score { result.score.now ≡ (row_at width text.now place).score }
     ensures strand { result.strand ≡ (row_at width text.now place).strand }

@@ -4,11 +4,11 @@ ghost use Rattle.std.specs.List.Sorted.{IsPermutation};
 ghost use Rattle.std.specs.Cmp.Lexicographic.{slice_cmp};
 ghost use Rattle.std.specs.Option.{option_cmp};
 ghost use Rattle.std.specs.Ordering.{nat_cmp, ordering_then};
-ghost use Rattle.iv_text.specs.Row.{beside_cmp, row_cmp, strand_cmp};
-ghost use Rattle.iv_index.specs.Drafts.{AreInOrder, place_of};
-ghost use Rattle.iv_index.specs.Places.{row_at};
+ghost use Rattle.iv_text.specs.RecordValue.{beside_cmp, record_cmp, strand_cmp};
+ghost use Rattle.iv_index.specs.Inside.Drafts.{AreInOrder, place_of};
+ghost use Rattle.iv_index.specs.Inside.Locators.{row_at};
 
-use crate::place::{OptionalColumns, Place, optional_columns_of};
+use crate::locator::{Locator, OptionalColumns, optional_columns_of};
 use crate::span::compare_spans;
 use std::alloc::{AllocError, Allocator};
 use std::cmp::Ordering;
@@ -23,7 +23,7 @@ fn compare_columns(first: &OptionalColumns<'_>, second: &OptionalColumns<'_>) ->
 }
 
 /// The records of two places by their columns after the third. At width 3 no line is looked at.
-fn compare_beside(text: &[u8], width: u8, first: &Place, second: &Place) -> Ordering
+fn compare_beside(text: &[u8], width: u8, first: &Locator, second: &Locator) -> Ordering
     ensures { result ≡ beside_cmp (row_at width text.now first.now) (row_at width text.now second.now) }
 {
     if width < 4 {
@@ -36,8 +36,8 @@ fn compare_beside(text: &[u8], width: u8, first: &Place, second: &Place) -> Orde
 }
 
 /// The records of two places in the order of a track.
-pub(crate) fn compare(text: &[u8], width: u8, first: &Place, second: &Place) -> Ordering
-    ensures { result ≡ row_cmp (row_at width text.now first.now) (row_at width text.now second.now) }
+pub(crate) fn compare(text: &[u8], width: u8, first: &Locator, second: &Locator) -> Ordering
+    ensures { result ≡ record_cmp (row_at width text.now first.now) (row_at width text.now second.now) }
 {
     let spans = compare_spans(&first.span, &second.span);
     if spans.is_ne() {
@@ -47,7 +47,7 @@ pub(crate) fn compare(text: &[u8], width: u8, first: &Place, second: &Place) -> 
 }
 
 /// Whether places are in the order of a track.
-pub(crate) fn are_in_order(text: &[u8], width: u8, places: &[Place]) -> bool
+pub(crate) fn are_in_order(text: &[u8], width: u8, places: &[Locator]) -> bool
     ensures { IsTrue result ↔ AreInOrder width text.now places.now }
 {
     places.is_sorted_by(|first, second| !compare(text, width, second, first).is_lt())
@@ -57,11 +57,11 @@ pub(crate) fn are_in_order(text: &[u8], width: u8, places: &[Place]) -> bool
 ///
 /// Records of one place are the slow part of a sort, since each comparison cuts two lines. A few of them are moved past each
 /// other. If there are many of one place, they are sorted by a few bytes of their names, which takes memory.
-pub(crate) fn order_places<A: Allocator + Copy>(
+pub(crate) fn order_locators<A: Allocator + Copy>(
     alloc: A,
     text: &[u8],
     width: u8,
-    places: &mut Vec<Place, A>,
+    places: &mut Vec<Locator, A>,
 ) -> Result<(), AllocError>
     ensures { IsPermutation places.old.items places.new.items }
 {
@@ -73,18 +73,18 @@ pub(crate) fn order_places<A: Allocator + Copy>(
     if order_ties(text, width, places) {
         return Ok(());
     }
-    sort_by_heads(alloc, text, width, places)
+    sort_by_prefix_keys(alloc, text, width, places)
 }
 
 /// Moves each place past a few others of its start that belong after it. So files that are in order except for records of
 /// one start, as most tools leave them, are then in the order of a track. It stops if there are more than a few, and says
 /// whether it came to the end.
-fn order_ties<A: Allocator>(text: &[u8], width: u8, places: &mut Vec<Place, A>) -> bool
+fn order_ties<A: Allocator>(text: &[u8], width: u8, places: &mut Vec<Locator, A>) -> bool
     ensures { IsPermutation places.old.items places.new.items }
 {
     order_nearly(
         places.as_mut_slice(),
-        |before: &Place, here: &Place| -> bool {
+        |before: &Locator, here: &Locator| -> bool {
             before.span.seq == here.span.seq
                 && before.span.start == here.span.start
                 && compare(text, width, before, here).is_gt()
@@ -94,9 +94,9 @@ fn order_ties<A: Allocator>(text: &[u8], width: u8, places: &mut Vec<Place, A>) 
 
 /// A place, with a few bytes of its record's name as a number: of two names, the one with the lesser number is first.
 #[derive(Clone, Copy)]
-pub(crate) struct Headed {
+pub(crate) struct PrefixKeyed {
     head: u64,
-    place: Place,
+    place: Locator,
 }
 
 /// Sorts places by interval, and then by a few bytes of their names, so that hardly any comparison looks at two lines.
@@ -106,33 +106,33 @@ pub(crate) struct Headed {
 /// # Errors
 ///
 /// An allocation failed. The places are as they were.
-pub(crate) fn sort_by_heads<A: Allocator + Copy>(
+pub(crate) fn sort_by_prefix_keys<A: Allocator + Copy>(
     alloc: A,
     text: &[u8],
     width: u8,
-    places: &mut Vec<Place, A>,
+    places: &mut Vec<Locator, A>,
 ) -> Result<(), AllocError>
     ensures { IsPermutation places.old.items places.new.items }
 {
-    let mut headed = with_heads(alloc, text, width, places)?;
+    let mut headed = with_prefix_keys(alloc, text, width, places)?;
     headed.sort_unstable_by(|first, second| compare_headed(text, width, first, second));
-    put_places(places, &headed);
+    write_locators(places, &headed);
     Ok(())
 }
 
 /// The places, each with bytes of its name that follow those that all names begin with.
-fn with_heads<A: Allocator + Copy>(
+fn with_prefix_keys<A: Allocator + Copy>(
     alloc: A,
     text: &[u8],
     width: u8,
-    places: &[Place],
-) -> Result<Vec<Headed, A>, AllocError>
+    places: &[Locator],
+) -> Result<Vec<PrefixKeyed, A>, AllocError>
     ensures { IfOk result (λ headed. map place_of headed.items ≡ places.now) }
 {
     let shared = shared_by_all(text, width, places);
     let mut headed = Vec::with_capacity(alloc, places.len())?;
     for place in places {
-        headed.push(Headed {
+        headed.push(PrefixKeyed {
             head: head_of(optional_columns_of(text, *place, width).name, shared),
             place: *place,
         })?;
@@ -141,7 +141,7 @@ fn with_heads<A: Allocator + Copy>(
 }
 
 /// How many bytes all names have in common at the front.
-fn shared_by_all(text: &[u8], width: u8, places: &[Place]) -> usize {
+fn shared_by_all(text: &[u8], width: u8, places: &[Locator]) -> usize {
     let Some((first, others)) = places.split_first() else {
         return 0;
     };
@@ -175,14 +175,14 @@ fn head_of(name: &[u8], from: usize) -> u64 {
 }
 
 /// By interval, then by head, then by all columns.
-fn compare_headed(text: &[u8], width: u8, first: &Headed, second: &Headed) -> Ordering {
+fn compare_headed(text: &[u8], width: u8, first: &PrefixKeyed, second: &PrefixKeyed) -> Ordering {
     compare_spans(&first.place.span, &second.place.span)
         .then(first.head.cmp(&second.head))
         .then_with(|| compare(text, width, &first.place, &second.place))
 }
 
 /// Puts the places of these instead of as many others.
-fn put_places<A: Allocator>(places: &mut Vec<Place, A>, headed: &[Headed])
+fn write_locators<A: Allocator>(places: &mut Vec<Locator, A>, headed: &[PrefixKeyed])
     requires { length places.old.items ≡ length headed.now }
     ensures { places.new.items ≡ map place_of headed.now }
 {

@@ -3,12 +3,13 @@ ghost use Rattle.std.specs.Prelude.{◌≡◌, ◌↔◌, ◌≤◌, nat_lt, All
 ghost use Rattle.std.specs.List.Sorted.{IsSortedBy};
 ghost use Rattle.iv_text.specs.Covering.{on};
 ghost use Rattle.iv_text.specs.Ordered.{AreInOrder, ordered};
-ghost use Rattle.iv_text.specs.Row.{row_cmp};
-ghost use Rattle.iv_index.specs.Places.{bare, span_of};
-ghost use Rattle.iv_index.specs.Spans.{row_of_span, span_lt, span_rows};
+ghost use Rattle.iv_text.specs.RecordValue.{record_cmp};
+ghost use Rattle.iv_index.specs.Locators.{bare};
+ghost use Rattle.iv_index.specs.Inside.Locators.{span_of};
+ghost use Rattle.iv_index.specs.Inside.Spans.{row_of_span, span_lt, span_rows};
 
 use crate::order::order_neighbors;
-use iv_text::{FromRecord, RecordRef, ShortLine};
+use iv_text::{FastLine, FromRecord, RecordRef};
 use std::alloc::{AllocError, Allocator};
 use std::cmp::Ordering;
 
@@ -24,18 +25,18 @@ pub struct Span {
 }
 
 impl<A: Allocator + Copy> FromRecord<A> for Span {
-    ghost kept = { bare };
+    ghost projected = { bare };
 
-    ghost as_row = { row_of_span };
+    ghost as_record = { row_of_span };
 
-    ghost kept_of = { λ r at. span_of r };
+    ghost held_of = { λ r at. span_of r };
 
     ghost again = { λ r. refl };
 
     ghost stands = { λ r at. refl };
 
     fn from_record(_alloc: A, record: &RecordRef<'_>, _at: u32) -> Result<Span, AllocError> {
-        record.law_of_place();
+        record.lemma_of_interval();
         Ok(Span {
             seq: record.seq(),
             start: record.start() as u32,
@@ -47,11 +48,11 @@ impl<A: Allocator + Copy> FromRecord<A> for Span {
         usize::MAX
     }
 
-    fn is_place_alone(_width: u8) -> bool {
+    fn is_interval_alone(_width: u8) -> bool {
         true
     }
 
-    fn from_place(_alloc: A, _width: u8, line: &ShortLine, _at: u32) -> Option<Span> {
+    fn from_interval(_alloc: A, _width: u8, line: &FastLine, _at: u32) -> Option<Span> {
         Some(Span {
             seq: line.seq,
             start: line.start,
@@ -62,7 +63,7 @@ impl<A: Allocator + Copy> FromRecord<A> for Span {
 
 /// The records of two places in the order of a track.
 pub(crate) fn compare_spans(first: &Span, second: &Span) -> Ordering
-    ensures { result ≡ row_cmp (row_of_span first.now) (row_of_span second.now) }
+    ensures { result ≡ record_cmp (row_of_span first.now) (row_of_span second.now) }
 {
     if first.seq != second.seq {
         return first.seq.cmp(&second.seq);

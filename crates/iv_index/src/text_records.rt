@@ -1,12 +1,12 @@
 //! Records whose columns are read from their lines when they are wanted.
 ghost use Rattle.std.specs.Prelude.{◌≡◌, ◌<◌, ◌≤◌, ◌==◌, nat_lt, [], ◌∷◌, All, MatchOption, filter, length, map, slice_get, take, drop};
 ghost use Rattle.std.specs.Iterator.{YieldsFirst, item_count};
-ghost use Rattle.iv_text.specs.Row.{IsPlaced};
+ghost use Rattle.iv_text.specs.RecordValue.{IsPlaced};
 ghost use Rattle.iv_text.specs.Ordered.{AreInOrder};
 ghost use Rattle.iv_text.specs.Covering.{on};
-ghost use Rattle.iv_index.specs.Places.{HasBase, row_at, rows_at, span_in, span_of};
+ghost use Rattle.iv_index.specs.Inside.Locators.{HasBase, row_at, rows_at, span_in, span_of};
 
-use crate::place::{OptionalColumns, Place, optional_columns_of};
+use crate::locator::{Locator, OptionalColumns, optional_columns_of};
 use crate::span::Span;
 use iv_text::{BedRecord, RecordRef, Strand};
 use std::marker::Model;
@@ -18,15 +18,15 @@ use std::marker::Model;
 #[derive(Debug, Drop)]
 pub struct TextRecord<'t> {
     text: &'t [u8],
-    place: Place,
+    place: Locator,
     width: u8,
 }
 
 impl<'t> Model for TextRecord<'t> {
-    ghost use Rattle.iv_text.specs.Row.{Row};
-    ghost use Rattle.iv_index.specs.Places.{HasBase, row_at};
+    ghost use Rattle.iv_text.specs.RecordValue.{RecordValue};
+    ghost use Rattle.iv_index.specs.Inside.Locators.{HasBase, row_at};
 
-    ghost Value = { Row };
+    ghost Value = { RecordValue };
 
     ghost view = { λ r. row_at r.width r.text.now r.place };
 
@@ -35,7 +35,7 @@ impl<'t> Model for TextRecord<'t> {
 
 impl<'t> TextRecord<'t> {
     /// The record of a place of a text.
-    pub(crate) fn of_place(text: &'t [u8], place: Place, width: u8) -> TextRecord<'t>
+    pub(crate) fn of_locator(text: &'t [u8], place: Locator, width: u8) -> TextRecord<'t>
         requires { HasBase place }
         ensures { result ≡ row_at width text.now place }
     {
@@ -55,7 +55,7 @@ impl<'t> TextRecord<'t> {
 
     /// A lemma for callers' proofs: the record has a base, and its rank and its stop are numbers of 32 bits.
     /// The call does nothing.
-    pub fn law_of_place(&self)
+    pub fn lemma_of_interval(&self)
         ensures { IsPlaced self.now }
     {
         // What is read has the bounds of its type.
@@ -98,7 +98,7 @@ impl<'t> TextRecord<'t> {
 }
 
 impl<'t> BedRecord for TextRecord<'t> {
-    ghost as_row = { λ r. r };
+    ghost as_record = { λ r. r };
 
     fn seq(&self) -> u32 {
         self.place.span.seq
@@ -121,16 +121,16 @@ impl<'t> BedRecord for TextRecord<'t> {
 #[derive(Debug, Drop)]
 pub struct TextRecords<'t> {
     text: &'t [u8],
-    places: &'t [Place],
+    places: &'t [Locator],
     width: u8,
 }
 
 impl<'t> Model for TextRecords<'t> {
     ghost use Rattle.std.specs.Prelude.{All, List};
-    ghost use Rattle.iv_text.specs.Row.{Row};
-    ghost use Rattle.iv_index.specs.Places.{HasBase, rows_at};
+    ghost use Rattle.iv_text.specs.RecordValue.{RecordValue};
+    ghost use Rattle.iv_index.specs.Inside.Locators.{HasBase, rows_at};
 
-    ghost Value = { List Row };
+    ghost Value = { List RecordValue };
 
     ghost view = { λ r. rows_at r.width r.text.now r.places.now };
 
@@ -139,7 +139,7 @@ impl<'t> Model for TextRecords<'t> {
 
 impl<'t> TextRecords<'t> {
     /// The records of places of a text.
-    pub(crate) fn of_places(text: &'t [u8], places: &'t [Place], width: u8) -> TextRecords<'t>
+    pub(crate) fn of_locators(text: &'t [u8], places: &'t [Locator], width: u8) -> TextRecords<'t>
         requires { All HasBase places.now }
         ensures { result ≡ rows_at width text.now places.now }
     {
@@ -180,7 +180,7 @@ impl<'t> TextRecords<'t> {
         ensures { result ≡ slice_get self.now index }
     {
         let place = *self.places.get(index)?;
-        Some(TextRecord::of_place(self.text, place, self.width))
+        Some(TextRecord::of_locator(self.text, place, self.width))
     }
 
     /// The first record, if there is one.
@@ -196,8 +196,8 @@ impl<'t> TextRecords<'t> {
     {
         let (place, rest) = self.places.split_first()?;
         Some((
-            TextRecord::of_place(self.text, *place, self.width),
-            TextRecords::of_places(self.text, rest, self.width),
+            TextRecord::of_locator(self.text, *place, self.width),
+            TextRecords::of_locators(self.text, rest, self.width),
         ))
     }
 
@@ -209,8 +209,8 @@ impl<'t> TextRecords<'t> {
     {
         let (front, back) = self.places.split_at(count);
         (
-            TextRecords::of_places(self.text, front, self.width),
-            TextRecords::of_places(self.text, back, self.width),
+            TextRecords::of_locators(self.text, front, self.width),
+            TextRecords::of_locators(self.text, back, self.width),
         )
     }
 
@@ -225,7 +225,7 @@ impl<'t> TextRecords<'t> {
     }
 
     /// The places of the records, in their order.
-    pub fn places(&self) -> &'t [Place]
+    pub fn locators(&self) -> &'t [Locator]
         ensures spots { map span_in result.now ≡ map span_of self.now }
         ensures some { All HasBase result.now }
     {
@@ -244,6 +244,6 @@ impl<'t> Iterator for TextRecords<'t> {
     fn next(&mut self) -> Option<TextRecord<'t>> {
         let (place, others) = self.places.split_first()?;
         self.places = others;
-        Some(TextRecord::of_place(self.text, *place, self.width))
+        Some(TextRecord::of_locator(self.text, *place, self.width))
     }
 }

@@ -4,15 +4,15 @@ use Rattle.std.proofs.Common.{◌≡◌, ℕ, ◌+◌, ◌-◌, ◌<◌, ◌≤�
 use Rattle.std.specs.Prelude.{filter}
 use Rattle.std.proofs.lemmas.Bool.{cases_lt, false_from_ne_true}
 use Rattle.std.proofs.lemmas.List.Elements.{All-nil, All-weaker, filter-append, filter_passes}
-use Rattle.iv_text.specs.Row.{Row, row_cmp}
+use Rattle.iv_text.specs.RecordValue.{RecordValue, record_cmp}
 use Rattle.iv_text.specs.Ordered.{AreInOrder}
 use Rattle.iv_text.proofs.InOrderLemmas.{in_order-filter}
 use Rattle.iv_track.specs.Tracked.{is_from}
 use Rattle.iv_text.specs.Covering.{covers}
 use Rattle.iv_text.proofs.ListLemmas.{all-mem, filter-all}
 use Rattle.iv_pair.specs.Hits.{overlaps, hits}
-use Rattle.iv_pair.specs.Lengths.{AreUpTo}
-use Rattle.iv_pair.specs.HitFinder.{held, keeps, IsOnward, HitAlike, AllCover, AllBegun, IsPlaced}
+use Rattle.iv_pair.specs.Inside.Lengths.{AreUpTo}
+use Rattle.iv_pair.specs.Inside.HitFinder.{held, keeps, IsOnward, HitAlike, AllCover, AllBegun, IsPlaced}
 use Rattle.iv_pair.proofs.HitsLemmas.{overlaps_parts, overlaps_from, covers_parts, covers_from, length-filter_le}
 use Rattle.iv_pair.proofs.PlaceLemmas.{pair_le, filter-implied}
 
@@ -55,7 +55,7 @@ pub onward-itself : (a b : ℕ) → IsOnward a b a b
 onward-itself a b = (omega arith, λ e. omega arith)
 
 -- what isn't past a place starts there or before it
-pub begun-not_from : (seq start : ℕ) (b : Row) → is_from seq (start + 1) b ≡ false → IsOnward b.seq b.start seq start
+pub begun-not_from : (seq start : ℕ) (b : RecordValue) → is_from seq (start + 1) b ≡ false → IsOnward b.seq b.start seq start
 begun-not_from seq start b not = (
   elim (cases_lt seq b.seq) [
     | inl less ↦ let is : is_from seq (start + 1) b ≡ true = pair_le seq b.seq (start + 1) b.start (omega (arith, less)) (λ e. absurd (omega (arith, less, e))) in absurd cc
@@ -67,14 +67,14 @@ begun-not_from seq start b not = (
   ],
 )
 
-pub covers-begun : (seq start : ℕ) (b : Row) → covers seq start b ≡ true → IsOnward b.seq b.start seq start
+pub covers-begun : (seq start : ℕ) (b : RecordValue) → covers seq start b ≡ true → IsOnward b.seq b.start seq start
 covers-begun seq start b is =
     let parts = covers_parts seq start b is in
     let here : b.seq ≡ seq = parts.0 in
     (omega arith, λ e. parts.1)
 
 -- a record that starts at a place or before it, and that an interval from there on hits, has the position
-pub begun-covers : (seq start s t stop : ℕ) (b : Row) → IsOnward b.seq b.start seq start → IsOnward seq start s t → overlaps s t stop b ≡ true → covers seq start b ≡ true
+pub begun-covers : (seq start s t stop : ℕ) (b : RecordValue) → IsOnward b.seq b.start seq start → IsOnward seq start s t → overlaps s t stop b ≡ true → covers seq start b ≡ true
 begun-covers seq start s t stop b h k hit =
     let parts = overlaps_parts s t stop b hit in
     let on : b.seq ≡ s = parts.0 in
@@ -88,7 +88,7 @@ begun-covers seq start s t stop b h k hit =
     covers_from seq start b here first (omega arith)
 
 -- a record that has the first position of an interval is a hit
-pub cover-hit : (seq start stop : ℕ) (b : Row) → start < stop → covers seq start b ≡ true → overlaps seq start stop b ≡ true
+pub cover-hit : (seq start stop : ℕ) (b : RecordValue) → start < stop → covers seq start b ≡ true → overlaps seq start stop b ≡ true
 cover-hit seq start stop b some is =
     let parts = covers_parts seq start b is in
     let low : b.start ≤ start = parts.1 in
@@ -96,48 +96,48 @@ cover-hit seq start stop b some is =
 
 -- ---- from a place to a later one
 
-pub all-begun : (a b seq start : ℕ) (xs : List Row) → AllCover a b xs → IsOnward a b seq start → AllBegun seq start xs
+pub all-begun : (a b seq start : ℕ) (xs : List RecordValue) → AllCover a b xs → IsOnward a b seq start → AllBegun seq start xs
 all-begun a b seq start xs cover on =
-    All-weaker (λ (q : Row). covers a b q ≡ true) (λ (q : Row). IsOnward q.seq q.start seq start) (λ q is. onward-trans q.seq q.start a b seq start (covers-begun a b q is) on) xs cover
+    All-weaker (λ (q : RecordValue). covers a b q ≡ true) (λ (q : RecordValue). IsOnward q.seq q.start seq start) (λ q is. onward-trans q.seq q.start a b seq start (covers-begun a b q is) on) xs cover
 
-pub alike-onward : (a b seq start : ℕ) (xs ys : List Row) → HitAlike a b xs ys → IsOnward a b seq start → HitAlike seq start xs ys
+pub alike-onward : (a b seq start : ℕ) (xs ys : List RecordValue) → HitAlike a b xs ys → IsOnward a b seq start → HitAlike seq start xs ys
 alike-onward a b seq start xs ys h on = λ s t stop k. h s t stop (onward-trans a b seq start s t on k)
 
-pub alike-trans : (seq start : ℕ) (xs ys zs : List Row) → HitAlike seq start xs ys → HitAlike seq start ys zs → HitAlike seq start xs zs
+pub alike-trans : (seq start : ℕ) (xs ys zs : List RecordValue) → HitAlike seq start xs ys → HitAlike seq start ys zs → HitAlike seq start xs zs
 alike-trans seq start xs ys zs h k = λ s t stop on. h s t stop on ∙ k s t stop on
 
-pub alike-itself : (seq start : ℕ) (xs : List Row) → HitAlike seq start xs xs
+pub alike-itself : (seq start : ℕ) (xs : List RecordValue) → HitAlike seq start xs xs
 alike-itself seq start xs = λ s t stop on. refl
 
-pub kept-cover : (seq start : ℕ) (xs : List Row) → AllCover seq start (filter (covers seq start) xs)
+pub kept-cover : (seq start : ℕ) (xs : List RecordValue) → AllCover seq start (filter (covers seq start) xs)
 kept-cover seq start xs = filter_passes (covers seq start) xs
 
-pub kept-alike : (seq start : ℕ) (xs rows whole : List Row) → AllBegun seq start xs → HitAlike seq start (xs ++ rows) whole → HitAlike seq start (filter (covers seq start) xs ++ rows) whole
+pub kept-alike : (seq start : ℕ) (xs rows whole : List RecordValue) → AllBegun seq start xs → HitAlike seq start (xs ++ rows) whole → HitAlike seq start (filter (covers seq start) xs ++ rows) whole
 kept-alike seq start xs rows whole begun h = λ s t stop on.
-    let p : Row → Bool = overlaps s t stop in
+    let p : RecordValue → Bool = overlaps s t stop in
     filter-append p (filter (covers seq start) xs) rows
-    ∙ ap (λ (l : List Row). l ++ filter p rows) (filter-implied p (covers seq start) xs (λ b m hit. begun-covers seq start s t stop b (all-mem (λ (q : Row). IsOnward q.seq q.start seq start) xs begun b m) on hit))
+    ∙ ap (λ (l : List RecordValue). l ++ filter p rows) (filter-implied p (covers seq start) xs (λ b m hit. begun-covers seq start s t stop b (all-mem (λ (q : RecordValue). IsOnward q.seq q.start seq start) xs begun b m) on hit))
     ∙ sym (filter-append p xs rows)
     ∙ h s t stop on
 
 -- ---- one record more
 
-pub alike-pushed : (seq start : ℕ) (b : Row) (xs bs old : List Row) → HitAlike seq start (xs ++ b ∷ bs) old → HitAlike seq start ((xs ++ b ∷ []) ++ bs) old
-alike-pushed seq start b xs bs old h = subst (λ (l : List Row). HitAlike seq start l old) (sym (append_assoc xs (b ∷ []) bs)) h
+pub alike-pushed : (seq start : ℕ) (b : RecordValue) (xs bs old : List RecordValue) → HitAlike seq start (xs ++ b ∷ bs) old → HitAlike seq start ((xs ++ b ∷ []) ++ bs) old
+alike-pushed seq start b xs bs old h = subst (λ (l : List RecordValue). HitAlike seq start l old) (sym (append_assoc xs (b ∷ []) bs)) h
 
-pub alike-passed : (seq start : ℕ) (b : Row) (xs bs old : List Row) → IsOnward b.seq b.start seq start → covers seq start b ≡ false → HitAlike seq start (xs ++ b ∷ bs) old → HitAlike seq start (xs ++ bs) old
+pub alike-passed : (seq start : ℕ) (b : RecordValue) (xs bs old : List RecordValue) → IsOnward b.seq b.start seq start → covers seq start b ≡ false → HitAlike seq start (xs ++ b ∷ bs) old → HitAlike seq start (xs ++ bs) old
 alike-passed seq start b xs bs old begun not h = λ s t stop on.
-    let p : Row → Bool = overlaps s t stop in
+    let p : RecordValue → Bool = overlaps s t stop in
     let no : p b ≡ false = false_from_ne_true (p b) (λ hit. let is : covers seq start b ≡ true = begun-covers seq start s t stop b begun on hit in absurd cc) in
     filter-append p xs bs
-    ∙ ap (λ (l : List Row). filter p xs ++ l) (sym (ap (λ c. cond c (b ∷ filter p bs) (filter p bs)) no))
+    ∙ ap (λ (l : List RecordValue). filter p xs ++ l) (sym (ap (λ c. cond c (b ∷ filter p bs) (filter p bs)) no))
     ∙ sym (filter-append p xs (b ∷ bs))
     ∙ h s t stop on
 
 -- ---- from the root
 
 -- if no record is longer than n, the hits from a place on are among the records from its start less n on
-pub alike-anew : (rows : List Row) (seq start from n : ℕ) → AreUpTo seq n rows → from ≤ start + 1 - n → HitAlike seq start (filter (is_from seq from) rows) rows
+pub alike-anew : (rows : List RecordValue) (seq start from n : ℕ) → AreUpTo seq n rows → from ≤ start + 1 - n → HitAlike seq start (filter (is_from seq from) rows) rows
 alike-anew rows seq start from n up low = λ s t stop on.
     filter-implied (overlaps s t stop) (is_from seq from) rows (λ q m is.
     let parts = overlaps_parts s t stop q is in
@@ -147,41 +147,41 @@ alike-anew rows seq start from n up low = λ s t stop on.
     pair_le seq q.seq from q.start (omega arith) (λ e.
     let same : seq ≡ s = omega (arith, e, here) in
     let next : start ≤ t = on.1 same in
-    let long : q.stop ≤ q.start + n = all-mem (λ (r : Row). r.seq ≡ seq → r.stop ≤ r.start + n) rows up q m (sym e) in
+    let long : q.stop ≤ q.start + n = all-mem (λ (r : RecordValue). r.seq ≡ seq → r.stop ≤ r.start + n) rows up q m (sym e) in
     omega (arith, past, next, long, low)))
 
 -- ---- what is found
 
-pub found : (seq start stop : ℕ) (xs rows whole : List Row) → start < stop → AllCover seq start xs → HitAlike seq start (xs ++ rows) whole → xs ++ hits rows seq start stop ≡ hits whole seq start stop
+pub found : (seq start stop : ℕ) (xs rows whole : List RecordValue) → start < stop → AllCover seq start xs → HitAlike seq start (xs ++ rows) whole → xs ++ hits rows seq start stop ≡ hits whole seq start stop
 found seq start stop xs rows whole some cover h =
-    let p : Row → Bool = overlaps seq start stop in
-    ap (λ (l : List Row). l ++ filter p rows) (sym (filter-all p xs (λ b m. cover-hit seq start stop b some (all-mem (λ (q : Row). covers seq start q ≡ true) xs cover b m))))
+    let p : RecordValue → Bool = overlaps seq start stop in
+    ap (λ (l : List RecordValue). l ++ filter p rows) (sym (filter-all p xs (λ b m. cover-hit seq start stop b some (all-mem (λ (q : RecordValue). covers seq start q ≡ true) xs cover b m))))
     ∙ sym (filter-append p xs rows)
     ∙ h seq start stop (onward-itself seq start)
 
 -- ---- where a search is
 
 -- before the first record
-pub placed-first : (records carried rows : List Row) → carried ≡ [] → rows ≡ records → AreInOrder records → length records < 2 ^ 32 → IsPlaced records carried rows 0 0
+pub placed-first : (records carried rows : List RecordValue) → carried ≡ [] → rows ≡ records → AreInOrder records → length records < 2 ^ 32 → IsPlaced records carried rows 0 0
 placed-first records carried rows none all order few = record {
   cover = subst (AllCover 0 0) (sym none) (All-nil (λ b. covers 0 0 b ≡ true));
-  alike = subst (λ (l : List Row). HitAlike 0 0 l records) (sym (ap (λ (l : List Row). l ++ rows) none ∙ all)) (alike-itself 0 0 records);
+  alike = subst (λ (l : List RecordValue). HitAlike 0 0 l records) (sym (ap (λ (l : List RecordValue). l ++ rows) none ∙ all)) (alike-itself 0 0 records);
   rows_ordered = subst AreInOrder (sym all) order;
   rows_few = omega (arith, ap length all, few);
 }
 
 -- from the root
-pub placed-anew : (records carried rows : List Row) (seq start from n : ℕ) → carried ≡ [] → rows ≡ filter (is_from seq from) records → AreInOrder records → length records < 2 ^ 32
+pub placed-anew : (records carried rows : List RecordValue) (seq start from n : ℕ) → carried ≡ [] → rows ≡ filter (is_from seq from) records → AreInOrder records → length records < 2 ^ 32
     → AreUpTo seq n records → from ≤ start + 1 - n → IsPlaced records carried rows seq start
 placed-anew records carried rows seq start from n none these order few up low = record {
   cover = subst (AllCover seq start) (sym none) (All-nil (λ b. covers seq start b ≡ true));
-  alike = subst (λ (l : List Row). HitAlike seq start l records) (sym (ap (λ (l : List Row). l ++ rows) none ∙ these)) (alike-anew records seq start from n up low);
-  rows_ordered = subst AreInOrder (sym these) (in_order-filter row_cmp (is_from seq from) records order);
+  alike = subst (λ (l : List RecordValue). HitAlike seq start l records) (sym (ap (λ (l : List RecordValue). l ++ rows) none ∙ these)) (alike-anew records seq start from n up low);
+  rows_ordered = subst AreInOrder (sym these) (in_order-filter record_cmp (is_from seq from) records order);
   rows_few = omega (arith, ap length these, length-filter_le (is_from seq from) records, few);
 }
 
 -- further on
-pub placed-on : (records carried rows xs ys : List Row) (seq start : ℕ) → AllCover seq start carried → AreInOrder rows → length rows ≤ length ys → length ys < 2 ^ 32
+pub placed-on : (records carried rows xs ys : List RecordValue) (seq start : ℕ) → AllCover seq start carried → AreInOrder rows → length rows ≤ length ys → length ys < 2 ^ 32
     → HitAlike seq start (carried ++ rows) (xs ++ ys) → HitAlike seq start (xs ++ ys) records → IsPlaced records carried rows seq start
 placed-on records carried rows xs ys seq start cover order less few h k = record {
   cover = cover;

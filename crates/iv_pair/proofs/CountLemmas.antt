@@ -13,13 +13,13 @@ use Rattle.std.proofs.lemmas.List.MinMax.{ranks_by}
 use Rattle.std.proofs.lemmas.List.Sorted.{sorted_far, sum_by-IsPermutation}
 use Rattle.std.proofs.lemmas.List.Sums.{sum_by-cons, length-filter}
 use Rattle.iv_text.specs.Ordered.{AreInOrder}
-use Rattle.iv_text.specs.Row.{Row, row_cmp}
-use Rattle.iv_index.specs.Places.{HasBase, span_in, span_of}
-use Rattle.iv_index.specs.declared.place.Place.{Place}
+use Rattle.iv_text.specs.RecordValue.{RecordValue, record_cmp}
+use Rattle.iv_index.specs.Inside.Locators.{HasBase, span_in, span_of}
+use Rattle.iv_index.specs.declared.locator.Locator.{Locator}
 use Rattle.iv_index.specs.declared.span.Span.{Span}
 use Rattle.iv_pair.specs.Hits.{overlaps, hits_of}
-use Rattle.iv_pair.specs.Counts.{is_before, is_up_to, begins_before, ends_by, place_before, end_by, end_of, AreEndsOf, AreStartsOf, EndsAscend}
-use Rattle.iv_pair.specs.PairSweeps.{Precedes}
+use Rattle.iv_pair.specs.Inside.Counts.{is_before, is_up_to, begins_before, ends_by, place_before, end_by, end_of, AreEndsOf, AreStartsOf, EndsAscend}
+use Rattle.iv_pair.specs.Inside.PairSweeps.{Precedes}
 use Rattle.iv_pair.specs.declared.count_sweep.End.{End}
 use Rattle.iv_pair.proofs.FrontLemmas.{count-implied, count-map, split_up-cons}
 use Rattle.iv_pair.proofs.ReachLemmas.{precedes}
@@ -27,26 +27,26 @@ use Rattle.iv_pair.proofs.ReachLemmas.{precedes}
 -- ---- one record beside another
 
 -- b is a hit of a, or ends before a, or does neither; and it begins before a ends in the first two cases alone
-one-of : (a b : Row) → a.start < a.stop → b.start < b.stop
+one-of : (a b : RecordValue) → a.start < a.stop → b.start < b.stop
     → cond {A = ℕ} (overlaps a.seq a.start a.stop b) 1 0 + cond {A = ℕ} (ends_by a.seq a.start b) 1 0 ≡ cond {A = ℕ} (begins_before a.seq a.stop b) 1 0
 one-of a b some long = grind (arith, nat_tests)
 
 -- the number of hits: those that begin before a ends, less those that end up to where it begins
-pub count-hits : (a : Row) (second : List Row) → a.start < a.stop → All (λ (b : Row). b.start < b.stop) second
+pub count-hits : (a : RecordValue) (second : List RecordValue) → a.start < a.stop → All (λ (b : RecordValue). b.start < b.stop) second
     → length (hits_of second a) + count_by (ends_by a.seq a.start) second ≡ count_by (begins_before a.seq a.stop) second
 count-hits a second some long = ap (λ (n : ℕ). n + count_by (ends_by a.seq a.start) second) (length-filter (overlaps a.seq a.start a.stop) second) ∙ go second long
   where
-    go : (rows : List Row) → All (λ (b : Row). b.start < b.stop) rows
+    go : (rows : List RecordValue) → All (λ (b : RecordValue). b.start < b.stop) rows
         → count_by (overlaps a.seq a.start a.stop) rows + count_by (ends_by a.seq a.start) rows ≡ count_by (begins_before a.seq a.stop) rows
     go [] h = refl
     go (b ∷ rows) h =
         omega (
           arith,
-          sum_by-cons (λ (r : Row). cond {A = ℕ} (overlaps a.seq a.start a.stop r) 1 0) b rows,
-          sum_by-cons (λ (r : Row). cond {A = ℕ} (ends_by a.seq a.start r) 1 0) b rows,
-          sum_by-cons (λ (r : Row). cond {A = ℕ} (begins_before a.seq a.stop r) 1 0) b rows,
-          one-of a b some (All-head (λ (r : Row). r.start < r.stop) b rows h),
-          go rows (All-tail (λ (r : Row). r.start < r.stop) b rows h),
+          sum_by-cons (λ (r : RecordValue). cond {A = ℕ} (overlaps a.seq a.start a.stop r) 1 0) b rows,
+          sum_by-cons (λ (r : RecordValue). cond {A = ℕ} (ends_by a.seq a.start r) 1 0) b rows,
+          sum_by-cons (λ (r : RecordValue). cond {A = ℕ} (begins_before a.seq a.stop r) 1 0) b rows,
+          one-of a b some (All-head (λ (r : RecordValue). r.start < r.stop) b rows h),
+          go rows (All-tail (λ (r : RecordValue). r.start < r.stop) b rows h),
         )
 
 -- ---- positions in order
@@ -70,16 +70,16 @@ up_to-earlier : (seq at s t x y : ℕ) → IsOnward x y s t → is_up_to seq at 
 up_to-earlier seq at s t x y h e = grind (arith, nat_tests)
 
 -- no fewer begin before a later position, and no fewer end up to it
-pub begun-more : (seq at s t : ℕ) (rows : List Row) → seq ≤ s → (seq ≡ s → at ≤ t) → count_by (begins_before seq at) rows ≤ count_by (begins_before s t) rows
+pub begun-more : (seq at s t : ℕ) (rows : List RecordValue) → seq ≤ s → (seq ≡ s → at ≤ t) → count_by (begins_before seq at) rows ≤ count_by (begins_before s t) rows
 begun-more seq at s t rows low same = count-implied (begins_before seq at) (begins_before s t) rows (λ b e. before-later seq at s t b.seq b.start (low, same) e)
 
-pub ended-more : (seq at s t : ℕ) (rows : List Row) → seq ≤ s → (seq ≡ s → at ≤ t) → count_by (ends_by seq at) rows ≤ count_by (ends_by s t) rows
+pub ended-more : (seq at s t : ℕ) (rows : List RecordValue) → seq ≤ s → (seq ≡ s → at ≤ t) → count_by (ends_by seq at) rows ≤ count_by (ends_by s t) rows
 ended-more seq at s t rows low same = count-implied (ends_by seq at) (ends_by s t) rows (λ b e. up_to-later seq at s t b.seq b.stop (low, same) e)
 
 -- ---- places as records
 
 -- the places are where the records are
-abbrev LieAs : List Place → List Row → Type 0
+abbrev LieAs : List Locator → List RecordValue → Type 0
 LieAs places rows = map span_in places ≡ map span_of rows
 
 head-same : (a b : Span) (xs ys : List Span) → a ∷ xs ≡ b ∷ ys → a ≡ b
@@ -95,7 +95,7 @@ some-same : (a : Span) (xs : List Span) → a ∷ xs ≡ [] → ⊥
 some-same a xs e = cc
 
 -- what holds of each place holds of each record, if it is said of where they are
-all-rows : (P : Span → Type 0) (places : List Place) (rows : List Row) → LieAs places rows → All (λ place. P (span_in place)) places → All (λ r. P (span_of r)) rows
+all-rows : (P : Span → Type 0) (places : List Locator) (rows : List RecordValue) → LieAs places rows → All (λ place. P (span_in place)) places → All (λ r. P (span_of r)) rows
 all-rows P [] [] e h = All-nil (λ r. P (span_of r))
 all-rows P [] (r ∷ rows) e h = absurd (none-same _ _ e)
 all-rows P (place ∷ places) [] e h = absurd (some-same _ _ e)
@@ -105,7 +105,7 @@ all-rows P (place ∷ places) (r ∷ rows) e h =
     (all-rows P places rows (tail-same _ _ _ _ e) (All-tail (λ q. P (span_in q)) place places h))
 
 -- and the other way round
-all-places : (P : Span → Type 0) (places : List Place) (rows : List Row) → LieAs places rows → All (λ r. P (span_of r)) rows → All (λ place. P (span_in place)) places
+all-places : (P : Span → Type 0) (places : List Locator) (rows : List RecordValue) → LieAs places rows → All (λ r. P (span_of r)) rows → All (λ place. P (span_in place)) places
 all-places P [] rows e h = All-nil (λ place. P (span_in place))
 all-places P (place ∷ places) [] e h = absurd (some-same _ _ e)
 all-places P (place ∷ places) (r ∷ rows) e h =
@@ -114,29 +114,29 @@ all-places P (place ∷ places) (r ∷ rows) e h =
     (all-places P places rows (tail-same _ _ _ _ e) (All-tail (λ q. P (span_of q)) r rows h))
 
 -- a test of where they are counts as many places as records
-count-places : (p : Span → Bool) (places : List Place) (rows : List Row) → LieAs places rows → count_by (λ place. p (span_in place)) places ≡ count_by (λ r. p (span_of r)) rows
+count-places : (p : Span → Bool) (places : List Locator) (rows : List RecordValue) → LieAs places rows → count_by (λ place. p (span_in place)) places ≡ count_by (λ r. p (span_of r)) rows
 count-places p places rows e = sym (count-map span_in p places) ∙ ap (λ (l : List Span). count_by p l) e ∙ count-map span_of p rows
 
 -- ---- where they begin
 
-starts-ascend : (seq at : ℕ) (places : List Place) (rows : List Row) → LieAs places rows → AreInOrder rows → IsPartitionedBy (place_before seq at) places
+starts-ascend : (seq at : ℕ) (places : List Locator) (rows : List RecordValue) → LieAs places rows → AreInOrder rows → IsPartitionedBy (place_before seq at) places
 starts-ascend seq at [] rows e order = λ i j d le lt h. absurd (omega arith)
 starts-ascend seq at (place ∷ places) [] e order = absurd (some-same _ _ e)
 starts-ascend seq at (place ∷ places) (r ∷ rows) e order =
     let same : span_in place ≡ span_of r = head-same _ _ _ _ e in
     let on : place.span.seq ≡ r.seq = ap (λ (s : Span). s.seq) same in
     let from : place.span.start ≡ r.start = ap (λ (s : Span). s.start) same in
-    let later : All (λ (q : Row). (r.seq ≤ q.seq) × (r.seq ≡ q.seq → r.start ≤ q.start)) rows =
-    All-weaker (λ (q : Row). is_le (row_cmp r q) ≡ true) (λ (q : Row). (r.seq ≤ q.seq) × (r.seq ≡ q.seq → r.start ≤ q.start)) (λ q k. precedes r q k) rows
-    (All-from_recursion (λ (q : Row). is_le (row_cmp r q) ≡ true) rows order.0) in
-    let onward : All (λ (q : Place). (r.seq ≤ q.span.seq) × (r.seq ≡ q.span.seq → r.start ≤ q.span.start)) places
+    let later : All (λ (q : RecordValue). (r.seq ≤ q.seq) × (r.seq ≡ q.seq → r.start ≤ q.start)) rows =
+    All-weaker (λ (q : RecordValue). is_le (record_cmp r q) ≡ true) (λ (q : RecordValue). (r.seq ≤ q.seq) × (r.seq ≡ q.seq → r.start ≤ q.start)) (λ q k. precedes r q k) rows
+    (All-from_recursion (λ (q : RecordValue). is_le (record_cmp r q) ≡ true) rows order.0) in
+    let onward : All (λ (q : Locator). (r.seq ≤ q.span.seq) × (r.seq ≡ q.span.seq → r.start ≤ q.span.start)) places
     = all-places (λ (s : Span). (r.seq ≤ s.seq) × (r.seq ≡ s.seq → r.start ≤ s.start)) places rows (tail-same _ _ _ _ e) later in
     split_up-cons (place_before seq at) place places
-    (All-weaker (λ (q : Place). (r.seq ≤ q.span.seq) × (r.seq ≡ q.span.seq → r.start ≤ q.span.start)) (λ (q : Place). place_before seq at q ≡ true → place_before seq at place ≡ true)
+    (All-weaker (λ (q : Locator). (r.seq ≤ q.span.seq) × (r.seq ≡ q.span.seq → r.start ≤ q.span.start)) (λ (q : Locator). place_before seq at q ≡ true → place_before seq at place ≡ true)
     (λ q k h. rw (on, from) (before-earlier seq at q.span.seq q.span.start r.seq r.start k h)) places onward)
     (starts-ascend seq at places rows (tail-same _ _ _ _ e) order.1)
 
-pub AreStartsOf-rows : (places : List Place) (rows : List Row) → map span_in places ≡ map span_of rows → All HasBase places → AreInOrder rows → AreStartsOf places rows
+pub AreStartsOf-rows : (places : List Locator) (rows : List RecordValue) → map span_in places ≡ map span_of rows → All HasBase places → AreInOrder rows → AreStartsOf places rows
 AreStartsOf-rows places rows e some order = record {
   ascend = λ seq at. starts-ascend seq at places rows e order;
   counts = λ seq at. count-places (λ s. is_before seq at s.seq s.start) places rows e;
@@ -170,7 +170,7 @@ EndsAscend-sorted ends up = λ seq at i j d le lt e.
     up_to-earlier seq at b.seq b.stop a.seq a.stop
     (end-onward a b (sorted_far (λ x y. is_lt (end_cmp x y)) (ranks_by ends_total (λ (x : End). x)) ends up i j d le lt)) e
 
-pub AreEndsOf-moved : (ends : List End) (places : List Place) (rows : List Row) → map span_in places ≡ map span_of rows
+pub AreEndsOf-moved : (ends : List End) (places : List Locator) (rows : List RecordValue) → map span_in places ≡ map span_of rows
     → IsPermutation (map end_of places) ends → EndsAscend ends → AreEndsOf ends rows
 AreEndsOf-moved ends places rows e moved up = record {
   ascend = up;
@@ -182,12 +182,12 @@ AreEndsOf-moved ends places rows e moved up = record {
 
 -- ---- the next record of the first list
 
-later-precede : (a : Row) (rows : List Row) → AreInOrder (a ∷ rows) → All (Precedes a) rows
+later-precede : (a : RecordValue) (rows : List RecordValue) → AreInOrder (a ∷ rows) → All (Precedes a) rows
 later-precede a rows order =
-    All-weaker (λ (q : Row). is_le (row_cmp a q) ≡ true) (Precedes a) (λ q k. precedes a q k) rows (All-from_recursion (λ (q : Row). is_le (row_cmp a q) ≡ true) rows order.0)
+    All-weaker (λ (q : RecordValue). is_le (record_cmp a q) ≡ true) (Precedes a) (λ q k. precedes a q k) rows (All-from_recursion (λ (q : RecordValue). is_le (record_cmp a q) ≡ true) rows order.0)
 
 -- no fewer begin before it
-pub begun-later : (a : Row) (rows second : List Row) (places : List Place) (seq start n : ℕ) → AreInOrder (a ∷ rows) → AreStartsOf places second → seq ≡ a.seq → start ≡ a.start
+pub begun-later : (a : RecordValue) (rows second : List RecordValue) (places : List Locator) (seq start n : ℕ) → AreInOrder (a ∷ rows) → AreStartsOf places second → seq ≡ a.seq → start ≡ a.start
     → n ≡ count_by (place_before seq start) places → All (λ y. n ≤ count_by (begins_before y.seq y.start) second) rows
 begun-later a rows second places seq start n order lie on from is =
     let e : n ≡ count_by (begins_before a.seq a.start) second = is ∙ lie.counts seq start ∙ (λ i. count_by (begins_before (on i) (from i)) second) in
@@ -195,7 +195,7 @@ begun-later a rows second places seq start n order lie on from is =
     (λ y k. omega (arith, e, begun-more a.seq a.start y.seq y.start second k.0 k.1)) rows (later-precede a rows order)
 
 -- and no fewer end up to where it begins
-pub ended-later : (a : Row) (rows second : List Row) (ends : List End) (seq start n : ℕ) → AreInOrder (a ∷ rows) → AreEndsOf ends second → seq ≡ a.seq → start ≡ a.start
+pub ended-later : (a : RecordValue) (rows second : List RecordValue) (ends : List End) (seq start n : ℕ) → AreInOrder (a ∷ rows) → AreEndsOf ends second → seq ≡ a.seq → start ≡ a.start
     → n ≡ count_by (end_by seq start) ends → All (λ y. n ≤ count_by (ends_by y.seq y.start) second) rows
 ended-later a rows second ends seq start n order are on from is =
     let e : n ≡ count_by (ends_by a.seq a.start) second = is ∙ are.counts seq start ∙ (λ i. count_by (ends_by (on i) (from i)) second) in
@@ -205,7 +205,7 @@ ended-later a rows second ends seq start n order are on from is =
 -- ---- a cursor over starts
 
 -- no fewer places begin before a later position
-pub places-more : (seq at later : ℕ) (places : List Place) → at ≤ later → count_by (place_before seq at) places ≤ count_by (place_before seq later) places
+pub places-more : (seq at later : ℕ) (places : List Locator) → at ≤ later → count_by (place_before seq at) places ≤ count_by (place_before seq later) places
 places-more seq at later places le = count-implied (place_before seq at) (place_before seq later) places (λ place e. before-later seq at seq later place.span.seq place.span.start (omega arith, λ _. le) e)
 
 -- one that may go past all of them counts them
@@ -217,7 +217,7 @@ passes-all n count most few all low = elim (cases_lt n most) [
 
 -- ---- what two cursors say of a record
 
-pub hits-between : (a : Row) (second : List Row) (ends : List End) (places : List Place) (seq start stop ended reached : ℕ) → AreEndsOf ends second → AreStartsOf places second
+pub hits-between : (a : RecordValue) (second : List RecordValue) (ends : List End) (places : List Locator) (seq start stop ended reached : ℕ) → AreEndsOf ends second → AreStartsOf places second
     → a.start < a.stop → seq ≡ a.seq → start ≡ a.start → stop ≡ a.stop → ended ≡ count_by (end_by seq start) ends → reached ≡ count_by (place_before seq stop) places
     → length (hits_of second a) + ended ≡ reached
 hits-between a second ends places seq start stop ended reached are lie some on from to low high =

@@ -4,7 +4,7 @@ use Rattle.std.specs.List.{flat_map, list_any}
 use Rattle.std.proofs.lemmas.Bool.{false≢true, ne_eqb}
 use Rattle.std.proofs.lemmas.List.Elements.{All-head, All-tail}
 use Rattle.iv_text.specs.Genome.{Sequences}
-use Rattle.iv_text.specs.Row.{Row, part}
+use Rattle.iv_text.specs.RecordValue.{RecordValue, part}
 use Rattle.iv_text.specs.Covering.{covers}
 use Rattle.iv_cover.specs.Depth.{depth}
 use Rattle.iv_cover.specs.Runs.{Run}
@@ -30,17 +30,17 @@ same_tests false true f h = h refl
 same_tests false false f h = refl
 
 -- whether a record has a hit
-abbrev has_hit : List Row → Row → Bool
+abbrev has_hit : List RecordValue → RecordValue → Bool
 has_hit rows a = list_any (overlaps a.seq a.start a.stop) rows
 
-any-line : (g : Sequences) (a : Row) (rows : List Row) → any_line g a (hits_of rows a) ≡ cond (has_hit rows a) (record_line g a) []
+any-line : (g : Sequences) (a : RecordValue) (rows : List RecordValue) → any_line g a (hits_of rows a) ≡ cond (has_hit rows a) (record_line g a) []
 any-line g a [] = refl
 any-line g a (q ∷ rows) = elim (overlaps a.seq a.start a.stop q) as (λ c. any_line g a (cond c (q ∷ hits_of rows a) (hits_of rows a)) ≡ cond (c || has_hit rows a) (record_line g a) []) [
   | true ↦ refl
   | false ↦ any-line g a rows
 ]
 
-none-line : (g : Sequences) (a : Row) (rows : List Row) → none_line g a (hits_of rows a) ≡ cond (has_hit rows a) [] (record_line g a)
+none-line : (g : Sequences) (a : RecordValue) (rows : List RecordValue) → none_line g a (hits_of rows a) ≡ cond (has_hit rows a) [] (record_line g a)
 none-line g a [] = refl
 none-line g a (q ∷ rows) = elim (overlaps a.seq a.start a.stop q) as (λ c. none_line g a (cond c (q ∷ hits_of rows a) (hits_of rows a)) ≡ cond (c || has_hit rows a) [] (record_line g a)) [
   | true ↦ refl
@@ -48,20 +48,20 @@ none-line g a (q ∷ rows) = elim (overlaps a.seq a.start a.stop q) as (λ c. no
 ]
 
 -- a hit in one list is one in another that covers the same
-hit-alike : (second other : List Row) (a : Row) → a.start < a.stop → HaveBases second → HaveBases other → CoverAlike second other → has_hit second a ≡ true → has_hit other a ≡ true
+hit-alike : (second other : List RecordValue) (a : RecordValue) → a.start < a.stop → HaveBases second → HaveBases other → CoverAlike second other → has_hit second a ≡ true → has_hit other a ≡ true
 hit-alike second other a some bases others alike hit =
     let q = any-found (overlaps a.seq a.start a.stop) second hit in
-    let at = (overlap-means a.seq a.start a.stop q.0 some (all-mem (λ (r : Row). r.start < r.stop) second bases q.0 q.1)).0 q.2 in
+    let at = (overlap-means a.seq a.start a.stop q.0 some (all-mem (λ (r : RecordValue). r.start < r.stop) second bases q.0 q.1)).0 q.2 in
     let there = any-found (covers a.seq at.0) other (sym (alike a.seq at.0) ∙ any-at (covers a.seq at.0) second q.0 q.1 at.3) in
     any-at (overlaps a.seq a.start a.stop) other there.0 there.1
-    ((overlap-means a.seq a.start a.stop there.0 some (all-mem (λ (r : Row). r.start < r.stop) other others there.0 there.1)).1 (at.0, at.1, at.2, there.2))
+    ((overlap-means a.seq a.start a.stop there.0 some (all-mem (λ (r : RecordValue). r.start < r.stop) other others there.0 there.1)).1 (at.0, at.1, at.2, there.2))
 
-hits-alike : (second other : List Row) (a : Row) → a.start < a.stop → HaveBases second → HaveBases other → CoverAlike second other → has_hit second a ≡ has_hit other a
+hits-alike : (second other : List RecordValue) (a : RecordValue) → a.start < a.stop → HaveBases second → HaveBases other → CoverAlike second other → has_hit second a ≡ has_hit other a
 hits-alike second other a some bases others alike =
     same_tests (has_hit second a) (has_hit other a) (hit-alike second other a some bases others alike) (hit-alike other second a some others bases (λ seq p. sym (alike seq p)))
 
 -- a position has depth 0 exactly if no record covers it
-depth-zero : (rows : List Row) (seq p : ℕ) → (depth rows seq p == 0) ≡ not (is_covered rows seq p)
+depth-zero : (rows : List RecordValue) (seq p : ℕ) → (depth rows seq p == 0) ≡ not (is_covered rows seq p)
 depth-zero [] seq p = refl
 depth-zero (q ∷ rows) seq p =
     ap (λ n. n == 0) (depth-cons q rows seq p)
@@ -70,13 +70,13 @@ depth-zero (q ∷ rows) seq p =
       | false ↦ ap (λ n. n == 0) (zero-add (depth rows seq p)) ∙ depth-zero rows seq p
     ])
 
-uncovered-alike : (g : Sequences) (a : Row) (second other : List Row) → CoverAlike second other → uncovered_rows g a second ≡ uncovered_rows g a other
+uncovered-alike : (g : Sequences) (a : RecordValue) (second other : List RecordValue) → CoverAlike second other → uncovered_rows g a second ≡ uncovered_rows g a other
 uncovered-alike g a second other alike =
     ap (flat_map (λ (run : Run). record_line g (part a run.start run.stop)))
     (empty-alike (depth second a.seq) (depth other a.seq) (λ p. depth-zero second a.seq p ∙ ap not (alike a.seq p) ∙ sym (depth-zero other a.seq p)) a.start a.stop)
 
 -- the rows of one record
-rows-alike : (rows : PairRows) → needs_cover_alone rows ≡ true → (g : Sequences) (a : Row) (second other : List Row) → a.start < a.stop → HaveBases second → HaveBases other → CoverAlike second other
+rows-alike : (rows : PairRows) → needs_cover_alone rows ≡ true → (g : Sequences) (a : RecordValue) (second other : List RecordValue) → a.start < a.stop → HaveBases second → HaveBases other → CoverAlike second other
     → pair_rows rows g a second ≡ pair_rows rows g a other
 rows-alike (Intersect Shared) is g a second other some bases others alike = absurd (false≢true is)
 rows-alike (Intersect SharedAndHit) is g a second other some bases others alike = absurd (false≢true is)
@@ -95,5 +95,5 @@ rows-alike (Subtract false) is g a second other some bases others alike = uncove
 pub text-alike : (rows : PairRows) → needs_cover_alone rows ≡ true → DependsOnCoverAlone rows
 text-alike rows is g [] second other firsts bases others alike = refl
 text-alike rows is g (a ∷ first) second other firsts bases others alike =
-    (λ i. rows-alike rows is g a second other (All-head (λ (r : Row). r.start < r.stop) a first firsts) bases others alike i
-    ++ text-alike rows is g first second other (All-tail (λ (r : Row). r.start < r.stop) a first firsts) bases others alike i)
+    (λ i. rows-alike rows is g a second other (All-head (λ (r : RecordValue). r.start < r.stop) a first firsts) bases others alike i
+    ++ text-alike rows is g first second other (All-tail (λ (r : RecordValue). r.start < r.stop) a first firsts) bases others alike i)

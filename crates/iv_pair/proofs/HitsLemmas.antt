@@ -5,34 +5,34 @@ use Rattle.std.proofs.lemmas.Bool.{and_parts, lt-ltb, ltb-true, le-leb, leb-true
 use Rattle.std.proofs.lemmas.List.Sums.{length-filter, count_by-le-length}
 use Rattle.std.proofs.lemmas.Map.Views.{exact_unsigned_eq}
 use Rattle.iv_text.specs.Ordered.{AreInOrder}
-use Rattle.iv_text.specs.Row.{Row}
+use Rattle.iv_text.specs.RecordValue.{RecordValue}
 use Rattle.iv_track.specs.Tracked.{is_from}
 use Rattle.iv_text.specs.Covering.{covers}
 use Rattle.iv_text.proofs.ListLemmas.{Mem, all-mem}
 use Rattle.iv_pair.specs.Hits.{overlaps, hits, hits_of}
-use Rattle.iv_pair.specs.Lengths.{AreUpTo}
-use Rattle.iv_pair.specs.Putting.{AllOverlap}
+use Rattle.iv_pair.specs.Inside.Lengths.{AreUpTo}
+use Rattle.iv_pair.specs.Inside.Putting.{AllOverlap}
 use Rattle.iv_pair.proofs.PlaceLemmas.{le_pair, pair_le, filter-implied, from_all, from_whole}
 
-pub overlaps_parts : (seq start stop : ℕ) (q : Row) → overlaps seq start stop q ≡ true → (q.seq ≡ seq) × (q.start < stop) × (start < q.stop)
+pub overlaps_parts : (seq start stop : ℕ) (q : RecordValue) → overlaps seq start stop q ≡ true → (q.seq ≡ seq) × (q.start < stop) × (start < q.stop)
 overlaps_parts seq start stop q h =
     let a = and_parts _ _ h in
     let b = and_parts _ _ a.1 in
     (exact_unsigned_eq q.seq seq a.0, ltb-true q.start stop b.0, ltb-true start q.stop b.1)
 
-pub overlaps_from : (seq start stop : ℕ) (q : Row) → q.seq ≡ seq → q.start < stop → start < q.stop → overlaps seq start stop q ≡ true
+pub overlaps_from : (seq start stop : ℕ) (q : RecordValue) → q.seq ≡ seq → q.start < stop → start < q.stop → overlaps seq start stop q ≡ true
 overlaps_from seq start stop q on low high = rw (eq-eqb q.seq seq on, lt-ltb q.start stop low, lt-ltb start q.stop high) refl
 
-pub covers_parts : (seq p : ℕ) (q : Row) → covers seq p q ≡ true → (q.seq ≡ seq) × (q.start ≤ p) × (p < q.stop)
+pub covers_parts : (seq p : ℕ) (q : RecordValue) → covers seq p q ≡ true → (q.seq ≡ seq) × (q.start ≤ p) × (p < q.stop)
 covers_parts seq p q h =
     let a = and_parts _ _ h in
     let b = and_parts _ _ a.1 in
     (exact_unsigned_eq q.seq seq a.0, leb-true q.start p b.0, ltb-true p q.stop b.1)
 
-pub covers_from : (seq p : ℕ) (q : Row) → q.seq ≡ seq → q.start ≤ p → p < q.stop → covers seq p q ≡ true
+pub covers_from : (seq p : ℕ) (q : RecordValue) → q.seq ≡ seq → q.start ≤ p → p < q.stop → covers seq p q ≡ true
 covers_from seq p q on low high = rw (eq-eqb q.seq seq on, le-leb q.start p low, lt-ltb p q.stop high) refl
 
-pub overlap-means : (seq start stop : ℕ) (q : Row) → start < stop → q.start < q.stop
+pub overlap-means : (seq start stop : ℕ) (q : RecordValue) → start < stop → q.start < q.stop
     → (overlaps seq start stop q ≡ true) ↔ ((p : ℕ) × (start ≤ p) × (p < stop) × (covers seq p q ≡ true))
 overlap-means seq start stop q some long = (
   λ is.
@@ -52,35 +52,35 @@ overlap-means seq start stop q some long = (
 -- ---- where a search begins
 
 -- if no record is longer than n, the hits are among the records from the start less n on
-pub hits_from : (rows : List Row) (seq start stop from n : ℕ) → AreUpTo seq n rows → from ≤ start + 1 - n → hits (filter (is_from seq from) rows) seq start stop ≡ hits rows seq start stop
+pub hits_from : (rows : List RecordValue) (seq start stop from n : ℕ) → AreUpTo seq n rows → from ≤ start + 1 - n → hits (filter (is_from seq from) rows) seq start stop ≡ hits rows seq start stop
 hits_from rows seq start stop from n up low = filter-implied (overlaps seq start stop) (is_from seq from) rows (λ q m is.
     let parts = overlaps_parts seq start stop q is in
     let here : q.seq ≡ seq = parts.0 in
     let past : start < q.stop = parts.2 in
-    let long : q.stop ≤ q.start + n = all-mem (λ (r : Row). r.seq ≡ seq → r.stop ≤ r.start + n) rows up q m here in
+    let long : q.stop ≤ q.start + n = all-mem (λ (r : RecordValue). r.seq ≡ seq → r.stop ≤ r.start + n) rows up q m here in
     pair_le seq q.seq from q.start (omega arith) (λ _. omega (arith, past, long, low)))
 
-pub length-filter_le : (p : Row → Bool) (rows : List Row) → length (filter p rows) ≤ length rows
+pub length-filter_le : (p : RecordValue → Bool) (rows : List RecordValue) → length (filter p rows) ≤ length rows
 length-filter_le p rows = omega (arith, length-filter p rows, count_by-le-length p rows)
 
 -- ---- a walk that goes on to a start
 
-pub near-none : (seq from : ℕ) (near rows : List Row) → near ≡ [] → filter (is_from seq from) near ≡ filter (is_from seq from) rows → near ≡ filter (is_from seq from) rows
+pub near-none : (seq from : ℕ) (near rows : List RecordValue) → near ≡ [] → filter (is_from seq from) near ≡ filter (is_from seq from) rows → near ≡ filter (is_from seq from) rows
 near-none seq from near rows none same = none ∙ sym (ap (filter (is_from seq from)) none) ∙ same
 
-pub near-first : (seq from : ℕ) (near rest rows : List Row) (r : Row) → near ≡ r ∷ rest → AreInOrder near → is_from seq from r ≡ true
+pub near-first : (seq from : ℕ) (near rest rows : List RecordValue) (r : RecordValue) → near ≡ r ∷ rest → AreInOrder near → is_from seq from r ≡ true
     → filter (is_from seq from) near ≡ filter (is_from seq from) rows → near ≡ filter (is_from seq from) rows
 near-first seq from near rest rows r first order is same =
     first ∙ sym (from_whole seq from r rest (subst AreInOrder first order) is) ∙ sym (ap (filter (is_from seq from)) first) ∙ same
 
-pub near-next : (seq from : ℕ) (near rest rows : List Row) (r : Row) → near ≡ r ∷ rest → is_from seq from r ≡ false
+pub near-next : (seq from : ℕ) (near rest rows : List RecordValue) (r : RecordValue) → near ≡ r ∷ rest → is_from seq from r ≡ false
     → filter (is_from seq from) near ≡ filter (is_from seq from) rows → filter (is_from seq from) rest ≡ filter (is_from seq from) rows
 near-next seq from near rest rows r first not same =
     sym (ap (filter (is_from seq from)) first ∙ ap (λ b. cond b (r ∷ filter (is_from seq from) rest) (filter (is_from seq from) rest)) not) ∙ same
 
 -- ---- hit by hit
 
-from_apart : (seq start stop : ℕ) (q : Row) → is_from seq stop q ≡ true → overlaps seq start stop q ≡ false
+from_apart : (seq start stop : ℕ) (q : RecordValue) → is_from seq stop q ≡ true → overlaps seq start stop q ≡ false
 from_apart seq start stop q h = go (overlaps seq start stop q) refl
   where
     go : (b : Bool) → overlaps seq start stop q ≡ b → b ≡ false
@@ -92,24 +92,24 @@ from_apart seq start stop q h = go (overlaps seq start stop q) refl
         let low : q.start < stop = parts.1 in
         absurd (omega arith)
 
-none_from : (seq start stop : ℕ) (rows : List Row) → ((q : Row) → Mem q rows → is_from seq stop q ≡ true) → hits rows seq start stop ≡ []
+none_from : (seq start stop : ℕ) (rows : List RecordValue) → ((q : RecordValue) → Mem q rows → is_from seq stop q ≡ true) → hits rows seq start stop ≡ []
 none_from seq start stop [] all = refl
 none_from seq start stop (q ∷ rows) all =
     ap (λ b. cond b (q ∷ hits rows seq start stop) (hits rows seq start stop)) (from_apart seq start stop q (all q (inl refl)))
     ∙ none_from seq start stop rows (λ r m. all r (inr m))
 
 -- from a record on that begins at the stop or after it there are none
-pub hits_beyond : (seq start stop : ℕ) (r : Row) (rows : List Row) → AreInOrder (r ∷ rows) → is_from seq stop r ≡ true → hits rows seq start stop ≡ []
+pub hits_beyond : (seq start stop : ℕ) (r : RecordValue) (rows : List RecordValue) → AreInOrder (r ∷ rows) → is_from seq stop r ≡ true → hits rows seq start stop ≡ []
 hits_beyond seq start stop r rows o h = none_from seq start stop rows (λ q m. from_all seq stop r rows o h q (inr m))
 
-pub hit_first : (rows rest : List Row) (r : Row) (seq start stop : ℕ) → rows ≡ r ∷ rest → overlaps seq start stop r ≡ true → hits rows seq start stop ≡ r ∷ hits rest seq start stop
+pub hit_first : (rows rest : List RecordValue) (r : RecordValue) (seq start stop : ℕ) → rows ≡ r ∷ rest → overlaps seq start stop r ≡ true → hits rows seq start stop ≡ r ∷ hits rest seq start stop
 hit_first rows rest r seq start stop e is = ap (λ xs. hits xs seq start stop) e ∙ ap (λ b. cond b (r ∷ hits rest seq start stop) (hits rest seq start stop)) is
 
-pub hit_not : (rows rest : List Row) (r : Row) (seq start stop : ℕ) → rows ≡ r ∷ rest → overlaps seq start stop r ≡ false → hits rows seq start stop ≡ hits rest seq start stop
+pub hit_not : (rows rest : List RecordValue) (r : RecordValue) (seq start stop : ℕ) → rows ≡ r ∷ rest → overlaps seq start stop r ≡ false → hits rows seq start stop ≡ hits rest seq start stop
 hit_not rows rest r seq start stop e is = ap (λ xs. hits xs seq start stop) e ∙ ap (λ b. cond b (r ∷ hits rest seq start stop) (hits rest seq start stop)) is
 
 -- each hit of a record shares a position with it
-pub hits-overlap : (rows : List Row) (a : Row) → AllOverlap a (hits_of rows a)
+pub hits-overlap : (rows : List RecordValue) (a : RecordValue) → AllOverlap a (hits_of rows a)
 hits-overlap [] a = tt
 hits-overlap (q ∷ rows) a = go (hits-overlap rows a) (overlaps a.seq a.start a.stop q) refl
   where

@@ -19,14 +19,15 @@ use Rattle.std.proofs.lemmas.Map.{keys-set_value}
 use Rattle.std.proofs.lemmas.Map.Views.{All-keys-insert_entry, All-values-insert_entry, All-map-remove_entry, All-values-set_value, IfSome-lookup_from_All}
 use Rattle.std.proofs.lemmas.Bool.{cases_lt}
 use Rattle.iv_text.specs.Ordered.{copies_by, added_by, AreInOrder, added, copies, ordered}
-use Rattle.iv_text.specs.Row.{Row, row_cmp}
+use Rattle.iv_text.specs.RecordValue.{RecordValue, record_cmp}
 use Rattle.iv_text.proofs.OrderedLemmas.{copies-added, length-all_added}
-use Rattle.iv_track.specs.Copies.{expanded, removed_by}
+use Rattle.iv_track.specs.Copies.{removed_by}
+use Rattle.iv_track.specs.Inside.Copies.{expanded}
 use Rattle.iv_track.specs.Entries.{IsLedger, value_at, last_until, pair_cmp}
 use Rattle.iv_track.specs.Tracked.{Tracked, removed}
 use Rattle.iv_track.proofs.Counts.{copies-expanded, copies-removed, expanded-insert, expanded-remove_entry, expanded-set_value}
 use Rattle.iv_track.proofs.Edits.{added-removed}
-use Rattle.iv_pair.specs.Lengths.{length_of, with_length, IsTally, AreLengths, IsSecond, AreUpTo}
+use Rattle.iv_pair.specs.Inside.Lengths.{length_of, with_length, IsTally, AreLengths, IsSecond, AreUpTo}
 use Rattle.iv_track.proofs.NumberOrder.{pair_total, pair_exact}
 use Rattle.iv_pair.proofs.PlaceLemmas.{le_pair, ge_pair, pair_ge}
 
@@ -113,11 +114,11 @@ module _ (es fs : List ((ℕ × ℕ) × ℕ)) (k : ℕ × ℕ) (t : IsTally es) 
 
 -- ---- the lengths of records, one after another
 
-with_length-cons : (r : Row) (rows : List Row) (k : ℕ × ℕ) → with_length (r ∷ rows) k ≡ cond (is_eq (pair_cmp k (length_of r))) 1 0 + with_length rows k
+with_length-cons : (r : RecordValue) (rows : List RecordValue) (k : ℕ × ℕ) → with_length (r ∷ rows) k ≡ cond (is_eq (pair_cmp k (length_of r))) 1 0 + with_length rows k
 with_length-cons r rows k = sum_by-cons (λ q. cond (is_eq (pair_cmp k (length_of q))) 1 0) r rows
 
 -- the map has the lengths of all records but those that are left
-pub record IsCounted (es : List ((ℕ × ℕ) × ℕ)) (left rows : List Row) : Type 0 where
+pub record IsCounted (es : List ((ℕ × ℕ) × ℕ)) (left rows : List RecordValue) : Type 0 where
   pub tally : IsTally es
   pub counts : (k : ℕ × ℕ) → copies_by pair_cmp (expanded es) k + with_length left k ≡ with_length rows k
 
@@ -125,62 +126,62 @@ no_lengths : IsLedger {V = ℕ} pair_cmp []
 unfolding IsStrictlySortedBy
 no_lengths = tt
 
-pub IsCounted-begin : (es : List ((ℕ × ℕ) × ℕ)) (rows : List Row) → es ≡ [] → IsCounted es rows rows
+pub IsCounted-begin : (es : List ((ℕ × ℕ) × ℕ)) (rows : List RecordValue) → es ≡ [] → IsCounted es rows rows
 IsCounted-begin es rows none = rw none record {
   tally = record { ordered = no_lengths; present = All-nil (λ n. 0 < n); small = All-nil (λ (k : ℕ × ℕ). k.1 < 2 ^ 32) };
   counts = λ k. omega arith;
 }
 
-pub IsCounted-room : (es : List ((ℕ × ℕ) × ℕ)) (left rows : List Row) (k : ℕ × ℕ) → IsCounted es left rows → copies_by pair_cmp (expanded es) k ≤ length rows
+pub IsCounted-room : (es : List ((ℕ × ℕ) × ℕ)) (left rows : List RecordValue) (k : ℕ × ℕ) → IsCounted es left rows → copies_by pair_cmp (expanded es) k ≤ length rows
 IsCounted-room es left rows k c = omega (arith, c.counts k, count_by-le-length (λ r. is_eq (pair_cmp k (length_of r))) rows)
 
-pub IsCounted-next : (es fs : List ((ℕ × ℕ) × ℕ)) (left after rows : List Row) (r : Row) → IsCounted es left rows → left ≡ r ∷ after
+pub IsCounted-next : (es fs : List ((ℕ × ℕ) × ℕ)) (left after rows : List RecordValue) (r : RecordValue) → IsCounted es left rows → left ≡ r ∷ after
     → IsTally fs → expanded fs ≡ added_by pair_cmp (expanded es) (length_of r) → IsCounted fs after rows
 IsCounted-next es fs left after rows r c first t up = record {
   tally = t;
   counts = λ k. omega (
     arith,
     c.counts k,
-    ap (λ (l : List Row). with_length l k) first,
+    ap (λ (l : List RecordValue). with_length l k) first,
     with_length-cons r after k,
     ap (λ (l : List (ℕ × ℕ)). copies_by pair_cmp l k) up,
     copies-added pair_cmp (expanded es) (length_of r) k,
   );
 }
 
-pub IsCounted-all : (es : List ((ℕ × ℕ) × ℕ)) (left rows : List Row) → IsCounted es left rows → left ≡ [] → AreLengths es rows
+pub IsCounted-all : (es : List ((ℕ × ℕ) × ℕ)) (left rows : List RecordValue) → IsCounted es left rows → left ≡ [] → AreLengths es rows
 IsCounted-all es left rows c none = record {
   tally = c.tally;
-  counts = λ k. omega (arith, c.counts k, ap (λ (l : List Row). with_length l k) none);
+  counts = λ k. omega (arith, c.counts k, ap (λ (l : List RecordValue). with_length l k) none);
 }
 
 -- ---- the lengths of a track's records, with one more and with one less
 
 -- a length is counted at most once for each record
-pub AreLengths-room : (es : List ((ℕ × ℕ) × ℕ)) (rows : List Row) (k : ℕ × ℕ) → AreLengths es rows → copies_by pair_cmp (expanded es) k ≤ length rows
+pub AreLengths-room : (es : List ((ℕ × ℕ) × ℕ)) (rows : List RecordValue) (k : ℕ × ℕ) → AreLengths es rows → copies_by pair_cmp (expanded es) k ≤ length rows
 AreLengths-room es rows k a = omega (arith, a.counts k, count_by-le-length (λ r. is_eq (pair_cmp k (length_of r))) rows)
 
-with_length-added : (rows : List Row) (r : Row) (k : ℕ × ℕ) → with_length (added rows r) k ≡ cond (is_eq (pair_cmp k (length_of r))) 1 0 + with_length rows k
-with_length-added rows r k = count-added row_cmp (λ q. is_eq (pair_cmp k (length_of q))) rows r
+with_length-added : (rows : List RecordValue) (r : RecordValue) (k : ℕ × ℕ) → with_length (added rows r) k ≡ cond (is_eq (pair_cmp k (length_of r))) 1 0 + with_length rows k
+with_length-added rows r k = count-added record_cmp (λ q. is_eq (pair_cmp k (length_of q))) rows r
 
 -- a record that is there is one of those that have its length
-with_length-removed : (rows : List Row) (r : Row) (k : ℕ × ℕ) → AreInOrder rows → 0 < copies rows r
+with_length-removed : (rows : List RecordValue) (r : RecordValue) (k : ℕ × ℕ) → AreInOrder rows → 0 < copies rows r
     → with_length rows k ≡ cond (is_eq (pair_cmp k (length_of r))) 1 0 + with_length (removed rows r) k
-with_length-removed rows r k order there = ap (λ (l : List Row). with_length l k) (added-removed rows r order there) ∙ with_length-added (removed rows r) r k
+with_length-removed rows r k order there = ap (λ (l : List RecordValue). with_length l k) (added-removed rows r order there) ∙ with_length-added (removed rows r) r k
 
 -- its length is counted
-pub counted-there : (es : List ((ℕ × ℕ) × ℕ)) (rows : List Row) (r : Row) → AreLengths es rows → AreInOrder rows → 0 < copies rows r → 0 < copies_by pair_cmp (expanded es) (length_of r)
+pub counted-there : (es : List ((ℕ × ℕ) × ℕ)) (rows : List RecordValue) (r : RecordValue) → AreLengths es rows → AreInOrder rows → 0 < copies rows r → 0 < copies_by pair_cmp (expanded es) (length_of r)
 counted-there es rows r a order there =
     omega (arith, a.counts (length_of r), with_length-removed rows r (length_of r) order there, ap {B = ℕ} (λ (o : Ordering). cond (is_eq o) 1 0) (tied_itself pair_total (length_of r)))
 
 -- a record whose length isn't counted is not there
-pub absent-uncounted : (es : List ((ℕ × ℕ) × ℕ)) (rows : List Row) (r : Row) → AreLengths es rows → AreInOrder rows → copies_by pair_cmp (expanded es) (length_of r) ≡ 0 → copies rows r ≡ 0
+pub absent-uncounted : (es : List ((ℕ × ℕ) × ℕ)) (rows : List RecordValue) (r : RecordValue) → AreLengths es rows → AreInOrder rows → copies_by pair_cmp (expanded es) (length_of r) ≡ 0 → copies rows r ≡ 0
 absent-uncounted es rows r a order none = elim (cases_lt 0 (copies rows r)) [
   | inl there ↦ absurd (omega (arith, none, counted-there es rows r a order there))
   | inr low ↦ omega arith
 ]
 
-pub AreLengths-added : (es fs : List ((ℕ × ℕ) × ℕ)) (rows : List Row) (r : Row) → AreLengths es rows → IsTally fs
+pub AreLengths-added : (es fs : List ((ℕ × ℕ) × ℕ)) (rows : List RecordValue) (r : RecordValue) → AreLengths es rows → IsTally fs
     → expanded fs ≡ added_by pair_cmp (expanded es) (length_of r) → AreLengths fs (added rows r)
 AreLengths-added es fs rows r a t up = record {
   tally = t;
@@ -193,7 +194,7 @@ AreLengths-added es fs rows r a t up = record {
   );
 }
 
-pub AreLengths-removed : (es fs : List ((ℕ × ℕ) × ℕ)) (rows : List Row) (r : Row) → AreLengths es rows → AreInOrder rows → 0 < copies rows r
+pub AreLengths-removed : (es fs : List ((ℕ × ℕ) × ℕ)) (rows : List RecordValue) (r : RecordValue) → AreLengths es rows → AreInOrder rows → 0 < copies rows r
     → IsLowered es fs (length_of r) → AreLengths fs (removed rows r)
 AreLengths-removed es fs rows r a order there low = record {
   tally = low.tally;
@@ -217,7 +218,7 @@ raised-there es fs k up =
     )
 
 -- and then all is counted as before
-pub AreLengths-back : (es fs gs : List ((ℕ × ℕ) × ℕ)) (rows : List Row) (k : ℕ × ℕ) → AreLengths es rows → expanded fs ≡ added_by pair_cmp (expanded es) k
+pub AreLengths-back : (es fs gs : List ((ℕ × ℕ) × ℕ)) (rows : List RecordValue) (k : ℕ × ℕ) → AreLengths es rows → expanded fs ≡ added_by pair_cmp (expanded es) k
     → IsLowered fs gs k → AreLengths gs rows
 AreLengths-back es fs gs rows k a up low = record {
   tally = low.tally;
@@ -232,10 +233,10 @@ AreLengths-back es fs gs rows k a up low = record {
 }
 
 -- a second file of the records of a file
-pub few-ordered : (rows : List Row) (limit : ℕ) → length rows ≤ limit → length (ordered rows) ≤ limit
-few-ordered rows limit few = omega (arith, length-all_added row_cmp rows [], few)
+pub few-ordered : (rows : List RecordValue) (limit : ℕ) → length rows ≤ limit → length (ordered rows) ≤ limit
+few-ordered rows limit few = omega (arith, length-all_added record_cmp rows [], few)
 
-pub IsSecond-new : (es : List ((ℕ × ℕ) × ℕ)) (rows : List Row) (width limit : ℕ) (track : Tracked) → track ≡ record { rows = ordered rows; width = width; limit = limit }
+pub IsSecond-new : (es : List ((ℕ × ℕ) × ℕ)) (rows : List RecordValue) (width limit : ℕ) (track : Tracked) → track ≡ record { rows = ordered rows; width = width; limit = limit }
     → AreLengths es track.rows → length rows ≤ limit → IsSecond es track
 IsSecond-new es rows width limit track is a few = record {
   counted = a;
@@ -243,17 +244,17 @@ IsSecond-new es rows width limit track is a few = record {
 }
 
 -- a bound of all lengths of a sequence is one of its records
-up_to : (rows : List Row) (seq n : ℕ) → ((k : ℕ × ℕ) → k.0 ≡ seq → 0 < with_length rows k → k.1 ≤ n) → AreUpTo seq n rows
-up_to [] seq n h = All-nil (λ (q : Row). q.seq ≡ seq → q.stop ≤ q.start + n)
+up_to : (rows : List RecordValue) (seq n : ℕ) → ((k : ℕ × ℕ) → k.0 ≡ seq → 0 < with_length rows k → k.1 ≤ n) → AreUpTo seq n rows
+up_to [] seq n h = All-nil (λ (q : RecordValue). q.seq ≡ seq → q.stop ≤ q.start + n)
 up_to (r ∷ rows) seq n h =
-    All-cons (λ (q : Row). q.seq ≡ seq → q.stop ≤ q.start + n) r rows
+    All-cons (λ (q : RecordValue). q.seq ≡ seq → q.stop ≤ q.start + n) r rows
     (λ is.
     let own = ap {B = ℕ} (λ (o : Ordering). cond (is_eq o) 1 0) (tied_itself pair_total (length_of r)) in
     let long : r.stop - r.start ≤ n = h (length_of r) is (omega (arith, with_length-cons r rows (length_of r), own)) in
     omega arith)
     (up_to rows seq n (λ k is some. h k is (omega (arith, some, with_length-cons r rows k))))
 
-pub AreLengths-up_to : (es : List ((ℕ × ℕ) × ℕ)) (rows : List Row) (seq n : ℕ) → AreLengths es rows
+pub AreLengths-up_to : (es : List ((ℕ × ℕ) × ℕ)) (rows : List RecordValue) (seq n : ℕ) → AreLengths es rows
     → ((k : ℕ × ℕ) → k.0 ≡ seq → 0 < copies_by pair_cmp (expanded es) k → k.1 ≤ n) → AreUpTo seq n rows
 AreLengths-up_to es rows seq n a bound = up_to rows seq n (λ k is some. bound k is (omega (arith, a.counts k, some)))
 

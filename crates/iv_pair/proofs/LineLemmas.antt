@@ -5,17 +5,17 @@ use Rattle.std.specs.List.{flat_map}
 use Rattle.iv_bytes.specs.Sinks.{SinkState, FailsIn, Puts, Takes}
 use Rattle.iv_bytes.proofs.Putting.{Underway, Underway-begin, Underway-fails, Underway-more}
 use Rattle.iv_text.specs.Genome.{Sequences}
-use Rattle.iv_text.specs.Row.{Row}
+use Rattle.iv_text.specs.RecordValue.{RecordValue}
 use Rattle.iv_pair.specs.Hits.{hits_of}
 use Rattle.iv_pair.specs.IntersectRows.{intersect_rows}
-use Rattle.iv_pair.specs.Putting.{AllOverlap, Overlaps, hit_line}
+use Rattle.iv_pair.specs.Inside.Putting.{AllOverlap, Overlaps, hit_line}
 use Rattle.iv_pair.specs.declared.intersect.IntersectRows.{IntersectRows}
 use Rattle.iv_pair.specs.declared.intersect.IntersectRows.TheVariants.{Shared, SharedAndHit, Whole, WholeAndHit}
 use Rattle.iv_pair.proofs.HitsLemmas.{hits-overlap}
 use Rattle.iv_pair.proofs.YieldLemmas.{ended, went}
 
 -- if a line is shown for each hit, they are the rows
-lines-rows : (shown : IntersectRows) (g : Sequences) (a : Row) (found : List Row)
+lines-rows : (shown : IntersectRows) (g : Sequences) (a : RecordValue) (found : List RecordValue)
     → (shown ≡ Shared) ⊎ ((shown ≡ SharedAndHit) ⊎ ((shown ≡ Whole) ⊎ (shown ≡ WholeAndHit)))
     → flat_map (hit_line shown g a) found ≡ intersect_rows shown g a found
 lines-rows shown g a found (inl e) = rw e refl
@@ -24,7 +24,7 @@ lines-rows shown g a found (inr (inr (inl e))) = rw e refl
 lines-rows shown g a found (inr (inr (inr e))) = rw e refl
 
 -- a line was put for each hit of a record
-pub Puts-hits : {T E : Type 0} (shown : IntersectRows) (g : Sequences) (a : Row) (second : List Row) (old new : SinkState) (result : Result T E)
+pub Puts-hits : {T E : Type 0} (shown : IntersectRows) (g : Sequences) (a : RecordValue) (second : List RecordValue) (old new : SinkState) (result : Result T E)
     → (AllOverlap a (hits_of second a) → Puts old new result (flat_map (hit_line shown g a) (hits_of second a)))
     → (shown ≡ Shared) ⊎ ((shown ≡ SharedAndHit) ⊎ ((shown ≡ Whole) ⊎ (shown ≡ WholeAndHit))) → Puts old new result (intersect_rows shown g a (hits_of second a))
 Puts-hits shown g a second old new result put which =
@@ -32,26 +32,26 @@ Puts-hits shown g a second old new result put which =
 
 -- ---- hit by hit, as an iterator gives them
 
-module _ {S T : Type 0} (steps : S → Option T → S → Type 0) (row_of : T → Row) (a : Row) (line : Row → List ℕ) where
+module _ {S T : Type 0} (steps : S → Option T → S → Type 0) (row_of : T → RecordValue) (a : RecordValue) (line : RecordValue → List ℕ) where
   -- the lines of the hits before are put, and those of the hits that are left remain to be put
   pub record LinesLeft (s : S) (begun now : SinkState) (all : List ℕ) : Type 0 where
-    pub found : List Row
+    pub found : List RecordValue
     pub given : AlwaysYields steps row_of s found
     pub overlap : AllOverlap a found
     pub put : Underway begun now (flat_map line found) all
 
-  pub LinesLeft-begin : (s : S) (found : List Row) (begun : SinkState) → AlwaysYields steps row_of s found → AllOverlap a found → LinesLeft s begun begun (flat_map line found)
+  pub LinesLeft-begin : (s : S) (found : List RecordValue) (begun : SinkState) → AlwaysYields steps row_of s found → AllOverlap a found → LinesLeft s begun begun (flat_map line found)
   LinesLeft-begin s found begun given overlap = record { found = found; given = given; overlap = overlap; put = Underway-begin _ _ }
 
   module _ (s t : S) (x : T) (begun mid : SinkState) (all : List ℕ) (step : steps s (Some x) t) (l : LinesLeft s begun mid all) where
-    first : (rest : List Row) × (l.found ≡ row_of x ∷ rest) × AlwaysYields steps row_of t rest
+    first : (rest : List RecordValue) × (l.found ≡ row_of x ∷ rest) × AlwaysYields steps row_of t rest
     first = went steps row_of l.found s t x l.given step
 
     each : AllOverlap a (row_of x ∷ first.0)
-    each = subst (λ (f : List Row). AllOverlap a f) first.1 l.overlap
+    each = subst (λ (f : List RecordValue). AllOverlap a f) first.1 l.overlap
 
     put_first : Underway begun mid (line (row_of x) ++ flat_map line first.0) all
-    put_first = subst (λ (f : List Row). Underway begun mid (flat_map line f) all) first.1 l.put
+    put_first = subst (λ (f : List RecordValue). Underway begun mid (flat_map line f) all) first.1 l.put
 
     pub LinesLeft-overlaps : Overlaps a (row_of x)
     LinesLeft-overlaps = each.0
@@ -63,4 +63,4 @@ module _ {S T : Type 0} (steps : S → Option T → S → Type 0) (row_of : T �
     LinesLeft-fails now fails = Underway-fails _ _ _ _ _ _ put_first fails
 
   pub LinesLeft-ends : (s t : S) (begun now : SinkState) (all : List ℕ) → steps s None t → LinesLeft s begun now all → Underway begun now [] all
-  LinesLeft-ends s t begun now all step l = subst (λ (f : List Row). Underway begun now (flat_map line f) all) (ended steps row_of l.found s t l.given step) l.put
+  LinesLeft-ends s t begun now all step l = subst (λ (f : List RecordValue). Underway begun now (flat_map line f) all) (ended steps row_of l.found s t l.given step) l.put

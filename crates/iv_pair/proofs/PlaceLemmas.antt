@@ -8,7 +8,7 @@ use Rattle.std.specs.Cmp.{ranked}
 use Rattle.std.proofs.lemmas.List.Elements.{All-from_recursion}
 use Rattle.std.proofs.lemmas.Map.Keys.{le_from_is_le}
 use Rattle.iv_text.specs.Ordered.{AreInOrder}
-use Rattle.iv_text.specs.Row.{Row, row_cmp}
+use Rattle.iv_text.specs.RecordValue.{RecordValue, record_cmp}
 use Rattle.iv_track.specs.Tracked.{is_from}
 use Rattle.iv_track.proofs.NumberOrder.{le-cmp, ge-cmp}
 use Rattle.iv_text.proofs.PrecedesLemmas.{precedes-from}
@@ -58,12 +58,12 @@ filter-implied p t xs h = filter-filter p t xs ∙ filter-agree (λ q. t q && p 
     agree false false h = refl
 
 -- from an earlier start on there are all from a later one on
-pub from-on : (seq at from : ℕ) (rows : List Row) → at ≤ from → filter (is_from seq from) (filter (is_from seq at) rows) ≡ filter (is_from seq from) rows
+pub from-on : (seq at from : ℕ) (rows : List RecordValue) → at ≤ from → filter (is_from seq from) (filter (is_from seq at) rows) ≡ filter (is_from seq from) rows
 from-on seq at from rows low = filter-implied (is_from seq from) (is_from seq at) rows (λ q m is.
     let place = le_pair seq q.seq from q.start is in
     pair_le seq q.seq at q.start place.0 (λ e. let r : from ≤ q.start = place.1 e in omega arith))
 
-from_next : (seq p : ℕ) (x y : Row) → is_from seq p x ≡ true → is_le (row_cmp x y) ≡ true → is_from seq p y ≡ true
+from_next : (seq p : ℕ) (x y : RecordValue) → is_from seq p x ≡ true → is_le (record_cmp x y) ≡ true → is_from seq p y ≡ true
 from_next seq p x y h le =
     let a = le_pair seq x.seq p x.start h in
     let low : seq ≤ x.seq = a.0 in
@@ -76,9 +76,9 @@ from_next seq p x y h le =
     ]
 
 -- if the first of records in order is from there on, all are
-pub from_all : (seq p : ℕ) (r : Row) (rows : List Row) → AreInOrder (r ∷ rows) → is_from seq p r ≡ true → (q : Row) → Mem q (r ∷ rows) → is_from seq p q ≡ true
+pub from_all : (seq p : ℕ) (r : RecordValue) (rows : List RecordValue) → AreInOrder (r ∷ rows) → is_from seq p r ≡ true → (q : RecordValue) → Mem q (r ∷ rows) → is_from seq p q ≡ true
 from_all seq p r rows o h q (inl is) = ap (is_from seq p) (sym is) ∙ h
-from_all seq p r rows o h q (inr m) = from_next seq p r q h (all-mem (λ y. is_le (row_cmp r y) ≡ true) rows (All-from_recursion (λ y. is_le (row_cmp r y) ≡ true) rows o.0) q m)
+from_all seq p r rows o h q (inr m) = from_next seq p r q h (all-mem (λ y. is_le (record_cmp r y) ≡ true) rows (All-from_recursion (λ y. is_le (record_cmp r y) ≡ true) rows o.0) q m)
 
-pub from_whole : (seq p : ℕ) (r : Row) (rows : List Row) → AreInOrder (r ∷ rows) → is_from seq p r ≡ true → filter (is_from seq p) (r ∷ rows) ≡ r ∷ rows
+pub from_whole : (seq p : ℕ) (r : RecordValue) (rows : List RecordValue) → AreInOrder (r ∷ rows) → is_from seq p r ≡ true → filter (is_from seq p) (r ∷ rows) ≡ r ∷ rows
 from_whole seq p r rows o h = filter-all (is_from seq p) (r ∷ rows) (from_all seq p r rows o h)

@@ -8,7 +8,7 @@ use Rattle.std.proofs.lemmas.List.Concat.{flat_map-append}
 use Rattle.iv_bytes.specs.Sinks.{SinkState, Takes, FailsIn}
 use Rattle.iv_bytes.proofs.Putting.{Underway, Underway-begin, Underway-ends, Underway-fails, Underway-more}
 use Rattle.iv_text.specs.Ordered.{AreInOrder}
-use Rattle.iv_text.specs.Row.{Row, row_cmp}
+use Rattle.iv_text.specs.RecordValue.{RecordValue, record_cmp}
 use Rattle.iv_text.specs.Covering.{covers}
 use Rattle.iv_cover.specs.Depth.{depth}
 use Rattle.iv_cover.specs.Runs.{Run, empty_runs}
@@ -72,20 +72,20 @@ gap-text row from to = go (nat_lt from to)
 -- ---- the depth of the records, and of the hits that are left
 
 -- a record that begins after a position or ends before it does not cover it
-off : (seq p : ℕ) (b : Row) → (covers seq p b ≡ true → ⊥) → covers seq p b ≡ false
+off : (seq p : ℕ) (b : RecordValue) → (covers seq p b ≡ true → ⊥) → covers seq p b ≡ false
 off seq p b never = go (covers seq p b) refl
   where
     go : (c : Bool) → covers seq p b ≡ c → c ≡ false
     go false e = refl
     go true e = absurd (never e)
 
-off_before : (seq p : ℕ) (b : Row) → p < b.start → covers seq p b ≡ false
+off_before : (seq p : ℕ) (b : RecordValue) → p < b.start → covers seq p b ≡ false
 off_before seq p b h = off seq p b (λ e. let r : b.start ≤ p = (covers_parts seq p b e).1 in omega arith)
 
-off_after : (seq p : ℕ) (b : Row) → b.stop ≤ p → covers seq p b ≡ false
+off_after : (seq p : ℕ) (b : RecordValue) → b.stop ≤ p → covers seq p b ≡ false
 off_after seq p b h = off seq p b (λ e. let r : p < b.stop = (covers_parts seq p b e).2 in omega arith)
 
-off_apart : (seq start stop p : ℕ) (b : Row) → start ≤ p → p < stop → overlaps seq start stop b ≡ false → covers seq p b ≡ false
+off_apart : (seq start stop p : ℕ) (b : RecordValue) → start ≤ p → p < stop → overlaps seq start stop b ≡ false → covers seq p b ≡ false
 off_apart seq start stop p b l h none = off seq p b (λ e.
     let c = covers_parts seq p b e in
     let low : b.start ≤ p = c.1 in
@@ -94,7 +94,7 @@ off_apart seq start stop p b l h none = off seq p b (λ e.
     cc)
 
 -- only the hits cover a position of the interval
-depth-hits : (rows : List Row) (seq start stop p : ℕ) → start ≤ p → p < stop → depth rows seq p ≡ depth (hits rows seq start stop) seq p
+depth-hits : (rows : List RecordValue) (seq start stop p : ℕ) → start ≤ p → p < stop → depth rows seq p ≡ depth (hits rows seq start stop) seq p
 depth-hits [] seq start stop p l h = refl
 depth-hits (b ∷ rows) seq start stop p l h =
     depth-cons b rows seq p ∙ ap (λ n. cond (covers seq p b) 1 0 + n) (depth-hits rows seq start stop p l h)
@@ -104,21 +104,21 @@ depth-hits (b ∷ rows) seq start stop p l h =
     ]) refl
 
 -- the hits that are left: each is on the sequence, begins at `low` or after it and before the stop, and they begin in order
-abbrev pub HitsFrom : ℕ → ℕ → ℕ → List Row → Type 0
+abbrev pub HitsFrom : ℕ → ℕ → ℕ → List RecordValue → Type 0
 HitsFrom seq low to [] = Unit {0}
 HitsFrom seq low to (b ∷ rows) = (b.seq ≡ seq) × (b.start < to) × (low ≤ b.start) × HitsFrom seq b.start to rows
 
-none_before : (seq low to p : ℕ) (rows : List Row) → HitsFrom seq low to rows → p < low → depth rows seq p ≡ 0
+none_before : (seq low to p : ℕ) (rows : List RecordValue) → HitsFrom seq low to rows → p < low → depth rows seq p ≡ 0
 none_before seq low to p [] h l = refl
 none_before seq low to p (b ∷ rows) h l = omega (arith, depth-cons b rows seq p, ap {B = ℕ} (λ c. cond c 1 0) (off_before seq p b (omega (arith, h.2))), none_before seq b.start to p rows h.3 (omega (arith, h.2)))
 
 -- in the midst: from here on the depth is that of the hits that are left
-pub record Left (f : ℕ → ℕ) (seq from to : ℕ) (rows : List Row) : Type 0 where
+pub record Left (f : ℕ → ℕ) (seq from to : ℕ) (rows : List RecordValue) : Type 0 where
   pub low : ℕ
   pub found : HitsFrom seq low to rows
   pub same : (p : ℕ) → from ≤ p → p < to → f p ≡ depth rows seq p
 
-Left-next : (f : ℕ → ℕ) (seq from to : ℕ) (b : Row) (rows : List Row) → b.start < b.stop → Left f seq from to (b ∷ rows)
+Left-next : (f : ℕ → ℕ) (seq from to : ℕ) (b : RecordValue) (rows : List RecordValue) → b.start < b.stop → Left f seq from to (b ∷ rows)
     → (empty_runs f from to ≡ gap from b.start ++ empty_runs f (max from b.stop) to) × Left f seq (max from b.stop) to rows
 Left-next f seq from to b rows some l =
     let h = l.found in
@@ -136,7 +136,7 @@ Left-next f seq from to b rows some l =
 
 -- ---- the hits of a file in order
 
-later_starts : (b : Row) (rows : List Row) → AllByRecursion (λ y. is_le (row_cmp b y) ≡ true) rows → AllByRecursion (λ y. y.seq ≡ b.seq → b.start ≤ y.start) rows
+later_starts : (b : RecordValue) (rows : List RecordValue) → AllByRecursion (λ y. is_le (record_cmp b y) ≡ true) rows → AllByRecursion (λ y. y.seq ≡ b.seq → b.start ≤ y.start) rows
 later_starts b [] h = tt
 later_starts b (y ∷ rows) h = (
   λ e. elim (precedes-from b y h.0) [
@@ -146,7 +146,7 @@ later_starts b (y ∷ rows) h = (
   later_starts b rows h.1,
 )
 
-hits_found : (rows : List Row) (seq start stop low : ℕ) → AreInOrder rows
+hits_found : (rows : List RecordValue) (seq start stop low : ℕ) → AreInOrder rows
     → AllByRecursion (λ b. b.seq ≡ seq → low ≤ b.start) rows → HitsFrom seq low stop (hits rows seq start stop)
 hits_found [] seq start stop low o a = tt
 hits_found (b ∷ rows) seq start stop low o a =
@@ -161,11 +161,11 @@ hits_found (b ∷ rows) seq start stop low o a =
       | false ↦ λ is. hits_found rows seq start stop low o.1 a.1
     ]) refl
 
-all_low : (seq : ℕ) (rows : List Row) → AllByRecursion (λ b. b.seq ≡ seq → 0 ≤ b.start) rows
+all_low : (seq : ℕ) (rows : List RecordValue) → AllByRecursion (λ b. b.seq ≡ seq → 0 ≤ b.start) rows
 all_low seq [] = tt
 all_low seq (b ∷ rows) = (λ _. omega arith, all_low seq rows)
 
-Left-begin : (rows : List Row) (seq start stop : ℕ) → AreInOrder rows → Left (depth rows seq) seq start stop (hits rows seq start stop)
+Left-begin : (rows : List RecordValue) (seq start stop : ℕ) → AreInOrder rows → Left (depth rows seq) seq start stop (hits rows seq start stop)
 Left-begin rows seq start stop o = record {
   low = 0;
   found = hits_found rows seq start stop 0 o (all_low seq rows);
@@ -175,15 +175,15 @@ Left-begin rows seq start stop o = record {
 -- ---- their text
 
 -- the text of the parts before `from` was put, and from there on the depth of the file is that of the hits that are left
-pub record Remains (row : Run → List ℕ) (second : List Row) (seq start from to : ℕ) (found : List Row) (begun now : SinkState) : Type 0 where
+pub record Remains (row : Run → List ℕ) (second : List RecordValue) (seq start from to : ℕ) (found : List RecordValue) (begun now : SinkState) : Type 0 where
   pub put : Underway begun now (flat_map row (empty_runs (depth second seq) from to)) (flat_map row (empty_runs (depth second seq) start to))
   pub left : Left (depth second seq) seq from to found
 
-module _ (row : Run → List ℕ) (second : List Row) (seq start to : ℕ) (begun : SinkState) where
-  pub Remains-begin : (found : List Row) → AreInOrder second → found ≡ hits second seq start to → Remains row second seq start start to found begun begun
+module _ (row : Run → List ℕ) (second : List RecordValue) (seq start to : ℕ) (begun : SinkState) where
+  pub Remains-begin : (found : List RecordValue) → AreInOrder second → found ≡ hits second seq start to → Remains row second seq start start to found begun begun
   Remains-begin found order all = rw all record { put = Underway-begin _ _; left = Left-begin second seq start to order }
 
-  module _ (from : ℕ) (b : Row) (found rest : List Row) (mid : SinkState) (first : found ≡ b ∷ rest) (some : b.start < b.stop) (r : Remains row second seq start from to found begun mid) where
+  module _ (from : ℕ) (b : RecordValue) (found rest : List RecordValue) (mid : SinkState) (first : found ≡ b ∷ rest) (some : b.start < b.stop) (r : Remains row second seq start from to found begun mid) where
     next : Left (depth second seq) seq from to (b ∷ rest)
     next = subst (Left (depth second seq) seq from to) first r.left
 
@@ -207,7 +207,7 @@ module _ (row : Run → List ℕ) (second : List Row) (seq start to : ℕ) (begu
     Remains-fails now fails = Underway-fails _ _ _ _ _ _ begin_next fails
 
   -- no more hits: what is left is one part, or none
-  pub Remains-last : (from : ℕ) (found : List Row) (mid : SinkState) → found ≡ [] → Remains row second seq start from to found begun mid
+  pub Remains-last : (from : ℕ) (found : List RecordValue) (mid : SinkState) → found ≡ [] → Remains row second seq start from to found begun mid
       → Underway begun mid (gap_text row from to) (flat_map row (empty_runs (depth second seq) start to))
   Remains-last from found mid none r =
       subst (λ t. Underway begun mid t (flat_map row (empty_runs (depth second seq) start to)))
@@ -215,7 +215,7 @@ module _ (row : Run → List ℕ) (second : List Row) (seq start to : ℕ) (begu
       r.put
 
   -- the rest is covered: nothing is left to put
-  pub Remains-covered : (from : ℕ) (found : List Row) (mid : SinkState) → to ≤ from → Remains row second seq start from to found begun mid
+  pub Remains-covered : (from : ℕ) (found : List RecordValue) (mid : SinkState) → to ≤ from → Remains row second seq start from to found begun mid
       → Takes begun mid (flat_map row (empty_runs (depth second seq) start to))
   Remains-covered from found mid past r =
       Underway-ends _ _ _

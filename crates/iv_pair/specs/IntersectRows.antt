@@ -3,34 +3,34 @@ use Rattle.std.specs.Prelude.{ℕ, ◌++◌, List, [], ◌∷◌, min, max, leng
 use Rattle.std.specs.List.{flat_map}
 use Rattle.iv_text.specs.Genome.{Sequences}
 use Rattle.iv_text.specs.RecordText.{record_text}
-use Rattle.iv_text.specs.Row.{Row, part}
+use Rattle.iv_text.specs.RecordValue.{RecordValue, part}
 use Rattle.iv_pair.specs.declared.intersect.IntersectRows.{IntersectRows}
 use Rattle.iv_pair.specs.declared.intersect.IntersectRows.TheVariants.{Shared, SharedAndHit, Whole, WholeAndHit, IfHit, IfNoHit, Count}
 
 -- the line of a record: its columns and a line feed
-abbrev pub record_line : Sequences → Row → List ℕ
+abbrev pub record_line : Sequences → RecordValue → List ℕ
 record_line g r = record_text g r ++ codes "\n"
 
 -- the line of a record with another after it
-abbrev pub pair_line : Sequences → Row → Row → List ℕ
+abbrev pub pair_line : Sequences → RecordValue → RecordValue → List ℕ
 pair_line g a b = record_text g a ++ (codes "\t" ++ record_line g b)
 
 -- the part of a that it shares with b
-abbrev pub shared : Row → Row → Row
+abbrev pub shared : RecordValue → RecordValue → RecordValue
 shared a b = part a (max a.start b.start) (min a.stop b.stop)
 
 -- a record if it has a hit
-abbrev pub any_line : Sequences → Row → List Row → List ℕ
+abbrev pub any_line : Sequences → RecordValue → List RecordValue → List ℕ
 any_line g a [] = []
 any_line g a (b ∷ found) = record_line g a
 
 -- a record if it has none
-abbrev pub none_line : Sequences → Row → List Row → List ℕ
+abbrev pub none_line : Sequences → RecordValue → List RecordValue → List ℕ
 none_line g a [] = record_line g a
 none_line g a (b ∷ found) = []
 
 -- the rows of a record and its hits
-abbrev pub intersect_rows : IntersectRows → Sequences → Row → List Row → List ℕ
+abbrev pub intersect_rows : IntersectRows → Sequences → RecordValue → List RecordValue → List ℕ
 intersect_rows Shared g a found = flat_map (λ b. record_line g (shared a b)) found
 intersect_rows SharedAndHit g a found = flat_map (λ b. pair_line g (shared a b) b) found
 intersect_rows Whole g a found = flat_map (λ b. record_line g a) found

@@ -1,11 +1,8 @@
 pub mod Hits
-pub mod Lengths
-pub mod HitFinder
 pub mod IntersectRows
 pub mod SubtractRows
 pub mod PairRows
-pub mod Putting
 pub mod Counts
 pub mod Pairs
-pub mod PairSweeps
 pub mod CoverAlone
+pub mod Inside

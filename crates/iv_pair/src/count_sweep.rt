@@ -3,14 +3,14 @@ ghost use Rattle.std.specs.Prelude.{◌≡◌, ◌<◌, ◌≤◌, IfOk, count_b
 ghost use Rattle.std.specs.List.Sorted.{IsPermutation};
 ghost use Rattle.iv_bytes.specs.Sinks.{Puts};
 ghost use Rattle.iv_text.specs.Ordered.{AreInOrder};
-ghost use Rattle.iv_pair.specs.Counts.{EndsAscend, StartsAscend, end_by, end_of, is_before, is_up_to, place_before};
+ghost use Rattle.iv_pair.specs.Inside.Counts.{EndsAscend, StartsAscend, end_by, end_of, is_before, is_up_to, place_before};
 ghost use Rattle.iv_pair.specs.PairRows.{pair_text};
 ghost use Rattle.iv_pair.specs.declared.intersect.IntersectRows.TheVariants.{Count};
 ghost use Rattle.iv_pair.specs.declared.pair_rows.PairRows.TheVariants.{Intersect};
 
 use crate::intersect::put_count;
 use iv_bytes::{Sink, WriteFault};
-use iv_index::{Place, TextRecords};
+use iv_index::{Locator, TextRecords};
 use iv_text::{BedRecord, Genome};
 use std::alloc::{AllocError, Allocator, Global};
 use std::marker::Model;
@@ -31,7 +31,8 @@ pub struct CountSweep<'t, A: Allocator = Global> {
 }
 
 impl<'t, A: Allocator> Model for CountSweep<'t, A> {
-    ghost use Rattle.iv_pair.specs.Counts.{IsCountSweep, Lists};
+    ghost use Rattle.iv_pair.specs.Counts.{Lists};
+    ghost use Rattle.iv_pair.specs.Inside.Counts.{IsCountSweep};
 
     ghost Value = { Lists };
 
@@ -52,7 +53,7 @@ impl<'t, A: Allocator + Copy> CountSweep<'t, A> {
         ensures first { IfOk result (λ s. s.first ≡ first.now) }
         ensures second { IfOk result (λ s. s.second ≡ second.now) }
     {
-        let ends = ends_of(alloc, second.places())?;
+        let ends = ends_of(alloc, second.locators())?;
         Ok(CountSweep {
             first: first.again(),
             second: second.again(),
@@ -67,12 +68,12 @@ impl<'t, A: Allocator + Copy> CountSweep<'t, A> {
     pub fn print<S: Sink>(&self, genome: &Genome<A>, sink: &mut S) -> Result<(), WriteFault>
         ensures { Puts (S.state sink.old) (S.state sink.new) result (pair_text (Intersect Count) genome.now self.now.first self.now.second) }
     {
-        let places = self.second.places();
+        let places = self.second.locators();
         let ends = self.ends.as_slice();
         let mut begun = 0;
         let mut ended = 0;
         for row in self.first.again() {
-            row.law_of_place();
+            row.lemma_of_interval();
             let seq = row.seq();
             let start = row.start();
             ended = pass_ends(ends, ended, seq, start);
@@ -94,7 +95,7 @@ struct End {
 }
 
 /// The ends of these places, in order: 8 bytes for each.
-fn ends_of<A: Allocator>(alloc: A, places: &[Place]) -> Result<Vec<End, A>, AllocError>
+fn ends_of<A: Allocator>(alloc: A, places: &[Locator]) -> Result<Vec<End, A>, AllocError>
     ensures moved { IfOk result (λ ends. IsPermutation (map end_of places.now) ends.items) }
     ensures ordered { IfOk result (λ ends. EndsAscend ends.items) }
 {
@@ -135,7 +136,7 @@ fn is_by(end: &End, seq: u32, at: u64) -> bool
 /// How many places begin before a position, if it is known that so many do.
 ///
 /// The next few are looked at one after another. If all of them begin before it, the others are searched.
-fn count_starts(places: &[Place], from: usize, seq: u32, at: u64) -> usize
+fn count_starts(places: &[Locator], from: usize, seq: u32, at: u64) -> usize
     requires ordered { StartsAscend places.now }
     requires from { from ≤ count_by (place_before seq at) places.now }
     ensures { result ≡ count_by (place_before seq at) places.now }
@@ -150,7 +151,7 @@ fn count_starts(places: &[Place], from: usize, seq: u32, at: u64) -> usize
 }
 
 /// Passes places that begin before a position, if it is known that so many do. It goes no further than to an index.
-fn pass_starts(places: &[Place], from: usize, until: usize, seq: u32, at: u64) -> usize
+fn pass_starts(places: &[Locator], from: usize, until: usize, seq: u32, at: u64) -> usize
     requires ordered { StartsAscend places.now }
     requires from { from ≤ count_by (place_before seq at) places.now }
     requires until { until ≤ length places.now }
@@ -168,7 +169,7 @@ fn pass_starts(places: &[Place], from: usize, until: usize, seq: u32, at: u64) -
 }
 
 /// Whether a place begins before a position of a sequence.
-fn begins_before(place: &Place, seq: u32, at: u64) -> bool
+fn begins_before(place: &Locator, seq: u32, at: u64) -> bool
     ensures { result ≡ is_before seq at place.now.span.seq place.now.span.start }
 {
     place.span.seq < seq || place.span.seq == seq && u64::from(place.span.start) < at

@@ -2,9 +2,9 @@
 ghost use Rattle.std.specs.Prelude.{◌≡◌, ◌+◌, ◌-◌, ◌<◌, ◌≤◌, ◌^◌, ◌++◌, ◌∷◌, [], length, filter, true, false};
 ghost use Rattle.iv_text.specs.Covering.{covers};
 ghost use Rattle.iv_text.specs.Ordered.{AreInOrder};
-ghost use Rattle.iv_pair.specs.HitFinder.{AllCover, HitAlike, IsOnward, held, keeps};
+ghost use Rattle.iv_pair.specs.Inside.HitFinder.{AllCover, HitAlike, IsOnward, held, keeps};
 ghost use Rattle.iv_pair.specs.Hits.{hits};
-ghost use Rattle.iv_pair.specs.Lengths.{AreUpTo};
+ghost use Rattle.iv_pair.specs.Inside.Lengths.{AreUpTo};
 
 use crate::hits::{Hits, is_from};
 use crate::second::{Second, first_start};
@@ -38,7 +38,7 @@ pub(crate) struct HitFinder<'a, A: Allocator + Copy> {
 
 impl<'a, A: Allocator + Copy> Model for HitFinder<'a, A> {
     ghost use Rattle.std.specs.Prelude.{◌++◌};
-    ghost use Rattle.iv_pair.specs.HitFinder.{Finding, StandsAt};
+    ghost use Rattle.iv_pair.specs.Inside.HitFinder.{Finding, StandsAt};
     ghost use Rattle.iv_pair.specs.Hits.{hits};
 
     ghost Value = { Finding };
@@ -197,10 +197,10 @@ struct Carried<'a, A: Allocator + Copy> {
 
 impl<'a, A: Allocator + Copy> Model for Carried<'a, A> {
     ghost use Rattle.std.specs.Prelude.{List};
-    ghost use Rattle.iv_text.specs.Row.{Row};
-    ghost use Rattle.iv_pair.specs.HitFinder.{held};
+    ghost use Rattle.iv_text.specs.RecordValue.{RecordValue};
+    ghost use Rattle.iv_pair.specs.Inside.HitFinder.{held};
 
-    ghost Value = { List Row };
+    ghost Value = { List RecordValue };
 
     ghost view = { λ c. held c.slots.items };
 }
@@ -262,7 +262,7 @@ fn is_kept<A: Allocator + Copy>(slot: &Option<&Record<A>>, seq: u32, position: u
 
 /// Whether a record has this position of this sequence.
 fn covers<R: BedRecord>(row: &R, seq: u32, position: u64) -> bool
-    ensures { result ≡ covers seq position (R.as_row row.now) }
+    ensures { result ≡ covers seq position (R.as_record row.now) }
 {
     row.seq() == seq && row.start() <= position && position < row.stop()
 }

@@ -3,7 +3,7 @@ ghost use Rattle.std.specs.Prelude.{◌≡◌, ◌<◌, ◌≤◌, ◌^◌, ◌+
 ghost use Rattle.std.specs.Iterator.{YieldsFirstRef, item_count};
 ghost use Rattle.iv_text.specs.Ordered.{AreInOrder};
 ghost use Rattle.iv_track.specs.Tracked.{is_from};
-ghost use Rattle.iv_pair.specs.HitFinder.{held};
+ghost use Rattle.iv_pair.specs.Inside.HitFinder.{held};
 ghost use Rattle.iv_pair.specs.Hits.{overlaps, hits};
 
 use iv_text::{BedRecord, Record};
@@ -28,11 +28,11 @@ pub struct Hits<'a, A: Allocator + Copy = Global> {
 impl<'a, A: Allocator + Copy> Model for Hits<'a, A> {
     ghost use Rattle.std.specs.Prelude.{◌<◌, ◌≤◌, ◌^◌, ◌++◌, List, length};
     ghost use Rattle.iv_text.specs.Ordered.{AreInOrder};
-    ghost use Rattle.iv_text.specs.Row.{Row};
-    ghost use Rattle.iv_pair.specs.HitFinder.{held};
+    ghost use Rattle.iv_text.specs.RecordValue.{RecordValue};
+    ghost use Rattle.iv_pair.specs.Inside.HitFinder.{held};
     ghost use Rattle.iv_pair.specs.Hits.{hits};
 
-    ghost Value = { List Row };
+    ghost Value = { List RecordValue };
 
     ghost view = { λ h. held h.carried.now ++ hits h.rows h.seq h.start h.stop };
 
@@ -64,7 +64,7 @@ impl<'a, A: Allocator + Copy> Hits<'a, A> {
     }
 
     /// A lemma for callers' proofs: 33 bits count those that are left. The call does nothing.
-    pub(crate) fn law_of_few(&self)
+    pub(crate) fn lemma_of_few(&self)
         ensures { length self.now < 2 ^ 33 }
     {
         // What is read has its invariant.
@@ -100,14 +100,14 @@ impl<'a, A: Allocator + Copy> Iterator for Hits<'a, A> {
 
 /// Whether a record is on this sequence from this start on, or on a later sequence.
 pub fn is_from<R: BedRecord>(row: &R, seq: u32, start: u64) -> bool
-    ensures { result ≡ is_from seq start (R.as_row row.now) }
+    ensures { result ≡ is_from seq start (R.as_record row.now) }
 {
     seq.cmp(&row.seq()).then(start.cmp(&row.start())).is_le()
 }
 
 /// Whether a record is on this sequence and shares a position with the interval.
 pub fn overlaps<R: BedRecord>(row: &R, seq: u32, start: u64, stop: u64) -> bool
-    ensures { result ≡ overlaps seq start stop (R.as_row row.now) }
+    ensures { result ≡ overlaps seq start stop (R.as_record row.now) }
 {
     row.seq() == seq && row.start() < stop && start < row.stop()
 }

@@ -4,10 +4,10 @@ ghost use Rattle.std.specs.Iterator.{AlwaysYields, IsFinite, UpTo};
 ghost use Rattle.std.specs.List.{flat_map};
 ghost use Rattle.std.specs.Option.{IsSomeAnd};
 ghost use Rattle.iv_bytes.specs.Sinks.{Puts};
-ghost use Rattle.iv_text.specs.Row.{Row};
+ghost use Rattle.iv_text.specs.RecordValue.{RecordValue};
 ghost use Rattle.iv_pair.specs.Hits.{hits_of};
 ghost use Rattle.iv_pair.specs.IntersectRows.{shared, record_line, pair_line, any_line, none_line, intersect_rows};
-ghost use Rattle.iv_pair.specs.Putting.{Overlaps, AllOverlap, hit_line};
+ghost use Rattle.iv_pair.specs.Inside.Putting.{Overlaps, AllOverlap, hit_line};
 ghost use Rattle.iv_pair.specs.declared.intersect.IntersectRows.TheVariants.{Count};
 
 use iv_bytes::{Sink, WriteFault, put_all};
@@ -56,7 +56,7 @@ pub fn put_intersect<
 ) -> Result<(), WriteFault>
     requires starts { H.can_next hits }
     requires few { UpTo (H.remaining hits) u64.MAX }
-    ensures { (second : List Row) → AlwaysYields H.next_gives T.as_row hits (hits_of second (R.as_row row.now)) → Puts (S.state sink.old) (S.state sink.new) result (intersect_rows shown genome.now (R.as_row row.now) (hits_of second (R.as_row row.now))) }
+    ensures { (second : List RecordValue) → AlwaysYields H.next_gives T.as_record hits (hits_of second (R.as_record row.now)) → Puts (S.state sink.old) (S.state sink.new) result (intersect_rows shown genome.now (R.as_record row.now) (hits_of second (R.as_record row.now))) }
 {
     match shown {
         IntersectRows::IfHit => put_if(true, genome, row, hits, sink),
@@ -79,7 +79,7 @@ fn put_hits<A: Allocator + Copy, R: BedRecord, T: BedRecord, H: Iterator<Item = 
 ) -> Result<(), WriteFault>
     requires starts { H.can_next hits }
     requires ends { IsFinite (H.remaining hits) }
-    ensures { (found : List Row) → AlwaysYields H.next_gives T.as_row hits found → AllOverlap (R.as_row row.now) found → Puts (S.state sink.old) (S.state sink.new) result (flat_map (hit_line shown genome.now (R.as_row row.now)) found) }
+    ensures { (found : List RecordValue) → AlwaysYields H.next_gives T.as_record hits found → AllOverlap (R.as_record row.now) found → Puts (S.state sink.old) (S.state sink.new) result (flat_map (hit_line shown genome.now (R.as_record row.now)) found) }
 {
     let mut hits = hits;
     let Some(hit) = hits.next() else {
@@ -100,7 +100,7 @@ fn put_each_hit<A: Allocator + Copy, T: BedRecord, H: Iterator<Item = T>, S: Sin
 ) -> Result<(), WriteFault>
     requires starts { H.can_next hits }
     requires ends { IsFinite (H.remaining hits) }
-    ensures { (found : List Row) → AlwaysYields H.next_gives T.as_row hits found → AllOverlap row.now found → Puts (S.state sink.old) (S.state sink.new) result (flat_map (hit_line shown genome.now row.now) found) }
+    ensures { (found : List RecordValue) → AlwaysYields H.next_gives T.as_record hits found → AllOverlap row.now found → Puts (S.state sink.old) (S.state sink.new) result (flat_map (hit_line shown genome.now row.now) found) }
 {
     for hit in hits {
         put_hit(shown, genome, row, &hit, sink)?;
@@ -116,7 +116,7 @@ fn put_hit<A: Allocator + Copy, T: BedRecord, S: Sink>(
     hit: &T,
     sink: &mut S,
 ) -> Result<(), WriteFault>
-    ensures { Overlaps row.now (T.as_row hit.now) → Puts (S.state sink.old) (S.state sink.new) result (hit_line shown genome.now row.now (T.as_row hit.now)) }
+    ensures { Overlaps row.now (T.as_record hit.now) → Puts (S.state sink.old) (S.state sink.new) result (hit_line shown genome.now row.now (T.as_record hit.now)) }
 {
     match shown {
         IntersectRows::Shared => match shared(row, hit) {
@@ -135,7 +135,7 @@ fn put_hit<A: Allocator + Copy, T: BedRecord, S: Sink>(
 
 /// The part of a record that it shares with a hit, `None` if it shares none.
 fn shared<'a, T: BedRecord>(row: &RecordRef<'a>, hit: &T) -> Option<RecordRef<'a>>
-    ensures { Overlaps row.now (T.as_row hit.now) → IsSomeAnd result (λ part. part ≡ shared row.now (T.as_row hit.now)) }
+    ensures { Overlaps row.now (T.as_record hit.now) → IsSomeAnd result (λ part. part ≡ shared row.now (T.as_record hit.now)) }
 {
     let start = row.start().max(hit.start());
     let stop = row.stop().min(hit.stop());
@@ -182,7 +182,7 @@ pub(crate) fn put_if<
     S: Sink,
 >(has: bool, genome: &Genome<A>, row: &R, hits: H, sink: &mut S) -> Result<(), WriteFault>
     requires { H.can_next hits }
-    ensures { (found : List Row) → AlwaysYields H.next_gives T.as_row hits found → Puts (S.state sink.old) (S.state sink.new) result (if has then any_line genome.now (R.as_row row.now) found else none_line genome.now (R.as_row row.now) found) }
+    ensures { (found : List RecordValue) → AlwaysYields H.next_gives T.as_record hits found → Puts (S.state sink.old) (S.state sink.new) result (if has then any_line genome.now (R.as_record row.now) found else none_line genome.now (R.as_record row.now) found) }
 {
     let mut hits = hits;
     if hits.next().is_some() == has {
@@ -199,7 +199,7 @@ pub(crate) fn put_count<A: Allocator + Copy, R: BedRecord, S: Sink>(
     count: u64,
     sink: &mut S,
 ) -> Result<(), WriteFault>
-    ensures { (found : List Row) → length found ≡ count → Puts (S.state sink.old) (S.state sink.new) result (intersect_rows Count genome.now (R.as_row row.now) found) }
+    ensures { (found : List RecordValue) → length found ≡ count → Puts (S.state sink.old) (S.state sink.new) result (intersect_rows Count genome.now (R.as_record row.now) found) }
 {
     put_numbered(sink, genome, &row.to_ref(), count)
 }

@@ -1,11 +1,12 @@
 //! How many records there are of each length.
 ghost use Rattle.std.specs.Prelude.{◌≡◌, ℕ, ◌+◌, ◌-◌, ◌<◌, ◌≤◌, ◌^◌, length, OnOk, OnErr, IfOk};
 ghost use Rattle.iv_text.specs.Ordered.{added_by, copies_by};
-ghost use Rattle.iv_text.specs.Row.{Row};
-ghost use Rattle.iv_track.specs.Copies.{expanded, removed_by};
+ghost use Rattle.iv_text.specs.RecordValue.{RecordValue};
+ghost use Rattle.iv_track.specs.Copies.{removed_by};
+ghost use Rattle.iv_track.specs.Inside.Copies.{expanded};
 ghost use Rattle.iv_track.specs.Steps.{TakesUpTo};
 ghost use Rattle.iv_track.specs.Entries.{pair_cmp};
-ghost use Rattle.iv_pair.specs.Lengths.{AreLengths, IsTally, length_of};
+ghost use Rattle.iv_pair.specs.Inside.Lengths.{AreLengths, IsTally, length_of};
 
 use iv_text::Record;
 use iv_track::{Ledger, Meter, Track};
@@ -19,7 +20,7 @@ pub(crate) fn length_of<A: Allocator + Copy>(row: &Record<A>) -> (u32, u32)
     ensures is { result ≡ length_of row.now }
     ensures small { result.1 < 2 ^ 32 }
 {
-    row.law_of_place();
+    row.lemma_of_interval();
     (row.seq(), (row.stop() - row.start()) as u32)
 }
 

@@ -3,7 +3,7 @@ ghost use Rattle.std.specs.Prelude.{◌≡◌, IsTrue, List};
 ghost use Rattle.std.specs.Iterator.{AlwaysYields, UpTo};
 ghost use Rattle.iv_bytes.specs.Sinks.{Puts};
 ghost use Rattle.iv_text.specs.Ordered.{AreInOrder};
-ghost use Rattle.iv_text.specs.Row.{Row};
+ghost use Rattle.iv_text.specs.RecordValue.{RecordValue};
 ghost use Rattle.iv_pair.specs.CoverAlone.{DependsOnCoverAlone, needs_cover_alone};
 ghost use Rattle.iv_pair.specs.Hits.{hits_of};
 ghost use Rattle.iv_pair.specs.PairRows.{pair_rows, pair_text};
@@ -61,7 +61,7 @@ pub fn print_pairs<A: Allocator + Copy, S: Sink>(
     while let Some(row) = walk.next(meter) {
         finder.seek(row.seq(), row.start(), row.stop(), meter);
         let hits = finder.hits();
-        hits.law_of_few();
+        hits.lemma_of_few();
         put_pair_rows(rows, genome, row, hits, sink)?;
     }
     Ok(())
@@ -79,7 +79,7 @@ pub fn put_pair_rows<
 >(rows: PairRows, genome: &Genome<A>, row: &R, hits: H, sink: &mut S) -> Result<(), WriteFault>
     requires starts { H.can_next hits }
     requires few { UpTo (H.remaining hits) u64.MAX }
-    ensures { (second : List Row) → AreInOrder second → AlwaysYields H.next_gives T.as_row hits (hits_of second (R.as_row row.now)) → Puts (S.state sink.old) (S.state sink.new) result (pair_rows rows genome.now (R.as_row row.now) second) }
+    ensures { (second : List RecordValue) → AreInOrder second → AlwaysYields H.next_gives T.as_record hits (hits_of second (R.as_record row.now)) → Puts (S.state sink.old) (S.state sink.new) result (pair_rows rows genome.now (R.as_record row.now) second) }
 {
     match rows {
         PairRows::Intersect(shown) => put_intersect(shown, genome, row, hits, sink),

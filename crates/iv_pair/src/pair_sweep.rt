@@ -4,8 +4,8 @@ ghost use Rattle.std.specs.Iterator.{YieldsFirst, item_count};
 ghost use Rattle.iv_bytes.specs.Sinks.{Puts};
 ghost use Rattle.iv_text.specs.Ordered.{AreInOrder};
 ghost use Rattle.iv_pair.specs.PairRows.{pair_text};
-ghost use Rattle.iv_pair.specs.Pairs.{Gives};
-ghost use Rattle.iv_pair.specs.PairSweeps.{Covers, HitAlike, is_past, reaches};
+ghost use Rattle.iv_pair.specs.Inside.Pairs.{Gives};
+ghost use Rattle.iv_pair.specs.Inside.PairSweeps.{Covers, HitAlike, is_past, reaches};
 
 use crate::hits::{is_from, overlaps};
 use crate::pair_rows::{PairRows, put_pair_rows};
@@ -38,7 +38,7 @@ impl<'t, A: Allocator> Model for PairSweep<'t, A> {
     ghost use Rattle.std.specs.Prelude.{◌++◌, vec_len, vec_capacity};
     ghost use Rattle.iv_pair.specs.Hits.{hits};
     ghost use Rattle.iv_pair.specs.Pairs.{Pairs};
-    ghost use Rattle.iv_pair.specs.PairSweeps.{IsSweep};
+    ghost use Rattle.iv_pair.specs.Inside.PairSweeps.{IsSweep};
 
     ghost Value = { Pairs };
 
@@ -82,17 +82,17 @@ impl<'t, A: Allocator + Copy> PairSweep<'t, A> {
     ) -> Result<(), WriteFault>
         ensures { Puts (S.state sink.old) (S.state sink.new) result (pair_text rows genome.now self.old.first self.old.second) }
     {
-        self.law_of_order();
+        self.lemma_of_order();
         while let Some(row) = self.next() {
             let hits = self.hits();
-            hits.law_of_few();
+            hits.lemma_of_few();
             put_pair_rows(rows, genome, &row, hits, sink)?;
         }
         Ok(())
     }
 
     /// A lemma for callers' proofs: the second list is in order. The call does nothing.
-    fn law_of_order(&self)
+    fn lemma_of_order(&self)
         ensures { AreInOrder self.now.second }
     {
         // What is read has its invariant.
@@ -105,7 +105,7 @@ impl<'t, A: Allocator + Copy> PairSweep<'t, A> {
     {
         let (row, others) = self.first.split_first()?;
         self.first = others;
-        row.law_of_place();
+        row.lemma_of_interval();
         drop_passed(&mut self.active, &row);
         take_begun(&mut self.active, &mut self.rest, &row);
         self.seq = row.seq();
@@ -144,10 +144,10 @@ struct ActiveHits<'a, 't> {
 impl<'a, 't> Model for ActiveHits<'a, 't> {
     ghost use Rattle.std.specs.Prelude.{◌+◌, ◌<◌, ◌^◌, ◌++◌, List, length};
     ghost use Rattle.iv_text.specs.Ordered.{AreInOrder};
-    ghost use Rattle.iv_text.specs.Row.{Row};
+    ghost use Rattle.iv_text.specs.RecordValue.{RecordValue};
     ghost use Rattle.iv_pair.specs.Hits.{hits};
 
-    ghost Value = { List Row };
+    ghost Value = { List RecordValue };
 
     ghost view = { λ h. h.active.now ++ hits h.rest h.seq h.start h.stop };
 
@@ -156,7 +156,7 @@ impl<'a, 't> Model for ActiveHits<'a, 't> {
 
 impl<'a, 't> ActiveHits<'a, 't> {
     /// A lemma for callers' proofs: 64 bits count those that are left. The call does nothing.
-    fn law_of_few(&self)
+    fn lemma_of_few(&self)
         ensures { length self.now < 2 ^ 64 }
     {
         // What is read has its invariant.

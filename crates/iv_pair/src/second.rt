@@ -5,7 +5,7 @@ ghost use Rattle.iv_track.specs.Edits.{RefusesAdd, RefusesRemove, RefusesReplace
 ghost use Rattle.iv_track.specs.Steps.{TakesUpTo};
 ghost use Rattle.iv_track.specs.Tracked.{is_from, most_records};
 ghost use Rattle.iv_pair.specs.Hits.{hits};
-ghost use Rattle.iv_pair.specs.Lengths.{AreLengths, AreUpTo};
+ghost use Rattle.iv_pair.specs.Inside.Lengths.{AreLengths, AreUpTo};
 
 use crate::hits::Hits;
 use crate::lengths::{Lengths, length_of, lengths_of, longest, lower, raise};
@@ -25,7 +25,7 @@ pub struct Second<A: Allocator + Copy = Global> {
 
 impl<A: Allocator + Copy> Model for Second<A> {
     ghost use Rattle.iv_track.specs.Tracked.{Tracked};
-    ghost use Rattle.iv_pair.specs.Lengths.{IsSecond};
+    ghost use Rattle.iv_pair.specs.Inside.Lengths.{IsSecond};
 
     ghost Value = { Tracked };
 

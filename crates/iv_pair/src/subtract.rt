@@ -3,9 +3,9 @@ ghost use Rattle.std.specs.Prelude.{◌≤◌, List};
 ghost use Rattle.std.specs.Iterator.{AlwaysYields, IsFinite};
 ghost use Rattle.iv_bytes.specs.Sinks.{Puts};
 ghost use Rattle.iv_text.specs.Ordered.{AreInOrder};
-ghost use Rattle.iv_text.specs.Row.{Row};
+ghost use Rattle.iv_text.specs.RecordValue.{RecordValue};
 ghost use Rattle.iv_pair.specs.Hits.{hits_of};
-ghost use Rattle.iv_pair.specs.Putting.{part_line};
+ghost use Rattle.iv_pair.specs.Inside.Putting.{part_line};
 ghost use Rattle.iv_pair.specs.SubtractRows.{subtract_rows, uncovered_rows};
 
 use crate::intersect::put_if;
@@ -25,7 +25,7 @@ pub fn put_subtract<
 >(whole: bool, genome: &Genome<A>, row: &R, hits: H, sink: &mut S) -> Result<(), WriteFault>
     requires starts { H.can_next hits }
     requires ends { IsFinite (H.remaining hits) }
-    ensures { (second : List Row) → AreInOrder second → AlwaysYields H.next_gives T.as_row hits (hits_of second (R.as_row row.now)) → Puts (S.state sink.old) (S.state sink.new) result (subtract_rows whole genome.now (R.as_row row.now) second) }
+    ensures { (second : List RecordValue) → AreInOrder second → AlwaysYields H.next_gives T.as_record hits (hits_of second (R.as_record row.now)) → Puts (S.state sink.old) (S.state sink.new) result (subtract_rows whole genome.now (R.as_record row.now) second) }
 {
     if whole {
         put_if(false, genome, row, hits, sink)
@@ -44,7 +44,7 @@ fn put_uncovered<A: Allocator + Copy, R: BedRecord, T: BedRecord, H: Iterator<It
 ) -> Result<(), WriteFault>
     requires starts { H.can_next hits }
     requires ends { IsFinite (H.remaining hits) }
-    ensures { (second : List Row) → AreInOrder second → AlwaysYields H.next_gives T.as_row hits (hits_of second (R.as_row row.now)) → Puts (S.state sink.old) (S.state sink.new) result (uncovered_rows genome.now (R.as_row row.now) second) }
+    ensures { (second : List RecordValue) → AreInOrder second → AlwaysYields H.next_gives T.as_record hits (hits_of second (R.as_record row.now)) → Puts (S.state sink.old) (S.state sink.new) result (uncovered_rows genome.now (R.as_record row.now) second) }
 {
     let mut from = row.start();
     for hit in hits {
@@ -66,8 +66,8 @@ fn put_part<A: Allocator + Copy, R: BedRecord, S: Sink>(
     stop: u64,
     sink: &mut S,
 ) -> Result<(), WriteFault>
-    requires { stop ≤ (R.as_row row.now).stop }
-    ensures { Puts (S.state sink.old) (S.state sink.new) result (part_line genome.now (R.as_row row.now) start stop) }
+    requires { stop ≤ (R.as_record row.now).stop }
+    ensures { Puts (S.state sink.old) (S.state sink.new) result (part_line genome.now (R.as_record row.now) start stop) }
 {
     if start < stop {
         put_line(sink, genome, &row.to_ref().part(start, stop))

@@ -14,7 +14,7 @@ use Rattle.iv_session.specs.declared.script.Summary.{Summary}
 use Rattle.iv_args.specs.Notices.{notice_of}
 use Rattle.iv_args.specs.Texts.{notice_text}
 use Rattle.iv_args.specs.Words.{RunPlan, IsPlan, is_session, run_of}
-use Rattle.iv_args.specs.declared.run.Run.{Run}
+use Rattle.iv_args.specs.declared.subcommand.Subcommand.{Subcommand}
 use Rattle.std.specs.Option.{option_to_list}
 use Rattle.iv_text.specs.declared.fault.Fault.{Fault}
 use Rattle.iv_text.specs.declared.fault.Fault.TheVariants as refused
@@ -185,7 +185,7 @@ same-option None (Some y) e = absurd (cc e)
 same-option (Some x) None e = absurd (cc e)
 same-option (Some x) (Some y) e = cc e
 
-plan-with : Run → List ℕ → List ℕ → Option (List ℕ) → Option (List ℕ) → ℕ → List (List ℕ) → RunPlan
+plan-with : Subcommand → List ℕ → List ℕ → Option (List ℕ) → Option (List ℕ) → ℕ → List (List ℕ) → RunPlan
 plan-with run sizes first other bases width view = record { run = run; sizes = sizes; first = first; other = other; bases = bases; width = width; view = view }
 
 pub one-plan : (words : List (List ℕ)) (p q : RunPlan) → IsPlan words p → IsPlan words q → p ≡ q

@@ -28,7 +28,8 @@ use Rattle.iv_cli.specs.declared.ending.Ending.{Ending}
 use Rattle.iv_program.specs.Files.{FilesState, IsText, StopsFile}
 use Rattle.iv_program.specs.Limits.{most_file_bytes, most_records}
 use Rattle.iv_program.specs.Program.{Shown, Planned, Wrong, Ask, Finishes, Gives, Runs, world}
-use Rattle.iv_program.specs.Runs.{RunsPlan, Says}
+use Rattle.iv_program.specs.Runs.{RunsPlan}
+use Rattle.iv_program.specs.Inside.Runs.{Says}
 use Rattle.iv_program.specs.Texts.{Texts, AreTexts, IsTextIfNamed, StopsAt}
 use Rattle.iv_program.specs.declared.program.Ended.{Ended}
 

@@ -5,3 +5,4 @@ pub mod Runs
 pub mod Program
 pub mod Memory
 pub mod Outcomes
+pub mod Inside

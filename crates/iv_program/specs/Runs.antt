@@ -1,7 +1,6 @@
 -- What a run of a plan does once its files are read.
-use Rattle.std.specs.Prelude.{◌≡◌, ℕ, ◌⊎◌, List, Bool, true, false, Option, Result, Ok, Err}
+use Rattle.std.specs.Prelude.{◌≡◌, ℕ, ◌⊎◌, Bool, true, false, Result, Ok, Err}
 use Rattle.iv_bytes.specs.Sinks.{SinkState}
-use Rattle.iv_text.specs.Row.{Row}
 use Rattle.iv_workspace.specs.States.{State}
 use Rattle.iv_session.specs.Endings.{Ran}
 use Rattle.iv_session.specs.Streams.{Streams}
@@ -12,15 +11,14 @@ use Rattle.iv_args.specs.declared.plan.Slot.{Slot}
 use Rattle.iv_run.specs.Loading.{IsReport}
 use Rattle.iv_cli.specs.Loading.{loaded}
 use Rattle.iv_run.specs.Shots.{Shows, shown}
-use Rattle.iv_run.specs.SoFar.{SaysSecond, SoFar}
 use Rattle.iv_run.specs.declared.fault.CliFault.{CliFault}
 use Rattle.iv_run.specs.declared.fault.FileFault.{FileFault}
 use Rattle.iv_cli.specs.Endings.{ending_of, ending_of_file, ending_of_run}
 use Rattle.iv_cli.specs.declared.ending.Ending.{Ending}
-use Rattle.iv_cli.specs.declared.ending.Ending.TheVariants as ending
 use Rattle.iv_program.specs.Files.{FilesState}
 use Rattle.iv_program.specs.Limits.{most_records, most_lines, most_line_bytes}
 use Rattle.iv_program.specs.Texts.{Texts, AreTexts, StopsAt}
+use Rattle.iv_cli.specs.declared.ending.Ending.TheVariants as ending
 
 -- what a run speaks to: its files, its input, its output and its messages
 pub record World : Type 0 where
@@ -83,10 +81,3 @@ pub record HasNotRead (plan : RunPlan) (before after : World) (ended : Ending) (
 -- a run of a plan ended so, at this line of its script if it ended early at one
 abbrev pub RunsPlan : RunPlan → World → World → Ending → ℕ → Type 0
 RunsPlan plan before after ended line = HasRead plan before after ended line ⊎ HasNotRead plan before after ended line
-
--- what is known of the files of a plan, and the bytes of its FASTA file, are what these texts say. No part of what is promised
-pub record Says (kept : Row → Row) (plan : RunPlan) (texts : Texts) (known : SoFar) (bases : Option (List ℕ)) : Type 0 where
-  pub width_is : known.width ≡ plan.width
-  pub limit_is : known.limit ≡ most_records
-  pub known_is : SaysSecond kept texts.sizes texts.first texts.other known
-  pub bases_are : bases ≡ texts.bases

@@ -2,14 +2,15 @@
 ghost use Rattle.std.specs.Prelude.{◌≡◌, List, ℕ, Option, None, Some, IfOk, IfErr, OnOk, OnErr, true};
 ghost use Rattle.std.specs.Option.{option_copied, option_map};
 ghost use Rattle.iv_args.specs.Words.{file_of};
-ghost use Rattle.iv_run.specs.SoFar.{AreKept, IsOfOneRun, IsSaid, SaysFirst, SaysSecond};
+ghost use Rattle.iv_run.specs.SoFar.{AreProjected, IsOfOneRun, IsSaid, SaysSecond};
+ghost use Rattle.iv_run.specs.Inside.SoFar.{SaysFirst};
 ghost use Rattle.iv_program.specs.Files.{FilesState, IsText, StopsFile, opened, after_closing};
-ghost use Rattle.iv_program.specs.Runs.{Says};
+ghost use Rattle.iv_program.specs.Inside.Runs.{Says};
 ghost use Rattle.iv_program.specs.Texts.{Texts, AreTexts, IsTextIfNamed, StopsAt};
 
 use iv_args::{Plan, Slot};
 use iv_bytes::{ReadFault, Source};
-use iv_run::{FileFault, Inputs, KeptFile, Loading, read_all};
+use iv_run::{FileFault, Inputs, Loading, ParsedFile, read_all};
 use iv_text::{FromRecord, LoadFault};
 use std::alloc::{Allocator, Global};
 use std::marker::Model;
@@ -168,9 +169,9 @@ fn load_file<K: FromRecord<A>, A: Allocator + Copy, F: InputFiles>(
     files: &mut F,
     name: &[u8],
     loading: &Loading<K, A>,
-) -> Result<Result<KeptFile<K, A>, LoadFault>, FileFault>
-    ensures ok { IfOk result (λ said. (text : List ℕ) × IsText (F.state files.old) name.now text × IsSaid K.kept loading.now text said) }
-    ensures kept { IfOk result (λ said. IfOk said (AreKept K.kept loading.now.genome loading.now.limit)) }
+) -> Result<Result<ParsedFile<K, A>, LoadFault>, FileFault>
+    ensures ok { IfOk result (λ said. (text : List ℕ) × IsText (F.state files.old) name.now text × IsSaid K.projected loading.now text said) }
+    ensures kept { IfOk result (λ said. IfOk said (AreProjected K.projected loading.now.genome loading.now.limit)) }
     ensures same { OnOk result (F.state files.new ≡ F.state files.old) }
     ensures err { IfErr result (λ fault. StopsFile (F.state files.old) name.now fault (F.state files.new)) }
 {
@@ -186,9 +187,9 @@ fn load_named<K: FromRecord<A>, A: Allocator + Copy, F: InputFiles>(
     slot: Slot,
     name: &[u8],
     loading: &Loading<K, A>,
-) -> Result<Result<KeptFile<K, A>, LoadFault>, SlotFault>
-    ensures ok { IfOk result (λ said. (text : List ℕ) × IsText (F.state files.old) name.now text × IsSaid K.kept loading.now text said) }
-    ensures kept { IfOk result (λ said. IfOk said (AreKept K.kept loading.now.genome loading.now.limit)) }
+) -> Result<Result<ParsedFile<K, A>, LoadFault>, SlotFault>
+    ensures ok { IfOk result (λ said. (text : List ℕ) × IsText (F.state files.old) name.now text × IsSaid K.projected loading.now text said) }
+    ensures kept { IfOk result (λ said. IfOk said (AreProjected K.projected loading.now.genome loading.now.limit)) }
     ensures same { OnOk result (F.state files.new ≡ F.state files.old) }
     ensures err { IfErr result (λ why. (why.0 ≡ slot) × StopsFile (F.state files.old) name.now why.1 (F.state files.new)) }
 {
@@ -205,7 +206,7 @@ fn read_second<K: FromRecord<A>, A: Allocator + Copy, F: InputFiles>(
     loading: &mut Loading<K, A>,
 ) -> Result<(), SlotFault>
     ensures ok { OnOk result ((other : Option (List ℕ)) × IsTextIfNamed (F.state files.old) plan.now.other other
-        × ((sizes text : List ℕ) → SaysFirst K.kept sizes text loading.old → loading.old.second ≡ None → SaysSecond K.kept sizes text other loading.new)) }
+        × ((sizes text : List ℕ) → SaysFirst K.projected sizes text loading.old → loading.old.second ≡ None → SaysSecond K.projected sizes text other loading.new)) }
     ensures run { IsOfOneRun loading.old loading.new }
     ensures same { OnOk result (F.state files.new ≡ F.state files.old) }
     ensures err { IfErr result (λ why. (why.0 ≡ Slot.Other)
@@ -239,7 +240,7 @@ impl<K: FromRecord<A>, A: Allocator + Copy> ReadFiles<K, A> {
         plan: &Plan<'_, A>,
     ) -> Result<Self, SlotFault>
         ensures ok { IfOk result (λ read. (texts : Texts) × AreTexts (F.state files.old) plan.now texts
-            × Says K.kept plan.now texts read.loading (option_map (λ bytes. bytes.items) read.bases)) }
+            × Says K.projected plan.now texts read.loading (option_map (λ bytes. bytes.items) read.bases)) }
         ensures same { OnOk result (F.state files.new ≡ F.state files.old) }
         ensures err { IfErr result (λ why. StopsAt plan.now (F.state files.old) (F.state files.new) why.0 why.1) }
     {

@@ -1,4 +1,4 @@
-//! The whole program: what a run of some words does with files, an input, an output and messages, and with which status it ends.
+//! The whole program: what a run does by its arguments with files, an input, an output and messages, and with which status it ends.
 #![tactic(auto)]
 
 mod files;

@@ -1,19 +1,21 @@
-//! The whole program: what the words ask for, the run of one subcommand, and how each run ends.
+//! The whole program: what the arguments ask for, the run of one subcommand, and how each run ends.
 ghost use Rattle.std.specs.Prelude.{◌≡◌, ◌≢◌, ◌<◌, ◌^◌, ℕ, List, Some, None, IfOk, IfErr, IfSome, OnOk, OnErr, length, map, true, false};
 ghost use Rattle.std.specs.Option.{option_map};
 ghost use Rattle.iv_bytes.specs.Sinks.{Takes};
-ghost use Rattle.iv_index.specs.Places.{bare};
+ghost use Rattle.iv_index.specs.Locators.{bare};
 ghost use Rattle.iv_args.specs.Notices.{notice_of};
 ghost use Rattle.iv_args.specs.Texts.{notice_text};
 ghost use Rattle.iv_args.specs.Words.{RunPlan, IsPlan, is_session};
 ghost use Rattle.iv_args.specs.declared.notice.Notice.{Notice};
-ghost use Rattle.iv_run.specs.PlacesViews.{AskForColumns, AskForPlaces};
+ghost use Rattle.iv_run.specs.IntervalsViews.{AskForIntervals};
+ghost use Rattle.iv_run.specs.Inside.IntervalsViews.{AskForColumns};
 ghost use Rattle.iv_run.specs.Shots.{shown};
 ghost use Rattle.iv_cli.specs.Endings.{is_through, line_of, status_of};
 ghost use Rattle.iv_program.specs.Limits.{most_records};
 ghost use Rattle.iv_program.specs.Outcomes.{AreSound, DoesAll, Hold, PrintsJust};
 ghost use Rattle.iv_program.specs.Program.{Finishes, Gives, Runs, Tells, world};
-ghost use Rattle.iv_program.specs.Runs.{PrintsView, RunsPlan, Says, World, ending_of_shot};
+ghost use Rattle.iv_program.specs.Runs.{PrintsView, RunsPlan, World, ending_of_shot};
+ghost use Rattle.iv_program.specs.Inside.Runs.{Says};
 ghost use Rattle.iv_program.specs.Texts.{Texts, AreTexts, StopsAt};
 ghost use Rattle.iv_program.specs.declared.program.Ended.{Ended};
 
@@ -23,7 +25,7 @@ use iv_args::{Notice, Plan};
 use iv_bytes::{Flush, Sink, Source, put_all};
 use iv_cli::Ending;
 use iv_index::Span;
-use iv_run::{CliFault, PlacesView, print_columns};
+use iv_run::{CliFault, IntervalsView, print_columns};
 use std::alloc::Allocator;
 
 /// How a run has ended, its output flushed.
@@ -71,12 +73,12 @@ fn ending_of(done: Result<(), CliFault>) -> Ending
 }
 
 /// Prints a view whose rows depend on nothing of a record but its place, of the files that were read.
-fn print_places<A: Allocator + Copy, W: Sink>(
-    view: PlacesView,
+fn print_intervals<A: Allocator + Copy, W: Sink>(
+    view: IntervalsView,
     read: ReadFiles<Span, A>,
     output: &mut W,
 ) -> Ending
-    ensures { (plan : RunPlan) (texts : Texts) → AskForPlaces plan.view view → Says bare plan texts read.loading (option_map (λ bytes. bytes.items) read.bases)
+    ensures { (plan : RunPlan) (texts : Texts) → AskForIntervals plan.view view → Says bare plan texts read.loading (option_map (λ bytes. bytes.items) read.bases)
         → PrintsView plan texts (W.state output.old) (W.state output.new) result }
 {
     let ReadFiles { loading, bases } = read;
@@ -112,9 +114,9 @@ fn print_view<A: Allocator + Copy, F: InputFiles, W: Sink>(
     ensures err { IfErr result (λ why. StopsAt plan.now (F.state files.old) (F.state files.new) why.0 why.1) }
     ensures nothing { OnErr result (W.state output.new ≡ W.state output.old) }
 {
-    if let Some(view) = PlacesView::of_plan(plan) {
+    if let Some(view) = IntervalsView::of_plan(plan) {
         let read = ReadFiles::read(alloc, files, plan)?;
-        return Ok(print_places(view, read, output));
+        return Ok(print_intervals(view, read, output));
     }
     let texts = FileTexts::read(alloc, files, plan)?;
     Ok(print_texts(alloc, plan, texts, output))
@@ -170,7 +172,7 @@ fn finish<W: Flush, E: Sink>(ended: Ended, name: &[u8], output: &mut W, messages
     }
 }
 
-/// Runs the program: does what the words after its name ask for, with these files, this input, output and messages, and says how
+/// Runs the program: does what the arguments after its name ask for, with these files, this input, output and messages, and says how
 /// that ended.
 pub fn run_program<A: Allocator + Copy, F: InputFiles, R: Source, W: Flush, E: Sink>(
     alloc: A,
@@ -200,19 +202,19 @@ pub fn run_program<A: Allocator + Copy, F: InputFiles, R: Source, W: Flush, E: S
     }
 }
 
-/// A run that gives the status 0 has done all that its words ask for: the output has taken the whole text of the notice or of the
+/// A run that gives the status 0 has done all that its arguments ask for: the output has taken the whole text of the notice or of the
 /// view, as the files' bytes say it, or every line of the script was run and none refused.
 pub fn done_is_all()
     ensures notice { (words : List (List ℕ)) (before after : World) (notice : Notice) (ended : Ended) → notice_of words ≡ Some notice → Runs words before after ended → status_of ended.ending ≡ 0 → Takes before.streams.output after.streams.output (notice_text notice) }
     ensures plan { (words : List (List ℕ)) (before after : World) (plan : RunPlan) (ended : Ended) → notice_of words ≡ None → IsPlan words plan → Runs words before after ended → status_of ended.ending ≡ 0 → DoesAll plan before after }
 {}
 
-/// At most one plan fits words: what they say decides all of it.
+/// At most one plan fits arguments: what they say decides all of it.
 pub fn one_plan_at_most()
     ensures { (words : List (List ℕ)) (one other : RunPlan) → IsPlan words one → IsPlan words other → one ≡ other }
 {}
 
-/// What a run of one subcommand prints, puts among the messages and gives as its status depends on its words and on the bytes of its
+/// What a run of one subcommand prints, puts among the messages and gives as its status depends on its arguments and on the bytes of its
 /// files alone, if no device fails, no file is too long and memory suffices: it is what the view's definition says of these bytes.
 pub fn views_depend_on_bytes_alone()
     ensures { (words : List (List ℕ)) (before after : World) (plan : RunPlan) (texts : Texts) (ended : Ended) → notice_of words ≡ None → IsPlan words plan → is_session plan.run ≡ false

@@ -4,7 +4,8 @@ ghost use Rattle.std.specs.Option.{option_map};
 ghost use Rattle.iv_session.specs.Streams.{streams};
 ghost use Rattle.iv_args.specs.Words.{RunPlan};
 ghost use Rattle.iv_program.specs.Limits.{most_records};
-ghost use Rattle.iv_program.specs.Runs.{RunsScript, Says, stopped_at};
+ghost use Rattle.iv_program.specs.Runs.{RunsScript, stopped_at};
+ghost use Rattle.iv_program.specs.Inside.Runs.{Says};
 ghost use Rattle.iv_program.specs.Texts.{Texts, AreTexts, StopsAt};
 
 use crate::files::{InputFiles, ReadFiles, SlotFault};

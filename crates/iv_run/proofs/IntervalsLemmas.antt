@@ -8,7 +8,7 @@ use Rattle.iv_text.specs.Ordered.{ordered}
 use Rattle.iv_text.specs.declared.fault.Fault.{Fault}
 use Rattle.iv_text.specs.declared.fault.Fault.TheVariants as refused
 use Rattle.iv_index.proofs.BareLemmas.{ordered-bare}
-use Rattle.iv_index.specs.Places.{bare}
+use Rattle.iv_index.specs.Locators.{bare}
 use Rattle.iv_blocks.specs.Groups.{listed}
 use Rattle.iv_blocks.specs.PlainOptions.{IsPlain}
 use Rattle.iv_blocks.specs.declared.options.Options.{Options}
@@ -25,15 +25,16 @@ use Rattle.iv_pair.specs.declared.pair_rows.PairRows.{PairRows}
 use Rattle.iv_fasta.specs.declared.rows.FastaRows.{FastaRows}
 use Rattle.iv_args.specs.Words.{RunPlan}
 use Rattle.iv_run.specs.Loading.{Parsed, parsed}
-use Rattle.iv_run.specs.Places.{NeedsPlacesAlone}
-use Rattle.iv_run.specs.PlacesViews.{AskForColumns, AskForPlaces, IsViewOf, NeedsColumns}
-use Rattle.iv_run.specs.Prints.{Prints}
+use Rattle.iv_run.specs.Inside.Intervals.{NeedsIntervalsAlone}
+use Rattle.iv_run.specs.IntervalsViews.{AskForIntervals, IsViewOf}
+use Rattle.iv_run.specs.Inside.IntervalsViews.{AskForColumns, NeedsColumns}
+use Rattle.iv_run.specs.Inside.Prints.{Prints}
 use Rattle.iv_run.specs.Shots.{Shows, shown}
-use Rattle.iv_run.specs.SoFar.{ReportsKept}
+use Rattle.iv_run.specs.SoFar.{ReportsProjected}
 use Rattle.iv_run.specs.declared.fault.CliFault.{CliFault}
-use Rattle.iv_run.specs.declared.places_view.PlacesView.{PlacesView}
-use Rattle.iv_run.specs.declared.places_view.PlacesView.TheVariants as places
-use Rattle.iv_run.proofs.PlacesAlone.{complement-bare, genomecov-bare, merge-bare}
+use Rattle.iv_run.specs.declared.intervals_view.IntervalsView.{IntervalsView}
+use Rattle.iv_run.specs.declared.intervals_view.IntervalsView.TheVariants as places
+use Rattle.iv_run.proofs.IntervalsAlone.{complement-bare, genomecov-bare, merge-bare}
 use Rattle.iv_run.proofs.ShotLemmas.{shows-text}
 
 -- ---- views
@@ -58,10 +59,10 @@ of-genomecov rows P one (kept.Complement limited) is = absurd is
 of-genomecov rows P one (kept.Genomecov asked) is = subst (λ (d : DepthRows). P (kept.Genomecov d)) (sym is) one
 
 -- nothing but the places of records counts
-needs-places : (v : PlacesView) (asked : KeptView) → IsViewOf v asked → NeedsPlacesAlone asked
-needs-places (places.Merge distance) = of-merge distance NeedsPlacesAlone (λ o plain g rows. merge-bare distance o g rows plain)
-needs-places (places.Complement limited) = of-complement limited NeedsPlacesAlone (λ g rows. complement-bare limited g rows)
-needs-places (places.Genomecov asked) = of-genomecov asked NeedsPlacesAlone (λ g rows. genomecov-bare asked g rows)
+needs-places : (v : IntervalsView) (asked : KeptView) → IsViewOf v asked → NeedsIntervalsAlone asked
+needs-places (places.Merge distance) = of-merge distance NeedsIntervalsAlone (λ o plain g rows. merge-bare distance o g rows plain)
+needs-places (places.Complement limited) = of-complement limited NeedsIntervalsAlone (λ g rows. complement-bare limited g rows)
+needs-places (places.Genomecov asked) = of-genomecov asked NeedsIntervalsAlone (λ g rows. genomecov-bare asked g rows)
 
 -- a merge is a view of places if it is plain
 module _ (b : Bool) (o : Options) (plain : (b ≡ true) ↔ IsPlain o.distance o) where
@@ -90,7 +91,7 @@ cluster-columns distance (places.Genomecov rows) is = is
 -- ---- the words of a view
 
 -- a view of places is the same on fewer columns and without files
-narrowed-same : (width : ℕ) (b c : Bool) (v : PlacesView) (asked : KeptView) → IsViewOf v asked → narrowed width b c (view.Kept asked) ≡ Ok (view.Kept asked)
+narrowed-same : (width : ℕ) (b c : Bool) (v : IntervalsView) (asked : KeptView) → IsViewOf v asked → narrowed width b c (view.Kept asked) ≡ Ok (view.Kept asked)
 narrowed-same width b c (places.Merge distance) = of-merge distance (λ (k : KeptView). narrowed width b c (view.Kept k) ≡ Ok (view.Kept k))
     (λ o plain i. as_merge (if not (has_columns width (plain.nothing i)) then Err refused.Column else if plain.together i && nat_lt width 6 then Err refused.NoStrand else Ok o))
 narrowed-same width b c (places.Complement limited) = of-complement limited (λ (k : KeptView). narrowed width b c (view.Kept k) ≡ Ok (view.Kept k)) refl
@@ -138,7 +139,7 @@ module _ (words : List (List ℕ)) where
 
   -- a view of which a state is kept
   module _ (asked : KeptView) (is : read_words 6 true true words ≡ Ok (view.Kept asked)) where
-    pub asks-places : (o : Option PlacesView) → IfSome o (λ v. IsViewOf v asked) → IfSome o (λ v. AskForPlaces words v)
+    pub asks-places : (o : Option IntervalsView) → IfSome o (λ v. IsViewOf v asked) → IfSome o (λ v. AskForIntervals words v)
     asks-places None some = tt
     asks-places (Some v) some = record {
       asked = asked;
@@ -153,8 +154,8 @@ module _ (words : List (List ℕ)) where
 
 -- the text of the view is printed of the places, and so of the records
 pub shows-places : (plan : RunPlan) (sizes text : List ℕ) (other bases : Option (List ℕ)) (limit : ℕ) (files : Parsed)
-    → ReportsKept bare (Ok files) (parsed plan.width sizes text other bases limit)
-    → (v : PlacesView) (ask : AskForPlaces plan.view v) (old new : SinkState) (result : Result (Unit {0}) CliFault)
+    → ReportsProjected bare (Ok files) (parsed plan.width sizes text other bases limit)
+    → (v : IntervalsView) (ask : AskForIntervals plan.view v) (old new : SinkState) (result : Result (Unit {0}) CliFault)
     → Prints old new result (kept_text ask.asked files.genome (ordered files.first.rows)) → Shows old new result (shown plan sizes text other bases limit)
 shows-places plan sizes text other bases limit files said v ask old new result prints =
     let whole = said.0 in

@@ -1,6 +1,6 @@
 pub mod ReadingLemmas
 pub mod LoadLemmas
 pub mod ShotLemmas
-mod PlacesAlone
+mod IntervalsAlone
 pub mod PieceLemmas
-pub mod PlacesLemmas
+pub mod IntervalsLemmas

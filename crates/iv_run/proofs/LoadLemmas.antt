@@ -14,11 +14,12 @@ use Rattle.iv_args.specs.declared.plan.Slot.TheVariants.{Sizes, First, Other, Ba
 use Rattle.iv_fasta.specs.Fasta as Fasta
 use Rattle.iv_run.specs.Loading.{IsAnswer, Parsed, parsed, bases_said, second_of, with_bases, with_second, with_first, with_genome, fault_of, damage_of}
 use Rattle.std.specs.Option.{option_map, option_transpose}
-use Rattle.iv_text.specs.KeptDrafts.{kept_bed, kept_or_fault}
+use Rattle.iv_text.specs.BedReading.{projected_bed, projected_or_fault}
 use Rattle.iv_text.specs.Read.{Fits}
-use Rattle.iv_text.specs.Row.{Row}
-use Rattle.iv_text.proofs.KeptLemmas.{fit-all}
-use Rattle.iv_run.specs.SoFar.{SoFar, AreBoth, AreKept, IsSaid, ReportsKept, SaysFirst, SaysFirstBy, SaysSecond, SaysSecondBy, SaysSizes, SaysSizesBy, kept_files, noted, taken_first, taken_second}
+use Rattle.iv_text.specs.RecordValue.{RecordValue}
+use Rattle.iv_text.proofs.BedReadingLemmas.{fit-all}
+use Rattle.iv_run.specs.SoFar.{SoFar, AreBoth, AreProjected, IsSaid, ReportsProjected, SaysSecond, SaysSecondBy, SaysSizes, SaysSizesBy, kept_files, noted, taken_first, taken_second}
+use Rattle.iv_run.specs.Inside.SoFar.{SaysFirst, SaysFirstBy}
 
 -- a fault is reported as damage, unless it is out of memory
 reported : (c : LoadCause) (damaged : CliFault) → (c ≡ cause.Memory) ⊎ (fault_of c damaged ≡ damaged)
@@ -85,11 +86,11 @@ module _ (width : ℕ) (sizes text : List ℕ) (limit : ℕ) where
 
 -- ---- files of which the records are kept
 
-kept-sound : (kept : Row → Row) (r : Result Bed LoadFault) (file : Bed) → kept_or_fault kept r ≡ Ok file → (bed : Bed) × (r ≡ Ok bed) × (file ≡ kept_bed kept bed)
-kept-sound kept (Ok bed) file is = let same : kept_bed kept bed ≡ file = cc in (bed, refl, sym same)
+kept-sound : (kept : RecordValue → RecordValue) (r : Result Bed LoadFault) (file : Bed) → projected_or_fault kept r ≡ Ok file → (bed : Bed) × (r ≡ Ok bed) × (file ≡ projected_bed kept bed)
+kept-sound kept (Ok bed) file is = let same : projected_bed kept bed ≡ file = cc in (bed, refl, sym same)
 kept-sound kept (Err f) file is = cc
 
-kept-why : (kept : Row → Row) (r : Result Bed LoadFault) (f : LoadFault) → IsAnswer {T = Bed} (Err f) (kept_or_fault kept r) → IsWhy f r
+kept-why : (kept : RecordValue → RecordValue) (r : Result Bed LoadFault) (f : LoadFault) → IsAnswer {T = Bed} (Err f) (projected_or_fault kept r) → IsWhy f r
 kept-why kept r f (inl memory) = inl memory
 kept-why kept (Ok bed) f (inr is) = cc
 kept-why kept (Err e) f (inr is) = let same : e ≡ f = cc in inr (ap Err same)
@@ -106,7 +107,7 @@ says-no_sizes sizes known k is why = subst (SaysSizesBy sizes known) (sym is) (s
     Reports : CliFault → Type 0
     Reports j = (j ≡ Memory) ⊎ Damages j
 
-module _ (kept : Row → Row) (sizes text : List ℕ) (old : SoFar) where
+module _ (kept : RecordValue → RecordValue) (sizes text : List ℕ) (old : SoFar) where
   -- the first file was read too
   pub says-first : (said : Result Bed LoadFault) → SaysSizes sizes old → IsSaid kept old text said → SaysFirst kept sizes text (taken_first old said)
   says-first said says answer = by old.damage refl says said answer
@@ -166,7 +167,7 @@ module _ (kept : Row → Row) (sizes text : List ℕ) (old : SoFar) where
             (λ (d : Option CliFault). SaysSecondBy kept sizes text (Some other) (record old { damage = noted old.damage (damage_of Other f) }) (noted d (damage_of Other f))) (sym e) (inr (all (Some other)))
 
 -- all BED files were read
-module _ (kept : Row → Row) (sizes text : List ℕ) (other bases : Option (List ℕ)) (known : SoFar) (says : SaysSecond kept sizes text other known) where
+module _ (kept : RecordValue → RecordValue) (sizes text : List ℕ) (other bases : Option (List ℕ)) (known : SoFar) (says : SaysSecond kept sizes text other known) where
   abbrev said : Result Parsed CliFault
   said = parsed known.width sizes text other bases known.limit
 
@@ -177,7 +178,7 @@ module _ (kept : Row → Row) (sizes text : List ℕ) (other bases : Option (Lis
 
     -- the FASTA file is sound too
     pub reports-all : (fasta : Option Fasta.Bases) → bases_said known.genome bases ≡ Ok fasta
-        → ReportsKept kept (Ok (record { genome = known.genome; first = known.first; second = known.second; bases = fasta; limit = known.limit })) said
+        → ReportsProjected kept (Ok (record { genome = known.genome; first = known.first; second = known.second; bases = fasta; limit = known.limit })) said
     reports-all fasta is =
         let whole : Parsed = record { genome = known.genome; first = both.first.bed; second = both.beside; bases = fasta; limit = known.limit } in (
           whole,

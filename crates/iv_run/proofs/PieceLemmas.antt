@@ -2,15 +2,15 @@
 use Rattle.std.proofs.Common.{◌≡◌, ◌∙◌, ◌⊎◌, inl, inr, ℕ, ◌+◌, ◌<◌, ◌≤◌, ◌++◌, List, [], Result, Ok, Err, IfOk, length, sym, ap, subst, append_assoc, append-nil, length-append, arith}
 use Rattle.iv_text.specs.BedFile.{Bed, Draft, finished}
 use Rattle.iv_text.specs.Genome.{Sequences}
-use Rattle.iv_text.specs.KeptDrafts.{AreSound, Reading, begun, coming, kept_bed_of, size_of}
-use Rattle.iv_text.specs.Row.{Row}
+use Rattle.iv_text.specs.BedReading.{AreSound, Reading, begun, coming, projected_bed_of, size_of}
+use Rattle.iv_text.specs.RecordValue.{RecordValue}
 use Rattle.iv_text.specs.declared.fault.LoadFault.{LoadFault}
 use Rattle.iv_text.specs.declared.fault.LoadCause.TheVariants as cause
-use Rattle.iv_text.proofs.KeptLemmas.{begun-sound, whole-file}
+use Rattle.iv_text.proofs.BedReadingLemmas.{begun-sound, whole-file}
 use Rattle.iv_run.specs.Loading.{IsAnswer}
-use Rattle.iv_run.specs.Pieces.{SaysSoFar}
+use Rattle.iv_run.specs.Inside.Pieces.{SaysSoFar}
 
-module _ (kept : Row → Row) (g : Sequences) (limit : ℕ) where
+module _ (kept : RecordValue → RecordValue) (g : Sequences) (limit : ℕ) where
   -- nothing has come
   pub says-begun : (r : Reading) → r ≡ begun → SaysSoFar kept g limit [] (Ok r)
   says-begun r is = (
@@ -60,20 +60,20 @@ module _ (kept : Row → Row) (g : Sequences) (limit : ℕ) where
 
   -- all has come
   module _ (width : ℕ) (text : List ℕ) where
-    whole : (r : Result Draft LoadFault) → coming kept g limit begun (text ++ []) ≡ r → kept_bed_of kept g width limit text ≡ finished width r
+    whole : (r : Result Draft LoadFault) → coming kept g limit begun (text ++ []) ≡ r → projected_bed_of kept g width limit text ≡ finished width r
     whole r is =
         sym (whole-file kept g limit width text)
         ∙ ap (λ (t : List ℕ). finished width (coming kept g limit begun t)) (sym (append-nil text))
         ∙ ap (finished width) is
 
-    pub keeps-file : (r : Reading) (file : Bed) → SaysSoFar kept g limit text (Ok r) → finished width (coming kept g limit r []) ≡ Ok file → IsAnswer (Ok file) (kept_bed_of kept g width limit text)
+    pub keeps-file : (r : Reading) (file : Bed) → SaysSoFar kept g limit text (Ok r) → finished width (coming kept g limit r []) ≡ Ok file → IsAnswer (Ok file) (projected_bed_of kept g width limit text)
     keeps-file r file says is = whole (coming kept g limit r []) (says.2 []) ∙ is
 
-    pub keeps-fault : (f : LoadFault) → SaysSoFar kept g limit text (Err f) → IsAnswer {T = Bed} (Err f) (kept_bed_of kept g width limit text)
+    pub keeps-fault : (f : LoadFault) → SaysSoFar kept g limit text (Err f) → IsAnswer {T = Bed} (Err f) (projected_bed_of kept g width limit text)
     keeps-fault f (inl memory) = inl memory
     keeps-fault f (inr refused) = inr (whole (Err f) (refused []))
 
     pub keeps-end_fault : (r : Reading) (f : LoadFault) → SaysSoFar kept g limit text (Ok r)
-        → (f ≡ record { line = 0; cause = cause.Memory }) ⊎ (coming kept g limit r [] ≡ Err f) → IsAnswer {T = Bed} (Err f) (kept_bed_of kept g width limit text)
+        → (f ≡ record { line = 0; cause = cause.Memory }) ⊎ (coming kept g limit r [] ≡ Err f) → IsAnswer {T = Bed} (Err f) (projected_bed_of kept g width limit text)
     keeps-end_fault r f says (inl memory) = inl memory
     keeps-end_fault r f says (inr refused) = inr (whole (Err f) (says.2 [] ∙ refused))

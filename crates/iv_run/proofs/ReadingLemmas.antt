@@ -3,7 +3,8 @@ use Rattle.std.proofs.Common.{◌≡◌, ℕ, ◌+◌, ◌≤◌, ◌<◌, List,
 use Rattle.std.specs.Io.KnownBytes.{Consumes, IsAtEnd}
 use Rattle.std.proofs.KnownBytes.{Consumes-nil, Consumes-trans, Consumes-whole}
 use Rattle.iv_bytes.specs.Sources.{SourceState, Gives}
-use Rattle.iv_run.specs.Files.{ReadsWhole, StopsReading, IsFaultOf, EndsReading, HadMemory, IsTooLong, IsPieceFault}
+use Rattle.iv_run.specs.Files.{ReadsWhole, StopsReading, IsFaultOf}
+use Rattle.iv_run.specs.Inside.Files.{EndsReading, HadMemory, IsTooLong, IsPieceFault}
 use Rattle.iv_run.specs.declared.fault.FileFault.{FileFault}
 use Rattle.iv_run.specs.declared.fault.FileFault.TheVariants.{Input, TooLong, Memory}
 

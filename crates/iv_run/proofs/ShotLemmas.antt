@@ -9,7 +9,7 @@ use Rattle.iv_text.specs.declared.fault.Fault.{Fault}
 use Rattle.iv_text.specs.declared.fault.Fault.TheVariants as refused
 use Rattle.iv_fasta.specs.Fasta.{Bases}
 use Rattle.iv_view.specs.declared.view.View.{View}
-use Rattle.iv_run.specs.Prints.{Prints}
+use Rattle.iv_run.specs.Inside.Prints.{Prints}
 use Rattle.iv_run.specs.declared.fault.CliFault.{CliFault}
 use Rattle.iv_run.specs.declared.fault.CliFault.TheVariants as fault
 use Rattle.iv_run.specs.Loading.{Parsed, parsed, second_of, bases_said, with_bases, with_second, with_first, with_genome, fault_of_words}

@@ -1,5 +1,5 @@
 -- What became of reading a whole file.
-use Rattle.std.specs.Prelude.{◌≡◌, ◌≢◌, ℕ, ⊤, ◌≤◌, ◌<◌, List, true, length, Result, Ok, Err}
+use Rattle.std.specs.Prelude.{◌≡◌, ℕ, ◌≤◌, ◌<◌, List, true, length}
 use Rattle.std.specs.Io.KnownBytes.{Consumes, IsAtEnd}
 use Rattle.iv_bytes.specs.Sources.{SourceState, IsInput}
 use Rattle.iv_run.specs.declared.fault.FileFault.{FileFault}
@@ -23,24 +23,3 @@ pub record StopsReading (old new : SourceState) (limit : ℕ) (fault : FileFault
   pub front : List ℕ
   pub given : Consumes old.coming new.coming front
   pub cause : IsFaultOf fault old new limit (length front)
-
--- a file was read, or reading it ended with a fault
-abbrev pub EndsReading : SourceState → SourceState → ℕ → Result (List ℕ) FileFault → Type 0
-EndsReading old new limit (Ok bytes) = ReadsWhole old new limit bytes
-EndsReading old new limit (Err fault) = StopsReading old new limit fault
-
--- it did not end out of memory
-abbrev pub HadMemory : Result (List ℕ) FileFault → Type 0
-HadMemory (Ok bytes) = ⊤
-HadMemory (Err fault) = fault ≢ Memory
-
--- the file was called too long
-abbrev pub IsTooLong : Result (List ℕ) FileFault → Type 0
-IsTooLong (Ok bytes) = ⊥
-IsTooLong (Err fault) = fault ≡ TooLong
-
--- why a piece is not taken that brings the bytes to this number (of the loop of `read_all`; no part of what is promised)
-abbrev pub IsPieceFault : FileFault → ℕ → ℕ → Type 0
-IsPieceFault Input limit count = ⊥
-IsPieceFault TooLong limit count = limit < count
-IsPieceFault Memory limit count = count ≤ limit

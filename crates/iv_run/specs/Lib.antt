@@ -1,8 +1,6 @@
 pub mod Files
 pub mod Loading
 pub mod Shots
-pub mod Prints
-pub mod Places
-pub mod PlacesViews
+pub mod IntervalsViews
 pub mod SoFar
-pub mod Pieces
+pub mod Inside

@@ -5,7 +5,7 @@ use Rattle.iv_bytes.specs.Sinks.{SinkState, Takes, FailsIn}
 use Rattle.iv_text.specs.BedFile.{Bed}
 use Rattle.iv_text.specs.Fault.{code_of}
 use Rattle.iv_text.specs.Ordered.{ordered}
-use Rattle.iv_text.specs.Row.{Row}
+use Rattle.iv_text.specs.RecordValue.{RecordValue}
 use Rattle.iv_text.specs.declared.fault.Fault.{Fault}
 use Rattle.iv_view.specs.Views.{read_words, view_text}
 use Rattle.iv_view.specs.declared.view.View.{View}
@@ -15,7 +15,7 @@ use Rattle.iv_run.specs.Loading.{Parsed, parsed}
 use Rattle.iv_args.specs.Words.{RunPlan}
 
 -- the records of a second file in track order, none without one
-abbrev pub ordered_other : Option Bed → List Row
+abbrev pub ordered_other : Option Bed → List RecordValue
 ordered_other second = unwrap_or (option_map (λ file. ordered file.rows) second) []
 
 -- the view that words ask for beside these files, at the width of the records

@@ -4,8 +4,8 @@ use Rattle.std.specs.Option.{option_map}
 use Rattle.iv_text.specs.BedFile.{Bed, bed_of}
 use Rattle.iv_text.specs.Genome.{Sequences}
 use Rattle.iv_text.specs.GenomeFile.{genome_of}
-use Rattle.iv_text.specs.KeptDrafts.{IsKept, kept_bed, kept_bed_of}
-use Rattle.iv_text.specs.Row.{Row}
+use Rattle.iv_text.specs.BedReading.{IsProjected, projected_bed, projected_bed_of}
+use Rattle.iv_text.specs.RecordValue.{RecordValue}
 use Rattle.iv_text.specs.declared.fault.LoadFault.{LoadFault}
 use Rattle.iv_args.specs.declared.plan.Slot.TheVariants.{First, Other}
 use Rattle.iv_run.specs.Loading.{IsAnswer, Parsed, damage_of, parsed, second_of}
@@ -23,8 +23,8 @@ pub record SoFar : Type 0 where
   pub second : Option Bed
 
 -- these are kept of records of the file's width on the genome, and they are not more than the limit
-pub record AreKept (kept : Row → Row) (g : Sequences) (limit : ℕ) (file : Bed) : Type 0 where
-  pub kept_all : All (IsKept kept g file.width) file.rows
+pub record AreProjected (kept : RecordValue → RecordValue) (g : Sequences) (limit : ℕ) (file : Bed) : Type 0 where
+  pub kept_all : All (IsProjected kept g file.width) file.rows
   pub few : length file.rows ≤ limit
 
 -- the limits of a run stay
@@ -38,8 +38,8 @@ noted (Some before) fault = Some before
 
 -- a call answers with what a BED file of these bytes says beside what is known, its records as they are kept; or with its first fault,
 -- or out of memory
-abbrev pub IsSaid : (Row → Row) → SoFar → List ℕ → Result Bed LoadFault → Type 0
-IsSaid kept known text said = IsAnswer said (kept_bed_of kept known.genome known.width known.limit text)
+abbrev pub IsSaid : (RecordValue → RecordValue) → SoFar → List ℕ → Result Bed LoadFault → Type 0
+IsSaid kept known text said = IsAnswer said (projected_bed_of kept known.genome known.width known.limit text)
 
 -- once the first file is read
 abbrev pub taken_first : SoFar → Result Bed LoadFault → SoFar
@@ -62,44 +62,34 @@ abbrev pub SaysSizes : List ℕ → SoFar → Type 0
 SaysSizes sizes known = SaysSizesBy sizes known known.damage
 
 -- both the genome file and the first file are sound
-pub record IsFirst (kept : Row → Row) (sizes text : List ℕ) (known : SoFar) : Type 0 where
+pub record IsFirst (kept : RecordValue → RecordValue) (sizes text : List ℕ) (known : SoFar) : Type 0 where
   pub genome_is : genome_of sizes ≡ Ok known.genome
   pub bed : Bed
   pub bed_is : bed_of known.genome known.width known.limit text ≡ Ok bed
-  pub kept_is : known.first ≡ kept_bed kept bed
-
--- the two files of these bytes are sound; or this is the report of all files, whatever the others say
-abbrev pub SaysFirstBy : (Row → Row) → List ℕ → List ℕ → SoFar → Option CliFault → Type 0
-SaysFirstBy kept sizes text known None = IsFirst kept sizes text known
-SaysFirstBy kept sizes text known (Some k) =
-    (k ≡ Memory) ⊎ ((other bases : Option (List ℕ)) → parsed known.width sizes text other bases known.limit ≡ Err k)
-
--- what is known is what the genome file and the first file of these bytes say
-abbrev pub SaysFirst : (Row → Row) → List ℕ → List ℕ → SoFar → Type 0
-SaysFirst kept sizes text known = SaysFirstBy kept sizes text known known.damage
+  pub kept_is : known.first ≡ projected_bed kept bed
 
 -- so is the second file, if there is one
-pub record AreBoth (kept : Row → Row) (sizes text : List ℕ) (other : Option (List ℕ)) (known : SoFar) : Type 0 where
+pub record AreBoth (kept : RecordValue → RecordValue) (sizes text : List ℕ) (other : Option (List ℕ)) (known : SoFar) : Type 0 where
   pub first : IsFirst kept sizes text known
   pub beside : Option Bed
   pub beside_is : second_of known.genome known.width known.limit other ≡ Ok beside
-  pub kept_is : known.second ≡ option_map (kept_bed kept) beside
+  pub kept_is : known.second ≡ option_map (projected_bed kept) beside
 
 -- the files of these bytes are sound; or this is the report of all files, whatever the FASTA file says
-abbrev pub SaysSecondBy : (Row → Row) → List ℕ → List ℕ → Option (List ℕ) → SoFar → Option CliFault → Type 0
+abbrev pub SaysSecondBy : (RecordValue → RecordValue) → List ℕ → List ℕ → Option (List ℕ) → SoFar → Option CliFault → Type 0
 SaysSecondBy kept sizes text other known None = AreBoth kept sizes text other known
 SaysSecondBy kept sizes text other known (Some k) =
     (k ≡ Memory) ⊎ ((bases : Option (List ℕ)) → parsed known.width sizes text other bases known.limit ≡ Err k)
 
 -- what is known is what the genome file and the BED files of these bytes say
-abbrev pub SaysSecond : (Row → Row) → List ℕ → List ℕ → Option (List ℕ) → SoFar → Type 0
+abbrev pub SaysSecond : (RecordValue → RecordValue) → List ℕ → List ℕ → Option (List ℕ) → SoFar → Type 0
 SaysSecond kept sizes text other known = SaysSecondBy kept sizes text other known known.damage
 
 -- files with their records as they are kept
-abbrev pub kept_files : (Row → Row) → Parsed → Parsed
-kept_files kept files = record files { first = kept_bed kept files.first; second = option_map (kept_bed kept) files.second }
+abbrev pub kept_files : (RecordValue → RecordValue) → Parsed → Parsed
+kept_files kept files = record files { first = projected_bed kept files.first; second = option_map (projected_bed kept) files.second }
 
 -- a call answers with what files say, their records as they are kept; or it reports the fault of the first damaged one, or out of memory
-abbrev pub ReportsKept : (Row → Row) → Result Parsed CliFault → Result Parsed CliFault → Type 0
-ReportsKept kept (Ok files) said = (whole : Parsed) × (said ≡ Ok whole) × (files ≡ kept_files kept whole)
-ReportsKept kept (Err k) said = (k ≡ Memory) ⊎ (said ≡ Err k)
+abbrev pub ReportsProjected : (RecordValue → RecordValue) → Result Parsed CliFault → Result Parsed CliFault → Type 0
+ReportsProjected kept (Ok files) said = (whole : Parsed) × (said ≡ Ok whole) × (files ≡ kept_files kept whole)
+ReportsProjected kept (Err k) said = (k ≡ Memory) ⊎ (said ≡ Err k)

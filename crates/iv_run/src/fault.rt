@@ -44,7 +44,7 @@ impl From<ReadFault> for FileFault {
 /// Why a run does not come to its end.
 #[derive(Clone, Copy, Debug, PartialEq, Eq, Error)]
 pub enum CliFault {
-    /// The words on the command line are wrong; the number of the fault in the table of faults.
+    /// The arguments are wrong; the number of the fault in the table of faults.
     #[error("E{0}")]
     Words(u8),
     /// A file is damaged: which one, and its first fault.
@@ -83,7 +83,7 @@ impl From<(Slot, LoadFault)> for CliFault {
     }
 }
 
-/// Out of memory, or a fault of words, by its number.
+/// Out of memory, or a fault of arguments, by its number.
 impl From<Fault> for CliFault {
     ghost use Rattle.std.specs.Prelude.{◌≡◌};
     ghost use Rattle.iv_run.specs.Loading.{fault_of_words};

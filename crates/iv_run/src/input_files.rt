@@ -4,20 +4,22 @@ ghost use Rattle.std.specs.Option.{option_map};
 ghost use Rattle.iv_bytes.specs.Sources.{SourceState};
 ghost use Rattle.iv_text.specs.declared.fault.LoadCause.TheVariants as cause;
 ghost use Rattle.iv_text.specs.declared.fault.LoadFault.{LoadFault};
-ghost use Rattle.iv_text.specs.KeptDrafts.{AreSound, kept_bed_of, size_of};
-ghost use Rattle.iv_index.specs.Spans.{span_rows};
-ghost use Rattle.iv_run.specs.Files.{EndsReading, HadMemory, IsPieceFault, IsTooLong, ReadsWhole, StopsReading};
+ghost use Rattle.iv_text.specs.BedReading.{AreSound, projected_bed_of, size_of};
+ghost use Rattle.iv_index.specs.Inside.Spans.{span_rows};
+ghost use Rattle.iv_run.specs.Files.{ReadsWhole, StopsReading};
+ghost use Rattle.iv_run.specs.Inside.Files.{EndsReading, HadMemory, IsPieceFault, IsTooLong};
 ghost use Rattle.iv_run.specs.Loading.{IsAnswer, bases_said, damage_of};
-ghost use Rattle.iv_run.specs.Pieces.{SaysSoFar};
-ghost use Rattle.iv_run.specs.SoFar.{AreKept};
+ghost use Rattle.iv_run.specs.Inside.Pieces.{SaysSoFar};
+ghost use Rattle.iv_run.specs.SoFar.{AreProjected};
 ghost use Rattle.iv_run.specs.declared.fault.FileFault.{FileFault};
+ghost use Rattle.iv_text.specs.Widths.{IsWidth};
 
 use crate::fault::{CliFault, FileFault};
 use iv_args::Slot;
 use iv_bytes::Source;
 use iv_fasta::Fasta;
 use iv_index::Span;
-use iv_text::{Batches, BedBatches, FromRecord, Genome, KeptDraft, LoadFault, Record};
+use iv_text::{Batches, BedBatches, BedReader, FromRecord, Genome, LoadFault, Record};
 use std::alloc::{AllocError, Allocator, Global};
 use std::marker::Model;
 
@@ -68,46 +70,47 @@ pub fn too_long_above_the_limit()
 
 /// What is kept of the records of a BED file, and how many columns each of them has.
 #[derive(Drop)]
-pub struct KeptFile<K: FromRecord<A>, A: Allocator + Copy = Global> {
+pub struct ParsedFile<K: FromRecord<A>, A: Allocator + Copy = Global> {
     width: u8,
     kept: Batches<K, A>,
 }
 
-impl<K: FromRecord<A>, A: Allocator + Copy> Model for KeptFile<K, A> {
+impl<K: FromRecord<A>, A: Allocator + Copy> Model for ParsedFile<K, A> {
+    ghost use Rattle.iv_text.specs.Widths.{IsWidth};
     ghost use Rattle.std.specs.Prelude.{◌≤◌, map};
     ghost use Rattle.iv_text.specs.BedFile.{Bed};
 
     ghost Value = { Bed };
 
-    ghost view = { λ f. record { width = f.width; rows = map K.as_row f.kept } };
+    ghost view = { λ f. record { width = f.width; rows = map K.as_record f.kept } };
 
-    ghost invariant = { λ f. (3 ≤ f.width) × (f.width ≤ 6) };
+    ghost invariant = { λ f. IsWidth f.width };
 }
 
-impl<K: FromRecord<A>, A: Allocator + Copy> KeptFile<K, A> {
+impl<K: FromRecord<A>, A: Allocator + Copy> ParsedFile<K, A> {
     /// A file without a record.
     pub(crate) fn empty(alloc: A, width: u8) -> Self
-        requires { (3 ≤ width) × (width ≤ 6) }
+        requires { IsWidth width }
         ensures { result ≡ record { width = width; rows = [] } }
     {
-        KeptFile {
+        ParsedFile {
             width,
             kept: Batches::new(alloc),
         }
     }
 }
 
-impl<A: Allocator + Copy> KeptFile<Record<A>, A> {
+impl<A: Allocator + Copy> ParsedFile<Record<A>, A> {
     /// The file with its records, of which all is kept.
     pub fn into_bed(self) -> BedBatches<A>
         ensures { result ≡ self }
     {
-        let KeptFile { width, kept } = self;
+        let ParsedFile { width, kept } = self;
         BedBatches::of(width, kept)
     }
 }
 
-impl<A: Allocator + Copy> KeptFile<Span, A> {
+impl<A: Allocator + Copy> ParsedFile<Span, A> {
     /// The places of the file's records.
     ///
     /// # Errors
@@ -124,12 +127,12 @@ impl<A: Allocator + Copy> KeptFile<Span, A> {
 fn take_next<K: FromRecord<A>, A: Allocator + Copy>(
     genome: &Genome<A>,
     limit: u32,
-    so_far: Result<KeptDraft<K, A>, LoadFault>,
+    so_far: Result<BedReader<K, A>, LoadFault>,
     piece: &[u8],
-) -> Result<KeptDraft<K, A>, LoadFault>
-    requires sound { IfOk so_far (λ d. AreSound K.kept genome.now limit d.read) }
+) -> Result<BedReader<K, A>, LoadFault>
+    requires sound { IfOk so_far (λ d. AreSound K.projected genome.now limit d.read) }
     requires few { IfOk so_far (λ d. size_of d + length piece.now < 2 ^ 64) }
-    ensures { (front : List ℕ) → SaysSoFar K.kept genome.now limit front so_far → SaysSoFar K.kept genome.now limit (front ++ piece.now) result }
+    ensures { (front : List ℕ) → SaysSoFar K.projected genome.now limit front so_far → SaysSoFar K.projected genome.now limit (front ++ piece.now) result }
 {
     let mut draft = so_far?;
     draft.take_piece(genome, limit, piece)?;
@@ -138,19 +141,19 @@ fn take_next<K: FromRecord<A>, A: Allocator + Copy>(
 
 /// What is kept of a whole file, or its fault, once all bytes have come. Without a record it has the width that is handed in.
 fn finish<K: FromRecord<A>, A: Allocator + Copy>(
-    so_far: Result<KeptDraft<K, A>, LoadFault>,
+    so_far: Result<BedReader<K, A>, LoadFault>,
     genome: &Genome<A>,
     empty_width: u8,
     limit: u32,
-) -> Result<KeptFile<K, A>, LoadFault>
-    requires width { (3 ≤ empty_width) × (empty_width ≤ 6) }
-    requires sound { IfOk so_far (λ d. AreSound K.kept genome.now limit d.read) }
+) -> Result<ParsedFile<K, A>, LoadFault>
+    requires width { IsWidth empty_width }
+    requires sound { IfOk so_far (λ d. AreSound K.projected genome.now limit d.read) }
     requires few { IfOk so_far (λ d. size_of d < 2 ^ 64) }
-    ensures says { (text : List ℕ) → SaysSoFar K.kept genome.now limit text so_far → IsAnswer result (kept_bed_of K.kept genome.now empty_width limit text) }
-    ensures kept { IfOk result (AreKept K.kept genome.now limit) }
+    ensures says { (text : List ℕ) → SaysSoFar K.projected genome.now limit text so_far → IsAnswer result (projected_bed_of K.projected genome.now empty_width limit text) }
+    ensures kept { IfOk result (AreProjected K.projected genome.now limit) }
 {
     let (width, kept) = so_far?.finish(genome, empty_width, limit)?;
-    Ok(KeptFile { width, kept })
+    Ok(ParsedFile { width, kept })
 }
 
 /// What a BED file says on this genome, given all its bytes. It may have at most `limit` records.
@@ -160,12 +163,12 @@ pub(crate) fn parse_bed<K: FromRecord<A>, A: Allocator + Copy>(
     empty_width: u8,
     limit: u32,
     text: &[u8],
-) -> Result<KeptFile<K, A>, LoadFault>
-    requires { (3 ≤ empty_width) × (empty_width ≤ 6) }
-    ensures says { IsAnswer result (kept_bed_of K.kept genome.now empty_width limit text.now) }
-    ensures kept { IfOk result (AreKept K.kept genome.now limit) }
+) -> Result<ParsedFile<K, A>, LoadFault>
+    requires { IsWidth empty_width }
+    ensures says { IsAnswer result (projected_bed_of K.projected genome.now empty_width limit text.now) }
+    ensures kept { IfOk result (AreProjected K.projected genome.now limit) }
 {
-    let said = take_next(genome, limit, Ok(KeptDraft::new(alloc)), text);
+    let said = take_next(genome, limit, Ok(BedReader::new(alloc)), text);
     finish(said, genome, empty_width, limit)
 }
 
@@ -179,14 +182,14 @@ pub(crate) fn read_bed<K: FromRecord<A>, A: Allocator + Copy, R: Source>(
     limit: u32,
     source: &mut R,
     most: u64,
-) -> Result<Result<KeptFile<K, A>, LoadFault>, FileFault>
-    requires width { (3 ≤ empty_width) × (empty_width ≤ 6) }
+) -> Result<Result<ParsedFile<K, A>, LoadFault>, FileFault>
+    requires width { IsWidth empty_width }
     requires most { most < 2 ^ 63 }
-    ensures ok { IfOk result (λ said. (text : List ℕ) × ReadsWhole (R.state source.old) (R.state source.new) most text × IsAnswer said (kept_bed_of K.kept genome.now empty_width limit text)) }
-    ensures kept { IfOk result (λ said. IfOk said (AreKept K.kept genome.now limit)) }
+    ensures ok { IfOk result (λ said. (text : List ℕ) × ReadsWhole (R.state source.old) (R.state source.new) most text × IsAnswer said (projected_bed_of K.projected genome.now empty_width limit text)) }
+    ensures kept { IfOk result (λ said. IfOk said (AreProjected K.projected genome.now limit)) }
     ensures err { IfErr result (λ fault. StopsReading (R.state source.old) (R.state source.new) most fault) }
 {
-    let mut so_far = Ok(KeptDraft::new(alloc));
+    let mut so_far = Ok(BedReader::new(alloc));
     let mut piece = [0u8; 262_144];
     let mut count: u64 = 0;
     'pieces: loop {

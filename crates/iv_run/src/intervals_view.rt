@@ -1,13 +1,14 @@
-//! The views whose rows depend on nothing of a record but its place, and their print.
+//! The views whose rows depend only on the intervals of records, and their print.
 ghost use Rattle.std.specs.Prelude.{◌≡◌, ℕ, All, List, Option, Err, None, IfSome};
 ghost use Rattle.std.specs.Option.{option_map};
 ghost use Rattle.iv_text.specs.Ordered.{AreInOrder, ordered};
 ghost use Rattle.iv_text.specs.Read.{IsOnGenome};
-ghost use Rattle.iv_index.specs.Places.{bare};
-ghost use Rattle.iv_index.specs.Spans.{span_rows};
+ghost use Rattle.iv_index.specs.Locators.{bare};
+ghost use Rattle.iv_index.specs.Inside.Spans.{span_rows};
 ghost use Rattle.iv_args.specs.Words.{RunPlan};
-ghost use Rattle.iv_run.specs.PlacesViews.{AskForColumns, AskForPlaces, IsViewOf, NeedsColumns};
-ghost use Rattle.iv_run.specs.Prints.{Prints};
+ghost use Rattle.iv_run.specs.IntervalsViews.{AskForIntervals, IsViewOf};
+ghost use Rattle.iv_run.specs.Inside.IntervalsViews.{AskForColumns, NeedsColumns};
+ghost use Rattle.iv_run.specs.Inside.Prints.{Prints};
 ghost use Rattle.iv_run.specs.Shots.{Shows, shown};
 ghost use Rattle.iv_run.specs.SoFar.{SaysSecond};
 ghost use Rattle.iv_view.specs.Views.{kept_text};
@@ -24,9 +25,9 @@ use iv_text::Genome;
 use iv_view::{KeptView, View};
 use std::alloc::Allocator;
 
-/// A view whose rows depend on nothing of a record but its place.
+/// A view whose rows depend only on the intervals of records.
 #[derive(Clone, Copy, Debug, PartialEq, Eq)]
-pub enum PlacesView {
+pub enum IntervalsView {
     /// `merge` of both strands together, without summaries: records at most this many bases apart are in one block.
     Merge(u32),
     /// `complement`; if `limited`, only of sequences with a record.
@@ -35,35 +36,37 @@ pub enum PlacesView {
     Genomecov(DepthRows),
 }
 
-impl PlacesView {
+impl IntervalsView {
     /// The view of a plan, if it is such a one.
-    pub fn of_plan<A: Allocator + Copy>(plan: &Plan<'_, A>) -> Option<PlacesView>
-        ensures some { IfSome result (λ shown. AskForPlaces plan.now.view shown) }
+    pub fn of_plan<A: Allocator + Copy>(plan: &Plan<'_, A>) -> Option<IntervalsView>
+        ensures some { IfSome result (λ shown. AskForIntervals plan.now.view shown) }
         ensures none { result ≡ None → AskForColumns plan.now.view }
     {
         match plan.view() {
-            Ok(View::Kept(view)) => PlacesView::of_view(&view),
+            Ok(View::Kept(view)) => IntervalsView::of_view(&view),
             Ok(View::Written(_)) | Err(_) => None,
         }
     }
 
     /// A view of which a state is kept, if it is such a one.
-    fn of_view(view: &KeptView) -> Option<PlacesView>
+    fn of_view(view: &KeptView) -> Option<IntervalsView>
         ensures some { IfSome result (λ shown. IsViewOf shown view.now) }
         ensures none { result ≡ None → NeedsColumns view.now }
     {
         match view {
             KeptView::Merge(options) => {
-                let merge = PlacesView::Merge(options.distance);
+                let merge = IntervalsView::Merge(options.distance);
                 options.is_plain().then_some(merge)
             }
             KeptView::Cluster(_) => None,
-            KeptView::Complement { limited } => Some(PlacesView::Complement { limited: *limited }),
-            KeptView::Genomecov(shown) => Some(PlacesView::Genomecov(*shown)),
+            KeptView::Complement { limited } => Some(IntervalsView::Complement {
+                limited: *limited,
+            }),
+            KeptView::Genomecov(shown) => Some(IntervalsView::Genomecov(*shown)),
         }
     }
 
-    /// Prints the text of the view, for places in the order of a track that are on the genome, through one buffer.
+    /// Prints the text of the view, for intervals in the order of a track that are on the genome, through one buffer.
     ///
     /// All memory is allocated before the first byte is printed: room for a stop of each record for `genomecov`, else none.
     ///
@@ -101,9 +104,11 @@ impl PlacesView {
         ensures alone { result ≡ Err CliFault.Memory → sink.new ≡ sink.old }
     {
         match self {
-            PlacesView::Merge(distance) => Ok(put_merge(distance, spans, genome, sink)?),
-            PlacesView::Complement { limited } => Ok(put_complement(limited, spans, genome, sink)?),
-            PlacesView::Genomecov(shown) => {
+            IntervalsView::Merge(distance) => Ok(put_merge(distance, spans, genome, sink)?),
+            IntervalsView::Complement { limited } => Ok(put_complement(
+                limited, spans, genome, sink,
+            )?),
+            IntervalsView::Genomecov(shown) => {
                 Ok(DepthSweep::new(alloc, spans)?.print(shown, genome, sink)?)
             }
         }
@@ -112,7 +117,7 @@ impl PlacesView {
 
 /// Sorts the places of the first file, and prints a view of them.
 fn print_files<A: Allocator + Copy, S: Sink>(
-    view: PlacesView,
+    view: IntervalsView,
     files: LoadedFiles<Span, A>,
     sink: &mut S,
 ) -> Result<(), CliFault>
@@ -140,11 +145,11 @@ impl<A: Allocator + Copy> Loading<Span, A> {
     /// The fault of the first damaged file, or `Memory`: then nothing was printed. `Output`, and then a prefix was.
     pub fn print<S: Sink>(
         self,
-        view: PlacesView,
+        view: IntervalsView,
         bases: Option<Vec<u8, A>>,
         sink: &mut S,
     ) -> Result<(), CliFault>
-        ensures { (plan : RunPlan) (sizes text : List ℕ) (other : Option (List ℕ)) → AskForPlaces plan.view view → self.width ≡ plan.width → SaysSecond bare sizes text other self
+        ensures { (plan : RunPlan) (sizes text : List ℕ) (other : Option (List ℕ)) → AskForIntervals plan.view view → self.width ≡ plan.width → SaysSecond bare sizes text other self
             → Shows (S.state sink.old) (S.state sink.new) result (shown plan sizes text other (option_map (λ text. text.items) bases) self.limit) }
     {
         let files = self.finish(bases)?;

@@ -2,13 +2,13 @@
 #![tactic(auto)]
 
 mod fault;
+mod input_files;
+mod intervals_view;
 mod loading;
 mod one_shot;
-mod places_view;
-mod reading;
 
 pub use fault::{CliFault, FileFault};
+pub use input_files::{ParsedFile, read_all, too_long_above_the_limit};
+pub use intervals_view::IntervalsView;
 pub use loading::{Inputs, LoadedFiles, Loading};
 pub use one_shot::{print_columns, shot};
-pub use places_view::PlacesView;
-pub use reading::{KeptFile, read_all, too_long_above_the_limit};

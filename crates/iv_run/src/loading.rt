@@ -3,10 +3,11 @@ ghost use Rattle.std.specs.Prelude.{◌≡◌, ◌<◌, ◌≤◌, ◌^◌, List
 ghost use Rattle.std.specs.Option.{option_copied, option_map};
 ghost use Rattle.iv_run.specs.Files.{ReadsWhole, StopsReading};
 ghost use Rattle.iv_run.specs.Loading.{parsed};
-ghost use Rattle.iv_run.specs.SoFar.{AreKept, IsOfOneRun, IsSaid, ReportsKept, SaysSecond, SaysSizes, noted, taken_first, taken_second};
+ghost use Rattle.iv_run.specs.SoFar.{AreProjected, IsOfOneRun, IsSaid, ReportsProjected, SaysSecond, SaysSizes, noted, taken_first, taken_second};
+ghost use Rattle.iv_text.specs.Widths.{IsWidth};
 
 use crate::fault::{CliFault, FileFault};
-use crate::reading::{KeptFile, in_slot, parse_bed, parse_fasta, read_bed};
+use crate::input_files::{ParsedFile, in_slot, parse_bed, parse_fasta, read_bed};
 use iv_args::{Plan, Slot};
 use iv_bytes::Source;
 use iv_fasta::Fasta;
@@ -38,19 +39,19 @@ pub struct Loading<K: FromRecord<A>, A: Allocator + Copy = Global> {
     damage: Option<CliFault>,
     empty_width: u8,
     limit: u32,
-    first: KeptFile<K, A>,
-    second: Option<KeptFile<K, A>>,
+    first: ParsedFile<K, A>,
+    second: Option<ParsedFile<K, A>>,
 }
 
 impl<K: FromRecord<A>, A: Allocator + Copy> Model for Loading<K, A> {
     ghost use Rattle.std.specs.Prelude.{◌≤◌, IfSome};
-    ghost use Rattle.iv_run.specs.SoFar.{AreKept, SoFar};
+    ghost use Rattle.iv_run.specs.SoFar.{AreProjected, SoFar};
 
     ghost Value = { SoFar };
 
     ghost view = { λ l. record { genome = l.genome; damage = l.damage; width = l.empty_width; limit = l.limit; first = l.first; second = l.second } };
 
-    ghost invariant = { λ l. (3 ≤ l.empty_width) × (l.empty_width ≤ 6) × AreKept K.kept l.genome l.limit l.first × IfSome l.second (AreKept K.kept l.genome l.limit) };
+    ghost invariant = { λ l. (3 ≤ l.empty_width) × (l.empty_width ≤ 6) × AreProjected K.projected l.genome l.limit l.first × IfSome l.second (AreProjected K.projected l.genome l.limit) };
 }
 
 /// What all files of a run say, of each record what is kept of it.
@@ -58,8 +59,8 @@ impl<K: FromRecord<A>, A: Allocator + Copy> Model for Loading<K, A> {
 pub struct LoadedFiles<K: FromRecord<A>, A: Allocator + Copy = Global> {
     pub alloc: A,
     pub genome: Genome<A>,
-    pub first: KeptFile<K, A>,
-    pub second: Option<KeptFile<K, A>>,
+    pub first: ParsedFile<K, A>,
+    pub second: Option<ParsedFile<K, A>>,
     pub fasta: Option<Fasta<A>>,
     pub limit: u32,
 }
@@ -67,13 +68,13 @@ pub struct LoadedFiles<K: FromRecord<A>, A: Allocator + Copy = Global> {
 impl<K: FromRecord<A>, A: Allocator + Copy> Model for LoadedFiles<K, A> {
     ghost use Rattle.std.specs.Prelude.{IfSome};
     ghost use Rattle.iv_run.specs.Loading.{Parsed};
-    ghost use Rattle.iv_run.specs.SoFar.{AreKept};
+    ghost use Rattle.iv_run.specs.SoFar.{AreProjected};
 
     ghost Value = { Parsed };
 
     ghost view = { λ f. record { genome = f.genome; first = f.first; second = f.second; bases = f.fasta; limit = f.limit } };
 
-    ghost invariant = { λ f. AreKept K.kept f.genome f.limit f.first × IfSome f.second (AreKept K.kept f.genome f.limit) };
+    ghost invariant = { λ f. AreProjected K.projected f.genome f.limit f.first × IfSome f.second (AreProjected K.projected f.genome f.limit) };
 }
 
 impl<K: FromRecord<A>, A: Allocator + Copy> Loading<K, A> {
@@ -85,7 +86,7 @@ impl<K: FromRecord<A>, A: Allocator + Copy> Loading<K, A> {
         empty_width: u8,
         limit: u32,
     ) -> Self
-        requires { (3 ≤ empty_width) × (empty_width ≤ 6) }
+        requires { IsWidth empty_width }
         ensures { result ≡ record { genome = genome; damage = damage; width = empty_width; limit = limit; first = record { width = empty_width; rows = [] }; second = None } }
     {
         Loading {
@@ -94,7 +95,7 @@ impl<K: FromRecord<A>, A: Allocator + Copy> Loading<K, A> {
             damage,
             empty_width,
             limit,
-            first: KeptFile::empty(alloc, empty_width),
+            first: ParsedFile::empty(alloc, empty_width),
             second: None,
         }
     }
@@ -124,9 +125,9 @@ impl<K: FromRecord<A>, A: Allocator + Copy> Loading<K, A> {
     }
 
     /// What a BED file says, given all its bytes.
-    fn parse(&self, text: &[u8]) -> Result<KeptFile<K, A>, LoadFault>
-        ensures says { IsSaid K.kept self.now text.now result }
-        ensures kept { IfOk result (AreKept K.kept self.now.genome self.now.limit) }
+    fn parse(&self, text: &[u8]) -> Result<ParsedFile<K, A>, LoadFault>
+        ensures says { IsSaid K.projected self.now text.now result }
+        ensures kept { IfOk result (AreProjected K.projected self.now.genome self.now.limit) }
     {
         parse_bed(self.alloc, &self.genome, self.empty_width, self.limit, text)
     }
@@ -140,10 +141,10 @@ impl<K: FromRecord<A>, A: Allocator + Copy> Loading<K, A> {
         &self,
         source: &mut R,
         most: u64,
-    ) -> Result<Result<KeptFile<K, A>, LoadFault>, FileFault>
+    ) -> Result<Result<ParsedFile<K, A>, LoadFault>, FileFault>
         requires { most < 2 ^ 63 }
-        ensures ok { IfOk result (λ said. (text : List ℕ) × ReadsWhole (R.state source.old) (R.state source.new) most text × IsSaid K.kept self.now text said) }
-        ensures kept { IfOk result (λ said. IfOk said (AreKept K.kept self.now.genome self.now.limit)) }
+        ensures ok { IfOk result (λ said. (text : List ℕ) × ReadsWhole (R.state source.old) (R.state source.new) most text × IsSaid K.projected self.now text said) }
+        ensures kept { IfOk result (λ said. IfOk said (AreProjected K.projected self.now.genome self.now.limit)) }
         ensures err { IfErr result (λ fault. StopsReading (R.state source.old) (R.state source.new) most fault) }
     {
         read_bed(
@@ -157,8 +158,8 @@ impl<K: FromRecord<A>, A: Allocator + Copy> Loading<K, A> {
     }
 
     /// Takes what the first file says. If it is damaged, [`Loading::finish`] reports it.
-    pub fn take_first(&mut self, said: Result<KeptFile<K, A>, LoadFault>)
-        requires { IfOk said (AreKept K.kept self.old.genome self.old.limit) }
+    pub fn take_first(&mut self, said: Result<ParsedFile<K, A>, LoadFault>)
+        requires { IfOk said (AreProjected K.projected self.old.genome self.old.limit) }
         ensures taken { self.new ≡ taken_first self.old said }
         ensures same { IsOfOneRun self.old self.new }
         ensures beside { self.new.second ≡ self.old.second }
@@ -170,8 +171,8 @@ impl<K: FromRecord<A>, A: Allocator + Copy> Loading<K, A> {
     }
 
     /// Takes what the second file says, as [`Loading::take_first`] does of the first one.
-    pub fn take_second(&mut self, said: Result<KeptFile<K, A>, LoadFault>)
-        requires { IfOk said (AreKept K.kept self.old.genome self.old.limit) }
+    pub fn take_second(&mut self, said: Result<ParsedFile<K, A>, LoadFault>)
+        requires { IfOk said (AreProjected K.projected self.old.genome self.old.limit) }
         ensures taken { self.new ≡ taken_second self.old said }
         ensures same { IsOfOneRun self.old self.new }
     {
@@ -183,7 +184,7 @@ impl<K: FromRecord<A>, A: Allocator + Copy> Loading<K, A> {
 
     /// The files of a run, given the bytes of all but the FASTA file.
     pub fn of_inputs(alloc: A, plan: &Plan<'_, A>, inputs: &Inputs<'_>, limit: u32) -> Self
-        ensures says { SaysSecond K.kept inputs.now.sizes.now inputs.now.first.now (option_copied inputs.now.other) result }
+        ensures says { SaysSecond K.projected inputs.now.sizes.now inputs.now.first.now (option_copied inputs.now.other) result }
         ensures width { result.width ≡ plan.now.width }
         ensures limit { result.limit ≡ limit }
     {
@@ -200,8 +201,8 @@ impl<K: FromRecord<A>, A: Allocator + Copy> Loading<K, A> {
     /// What all files say, once the BED files are read, or the fault of the first damaged one. `bases` are the bytes of the FASTA
     /// file, if there is one. They are taken: the bases stay in their memory.
     pub fn finish(self, bases: Option<Vec<u8, A>>) -> Result<LoadedFiles<K, A>, CliFault>
-        ensures says { (sizes text : List ℕ) (other : Option (List ℕ)) → SaysSecond K.kept sizes text other self
-            → ReportsKept K.kept result (parsed self.width sizes text other (option_map (λ text. text.items) bases) self.limit) }
+        ensures says { (sizes text : List ℕ) (other : Option (List ℕ)) → SaysSecond K.projected sizes text other self
+            → ReportsProjected K.projected result (parsed self.width sizes text other (option_map (λ text. text.items) bases) self.limit) }
         ensures limit { IfOk result (λ files. files.limit ≡ self.limit) }
     {
         let Loading {

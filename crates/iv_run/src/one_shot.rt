@@ -5,7 +5,7 @@ ghost use Rattle.iv_bytes.specs.Sinks.{Puts};
 ghost use Rattle.iv_text.specs.Genome.{Sequences};
 ghost use Rattle.iv_text.specs.Ordered.{AreInOrder, ordered};
 ghost use Rattle.iv_text.specs.Read.{IsOnGenome};
-ghost use Rattle.iv_text.specs.Row.{Row};
+ghost use Rattle.iv_text.specs.RecordValue.{RecordValue};
 ghost use Rattle.iv_text.specs.declared.fault.LoadCause.TheVariants as cause;
 ghost use Rattle.iv_track.specs.Tracked.{most_records};
 ghost use Rattle.iv_fasta.specs.FastaRows.{fasta_text};
@@ -13,14 +13,15 @@ ghost use Rattle.iv_pair.specs.CoverAlone.{DependsOnCoverAlone, HaveBases};
 ghost use Rattle.iv_pair.specs.PairRows.{pair_text};
 ghost use Rattle.iv_view.specs.Views.{kept_text};
 ghost use Rattle.iv_run.specs.Loading.{parsed, second_of};
-ghost use Rattle.iv_run.specs.PlacesViews.{AskForColumns, NeedsColumns};
-ghost use Rattle.iv_run.specs.Prints.{Prints};
+ghost use Rattle.iv_run.specs.Inside.IntervalsViews.{AskForColumns, NeedsColumns};
+ghost use Rattle.iv_run.specs.Inside.Prints.{Prints};
 ghost use Rattle.iv_run.specs.Shots.{Shows, ordered_other, shown, text_beside, view_beside};
+ghost use Rattle.iv_text.specs.Widths.{IsWidth};
 
 use crate::fault::CliFault;
+use crate::input_files::{in_slot, parse_fasta};
+use crate::intervals_view::IntervalsView;
 use crate::loading::{Inputs, Loading};
-use crate::places_view::PlacesView;
-use crate::reading::{in_slot, parse_fasta};
 use iv_args::{Plan, Slot};
 use iv_blocks::{MergeSweep, put_cluster};
 use iv_bytes::{Buffered, Sink, WriteFault};
@@ -63,7 +64,7 @@ fn parse_second<'t, A: Allocator + Copy>(
     limit: u32,
     text: Option<&'t [u8]>,
 ) -> Result<Option<BedText<'t, A>>, LoadFault>
-    requires width { (3 ≤ width) × (width ≤ 6) }
+    requires width { IsWidth width }
     requires small { IfSome (option_copied text) (λ bytes. length bytes < 2 ^ 32) }
     ensures ok { IfOk result (λ second. second_of genome.now width limit (option_copied text.entry) ≡ Ok second) }
     ensures err { IfErr result (λ fault. (fault ≡ record { line = 0; cause = cause.Memory }) ⊎
@@ -112,7 +113,7 @@ impl<'t, A: Allocator + Copy> TextFiles<'t, A> {
     ///
     /// # Errors
     ///
-    /// A fault of the view's words, which only the files show.
+    /// A fault of the view's arguments, which only the files show.
     fn view(&self, plan: &Plan<'_, A>) -> Result<View, ViewFault>
         ensures { result ≡ view_beside self.now plan.now.view }
     {
@@ -123,7 +124,7 @@ impl<'t, A: Allocator + Copy> TextFiles<'t, A> {
         })
     }
 
-    /// Puts the text of a view that words ask for beside these files, and that needs the columns of records.
+    /// Puts the text of a view that arguments ask for beside these files, and that needs the columns of records.
     ///
     /// # Errors
     ///
@@ -134,14 +135,14 @@ impl<'t, A: Allocator + Copy> TextFiles<'t, A> {
         ensures alone { result ≡ Err CliFault.Memory → sink.new ≡ sink.old }
     {
         match view {
-            View::Kept(view) => self.put_kept(alloc, view, sink),
+            View::Kept(view) => self.put_kept_view(alloc, view, sink),
             View::Written(WrittenView::Paired(rows)) => self.put_pairs(alloc, rows, sink),
             View::Written(WrittenView::Getfasta(shown)) => self.put_fasta(alloc, shown, sink),
         }
     }
 
     /// Puts the text of a view of the first file, for its records in the order of a track.
-    fn put_kept<S: Sink>(self, alloc: A, view: KeptView, sink: &mut S) -> Result<(), CliFault>
+    fn put_kept_view<S: Sink>(self, alloc: A, view: KeptView, sink: &mut S) -> Result<(), CliFault>
         requires { NeedsColumns view }
         ensures text { Prints (S.state sink.old) (S.state sink.new) result (kept_text view self.entry.genome (ordered self.entry.first.rows)) }
         ensures alone { result ≡ Err CliFault.Memory → sink.new ≡ sink.old }
@@ -174,7 +175,7 @@ impl<'t, A: Allocator + Copy> TextFiles<'t, A> {
             return Err(CliFault::from(Fault::NoSecond));
         };
         first.sort(alloc)?;
-        first.law_of_bases();
+        first.lemma_of_bases();
         sort_beside(alloc, rows, &mut second)?;
         let (first, second) = (first.records(), second.records());
         sweep_pairs(alloc, rows, &first, &second, &genome, sink)
@@ -236,7 +237,7 @@ fn sort_beside<'t, A: Allocator + Copy>(
     rows: PairRows,
     file: &mut BedText<'t, A>,
 ) -> Result<(), AllocError>
-    ensures text { OnOk result ((genome : Sequences) (first : List Row) → HaveBases first → pair_text rows genome first file.new.rows ≡ pair_text rows genome first (ordered file.old.rows)) }
+    ensures text { OnOk result ((genome : Sequences) (first : List RecordValue) → HaveBases first → pair_text rows genome first file.new.rows ≡ pair_text rows genome first (ordered file.old.rows)) }
     ensures order { OnOk result (AreInOrder file.new.rows) }
 {
     file.sort(alloc)?;
@@ -251,12 +252,12 @@ fn sort_beside<'t, A: Allocator + Copy>(
 fn join_sorted<'t, A: Allocator + Copy>(rows: PairRows, file: &mut BedText<'t, A>)
     requires order { AreInOrder file.old.rows }
     requires alone { DependsOnCoverAlone rows }
-    ensures text { (genome : Sequences) (first : List Row) → HaveBases first → pair_text rows genome first file.new.rows ≡ pair_text rows genome first file.old.rows }
+    ensures text { (genome : Sequences) (first : List RecordValue) → HaveBases first → pair_text rows genome first file.new.rows ≡ pair_text rows genome first file.old.rows }
     ensures order { AreInOrder file.new.rows }
 {
-    file.law_of_bases();
+    file.lemma_of_bases();
     file.join();
-    file.law_of_bases();
+    file.lemma_of_bases();
 }
 
 /// Puts these rows of two lists of records: intersect or subtract. All memory is allocated before the first byte is put.
@@ -352,7 +353,7 @@ pub fn shot<A: Allocator + Copy, S: Sink>(
     ensures { Shows (S.state sink.old) (S.state sink.new) result
         (shown plan.now inputs.now.sizes.now inputs.now.first.now (option_copied inputs.now.other) (option_map (λ text. text.items) bases) limit) }
 {
-    if let Some(view) = PlacesView::of_plan(plan) {
+    if let Some(view) = IntervalsView::of_plan(plan) {
         let loading: Loading<Span, A> = Loading::of_inputs(alloc, plan, inputs, limit);
         return loading.print(view, bases, sink);
     }

@@ -5,7 +5,7 @@ use Rattle.std.specs.Prelude.{IsSomeAnd, unwrap_or}
 use Rattle.iv_text.specs.Fields.{columns, fields_left}
 use Rattle.iv_text.specs.Genome.{Sequences}
 use Rattle.iv_text.specs.Read.{Fits, read, read_columns}
-use Rattle.iv_text.specs.Row.{Row}
+use Rattle.iv_text.specs.RecordValue.{RecordValue}
 use Rattle.iv_track.specs.Tracked.{Tracked}
 use Rattle.iv_workspace.specs.States.{State}
 use Rattle.iv_workspace.specs.Edits.{EditFits, FitsIn, width_beside, width_of}
@@ -25,12 +25,12 @@ after-read g width fields after empty none is low = elim (fields-after fields af
       ∙ sym (miscounted g width (fields_left 9 fields) (λ same. omega (arith, ap length left, same, low)))
 ]
 
-fits-beside : (g : Sequences) (second : Option Tracked) (width : ℕ) (r : Row) → width_beside second ≡ Ok width → Fits g width r → IsSomeAnd second (λ t. Fits g t.width r)
+fits-beside : (g : Sequences) (second : Option Tracked) (width : ℕ) (r : RecordValue) → width_beside second ≡ Ok width → Fits g width r → IsSomeAnd second (λ t. Fits g t.width r)
 fits-beside g None width r is fits = absurd (cc is)
 fits-beside g (Some t) width r is fits = let same : width ≡ t.width = cc is in subst (λ (n : ℕ). Fits g n r) same fits
 
 -- a record of the width of the track that an edit is for fits it
-fits-in : (s : State) (to : Target) (width : ℕ) (r : Row) → width_of s to ≡ Ok width → Fits s.genome width r → FitsIn s to r
+fits-in : (s : State) (to : Target) (width : ℕ) (r : RecordValue) → width_of s to ≡ Ok width → Fits s.genome width r → FitsIn s to r
 fits-in s target.First width r is fits = let same : width ≡ s.track.width = cc is in subst (λ (n : ℕ). Fits s.genome n r) same fits
 fits-in s target.Second width r is fits = fits-beside s.genome s.second width r is fits
 

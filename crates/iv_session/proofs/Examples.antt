@@ -3,7 +3,7 @@ use Rattle.std.proofs.Common.{◌≡◌, ℕ, ◌++◌, List, [], ◌∷◌, Non
 use Rattle.std.specs.Prelude.{codes}
 use Rattle.iv_text.specs.Genome.{Sequences}
 use Rattle.iv_text.specs.Fields.{words}
-use Rattle.iv_text.specs.Row.{Row}
+use Rattle.iv_text.specs.RecordValue.{RecordValue}
 use Rattle.iv_text.specs.declared.fault.Fault.TheVariants as fault
 use Rattle.iv_session.specs.Requests.{asked}
 use Rattle.iv_session.specs.Running.{Runs}
@@ -37,10 +37,10 @@ tab = 9 ∷ []
 abbrev empty : State
 empty = record { genome = g; track = record { rows = []; width = 3; limit = 2 }; second = None; bases = None; views = [] }
 
-abbrev first_row : Row
+abbrev first_row : RecordValue
 first_row = record { seq = 0; start = 10; stop = 20; name = []; score = []; strand = None; width = 3 }
 
-abbrev second_row : Row
+abbrev second_row : RecordValue
 second_row = record { seq = 0; start = 15; stop = 30; name = []; score = []; strand = None; width = 3 }
 
 -- a merge without options

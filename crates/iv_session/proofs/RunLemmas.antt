@@ -17,8 +17,9 @@ use Rattle.iv_workspace.specs.declared.fault.PrintFault.{PrintFault}
 use Rattle.iv_workspace.specs.declared.fault.PrintFault.TheVariants as printing
 use Rattle.iv_session.specs.Requests.{asked}
 use Rattle.iv_session.specs.Written.{Written, printed, refused_by, refusal_count, message_if}
-use Rattle.iv_session.specs.Running.{AsksToPrint, Ends, Runs, RunsLast, DoesAsked, RefusesAsked, Leaves, Writes, WritesFault}
-use Rattle.iv_session.specs.Scripts.{RanLine, FailedLine, Tells, refusals_of}
+use Rattle.iv_session.specs.Running.{AsksToPrint, Ends, Runs, RunsLast, DoesAsked, RefusesAsked, Leaves}
+use Rattle.iv_session.specs.Inside.Running.{Writes, WritesFault}
+use Rattle.iv_session.specs.Inside.Scripts.{RanLine, FailedLine, Tells, refusals_of}
 use Rattle.iv_session.specs.declared.request.Request.{Request}
 use Rattle.iv_session.specs.declared.request.Request.TheVariants as request
 use Rattle.iv_session.specs.declared.line.Outcome.{Outcome}

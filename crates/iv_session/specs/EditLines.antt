@@ -2,7 +2,7 @@
 use Rattle.std.specs.Prelude.{◌+◌, ℕ, ◌==◌, if◌then◌else◌, List, Result, Ok, Err, length, take, drop}
 use Rattle.iv_text.specs.Genome.{Sequences}
 use Rattle.iv_text.specs.Read.{read_columns}
-use Rattle.iv_text.specs.Row.{Row}
+use Rattle.iv_text.specs.RecordValue.{RecordValue}
 use Rattle.iv_text.specs.declared.fault.Fault.{Fault}
 use Rattle.iv_text.specs.declared.fault.Fault.TheVariants as fault
 use Rattle.iv_workspace.specs.declared.session.edits.Edit.{Edit}
@@ -11,13 +11,13 @@ use Rattle.iv_session.specs.declared.request.EditKind.{EditKind}
 use Rattle.iv_session.specs.declared.request.EditKind.TheVariants as kind
 
 -- two records, or the fault of the first, or else that of the second
-abbrev pub both : Result Row Fault → Result Row Fault → Result (Row × Row) Fault
+abbrev pub both : Result RecordValue Fault → Result RecordValue Fault → Result (RecordValue × RecordValue) Fault
 both (Err f) second = Err f
 both (Ok r) (Err f) = Err f
 both (Ok r) (Ok q) = Ok (r, q)
 
 -- the records of twice as many columns as the width: one of the first half, and one of the other
-abbrev pub read_two : Sequences → ℕ → List (List ℕ) → Result (Row × Row) Fault
+abbrev pub read_two : Sequences → ℕ → List (List ℕ) → Result (RecordValue × RecordValue) Fault
 read_two g width cs =
     if length cs == width + width
     then both (read_columns g width (take width cs)) (read_columns g width (drop width cs))

@@ -4,7 +4,7 @@ pub mod EditLines
 pub mod Requests
 pub mod Limits
 pub mod Running
-pub mod Reading
 pub mod Scripts
 pub mod Stops
 pub mod Endings
+pub mod Inside

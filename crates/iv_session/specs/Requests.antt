@@ -1,5 +1,5 @@
 -- What a line of a script asks for, and why it is refused.
-use Rattle.std.specs.Prelude.{◌≤◌, ℕ, ◌==◌, ◌||◌, nat_le, if◌then◌else◌, List, [], ◌∷◌, Option, None, Some, Result, Ok, Err, length, drop, codes}
+use Rattle.std.specs.Prelude.{ℕ, ◌==◌, ◌||◌, nat_le, List, [], ◌∷◌, Option, None, Some, Result, Ok, Err, length, drop, codes}
 use Rattle.std.specs.Str.{bytes_eq}
 use Rattle.iv_text.specs.Bytes.{number_sign}
 use Rattle.iv_text.specs.Fields.{columns}
@@ -8,15 +8,15 @@ use Rattle.iv_text.specs.GenomeFile.{begins_with}
 use Rattle.iv_text.specs.Number.{number}
 use Rattle.iv_text.specs.Read.{column}
 use Rattle.iv_text.specs.declared.fault.Fault.{Fault}
-use Rattle.iv_text.specs.declared.fault.Fault.TheVariants as fault
 use Rattle.iv_workspace.specs.States.{State}
-use Rattle.iv_workspace.specs.Edits.{EditFits, FitsIn, width_of}
+use Rattle.iv_workspace.specs.Edits.{width_of}
 use Rattle.iv_session.specs.EditLines.{edit_said}
 use Rattle.iv_session.specs.declared.request.EditKind.{EditKind}
-use Rattle.iv_session.specs.declared.request.EditKind.TheVariants as kind
 use Rattle.iv_workspace.specs.declared.session.edits.Target.{Target}
-use Rattle.iv_workspace.specs.declared.session.edits.Target.TheVariants as target
 use Rattle.iv_session.specs.declared.request.Request.{Request}
+use Rattle.iv_text.specs.declared.fault.Fault.TheVariants as fault
+use Rattle.iv_session.specs.declared.request.EditKind.TheVariants as kind
+use Rattle.iv_workspace.specs.declared.session.edits.Target.TheVariants as target
 use Rattle.iv_session.specs.declared.request.Request.TheVariants as request
 
 -- the field of a list that has just one
@@ -92,13 +92,3 @@ abbrev pub asked : State → List ℕ → Result Request Fault
 asked s text =
     if (length text == 0) || begins_with number_sign text then Ok request.Nothing
     else asked_by s (column (columns text) 0) (drop 1 (columns text))
-
--- the records of a request fit the session, and no length is above the greatest
-abbrev pub RequestFits : State → Request → Type 0
-RequestFits s (request.Edit target e) = EditFits (FitsIn s target) e
-RequestFits s (request.Resize name n) = n ≤ most_length
-RequestFits s request.Nothing = Unit {0}
-RequestFits s (request.Open name words) = Unit {0}
-RequestFits s (request.Close name) = Unit {0}
-RequestFits s (request.Print name) = Unit {0}
-RequestFits s request.PrintAll = Unit {0}

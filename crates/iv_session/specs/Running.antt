@@ -1,22 +1,20 @@
 -- What a line of a script may do.
-use Rattle.std.specs.Prelude.{◌≡◌, ◌<◌, ◌⊎◌, ℕ, true, List, [], Option, None, Some, Result, Ok, Err, IsSome}
-use Rattle.iv_bytes.specs.Sinks.{SinkState, Takes, FailsIn}
-use Rattle.iv_text.specs.Fault.{code_of, fault_text}
+use Rattle.std.specs.Prelude.{◌≡◌, ◌<◌, ◌⊎◌, ℕ, true, List, [], None, Some, Result, Ok, Err, IsSome}
+use Rattle.iv_text.specs.Fault.{code_of}
 use Rattle.iv_text.specs.Fields.{words}
 use Rattle.iv_text.specs.declared.fault.Fault.{Fault}
-use Rattle.iv_text.specs.declared.fault.Fault.TheVariants as fault
 use Rattle.iv_workspace.specs.OpenViews.{Shown, stale_count}
 use Rattle.iv_workspace.specs.Prints.{with_printed, with_all_printed, IsButCurrent}
 use Rattle.iv_workspace.specs.States.{State, without_view}
 use Rattle.iv_workspace.specs.Resizes.{resized}
-use Rattle.iv_workspace.specs.Views.{view_named, Opens, RefusesOpen, all_text, print_code, text_in}
+use Rattle.iv_workspace.specs.Views.{view_named, Opens, RefusesOpen, all_text, text_in}
 use Rattle.iv_session.specs.Requests.{asked}
 use Rattle.iv_workspace.specs.Edits.{IsEdited, RefusesIn}
 use Rattle.iv_session.specs.Written.{Written, printed, refused_by}
-use Rattle.iv_workspace.specs.declared.fault.PrintFault.{PrintFault}
 use Rattle.iv_session.specs.declared.request.Request.{Request}
-use Rattle.iv_session.specs.declared.request.Request.TheVariants as request
 use Rattle.iv_session.specs.declared.script.RunCause.{RunCause}
+use Rattle.iv_text.specs.declared.fault.Fault.TheVariants as fault
+use Rattle.iv_session.specs.declared.request.Request.TheVariants as request
 use Rattle.iv_session.specs.declared.script.RunCause.TheVariants as cause
 
 -- a request is done: it leads from this state to that one, and this is its text. After an edit some views may be
@@ -85,26 +83,3 @@ EndsAt other asks old new written = ⊥
 -- what the last line of a run may do that ends at a sink for this cause: what lines may do, and no more than that
 abbrev pub RunsLast : RunCause → State → List ℕ → State → Written → Type 0
 RunsLast failed old line new written = Runs old line new written × EndsAt failed (asked old line) old new written
-
--- what is written of a line that was not done, by the number of its fault: with one it is refused, and without one
--- the output failed at its text. No part of what is promised
-abbrev pub WritesFault : Option ℕ → SinkState → SinkState → Written → Type 0
-WritesFault None out0 out1 written = FailsIn out0 out1 written.output × (written.refusal ≡ None)
-WritesFault (Some code) out0 out1 written =
-    Takes out0 out1 written.output × (written.refusal ≡ Some (fault_text code))
-
-abbrev pub WritesAs : Result (Unit {0}) PrintFault → SinkState → SinkState → Written → Type 0
-WritesAs (Ok done) out0 out1 written = Takes out0 out1 written.output × (written.refusal ≡ None)
-WritesAs (Err f) out0 out1 written = WritesFault (print_code f) out0 out1 written
-
--- a line of whose fault no number is known is a print
-abbrev pub PrintsUnless : Result (Unit {0}) PrintFault → Result Request Fault → Type 0
-PrintsUnless (Ok done) asks = Unit {0}
-PrintsUnless (Err f) asks = print_code f ≡ None → AsksToPrint asks
-
--- a line that asks for this ends as it may, and writes its text. No part of what is promised
-pub record Writes (asks : Result Request Fault) (old new : State) (out0 out1 : SinkState) (result : Result (Unit {0}) PrintFault) : Type 0 where
-  pub written : Written
-  pub ends : Ends asks old new written
-  pub writes : WritesAs result out0 out1 written
-  pub prints : PrintsUnless result asks

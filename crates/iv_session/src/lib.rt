@@ -1,7 +1,7 @@
 //! Scripts of a session: the lines by which a curator corrects a track and prints its views.
 #![tactic(auto)]
 
-mod laws;
+mod lemmas;
 mod line;
 mod request;
 mod script;
@@ -13,5 +13,5 @@ pub use iv_text::Fault;
 pub use iv_track::EditFault;
 pub use iv_view::{KeptView, View as ViewWords, ViewFault, WrittenView};
 pub use iv_workspace::{Accepted, PrintFault, ResizeFault, SecondFault, Session};
-pub use laws::{first_over_is_first, sizes_are_of_lines, too_long_is_exact};
+pub use lemmas::{first_over_is_first, sizes_are_of_lines, too_long_is_exact};
 pub use script::{RunCause, RunFault, ScriptLimits, Summary, run_script};

@@ -7,8 +7,10 @@ ghost use Rattle.iv_text.specs.Read.{Fits, read_columns};
 ghost use Rattle.iv_workspace.specs.Edits.{EditFits};
 ghost use Rattle.iv_workspace.specs.States.{State};
 ghost use Rattle.iv_session.specs.EditLines.{both, edit_said, read_two};
-ghost use Rattle.iv_session.specs.Requests.{asked, asked_by, edit_asked, length_said, name_and_length, no_fields, of_fields, only_field, two_fields as two_of, RequestFits};
+ghost use Rattle.iv_session.specs.Requests.{asked, asked_by, edit_asked, length_said, name_and_length, no_fields, of_fields, only_field, two_fields as two_of};
+ghost use Rattle.iv_session.specs.Inside.Requests.{RequestFits};
 ghost use Rattle.iv_session.specs.declared.request.Request.TheVariants as request;
+ghost use Rattle.iv_text.specs.Widths.{IsWidth};
 
 use iv_text::{
     Fault, Genome, MOST_LENGTH, RecordRef, columns, read_number, read_record, split_first_column,
@@ -231,7 +233,7 @@ fn read_edit<'a, A: Allocator + Copy>(
     kind: EditKind,
     fields: Option<&'a [u8]>,
 ) -> Result<Edit<'a>, Fault>
-    requires { (3 ≤ width) × (width ≤ 6) }
+    requires { IsWidth width }
     ensures value { result ≡ edit_said genome.now width kind (fields_left tab fields.entry) }
     ensures fits { IfOk result (EditFits (Fits genome.now width)) }
 {
@@ -251,7 +253,7 @@ fn one_row<'a, A: Allocator + Copy>(
     width: u8,
     fields: Option<&'a [u8]>,
 ) -> Result<RecordRef<'a>, Fault>
-    requires { (3 ≤ width) × (width ≤ 6) }
+    requires { IsWidth width }
     ensures value { result ≡ read_columns genome.now width (fields_left tab fields.entry) }
     ensures fits { IfOk result (Fits genome.now width) }
 {
@@ -281,7 +283,7 @@ fn two_rows<'a, A: Allocator + Copy>(
     width: u8,
     fields: Option<&'a [u8]>,
 ) -> Result<(RecordRef<'a>, RecordRef<'a>), Fault>
-    requires { (3 ≤ width) × (width ≤ 6) }
+    requires { IsWidth width }
     ensures value { result ≡ read_two genome.now width (fields_left tab fields.entry) }
     ensures first { IfOk result (λ rows. Fits genome.now width rows.0) }
     ensures second { IfOk result (λ rows. Fits genome.now width rows.1) }

@@ -9,7 +9,7 @@ use Rattle.std.specs.List.Sorted.{IsSorted}
 use Rattle.std.specs.declared.cmp.Ordering.{Ordering}
 use Rattle.std.proofs.lemmas.Bool.{false≢true}
 use Rattle.std.proofs.lemmas.List.{drop_more}
-use Rattle.iv_text.specs.Batches.{items_of, HasItem, comes_below, ascends, last_of}
+use Rattle.iv_text.specs.Inside.Batches.{items_of, HasItem, comes_below, ascends, last_of}
 
 -- ---- order
 

@@ -9,7 +9,7 @@ use Rattle.iv_text.specs.Fields.{columns}
 use Rattle.iv_text.specs.Lines.{lines}
 use Rattle.iv_text.specs.Genome.{Sequences}
 use Rattle.iv_text.specs.Read.{has_fault, faults, row, or_fault}
-use Rattle.iv_text.specs.Row.{Row}
+use Rattle.iv_text.specs.RecordValue.{RecordValue}
 use Rattle.iv_text.specs.BedFile.{is_unread, is_width, with_row, Bed, Draft, drafted, width_at, after_row, after_rows, finished, bed_of}
 use Rattle.iv_text.specs.FileLaws.{HaveNoCause, IsFirstFault, record_lines, first_width, rows_of, bed_from, width_after, has_row_cause, row_causes, row_cause}
 use Rattle.iv_text.specs.declared.fault.Fault.{Fault}
@@ -38,7 +38,7 @@ with_line g d line = record { width = Some (width_at d line); rows = d.rows ++ r
 draft-push : (g : Sequences) (said : List (List ℕ)) (line : List ℕ) → draft_of g (said ++ line ∷ []) ≡ with_line g (draft_of g said) line
 draft-push g [] line = refl
 draft-push g (l ∷ said) line =
-    ap {B = Draft} (λ (rows : List Row). record { width = Some (length (columns l)); rows = row g (length (columns l)) (columns l) ∷ rows })
+    ap {B = Draft} (λ (rows : List RecordValue). record { width = Some (length (columns l)); rows = row g (length (columns l)) (columns l) ∷ rows })
     (map-append (λ (m : List ℕ). row g (length (columns l)) (columns m)) said (line ∷ []))
 
 draft-unread : (g : Sequences) (before : List (List ℕ)) (line : List ℕ) → is_unread line ≡ true → draft g (before ++ line ∷ []) ≡ draft g before
@@ -81,7 +81,7 @@ abbrev outcome : Draft → Option LoadCause → Result Draft LoadCause
 outcome more None = Ok more
 outcome more (Some c) = Err c
 
-row-by : (limit w : ℕ) (rows : List Row) (r : Row) (fits : Bool) (f : Option Fault)
+row-by : (limit w : ℕ) (rows : List RecordValue) (r : RecordValue) (fits : Bool) (f : Option Fault)
     → cond fits (drafted w (with_row limit rows (or_fault f r))) (Err cause.Columns) ≡ outcome (record { width = Some w; rows = rows ++ r ∷ [] }) (cause_by fits f (nat_le limit (length rows)))
 row-by limit w rows r false f = refl
 row-by limit w rows r true (Some f) = refl

@@ -8,7 +8,7 @@ use Rattle.std.proofs.lemmas.List.{take_more}
 use Rattle.std.proofs.lemmas.List.Elements.{All-append, All-cons, All-nil}
 use Rattle.std.proofs.lemmas.Simd.{length-chunk, bitmask_splat, trailing_mask_l, run_in_chunk_fails, run_in_chunk_le}
 use Rattle.std.specs.List.{prefix_len}
-use Rattle.iv_text.specs.OnePass.{IsCell, ends_cell}
+use Rattle.iv_text.specs.Inside.OnePass.{IsCell, ends_cell}
 
 -- one more byte that no cell ends at
 pub cell-more : (text : List ℕ) (k : ℕ) → k < length text → IsCell (take k text) → ends_cell (get_or text k 0) ≡ false → IsCell (take (k + 1) text)

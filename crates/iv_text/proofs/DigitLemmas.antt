@@ -13,7 +13,7 @@ use Rattle.std.specs.Char.{is_ascii_digit}
 use Rattle.std.specs.List.{prefix_len}
 use Rattle.std.specs.Str.{all_ascii_digits}
 use Rattle.iv_text.specs.Number.{decimal_from}
-use Rattle.iv_text.specs.OnePass.{BeginsWithNumber}
+use Rattle.iv_text.specs.Inside.OnePass.{BeginsWithNumber}
 use Rattle.iv_text.proofs.OnePassLemmas.{decimal-more, digit-bound, digits-more, number-is, rest-whole}
 
 -- digits at each index below n are n digits in a row

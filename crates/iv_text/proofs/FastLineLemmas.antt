@@ -15,15 +15,16 @@ use Rattle.std.specs.Str.{all_ascii_digits, bytes_eq}
 use Rattle.iv_text.proofs.LineLemmas.{strip-is, strip-more, lines-line}
 use Rattle.iv_text.proofs.OnePassLemmas.{and_true, number-digits, column-last, column-more, line-read, record_of}
 use Rattle.iv_text.specs.BedFile.{is_unread, is_headed, track_word, browser_word}
-use Rattle.iv_text.specs.Fields.{HasNoTab, is_separator}
+use Rattle.iv_text.specs.Fields.{is_separator}
+use Rattle.iv_text.specs.Inside.Fields.{HasNoTab}
 use Rattle.iv_text.specs.Genome.{Sequences, length_at}
 use Rattle.iv_text.specs.Lines.{lines, HasNoFeed}
-use Rattle.iv_text.specs.OnePass.{AreBehind, BeginsWithPlace, BeginsWithCell, BeginsWithCells, IsCell, ends_cell, laid}
+use Rattle.iv_text.specs.Inside.OnePass.{AreBehind, BeginsWithPlace, BeginsWithCell, BeginsWithCells, IsCell, ends_cell, laid}
 use Rattle.iv_text.specs.GenomeFile.{begins_with}
 use Rattle.iv_text.specs.Read.{column, bad_text, is_line_byte}
-use Rattle.iv_text.specs.Row.{strand_of}
-use Rattle.iv_text.specs.ShortLine.{IsShortLine}
-use Rattle.iv_text.specs.declared.record_reader.ShortLine.{ShortLine}
+use Rattle.iv_text.specs.RecordValue.{strand_of}
+use Rattle.iv_text.specs.FastLine.{IsShortLine}
+use Rattle.iv_text.specs.declared.record_reader.FastLine.{FastLine}
 
 -- ---- bytes that are no end of a line
 
@@ -255,7 +256,7 @@ first-byte text some = grind (arith, common_steps)
 
 -- ---- a line of a record
 
-pub short-line : (g : Sequences) (w : ℕ) (text next : List ℕ) (l : ShortLine) (rest end : List ℕ) → BeginsWithPlace g text l.seq l.start l.stop rest → BeginsWithCells w rest end
+pub short-line : (g : Sequences) (w : ℕ) (text next : List ℕ) (l : FastLine) (rest end : List ℕ) → BeginsWithPlace g text l.seq l.start l.stop rest → BeginsWithCells w rest end
     → (end ≡ 10 ∷ next) ⊎ (end ≡ 13 ∷ 10 ∷ next) → l.size ≡ length text - length next → IsShortLine g w text l
 short-line g w text next l rest end place after feed size_is =
     let cells : List (List ℕ) = after.cells in

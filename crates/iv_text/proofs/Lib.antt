@@ -9,12 +9,12 @@ pub mod FileLawLemmas
 pub mod DigitLemmas
 pub mod CellLemmas
 pub mod OnePassLemmas
-pub mod ShortLemmas
+pub mod FastLineLemmas
 pub mod BedLemmas
-pub mod KeptLemmas
+pub mod BedReadingLemmas
 pub mod BatchLemmas
 pub mod BedLawLemmas
-pub mod RowLemmas
+pub mod RecordLemmas
 pub mod OrderedLemmas
 pub mod ListLemmas
 pub mod InOrderLemmas

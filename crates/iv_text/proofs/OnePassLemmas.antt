@@ -10,8 +10,8 @@ use Rattle.std.specs.Char.{is_ascii_digit}
 use Rattle.std.specs.Str.{all_ascii_digits}
 use Rattle.iv_text.specs.Fields.{columns, is_separator}
 use Rattle.iv_text.specs.Number.{number, decimal_from}
-use Rattle.iv_text.specs.Fields.{HasNoTab}
-use Rattle.iv_text.specs.OnePass.{AreBehind, BeginsWithNumber, BeginsWithPlace, IsNamed}
+use Rattle.iv_text.specs.Inside.Fields.{HasNoTab}
+use Rattle.iv_text.specs.Inside.OnePass.{AreBehind, BeginsWithNumber, BeginsWithPlace, IsNamed}
 use Rattle.iv_text.specs.declared.record_ref.Strand.{Strand}
 use Rattle.std.specs.Borrow.{Bor}
 use Rattle.std.specs.Prelude.{MatchOption, IfSome, IsSome}
@@ -21,8 +21,9 @@ use Rattle.iv_text.specs.declared.fault.Fault.{Fault}
 use Rattle.iv_text.specs.declared.fault.Fault.TheVariants as fault
 use Rattle.std.specs.Cmp.Lexicographic.{same_text, pointwise}
 use Rattle.iv_text.specs.Genome.{Sequences, rank_of, length_at}
-use Rattle.iv_text.specs.Read.{read, row, column, or_fault, has_fault, faults, bad_text, number_in, length_of, AreColumns, AreSound}
-use Rattle.iv_text.specs.Row.{Row, IsRow, strand_of}
+use Rattle.iv_text.specs.Read.{read, row, column, or_fault, has_fault, faults, bad_text, number_in, length_of, AreSound}
+use Rattle.iv_text.specs.Inside.Read.{AreColumns}
+use Rattle.iv_text.specs.RecordValue.{RecordValue, IsRecord, strand_of}
 use Rattle.std.proofs.lemmas.List.{take-append-drop, get_or_past}
 
 -- ---- digits
@@ -157,7 +158,7 @@ none-found : (t : Fault → Bool) → t fault.Columns ≡ false → t fault.Unkn
 none-found t h1 h2 h3 h4 h5 h6 h7 h8 h9 = simp (h1, h2, h3, h4, h5, h6, h7, h8, h9)
 
 -- the record of these columns
-abbrev pub record_of : ℕ → ℕ → ℕ → List ℕ → List ℕ → Option Strand → ℕ → Row
+abbrev pub record_of : ℕ → ℕ → ℕ → List ℕ → List ℕ → Option Strand → ℕ → RecordValue
 record_of rank from to name score strand w = record { seq = rank; start = from; stop = to; name = name; score = score; strand = strand; width = w }
 
 sound-line : (g : Sequences) (w : ℕ) (line seq start stop name score sixth : List ℕ) (rank from to len : ℕ) (strand : Option Strand)
@@ -166,7 +167,7 @@ sound-line : (g : Sequences) (w : ℕ) (line seq start stop name score sixth : L
     → read g w line ≡ Ok (record_of rank from to name score strand w)
 sound-line g w line seq start stop name score sixth rank from to len strand cols rank_is length_is start_is stop_is strand_is some within sound =
     let cs = columns line in
-    let r : Row = row g w cs in
+    let r : RecordValue = row g w cs in
     let ranked : rank_of g (column cs 0) ≡ Some rank = ap (rank_of g) cols.seq_is ∙ rank_is in
     let starts : number (column cs 1) ≡ Some from = ap number cols.start_is ∙ start_is in
     let stops : number (column cs 2) ≡ Some to = ap number cols.stop_is ∙ stop_is in
@@ -191,7 +192,7 @@ sound-line g w line seq start stop name score sixth rank from to len strand cols
 
 -- the columns beyond the width are empty
 pub row-of : (w : ℕ) (cs : List (List ℕ)) (seq start stop name score sixth : List ℕ) (rank from to : ℕ) (strand : Option Strand)
-    → AreColumns w cs seq start stop name score sixth → strand ≡ strand_of sixth → from < to → IsRow (record_of rank from to name score strand w)
+    → AreColumns w cs seq start stop name score sixth → strand ≡ strand_of sixth → from < to → IsRecord (record_of rank from to name score strand w)
 row-of w cs seq start stop name score sixth rank from to strand cols strand_is some = record {
   some = some;
   no_name = λ h. sym cols.name_is ∙ get_or_past cs 3 [] (omega (arith, cols.count));
@@ -214,24 +215,24 @@ line-read g w line rest name score sixth others rank from to strand place after 
 
 -- ---- a line that was read names its record's sequence
 
-or_fault-ok : (o : Option Fault) (q r : Row) → or_fault o q ≡ Ok r → q ≡ r
+or_fault-ok : (o : Option Fault) (q r : RecordValue) → or_fault o q ≡ Ok r → q ≡ r
 or_fault-ok None q r h = cc
 or_fault-ok (Some f) q r h = cc
 
-or_fault-hit : (o : Option Fault) (f : Fault) (q r : Row) → o ≡ Some f → or_fault o q ≡ Ok r → ⊥
+or_fault-hit : (o : Option Fault) (f : Fault) (q r : RecordValue) → o ≡ Some f → or_fault o q ≡ Ok r → ⊥
 or_fault-hit None f q r is h = cc
 or_fault-hit (Some e) f q r is h = cc
 
 later_faults : List Fault
 later_faults = fault.StartNumber ∷ fault.StopNumber ∷ fault.Order ∷ fault.PastEnd ∷ fault.Name ∷ fault.Score ∷ fault.Strand ∷ []
 
-pub read-ranked : (g : Sequences) (w : ℕ) (line : List ℕ) (r : Row) → read g w line ≡ Ok r → rank_of g (column (columns line) 0) ≡ Some r.seq
+pub read-ranked : (g : Sequences) (w : ℕ) (line : List ℕ) (r : RecordValue) → read g w line ≡ Ok r → rank_of g (column (columns line) 0) ≡ Some r.seq
 unfolding later_faults
 read-ranked g w line r says = by (rank_of g (column (columns line) 0)) refl (has_fault g w (columns line) fault.Columns) refl
   where
     by : (o : Option ℕ) → rank_of g (column (columns line) 0) ≡ o → (b : Bool) → has_fault g w (columns line) fault.Columns ≡ b → rank_of g (column (columns line) 0) ≡ Some r.seq
     by (Some k) is b many =
-        is ∙ ap Some (sym (ap (λ (o : Option ℕ). unwrap_or o 0) is) ∙ ap (λ (q : Row). q.seq) (or_fault-ok (find (has_fault g w (columns line)) faults) (row g w (columns line)) r says))
+        is ∙ ap Some (sym (ap (λ (o : Option ℕ). unwrap_or o 0) is) ∙ ap (λ (q : RecordValue). q.seq) (or_fault-ok (find (has_fault g w (columns line)) faults) (row g w (columns line)) r says))
     by None is true many = absurd (or_fault-hit (find (has_fault g w (columns line)) faults) fault.Columns (row g w (columns line)) r (hit (has_fault g w (columns line)) fault.Columns (fault.UnknownSeq ∷ later_faults) many) says)
     by None is false many = absurd (or_fault-hit (find (has_fault g w (columns line)) faults) fault.UnknownSeq (row g w (columns line)) r
         (skip (has_fault g w (columns line)) fault.Columns (fault.UnknownSeq ∷ later_faults) many ∙ hit (has_fault g w (columns line)) fault.UnknownSeq later_faults (ap is_none is)) says)

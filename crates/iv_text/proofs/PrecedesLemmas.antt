@@ -5,10 +5,10 @@ use Rattle.std.specs.declared.cmp.Ordering.{Ordering}
 use Rattle.std.specs.declared.cmp.Ordering.TheVariants.{Less, Equal, Greater}
 use Rattle.std.proofs.lemmas.Cmp.{ranked, by_ranked}
 use Rattle.std.proofs.lemmas.Map.Keys.{le_from_is_le}
-use Rattle.iv_text.specs.Row.{Row, row_cmp}
+use Rattle.iv_text.specs.RecordValue.{RecordValue, record_cmp}
 
 -- q is before r in a track: on a sequence of a lower rank, or on the same sequence with no later start
-abbrev pub Precedes : Row → Row → Type 0
+abbrev pub Precedes : RecordValue → RecordValue → Type 0
 Precedes q r = (q.seq < r.seq) ⊎ ((q.seq ≡ r.seq) × (q.start ≤ r.start))
 
 then-le : (o p : Ordering) → is_le (ordering_then o p) ≡ true → (o ≡ Less) ⊎ ((o ≡ Equal) × (is_le p ≡ true))
@@ -27,7 +27,7 @@ less-from a b e = by_ranked (a < b) (a ≡ b) (b < a) (nat_cmp a b) (ranked a b 
 equal-from : (a b : ℕ) → nat_cmp a b ≡ Equal → a ≡ b
 equal-from a b e = by_ranked (a < b) (a ≡ b) (b < a) (nat_cmp a b) (ranked a b _ refl) (λ f _. cc) (λ _ l. l) (λ f _. cc)
 
-pub precedes-from : (q r : Row) → is_le (row_cmp q r) ≡ true → Precedes q r
+pub precedes-from : (q r : RecordValue) → is_le (record_cmp q r) ≡ true → Precedes q r
 precedes-from q r e = elim (then-le (nat_cmp q.seq r.seq) _ e) [
   | inl less ↦ inl (less-from q.seq r.seq less)
   | inr equal ↦ inr (equal-from q.seq r.seq equal.0, le_from_is_le q.start r.start (then-is_le (nat_cmp q.start r.start) _ equal.1))

@@ -1,17 +1,15 @@
 -- What the reading of a BED file in pieces keeps, and what the file says in the midst of it.
-use Rattle.std.specs.Prelude.{◌≡◌, ◌≤◌, ◌⊎◌, ℕ, ◌+◌, ◌%◌, ◌^◌, ◌++◌, All, MatchOption, List, [], ◌∷◌, Option, None, Result, Ok, Err, length, map, drop}
-use Rattle.iv_text.specs.Bytes.{line_feed}
+use Rattle.std.specs.Prelude.{◌≡◌, ◌≤◌, ℕ, ◌+◌, ◌%◌, ◌^◌, ◌++◌, All, MatchOption, List, [], ◌∷◌, Option, None, Result, Ok, Err, length, map, drop}
 use Rattle.iv_text.specs.BedFile.{Bed, Draft, after_rows, bed_of}
 use Rattle.iv_text.specs.Genome.{Sequences}
 use Rattle.iv_text.specs.Lines.{lines}
 use Rattle.iv_text.specs.Read.{read, Fits}
-use Rattle.iv_text.specs.Row.{Row}
-use Rattle.iv_text.specs.declared.fault.LoadCause.{LoadCause}
+use Rattle.iv_text.specs.RecordValue.{RecordValue}
 use Rattle.iv_text.specs.declared.fault.LoadFault.{LoadFault}
-use Rattle.iv_text.specs.declared.record_reader.ShortLine.{ShortLine}
+use Rattle.iv_text.specs.declared.record_reader.FastLine.{FastLine}
 
 -- the record is what some line of this width says, and it is where the line in one pass says
-pub record IsReadAt (width : ℕ) (l : ShortLine) (r : Row) : Type 0 where
+pub record IsReadAt (width : ℕ) (l : FastLine) (r : RecordValue) : Type 0 where
   pub genome : Sequences
   pub line : List ℕ
   pub reads : read genome width line ≡ Ok r
@@ -19,46 +17,46 @@ pub record IsReadAt (width : ℕ) (l : ShortLine) (r : Row) : Type 0 where
   pub start_is : l.start ≡ r.start
   pub stop_is : l.stop ≡ r.stop
 
--- a file with its records as they are kept
-abbrev pub kept_bed : (Row → Row) → Bed → Bed
-kept_bed kept b = record { width = b.width; rows = map kept b.rows }
+-- a file with its records projected
+abbrev pub projected_bed : (RecordValue → RecordValue) → Bed → Bed
+projected_bed kept b = record { width = b.width; rows = map kept b.rows }
 
 -- or the file's fault
-abbrev pub kept_or_fault : (Row → Row) → Result Bed LoadFault → Result Bed LoadFault
-kept_or_fault kept (Ok b) = Ok (kept_bed kept b)
-kept_or_fault kept (Err f) = Err f
+abbrev pub projected_or_fault : (RecordValue → RecordValue) → Result Bed LoadFault → Result Bed LoadFault
+projected_or_fault kept (Ok b) = Ok (projected_bed kept b)
+projected_or_fault kept (Err f) = Err f
 
--- the BED file that a text says, with its records as they are kept, or its first fault
-abbrev pub kept_bed_of : (Row → Row) → Sequences → ℕ → ℕ → List ℕ → Result Bed LoadFault
-kept_bed_of kept g empty limit text = kept_or_fault kept (bed_of g empty limit text)
+-- the BED file that a text says, with its records projected, or its first fault
+abbrev pub projected_bed_of : (RecordValue → RecordValue) → Sequences → ℕ → ℕ → List ℕ → Result Bed LoadFault
+projected_bed_of kept g empty limit text = projected_or_fault kept (bed_of g empty limit text)
 
--- lines that were read: the number of the next one, their width, once there is a record, and their records as they are kept
+-- lines that were read: the number of the next one, their width, once there is a record, and their records projected
 pub record LinesRead : Type 0 where
   pub number : ℕ
   pub width : Option ℕ
-  pub rows : List Row
+  pub rows : List RecordValue
 
--- what is known of the file, with its records as they are kept
+-- what is known of the file, with its records projected
 abbrev pub known : LinesRead → Draft
 known l = record { width = l.width; rows = l.rows }
 
--- what is known of a file, with its records as they are kept, or its first fault
-abbrev pub kept_draft : (Row → Row) → Result Draft LoadFault → Result Draft LoadFault
-kept_draft kept (Ok d) = Ok (record { width = d.width; rows = map kept d.rows })
-kept_draft kept (Err f) = Err f
+-- what is known of a file, with its records projected, or its first fault
+abbrev pub projected_draft : (RecordValue → RecordValue) → Result Draft LoadFault → Result Draft LoadFault
+projected_draft kept (Ok d) = Ok (record { width = d.width; rows = map kept d.rows })
+projected_draft kept (Err f) = Err f
 
--- what is known after these lines too, with records as they are kept, or the first fault
-abbrev pub after : (Row → Row) → Sequences → ℕ → LinesRead → List (List ℕ) → Result Draft LoadFault
-after kept g limit l rest = kept_draft kept (after_rows g limit l.number (known l) rest)
+-- what is known after these lines too, with records projected, or the first fault
+abbrev pub after : (RecordValue → RecordValue) → Sequences → ℕ → LinesRead → List (List ℕ) → Result Draft LoadFault
+after kept g limit l rest = projected_draft kept (after_rows g limit l.number (known l) rest)
 
--- what is kept of a record of this width on the genome
-abbrev pub IsKept : (Row → Row) → Sequences → ℕ → Row → Type 0
-IsKept kept g width k = (r : Row) × Fits g width r × (k ≡ kept r)
+-- what is held of a record of this width on the genome
+abbrev pub IsProjected : (RecordValue → RecordValue) → Sequences → ℕ → RecordValue → Type 0
+IsProjected kept g width k = (r : RecordValue) × Fits g width r × (k ≡ kept r)
 
--- what was read is sound: a width of three columns to six, once there is a record; what is kept of records of that width on the
+-- what was read is sound: a width of three columns to six, once there is a record; what is held of records of that width on the
 -- genome; and not more than the limit
-pub record AreSound (kept : Row → Row) (g : Sequences) (limit : ℕ) (l : LinesRead) : Type 0 where
-  pub fit : MatchOption l.width (l.rows ≡ []) (λ w. (3 ≤ w) × (w ≤ 6) × All (IsKept kept g w) l.rows)
+pub record AreSound (kept : RecordValue → RecordValue) (g : Sequences) (limit : ℕ) (l : LinesRead) : Type 0 where
+  pub fit : MatchOption l.width (l.rows ≡ []) (λ w. (3 ≤ w) × (w ≤ 6) × All (IsProjected kept g w) l.rows)
   pub few : length l.rows ≤ limit
 
 -- the byte at which a line begins, as far as 32 bits tell it: so many bytes after another
@@ -70,7 +68,7 @@ abbrev pub BeginsAfter : ℕ → ℕ → ℕ → Type 0
 BeginsAfter at size next = (skipped : ℕ) → byte_after next skipped ≡ byte_after at (size + skipped)
 
 -- lines that were read: the number of the next one, the byte at which it begins, the width of the records, once there is one, and
--- what is kept of each record
+-- what is held of each record
 pub record Held (K : Type 0) : Type 0 where
   pub number : ℕ
   pub at : ℕ
@@ -82,44 +80,25 @@ abbrev pub none_held : {K : Type 0} → Held K
 none_held = record { number = 1; at = 0; width = None; kept = [] }
 
 -- the same lines, if this is the record that something kept stands for
-abbrev pub shown : {K : Type 0} → (K → Row) → Held K → LinesRead
+abbrev pub shown : {K : Type 0} → (K → RecordValue) → Held K → LinesRead
 shown row_of h = record { number = h.number; width = h.width; rows = map row_of h.kept }
 
--- the first of these lines was read, and those others are left: whatever comes after them, and whatever the line's number is
-abbrev pub Takes : (Row → Row) → Sequences → ℕ → LinesRead → LinesRead → List (List ℕ) → List (List ℕ) → Type 0
-Takes kept g limit old new all left =
-    (n : ℕ) (rest : List (List ℕ)) → kept_draft kept (after_rows g limit n (known old) (all ++ rest)) ≡ kept_draft kept (after_rows g limit (n + 1) (known new) (left ++ rest))
-
--- the first of these lines is the first faulty one, and this is its cause
-abbrev pub Refuses : (Row → Row) → Sequences → ℕ → LinesRead → List (List ℕ) → LoadCause → Type 0
-Refuses kept g limit old all c = (n : ℕ) (rest : List (List ℕ)) → kept_draft kept (after_rows g limit n (known old) (all ++ rest)) ≡ Err (record { line = n; cause = c })
-
-module _ {K : Type 0} (kept_of : Row → ℕ → K) (g : Sequences) where
+module _ {K : Type 0} (held_of : RecordValue → ℕ → K) (g : Sequences) where
   -- a way to show what is kept as records: of a record in this text, whose first line begins at this byte, it shows what is to be kept
-  pub record Shows (kept : Row → Row) (row_of : K → Row) (at : ℕ) (text : List ℕ) : Type 0 where
-    pub again : (r : Row) → kept (kept r) ≡ kept r
-    pub shows : (skipped w : ℕ) (line : List ℕ) (others : List (List ℕ)) (r : Row) → lines (drop skipped text) ≡ line ∷ others → read g w line ≡ Ok r
-        → row_of (kept_of r (byte_after at skipped)) ≡ kept r
-
-  -- the first line of a text was read, and what is left of the text is after so many bytes, however what is kept is shown
-  abbrev pub TakesLine : ℕ → Held K → Held K → List ℕ → ℕ → Type 0
-  TakesLine limit old new text size = (kept : Row → Row) (row_of : K → Row) → Shows kept row_of old.at text
-      → (AreSound kept g limit (shown row_of old) → AreSound kept g limit (shown row_of new))
-      × Takes kept g limit (shown row_of old) (shown row_of new) (lines text) (lines (drop size text))
-
-  -- the first line of a text is the first faulty one, and this is its cause
-  abbrev pub RefusesLine : ℕ → Held K → List ℕ → LoadCause → Type 0
-  RefusesLine limit old text c = (kept : Row → Row) (row_of : K → Row) → Refuses kept g limit (shown row_of old) (lines text) c
+  pub record Shows (kept : RecordValue → RecordValue) (row_of : K → RecordValue) (at : ℕ) (text : List ℕ) : Type 0 where
+    pub again : (r : RecordValue) → kept (kept r) ≡ kept r
+    pub shows : (skipped w : ℕ) (line : List ℕ) (others : List (List ℕ)) (r : RecordValue) → lines (drop skipped text) ≡ line ∷ others → read g w line ≡ Ok r
+        → row_of (held_of r (byte_after at skipped)) ≡ kept r
 
   -- all lines of a text were read, whatever lines come after them, and however what is kept is shown
   abbrev pub TakesLines : ℕ → Held K → Held K → List ℕ → Type 0
-  TakesLines limit old new text = (kept : Row → Row) (row_of : K → Row) → Shows kept row_of old.at text
+  TakesLines limit old new text = (kept : RecordValue → RecordValue) (row_of : K → RecordValue) → Shows kept row_of old.at text
       → (AreSound kept g limit (shown row_of old) → AreSound kept g limit (shown row_of new))
       × ((rest : List (List ℕ)) → after kept g limit (shown row_of old) (lines text ++ rest) ≡ after kept g limit (shown row_of new) rest)
 
   -- the lines of a text have a fault, and this is the first, whatever comes after them
   abbrev pub RefusesLines : ℕ → Held K → List ℕ → LoadFault → Type 0
-  RefusesLines limit old text f = (kept : Row → Row) (row_of : K → Row) → Shows kept row_of old.at text
+  RefusesLines limit old text f = (kept : RecordValue → RecordValue) (row_of : K → RecordValue) → Shows kept row_of old.at text
       → (rest : List (List ℕ)) → after kept g limit (shown row_of old) (lines text ++ rest) ≡ Err f
 
 -- a file of which some bytes have come: its lines that were read, and the bytes of a line that isn't ended yet
@@ -131,18 +110,10 @@ pub record Reading : Type 0 where
 abbrev pub begun : Reading
 begun = record { read = record { number = 1; width = None; rows = [] }; tail = [] }
 
--- what the file says if these bytes remain, with its records as they are kept, or its first fault
-abbrev pub coming : (Row → Row) → Sequences → ℕ → Reading → List ℕ → Result Draft LoadFault
+-- what the file says if these bytes remain, with its records projected, or its first fault
+abbrev pub coming : (RecordValue → RecordValue) → Sequences → ℕ → Reading → List ℕ → Result Draft LoadFault
 coming kept g limit r more = after kept g limit r.read (lines (r.tail ++ more))
 
 -- more than the number of lines that have come, and no more than one and the number of bytes
 abbrev pub size_of : Reading → ℕ
 size_of r = r.read.number + length r.tail
-
--- the bytes end at a line feed
-abbrev pub EndsAtFeed : List ℕ → Type 0
-EndsAtFeed bytes = (front : List ℕ) × (bytes ≡ front ++ line_feed ∷ [])
-
--- the bytes are lines that are ended, each by its line feed, or there are none
-abbrev pub IsEnded : List ℕ → Type 0
-IsEnded bytes = (bytes ≡ []) ⊎ EndsAtFeed bytes

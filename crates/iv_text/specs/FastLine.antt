@@ -4,13 +4,13 @@ use Rattle.iv_text.specs.BedFile.{is_unread}
 use Rattle.iv_text.specs.Genome.{Sequences}
 use Rattle.iv_text.specs.Lines.{lines}
 use Rattle.iv_text.specs.Read.{read, Fits}
-use Rattle.iv_text.specs.Row.{Row}
-use Rattle.iv_text.specs.declared.record_reader.ShortLine.{ShortLine}
+use Rattle.iv_text.specs.RecordValue.{RecordValue}
+use Rattle.iv_text.specs.declared.record_reader.FastLine.{FastLine}
 
 -- the first line of the text says a record of this width that is here, and the next line begins so many bytes further on
-pub record IsShortLine (g : Sequences) (width : ℕ) (text : List ℕ) (l : ShortLine) : Type 0 where
+pub record IsShortLine (g : Sequences) (width : ℕ) (text : List ℕ) (l : FastLine) : Type 0 where
   pub line : List ℕ
-  pub row : Row
+  pub row : RecordValue
   pub lines_are : lines text ≡ line ∷ lines (drop l.size text)
   pub some : 0 < l.size
   pub within : l.size ≤ length text

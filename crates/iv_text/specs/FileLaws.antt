@@ -3,7 +3,7 @@ use Rattle.std.specs.Prelude.{◌≡◌, ℕ, ◌+◌, ◌++◌, nat_le, not, Bo
 use Rattle.iv_text.specs.Fields.{columns}
 use Rattle.iv_text.specs.Genome.{Sequences}
 use Rattle.iv_text.specs.GenomeFile.{is_skipped, has_cause, causes, sequence}
-use Rattle.iv_text.specs.Row.{Row}
+use Rattle.iv_text.specs.RecordValue.{RecordValue}
 use Rattle.iv_text.specs.Read.{has_fault, faults, row}
 use Rattle.iv_text.specs.BedFile.{is_unread, is_width, Bed}
 use Rattle.iv_text.specs.declared.fault.LoadCause.{LoadCause}
@@ -41,7 +41,7 @@ abbrev pub first_width : List (List ℕ) → Option ℕ
 first_width lines = option_map (λ line. length (columns line)) (slice_get (record_lines lines) 0)
 
 -- the records that lines say, all of that width
-abbrev pub rows_of : Sequences → List (List ℕ) → List Row
+abbrev pub rows_of : Sequences → List (List ℕ) → List RecordValue
 rows_of g lines = map (λ line. row g (unwrap_or (first_width lines) 0) (columns line)) (record_lines lines)
 
 -- the BED file that lines say; if none says a record, its width is the one handed in

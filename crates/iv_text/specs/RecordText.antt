@@ -2,7 +2,7 @@
 use Rattle.std.specs.Prelude.{ℕ, ◌++◌, ◌-◌, List, [], ◌∷◌, Option, None, Some, take, codes, decimal}
 use Rattle.std.specs.List.{flat_map}
 use Rattle.iv_text.specs.Genome.{Sequences, sequence_name}
-use Rattle.iv_text.specs.Row.{Row, strand_byte}
+use Rattle.iv_text.specs.RecordValue.{RecordValue, strand_byte}
 use Rattle.iv_text.specs.declared.record_ref.Strand.{Strand}
 
 -- the sixth column of a record with this strand
@@ -15,7 +15,7 @@ abbrev pub tabbed : ℕ → List (List ℕ) → List ℕ
 tabbed width columns = flat_map (λ column. codes "\t" ++ column) (take (width - 3) columns)
 
 -- the columns of a record after the third, each with a TAB in front of it
-abbrev pub rest_text : Row → List ℕ
+abbrev pub rest_text : RecordValue → List ℕ
 rest_text r = tabbed r.width (r.name ∷ r.score ∷ strand_text r.strand ∷ [])
 
 -- the columns of an interval: the name of its sequence, start and stop, with a TAB between two of them
@@ -23,9 +23,9 @@ abbrev pub interval_text : List ℕ → ℕ → ℕ → List ℕ
 interval_text name start stop = name ++ codes "\t" ++ decimal start ++ codes "\t" ++ decimal stop
 
 -- the first three columns of a record on this genome
-abbrev pub place_text : Sequences → Row → List ℕ
+abbrev pub place_text : Sequences → RecordValue → List ℕ
 place_text g r = interval_text (sequence_name g r.seq) r.start r.stop
 
 -- the columns of a record on this genome, with a TAB between two of them
-abbrev pub record_text : Sequences → Row → List ℕ
+abbrev pub record_text : Sequences → RecordValue → List ℕ
 record_text g r = place_text g r ++ rest_text r

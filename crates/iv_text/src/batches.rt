@@ -4,7 +4,7 @@ ghost use Rattle.std.specs.Iterator.{YieldsFirst, item_count};
 ghost use Rattle.std.specs.List.Sorted.{IsSorted};
 ghost use Rattle.std.specs.Option.{option_copied, option_to_list};
 ghost use Rattle.std.specs.Vec.Iter.{into_iter_items, into_iter_len};
-ghost use Rattle.iv_text.specs.Batches.{HasItem, TakesVector, ascends, comes_below, items_of};
+ghost use Rattle.iv_text.specs.Inside.Batches.{HasItem, TakesVector, ascends, comes_below, items_of};
 
 use std::alloc::{AllocError, Allocator, Global};
 use std::cmp::Ordering;
@@ -27,7 +27,7 @@ pub struct Batches<T, A: Allocator = Global> {
 
 impl<T, A: Allocator> Model for Batches<T, A> {
     ghost use Rattle.std.specs.Prelude.{◌≡◌, ◌++◌, All, List, length};
-    ghost use Rattle.iv_text.specs.Batches.{HasItem, items_of};
+    ghost use Rattle.iv_text.specs.Inside.Batches.{HasItem, items_of};
 
     ghost Value = { List T };
 
@@ -227,7 +227,7 @@ impl<T, A: Allocator> Model for BatchItems<T, A> {
     ghost use Rattle.std.specs.Prelude.{◌≡◌, ◌++◌, All, List, length};
     ghost use Rattle.std.specs.Option.{option_to_list};
     ghost use Rattle.std.specs.Vec.Iter.{into_iter_items, into_iter_len};
-    ghost use Rattle.iv_text.specs.Batches.{HasItem, items_of};
+    ghost use Rattle.iv_text.specs.Inside.Batches.{HasItem, items_of};
 
     ghost Value = { List T };
 

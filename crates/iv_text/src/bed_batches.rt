@@ -1,5 +1,6 @@
 //! The records of a BED file in batches.
 ghost use Rattle.std.specs.Prelude.{◌≡◌, ◌≤◌};
+ghost use Rattle.iv_text.specs.Widths.{IsWidth};
 
 use crate::batches::Batches;
 use crate::record::Record;
@@ -16,6 +17,7 @@ pub struct BedBatches<A: Allocator = Global> {
 }
 
 impl<A: Allocator> Model for BedBatches<A> {
+    ghost use Rattle.iv_text.specs.Widths.{IsWidth};
     ghost use Rattle.std.specs.Prelude.{◌≤◌};
     ghost use Rattle.iv_text.specs.BedFile.{Bed};
 
@@ -23,13 +25,13 @@ impl<A: Allocator> Model for BedBatches<A> {
 
     ghost view = { λ b. record { width = b.width; rows = b.records } };
 
-    ghost invariant = { λ b. (3 ≤ b.width) × (b.width ≤ 6) };
+    ghost invariant = { λ b. IsWidth b.width };
 }
 
 impl<A: Allocator> BedBatches<A> {
     /// The BED file of records of so many columns, 3 to 6.
     pub fn of(width: u8, records: Batches<Record<A>, A>) -> BedBatches<A>
-        requires { (3 ≤ width) × (width ≤ 6) }
+        requires { IsWidth width }
         ensures { result ≡ record { width = width; rows = records } }
     {
         BedBatches { width, records }
@@ -38,7 +40,7 @@ impl<A: Allocator> BedBatches<A> {
     /// The number of columns of each record, 3 to 6.
     pub fn width(&self) -> u8
         ensures value { result ≡ self.now.width }
-        ensures known { (3 ≤ result) × (result ≤ 6) }
+        ensures known { IsWidth result }
     {
         self.width
     }

@@ -1,7 +1,8 @@
-//! Lines of a BED file, and what is kept of their records.
+//! Lines of a BED file, and what is held of their records.
 ghost use Rattle.std.specs.Prelude.{◌≡◌, ◌<◌, ℕ, IfOk, IfSome, refl, ◌≤◌, ◌+◌, ◌^◌, ◌⊎◌, ◌++◌, ◌∷◌, [], length, Some, IfErr, OnOk, MatchOption};
-ghost use Rattle.iv_text.specs.KeptDrafts.{IsReadAt, AreSound, BeginsAfter, RefusesLine, RefusesLines, TakesLine, TakesLines, byte_after, none_held, shown};
-ghost use Rattle.iv_text.specs.Row.{Row};
+ghost use Rattle.iv_text.specs.BedReading.{IsReadAt, AreSound, BeginsAfter, RefusesLines, TakesLines, byte_after, none_held, shown};
+ghost use Rattle.iv_text.specs.Inside.BedReading.{RefusesLine, TakesLine};
+ghost use Rattle.iv_text.specs.RecordValue.{RecordValue};
 ghost use Rattle.iv_text.specs.declared.fault.LoadCause.TheVariants as cause;
 
 use crate::batches::Batches;
@@ -9,48 +10,48 @@ use crate::fault::{LoadCause, LoadFault};
 use crate::genome::Genome;
 use crate::lines::{is_unread, split_line, width_for};
 use crate::record::Record;
-use crate::record_reader::{RecordReader, ShortLine};
+use crate::record_reader::{FastLine, RecordReader};
 use crate::record_ref::RecordRef;
 use std::alloc::{AllocError, Allocator};
 use std::marker::Model;
 
-/// What is kept of a record that was read: all its columns, or fewer.
+/// What is held of a record that was read: all its columns, or fewer.
 pub trait FromRecord<A: Allocator + Copy>: Sized + Drop {
-    /// A record as it is kept.
-    ghost kept: { Row → Row };
+    /// A record with only the columns that are held.
+    ghost projected: { RecordValue → RecordValue };
     /// The record that this is.
-    ghost as_row: { Self → Row };
-    /// What is kept of a record whose line begins at this byte.
-    ghost kept_of: { Row → ℕ → Self };
+    ghost as_record: { Self → RecordValue };
+    /// What is held of a record whose line begins at this byte.
+    ghost held_of: { RecordValue → ℕ → Self };
 
-    /// What is kept of a record whose line begins at this byte of its file. Bytes are counted with 32 bits: again from 0 after
+    /// What is held of a record whose line begins at this byte of its file. Bytes are counted with 32 bits: again from 0 after
     /// 4 GiB.
     fn from_record(alloc: A, read: &RecordRef<'_>, at: u32) -> Result<Self, AllocError>
-        ensures { IfOk result (λ one. one ≡ kept_of read.now at) };
+        ensures { IfOk result (λ one. one ≡ held_of read.now at) };
 
-    /// How many of them are kept in one vector before the next one is begun.
+    /// How many of them are in one vector before the next one is begun.
     fn most_in_batch() -> usize;
 
-    /// Whether the place of a record of this width is all that is kept of it.
-    fn is_place_alone(width: u8) -> bool;
+    /// Whether its interval is all that is held of a record of this width.
+    fn is_interval_alone(width: u8) -> bool;
 
-    /// What is kept of the record of a line of this width that begins at this byte, from its place. `None` says nothing.
-    fn from_place(alloc: A, width: u8, line: &ShortLine, at: u32) -> Option<Self>
+    /// What is held of the record of a line of this width that begins at this byte, from its interval. `None` leaves it open.
+    fn from_interval(alloc: A, width: u8, line: &FastLine, at: u32) -> Option<Self>
         requires { line.now.start < line.now.stop }
-        ensures { IfSome result (λ one. (r : Row) → IsReadAt width line.now r → one ≡ kept_of r at) };
+        ensures { IfSome result (λ one. (r : RecordValue) → IsReadAt width line.now r → one ≡ held_of r at) };
 
-    /// Of what is kept, all is kept.
-    ghost again: { (r : Row) → kept (kept r) ≡ kept r };
-    /// What is kept of a record stands for it, as it is kept.
-    ghost stands: { (r : Row) (at : ℕ) → as_row (kept_of r at) ≡ kept r };
+    /// A projected record is its own projection.
+    ghost again: { (r : RecordValue) → projected (projected r) ≡ projected r };
+    /// What is held of a record stands for its projection.
+    ghost stands: { (r : RecordValue) (at : ℕ) → as_record (held_of r at) ≡ projected r };
 }
 
 impl<A: Allocator + Copy> FromRecord<A> for Record<A> {
-    ghost kept = { λ r. r };
+    ghost projected = { λ r. r };
 
-    ghost as_row = { λ one. one };
+    ghost as_record = { λ one. one };
 
-    ghost kept_of = { λ r at. r };
+    ghost held_of = { λ r at. r };
 
     ghost again = { λ r. refl };
 
@@ -65,11 +66,11 @@ impl<A: Allocator + Copy> FromRecord<A> for Record<A> {
         2_048
     }
 
-    fn is_place_alone(width: u8) -> bool {
+    fn is_interval_alone(width: u8) -> bool {
         width == 3
     }
 
-    fn from_place(alloc: A, width: u8, line: &ShortLine, _at: u32) -> Option<Self> {
+    fn from_interval(alloc: A, width: u8, line: &FastLine, _at: u32) -> Option<Self> {
         if width != 3 {
             return None;
         }
@@ -78,9 +79,9 @@ impl<A: Allocator + Copy> FromRecord<A> for Record<A> {
     }
 }
 
-/// What lines of a BED file have said: how many columns their records have, and what is kept of these.
+/// What lines of a BED file have said: how many columns their records have, and what is held of these.
 #[derive(Drop)]
-pub struct KeptLines<K: FromRecord<A>, A: Allocator + Copy> {
+pub struct BedLines<K: FromRecord<A>, A: Allocator + Copy> {
     // The number of the next line, from 1.
     number: u64,
     // The byte at which the next line begins, with 32 bits.
@@ -89,32 +90,32 @@ pub struct KeptLines<K: FromRecord<A>, A: Allocator + Copy> {
     kept: Batches<K, A>,
 }
 
-impl<K: FromRecord<A>, A: Allocator + Copy> Model for KeptLines<K, A> {
-    ghost use Rattle.iv_text.specs.KeptDrafts.{Held};
+impl<K: FromRecord<A>, A: Allocator + Copy> Model for BedLines<K, A> {
+    ghost use Rattle.iv_text.specs.BedReading.{Held};
 
     ghost Value = { Held K };
 
     ghost view = { λ l. record { number = l.number; at = l.at; width = l.width; kept = l.kept } };
 }
 
-/// What is kept of a record whose line begins at this byte.
-fn kept_of<K: FromRecord<A>, A: Allocator + Copy>(
+/// What is held of a record whose line begins at this byte.
+fn held_of<K: FromRecord<A>, A: Allocator + Copy>(
     alloc: A,
     read: &RecordRef<'_>,
     at: u32,
 ) -> Result<K, LoadCause>
-    ensures ok { IfOk result (λ one. one ≡ K.kept_of read.now at) }
+    ensures ok { IfOk result (λ one. one ≡ K.held_of read.now at) }
     ensures err { IfErr result (λ c. c ≡ cause.Memory) }
 {
     Ok(K::from_record(alloc, read, at)?)
 }
 
-impl<K: FromRecord<A>, A: Allocator + Copy> KeptLines<K, A> {
+impl<K: FromRecord<A>, A: Allocator + Copy> BedLines<K, A> {
     /// No line was read.
     pub fn new(alloc: A) -> Self
         ensures { result ≡ none_held }
     {
-        KeptLines {
+        BedLines {
             number: 1,
             at: 0,
             width: None,
@@ -146,7 +147,7 @@ impl<K: FromRecord<A>, A: Allocator + Copy> KeptLines<K, A> {
         self.at = self.at.wrapping_add((size % 4_294_967_296) as u32);
     }
 
-    /// Takes what is kept of one more record of this width, unless there are as many as the limit.
+    /// Takes what is held of one more record of this width, unless there are as many as the limit.
     fn take_one(&mut self, limit: u32, width: u8, one: K) -> Result<(), LoadCause>
         ensures ok { OnOk result (self.new ≡ record self.old { width = Some width; kept = self.old.kept ++ one ∷ [] }) }
         ensures free { OnOk result (length self.old.kept < limit) }
@@ -164,38 +165,38 @@ impl<K: FromRecord<A>, A: Allocator + Copy> KeptLines<K, A> {
     /// Takes the first line of a text if a width is known, the reader reads the line in one pass, and the place of its record is
     /// all that is kept of it, and answers the line's size.
     #[inline(always)]
-    fn take_short(
+    fn take_fast(
         &mut self,
         alloc: A,
         reader: &RecordReader<'_, '_, A>,
         limit: u32,
         text: &[u8],
     ) -> Result<Option<usize>, LoadCause>
-        requires sound { AreSound K.kept reader.now limit (shown K.as_row self.old) }
+        requires sound { AreSound K.projected reader.now limit (shown K.as_record self.old) }
         ensures number { self.new.number ≡ self.old.number }
         ensures at { OnOk result (self.new.at ≡ self.old.at) }
         ensures ok { IfOk result (λ taken. MatchOption taken (self.new ≡ self.old)
-            (λ size. (0 < size) × (size ≤ length text.now) × TakesLine K.kept_of reader.now limit self.old self.new text.now size)) }
-        ensures err { IfErr result (λ c. (c ≡ cause.Memory) ⊎ RefusesLine K.kept_of reader.now limit self.old text.now c) }
+            (λ size. (0 < size) × (size ≤ length text.now) × TakesLine K.held_of reader.now limit self.old self.new text.now size)) }
+        ensures err { IfErr result (λ c. (c ≡ cause.Memory) ⊎ RefusesLine K.held_of reader.now limit self.old text.now c) }
     {
         let Some(width) = self.width() else {
             return Ok(None);
         };
-        if !K::is_place_alone(width) {
+        if !K::is_interval_alone(width) {
             return Ok(None);
         }
-        let Some(line) = reader.read_short(width, text) else {
+        let Some(line) = reader.read_fast(width, text) else {
             return Ok(None);
         };
         let at = self.at();
-        let Some(one) = K::from_place(alloc, width, &line, at) else {
+        let Some(one) = K::from_interval(alloc, width, &line, at) else {
             return Ok(None);
         };
         self.take_one(limit, width, one)?;
         Ok(Some(line.size))
     }
 
-    /// Takes the first line of a text, and what is kept of its record, if it says one. It answers the line's size.
+    /// Takes the first line of a text, and what is held of its record, if it says one. It answers the line's size.
     fn take_line<'t>(
         &mut self,
         alloc: A,
@@ -203,15 +204,15 @@ impl<K: FromRecord<A>, A: Allocator + Copy> KeptLines<K, A> {
         limit: u32,
         text: &'t [u8],
     ) -> Result<usize, LoadCause>
-        requires sound { AreSound K.kept reader.old limit (shown K.as_row self.old) }
+        requires sound { AreSound K.projected reader.old limit (shown K.as_record self.old) }
         requires some { 0 < length text.now }
         ensures same { reader.new ≡ reader.old }
         ensures number { self.new.number ≡ self.old.number }
         ensures at { OnOk result (self.new.at ≡ self.old.at) }
-        ensures ok { IfOk result (λ size. (0 < size) × (size ≤ length text.now) × TakesLine K.kept_of reader.old limit self.old self.new text.now size) }
-        ensures err { IfErr result (λ c. (c ≡ cause.Memory) ⊎ RefusesLine K.kept_of reader.old limit self.old text.now c) }
+        ensures ok { IfOk result (λ size. (0 < size) × (size ≤ length text.now) × TakesLine K.held_of reader.old limit self.old self.new text.now size) }
+        ensures err { IfErr result (λ c. (c ≡ cause.Memory) ⊎ RefusesLine K.held_of reader.old limit self.old text.now c) }
     {
-        if let Some(size) = self.take_short(alloc, reader, limit, text)? {
+        if let Some(size) = self.take_fast(alloc, reader, limit, text)? {
             return Ok(size);
         }
         let (line, size) = split_line(text);
@@ -226,7 +227,7 @@ impl<K: FromRecord<A>, A: Allocator + Copy> KeptLines<K, A> {
             Err(fault) => return Err(LoadCause::Record(fault)),
         };
         let at = self.at();
-        let one = kept_of(alloc, &record, at)?;
+        let one = held_of(alloc, &record, at)?;
         self.take_one(limit, width, one)?;
         Ok(size)
     }
@@ -243,13 +244,13 @@ impl<K: FromRecord<A>, A: Allocator + Copy> KeptLines<K, A> {
         limit: u32,
         text: &[u8],
     ) -> Result<(), LoadFault>
-        requires sound { AreSound K.kept genome.now limit (shown K.as_row self.old) }
+        requires sound { AreSound K.projected genome.now limit (shown K.as_record self.old) }
         requires few { self.old.number + length text.now < 2 ^ 64 }
-        ensures sound { OnOk result (AreSound K.kept genome.now limit (shown K.as_row self.new)) }
+        ensures sound { OnOk result (AreSound K.projected genome.now limit (shown K.as_record self.new)) }
         ensures few { OnOk result (self.new.number ≤ self.old.number + length text.now) }
         ensures at { OnOk result (BeginsAfter self.old.at (length text.now) self.new.at) }
-        ensures ok { OnOk result (TakesLines K.kept_of genome.now limit self.old self.new text.now) }
-        ensures err { IfErr result (λ f. (f ≡ record { line = 0; cause = cause.Memory }) ⊎ RefusesLines K.kept_of genome.now limit self.old text.now f) }
+        ensures ok { OnOk result (TakesLines K.held_of genome.now limit self.old self.new text.now) }
+        ensures err { IfErr result (λ f. (f ≡ record { line = 0; cause = cause.Memory }) ⊎ RefusesLines K.held_of genome.now limit self.old text.now f) }
     {
         let mut reader = RecordReader::new(genome);
         let mut left = text;
@@ -265,7 +266,7 @@ impl<K: FromRecord<A>, A: Allocator + Copy> KeptLines<K, A> {
         Ok(())
     }
 
-    /// How many columns the records have, if there is one, and what is kept of each.
+    /// How many columns the records have, if there is one, and what is held of each.
     pub fn finish(self) -> (Option<u8>, Batches<K, A>)
         ensures width { result.0 ≡ self.width }
         ensures kept { result.1 ≡ self.kept }

@@ -2,33 +2,35 @@
 ghost use Rattle.std.specs.Prelude.{◌≡◌, ◌<◌, ◌≤◌, ◌+◌, ◌^◌, ◌⊎◌, ◌++◌, ℕ, List, [], length, drop, take, map, Ok, Err, All, IfOk, IfErr, OnOk};
 ghost use Rattle.iv_text.specs.BedFile.{finished};
 ghost use Rattle.iv_text.specs.declared.fault.LoadCause.TheVariants as cause;
-ghost use Rattle.iv_text.specs.KeptDrafts.{AreSound, IsKept, IsEnded, EndsAtFeed, begun, coming, size_of};
+ghost use Rattle.iv_text.specs.BedReading.{AreSound, IsProjected, begun, coming, size_of};
+ghost use Rattle.iv_text.specs.Inside.BedReading.{IsEnded, EndsAtFeed};
+ghost use Rattle.iv_text.specs.Widths.{IsWidth};
 
 use crate::batches::Batches;
+use crate::bed_lines::{BedLines, FromRecord};
 use crate::fault::LoadFault;
 use crate::genome::Genome;
-use crate::kept_lines::{FromRecord, KeptLines};
 use std::alloc::Allocator;
 use std::marker::Model;
 
-/// A BED file that comes in pieces, and what is kept of its records.
+/// A BED file that comes in pieces, and what is held of its records.
 ///
 /// A line may begin in one piece and end in another. What has come of a line that isn't ended yet is kept until its end comes;
 /// of all other lines no text is kept.
 #[derive(Drop)]
-pub struct KeptDraft<K: FromRecord<A>, A: Allocator + Copy> {
+pub struct BedReader<K: FromRecord<A>, A: Allocator + Copy> {
     alloc: A,
-    read: KeptLines<K, A>,
+    read: BedLines<K, A>,
     // The bytes after the last LF.
     tail: Vec<u8, A>,
 }
 
-impl<K: FromRecord<A>, A: Allocator + Copy> Model for KeptDraft<K, A> {
-    ghost use Rattle.iv_text.specs.KeptDrafts.{Reading, shown};
+impl<K: FromRecord<A>, A: Allocator + Copy> Model for BedReader<K, A> {
+    ghost use Rattle.iv_text.specs.BedReading.{Reading, shown};
 
     ghost Value = { Reading };
 
-    ghost view = { λ d. record { read = shown K.as_row d.read; tail = d.tail.items } };
+    ghost view = { λ d. record { read = shown K.as_record d.read; tail = d.tail.items } };
 }
 
 /// How many bytes there are up to the last LF, with it: 0 without one.
@@ -68,14 +70,14 @@ fn keep<A: Allocator>(tail: &mut Vec<u8, A>, bytes: &[u8]) -> Result<(), LoadFau
     Ok(())
 }
 
-impl<K: FromRecord<A>, A: Allocator + Copy> KeptDraft<K, A> {
+impl<K: FromRecord<A>, A: Allocator + Copy> BedReader<K, A> {
     /// A file of which nothing has come.
     pub fn new(alloc: A) -> Self
         ensures { result ≡ begun }
     {
-        KeptDraft {
+        BedReader {
             alloc,
-            read: KeptLines::new(alloc),
+            read: BedLines::new(alloc),
             tail: Vec::new(alloc),
         }
     }
@@ -91,12 +93,12 @@ impl<K: FromRecord<A>, A: Allocator + Copy> KeptDraft<K, A> {
         limit: u32,
         piece: &[u8],
     ) -> Result<(), LoadFault>
-        requires sound { AreSound K.kept genome.now limit self.old.read }
+        requires sound { AreSound K.projected genome.now limit self.old.read }
         requires few { size_of self.old + length piece.now < 2 ^ 64 }
-        ensures sound { OnOk result (AreSound K.kept genome.now limit self.new.read) }
+        ensures sound { OnOk result (AreSound K.projected genome.now limit self.new.read) }
         ensures few { OnOk result (size_of self.new ≤ size_of self.old + length piece.now) }
-        ensures ok { OnOk result ((more : List ℕ) → coming K.kept genome.now limit self.old (piece.now ++ more) ≡ coming K.kept genome.now limit self.new more) }
-        ensures err { IfErr result (λ f. (f ≡ record { line = 0; cause = cause.Memory }) ⊎ ((more : List ℕ) → coming K.kept genome.now limit self.old (piece.now ++ more) ≡ Err f)) }
+        ensures ok { OnOk result ((more : List ℕ) → coming K.projected genome.now limit self.old (piece.now ++ more) ≡ coming K.projected genome.now limit self.new more) }
+        ensures err { IfErr result (λ f. (f ≡ record { line = 0; cause = cause.Memory }) ⊎ ((more : List ℕ) → coming K.projected genome.now limit self.old (piece.now ++ more) ≡ Err f)) }
     {
         let end = last_end(piece);
         if end == 0 {
@@ -114,16 +116,16 @@ impl<K: FromRecord<A>, A: Allocator + Copy> KeptDraft<K, A> {
     /// Takes the line that isn't ended yet, if there is one, together with the first of more lines, and tells how many bytes of
     /// these that takes.
     fn end_line(&mut self, genome: &Genome<A>, limit: u32, lines: &[u8]) -> Result<usize, LoadFault>
-        requires sound { AreSound K.kept genome.now limit self.old.read }
+        requires sound { AreSound K.projected genome.now limit self.old.read }
         requires few { size_of self.old + length lines.now < 2 ^ 64 }
         requires ended { EndsAtFeed lines.now }
-        ensures sound { OnOk result (AreSound K.kept genome.now limit self.new.read) }
+        ensures sound { OnOk result (AreSound K.projected genome.now limit self.new.read) }
         ensures within { IfOk result (λ taken. taken ≤ length lines.now) }
         ensures few { IfOk result (λ taken. self.new.read.number ≤ size_of self.old + taken) }
         ensures tail { OnOk result (self.new.tail ≡ []) }
         ensures ended { IfOk result (λ taken. IsEnded (drop taken lines.now)) }
-        ensures ok { IfOk result (λ taken. (more : List ℕ) → coming K.kept genome.now limit self.old (lines.now ++ more) ≡ coming K.kept genome.now limit self.new (drop taken lines.now ++ more)) }
-        ensures err { IfErr result (λ f. (f ≡ record { line = 0; cause = cause.Memory }) ⊎ ((more : List ℕ) → coming K.kept genome.now limit self.old (lines.now ++ more) ≡ Err f)) }
+        ensures ok { IfOk result (λ taken. (more : List ℕ) → coming K.projected genome.now limit self.old (lines.now ++ more) ≡ coming K.projected genome.now limit self.new (drop taken lines.now ++ more)) }
+        ensures err { IfErr result (λ f. (f ≡ record { line = 0; cause = cause.Memory }) ⊎ ((more : List ℕ) → coming K.projected genome.now limit self.old (lines.now ++ more) ≡ Err f)) }
     {
         if self.tail.is_empty() {
             return Ok(0);
@@ -136,7 +138,7 @@ impl<K: FromRecord<A>, A: Allocator + Copy> KeptDraft<K, A> {
         Ok(size)
     }
 
-    /// What is kept of the records of the whole file, once all its bytes have come, and how many columns they have. What has come
+    /// What is held of the records of the whole file, once all its bytes have come, and how many columns they have. What has come
     /// of a line that isn't ended yet is the last line. A file without a record has the width that is handed in.
     ///
     /// # Errors
@@ -148,16 +150,16 @@ impl<K: FromRecord<A>, A: Allocator + Copy> KeptDraft<K, A> {
         empty_width: u8,
         limit: u32,
     ) -> Result<(u8, Batches<K, A>), LoadFault>
-        requires width { (3 ≤ empty_width) × (empty_width ≤ 6) }
-        requires sound { AreSound K.kept genome.now limit self.read }
+        requires width { IsWidth empty_width }
+        requires sound { AreSound K.projected genome.now limit self.read }
         requires few { size_of self < 2 ^ 64 }
-        ensures ok { IfOk result (λ file. finished empty_width (coming K.kept genome.now limit self []) ≡ Ok (record { width = file.0; rows = map K.as_row file.1 })) }
-        ensures width { IfOk result (λ file. (3 ≤ file.0) × (file.0 ≤ 6)) }
-        ensures kept { IfOk result (λ file. All (IsKept K.kept genome.now file.0) (map K.as_row file.1)) }
+        ensures ok { IfOk result (λ file. finished empty_width (coming K.projected genome.now limit self []) ≡ Ok (record { width = file.0; rows = map K.as_record file.1 })) }
+        ensures width { IfOk result (λ file. IsWidth file.0) }
+        ensures kept { IfOk result (λ file. All (IsProjected K.projected genome.now file.0) (map K.as_record file.1)) }
         ensures few { IfOk result (λ file. length file.1 ≤ limit) }
-        ensures err { IfErr result (λ f. (f ≡ record { line = 0; cause = cause.Memory }) ⊎ (coming K.kept genome.now limit self [] ≡ Err f)) }
+        ensures err { IfErr result (λ f. (f ≡ record { line = 0; cause = cause.Memory }) ⊎ (coming K.projected genome.now limit self [] ≡ Err f)) }
     {
-        let KeptDraft {
+        let BedReader {
             alloc,
             mut read,
             tail,

@@ -1,6 +1,6 @@
 //! A record, wherever its columns are.
 ghost use Rattle.std.specs.Prelude.{◌≡◌, ◌<◌};
-ghost use Rattle.iv_text.specs.Row.{Row};
+ghost use Rattle.iv_text.specs.RecordValue.{RecordValue};
 
 use crate::record::Record;
 use crate::record_ref::RecordRef;
@@ -9,28 +9,28 @@ use std::alloc::Allocator;
 /// A checked record. Its place is known; its other columns may have to be cut from its line.
 pub trait BedRecord: Drop {
     /// The row that it is.
-    ghost as_row: { Self → Row };
+    ghost as_record: { Self → RecordValue };
 
     /// The rank of its sequence in the genome.
     fn seq(&self) -> u32
-        ensures { result ≡ (as_row self.now).seq };
+        ensures { result ≡ (as_record self.now).seq };
 
     /// The start, from 0.
     fn start(&self) -> u64
-        ensures { result ≡ (as_row self.now).start };
+        ensures { result ≡ (as_record self.now).start };
 
     /// The end, not included.
     fn stop(&self) -> u64
-        ensures value { result ≡ (as_row self.now).stop }
-        ensures some { (as_row self.now).start < result };
+        ensures value { result ≡ (as_record self.now).stop }
+        ensures some { (as_record self.now).start < result };
 
     /// The record with all its columns.
     fn to_ref(&self) -> RecordRef<'_>
-        ensures { result ≡ as_row self.now };
+        ensures { result ≡ as_record self.now };
 }
 
 impl<A: Allocator> BedRecord for Record<A> {
-    ghost as_row = { λ r. r };
+    ghost as_record = { λ r. r };
 
     fn seq(&self) -> u32 {
         Record::seq(self)
@@ -50,7 +50,7 @@ impl<A: Allocator> BedRecord for Record<A> {
 }
 
 impl<R: BedRecord> BedRecord for &R {
-    ghost as_row = { λ r. R.as_row r.now };
+    ghost as_record = { λ r. R.as_record r.now };
 
     fn seq(&self) -> u32 {
         (**self).seq()

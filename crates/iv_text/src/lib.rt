@@ -4,12 +4,12 @@
 mod batches;
 mod bed_batches;
 mod bed_file;
+mod bed_lines;
+mod bed_reader;
 mod bed_record;
 mod fault;
 mod genome;
-mod kept_draft;
-mod kept_lines;
-mod laws;
+mod lemmas;
 mod lines;
 mod name_and_score;
 mod name_map;
@@ -23,6 +23,8 @@ mod row_buffer;
 pub use batches::{BatchItems, Batches};
 pub use bed_batches::BedBatches;
 pub use bed_file::BedFile;
+pub use bed_lines::{BedLines, FromRecord};
+pub use bed_reader::BedReader;
 pub use bed_record::BedRecord;
 pub use fault::{Fault, LoadCause, LoadFault, RecordFault, fault_text, load_text};
 pub use genome::{Genome, MOST_LENGTH, is_bad_name};
@@ -30,17 +32,15 @@ pub use iv_bytes::{
     Buffered, ByteQueue, MemSink, MemSource, ReadFault, Sink, Source, StdSink, StdSource,
     WriteFault, put_all, put_pieces,
 };
-pub use kept_draft::KeptDraft;
-pub use kept_lines::{FromRecord, KeptLines};
-pub use laws::{
+pub use lemmas::{
     bed_or_first_fault, first_line_ends_at_feed, genome_or_first_fault, last_line_ends_at_end,
     one_length_changes, one_ordered_list,
 };
 pub use lines::{Fields, columns, is_unread, lines_of, split_first_column, split_line, width_for};
-pub use name_map::{AfterText, NameHasher, NameMap};
+pub use name_map::{ContentSeed, NameHasher, NameMap};
 pub use number::{read_digits, read_number};
 pub use record::Record;
-pub use record_reader::{RecordReader, ShortLine};
+pub use record_reader::{FastLine, RecordReader};
 pub use record_ref::{RecordRef, Strand, read_record, read_strand};
 pub use record_text::{put_line, put_numbered, put_record, put_row, strand_bytes};
 pub use row_buffer::{RowBuffer, put_interval};

@@ -30,7 +30,7 @@ const MEDIUM: usize = 38;
 
 impl<A: Allocator> Model for NameAndScore<A> {
     ghost use Rattle.std.specs.Prelude.{List, ℕ};
-    ghost use Rattle.iv_text.specs.NameAndScore.{texts_at};
+    ghost use Rattle.iv_text.specs.Inside.NameAndScore.{texts_at};
 
     ghost Value = { List ℕ × List ℕ };
 

@@ -18,7 +18,7 @@ use std::ops::{Index, IndexMut};
 #[derive(Drop)]
 pub struct NameMap<V, A: Allocator = Global> {
     // The keys are plain vectors: for lookups by slices a key type of our own would need an `Equivalent` of its own.
-    named: IndexMap<Vec<u8, A>, V, AfterText, A>,
+    named: IndexMap<Vec<u8, A>, V, ContentSeed, A>,
 }
 
 impl<V, A: Allocator> Model for NameMap<V, A> {
@@ -31,7 +31,7 @@ impl<V, A: Allocator> Model for NameMap<V, A> {
 
 impl<V: Drop, A: Allocator + Copy> NameMap<V, A> {
     /// No name yet; nothing is allocated. The names will be hashed by `hasher`.
-    pub fn new(alloc: A, hasher: AfterText) -> Self
+    pub fn new(alloc: A, hasher: ContentSeed) -> Self
         ensures { result ≡ [] }
     {
         NameMap {
@@ -40,7 +40,7 @@ impl<V: Drop, A: Allocator + Copy> NameMap<V, A> {
     }
 
     /// Hashes the names again. They stay as they are, also after a fault.
-    pub fn rehash(&mut self, alloc: A, hasher: AfterText) -> Result<(), AllocError>
+    pub fn rehash(&mut self, alloc: A, hasher: ContentSeed) -> Result<(), AllocError>
         ensures ok { OnOk result (self.new ≡ self.old) }
         ensures err { OnErr result (self.new ≡ self.old) }
     {
@@ -77,7 +77,7 @@ impl<V: Drop, A: Allocator + Copy> NameMap<V, A> {
     }
 
     /// The place of a name, byte for byte, from 0.
-    pub fn place(&self, name: &[u8]) -> Option<usize>
+    pub fn index_of(&self, name: &[u8]) -> Option<usize>
         ensures value { result ≡ place_of self.now name.now }
         ensures within { IfSome result (λ place. place < length self.now) }
     {
@@ -114,7 +114,7 @@ impl<V: Drop, A: Allocator + Copy> NameMap<V, A> {
     }
 
     /// A lemma for callers' proofs: no name is twice. The call does nothing.
-    pub fn law_of_names(&self)
+    pub fn lemma_of_names(&self)
         ensures { AreApart self.now }
     {
         // The map's keys are known to be distinct once its length is asked for.
@@ -183,18 +183,18 @@ impl Hasher for NameHasher {
 ///
 /// Names that collide after one text need not do so after another, and each name is a part of the text.
 #[derive(Clone, Copy)]
-pub struct AfterText {
+pub struct ContentSeed {
     /// What a hash begins with.
     pub begun: NameHasher,
 }
 
-impl AfterText {
+impl ContentSeed {
     /// For the names of a file with this text.
     pub fn of(text: &[u8]) -> Self
         ensures { 32768 ≤ length text.now → IsAfter text.now result.begun }
     {
         if text.len() < SHORT {
-            return AfterText {
+            return ContentSeed {
                 begun: NameHasher::Fast(FoldHasher::default()),
             };
         }
@@ -202,20 +202,20 @@ impl AfterText {
         begun.write(text);
         // Up to a whole word: after that a name's hash takes its words in one step each.
         begun.write(&[0; 8][text.len() % 8..]);
-        AfterText::begun(begun)
+        ContentSeed::begun(begun)
     }
 
     /// For names that are hashed after what was written to this hasher.
     pub fn begun(hasher: DefaultHasher) -> Self
         ensures { result.begun ≡ NameHasher.Seeded hasher }
     {
-        AfterText {
+        ContentSeed {
             begun: NameHasher::Seeded(hasher),
         }
     }
 }
 
-impl BuildHasher for AfterText {
+impl BuildHasher for ContentSeed {
     type Hasher = NameHasher;
 
     ghost build_hasher = { λ s. s.begun };

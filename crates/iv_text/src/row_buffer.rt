@@ -12,7 +12,9 @@ const ROOM: usize = 192;
 
 /// The back of a row, laid from its last byte towards its first: at most 192 bytes, on the stack.
 ///
-/// So a number is written where it is, and a row is put as a whole. It is lent to who writes a row: handing it over would copy its
+/// So a number is written where it is, and a row is put as a whole. Written at its place in the output it takes no less time: the
+/// number of digits has to be known first, and each piece needs a look at the room that is left.
+/// It is lent to who writes a row: handing it over would copy its
 /// array.
 #[derive(Drop)]
 pub struct RowBuffer {

@@ -6,12 +6,12 @@ use Rattle.std.specs.declared.vec.Vec.{Vec}
 use Rattle.std.proofs.lemmas.List.{take-append-drop, drop_more, drop-append-le, take-append-le, set_split, length-drop, drop-drop, take_more}
 use Rattle.std.proofs.lemmas.List.Concat.{flat_map-append}
 use Rattle.std.proofs.lemmas.List.Elements.{All-append, All-take, All-drop, All-cons, All-set}
-use Rattle.iv_track.specs.Chunks.{joined, before, from, IsFilled, AreFilled}
-use Rattle.iv_track.specs.declared.places.Place.{Place}
+use Rattle.iv_track.specs.Inside.Chunks.{joined, before, from, IsFilled, AreFilled}
+use Rattle.iv_track.specs.declared.entry_index.EntryIndex.{EntryIndex}
 
 module _ {X Z : Type 0} (cs : List (Vec X Z)) where
   -- the entries before a place and those from it on are all
-  pub before-from : (p : Place) → before cs p ++ from cs p ≡ joined cs
+  pub before-from : (p : EntryIndex) → before cs p ++ from cs p ≡ joined cs
   before-from p =
       append_assoc (joined (take p.chunk cs)) (take p.index (joined (drop p.chunk cs))) (from cs p)
       ∙ ap (λ xs. joined (take p.chunk cs) ++ xs) (take-append-drop p.index (joined (drop p.chunk cs)))

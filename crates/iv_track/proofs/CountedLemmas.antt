@@ -14,16 +14,16 @@ use Rattle.std.proofs.lemmas.Iterator.{YieldsList, items_from_drains}
 use Rattle.std.proofs.lemmas.Iterator.Consumers.{YieldsList-from_shown}
 use Rattle.std.proofs.lemmas.List.Elements.{All-from_recursion}
 use Rattle.iv_text.specs.Ordered.{AreInOrder}
-use Rattle.iv_text.specs.Row.{Row, IsPlaced, row_cmp, rows_total}
-use Rattle.iv_text.proofs.RowLemmas.{rows_exact}
-use Rattle.iv_track.specs.Copies.{expanded}
-use Rattle.iv_track.specs.Counted.{grouped_from, grouped, GivesEntry}
+use Rattle.iv_text.specs.RecordValue.{RecordValue, IsPlaced, record_cmp, rows_total}
+use Rattle.iv_text.proofs.RecordLemmas.{rows_exact}
+use Rattle.iv_track.specs.Inside.Copies.{expanded}
+use Rattle.iv_track.specs.Inside.Counted.{grouped_from, grouped, GivesEntry}
 use Rattle.iv_track.specs.Entries.{IsLedger}
 
 -- the entries of a list in order: its different records in order, which are placed, each with the number of its copies
-pub record AreCounted (es : List (Row × ℕ)) (rows : List Row) : Type 0 where
+pub record AreCounted (es : List (RecordValue × ℕ)) (rows : List RecordValue) : Type 0 where
   pub rows_are : expanded es ≡ rows
-  pub ordered : IsLedger row_cmp es
+  pub ordered : IsLedger record_cmp es
   pub present : All (λ n. 0 < n) (values_of es)
   pub placed : All IsPlaced (keys_of es)
 
@@ -46,65 +46,65 @@ le_apart Equal b e h n = cc
 le_apart Greater b e h n = cc
 
 -- the same record, or a later one
-same-row : (q r : Row) → is_eq (row_cmp q r) ≡ true → q ≡ r
-same-row q r e = rows_exact q r ((Equal-is (row_cmp q r)).0 e)
+same-row : (q r : RecordValue) → is_eq (record_cmp q r) ≡ true → q ≡ r
+same-row q r e = rows_exact q r ((Equal-is (record_cmp q r)).0 e)
 
-later-row : (q r : Row) → is_le (row_cmp r q) ≡ true → is_eq (row_cmp q r) ≡ false → row_cmp r q ≡ Less
-later-row q r le apart = le_apart (row_cmp r q) (row_cmp q r) (rows_total.antisymm q r) le apart
+later-row : (q r : RecordValue) → is_le (record_cmp r q) ≡ true → is_eq (record_cmp q r) ≡ false → record_cmp r q ≡ Less
+later-row q r le apart = le_apart (record_cmp r q) (record_cmp q r) (rows_total.antisymm q r) le apart
 
 -- the entries mean the list
-from-expanded : (r : Row) (n : ℕ) (xs : List Row) → expanded (grouped_from row_cmp r n xs) ≡ replicate n r ++ xs
+from-expanded : (r : RecordValue) (n : ℕ) (xs : List RecordValue) → expanded (grouped_from record_cmp r n xs) ≡ replicate n r ++ xs
 from-expanded r n [] = refl
 from-expanded r n (q ∷ qs) =
-    either_way (λ es. expanded es ≡ replicate n r ++ (q ∷ qs)) (is_eq (row_cmp q r)) (grouped_from row_cmp r (n + 1) qs) ((r, n) ∷ grouped_from row_cmp q 1 qs)
+    either_way (λ es. expanded es ≡ replicate n r ++ (q ∷ qs)) (is_eq (record_cmp q r)) (grouped_from record_cmp r (n + 1) qs) ((r, n) ∷ grouped_from record_cmp q 1 qs)
     (λ e. from-expanded r (n + 1) qs ∙ replicate-more n r qs ∙ ap (λ k. replicate n r ++ (k ∷ qs)) (sym (same-row q r e)))
     (λ _. ap (λ ys. replicate n r ++ ys) (from-expanded q 1 qs))
 
 -- each has a copy
-from-present : (r : Row) (n : ℕ) (xs : List Row) → 0 < n → AllByRecursion (λ m. 0 < m) (values_of (grouped_from row_cmp r n xs))
+from-present : (r : RecordValue) (n : ℕ) (xs : List RecordValue) → 0 < n → AllByRecursion (λ m. 0 < m) (values_of (grouped_from record_cmp r n xs))
 from-present r n [] some = (some, tt)
 from-present r n (q ∷ qs) some =
-    either_way (λ (es : List (Row × ℕ)). AllByRecursion (λ m. 0 < m) (values_of es)) (is_eq (row_cmp q r)) (grouped_from row_cmp r (n + 1) qs) ((r, n) ∷ grouped_from row_cmp q 1 qs)
+    either_way (λ (es : List (RecordValue × ℕ)). AllByRecursion (λ m. 0 < m) (values_of es)) (is_eq (record_cmp q r)) (grouped_from record_cmp r (n + 1) qs) ((r, n) ∷ grouped_from record_cmp q 1 qs)
     (λ _. from-present r (n + 1) qs (omega arith))
     (λ _. (some, from-present q 1 qs (omega arith)))
 
 -- what comes before the first comes before all
-from-below : (p r : Row) (n : ℕ) (xs : List Row) → row_cmp p r ≡ Less → AreInOrder (r ∷ xs) → AllByRecursion (λ k. row_cmp p k ≡ Less) (keys_of (grouped_from row_cmp r n xs))
+from-below : (p r : RecordValue) (n : ℕ) (xs : List RecordValue) → record_cmp p r ≡ Less → AreInOrder (r ∷ xs) → AllByRecursion (λ k. record_cmp p k ≡ Less) (keys_of (grouped_from record_cmp r n xs))
 from-below p r n [] less order = (less, tt)
 from-below p r n (q ∷ qs) less order =
-    either_way (λ (es : List (Row × ℕ)). AllByRecursion (λ k. row_cmp p k ≡ Less) (keys_of es)) (is_eq (row_cmp q r)) (grouped_from row_cmp r (n + 1) qs) ((r, n) ∷ grouped_from row_cmp q 1 qs)
+    either_way (λ (es : List (RecordValue × ℕ)). AllByRecursion (λ k. record_cmp p k ≡ Less) (keys_of es)) (is_eq (record_cmp q r)) (grouped_from record_cmp r (n + 1) qs) ((r, n) ∷ grouped_from record_cmp q 1 qs)
     (λ _. from-below p r (n + 1) qs less (order.0.1, order.1.1))
     (λ apart. (less, from-below p q 1 qs (rows_total.trans p r q less (later-row q r order.0.0 apart)) order.1))
 
 -- they ascend
-from-ordered : (r : Row) (n : ℕ) (xs : List Row) → AreInOrder (r ∷ xs) → IsLedger row_cmp (grouped_from row_cmp r n xs)
+from-ordered : (r : RecordValue) (n : ℕ) (xs : List RecordValue) → AreInOrder (r ∷ xs) → IsLedger record_cmp (grouped_from record_cmp r n xs)
 unfolding IsStrictlySortedBy
 from-ordered r n [] order = (tt, tt)
 from-ordered r n (q ∷ qs) order =
-    either_way (IsLedger row_cmp) (is_eq (row_cmp q r)) (grouped_from row_cmp r (n + 1) qs) ((r, n) ∷ grouped_from row_cmp q 1 qs)
+    either_way (IsLedger record_cmp) (is_eq (record_cmp q r)) (grouped_from record_cmp r (n + 1) qs) ((r, n) ∷ grouped_from record_cmp q 1 qs)
     (λ _. from-ordered r (n + 1) qs (order.0.1, order.1.1))
     (λ apart. (from-below r q 1 qs (later-row q r order.0.0 apart) order.1, from-ordered q 1 qs order.1))
 
-nil-ordered : IsStrictlySortedBy row_cmp []
+nil-ordered : IsStrictlySortedBy record_cmp []
 unfolding IsStrictlySortedBy
 nil-ordered = tt
 
-pub grouped-ordered : (rows : List Row) → AreInOrder rows → IsLedger row_cmp (grouped row_cmp rows)
+pub grouped-ordered : (rows : List RecordValue) → AreInOrder rows → IsLedger record_cmp (grouped record_cmp rows)
 grouped-ordered [] order = nil-ordered
 grouped-ordered (r ∷ rs) order = from-ordered r 1 rs order
 
-grouped-counted : (rows : List Row) → AreInOrder rows → AllByRecursion IsPlaced (keys_of (grouped row_cmp rows)) → AreCounted (grouped row_cmp rows) rows
+grouped-counted : (rows : List RecordValue) → AreInOrder rows → AllByRecursion IsPlaced (keys_of (grouped record_cmp rows)) → AreCounted (grouped record_cmp rows) rows
 grouped-counted [] order placed = record { rows_are = refl; ordered = nil-ordered; present = All-from_recursion (λ n. 0 < n) [] tt; placed = All-from_recursion IsPlaced [] placed }
 grouped-counted (r ∷ rs) order placed = record {
   rows_are = from-expanded r 1 rs;
   ordered = from-ordered r 1 rs order;
-  present = All-from_recursion (λ n. 0 < n) (values_of (grouped_from row_cmp r 1 rs)) (from-present r 1 rs (omega arith));
-  placed = All-from_recursion IsPlaced (keys_of (grouped_from row_cmp r 1 rs)) placed;
+  present = All-from_recursion (λ n. 0 < n) (values_of (grouped_from record_cmp r 1 rs)) (from-present r 1 rs (omega arith));
+  placed = All-from_recursion IsPlaced (keys_of (grouped_from record_cmp r 1 rs)) placed;
 }
 
 -- ---- what the iterator gives
 
-gives-list : (es : List (Row × ℕ)) → YieldsList GivesEntry (λ e. e) es es
+gives-list : (es : List (RecordValue × ℕ)) → YieldsList GivesEntry (λ e. e) es es
 gives-list es = YieldsList-from_shown GivesEntry (λ e. e) (λ l. l) (λ s t h. ap length h.0.0) (λ s x t h. h.0) es
 
 map-same : {X : Type 0} (xs : List X) → map (λ y. y) xs ≡ xs
@@ -115,33 +115,33 @@ map-same (x ∷ xs) = ap (λ ys. x ∷ ys) (map-same xs)
 pub given-items : {S X : Type 0} {gives : S → Option X → S → Type 0} (s : S) (xs all : List X) → Drains gives s xs → YieldsList gives (λ x. x) s all → xs ≡ all
 given-items s xs all run list = sym (map-same xs) ∙ items_from_drains xs (run.1.0, run.1.1, λ _. (run.0, run.1.2)) list
 
-given-entries : (es xs : List (Row × ℕ)) → Drains GivesEntry es xs → xs ≡ es
+given-entries : (es xs : List (RecordValue × ℕ)) → Drains GivesEntry es xs → xs ≡ es
 given-entries es xs run = given-items es xs es run (gives-list es)
 
-yielded-placed : (s xs t : List (Row × ℕ)) → Yields GivesEntry s xs t → AllByRecursion IsPlaced (keys_of xs)
+yielded-placed : (s xs t : List (RecordValue × ℕ)) → Yields GivesEntry s xs t → AllByRecursion IsPlaced (keys_of xs)
 yielded-placed s [] t y = tt
 yielded-placed s (x ∷ xs) t y = (y.1.1, yielded-placed y.0 xs t y.2)
 
 -- the entries of rows in order
-pub given-counted : (rows : List Row) (xs : List (Row × ℕ)) → AreInOrder rows → Drains GivesEntry (grouped row_cmp rows) xs → AreCounted xs rows
+pub given-counted : (rows : List RecordValue) (xs : List (RecordValue × ℕ)) → AreInOrder rows → Drains GivesEntry (grouped record_cmp rows) xs → AreCounted xs rows
 given-counted rows xs order run =
-    let same : xs ≡ grouped row_cmp rows = given-entries (grouped row_cmp rows) xs run in
+    let same : xs ≡ grouped record_cmp rows = given-entries (grouped record_cmp rows) xs run in
     subst (λ es. AreCounted es rows) (sym same)
-    (grouped-counted rows order (subst (λ (es : List (Row × ℕ)). AllByRecursion IsPlaced (keys_of es)) same (yielded-placed (grouped row_cmp rows) xs run.1.0 run.1.1)))
+    (grouped-counted rows order (subst (λ (es : List (RecordValue × ℕ)). AllByRecursion IsPlaced (keys_of es)) same (yielded-placed (grouped record_cmp rows) xs run.1.0 run.1.1)))
 
-pub given-ordered : (rows : List Row) (xs : List (Row × ℕ)) → AreInOrder rows → Drains GivesEntry (grouped row_cmp rows) xs → IsLedger row_cmp xs
-given-ordered rows xs order run = subst (IsLedger row_cmp) (sym (given-entries (grouped row_cmp rows) xs run)) (grouped-ordered rows order)
+pub given-ordered : (rows : List RecordValue) (xs : List (RecordValue × ℕ)) → AreInOrder rows → Drains GivesEntry (grouped record_cmp rows) xs → IsLedger record_cmp xs
+given-ordered rows xs order run = subst (IsLedger record_cmp) (sym (given-entries (grouped record_cmp rows) xs run)) (grouped-ordered rows order)
 
 -- ---- one entry
 
 -- n neighbours alike `held` were taken, and these rows are left: with them, all entries that were left before
-pub record IsCounting (all : List (Row × ℕ)) (held : Row) (n : ℕ) (rest : List Row) : Type 0 where
-  pub all_is : all ≡ grouped_from row_cmp held n rest
+pub record IsCounting (all : List (RecordValue × ℕ)) (held : RecordValue) (n : ℕ) (rest : List RecordValue) : Type 0 where
+  pub all_is : all ≡ grouped_from record_cmp held n rest
   pub few : n + length rest < 2 ^ 32
 
-pub counting-begins : (all : List (Row × ℕ)) (rows : List Row) (held : Row) (rest : List Row) → grouped row_cmp rows ≡ all → length rows < 2 ^ 32 → rows ≡ held ∷ rest → IsCounting all held 1 rest
+pub counting-begins : (all : List (RecordValue × ℕ)) (rows : List RecordValue) (held : RecordValue) (rest : List RecordValue) → grouped record_cmp rows ≡ all → length rows < 2 ^ 32 → rows ≡ held ∷ rest → IsCounting all held 1 rest
 counting-begins all rows held rest are few is = record {
-  all_is = sym are ∙ ap (grouped row_cmp) is;
+  all_is = sym are ∙ ap (grouped record_cmp) is;
   few = omega (arith, few, ap length is);
 }
 
@@ -158,19 +158,19 @@ false-not_true true e = cc
 false-not_true false e = refl
 
 -- one more that is alike
-pub counting-more : (all : List (Row × ℕ)) (held row : Row) (n : ℕ) (rest : List Row) → not (is_eq (row_cmp row held)) ≡ false → IsCounting all held n (row ∷ rest) → IsCounting all held (n + 1) rest
+pub counting-more : (all : List (RecordValue × ℕ)) (held row : RecordValue) (n : ℕ) (rest : List RecordValue) → not (is_eq (record_cmp row held)) ≡ false → IsCounting all held n (row ∷ rest) → IsCounting all held (n + 1) rest
 counting-more all held row n rest alike h =
     let few : n + suc (length rest) < 2 ^ 32 = h.few in
     record {
-      all_is = h.all_is ∙ cond-true (is_eq (row_cmp row held)) (grouped_from row_cmp held (n + 1) rest) ((held, n) ∷ grouped_from row_cmp row 1 rest) (true-not_false _ alike);
+      all_is = h.all_is ∙ cond-true (is_eq (record_cmp row held)) (grouped_from record_cmp held (n + 1) rest) ((held, n) ∷ grouped_from record_cmp row 1 rest) (true-not_false _ alike);
       few = omega (arith, few);
     }
 
 -- one that is not
-pub counting-ends : (all : List (Row × ℕ)) (held row : Row) (n : ℕ) (rest : List Row) → not (is_eq (row_cmp row held)) ≡ true → IsCounting all held n (row ∷ rest) → all ≡ (held, n) ∷ grouped row_cmp (row ∷ rest)
+pub counting-ends : (all : List (RecordValue × ℕ)) (held row : RecordValue) (n : ℕ) (rest : List RecordValue) → not (is_eq (record_cmp row held)) ≡ true → IsCounting all held n (row ∷ rest) → all ≡ (held, n) ∷ grouped record_cmp (row ∷ rest)
 counting-ends all held row n rest apart h =
-    h.all_is ∙ cond-false (is_eq (row_cmp row held)) (grouped_from row_cmp held (n + 1) rest) ((held, n) ∷ grouped_from row_cmp row 1 rest) (false-not_true _ apart)
+    h.all_is ∙ cond-false (is_eq (record_cmp row held)) (grouped_from record_cmp held (n + 1) rest) ((held, n) ∷ grouped_from record_cmp row 1 rest) (false-not_true _ apart)
 
 -- none
-pub counting-last : (all : List (Row × ℕ)) (held : Row) (n : ℕ) (rest : List Row) → rest ≡ [] → IsCounting all held n rest → all ≡ (held, n) ∷ []
-counting-last all held n rest none h = h.all_is ∙ ap (grouped_from row_cmp held n) none
+pub counting-last : (all : List (RecordValue × ℕ)) (held : RecordValue) (n : ℕ) (rest : List RecordValue) → rest ≡ [] → IsCounting all held n rest → all ≡ (held, n) ∷ []
+counting-last all held n rest none h = h.all_is ∙ ap (grouped_from record_cmp held n) none

@@ -6,8 +6,8 @@ use Rattle.std.specs.Cmp.{tied_itself, Equal-is}
 use Rattle.std.proofs.lemmas.Bool.{cases_lt}
 use Rattle.std.proofs.lemmas.List.Sums.{sum_by-cons}
 use Rattle.iv_text.specs.Ordered.{copies_by, copies, added}
-use Rattle.iv_text.specs.Row.{Row, row_cmp, rows_total}
-use Rattle.iv_text.proofs.RowLemmas.{rows_exact}
+use Rattle.iv_text.specs.RecordValue.{RecordValue, record_cmp, rows_total}
+use Rattle.iv_text.proofs.RecordLemmas.{rows_exact}
 use Rattle.iv_text.proofs.OrderedLemmas.{copies-added}
 use Rattle.iv_track.specs.Copies.{removed_by}
 use Rattle.iv_track.specs.Tracked.{removed}
@@ -27,28 +27,28 @@ module _ {K : Type 0} (cmp : K → K → Ordering) where
       ]) (sym (copies-cons q x xs) ∙ none)
 
 -- a record is a copy of itself
-own : (r : Row) → cond {A = ℕ} (is_eq (row_cmp r r)) 1 0 ≡ 1
+own : (r : RecordValue) → cond {A = ℕ} (is_eq (record_cmp r r)) 1 0 ≡ 1
 own r = ap {B = ℕ} (λ (o : Ordering). cond (is_eq o) 1 0) (tied_itself rows_total r)
 
 -- and of no other
-other : (q r : Row) → q ≢ r → cond {A = ℕ} (is_eq (row_cmp q r)) 1 0 ≡ 0
-other q r ne = by (is_eq (row_cmp q r)) refl
+other : (q r : RecordValue) → q ≢ r → cond {A = ℕ} (is_eq (record_cmp q r)) 1 0 ≡ 0
+other q r ne = by (is_eq (record_cmp q r)) refl
   where
-    by : (b : Bool) → is_eq (row_cmp q r) ≡ b → cond {A = ℕ} b 1 0 ≡ 0
-    by true is = absurd (ne (rows_exact q r ((Equal-is (row_cmp q r)).0 is)))
+    by : (b : Bool) → is_eq (record_cmp q r) ≡ b → cond {A = ℕ} b 1 0 ≡ 0
+    by true is = absurd (ne (rows_exact q r ((Equal-is (record_cmp q r)).0 is)))
     by false is = refl
 
-pub added-itself : (rows : List Row) (r : Row) → copies (added rows r) r ≡ copies rows r + 1
-added-itself rows r = omega (arith, copies-added row_cmp rows r r, own r)
+pub added-itself : (rows : List RecordValue) (r : RecordValue) → copies (added rows r) r ≡ copies rows r + 1
+added-itself rows r = omega (arith, copies-added record_cmp rows r r, own r)
 
-pub added-others : (rows : List Row) (r q : Row) → q ≢ r → copies (added rows r) q ≡ copies rows q
-added-others rows r q ne = omega (arith, copies-added row_cmp rows r q, other q r ne)
+pub added-others : (rows : List RecordValue) (r q : RecordValue) → q ≢ r → copies (added rows r) q ≡ copies rows q
+added-others rows r q ne = omega (arith, copies-added record_cmp rows r q, other q r ne)
 
-pub removed-itself : (rows : List Row) (r : Row) → 0 < copies rows r → copies (removed rows r) r + 1 ≡ copies rows r
-removed-itself rows r there = omega (arith, copies-removed row_cmp rows_total rows r r there, own r)
+pub removed-itself : (rows : List RecordValue) (r : RecordValue) → 0 < copies rows r → copies (removed rows r) r + 1 ≡ copies rows r
+removed-itself rows r there = omega (arith, copies-removed record_cmp rows_total rows r r there, own r)
 
-pub removed-others : (rows : List Row) (r q : Row) → q ≢ r → copies (removed rows r) q ≡ copies rows q
+pub removed-others : (rows : List RecordValue) (r q : RecordValue) → q ≢ r → copies (removed rows r) q ≡ copies rows q
 removed-others rows r q ne = elim (cases_lt 0 (copies rows r)) [
-  | inl there ↦ omega (arith, copies-removed row_cmp rows_total rows r q there, other q r ne)
-  | inr none ↦ ap (λ (l : List Row). copies l q) (removed-absent row_cmp rows r (omega arith))
+  | inl there ↦ omega (arith, copies-removed record_cmp rows_total rows r q there, other q r ne)
+  | inr none ↦ ap (λ (l : List RecordValue). copies l q) (removed-absent record_cmp rows r (omega arith))
 ]

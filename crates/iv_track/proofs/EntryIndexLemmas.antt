@@ -11,8 +11,9 @@ use Rattle.std.specs.Ordering.{is_le, ordering_then, nat_cmp}
 use Rattle.std.specs.Option.{option_cmp}
 use Rattle.std.specs.Cmp.Lexicographic.{slice_cmp}
 use Rattle.iv_text.specs.declared.record_ref.Strand.{Strand}
-use Rattle.iv_text.specs.Row.{Row, IsPlaced, row_cmp, strand_cmp}
-use Rattle.iv_track.specs.Tracked.{is_from, BeginsFrom}
+use Rattle.iv_text.specs.RecordValue.{RecordValue, IsPlaced, record_cmp, strand_cmp}
+use Rattle.iv_track.specs.Tracked.{is_from}
+use Rattle.iv_track.specs.Inside.Tracked.{BeginsFrom}
 use Rattle.iv_track.proofs.NumberOrder.{le-cmp}
 
 from_least : (a b r : Ordering) → (b ≡ Equal → is_le r ≡ true) → is_le (ordering_then a (ordering_then b r)) ≡ is_le (ordering_then a b)
@@ -40,7 +41,7 @@ none_le None = refl
 none_le (Some s) = refl
 
 -- the least record at a place is before exactly the records from there on that have a base
-least-is_from : (seq start : ℕ) (q : Row) → q.start < q.stop → is_le (row_cmp (record { seq = seq; start = start; stop = start + 1; name = []; score = []; strand = None; width = 0 }) q) ≡ is_from seq start q
+least-is_from : (seq start : ℕ) (q : RecordValue) → q.start < q.stop → is_le (record_cmp (record { seq = seq; start = start; stop = start + 1; name = []; score = []; strand = None; width = 0 }) q) ≡ is_from seq start q
 least-is_from seq start q some =
     from_least (nat_cmp seq q.seq) (nat_cmp start q.start) _ (λ tied.
     (le_then (nat_cmp (start + 1) q.stop) _ (le-cmp (start + 1) q.stop (omega (arith, some, exact_unsigned start q.start tied)))
@@ -53,26 +54,26 @@ pub begins-least : (seq start : ℕ) → BeginsFrom seq start (Some (record { se
 begins-least seq start q p = least-is_from seq start q p.some
 
 -- tests that agree on placed records find the same
-find-placed : (p r : Row → Bool) → ((q : Row) → IsPlaced q → p q ≡ r q) → (es : List (Row × ℕ)) → All IsPlaced (keys_of es) → find (λ e. p e.0) es ≡ find (λ e. r e.0) es
+find-placed : (p r : RecordValue → Bool) → ((q : RecordValue) → IsPlaced q → p q ≡ r q) → (es : List (RecordValue × ℕ)) → All IsPlaced (keys_of es) → find (λ e. p e.0) es ≡ find (λ e. r e.0) es
 find-placed p r same [] h = refl
 find-placed p r same (e ∷ es) h =
     (λ i. cond (same e.0 (All-head IsPlaced e.0 (keys_of es) h) i) (Some e) (find-placed p r same es (All-tail IsPlaced e.0 (keys_of es) h) i))
 
 -- a search from where it begins finds the first record from the place on
-pub find-begun : (seq start : ℕ) (least : Row) (es : List (Row × ℕ)) → BeginsFrom seq start (Some least) → All IsPlaced (keys_of es) → find (λ e. is_le (row_cmp least e.0)) es ≡ find (λ e. is_from seq start e.0) es
-find-begun seq start least es begins = find-placed (λ q. is_le (row_cmp least q)) (is_from seq start) begins es
+pub find-begun : (seq start : ℕ) (least : RecordValue) (es : List (RecordValue × ℕ)) → BeginsFrom seq start (Some least) → All IsPlaced (keys_of es) → find (λ e. is_le (record_cmp least e.0)) es ≡ find (λ e. is_from seq start e.0) es
+find-begun seq start least es begins = find-placed (λ q. is_le (record_cmp least q)) (is_from seq start) begins es
 
-find-nothing : (es : List (Row × ℕ)) → find (λ (e : Row × ℕ). false) es ≡ None
+find-nothing : (es : List (RecordValue × ℕ)) → find (λ (e : RecordValue × ℕ). false) es ≡ None
 find-nothing [] = refl
 find-nothing (e ∷ es) = find-nothing es
 
 -- if it begins nowhere there is none
-pub find-nowhere : (seq start : ℕ) (es : List (Row × ℕ)) → BeginsFrom seq start None → All IsPlaced (keys_of es) → find (λ e. is_from seq start e.0) es ≡ None
+pub find-nowhere : (seq start : ℕ) (es : List (RecordValue × ℕ)) → BeginsFrom seq start None → All IsPlaced (keys_of es) → find (λ e. is_from seq start e.0) es ≡ None
 find-nowhere seq start es begins h = find-placed (is_from seq start) (λ q. false) begins es h ∙ find-nothing es
 
 -- the entries from the least record at a place on are those of the records from there on
-pub filter-least : (seq start : ℕ) (es : List (Row × ℕ)) → All IsPlaced (keys_of es)
-    → filter (λ e. is_le (row_cmp (record { seq = seq; start = start; stop = start + 1; name = []; score = []; strand = None; width = 0 }) e.0)) es ≡ filter (λ e. is_from seq start e.0) es
+pub filter-least : (seq start : ℕ) (es : List (RecordValue × ℕ)) → All IsPlaced (keys_of es)
+    → filter (λ e. is_le (record_cmp (record { seq = seq; start = start; stop = start + 1; name = []; score = []; strand = None; width = 0 }) e.0)) es ≡ filter (λ e. is_from seq start e.0) es
 filter-least seq start [] h = refl
 filter-least seq start (e ∷ es) h =
     let rest = filter-least seq start es (All-tail IsPlaced e.0 (keys_of es) h) in

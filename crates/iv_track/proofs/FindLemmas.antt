@@ -17,9 +17,9 @@ use Rattle.std.proofs.lemmas.List.{length-take-le, length-drop, length-map, get_
 use Rattle.std.proofs.lemmas.List.Sorted.{searchable_from_sorted}
 use Rattle.std.proofs.lemmas.Map.Keys.{Less-from_sorted}
 use Rattle.std.proofs.lemmas.List.Elements.{All-from_recursion, recursion_from_All, All-nil, All-cons, All-append, at_read}
-use Rattle.iv_track.specs.Chunks.{joined, before, from, AreChunks, IsGap, IsFound, starts_by}
+use Rattle.iv_track.specs.Inside.Chunks.{joined, before, from, AreChunks, IsGap, IsFound, starts_by}
 use Rattle.iv_track.specs.Entries.{IsLedger}
-use Rattle.iv_track.specs.declared.places.Place.{Place}
+use Rattle.iv_track.specs.declared.entry_index.EntryIndex.{EntryIndex}
 use Rattle.iv_track.proofs.Splits.{IsBelow, IsAbove, all_front, all_back, all_both, weaken, around_below, ledger_head, ledger_tail, ledger_nil, ledger_cons}
 use Rattle.iv_track.proofs.ChunkLemmas.{joined-split, joined-parts, before_at, from_at, from_here, before_next, before-from}
 
@@ -233,7 +233,7 @@ module _ {K V : Type 0} {cmp : K → K → Ordering} (o : IsTotalOrder cmp) wher
           -- the entries before that one are below k too
           below_last : All (IsBelow cmp k) (before cs (record { chunk = c; index = j }))
           below_last =
-              let p : Place = record { chunk = c; index = j } in
+              let p : EntryIndex = record { chunk = c; index = j } in
               let all = sym (before-from cs p) ∙ ap (λ es. before cs p ++ es) (from_here cs c x lt read x j e within here) in
               let sorted = subst (IsLedger cmp) all ok.ordered in
               All-from_recursion (IsBelow cmp k) (before cs p) (weaken (λ f. cmp f.0 e.0 ≡ Less) (IsBelow cmp k) (λ f h. turned o f.0 k Less (o.trans f.0 e.0 k h (turned o k e.0 Greater less))) (before cs p) (around_below o (before cs p) e (drop 1 (from cs p)) sorted))
@@ -246,5 +246,5 @@ module _ {K V : Type 0} {cmp : K → K → Ordering} (o : IsTotalOrder cmp) wher
               )
 
         -- a place where the entry at it is above k, or there is none
-        pub above_place : (p : Place) → IfSome (slice_get (from cs p) 0) (IsAbove cmp k) → All (IsAbove cmp k) (from cs p)
+        pub above_place : (p : EntryIndex) → IfSome (slice_get (from cs p) 0) (IsAbove cmp k) → All (IsAbove cmp k) (from cs p)
         above_place p h = above_first (from cs p) (ledger_back (before cs p) (from cs p) (subst (IsLedger cmp) (sym (before-from cs p)) ok.ordered)) h

@@ -8,7 +8,7 @@ pub mod FindLemmas
 pub mod MapLemmas
 pub mod Nearest
 pub mod NumberOrder
-pub mod PlaceLemmas
+pub mod EntryIndexLemmas
 pub mod RoomLemmas
 pub mod Splits
 pub mod StepLemmas

@@ -12,9 +12,9 @@ use Rattle.std.specs.declared.cmp.Ordering.TheVariants.{Less, Equal, Greater}
 use Rattle.std.specs.declared.vec.Vec.{Vec}
 use Rattle.std.proofs.lemmas.List.{length-append, length_push, get_or_push, get_or_default, drop-drop}
 use Rattle.std.proofs.lemmas.List.Elements.{All-nil, All-cons, All-append, All-weaker}
-use Rattle.iv_track.specs.Chunks.{joined, before, from, IsFilled, AreFilled, AreChunks, IsWhole, IsInside, IsGap, IsFound, most_in_chunk}
+use Rattle.iv_track.specs.Inside.Chunks.{joined, before, from, IsFilled, AreFilled, AreChunks, IsWhole, IsInside, IsGap, IsFound, most_in_chunk}
 use Rattle.iv_track.specs.Entries.{IsLedger, value_at, last_until}
-use Rattle.iv_track.specs.declared.places.Place.{Place}
+use Rattle.iv_track.specs.declared.entry_index.EntryIndex.{EntryIndex}
 use Rattle.iv_track.proofs.Nearest.{find-filter}
 use Rattle.iv_track.proofs.Splits.{IsBelow, IsAbove, filter_from, find_last, find_no_last, value_absent, remove_absent, insert_absent, value_present, set_present, remove_present, insert_present, below_present, above_present, sorted_insert, sorted_remove, sorted_set, ledger_nil}
 use Rattle.iv_track.proofs.ChunkLemmas.{before-from, before_next, from_here, joined-set_written, filled-set}
@@ -32,12 +32,12 @@ pub whole_none : {K V Z : Type 0} {cmp : K → K → Ordering} (cs : List (Vec (
 whole_none {K = K} {V = V} {cmp = cmp} cs none = whole_gathered cs [] 0 (ap joined none) (ledger_nil K V cmp) (subst AreFilled (sym none) (All-nil IsFilled)) refl (omega arith)
 
 -- an index in a chunk is small
-pub small_index : {X Z : Type 0} (cs : List (Vec X Z)) (p : Place) → AreFilled cs → IsInside cs p → p.index < most_in_chunk
+pub small_index : {X Z : Type 0} (cs : List (Vec X Z)) (p : EntryIndex) → AreFilled cs → IsInside cs p → p.index < most_in_chunk
 small_index [] p filled inside = absurd (omega (arith, inside.chunk_in_range))
 small_index (c ∷ cs) p filled inside = omega (arith, filled p.chunk c inside.chunk_in_range, inside.index_in_range c)
 
 -- the first entry from a place on is the first that passes a test, if those from there on are all that pass
-pub first_found : {X Z : Type 0} {cs ds fs : List (Vec X Z)} {es : List X} {r : Option X} → fs ≡ cs → ds ≡ cs → joined cs ≡ es → (t : X → Bool) (p : Place) → from ds p ≡ filter t (joined ds) → r ≡ slice_get (from fs p) 0 → r ≡ find t es
+pub first_found : {X Z : Type 0} {cs ds fs : List (Vec X Z)} {es : List X} {r : Option X} → fs ≡ cs → ds ≡ cs → joined cs ≡ es → (t : X → Bool) (p : EntryIndex) → from ds p ≡ filter t (joined ds) → r ≡ slice_get (from fs p) 0 → r ≡ find t es
 first_found again same all t p passing first =
     first
     ∙ ap (λ hs. slice_get (from hs p) 0) (again ∙ sym same)
@@ -56,14 +56,14 @@ head_or d (x ∷ xs) = x
 -- ---- the key is there
 
 -- among the entries es of the chunks, the one at the place is e, and its key is k
-pub record IsEntry {K V Z : Type 0} (cmp : K → K → Ordering) (k : K) (cs : List (Vec (K × V) Z)) (es : List (K × V)) (p : Place) (e : K × V) : Type 0 where
+pub record IsEntry {K V Z : Type 0} (cmp : K → K → Ordering) (k : K) (cs : List (Vec (K × V) Z)) (es : List (K × V)) (p : EntryIndex) (e : K × V) : Type 0 where
   pub total : IsTotalOrder cmp
   pub sorted : IsLedger cmp es
   pub all : joined cs ≡ es
   pub first : from cs p ≡ e ∷ drop 1 (from cs p)
   pub here : cmp k e.0 ≡ Equal
 
-module _ {K V Z : Type 0} {cmp : K → K → Ordering} {k : K} {cs : List (Vec (K × V) Z)} {es : List (K × V)} {p : Place} {e : K × V} (entry : IsEntry cmp k cs es p e) where
+module _ {K V Z : Type 0} {cmp : K → K → Ordering} {k : K} {cs : List (Vec (K × V) Z)} {es : List (K × V)} {p : EntryIndex} {e : K × V} (entry : IsEntry cmp k cs es p e) where
   -- all entries: those before it, itself, and those after it
   parts : es ≡ before cs p ++ e ∷ drop 1 (from cs p)
   parts = sym entry.all ∙ sym (before-from cs p) ∙ ap (λ xs. before cs p ++ xs) entry.first
@@ -137,7 +137,7 @@ module _ {K V Z : Type 0} {cmp : K → K → Ordering} {k : K} {cs : List (Vec (
         (omega (arith, counted_found, length-append (before cs p) (drop 1 (from cs p)))) (omega (arith, whole.small))
 
 -- if a search found a key there is an entry with it
-module _ {K V Z : Type 0} {cmp : K → K → Ordering} (o : IsTotalOrder cmp) {k : K} {cs ds : List (Vec (K × V) Z)} {es : List (K × V)} {p : Place}
+module _ {K V Z : Type 0} {cmp : K → K → Ordering} (o : IsTotalOrder cmp) {k : K} {cs ds : List (Vec (K × V) Z)} {es : List (K × V)} {p : EntryIndex}
     (found : IsFound cmp ds k p) (same : ds ≡ cs) (ok : AreChunks cmp cs) (all : joined cs ≡ es) where
   -- so the search says of the chunks themselves
   there : IsFound cmp cs k p
@@ -209,7 +209,7 @@ module _ {K V Z : Type 0} {cmp : K → K → Ordering} (o : IsTotalOrder cmp) {k
   found_after = after_entry (entry_there cs refl).1 ∙ drop-drop 1 p.index (joined (drop p.chunk cs))
 
 -- ---- the key is not there
-module _ {K V Z : Type 0} {cmp : K → K → Ordering} {k : K} {cs ds : List (Vec (K × V) Z)} {es : List (K × V)} {p : Place} (missing : IsGap cmp ds k p) (same : ds ≡ cs) (all : joined cs ≡ es) where
+module _ {K V Z : Type 0} {cmp : K → K → Ordering} {k : K} {cs ds : List (Vec (K × V) Z)} {es : List (K × V)} {p : EntryIndex} (missing : IsGap cmp ds k p) (same : ds ≡ cs) (all : joined cs ≡ es) where
   -- so the search says of the chunks themselves
   gap : IsGap cmp cs k p
   gap = subst (λ ys. IsGap cmp ys k p) same missing

@@ -6,7 +6,7 @@ use Rattle.std.specs.declared.vec.Vec.{Vec}
 use Rattle.std.proofs.Math.Seq.{take-add}
 use Rattle.std.proofs.lemmas.List.{take-append-drop, take-append-le, drop-append-le, take_at, drop_at, get_or_at, take_more_set, drop-set-lt, take-take, drop-drop, append-nil, length-append, length-take-le, length-drop, length_push}
 use Rattle.std.proofs.lemmas.List.Concat.{flat_map-append}
-use Rattle.iv_track.specs.Chunks.{joined, before, from, IsFilled, AreFilled, IsSplit, IsWithin, IsPlaceWithRoom, most_in_chunk}
+use Rattle.iv_track.specs.Inside.Chunks.{joined, before, from, IsFilled, AreFilled, IsSplit, IsWithin, IsIndexWithRoom, most_in_chunk}
 use Rattle.iv_track.proofs.ChunkLemmas.{before_at, from_at, filled-insert, filled-set}
 
 -- a place in a chunk between others
@@ -88,7 +88,7 @@ module _ {X Z : Type 0} {old : List (Vec X Z)} {c n size : ℕ} {new : List (Vec
   right_at d = ap (λ cs. get_or cs (c + 1) d) parts ∙ get_or_at (take c old ++ split.left ∷ []) split.right (drop (c + 1) old) d (c + 1) both_len
 
   -- a place in the first part
-  pub room_left : (i : ℕ) → i ≤ n → IsPlaceWithRoom old (record { chunk = c; index = i }) new (record { chunk = c; index = i })
+  pub room_left : (i : ℕ) → i ≤ n → IsIndexWithRoom old (record { chunk = c; index = i }) new (record { chunk = c; index = i })
   room_left i le =
       let rest_items = joined (drop (c + 1) old) in
       record {
@@ -115,7 +115,7 @@ module _ {X Z : Type 0} {old : List (Vec X Z)} {c n size : ℕ} {new : List (Vec
       }
 
   -- a place in the second
-  room_after : (j : ℕ) → n + j ≤ vec_len x → IsPlaceWithRoom old (record { chunk = c; index = n + j }) new (record { chunk = c + 1; index = j })
+  room_after : (j : ℕ) → n + j ≤ vec_len x → IsIndexWithRoom old (record { chunk = c; index = n + j }) new (record { chunk = c + 1; index = j })
   room_after j le =
       let rest_items = joined (drop (c + 1) old) in
       record {
@@ -140,10 +140,10 @@ module _ {X Z : Type 0} {old : List (Vec X Z)} {c n size : ℕ} {new : List (Vec
       }
 
   -- an index after the middle is a place in the second
-  pub room_right : (i : ℕ) → n ≤ i → IsWithin old (record { chunk = c; index = i }) → IsPlaceWithRoom old (record { chunk = c; index = i }) new (record { chunk = c + 1; index = i - n })
+  pub room_right : (i : ℕ) → n ≤ i → IsWithin old (record { chunk = c; index = i }) → IsIndexWithRoom old (record { chunk = c; index = i }) new (record { chunk = c + 1; index = i - n })
   room_right i above within =
       let bound = subst (λ y. i ≤ vec_len y) (sym is) (within.index_in_range (omega arith) x) in
-      subst (λ (m : ℕ). IsPlaceWithRoom old (record { chunk = c; index = m }) new (record { chunk = c + 1; index = i - n })) (omega arith) (room_after (i - n) (omega (arith, bound)))
+      subst (λ (m : ℕ). IsIndexWithRoom old (record { chunk = c; index = m }) new (record { chunk = c + 1; index = i - n })) (omega arith) (room_after (i - n) (omega (arith, bound)))
 
 -- what holds anyway
 pub always_on_err : {T E P : Type 0} (r : Result T E) → P → OnErr r P

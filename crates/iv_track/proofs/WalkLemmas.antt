@@ -5,10 +5,10 @@ use Rattle.std.specs.Map.{values_of}
 use Rattle.std.specs.Ordering.{nat_cmp}
 use Rattle.std.proofs.lemmas.Bool.{cond-true}
 use Rattle.std.proofs.lemmas.List.Elements.{filter-append, All-head, All-tail, All-cons}
-use Rattle.iv_text.specs.Row.{Row}
-use Rattle.iv_track.specs.Copies.{expanded}
+use Rattle.iv_text.specs.RecordValue.{RecordValue}
+use Rattle.iv_track.specs.Inside.Copies.{expanded}
 use Rattle.iv_track.specs.Tracked.{is_from}
-use Rattle.iv_track.proofs.PlaceLemmas.{le_then, zero_le}
+use Rattle.iv_track.proofs.EntryIndexLemmas.{le_then, zero_le}
 
 module _ {K : Type 0} where
   filter-replicate : (p : K → Bool) (n : ℕ) (k : K) → filter p (replicate n k) ≡ cond (p k) (replicate n k) []
@@ -40,8 +40,8 @@ module _ {K : Type 0} where
       ]
 
 -- from the first base of the first sequence on there is every record
-pub filter-from_first : (rows : List Row) → filter (is_from 0 0) rows ≡ rows
+pub filter-from_first : (rows : List RecordValue) → filter (is_from 0 0) rows ≡ rows
 filter-from_first [] = refl
 filter-from_first (r ∷ rows) =
     cond-true (is_from 0 0 r) _ _ (le_then (nat_cmp 0 r.seq) (nat_cmp 0 r.start) (zero_le r.seq) (zero_le r.start))
-    ∙ ap (λ (l : List Row). r ∷ l) (filter-from_first rows)
+    ∙ ap (λ (l : List RecordValue). r ∷ l) (filter-from_first rows)

@@ -1,6 +1,6 @@
 -- A list in order from which copies are taken, and a map from keys to numbers of copies.
 use denote.Ref.{Bor}
-use Rattle.std.specs.Prelude.{ℕ, cond, List, [], ◌∷◌, ◌++◌, replicate, Option, Some, None}
+use Rattle.std.specs.Prelude.{ℕ, cond, List, [], ◌∷◌, replicate, Option, Some, None}
 use Rattle.std.specs.declared.cmp.Ordering.{Ordering}
 use Rattle.std.specs.Ordering.{is_eq}
 
@@ -9,11 +9,6 @@ module _ {K : Type 0} (cmp : K → K → Ordering) where
   abbrev pub removed_by : List K → K → List K
   removed_by [] x = []
   removed_by (q ∷ xs) x = cond (is_eq (cmp x q)) xs (q ∷ removed_by xs x)
-
--- the list that a map from keys to numbers of copies means
-abbrev pub expanded : {K : Type 0} → List (K × ℕ) → List K
-expanded [] = []
-expanded (e ∷ es) = replicate e.1 e.0 ++ expanded es
 
 -- the copies that are held
 abbrev pub again : {K : Type 0} → Option (Bor K × ℕ) → List K

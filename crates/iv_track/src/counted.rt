@@ -1,8 +1,8 @@
 //! The different records of a list in order, each with the number of its copies.
 ghost use Rattle.std.specs.Prelude.{◌≡◌, ◌^◌, ◌<◌, length};
 ghost use Rattle.std.specs.Iterator.{item_count};
-ghost use Rattle.iv_text.specs.Row.{row_cmp};
-ghost use Rattle.iv_track.specs.Counted.{grouped, GivesEntry};
+ghost use Rattle.iv_text.specs.RecordValue.{record_cmp};
+ghost use Rattle.iv_track.specs.Inside.Counted.{grouped, GivesEntry};
 
 use iv_text::{BatchItems, Batches, Record};
 use std::alloc::Allocator;
@@ -20,12 +20,12 @@ pub(crate) struct Counted<A: Allocator> {
 
 impl<A: Allocator> Model for Counted<A> {
     ghost use Rattle.std.specs.Prelude.{◌<◌, ◌^◌, ℕ, List, length};
-    ghost use Rattle.iv_text.specs.Row.{Row, row_cmp};
-    ghost use Rattle.iv_track.specs.Counted.{grouped, left};
+    ghost use Rattle.iv_text.specs.RecordValue.{RecordValue, record_cmp};
+    ghost use Rattle.iv_track.specs.Inside.Counted.{grouped, left};
 
-    ghost Value = { List (Row × ℕ) };
+    ghost Value = { List (RecordValue × ℕ) };
 
-    ghost view = { λ c. grouped row_cmp (left c.ahead c.rest) };
+    ghost view = { λ c. grouped record_cmp (left c.ahead c.rest) };
 
     ghost invariant = { λ c. length (left c.ahead c.rest) < 2 ^ 32 };
 }
@@ -34,7 +34,7 @@ impl<A: Allocator + Copy> Counted<A> {
     /// The entries of fewer than 2^32 records.
     pub(crate) fn of(rows: Batches<Record<A>, A>) -> Self
         requires { length rows < 2 ^ 32 }
-        ensures { result ≡ grouped row_cmp rows }
+        ensures { result ≡ grouped record_cmp rows }
     {
         Counted {
             rest: rows.into_iter(),
@@ -55,7 +55,7 @@ impl<A: Allocator> Iterator for Counted<A> {
             Some(row) => row,
             None => self.rest.next()?,
         };
-        first.law_of_place();
+        first.lemma_of_interval();
         let mut count = 1;
         while let Some(row) = self.rest.next() {
             if row != first {

@@ -1,9 +1,9 @@
-//! Places in a list of chunks, and what is done at them.
+//! Indexes in a list of chunks, and what is done at them.
 ghost use Rattle.std.specs.Prelude.{◌≡◌, ◌+◌, ◌-◌, ◌<◌, ◌≤◌, true, List, [], ◌∷◌, ◌++◌, length, take, drop, All, vec_len, vec_capacity, IfOk, OnOk, IfErr, OnErr};
 ghost use Rattle.std.specs.List.{filter, slice_get, HoldsAt};
 ghost use Rattle.std.specs.Ordering.{is_le, is_lt};
 ghost use Rattle.std.specs.Option.{option_copied};
-ghost use Rattle.iv_track.specs.Chunks.{AreChunks, AreFilled, IsFound, IsGap, IsInside, IsWithin, IsSplit, IsPlaceWithRoom, before, from, joined, most_at_once, most_in_chunk, starts_by};
+ghost use Rattle.iv_track.specs.Inside.Chunks.{AreChunks, AreFilled, IsFound, IsGap, IsInside, IsWithin, IsSplit, IsIndexWithRoom, before, from, joined, most_at_once, most_in_chunk, starts_by};
 
 use crate::starts::Abbreviated;
 use std::alloc::{AllocError, Allocator};
@@ -16,9 +16,9 @@ pub(crate) const MOST_IN_CHUNK: usize = 256;
 /// How many entries each chunk except the last has if all are given at once: there is room for later ones.
 pub(crate) const MOST_AT_ONCE: usize = 240;
 
-/// A place in a list of chunks: the index of a chunk, and an index in it.
+/// Where an entry is in a list of chunks: the index of a chunk, and an index in it.
 #[derive(Clone, Copy)]
-pub(crate) struct Place {
+pub(crate) struct EntryIndex {
     pub(crate) chunk: usize,
     pub(crate) index: usize,
 }
@@ -31,7 +31,7 @@ pub(crate) fn find<K: Ord + Abbreviated, V, A: Allocator>(
     chunks: &[Vec<(K, V), A>],
     starts: &[u64],
     key: &K,
-) -> Result<Place, Place>
+) -> Result<EntryIndex, EntryIndex>
     requires { AreChunks K.cmp chunks.now }
     ensures found { IfOk result (IsFound K.cmp chunks.now key.now) }
     ensures absent { IfErr result (IsGap K.cmp chunks.now key.now) }
@@ -52,7 +52,7 @@ fn find_near<K: Ord + Abbreviated, V, A: Allocator>(
     chunks: &[Vec<(K, V), A>],
     starts: &[u64],
     key: &K,
-) -> Result<Place, Place>
+) -> Result<EntryIndex, EntryIndex>
     ensures found { IfOk result (IsFound K.cmp chunks.now key.now) }
     ensures absent { IfErr result (IsWithin chunks.now) }
 {
@@ -61,13 +61,13 @@ fn find_near<K: Ord + Abbreviated, V, A: Allocator>(
         .partition_point(|start: &u64| -> bool { *start <= abbreviation })
         .saturating_sub(1);
     if chunks.len() <= chunk {
-        return Err(Place { chunk: 0, index: 0 });
+        return Err(EntryIndex { chunk: 0, index: 0 });
     }
     let entries = &chunks[chunk];
     let guess = in_proportion(starts, chunk, abbreviation, entries.len());
     match search_near(entries, key, guess) {
-        Ok(index) => Ok(Place { chunk, index }),
-        Err(index) => Err(Place { chunk, index }),
+        Ok(index) => Ok(EntryIndex { chunk, index }),
+        Err(index) => Err(EntryIndex { chunk, index }),
     }
 }
 
@@ -136,7 +136,11 @@ fn between(low: usize, high: usize, probe: usize) -> usize
 }
 
 /// Whether the key is above all entries before a place. At the first index of a later chunk the answer is no.
-fn is_above_last<K: Ord, V, A: Allocator>(chunks: &[Vec<(K, V), A>], key: &K, at: Place) -> bool
+fn is_above_last<K: Ord, V, A: Allocator>(
+    chunks: &[Vec<(K, V), A>],
+    key: &K,
+    at: EntryIndex,
+) -> bool
     requires chunks { AreChunks K.cmp chunks.now }
     requires within { IsWithin chunks.now at }
     ensures first { result ≡ true → at.index ≡ 0 → at.chunk ≡ 0 }
@@ -156,7 +160,11 @@ fn is_above_last<K: Ord, V, A: Allocator>(chunks: &[Vec<(K, V), A>], key: &K, at
 }
 
 /// Whether the key is below all entries from a place on.
-fn is_below_next<K: Ord, V, A: Allocator>(chunks: &[Vec<(K, V), A>], key: &K, at: Place) -> bool
+fn is_below_next<K: Ord, V, A: Allocator>(
+    chunks: &[Vec<(K, V), A>],
+    key: &K,
+    at: EntryIndex,
+) -> bool
     requires chunks { AreChunks K.cmp chunks.now }
     requires within { IsWithin chunks.now at }
     ensures { result ≡ true → All (λ e. K.cmp key.now e.0 ≡ Ordering.Less) (from chunks.now at) }
@@ -168,7 +176,10 @@ fn is_below_next<K: Ord, V, A: Allocator>(chunks: &[Vec<(K, V), A>], key: &K, at
 }
 
 /// Where the key is, or else the place before which it would go, by the keys alone.
-fn find_by_keys<K: Ord, V, A: Allocator>(chunks: &[Vec<(K, V), A>], key: &K) -> Result<Place, Place>
+fn find_by_keys<K: Ord, V, A: Allocator>(
+    chunks: &[Vec<(K, V), A>],
+    key: &K,
+) -> Result<EntryIndex, EntryIndex>
     requires { AreChunks K.cmp chunks.now }
     ensures found { IfOk result (IsFound K.cmp chunks.now key.now) }
     ensures absent { IfErr result (IsGap K.cmp chunks.now key.now) }
@@ -179,7 +190,7 @@ fn find_by_keys<K: Ord, V, A: Allocator>(chunks: &[Vec<(K, V), A>], key: &K) -> 
         { starts_until(chunk, key) },
     );
     if starts == 0 {
-        return Err(Place { chunk: 0, index: 0 });
+        return Err(EntryIndex { chunk: 0, index: 0 });
     }
     let chunk = starts - 1;
     match chunks[chunk].binary_search_by(
@@ -187,8 +198,8 @@ fn find_by_keys<K: Ord, V, A: Allocator>(chunks: &[Vec<(K, V), A>], key: &K) -> 
             ensures { result ≡ K.cmp entry.now.0 key.entry.now }
         { entry.0.cmp(key) },
     ) {
-        Ok(index) => Ok(Place { chunk, index }),
-        Err(index) => Err(Place { chunk, index }),
+        Ok(index) => Ok(EntryIndex { chunk, index }),
+        Err(index) => Err(EntryIndex { chunk, index }),
     }
 }
 
@@ -203,11 +214,11 @@ fn starts_until<K: Ord, V, A: Allocator>(chunk: &Vec<(K, V), A>, key: &K) -> boo
 }
 
 /// The place from which on the entries are at the key or after it.
-pub(crate) fn place_from<K: Ord + Abbreviated, V, A: Allocator>(
+pub(crate) fn index_from<K: Ord + Abbreviated, V, A: Allocator>(
     chunks: &[Vec<(K, V), A>],
     starts: &[u64],
     key: &K,
-) -> Place
+) -> EntryIndex
     requires { AreChunks K.cmp chunks.now }
     ensures within { IsWithin chunks.now result }
     ensures entries { from chunks.now result ≡ filter (λ e. is_le (K.cmp key.now e.0)) (joined chunks.now) }
@@ -219,17 +230,17 @@ pub(crate) fn place_from<K: Ord + Abbreviated, V, A: Allocator>(
 }
 
 /// The place from which on the entries are after the key.
-pub(crate) fn place_after<K: Ord + Abbreviated, V, A: Allocator>(
+pub(crate) fn index_after<K: Ord + Abbreviated, V, A: Allocator>(
     chunks: &[Vec<(K, V), A>],
     starts: &[u64],
     key: &K,
-) -> Place
+) -> EntryIndex
     requires { AreChunks K.cmp chunks.now }
     ensures within { IsWithin chunks.now result }
     ensures entries { from chunks.now result ≡ filter (λ e. is_lt (K.cmp key.now e.0)) (joined chunks.now) }
 {
     match find(chunks, starts, key) {
-        Ok(at) => Place {
+        Ok(at) => EntryIndex {
             chunk: at.chunk,
             index: at.index + 1,
         },
@@ -238,7 +249,7 @@ pub(crate) fn place_after<K: Ord + Abbreviated, V, A: Allocator>(
 }
 
 /// The first entry from a place on.
-pub(crate) fn first_from<T, A: Allocator>(chunks: &[Vec<T, A>], at: Place) -> Option<&T>
+pub(crate) fn first_from<T, A: Allocator>(chunks: &[Vec<T, A>], at: EntryIndex) -> Option<&T>
     requires within { IsWithin chunks.now at }
     requires filled { AreFilled chunks.now }
     ensures { option_copied result ≡ slice_get (from chunks.now at) 0 }
@@ -256,7 +267,7 @@ pub(crate) fn first_from<T, A: Allocator>(chunks: &[Vec<T, A>], at: Place) -> Op
 /// An allocation failed: the entries are as before.
 pub(crate) fn insert_at<T: Drop, A: Allocator + Clone + Drop>(
     chunks: &mut Vec<Vec<T, A>, A>,
-    at: Place,
+    at: EntryIndex,
     entry: T,
 ) -> Result<(), AllocError>
     requires within { IsWithin chunks.old.items at }
@@ -325,12 +336,12 @@ pub(crate) fn with_last<T: Drop, A: Allocator + Drop>(
 /// An allocation failed: nothing is changed.
 fn with_room<T: Drop, A: Allocator + Clone + Drop>(
     chunks: &mut Vec<Vec<T, A>, A>,
-    at: Place,
-) -> Result<Place, AllocError>
+    at: EntryIndex,
+) -> Result<EntryIndex, AllocError>
     requires chunk_in_range { at.chunk < vec_len chunks.old }
     requires within { IsWithin chunks.old.items at }
     requires filled { AreFilled chunks.old.items }
-    ensures ok { IfOk result (IsPlaceWithRoom chunks.old.items at chunks.new.items) }
+    ensures ok { IfOk result (IsIndexWithRoom chunks.old.items at chunks.new.items) }
     ensures err { OnErr result (chunks.new.items ≡ chunks.old.items) }
     ensures filled { AreFilled chunks.new.items }
 {
@@ -343,7 +354,7 @@ fn with_room<T: Drop, A: Allocator + Clone + Drop>(
     if at.index <= half {
         return Ok(at);
     }
-    Ok(Place {
+    Ok(EntryIndex {
         chunk: at.chunk + 1,
         index: at.index - half,
     })
@@ -391,7 +402,7 @@ fn move_tail<T, A: Allocator>(left: &mut Vec<T, A>, half: usize, right: &mut Vec
 /// Takes the entry at a place out, and with it a chunk that it leaves empty.
 pub(crate) fn remove_at<T: Drop, A: Allocator + Drop>(
     chunks: &mut Vec<Vec<T, A>, A>,
-    at: Place,
+    at: EntryIndex,
 ) -> T
     requires inside { IsInside chunks.old.items at }
     requires filled { AreFilled chunks.old.items }

@@ -7,14 +7,14 @@ ghost use Rattle.std.specs.BTreeMap.{is_at, insert_entry};
 ghost use Rattle.std.specs.Iterator.{IsFinite, Drains};
 ghost use Rattle.std.specs.List.{filter};
 ghost use Rattle.std.specs.Ordering.{is_le};
-ghost use Rattle.iv_track.specs.Chunks.{AreFilled, IsWithin, from};
+ghost use Rattle.iv_track.specs.Inside.Chunks.{AreFilled, IsWithin, from};
 ghost use Rattle.iv_track.specs.Entries.{IsLedger, value_at, first_from, first_after, last_until};
 ghost use Rattle.iv_track.specs.Steps.{ticked};
 
-use crate::meter::Meter;
-use crate::places::{
-    self, Place, append, find, insert_at, place_after, place_from, remove_at, with_last,
+use crate::entry_index::{
+    self, EntryIndex, append, find, index_after, index_from, insert_at, remove_at, with_last,
 };
+use crate::meter::Meter;
 use crate::starts::{Abbreviated, Starts};
 use std::alloc::{AllocError, Allocator, Global};
 use std::marker::Model;
@@ -40,7 +40,7 @@ pub struct Ledger<K: Ord, V, A: Allocator = Global> {
 
 impl<K: Ord, V, A: Allocator> Model for Ledger<K, V, A> {
     ghost use Rattle.std.specs.Prelude.{◌≡◌, List};
-    ghost use Rattle.iv_track.specs.Chunks.{IsWhole, joined};
+    ghost use Rattle.iv_track.specs.Inside.Chunks.{IsWhole, joined};
 
     ghost Value = { List (K × V) };
 
@@ -191,8 +191,8 @@ impl<K: Ord + Abbreviated + Drop, V: Drop, A: Allocator + Clone + Drop> Ledger<K
         ensures step { meter.new ≡ ticked meter.old }
     {
         meter.tick();
-        let at = place_from(&self.chunks, self.starts.as_slice(), key);
-        let entry = places::first_from(&self.chunks, at)?;
+        let at = index_from(&self.chunks, self.starts.as_slice(), key);
+        let entry = entry_index::first_from(&self.chunks, at)?;
         Some((&entry.0, &entry.1))
     }
 
@@ -223,8 +223,8 @@ impl<K: Ord + Abbreviated + Drop, V: Drop, A: Allocator + Clone + Drop> Ledger<K
         ensures step { meter.new ≡ ticked meter.old }
     {
         meter.tick();
-        let at = place_after(&self.chunks, self.starts.as_slice(), key);
-        let entry = places::first_from(&self.chunks, at)?;
+        let at = index_after(&self.chunks, self.starts.as_slice(), key);
+        let entry = entry_index::first_from(&self.chunks, at)?;
         Some((&entry.0, &entry.1))
     }
 
@@ -235,9 +235,9 @@ impl<K: Ord + Abbreviated + Drop, V: Drop, A: Allocator + Clone + Drop> Ledger<K
         ensures step { meter.new ≡ ticked meter.old }
     {
         meter.tick();
-        Walk::from_place(
+        Walk::from_index(
             &self.chunks,
-            place_from(&self.chunks, self.starts.as_slice(), key),
+            index_from(&self.chunks, self.starts.as_slice(), key),
         )
     }
 }
@@ -253,7 +253,7 @@ pub struct Walk<'a, K, V, A: Allocator = Global> {
 
 impl<'a, K, V, A: Allocator> Model for Walk<'a, K, V, A> {
     ghost use Rattle.std.specs.Prelude.{List, ◌++◌};
-    ghost use Rattle.iv_track.specs.Chunks.{AreFilled, joined};
+    ghost use Rattle.iv_track.specs.Inside.Chunks.{AreFilled, joined};
 
     ghost Value = { List (K × V) };
 
@@ -264,7 +264,7 @@ impl<'a, K, V, A: Allocator> Model for Walk<'a, K, V, A> {
 
 impl<'a, K, V, A: Allocator> Walk<'a, K, V, A> {
     /// The entries from a place on.
-    fn from_place(chunks: &'a [Vec<(K, V), A>], at: Place) -> Walk<'a, K, V, A>
+    fn from_index(chunks: &'a [Vec<(K, V), A>], at: EntryIndex) -> Walk<'a, K, V, A>
         requires within { IsWithin chunks.now at }
         requires filled { AreFilled chunks.now }
         ensures { result ≡ from chunks.now at }

@@ -2,16 +2,16 @@
 #![tactic(auto)]
 
 mod counted;
-mod laws;
+mod entry_index;
 mod ledger;
+mod lemmas;
 mod meter;
-mod places;
 mod rows;
 mod starts;
 mod track;
 
-pub use laws::{one_record_added, one_record_removed};
 pub use ledger::{Ledger, Walk};
+pub use lemmas::{one_record_added, one_record_removed};
 pub use meter::Meter;
 pub use rows::Rows;
 pub use starts::Abbreviated;

@@ -21,10 +21,11 @@ pub struct Rows<'a, A: Allocator + Copy = Global> {
 impl<'a, A: Allocator + Copy> Model for Rows<'a, A> {
     ghost use Rattle.std.specs.Prelude.{List, ◌++◌, ◌<◌, All};
     ghost use Rattle.std.specs.Map.{values_of};
-    ghost use Rattle.iv_text.specs.Row.{Row};
-    ghost use Rattle.iv_track.specs.Copies.{expanded, again};
+    ghost use Rattle.iv_text.specs.RecordValue.{RecordValue};
+    ghost use Rattle.iv_track.specs.Copies.{again};
+    ghost use Rattle.iv_track.specs.Inside.Copies.{expanded};
 
-    ghost Value = { List Row };
+    ghost Value = { List RecordValue };
 
     ghost view = { λ w. again w.held ++ expanded w.entries };
 

@@ -1,7 +1,7 @@
 //! Numbers instead of keys, by which a search begins.
 ghost use Rattle.std.specs.Prelude.{◌<◌, ◌≤◌, vec_len, vec_capacity};
 
-use crate::places::{MOST_IN_CHUNK, Place};
+use crate::entry_index::{EntryIndex, MOST_IN_CHUNK};
 use iv_text::Record;
 use std::alloc::{AllocError, Allocator};
 
@@ -86,7 +86,7 @@ impl<A: Allocator + Clone + Drop> Starts<A> {
     pub(crate) fn make_room<T>(
         &mut self,
         chunks: &Vec<Vec<T, A>, A>,
-        at: Place,
+        at: EntryIndex,
     ) -> Result<(), AllocError> {
         if let Some(chunk) = chunks.get(at.chunk) {
             if chunk.len() < MOST_IN_CHUNK {
@@ -105,7 +105,7 @@ impl<A: Allocator + Clone + Drop> Starts<A> {
     pub(crate) fn follow_insert<K: Abbreviated, V>(
         &mut self,
         chunks: &[Vec<(K, V), A>],
-        at: Place,
+        at: EntryIndex,
     ) {
         let Some(list) = &mut self.list else {
             return;
@@ -127,7 +127,7 @@ impl<A: Allocator + Clone + Drop> Starts<A> {
     pub(crate) fn follow_remove<K: Abbreviated, V>(
         &mut self,
         chunks: &[Vec<(K, V), A>],
-        at: Place,
+        at: EntryIndex,
     ) {
         let Some(list) = &mut self.list else {
             return;

@@ -3,11 +3,12 @@ ghost use Rattle.std.specs.Prelude.{◌≡◌, ◌+◌, ◌-◌, ◌^◌, ◌<�
 ghost use Rattle.std.specs.Map.Iter.{deref_pair};
 ghost use Rattle.std.specs.List.{filter};
 ghost use Rattle.std.specs.List.Sorted.{IsPermutation, IsSorted};
-ghost use Rattle.iv_text.specs.Row.{Row, row_cmp};
+ghost use Rattle.iv_text.specs.RecordValue.{RecordValue, record_cmp};
 ghost use Rattle.iv_text.specs.Ordered.{AreInOrder, copies, ordered};
 ghost use Rattle.iv_track.specs.Edits.{RefusesAdd, RefusesRemove, RefusesReplace, with_record, without_record, with_replaced};
 ghost use Rattle.iv_track.specs.Steps.{TakesUpTo};
-ghost use Rattle.iv_track.specs.Tracked.{BeginsFrom, most_records};
+ghost use Rattle.iv_track.specs.Tracked.{most_records};
+ghost use Rattle.iv_track.specs.Inside.Tracked.{BeginsFrom};
 
 use crate::counted::Counted;
 use crate::ledger::Ledger;
@@ -33,8 +34,9 @@ pub struct Track<A: Allocator + Copy = Global> {
 }
 
 impl<A: Allocator + Copy> Model for Track<A> {
-    ghost use Rattle.iv_track.specs.Copies.{expanded};
-    ghost use Rattle.iv_track.specs.Tracked.{Tracked, IsTrack};
+    ghost use Rattle.iv_track.specs.Inside.Copies.{expanded};
+    ghost use Rattle.iv_track.specs.Tracked.{Tracked};
+    ghost use Rattle.iv_track.specs.Inside.Tracked.{IsTrack};
 
     ghost Value = { Tracked };
 
@@ -159,7 +161,7 @@ impl<A: Allocator + Copy> Track<A> {
         ensures err { OnErr result (self.new ≡ self.old) }
         ensures steps { TakesUpTo meter.old meter.new 3 }
     {
-        row.law_of_place();
+        row.lemma_of_interval();
         let count = self.ledger.get(&row, meter).copied().unwrap_or(0);
         self.ledger.put(row, count + 1, meter)?;
         self.len += 1;
@@ -302,7 +304,7 @@ fn in_order<A: Allocator + Copy>(
     rows: Batches<Record<A>, A>,
 ) -> Result<Batches<Record<A>, A>, AllocError>
     ensures same { IfOk result (λ sorted. IsPermutation rows sorted) }
-    ensures sorted { IfOk result (λ sorted. IsSorted row_cmp sorted) }
+    ensures sorted { IfOk result (λ sorted. IsSorted record_cmp sorted) }
 {
     if rows.is_sorted() {
         return Ok(rows);

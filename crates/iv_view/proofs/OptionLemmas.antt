@@ -6,7 +6,7 @@ use Rattle.std.specs.Str.{bytes_eq}
 use Rattle.std.proofs.lemmas.Slice.Eq.{bytes_eq-Decides}
 use Rattle.std.proofs.lemmas.List.Sorted.{IsPermutation-refl, IsPermutation-sym, IsPermutation-trans, IsPermutation-keeps, IsPermutation-middle, IsPermutation-to_front, IsPermutation-append_left, IsPermutation-append_right}
 use Rattle.iv_view.specs.Merge.{MergeArgs, said_by, with_flag, with_value_of, option_of, unless_given, nothing_said}
-use Rattle.iv_view.specs.MergeOptions.{MergeOption, Distance, Columns, Ops, Stranded, words_of, option_words, options_of}
+use Rattle.iv_view.specs.Inside.MergeOptions.{MergeOption, Distance, Columns, Ops, Stranded, words_of, option_words, options_of}
 use Rattle.iv_view.specs.declared.merge.ValuedOption.{ValuedOption}
 use Rattle.iv_view.specs.declared.merge.ValuedOption.TheVariants as option
 

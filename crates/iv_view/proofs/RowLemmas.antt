@@ -5,7 +5,7 @@ use Rattle.std.proofs.lemmas.Slice.Eq.{bytes_eq-Decides}
 use Rattle.iv_fasta.specs.FastaRows.{fasta_text}
 use Rattle.iv_fasta.specs.declared.rows.FastaRows.{FastaRows}
 use Rattle.iv_text.specs.Genome.{Sequences}
-use Rattle.iv_text.specs.Row.{Row}
+use Rattle.iv_text.specs.RecordValue.{RecordValue}
 use Rattle.iv_view.specs.Getfasta as getfasta
 use Rattle.iv_view.specs.Intersect as intersect
 use Rattle.iv_view.proofs.FlagLemmas.{AreOthers}
@@ -25,6 +25,6 @@ getfasta_others = record {
 }
 
 -- without bases there is no row
-pub no-bases : (shown : FastaRows) (g : Sequences) (rows : List Row) → fasta_text shown g [] rows ≡ []
+pub no-bases : (shown : FastaRows) (g : Sequences) (rows : List RecordValue) → fasta_text shown g [] rows ≡ []
 no-bases shown g [] = refl
 no-bases shown g (r ∷ rows) = no-bases shown g rows

@@ -1,7 +1,7 @@
 -- What is kept for views, kind by kind.
 use Rattle.std.specs.Prelude.{ℕ, ◌+◌, ◌*◌, List, Option, None, Some, length}
 use Rattle.iv_text.specs.Genome.{Sequences}
-use Rattle.iv_text.specs.Row.{Row}
+use Rattle.iv_text.specs.RecordValue.{RecordValue}
 use Rattle.iv_track.specs.Steps.{TakesUpTo}
 use Rattle.iv_blocks.specs.Groups.{joined}
 use Rattle.iv_blocks.specs.KeptBlocks.{AreBlocksOf, block_steps}
@@ -35,24 +35,24 @@ built_for (state.Blocks b) = keep.Blocks b.options
 built_for (state.Depth d) = keep.Depth
 
 -- the state is right for a genome of these names and these records
-abbrev pub IsRight : {A : Type 0} → KeptState A → List (List ℕ) → List Row → Type 0
+abbrev pub IsRight : {A : Type 0} → KeptState A → List (List ℕ) → List RecordValue → Type 0
 IsRight (state.Blocks b) names rows = AreBlocksOf b.options names rows b.entries
 IsRight (state.Depth d) names rows = AreChangesOf rows d
 
 -- how many steps a repair of what is kept takes at most, with the record among the records
-abbrev pub repair_steps : StateKey → List Row → Row → ℕ
+abbrev pub repair_steps : StateKey → List RecordValue → RecordValue → ℕ
 repair_steps (keep.Blocks options) rows r = block_steps options rows r
 repair_steps keep.Depth rows r = 8
 
 -- how many steps a repair for a view takes at most: none for one that is written from the records
-abbrev pub repair_steps_of : View → List Row → Row → ℕ
+abbrev pub repair_steps_of : View → List RecordValue → RecordValue → ℕ
 repair_steps_of (view.Kept v) rows r = repair_steps (state_key v) rows r
 repair_steps_of (view.Written v) rows r = 0
 
 -- how many steps lie between two readings at most while a view is printed from what is kept for it: two, and one more for each
 -- block, or two more for each row of a depth above 0; of `cluster`, which prints every record, four, and one more for each record and
 -- each block
-abbrev pub PrintsWithin : KeptView → Sequences → List Row → ℕ → ℕ → Type 0
+abbrev pub PrintsWithin : KeptView → Sequences → List RecordValue → ℕ → ℕ → Type 0
 PrintsWithin (kept.Merge options) g rows old new = TakesUpTo old new (2 + length (all_blocks options g rows))
 PrintsWithin (kept.Cluster distance) g rows old new = TakesUpTo old new (4 + length rows + length (all_blocks (joined distance) g rows))
 PrintsWithin (kept.Complement limited) g rows old new = TakesUpTo old new (2 + length (all_blocks (joined 0) g rows))

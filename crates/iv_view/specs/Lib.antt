@@ -1,10 +1,10 @@
 pub mod Flags
 pub mod Lists
 pub mod Merge
-pub mod MergeOptions
 pub mod Genomecov
 pub mod Intersect
 pub mod Getfasta
 pub mod Views
 pub mod Narrowing
 pub mod KeptStates
+pub mod Inside

@@ -3,7 +3,7 @@ use Rattle.std.specs.Prelude.{ℕ, Bool, true, false, nat_lt, ◌&&◌, if◌the
 use Rattle.std.specs.Option.{ok_or, option_map}
 use Rattle.std.specs.Str.{bytes_eq}
 use Rattle.iv_text.specs.Genome.{Sequences}
-use Rattle.iv_text.specs.Row.{Row}
+use Rattle.iv_text.specs.RecordValue.{RecordValue}
 use Rattle.iv_text.specs.declared.fault.Fault.{Fault}
 use Rattle.iv_text.specs.declared.fault.Fault.TheVariants as fault
 use Rattle.iv_blocks.specs.ClusterRows.{cluster_text}
@@ -73,24 +73,24 @@ read_words width has_second has_bases (word ∷ words) =
     else Err fault.Words
 
 -- the text of a view of which a state is kept, on this genome for these records
-abbrev pub kept_text : KeptView → Sequences → List Row → List ℕ
+abbrev pub kept_text : KeptView → Sequences → List RecordValue → List ℕ
 kept_text (kept.Merge options) g rows = merge_text options g rows
 kept_text (kept.Cluster distance) g rows = cluster_text distance g rows
 kept_text (kept.Complement limited) g rows = complement_text limited g rows
 kept_text (kept.Genomecov shown) g rows = depth_text shown g rows
 
 -- the text of a view that is written from these records, those of the second file and these bases
-abbrev pub written_text : WrittenView → Sequences → List Row → List Row → Bases → List ℕ
+abbrev pub written_text : WrittenView → Sequences → List RecordValue → List RecordValue → Bases → List ℕ
 written_text (written.Paired shown) g rows second bases = pair_text shown g rows second
 written_text (written.Getfasta shown) g rows second bases = fasta_text shown g bases rows
 
 -- the records of a second file: none without one
-abbrev pub second_rows : Option Tracked → List Row
+abbrev pub second_rows : Option Tracked → List RecordValue
 second_rows None = []
 second_rows (Some second) = second.rows
 
 -- the text that a view means, on this genome for these records, beside the records of the second file and the bases of the
 -- FASTA file, of each none if there is no such file
-abbrev pub view_text : View → Sequences → List Row → List Row → Bases → List ℕ
+abbrev pub view_text : View → Sequences → List RecordValue → List RecordValue → Bases → List ℕ
 view_text (view.Kept v) g rows second bases = kept_text v g rows
 view_text (view.Written v) g rows second bases = written_text v g rows second bases

@@ -40,8 +40,8 @@ impl KeptView {
     {
         match self {
             KeptView::Merge(options) => StateKey::Blocks(options),
-            KeptView::Cluster(distance) => StateKey::Blocks(Options::joined(distance)),
-            KeptView::Complement { .. } => StateKey::Blocks(Options::joined(0)),
+            KeptView::Cluster(distance) => StateKey::Blocks(Options::unstranded(distance)),
+            KeptView::Complement { .. } => StateKey::Blocks(Options::unstranded(0)),
             KeptView::Genomecov(_) => StateKey::Depth,
         }
     }

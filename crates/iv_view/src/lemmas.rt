@@ -1,7 +1,7 @@
 //! Lemmas on the definitions: functions that do nothing, whose contracts are the lemmas.
 ghost use Rattle.std.specs.Prelude.{◌≡◌, ◌↔◌, ◌++◌, ◌∷◌, ℕ, List, Some, None, IsPermutation, slice_get};
 ghost use Rattle.iv_view.specs.Merge.{MergeArgs, said_by, nothing_said};
-ghost use Rattle.iv_view.specs.MergeOptions.{MergeOption, words_of, option_words, options_of};
+ghost use Rattle.iv_view.specs.Inside.MergeOptions.{MergeOption, words_of, option_words, options_of};
 
 /// Words of `merge` and `cluster` say something exactly if they are those of options in some order, each of which comes once;
 /// and then they say just these options.

@@ -3,14 +3,14 @@
 
 mod flags;
 mod kept_state;
-mod laws;
+mod lemmas;
 mod merge;
 mod view;
 mod words;
 mod written_view;
 
 pub use kept_state::{KeptState, StateKey};
-pub use laws::{no_option_twice, options_in_any_order, words_are_options};
+pub use lemmas::{no_option_twice, options_in_any_order, words_are_options};
 pub use view::{Beside, KeptView, View, ViewFault};
 pub use words::Words;
 pub use written_view::WrittenView;

@@ -7,10 +7,10 @@ use Rattle.std.specs.Option.{is_some, option_map}
 use Rattle.std.specs.Str.{bytes_eq}
 use Rattle.std.proofs.lemmas.List.{length-append, map-append}
 use Rattle.iv_text.proofs.NamedLemmas.{set_value_at}
-use Rattle.iv_text.specs.Row.{Row}
+use Rattle.iv_text.specs.RecordValue.{RecordValue}
 use Rattle.iv_view.specs.KeptStates.{state_key_of, repair_steps_of}
 use Rattle.iv_view.specs.declared.view.View.{View}
-use Rattle.iv_workspace.specs.ViewStates.{all_seen, seen}
+use Rattle.iv_workspace.specs.Inside.ViewStates.{all_seen, seen}
 use Rattle.iv_workspace.specs.OpenViews.{Shown, Stales, Freshens, current, all_current, with_current, stale_count, all_steps, view_steps}
 use Rattle.iv_workspace.specs.declared.views.OpenView.{OpenView}
 
@@ -104,7 +104,7 @@ midway-end {V} Done old now place mid past =
 -- ---- views that become stale
 
 -- views of which more are stale take no more steps
-pub stales-steps : (old new : List (List ℕ × Shown)) (rows : List Row) (r : Row) → Stales old new → all_steps new rows r ≤ all_steps old rows r
+pub stales-steps : (old new : List (List ℕ × Shown)) (rows : List RecordValue) (r : RecordValue) → Stales old new → all_steps new rows r ≤ all_steps old rows r
 stales-steps [] [] rows r less = omega arith
 stales-steps [] (w ∷ new) rows r less = absurd less
 stales-steps (v ∷ old) [] rows r less = absurd less

@@ -10,8 +10,8 @@ use Rattle.std.specs.Str.{bytes_eq}
 use Rattle.iv_bytes.specs.Sinks.{SinkState, Takes, FailsIn, Puts}
 use Rattle.iv_view.specs.declared.view.View.{View}
 use Rattle.iv_workspace.specs.declared.views.OpenView.{OpenView}
-use Rattle.iv_workspace.specs.ViewStates.{seen}
-use Rattle.iv_workspace.specs.ViewStates.{all_seen}
+use Rattle.iv_workspace.specs.Inside.ViewStates.{seen}
+use Rattle.iv_workspace.specs.Inside.ViewStates.{all_seen}
 use Rattle.iv_workspace.specs.OpenViews.{current, all_current, with_current}
 use Rattle.iv_workspace.specs.Prints.{PrintedAll, PrintedView, with_all_printed, with_printed}
 use Rattle.iv_workspace.specs.States.{State}

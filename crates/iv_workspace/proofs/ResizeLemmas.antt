@@ -10,7 +10,7 @@ use Rattle.std.proofs.lemmas.Map.Views.{exact_unsigned_eq}
 use Rattle.iv_text.specs.Genome.{Sequences, length_at, rank_of, with_length}
 use Rattle.iv_text.specs.Ordered.{AreInOrder}
 use Rattle.iv_text.specs.Read.{IsWithin, Fits}
-use Rattle.iv_text.specs.Row.{Row}
+use Rattle.iv_text.specs.RecordValue.{RecordValue}
 use Rattle.iv_text.proofs.LengthLemmas.{length-with_length, length_at-with_length, length_at-other, rank-within}
 use Rattle.iv_track.specs.Tracked.{Tracked, is_from}
 use Rattle.iv_text.proofs.ListLemmas.{Mem, all-mem, mem-all, any-found, any-at, any-none, any-from_none, mem-filter, mem-filter_from}
@@ -22,17 +22,18 @@ use Rattle.iv_pair.proofs.PlaceLemmas.{le_pair, pair_le, from_all}
 use Rattle.iv_view.specs.Views.{second_rows}
 use Rattle.iv_workspace.specs.OpenViews.{Shown}
 use Rattle.iv_workspace.specs.Resizes.{reaches_past, has_record_past, has_other_bases, is_other, with_sequence_length, resized_if, resized}
-use Rattle.iv_workspace.specs.States.{State, IsTrackOn, IsSession}
+use Rattle.iv_workspace.specs.States.{State}
+use Rattle.iv_workspace.specs.Inside.States.{IsTrackOn, IsSession}
 
 -- ---- records past a length
 
-past_parts : (seq n : ℕ) (q : Row) → reaches_past seq n q ≡ true → (q.seq ≡ seq) × (n < q.stop)
+past_parts : (seq n : ℕ) (q : RecordValue) → reaches_past seq n q ≡ true → (q.seq ≡ seq) × (n < q.stop)
 past_parts seq n q h =
     let parts = and_parts (q.seq == seq) (nat_lt n q.stop) h in
     (exact_unsigned_eq q.seq seq parts.0, ltb-true n q.stop parts.1)
 
 -- a record on the sequence that isn't past the length ends within it
-not-past : (seq n : ℕ) (q : Row) → reaches_past seq n q ≡ false → q.seq ≡ seq → q.stop ≤ n
+not-past : (seq n : ℕ) (q : RecordValue) → reaches_past seq n q ≡ false → q.seq ≡ seq → q.stop ≤ n
 not-past seq n q h same = elim (and_cases (q.seq == seq) (nat_lt n q.stop) h) [
   | inl differ ↦ absurd (eqb-false q.seq seq differ same)
   | inr low ↦ ltb-false n q.stop low
@@ -50,19 +51,19 @@ any-implied p t (x ∷ xs) h = elim (cases_Bool (t x)) [
 ]
 
 -- those past a length are among the records from the first of their sequence on
-pub past-from_first : (seq n : ℕ) (rows : List Row) → list_any (reaches_past seq n) (filter (is_from seq 0) rows) ≡ list_any (reaches_past seq n) rows
+pub past-from_first : (seq n : ℕ) (rows : List RecordValue) → list_any (reaches_past seq n) (filter (is_from seq 0) rows) ≡ list_any (reaches_past seq n) rows
 past-from_first seq n rows = any-implied (reaches_past seq n) (is_from seq 0) rows (λ q is.
     let same : q.seq ≡ seq = (past_parts seq n q is).0 in
     pair_le seq q.seq 0 q.start (omega (arith, same)) (λ _. omega arith))
 
 -- one is found
-pub past-found : (seq n : ℕ) (left rest all : List Row) (r : Row) → left ≡ r ∷ rest → reaches_past seq n r ≡ true
+pub past-found : (seq n : ℕ) (left rest all : List RecordValue) (r : RecordValue) → left ≡ r ∷ rest → reaches_past seq n r ≡ true
     → list_any (reaches_past seq n) left ≡ list_any (reaches_past seq n) all → true ≡ list_any (reaches_past seq n) all
 past-found seq n left rest all r first is same =
     sym (ap (list_any (reaches_past seq n)) first ∙ or_left (reaches_past seq n r) (list_any (reaches_past seq n) rest) is) ∙ same
 
 -- a record on a later sequence: none is left
-pub past-none : (seq n : ℕ) (left rest all : List Row) (r : Row) → left ≡ r ∷ rest → AreInOrder left → seq < r.seq
+pub past-none : (seq n : ℕ) (left rest all : List RecordValue) (r : RecordValue) → left ≡ r ∷ rest → AreInOrder left → seq < r.seq
     → list_any (reaches_past seq n) left ≡ list_any (reaches_past seq n) all → false ≡ list_any (reaches_past seq n) all
 past-none seq n left rest all r first order later same =
     sym (ap (list_any (reaches_past seq n)) first
@@ -75,7 +76,7 @@ past-none seq n left rest all r first order later same =
     ∙ same
 
 -- the next record
-pub past-next : (seq n : ℕ) (left rest all : List Row) (r : Row) → left ≡ r ∷ rest → reaches_past seq n r ≡ false
+pub past-next : (seq n : ℕ) (left rest all : List RecordValue) (r : RecordValue) → left ≡ r ∷ rest → reaches_past seq n r ≡ false
     → list_any (reaches_past seq n) left ≡ list_any (reaches_past seq n) all → list_any (reaches_past seq n) rest ≡ list_any (reaches_past seq n) all
 past-next seq n left rest all r first not same =
     sym (ap (list_any (reaches_past seq n)) first ∙ ap (λ b. b || list_any (reaches_past seq n) rest) not) ∙ same
@@ -87,7 +88,7 @@ any-agree p t [] same = refl
 any-agree p t (x ∷ xs) same = ap₂ (λ a b. a || b) (same x (inl refl)) (any-agree p t xs (λ q m. same q (inr m)))
 
 -- a record that stops at most at the end of its sequence is a hit of what is cut off exactly if it is past the new end
-cut-overlaps : (seq n end : ℕ) (q : Row) → q.start < q.stop → (q.seq ≡ seq → q.stop ≤ end) → overlaps seq n end q ≡ reaches_past seq n q
+cut-overlaps : (seq n end : ℕ) (q : RecordValue) → q.start < q.stop → (q.seq ≡ seq → q.stop ≤ end) → overlaps seq n end q ≡ reaches_past seq n q
 cut-overlaps seq n end q some within = elim (cases_eq q.seq seq) [
   | inl same ↦
       let top : q.stop ≤ end = within same in
@@ -108,28 +109,28 @@ any-some_left p xs ys y is =
     any-at p xs y there.0 there.1
 
 -- an iterator over what passes a test gives one exactly if some element passes
-first-any : (p : Row → Bool) (rows left rest : List Row) (r : Option (Bor Row)) → left ≡ filter p rows → YieldsFirstRef (λ (h : List Row). h) left r rest → is_some r ≡ list_any p rows
+first-any : (p : RecordValue → Bool) (rows left rest : List RecordValue) (r : Option (Bor RecordValue)) → left ≡ filter p rows → YieldsFirstRef (λ (h : List RecordValue). h) left r rest → is_some r ≡ list_any p rows
 first-any p rows left rest None is gives = sym (any-none_left p rows (sym is ∙ gives.0))
 first-any p rows left rest (Some q) is gives = sym (any-some_left p rows rest q.now (sym is ∙ gives))
 
-pub hit-past : (seq n end : ℕ) (rows left rest : List Row) (r : Option (Bor Row)) → All (λ q. q.start < q.stop) rows → All (λ q. q.seq ≡ seq → q.stop ≤ end) rows
-    → left ≡ filter (overlaps seq n end) rows → YieldsFirstRef (λ (h : List Row). h) left r rest → is_some r ≡ list_any (reaches_past seq n) rows
+pub hit-past : (seq n end : ℕ) (rows left rest : List RecordValue) (r : Option (Bor RecordValue)) → All (λ q. q.start < q.stop) rows → All (λ q. q.seq ≡ seq → q.stop ≤ end) rows
+    → left ≡ filter (overlaps seq n end) rows → YieldsFirstRef (λ (h : List RecordValue). h) left r rest → is_some r ≡ list_any (reaches_past seq n) rows
 hit-past seq n end rows left rest r some within is gives =
     first-any (overlaps seq n end) rows left rest r is gives
     ∙ any-agree (overlaps seq n end) (reaches_past seq n) rows (λ q m.
-    cut-overlaps seq n end q (all-mem (λ (x : Row). x.start < x.stop) rows some q m) (all-mem (λ (x : Row). x.seq ≡ seq → x.stop ≤ end) rows within q m))
+    cut-overlaps seq n end q (all-mem (λ (x : RecordValue). x.start < x.stop) rows some q m) (all-mem (λ (x : RecordValue). x.seq ≡ seq → x.stop ≤ end) rows within q m))
 
 -- ---- the records of a session's track, and their ends
 
 module _ (g : Sequences) (t : Tracked) (is : IsTrackOn g t) where
-  is_placed : (q : Row) → Mem q t.rows → (q.start < q.stop) × IsWithin g q.seq q.stop
+  is_placed : (q : RecordValue) → Mem q t.rows → (q.start < q.stop) × IsWithin g q.seq q.stop
   is_placed q m = let fits = all-mem (Fits g t.width) t.rows is.fit q m in (fits.is_placed.some, fits.is_placed.within)
 
   pub rows-some : All (λ q. q.start < q.stop) t.rows
-  rows-some = mem-all (λ (q : Row). q.start < q.stop) t.rows (λ q m. (is_placed q m).0)
+  rows-some = mem-all (λ (q : RecordValue). q.start < q.stop) t.rows (λ q m. (is_placed q m).0)
 
   pub rows-within : (seq end : ℕ) → end ≡ unwrap_or (length_at g seq) 0 → All (λ q. q.seq ≡ seq → q.stop ≤ end) t.rows
-  rows-within seq end at = mem-all (λ (q : Row). q.seq ≡ seq → q.stop ≤ end) t.rows (λ q m same.
+  rows-within seq end at = mem-all (λ (q : RecordValue). q.seq ≡ seq → q.stop ≤ end) t.rows (λ q m same.
       let top : q.stop ≤ unwrap_or (length_at g q.seq) 0 = (is_placed q m).1.1 in
       let here : unwrap_or (length_at g q.seq) 0 ≡ end = ap (λ (k : ℕ). unwrap_or (length_at g k) 0) same ∙ sym at in
       omega (arith, top, here))
@@ -139,7 +140,7 @@ module _ (g : Sequences) (t : Tracked) (is : IsTrackOn g t) where
   none-past seq n end at low = any-from_none (reaches_past seq n) t.rows (λ q m. false_from_ne_true (reaches_past seq n q) (λ yes.
       let parts = past_parts seq n q yes in
       let past : n < q.stop = parts.1 in
-      let top : q.stop ≤ end = all-mem (λ (x : Row). x.seq ≡ seq → x.stop ≤ end) t.rows (rows-within seq end at) q m parts.0 in
+      let top : q.stop ≤ end = all-mem (λ (x : RecordValue). x.seq ≡ seq → x.stop ≤ end) t.rows (rows-within seq end at) q m parts.0 in
       absurd (omega (arith, past, top, low))))
 
 pub second-none_past : (g : Sequences) (second : Option Tracked) → IfSome second (IsTrackOn g) → (seq n end : ℕ) → end ≡ unwrap_or (length_at g seq) 0 → end ≤ n
@@ -174,7 +175,7 @@ second-there g second t is there = subst (λ (o : Option Tracked). IfSome o (IsT
 
 -- ---- the session with another length
 
-within-stays : (g : Sequences) (seq n : ℕ) (q : Row) → IsWithin g q.seq q.stop → reaches_past seq n q ≡ false → IsWithin (with_length g seq n) q.seq q.stop
+within-stays : (g : Sequences) (seq n : ℕ) (q : RecordValue) → IsWithin g q.seq q.stop → reaches_past seq n q ≡ false → IsWithin (with_length g seq n) q.seq q.stop
 within-stays g seq n q is not =
     let there : q.seq < length g = is.0 in (
       omega (arith, there, length-with_length g seq n),
@@ -187,7 +188,7 @@ within-stays g seq n q is not =
       ],
     )
 
-fits-stays : (g : Sequences) (width seq n : ℕ) (q : Row) → Fits g width q → reaches_past seq n q ≡ false → Fits (with_length g seq n) width q
+fits-stays : (g : Sequences) (width seq n : ℕ) (q : RecordValue) → Fits g width q → reaches_past seq n q ≡ false → Fits (with_length g seq n) width q
 fits-stays g width seq n q is not = record {
   width_is = is.width_is;
   is_placed = record { some = is.is_placed.some; within = within-stays g seq n q is.is_placed.within not };

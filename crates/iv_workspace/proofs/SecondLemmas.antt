@@ -3,10 +3,11 @@ use Rattle.std.specs.Prelude.{IfSome, IsSomeAnd, option_map}
 use Rattle.std.proofs.Common.{◌≡◌, ◌∙◌, ℕ, List, [], ◌∷◌, Option, None, Some, refl, sym, ap, subst}
 use Rattle.iv_text.specs.Genome.{Sequences}
 use Rattle.iv_text.specs.Read.{Fits}
-use Rattle.iv_text.specs.Row.{Row}
+use Rattle.iv_text.specs.RecordValue.{RecordValue}
 use Rattle.iv_track.specs.Tracked.{Tracked}
 use Rattle.iv_workspace.specs.OpenViews.{Shown}
-use Rattle.iv_workspace.specs.States.{State, FitsSecond, IsTrackOn, AreServed, IsSession, with_second}
+use Rattle.iv_workspace.specs.States.{State, FitsSecond, with_second}
+use Rattle.iv_workspace.specs.Inside.States.{IsTrackOn, AreServed, IsSession}
 
 -- what holds of the second file, as it is inside, holds of the session's
 pub of-second : (P : Tracked → Type 0) (inside s : State) (t : Tracked) → inside ≡ s → inside.second ≡ Some t → P t → IsSomeAnd s.second P
@@ -14,11 +15,11 @@ of-second P inside s t same is holds =
     subst (λ (x : State). IsSomeAnd x.second P) same (subst (λ (o : Option Tracked). IsSomeAnd o P) (sym is) holds)
 
 -- a record that fits it
-pub fits-second : (inside s : State) (t : Tracked) (r : Row) → inside ≡ s → inside.second ≡ Some t → FitsSecond s r → Fits inside.genome t.width r
+pub fits-second : (inside s : State) (t : Tracked) (r : RecordValue) → inside ≡ s → inside.second ≡ Some t → FitsSecond s r → Fits inside.genome t.width r
 fits-second inside s t r same is fits =
     subst (λ (o : Option Tracked). IsSomeAnd o (λ u. Fits inside.genome u.width r)) is (subst (λ (x : State). FitsSecond x r) (sym same) fits)
 
-pub no-second : (inside s : State) (r : Row) → inside ≡ s → inside.second ≡ None → FitsSecond s r → ⊥
+pub no-second : (inside s : State) (r : RecordValue) → inside ≡ s → inside.second ≡ None → FitsSecond s r → ⊥
 no-second inside s r same none fits =
     subst (λ (o : Option Tracked). IsSomeAnd o (λ u. Fits inside.genome u.width r)) none (subst (λ (x : State). FitsSecond x r) (sym same) fits)
 

@@ -7,8 +7,8 @@ use Rattle.iv_text.specs.Genome.{Sequences}
 use Rattle.iv_text.specs.BedFile.{Bed}
 use Rattle.iv_text.specs.Ordered.{copies, added, ordered, AreInOrder}
 use Rattle.iv_text.specs.Read.{Fits}
-use Rattle.iv_text.specs.Row.{Row, row_cmp, rows_total}
-use Rattle.iv_text.proofs.RowLemmas.{rows_exact}
+use Rattle.iv_text.specs.RecordValue.{RecordValue, record_cmp, rows_total}
+use Rattle.iv_text.proofs.RecordLemmas.{rows_exact}
 use Rattle.iv_pair.proofs.LengthLemmas.{few-ordered}
 use Rattle.iv_text.proofs.OrderedLemmas.{all-all_added, length-added, in_order-added, copies-added}
 use Rattle.std.proofs.lemmas.List.Elements.{All-from_recursion, recursion_from_All}
@@ -21,38 +21,39 @@ use Rattle.iv_view.specs.KeptStates.{state_key_of}
 use Rattle.iv_workspace.specs.OpenViews.{Shown, Stales, Freshens, all_current, with_current}
 use Rattle.iv_workspace.specs.Views.{is_view_name, view_named, words_said, opened}
 use Rattle.iv_workspace.proofs.OpenViewLemmas.{all-current, freshens-all, freshens-one}
-use Rattle.iv_workspace.specs.States.{State, IsTrackOn, IsServed, AreServed, IsWrittenFresh, AreWrittenFresh, IsButStale, IsSession, tracked}
+use Rattle.iv_workspace.specs.States.{State, IsButStale, tracked}
+use Rattle.iv_workspace.specs.Inside.States.{IsTrackOn, IsServed, AreServed, IsWrittenFresh, AreWrittenFresh, IsSession}
 
 -- the records fit with one more that fits
-pub fit-added : (g : Sequences) (t : Tracked) (r : Row) → IsTrackOn g t → Fits g t.width r → All (Fits g t.width) (added t.rows r)
+pub fit-added : (g : Sequences) (t : Tracked) (r : RecordValue) → IsTrackOn g t → Fits g t.width r → All (Fits g t.width) (added t.rows r)
 fit-added g t r is fits = All-added (Fits g t.width) t.rows r is.fit fits
 
 -- with one more record that fits it is still a session's track, if there was room
-pub track-added : (g : Sequences) (t : Tracked) (r : Row)
+pub track-added : (g : Sequences) (t : Tracked) (r : RecordValue)
     → IsTrackOn g t → Fits g t.width r → length t.rows < t.limit → IsTrackOn g (record t { rows = added t.rows r })
 track-added g t r is fits room = record {
   low = is.low;
   high = is.high;
   fit = fit-added g t r is fits;
-  few = omega (arith, length-added row_cmp t.rows r);
+  few = omega (arith, length-added record_cmp t.rows r);
 }
 
 -- with one copy less too
-pub track-removed : (g : Sequences) (t : Tracked) (r : Row)
+pub track-removed : (g : Sequences) (t : Tracked) (r : RecordValue)
     → IsTrackOn g t → 0 < copies t.rows r → IsTrackOn g (record t { rows = removed t.rows r })
 track-removed g t r is there = record {
   low = is.low;
   high = is.high;
   fit = All-removed (Fits g t.width) t.rows r is.fit;
-  few = omega (arith, length-removed row_cmp t.rows r there, is.few);
+  few = omega (arith, length-removed record_cmp t.rows r there, is.few);
 }
 
 -- a record that takes the place of one needs no room
-pub track-replaced : (g : Sequences) (t : Tracked) (r q : Row)
+pub track-replaced : (g : Sequences) (t : Tracked) (r q : RecordValue)
     → IsTrackOn g t → 0 < copies t.rows r → Fits g t.width q → IsTrackOn g (record t { rows = added (removed t.rows r) q })
 track-replaced g t r q is there fits =
     track-added g (record t { rows = removed t.rows r }) q (track-removed g t r is there) fits
-    (omega (arith, length-removed row_cmp t.rows r there, is.few))
+    (omega (arith, length-removed record_cmp t.rows r there, is.few))
 
 -- the views of a session are changed
 pub views-changed : (change : List (List ℕ × Shown) → List (List ℕ × Shown)) (inside s : State) (more : List (List ℕ × Shown)) → inside ≡ s → more ≡ change inside.views
@@ -68,41 +69,41 @@ edited change inside s t more same is less =
     (subst (λ (t : Tracked). IsButStale (record inside { track = change inside.track }) (record inside { track = t; views = more })) (sym is) (refl, less))
 
 -- a track before and after a record q was added, and after one copy of r was then taken out
-pub record Replaced (g : Sequences) (old mid new : Tracked) (r q : Row) : Type 0 where
+pub record Replaced (g : Sequences) (old mid new : Tracked) (r q : RecordValue) : Type 0 where
   pub fit : All (Fits g mid.width) mid.rows
   pub again : mid.rows ≡ added new.rows r
   pub track_is : IsTrackOn g new
   pub width : new.width ≡ old.width
   pub is : new ≡ record old { rows = added (removed old.rows r) q }
 
-pub staged-there : (old mid : Tracked) (r q : Row) → 0 < copies old.rows r → mid ≡ record old { rows = added old.rows q } → 0 < copies mid.rows r
-staged-there old mid r q there is = subst (λ (t : Tracked). 0 < copies t.rows r) (sym is) (omega (arith, there, copies-added row_cmp old.rows q r))
+pub staged-there : (old mid : Tracked) (r q : RecordValue) → 0 < copies old.rows r → mid ≡ record old { rows = added old.rows q } → 0 < copies mid.rows r
+staged-there old mid r q there is = subst (λ (t : Tracked). 0 < copies t.rows r) (sym is) (omega (arith, there, copies-added record_cmp old.rows q r))
 
-pub replaced : (g : Sequences) (old mid new : Tracked) (r q : Row) → IsTrackOn g old → AreInOrder old.rows → 0 < copies old.rows r → Fits g old.width q
+pub replaced : (g : Sequences) (old mid new : Tracked) (r q : RecordValue) → IsTrackOn g old → AreInOrder old.rows → 0 < copies old.rows r → Fits g old.width q
     → mid ≡ record old { rows = added old.rows q } → new ≡ record mid { rows = removed mid.rows r } → Replaced g old mid new r q
 replaced g old mid new r q session order there fits first second =
     let one : Tracked = record old { rows = added old.rows q } in
     let two : Tracked = record one { rows = removed one.rows r } in
     let last : new ≡ two = second ∙ ap (λ (t : Tracked). record t { rows = removed t.rows r }) first in
-    let swap : two.rows ≡ added (removed old.rows r) q = removed-added row_cmp rows_total rows_exact old.rows q r order there in
+    let swap : two.rows ≡ added (removed old.rows r) q = removed-added record_cmp rows_total rows_exact old.rows q r order there in
     let whole : Replaced g old one two r q = record {
       fit = fit-added g old q session fits;
-      again = added-removed one.rows r (in_order-added row_cmp rows_total old.rows q order) (staged-there old one r q there refl);
-      track_is = subst (λ (l : List Row). IsTrackOn g (record old { rows = l })) (sym swap) (track-replaced g old r q session there fits);
+      again = added-removed one.rows r (in_order-added record_cmp rows_total old.rows q order) (staged-there old one r q there refl);
+      track_is = subst (λ (l : List RecordValue). IsTrackOn g (record old { rows = l })) (sym swap) (track-replaced g old r q session there fits);
       width = refl;
-      is = ap (λ (l : List Row). record old { rows = l }) swap;
+      is = ap (λ (l : List RecordValue). record old { rows = l }) swap;
     } in
     subst (λ (t : Tracked). Replaced g old t new r q) (sym first) (subst (λ (t : Tracked). Replaced g old one t r q) (sym last) whole)
 
 -- the same, by the records of the session and their copies
-pub replaced-in : (inside s : State) (mid new : Tracked) (before r after q : Row) → inside ≡ s → before ≡ r → after ≡ q → IsTrackOn inside.genome inside.track → AreInOrder inside.track.rows
+pub replaced-in : (inside s : State) (mid new : Tracked) (before r after q : RecordValue) → inside ≡ s → before ≡ r → after ≡ q → IsTrackOn inside.genome inside.track → AreInOrder inside.track.rows
     → 0 < copies inside.track.rows before → Fits s.genome s.track.width q → mid ≡ record inside.track { rows = added inside.track.rows after } → new ≡ record mid { rows = removed mid.rows before }
     → Replaced inside.genome inside.track mid new r q
 replaced-in inside s mid new before r after q same first next session order there fits staged taken =
     let old : Tracked = inside.track in
-    replaced inside.genome old mid new r q session order (subst (λ (x : Row). 0 < copies old.rows x) first there) (subst (λ (t : State). Fits t.genome t.track.width q) (sym same) fits)
-    (staged ∙ ap (λ (x : Row). record old { rows = added old.rows x }) next)
-    (taken ∙ ap (λ (x : Row). record mid { rows = removed mid.rows x }) first)
+    replaced inside.genome old mid new r q session order (subst (λ (x : RecordValue). 0 < copies old.rows x) first there) (subst (λ (t : State). Fits t.genome t.track.width q) (sym same) fits)
+    (staged ∙ ap (λ (x : RecordValue). record old { rows = added old.rows x }) next)
+    (taken ∙ ap (λ (x : RecordValue). record mid { rows = removed mid.rows x }) first)
 
 -- a name without a fault leaves it to the words
 pub no-name_fault : (inside s : State) (name : List ℕ) (words : List (List ℕ)) (v : View) → inside ≡ s → is_view_name name ≡ true → is_some (view_named inside.views name) ≡ false
@@ -199,11 +200,11 @@ session-all_printed g track second old new whole are =
 pub track-of_file : (g : Sequences) (file : Bed) (limit : ℕ) → (3 ≤ file.width) × (file.width ≤ 6) → All (Fits g file.width) file.rows → length file.rows ≤ limit
     → IsTrackOn g (tracked file limit)
 track-of_file g file limit known fit few =
-    let F : Row → Type 0 = Fits g file.width in
+    let F : RecordValue → Type 0 = Fits g file.width in
     record {
       low = known.0;
       high = known.1;
-      fit = All-from_recursion F (ordered file.rows) (all-all_added row_cmp F file.rows [] (recursion_from_All F file.rows fit) tt);
+      fit = All-from_recursion F (ordered file.rows) (all-all_added record_cmp F file.rows [] (recursion_from_All F file.rows fit) tt);
       few = few-ordered file.rows limit few;
     }
 

@@ -10,12 +10,12 @@ use Rattle.std.proofs.lemmas.List.{map-append}
 use Rattle.std.proofs.lemmas.List.Quantifiers.{position-Some}
 use Rattle.iv_text.proofs.NamedLemmas.{set_value_at, unnamed}
 use Rattle.iv_text.specs.Named.{place_of}
-use Rattle.iv_text.specs.Row.{Row}
+use Rattle.iv_text.specs.RecordValue.{RecordValue}
 use Rattle.iv_view.specs.KeptStates.{built_for, state_key_of, IsRight}
 use Rattle.iv_view.specs.declared.kept_state.KeptState.{KeptState}
 use Rattle.iv_view.specs.declared.kept_state.StateKey.{StateKey}
 use Rattle.iv_view.specs.declared.view.View.{View}
-use Rattle.iv_workspace.specs.ViewStates.{seen, all_seen, kept_with, owned, all_owned, IsOwned, IsKept, HaveStates, IsOwnRight, AreOwnRight, AreRight, IsRepaired, AreRepaired, AreMarked, IsMissing, NoneNeeds, current_at}
+use Rattle.iv_workspace.specs.Inside.ViewStates.{seen, all_seen, kept_with, owned, all_owned, IsOwned, IsKept, HaveStates, IsOwnRight, AreOwnRight, AreRight, IsRepaired, AreRepaired, AreMarked, IsMissing, NoneNeeds, current_at}
 use Rattle.iv_workspace.specs.OpenViews.{Shown, Stales, Freshens, current, all_current, with_current, stale_count, all_steps, view_steps}
 use Rattle.iv_workspace.specs.declared.views.OpenView.{OpenView}
 use Rattle.iv_workspace.proofs.OpenViewLemmas.{Midway, midway-begin, midway-next, midway-end, midway-at, Written, written-at, all-append, all-front, all-back, all-removed, all-named, all-at, stales-append, freshens-same, seen-append, seen-lookup, remove-seen}
@@ -84,7 +84,7 @@ own-other {A} v what other owns = by v.state owns
 
 -- ---- repairs
 
-steps-append : (xs ys : List (List ℕ × Shown)) (rows : List Row) (r : Row) → all_steps (xs ++ ys) rows r ≡ all_steps xs rows r + all_steps ys rows r
+steps-append : (xs ys : List (List ℕ × Shown)) (rows : List RecordValue) (r : RecordValue) → all_steps (xs ++ ys) rows r ≡ all_steps xs rows r + all_steps ys rows r
 steps-append [] ys rows r = omega arith
 steps-append (x ∷ xs) ys rows r = omega (arith, steps-append xs ys rows r)
 
@@ -93,7 +93,7 @@ both-true true true e = (refl, refl)
 both-true true false e = absurd (cc (e))
 both-true false b e = absurd (cc (e))
 
-module _ {A : Type 0} (names : List (List ℕ)) (rows with_r : List Row) (r : Row) where
+module _ {A : Type 0} (names : List (List ℕ)) (rows with_r : List RecordValue) (r : RecordValue) where
   pub repaired-none : (before : ℕ) → AreRepaired {A = A} names rows with_r r true [] [] before before
   repaired-none before = record { unless = λ e. (refl, refl); stales = tt; right = tt; steps = record { no_less = omega arith; at_most = omega arith } }
 
@@ -128,10 +128,10 @@ module _ {A : Type 0} (names : List (List ℕ)) (rows with_r : List Row) (r : Ro
       (all.right, subst (λ (l : List (Option StateKey)). HaveStates l (all_seen new)) (sym same.1) (subst (HaveStates (all_owned old)) (sym same.0) have))
 
 -- in the midst of repairs
-pub record Repairing {A : Type 0} (names : List (List ℕ)) (rows with_r : List Row) (r : Row) (kept : Bool) (old now : List (List ℕ × OpenView A)) (place before after : ℕ) : Type 0 where
+pub record Repairing {A : Type 0} (names : List (List ℕ)) (rows with_r : List RecordValue) (r : RecordValue) (kept : Bool) (old now : List (List ℕ × OpenView A)) (place before after : ℕ) : Type 0 where
   pub mid : Midway (λ front done. AreRepaired names rows with_r r kept front done before after) old now place
 
-module _ {A : Type 0} (names : List (List ℕ)) (rows with_r : List Row) (r : Row) (old : List (List ℕ × OpenView A)) where
+module _ {A : Type 0} (names : List (List ℕ)) (rows with_r : List RecordValue) (r : RecordValue) (old : List (List ℕ × OpenView A)) where
   pub repairs-begin : (now : List (List ℕ × OpenView A)) (before : ℕ) → now ≡ old → Repairing names rows with_r r true old now 0 before before
   repairs-begin now before same = record { mid = midway-begin _ old now same (repaired-none names rows with_r r before) }
 
@@ -139,7 +139,7 @@ module _ {A : Type 0} (names : List (List ℕ)) (rows with_r : List Row) (r : Ro
       → AreRepaired names rows with_r r kept old now before after
   repairs-end kept now place before after u past = midway-end (λ front done. AreRepaired names rows with_r r kept front done before after) old now place u.mid past
 
-module _ {A : Type 0} (names : List (List ℕ)) (rows with_r : List Row) (r : Row) (old : List (List ℕ × OpenView A)) where
+module _ {A : Type 0} (names : List (List ℕ)) (rows with_r : List RecordValue) (r : RecordValue) (old : List (List ℕ × OpenView A)) where
   pub repairs-at : (P : OpenView A → Type 0) (kept : Bool) (es : List (List ℕ × OpenView A)) (place before mid : ℕ) (v : OpenView A)
       → Repairing names rows with_r r kept old es place before mid → slice_get (values_of es) place ≡ Some v → AllByRecursion (λ e. P e.1) old → P v
   repairs-at P kept es place before mid v u found all = midway-at _ P old es place v u.mid found all
@@ -158,7 +158,7 @@ module _ {A : Type 0} (names : List (List ℕ)) (rows with_r : List Row) (r : Ro
 -- in the midst of marking views, beside these states
 pub record Marking {A : Type 0} (states : List (Option StateKey)) (old new : List (List ℕ × OpenView A)) : Type 0 where
   pub owned_same : all_owned new ≡ all_owned old
-  pub right : (names : List (List ℕ)) (rows : List Row) → AreOwnRight old names rows → AreOwnRight new names rows
+  pub right : (names : List (List ℕ)) (rows : List RecordValue) → AreOwnRight old names rows → AreOwnRight new names rows
   pub stales : Stales (all_seen old) (all_seen new)
   pub have : HaveStates states (all_seen new)
 
@@ -171,7 +171,7 @@ marked v stale = record v { stale = stale }
 
 module _ {A : Type 0} (states : List (Option StateKey)) (v : OpenView A) (b : Bool) where
   -- a view with a state of its own isn't marked
-  marked-right : (IsKept states v.view → b ≡ v.stale) → ((what : StateKey) → owned v ≡ Some what → IsOwned what states) → (names : List (List ℕ)) (rows : List Row)
+  marked-right : (IsKept states v.view → b ≡ v.stale) → ((what : StateKey) → owned v ≡ Some what → IsOwned what states) → (names : List (List ℕ)) (rows : List RecordValue)
       → IsOwnRight v names rows → IsOwnRight (marked v b) names rows
   marked-right keeps among names rows = by v.state refl
     where
@@ -285,7 +285,7 @@ module _ {A : Type 0} (views : List (List ℕ × OpenView A)) (es : List (List �
   view-at = subst (λ (l : List (List ℕ × OpenView A)). (n : List ℕ) × (slice_get l place ≡ Some (n, v)) × (drop place l ≡ (n, v) ∷ drop (place + 1) l)) same (at-place es place v found)
 
   -- its state is that of what is kept of it, and is right
-  pub state-at : (what : StateKey) (k : KeptState A) → v.state ≡ Some k → state_key_of v.view ≡ Some what → (names : List (List ℕ)) (rows : List Row) → AreOwnRight views names rows
+  pub state-at : (what : StateKey) (k : KeptState A) → v.state ≡ Some k → state_key_of v.view ≡ Some what → (names : List (List ℕ)) (rows : List RecordValue) → AreOwnRight views names rows
       → (built_for k ≡ what) × IsRight k names rows
   state-at what k is kept names rows right =
       let own : IsOwnRight v names rows = all-at (λ u. IsOwnRight u names rows) views place (view-at.0, v) view-at.1 right in
@@ -341,7 +341,7 @@ module _ {A : Type 0} (old new : List (List ℕ × OpenView A)) (place : ℕ) (v
   written-all P all = (all-back (λ e. P e.1) u.front ((u.name, v) ∷ u.more) (subst (λ (l : List (List ℕ × OpenView A)). AllByRecursion (λ e. P e.1) l) u.old_is all)).0
 
   -- the views are right, if that view is
-  written-right : (names : List (List ℕ)) (rows : List Row) (states : List (Option StateKey)) → AreOwnRight old names rows → HaveStates states (all_seen old)
+  written-right : (names : List (List ℕ)) (rows : List RecordValue) (states : List (Option StateKey)) → AreOwnRight old names rows → HaveStates states (all_seen old)
       → ((what : StateKey) → IsOwned what states → IsOwned what (all_owned new)) → IsOwnRight w names rows → (w.stale ≡ false → IsKept (all_owned new) w.view) → AreRight new names rows
   written-right names rows states right have grows own kept =
       let P : List ℕ × OpenView A → Type 0 = λ e. IsOwnRight e.1 names rows in
@@ -362,12 +362,12 @@ abbrev pub renewed : {A : Type 0} → View → Option (KeptState A) → OpenView
 renewed view state = record { view = view; stale = false; state = state }
 
 -- the state that was missing is right, and is what is kept of the view
-missing-own : {A : Type 0} (states : List (Option StateKey)) (view : View) (names : List (List ℕ)) (rows : List Row) (state : Option (KeptState A))
+missing-own : {A : Type 0} (states : List (Option StateKey)) (view : View) (names : List (List ℕ)) (rows : List RecordValue) (state : Option (KeptState A))
     → IsMissing states view names rows state → IsOwnRight (renewed view state) names rows
 missing-own states view names rows None missing = tt
 missing-own states view names rows (Some k) missing = (refl, missing.0, missing.1)
 
-missing-kept : {A : Type 0} (states more : List (Option StateKey)) (view : View) (names : List (List ℕ)) (rows : List Row) (state : Option (KeptState A))
+missing-kept : {A : Type 0} (states more : List (Option StateKey)) (view : View) (names : List (List ℕ)) (rows : List RecordValue) (state : Option (KeptState A))
     → IsMissing states view names rows state → ((what : StateKey) → IsOwned what states → IsOwned what more) → ((what : StateKey) → kept_with view state ≡ Some what → IsOwned what more) → IsKept more view
 missing-kept states more view names rows None missing grows own = kept-more states more view grows missing
 missing-kept states more view names rows (Some k) missing grows own = by (state_key_of view) refl
@@ -377,7 +377,7 @@ missing-kept states more view names rows (Some k) missing grows own = by (state_
     by (Some what) is = own what is
 
 -- a view that was stale is rebuilt
-pub renewed-right : {A : Type 0} (names : List (List ℕ)) (rows : List Row) (old new : List (List ℕ × OpenView A)) (place : ℕ) (v : OpenView A) (state : Option (KeptState A))
+pub renewed-right : {A : Type 0} (names : List (List ℕ)) (rows : List RecordValue) (old new : List (List ℕ × OpenView A)) (place : ℕ) (v : OpenView A) (state : Option (KeptState A))
     → Written old new place v (renewed v.view state) → v.stale ≡ true → IsMissing (all_owned old) v.view names rows state → AreRight old names rows → AreRight new names rows
 renewed-right {A} names rows old new place v state u stale missing right =
     let w : OpenView A = renewed v.view state in
@@ -391,7 +391,7 @@ renewed-right {A} names rows old new place v state u stale missing right =
     no-state (Some k) own what is = let both : true ≡ false = sym stale ∙ own.0 in cc (both)
 
 -- one more view, with the state that was missing
-pub opened-right : {A : Type 0} (names : List (List ℕ)) (rows : List Row) (views : List (List ℕ × OpenView A)) (name : List ℕ) (view : View) (state : Option (KeptState A))
+pub opened-right : {A : Type 0} (names : List (List ℕ)) (rows : List RecordValue) (views : List (List ℕ × OpenView A)) (name : List ℕ) (view : View) (state : Option (KeptState A))
     → IsMissing (all_owned views) view names rows state → AreRight views names rows → AreRight (views ++ (name, renewed view state) ∷ []) names rows
 opened-right {A} names rows views name view state missing right =
     let w : OpenView A = renewed view state in
@@ -412,7 +412,7 @@ abbrev pub with_state : {A : Type 0} → OpenView A → KeptState A → OpenView
 with_state v k = record v { state = Some k }
 
 -- the first view that needs a state takes it over
-pub handed-right : {A : Type 0} (names : List (List ℕ)) (rows : List Row) (old new : List (List ℕ × OpenView A)) (place : ℕ) (v : OpenView A) (k : KeptState A) (what : StateKey) (closed : View)
+pub handed-right : {A : Type 0} (names : List (List ℕ)) (rows : List RecordValue) (old new : List (List ℕ × OpenView A)) (place : ℕ) (v : OpenView A) (k : KeptState A) (what : StateKey) (closed : View)
     → Written old new place v (with_state v k) → v.stale ≡ false → state_key_of v.view ≡ Some what → state_key_of closed ≡ Some what
     → AreOwnRight old names rows → HaveStates (state_key_of closed ∷ all_owned old) (all_seen old) → (state_key_of closed ≡ Some (built_for k)) × IsRight k names rows → AreRight new names rows
 handed-right {A} names rows old new place v k what closed u fresh needs is right have state =
@@ -468,7 +468,7 @@ kept-of {A} name v what (e ∷ views) found a = by (bytes_eq name e.0) found a (
     ]
 
 -- the views without that of a name, whose state is beside theirs
-pub closed-right : {A : Type 0} (name : List ℕ) (views : List (List ℕ × OpenView A)) (v : OpenView A) (names : List (List ℕ)) (rows : List Row) → lookup (bytes_eq name) views ≡ Some v → AreRight views names rows
+pub closed-right : {A : Type 0} (name : List ℕ) (views : List (List ℕ × OpenView A)) (v : OpenView A) (names : List (List ℕ)) (rows : List RecordValue) → lookup (bytes_eq name) views ≡ Some v → AreRight views names rows
     → AreOwnRight (remove_entry (bytes_eq name) views) names rows × HaveStates (owned v ∷ all_owned (remove_entry (bytes_eq name) views)) (all_seen (remove_entry (bytes_eq name) views))
     × IsOwnRight v names rows
 closed-right {A} name views v names rows found right =
@@ -480,7 +480,7 @@ closed-right {A} name views v names rows found right =
     )
 
 -- what is of its own state
-pub own-kept : {A : Type 0} (v : OpenView A) (names : List (List ℕ)) (rows : List Row) → IsOwnRight v names rows → IfSome v.state (λ k. (state_key_of v.view ≡ Some (built_for k)) × IsRight k names rows)
+pub own-kept : {A : Type 0} (v : OpenView A) (names : List (List ℕ)) (rows : List RecordValue) → IsOwnRight v names rows → IfSome v.state (λ k. (state_key_of v.view ≡ Some (built_for k)) × IsRight k names rows)
 own-kept {A} v names rows own = by v.state own
   where
     by : (o : Option (KeptState A)) → IfSome o (λ k. (v.stale ≡ false) × (state_key_of v.view ≡ Some (built_for k)) × IsRight k names rows) → IfSome o (λ k. (state_key_of v.view ≡ Some (built_for k)) × IsRight k names rows)
@@ -658,7 +658,7 @@ module _ {A : Type 0} (old : List (List ℕ × OpenView A)) (es : List (List ℕ
 
   -- it is rebuilt
   module _ (w : OpenView A) (state : Option (KeptState A)) (is : w ≡ renewed v.view state) where
-    pub renewed-in : (names : List (List ℕ)) (rows : List Row) → v.stale ≡ true → IsMissing (all_owned old) v.view names rows state → AreRight old names rows → AreRight (set_value_at es place w) names rows
+    pub renewed-in : (names : List (List ℕ)) (rows : List RecordValue) → v.stale ≡ true → IsMissing (all_owned old) v.view names rows state → AreRight old names rows → AreRight (set_value_at es place w) names rows
     renewed-in names rows stale missing right =
         subst (λ (x : OpenView A). AreRight (set_value_at es place x) names rows) (sym is)
         (renewed-right names rows old (set_value_at es place (renewed v.view state)) place v state (written-in (renewed v.view state)) stale missing right)
@@ -668,7 +668,7 @@ module _ {A : Type 0} (old : List (List ℕ × OpenView A)) (es : List (List ℕ
 
   -- it takes a state over
   module _ (w : OpenView A) (k : KeptState A) (is : w ≡ with_state v k) where
-    pub handed-in : (what : StateKey) (closed : View) (names : List (List ℕ)) (rows : List Row) → state_key_of closed ≡ Some what
+    pub handed-in : (what : StateKey) (closed : View) (names : List (List ℕ)) (rows : List RecordValue) → state_key_of closed ≡ Some what
         → IfSome (slice_get old place) (λ u. (u.1.stale ≡ false) × (state_key_of u.1.view ≡ Some what)) → AreOwnRight old names rows → HaveStates (state_key_of closed ∷ all_owned old) (all_seen old)
         → (state_key_of closed ≡ Some (built_for k)) × IsRight k names rows → AreRight (set_value_at es place w) names rows
     handed-in what closed names rows kept needs right have state =

@@ -6,7 +6,7 @@ use Rattle.std.specs.Map.{lookup}
 use Rattle.std.specs.Str.{bytes_eq}
 use Rattle.iv_text.specs.Named.{place_of}
 use Rattle.iv_text.specs.Genome.{Sequences}
-use Rattle.iv_text.specs.Row.{Row}
+use Rattle.iv_text.specs.RecordValue.{RecordValue}
 use Rattle.iv_view.specs.declared.view.View.{View}
 use Rattle.iv_view.specs.declared.view.View.TheVariants as view
 use Rattle.iv_view.specs.declared.view.KeptView.TheVariants as kept
@@ -14,14 +14,14 @@ use Rattle.iv_workspace.specs.declared.views.OpenView.{OpenView}
 use Rattle.iv_workspace.specs.OpenViews.{Shown, all_current, stale_count}
 use Rattle.iv_workspace.specs.Prints.{ViewPrintsWithin, NamedPrintsWithin, AllPrintWithin}
 use Rattle.iv_workspace.specs.States.{State}
-use Rattle.iv_workspace.specs.ViewStates.{all_seen}
+use Rattle.iv_workspace.specs.Inside.ViewStates.{all_seen}
 use Rattle.iv_workspace.specs.Views.{view_named}
 use Rattle.iv_workspace.proofs.StateLemmas.{current_to, stale-among, stale-named}
 
 -- ---- one view
 
 -- no view has the name, and no step was taken
-pub none-within : (o p : Option Shown) (g : Sequences) (rows : List Row) (old new : ℕ) → o ≡ p → None ≡ p → (new ≡ old) ⊎ IsSomeAnd o (λ v. v.stale ≡ true) → NamedPrintsWithin p g rows old new
+pub none-within : (o p : Option Shown) (g : Sequences) (rows : List RecordValue) (old new : ℕ) → o ≡ p → None ≡ p → (new ≡ old) ⊎ IsSomeAnd o (λ v. v.stale ≡ true) → NamedPrintsWithin p g rows old new
 none-within None None g rows old new same none (inl is) = is
 none-within None None g rows old new same none (inr is) = absurd is
 none-within None (Some w) g rows old new same none steps = absurd (cc same)
@@ -29,7 +29,7 @@ none-within (Some v) None g rows old new same none steps = absurd (cc same)
 none-within (Some v) (Some w) g rows old new same none steps = absurd (cc none)
 
 -- a stale view may take as many as it needs
-pub stale-within : (p : Option Shown) (g : Sequences) (rows : List Row) (old new : ℕ) (v : Shown) → Some v ≡ p → v.stale ≡ true → NamedPrintsWithin p g rows old new
+pub stale-within : (p : Option Shown) (g : Sequences) (rows : List RecordValue) (old new : ℕ) (v : Shown) → Some v ≡ p → v.stale ≡ true → NamedPrintsWithin p g rows old new
 stale-within p g rows old new v is stale = subst (λ (o : Option Shown). NamedPrintsWithin o g rows old new) is (λ fresh. absurd (cc (sym stale ∙ fresh)))
 
 -- a view was built again, or no step was taken before it was printed
@@ -48,7 +48,7 @@ named-within inside s name old mid new v view same found is steps within =
 
 -- ---- all views
 
-none-taken : (v : View) (g : Sequences) (rows : List Row) (n : ℕ) → ViewPrintsWithin v g rows n n
+none-taken : (v : View) (g : Sequences) (rows : List RecordValue) (n : ℕ) → ViewPrintsWithin v g rows n n
 none-taken (view.Kept (kept.Merge options)) g rows n = record { no_less = omega arith; at_most = omega arith }
 none-taken (view.Kept (kept.Cluster distance)) g rows n = record { no_less = omega arith; at_most = omega arith }
 none-taken (view.Kept (kept.Complement limited)) g rows n = record { no_less = omega arith; at_most = omega arith }
@@ -56,7 +56,7 @@ none-taken (view.Kept (kept.Genomecov shown)) g rows n = record { no_less = omeg
 none-taken (view.Written v) g rows n = tt
 
 -- a print that ends before them takes nothing for these
-pub nothing-taken : (views : List (List ℕ × Shown)) (g : Sequences) (rows : List Row) (n : ℕ) → AllPrintWithin views g rows n n
+pub nothing-taken : (views : List (List ℕ × Shown)) (g : Sequences) (rows : List RecordValue) (n : ℕ) → AllPrintWithin views g rows n n
 nothing-taken [] g rows n = refl
 nothing-taken (v ∷ views) g rows n = (n, none-taken v.1.view g rows n, nothing-taken views g rows n)
 
@@ -74,7 +74,7 @@ next-within inside s i v first old mid same found so_far one m rest =
     so_far m (subst (λ (l : List (List ℕ × Shown)). AllPrintWithin l s.genome s.track.rows old m) (sym split) (mid, here, rest))
 
 -- views take as much once they are current
-current-within : (views : List (List ℕ × Shown)) (g : Sequences) (rows : List Row) (old new : ℕ) → AllPrintWithin (all_current views) g rows old new → AllPrintWithin views g rows old new
+current-within : (views : List (List ℕ × Shown)) (g : Sequences) (rows : List RecordValue) (old new : ℕ) → AllPrintWithin (all_current views) g rows old new → AllPrintWithin views g rows old new
 current-within [] g rows old new within = within
 current-within (v ∷ views) g rows old new within = (within.0, within.1, current-within views g rows within.0 new within.2)
 

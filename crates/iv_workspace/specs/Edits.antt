@@ -3,7 +3,7 @@ use Rattle.std.specs.Prelude.{ℕ, ◌≡◌, ◌≤◌, ◌<◌, ◌⊎◌, ◌
 use Rattle.iv_text.specs.Genome.{Sequences}
 use Rattle.iv_text.specs.Ordered.{added, copies}
 use Rattle.iv_text.specs.Read.{Fits, read}
-use Rattle.iv_text.specs.Row.{Row}
+use Rattle.iv_text.specs.RecordValue.{RecordValue}
 use Rattle.iv_text.specs.declared.fault.Fault.{Fault}
 use Rattle.iv_text.specs.declared.fault.Fault.TheVariants as fault
 use Rattle.iv_track.specs.Edits.{RefusesAdd, RefusesRemove, RefusesReplace, with_record, without_record, with_replaced}
@@ -21,12 +21,12 @@ abbrev pub RefusesCopy : Tracked → Fault → Type 0
 RefusesCopy t f = (f ≡ fault.NoMemory) × (3 < t.width)
 
 -- the record that a line means at the width of a second track, or its first fault: that there is no such track is reported first
-abbrev pub read_beside : Sequences → Option Tracked → List ℕ → Result Row Fault
+abbrev pub read_beside : Sequences → Option Tracked → List ℕ → Result RecordValue Fault
 read_beside g None line = Err fault.NoSecond
 read_beside g (Some t) line = read g t.width line
 
 -- the same at the width of the session's second file
-abbrev pub read_second : State → List ℕ → Result Row Fault
+abbrev pub read_second : State → List ℕ → Result RecordValue Fault
 read_second s line = read_beside s.genome s.second line
 
 -- the width of a second file, or that there is none
@@ -40,12 +40,12 @@ width_of s target.First = Ok s.track.width
 width_of s target.Second = width_beside s.second
 
 -- a record fits the track that an edit is for
-abbrev pub FitsIn : State → Target → Row → Type 0
+abbrev pub FitsIn : State → Target → RecordValue → Type 0
 FitsIn s target.First r = Fits s.genome s.track.width r
 FitsIn s target.Second r = FitsSecond s r
 
 -- each record of an edit fits
-abbrev pub EditFits : (Row → Type 0) → Edit → Type 0
+abbrev pub EditFits : (RecordValue → Type 0) → Edit → Type 0
 EditFits Fit (edit.Add r) = Fit r
 EditFits Fit (edit.Remove r) = Fit r
 EditFits Fit (edit.Replace r q) = Fit r × Fit q

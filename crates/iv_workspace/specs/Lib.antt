@@ -4,4 +4,4 @@ pub mod Edits
 pub mod Views
 pub mod Resizes
 pub mod Prints
-pub mod ViewStates
+pub mod Inside

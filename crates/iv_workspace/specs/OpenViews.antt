@@ -1,7 +1,7 @@
 -- The open views as contracts see them, and what edits and prints leave of them.
 use Rattle.std.specs.Prelude.{◌≡◌, ℕ, ◌+◌, Bool, true, false, if◌then◌else◌, List, [], ◌∷◌, None, map}
 use Rattle.std.specs.Str.{bytes_eq}
-use Rattle.iv_text.specs.Row.{Row}
+use Rattle.iv_text.specs.RecordValue.{RecordValue}
 use Rattle.iv_view.specs.KeptStates.{state_key_of, repair_steps_of}
 use Rattle.iv_view.specs.declared.view.View.{View}
 
@@ -47,10 +47,10 @@ stale_count (v ∷ views) = (if v.1.stale then 1 else 0) + stale_count views
 
 -- how many steps the repair of an open view takes at most, with the record among the records: none of a stale one, and none of
 -- one of which nothing is kept
-abbrev pub view_steps : Shown → List Row → Row → ℕ
+abbrev pub view_steps : Shown → List RecordValue → RecordValue → ℕ
 view_steps v rows r = if v.stale then 0 else repair_steps_of v.view rows r
 
 -- how many steps the repairs of all views take at most, with the record among the records
-abbrev pub all_steps : List (List ℕ × Shown) → List Row → Row → ℕ
+abbrev pub all_steps : List (List ℕ × Shown) → List RecordValue → RecordValue → ℕ
 all_steps [] rows r = 0
 all_steps (v ∷ views) rows r = view_steps v.1 rows r + all_steps views rows r

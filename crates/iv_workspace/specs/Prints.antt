@@ -2,7 +2,7 @@
 use Rattle.std.specs.Prelude.{◌≡◌, ◌<◌, ℕ, true, false, List, [], ◌∷◌, Option, None, Some, Result, Ok, Err, IsSome, MatchOption}
 use Rattle.iv_bytes.specs.Sinks.{SinkState, Takes, FailsIn}
 use Rattle.iv_text.specs.Genome.{Sequences}
-use Rattle.iv_text.specs.Row.{Row}
+use Rattle.iv_text.specs.RecordValue.{RecordValue}
 use Rattle.iv_text.specs.declared.fault.Fault.TheVariants as fault
 use Rattle.iv_view.specs.KeptStates.{state_key_of, PrintsWithin}
 use Rattle.iv_view.specs.declared.view.View.{View}
@@ -50,16 +50,16 @@ PrintedAll old new out0 out1 (Err (printing.Refused other)) = ⊥
 
 -- how many steps lie between two readings at most while a view is printed that is current: as many as `KeptView::print` takes for one
 -- of which something is kept; one that is written from the records may take as many as it needs
-abbrev pub ViewPrintsWithin : View → Sequences → List Row → ℕ → ℕ → Type 0
+abbrev pub ViewPrintsWithin : View → Sequences → List RecordValue → ℕ → ℕ → Type 0
 ViewPrintsWithin (view.Kept v) g rows old new = PrintsWithin v g rows old new
 ViewPrintsWithin (view.Written v) g rows old new = Unit {0}
 
 -- the same of the view that a name has: no step if no view has it; a stale view is built again first, and may take as many as it needs
-abbrev pub NamedPrintsWithin : Option Shown → Sequences → List Row → ℕ → ℕ → Type 0
+abbrev pub NamedPrintsWithin : Option Shown → Sequences → List RecordValue → ℕ → ℕ → Type 0
 NamedPrintsWithin None g rows old new = new ≡ old
 NamedPrintsWithin (Some v) g rows old new = v.stale ≡ false → ViewPrintsWithin v.view g rows old new
 
 -- the same of all these views, printed one after another: what each takes is within its own bound, and nothing else takes a step
-abbrev pub AllPrintWithin : List (List ℕ × Shown) → Sequences → List Row → ℕ → ℕ → Type 0
+abbrev pub AllPrintWithin : List (List ℕ × Shown) → Sequences → List RecordValue → ℕ → ℕ → Type 0
 AllPrintWithin [] g rows old new = new ≡ old
 AllPrintWithin (v ∷ views) g rows old new = (between : ℕ) × ViewPrintsWithin v.1.view g rows old between × AllPrintWithin views g rows between new

@@ -3,7 +3,7 @@ use Rattle.std.specs.Prelude.{ℕ, ◌==◌, ◌&&◌, ◌||◌, not, nat_lt, Bo
 use Rattle.std.specs.List.{list_any}
 use Rattle.std.specs.Option.{option_map, unwrap_or}
 use Rattle.iv_text.specs.Genome.{rank_of, with_length}
-use Rattle.iv_text.specs.Row.{Row}
+use Rattle.iv_text.specs.RecordValue.{RecordValue}
 use Rattle.iv_text.specs.declared.fault.Fault.{Fault}
 use Rattle.iv_text.specs.declared.fault.Fault.TheVariants as fault
 use Rattle.iv_fasta.specs.Fasta.{Bases, bases_of}
@@ -11,7 +11,7 @@ use Rattle.iv_view.specs.Views.{second_rows}
 use Rattle.iv_workspace.specs.States.{State}
 
 -- the record is on the sequence of this rank, and its stop is above a length
-abbrev pub reaches_past : ℕ → ℕ → Row → Bool
+abbrev pub reaches_past : ℕ → ℕ → RecordValue → Bool
 reaches_past seq n r = (r.seq == seq) && nat_lt n r.stop
 
 -- there is such a record in the track or in the second file

@@ -1,17 +1,14 @@
 -- A session as contracts see it.
-use Rattle.std.specs.Prelude.{◌≡◌, ◌≤◌, ℕ, false, List, [], ◌∷◌, ◌++◌, Option, None, All, IsTrue, IsSome, IfSome, IsSomeAnd, length, option_map}
-use Rattle.std.specs.List.{AllByRecursion}
+use Rattle.std.specs.Prelude.{◌≡◌, ℕ, false, List, [], ◌∷◌, ◌++◌, Option, IsSomeAnd, option_map}
 use Rattle.std.specs.Map.{remove_entry}
 use Rattle.std.specs.Str.{bytes_eq}
 use Rattle.iv_text.specs.Genome.{Sequences}
 use Rattle.iv_text.specs.BedFile.{Bed}
-use Rattle.iv_text.specs.Row.{Row}
+use Rattle.iv_text.specs.RecordValue.{RecordValue}
 use Rattle.iv_text.specs.Ordered.{ordered}
 use Rattle.iv_text.specs.Read.{Fits}
 use Rattle.iv_fasta.specs.Fasta.{Bases}
 use Rattle.iv_track.specs.Tracked.{Tracked}
-use Rattle.iv_view.specs.KeptStates.{state_key_of}
-use Rattle.iv_view.specs.Views.{needs_second}
 use Rattle.iv_view.specs.declared.view.View.{View}
 use Rattle.iv_workspace.specs.OpenViews.{Shown, Stales}
 
@@ -54,40 +51,9 @@ with_view s name view = record s { views = s.views ++ (name, record { view = vie
 abbrev pub without_view : State → List ℕ → State
 without_view s name = record s { views = remove_entry (bytes_eq name) s.views }
 
--- what each session keeps true of each of its tracks: the width is one of a BED file, and the records fit the genome and are not
--- above the limit
-pub record IsTrackOn (genome : Sequences) (track : Tracked) : Type 0 where
-  pub low : 3 ≤ track.width
-  pub high : track.width ≤ 6
-  pub fit : All (Fits genome track.width) track.rows
-  pub few : length track.rows ≤ track.limit
-
 -- there is a second file, and the record fits it
-abbrev pub FitsSecond : State → Row → Type 0
+abbrev pub FitsSecond : State → RecordValue → Type 0
 FitsSecond s r = IsSomeAnd s.second (λ t. Fits s.genome t.width r)
-
--- a view that needs a second file is beside one
-abbrev pub IsServed : Option Tracked → View → Type 0
-IsServed second view = IsTrue (needs_second view) → IsSome second
-
--- each view that needs a second file is beside one
-abbrev pub AreServed : Option Tracked → List (List ℕ × Shown) → Type 0
-AreServed second views = AllByRecursion (λ v. IsServed second v.1.view) views
-
--- a view of which nothing is kept isn't stale
-abbrev pub IsWrittenFresh : Shown → Type 0
-IsWrittenFresh v = state_key_of v.view ≡ None → v.stale ≡ false
-
--- no such view is stale
-abbrev pub AreWrittenFresh : List (List ℕ × Shown) → Type 0
-AreWrittenFresh views = AllByRecursion (λ v. IsWrittenFresh v.1) views
-
--- what each session keeps true
-pub record IsSession (genome : Sequences) (track : Tracked) (second : Option Tracked) (views : List (List ℕ × Shown)) : Type 0 where
-  pub track_is : IsTrackOn genome track
-  pub second_is : IfSome second (IsTrackOn genome)
-  pub served : AreServed second views
-  pub fresh : AreWrittenFresh views
 
 -- the session as it is to be, except that some views may have become stale
 abbrev pub IsButStale : State → State → Type 0

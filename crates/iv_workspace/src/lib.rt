@@ -2,10 +2,10 @@
 #![tactic(auto)]
 
 mod fault;
-mod laws;
+mod lemmas;
 mod session;
 mod views;
 
 pub use fault::{PrintFault, ResizeFault, SecondFault};
-pub use laws::corrected_lengths_are_those_of_bases;
+pub use lemmas::corrected_lengths_are_those_of_bases;
 pub use session::{Accepted, Edit, Session, Target};

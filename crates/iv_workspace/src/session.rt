@@ -4,6 +4,7 @@ ghost use Rattle.iv_text.specs.Ordered.{copies};
 ghost use Rattle.iv_text.specs.Read.{read, Fits};
 ghost use Rattle.iv_track.specs.Tracked.{most_records};
 ghost use Rattle.iv_workspace.specs.States.{State, begun, tracked};
+ghost use Rattle.iv_text.specs.Widths.{IsWidth};
 
 mod edits;
 mod lengths;
@@ -35,8 +36,9 @@ pub struct Session<A: Allocator + Copy = Global> {
 
 impl<A: Allocator + Copy> Model for Session<A> {
     ghost use Rattle.iv_text.specs.Named.{names_of};
-    ghost use Rattle.iv_workspace.specs.ViewStates.{AreRight, all_seen};
-    ghost use Rattle.iv_workspace.specs.States.{State, IsSession};
+    ghost use Rattle.iv_workspace.specs.Inside.ViewStates.{AreRight, all_seen};
+    ghost use Rattle.iv_workspace.specs.States.{State};
+    ghost use Rattle.iv_workspace.specs.Inside.States.{IsSession};
 
     ghost Value = { State };
 
@@ -55,7 +57,7 @@ fn second_of<A: Allocator + Copy>(
     requires few { IfSome file (λ f. length f.rows ≤ limit) }
     requires bounded { limit ≤ most_records }
     ensures value { IfOk result (λ second. second ≡ option_map (λ f. tracked f limit) file) }
-    ensures known { IfSome file (λ f. (3 ≤ f.width) × (f.width ≤ 6)) }
+    ensures known { IfSome file (λ f. IsWidth f.width) }
 {
     let Some(file) = file else {
         return Ok(None);
@@ -130,7 +132,7 @@ impl<A: Allocator + Copy> Session<A> {
     /// It is for callers outside this repository.
     pub fn read<'a>(&self, line: &'a [u8]) -> Result<RecordRef<'a>, RecordFault>
         ensures value { result ≡ read self.now.genome self.now.track.width line.now }
-        ensures known { (3 ≤ self.now.track.width) × (self.now.track.width ≤ 6) }
+        ensures known { IsWidth self.now.track.width }
         ensures fits { IfOk result (λ r. Fits self.now.genome self.now.track.width r) }
     {
         read_record(&self.genome, self.track.width(), line)
@@ -155,7 +157,7 @@ impl<A: Allocator + Copy> Session<A> {
     /// The track, as it is. Its records fit the session's genome.
     pub fn track(&self) -> &Track<A>
         ensures value { result.now ≡ self.now.track }
-        ensures known { (3 ≤ self.now.track.width) × (self.now.track.width ≤ 6) }
+        ensures known { IsWidth self.now.track.width }
         ensures fit { All (Fits self.now.genome self.now.track.width) self.now.track.rows }
     {
         &self.track
@@ -171,7 +173,7 @@ impl<A: Allocator + Copy> Session<A> {
     /// How many columns the records of the second file have, `None` exactly if there is none.
     pub fn second_width(&self) -> Option<u8>
         ensures value { result ≡ option_map (λ t. t.width) self.now.second }
-        ensures known { IfSome result (λ width. (3 ≤ width) × (width ≤ 6)) }
+        ensures known { IfSome result (λ width. IsWidth width) }
     {
         match &self.second {
             Some(second) => Some(second.width()),

@@ -7,12 +7,12 @@ ghost use Rattle.std.specs.Str.{bytes_eq};
 ghost use Rattle.iv_bytes.specs.Sinks.{Puts};
 ghost use Rattle.iv_text.specs.Named.{names_of};
 ghost use Rattle.iv_text.specs.Read.{Fits};
-ghost use Rattle.iv_text.specs.Row.{Row};
+ghost use Rattle.iv_text.specs.RecordValue.{RecordValue};
 ghost use Rattle.iv_view.specs.Views.{second_rows, view_text};
 ghost use Rattle.iv_workspace.specs.OpenViews.{Freshens, all_current, stale_count, with_current};
 ghost use Rattle.iv_workspace.specs.Prints.{ViewPrintsWithin};
-ghost use Rattle.iv_workspace.specs.States.{IsServed};
-ghost use Rattle.iv_workspace.specs.ViewStates.{AreRight, IsKept, all_owned, all_seen, current_at, seen};
+ghost use Rattle.iv_workspace.specs.Inside.States.{IsServed};
+ghost use Rattle.iv_workspace.specs.Inside.ViewStates.{AreRight, IsKept, all_owned, all_seen, current_at, seen};
 ghost use Rattle.iv_workspace.specs.Views.{view_named};
 
 mod states;
@@ -20,7 +20,7 @@ mod states;
 use iv_bytes::{Sink, WriteFault};
 use iv_fasta::Fasta;
 use iv_pair::Second;
-use iv_text::{AfterText, Genome, NameMap};
+use iv_text::{ContentSeed, Genome, NameMap};
 use iv_track::{Meter, Track};
 use iv_view::{KeptState, View};
 pub(crate) use states::Change;
@@ -58,7 +58,7 @@ impl<A: Allocator + Copy> Views<A> {
         ensures { result ≡ [] }
     {
         Views {
-            views: NameMap::new(alloc, AfterText::of(b"")),
+            views: NameMap::new(alloc, ContentSeed::of(b"")),
         }
     }
 
@@ -138,7 +138,7 @@ impl<A: Allocator + Copy> Views<A> {
     /// Takes the view of a name out, if there is one. The others keep their order, and a state that they need.
     pub(crate) fn remove(&mut self, name: &[u8])
         ensures seen { all_seen self.new ≡ remove_entry (bytes_eq name.now) (all_seen self.old) }
-        ensures right { (names : List (List ℕ)) (rows : List Row) → AreRight self.old names rows → AreRight self.new names rows }
+        ensures right { (names : List (List ℕ)) (rows : List RecordValue) → AreRight self.old names rows → AreRight self.new names rows }
     {
         let Some(closed) = self.views.remove(name) else {
             return;

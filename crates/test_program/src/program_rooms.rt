@@ -14,7 +14,7 @@ struct Step<'a> {
 
 /// A run, its steps, and how it ends if there is room for all.
 #[derive(Clone, Copy)]
-struct Run<'a> {
+struct Subcommand<'a> {
     words: &'a [u8],
     steps: &'a [Step<'a>],
     status: u8,
@@ -26,8 +26,8 @@ struct Run<'a> {
 const OUTPUT_FAILS: &[u8] = b"bedkeep: output cannot be written\n";
 
 /// Runs of each status.
-const RUNS: [Run<'static>; 9] = [
-    Run {
+const RUNS: [Subcommand<'static>; 9] = [
+    Subcommand {
         words: b"merge -g sizes -i records",
         steps: &[Step {
             line: b"",
@@ -37,7 +37,7 @@ const RUNS: [Run<'static>; 9] = [
         status: 0,
         told: b"",
     },
-    Run {
+    Subcommand {
         words: b"intersect -wb -g sizes -a records -b second",
         steps: &[Step {
             line: b"",
@@ -47,7 +47,7 @@ const RUNS: [Run<'static>; 9] = [
         status: 0,
         told: b"",
     },
-    Run {
+    Subcommand {
         words: b"getfasta -g sizes -bed records -fi bases",
         steps: &[Step {
             line: b"",
@@ -57,37 +57,37 @@ const RUNS: [Run<'static>; 9] = [
         status: 0,
         told: b"",
     },
-    Run {
+    Subcommand {
         words: b"session -g sizes -i first",
         steps: &SCRIPT,
         status: 1,
         told: b"",
     },
-    Run {
+    Subcommand {
         words: b"merge -g sizes -i first -c 4",
         steps: &[],
         status: 2,
         told: b"bedkeep: no such column\n",
     },
-    Run {
+    Subcommand {
         words: b"merge -g sizes",
         steps: &[],
         status: 2,
         told: b"bedkeep: bad options\n",
     },
-    Run {
+    Subcommand {
         words: b"session -g sizes -i damaged",
         steps: &[],
         status: 3,
         told: b"bedkeep: damaged: line 2: end past the sequence's end\n",
     },
-    Run {
+    Subcommand {
         words: b"merge -g sizes -i damaged",
         steps: &[],
         status: 3,
         told: b"bedkeep: damaged: line 2: end past the sequence's end\n",
     },
-    Run {
+    Subcommand {
         words: b"subtract -g sizes -a first -b none",
         steps: &[],
         status: 4,
@@ -240,7 +240,7 @@ fn is_left(
 /// Whether a run ends as it is to, if there is room for so many bytes.
 fn ends_within(
     rt: &HostRuntime,
-    run: &Run<'_>,
+    run: &Subcommand<'_>,
     texts: &Texts,
     room: usize,
     told: usize,
@@ -262,7 +262,7 @@ fn ends_within(
 
 /// For how many rooms a run ends otherwise: each room of the output, beside room for all messages, for none, for a few bytes and for
 /// as many; and then each room of the messages, beside room for all of the output.
-fn wrong_rooms_by(rt: &HostRuntime, run: &Run<'_>, texts: &Texts) -> Result<u32, Fail> {
+fn wrong_rooms_by(rt: &HostRuntime, run: &Subcommand<'_>, texts: &Texts) -> Result<u32, Fail> {
     let mut wrong = 0u32;
     for room in 0..=texts.output.len() {
         for told in [0, 9, room, 1_000] {
@@ -279,7 +279,7 @@ fn wrong_rooms_by(rt: &HostRuntime, run: &Run<'_>, texts: &Texts) -> Result<u32,
 }
 
 /// The same from its words on.
-fn wrong_rooms(rt: &HostRuntime, run: &Run<'_>) -> Result<u32, Fail> {
+fn wrong_rooms(rt: &HostRuntime, run: &Subcommand<'_>) -> Result<u32, Fail> {
     let texts = texts_of(rt, run.steps)?;
     wrong_rooms_by(rt, run, &texts)
 }

@@ -1,5 +1,5 @@
 //! Words that ask for help or for the version.
-use iv_args::{Notice, Plan, Run};
+use iv_args::{Notice, Plan, Subcommand};
 use iv_text::Fault;
 use std::test::Fail;
 use test_faults::words_of;
@@ -31,18 +31,18 @@ pub(crate) const NOTICES: [(&[u8], Notice); 16] = [
     (b"-h", Notice::Help),
     (b"help", Notice::Help),
     (b"--version", Notice::Version),
-    (b"--help session", Notice::HelpOf(Run::Session)),
-    (b"help session", Notice::HelpOf(Run::Session)),
-    (b"session --help", Notice::HelpOf(Run::Session)),
-    (b"session -h", Notice::HelpOf(Run::Session)),
-    (b"--help merge", Notice::HelpOf(Run::Merge)),
-    (b"merge --help", Notice::HelpOf(Run::Merge)),
-    (b"cluster -h", Notice::HelpOf(Run::Cluster)),
-    (b"help complement", Notice::HelpOf(Run::Complement)),
-    (b"genomecov --help", Notice::HelpOf(Run::Genomecov)),
-    (b"intersect -h", Notice::HelpOf(Run::Intersect)),
-    (b"help subtract", Notice::HelpOf(Run::Subtract)),
-    (b"getfasta --help", Notice::HelpOf(Run::Getfasta)),
+    (b"--help session", Notice::HelpOf(Subcommand::Session)),
+    (b"help session", Notice::HelpOf(Subcommand::Session)),
+    (b"session --help", Notice::HelpOf(Subcommand::Session)),
+    (b"session -h", Notice::HelpOf(Subcommand::Session)),
+    (b"--help merge", Notice::HelpOf(Subcommand::Merge)),
+    (b"merge --help", Notice::HelpOf(Subcommand::Merge)),
+    (b"cluster -h", Notice::HelpOf(Subcommand::Cluster)),
+    (b"help complement", Notice::HelpOf(Subcommand::Complement)),
+    (b"genomecov --help", Notice::HelpOf(Subcommand::Genomecov)),
+    (b"intersect -h", Notice::HelpOf(Subcommand::Intersect)),
+    (b"help subtract", Notice::HelpOf(Subcommand::Subtract)),
+    (b"getfasta --help", Notice::HelpOf(Subcommand::Getfasta)),
 ];
 
 #[test]

@@ -131,6 +131,6 @@ fn refused(rt: &HostRuntime, alloc: &RefusesNth<Global>, run: Run<'_>) -> Result
 }
 
 /// How often an allocation failed in a run, each of its allocations in turn.
-pub(crate) fn growths(rt: &HostRuntime, run: Run<'_>) -> Result<u32, Fail> {
+pub(crate) fn allocations(rt: &HostRuntime, run: Run<'_>) -> Result<u32, Fail> {
     refuse_each(rt.alloc(), |alloc| refused(rt, alloc, run))
 }

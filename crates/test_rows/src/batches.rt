@@ -1,8 +1,8 @@
 //! Lists in vectors of at most three items, and each of their allocations refused.
 ghost use Rattle.std.specs.Prelude.{◌<◌};
 
+use crate::allocations::{Run, allocations};
 use crate::fixtures::holds;
-use crate::growths::{Run, growths};
 use iv_text::Batches;
 use std::alloc::Global;
 use std::test::Fail;
@@ -125,6 +125,6 @@ pub(crate) fn refused_batches(alloc: &RefusesNth<Global>) -> Result<u32, Fail> {
 /// Four vectors, one for the full ones and one for all items.
 #[test]
 fn each_growth_of_batches_refused(rt: HostRuntime) -> Result<(), Fail> {
-    assert!(rt; growths(&rt, Run::Batches)? == 6);
+    assert!(rt; allocations(&rt, Run::Batches)? == 6);
     Ok(())
 }

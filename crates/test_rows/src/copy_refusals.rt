@@ -1,6 +1,6 @@
 //! Each allocation of copying a record and of making a sink, refused in turn.
+use crate::allocations::{Run, allocations};
 use crate::fixtures::{genome, holds};
-use crate::growths::{Run, growths};
 use iv_bytes::{MemSink, Sink};
 use iv_text::{Genome, Record, RecordRef, read_record};
 use std::alloc::{Allocator, Global};
@@ -36,7 +36,7 @@ fn growths_of_line(
     texts: (&[u8], &[u8]),
 ) -> Result<u32, Fail> {
     let row = read_record(genome, 5, line)?;
-    growths(rt, Run::Copy(&row, texts))
+    allocations(rt, Run::Copy(&row, texts))
 }
 
 /// The same of a record that has this name and this score.
@@ -65,7 +65,7 @@ fn growths_of_copy(
 
 /// Whether copies take as many allocations as they are to.
 fn take_growths(rt: &HostRuntime, genome: &Genome) -> Result<bool, Fail> {
-    for (letters, digits, growths) in [
+    for (letters, digits, allocations) in [
         (1, 1, 1),
         (20, 2, 1),
         (1, 21, 1),
@@ -76,7 +76,7 @@ fn take_growths(rt: &HostRuntime, genome: &Genome) -> Result<bool, Fail> {
         (37, 2, 2),
         (300, 40, 2),
     ] {
-        if growths_of_copy(rt, genome, letters, digits)? != growths {
+        if growths_of_copy(rt, genome, letters, digits)? != allocations {
             return Ok(false);
         }
     }
@@ -93,7 +93,7 @@ fn each_growth_of_a_copy_refused(rt: HostRuntime) -> Result<(), Fail> {
 /// Whether the copy of a record of three columns takes no allocation.
 fn takes_no_growth(rt: &HostRuntime, genome: &Genome) -> Result<bool, Fail> {
     let row = read_record(genome, 3, b"chr1\t10\t20")?;
-    Ok(growths(rt, Run::Copy(&row, (b"", b"")))? == 0)
+    Ok(allocations(rt, Run::Copy(&row, (b"", b"")))? == 0)
 }
 
 /// A record of three columns takes no memory.
@@ -134,7 +134,7 @@ pub(crate) fn refused_sink(alloc: &RefusesNth<Global>, room: usize) -> Result<u3
 #[test]
 fn the_growth_of_a_sink_refused(rt: HostRuntime) -> Result<(), Fail> {
     for room in [1, 9, 20_000] {
-        assert!(rt; growths(&rt, Run::Sink(room))? == 1);
+        assert!(rt; allocations(&rt, Run::Sink(room))? == 1);
     }
     Ok(())
 }

@@ -1,5 +1,5 @@
 //! Each allocation of reading a genome file, refused in turn.
-use crate::growths::{Run, growths, memory_of};
+use crate::allocations::{Run, allocations, memory_of};
 use iv_text::{Genome, LoadCause, LoadFault};
 use std::alloc::{Allocator, Global};
 use std::test::Fail;
@@ -67,7 +67,7 @@ pub(crate) fn refused_genome(
 /// How many allocations the reading of that file takes.
 fn growths_of_genome(rt: &HostRuntime, count: u32) -> Result<u32, Fail> {
     let text = genome_file(rt, count)?;
-    growths(rt, Run::Genome(text.as_bytes(), count))
+    allocations(rt, Run::Genome(text.as_bytes(), count))
 }
 
 /// An allocation for each name at least, and one for the table of names.
@@ -105,7 +105,7 @@ fn growths_before_damage(rt: &HostRuntime) -> Result<u32, Fail> {
         cause: LoadCause::Repeated,
     };
     let text = damaged_file(rt)?;
-    growths(rt, Run::Damage(text.as_bytes(), damage))
+    allocations(rt, Run::Damage(text.as_bytes(), damage))
 }
 
 /// The damage of a file's last line is reported unless memory runs out before it.

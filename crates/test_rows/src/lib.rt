@@ -2,6 +2,8 @@
 #![tactic(auto)]
 
 #[cfg(test)]
+mod allocations;
+#[cfg(test)]
 mod batches;
 #[cfg(test)]
 mod bytes;
@@ -15,8 +17,6 @@ mod files;
 mod fixtures;
 #[cfg(test)]
 mod genome_refusals;
-#[cfg(test)]
-mod growths;
 #[cfg(test)]
 mod ledgers;
 #[cfg(test)]

@@ -1,6 +1,6 @@
 //! Many places of a BED file, and each allocation of reading some of them, refused in turn.
+use crate::allocations::{Reading, Run, allocations, memory_of};
 use crate::fixtures::holds;
-use crate::growths::{Reading, Run, growths, memory_of};
 use crate::places::{SIZES, bed_text};
 use crate::span_pieces::spans_of;
 use iv_index::{Span, TextRecords, sort_spans};
@@ -105,7 +105,7 @@ pub(crate) fn refused_reads<'a>(
 fn growths_of_reads(rt: &HostRuntime) -> Result<u32, Fail> {
     let text = many_lines(rt)?;
     let (lines, _) = text.as_bytes().split_at(text.len().min(40 * 18));
-    growths(rt, Run::Over(Reading::Places(lines)))
+    allocations(rt, Run::Over(Reading::Places(lines)))
 }
 
 #[test]

@@ -1,5 +1,5 @@
 //! Each allocation of reading a BED file, at once and in pieces, refused in turn.
-use crate::growths::{Reading, Run, growths, memory_of};
+use crate::allocations::{Reading, Run, allocations, memory_of};
 use crate::span_pieces::spans_of;
 use iv_index::Span;
 use iv_text::{BedFile, Genome, LoadCause, LoadFault, Record, RecordFault, Strand};
@@ -68,7 +68,7 @@ pub(crate) fn refused_file<'a>(
 fn growths_of_file(rt: &HostRuntime, count: u32, width: u8) -> Result<u32, Fail> {
     let text = bed_file(rt, count, width)?;
     let reading = Reading::Records(text.as_bytes(), count, width, None);
-    growths(rt, Run::Over(reading))
+    allocations(rt, Run::Over(reading))
 }
 
 /// Records of three columns take no memory of their own, those of six columns one allocation each.
@@ -106,7 +106,7 @@ const DAMAGE: LoadFault = LoadFault {
 fn growths_before_damage(rt: &HostRuntime) -> Result<u32, Fail> {
     let text = file_with_end(rt, "\nchr1\t1\t2\n")?;
     let reading = Reading::Records(text.as_bytes(), COUNT, 6, Some(DAMAGE));
-    growths(rt, Run::Over(reading))
+    allocations(rt, Run::Over(reading))
 }
 
 #[test]
@@ -152,7 +152,7 @@ fn growths_of_pieces(
     damage: Option<LoadFault>,
 ) -> Result<u32, Fail> {
     let reading = Reading::Pieces(text, size, width, damage);
-    growths(rt, Run::Over(reading))
+    allocations(rt, Run::Over(reading))
 }
 
 /// Whether a file takes an allocation at once, and more in pieces of a few bytes.

@@ -182,7 +182,7 @@ fn are_three(records: TextRecords<'_>) -> bool {
 /// Whether places and indexes lead to the same three records.
 fn are_at_indexes(records: &TextRecords<'_>) -> bool {
     let mut sum = 0u64;
-    for place in records.places() {
+    for place in records.locators() {
         sum = sum
             .wrapping_mul(100)
             .wrapping_add(u64::from(place.span.start));
@@ -213,7 +213,7 @@ fn ways_to_the_records(rt: HostRuntime) -> Result<(), Fail> {
 
 #[test]
 fn a_place_takes_16_bytes(rt: HostRuntime) {
-    assert_eq!(rt; size_of::<iv_index::Place>(), 16);
+    assert_eq!(rt; size_of::<iv_index::Locator>(), 16);
 }
 
 #[test]

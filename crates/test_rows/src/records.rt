@@ -149,7 +149,7 @@ fn short_line(genome: &Genome, width: u8, text: &[u8]) -> Option<(u32, u32, u32,
     }
     let mut reader = RecordReader::new(genome);
     reader.read(3, b"chr2\t1\t2").ok()?;
-    let line = reader.read_short(width, text)?;
+    let line = reader.read_fast(width, text)?;
     Some((line.seq, line.start, line.stop, line.size))
 }
 
@@ -236,7 +236,7 @@ fn short_after(
 ) -> Result<Option<(u32, u32, usize)>, Fail> {
     let mut reader = RecordReader::new(genome);
     reader.read(3, before)?;
-    let line = reader.read_short(3, text);
+    let line = reader.read_fast(3, text);
     Ok(line.map(|line| (line.start, line.stop, line.size)))
 }
 

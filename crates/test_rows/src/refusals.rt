@@ -1,5 +1,5 @@
 //! Each allocation of vectors and of a ledger, refused in turn.
-use crate::growths::{Run, growths};
+use crate::allocations::{Run, allocations};
 use iv_track::{Ledger, Meter};
 use std::alloc::{AllocError, Allocator, Global};
 use std::test::Fail;
@@ -34,7 +34,7 @@ pub(crate) fn refused_of_three(alloc: &RefusesNth<Global>) -> u32 {
 /// Each of the three is refused once.
 #[test]
 fn growths_refused_one_after_the_other(rt: HostRuntime) -> Result<(), Fail> {
-    assert!(rt; growths(&rt, Run::Three)? == 3);
+    assert!(rt; allocations(&rt, Run::Three)? == 3);
     Ok(())
 }
 
@@ -88,6 +88,6 @@ pub(crate) fn refused_keys(alloc: &RefusesNth<Global>) -> Result<u32, Fail> {
 
 #[test]
 fn each_growth_of_a_ledger_refused(rt: HostRuntime) -> Result<(), Fail> {
-    assert!(rt; growths(&rt, Run::Keys)? > 0);
+    assert!(rt; allocations(&rt, Run::Keys)? > 0);
     Ok(())
 }

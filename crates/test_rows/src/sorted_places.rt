@@ -1,6 +1,6 @@
 //! The places of a BED file in the order of a track, and each allocation of reading and sorting them, refused in turn.
+use crate::allocations::{Reading, Run, allocations};
 use crate::fixtures::holds;
-use crate::growths::{Reading, Run, growths};
 use crate::places::{SIZES, bed_text, has_cells};
 use crate::span_pieces::spans_of;
 use iv_index::{Span, TextRecords, sort_spans};
@@ -210,13 +210,13 @@ pub(crate) fn refused_sorts<'a>(
 /// How many allocations a sort takes if many records of one place are out of order.
 fn growths_of_named(rt: &HostRuntime) -> Result<u32, Fail> {
     let named = named_lines(rt, 40)?;
-    growths(rt, Run::Over(Reading::Sorted(named.as_bytes())))
+    allocations(rt, Run::Over(Reading::Sorted(named.as_bytes())))
 }
 
 /// A sort takes memory once, if many records of one place are out of order, and else none.
 #[test]
 fn memory_of_a_sort_refused(rt: HostRuntime) -> Result<(), Fail> {
-    let shuffled = growths(&rt, Run::Over(Reading::Sorted(SHUFFLED)))?;
+    let shuffled = allocations(&rt, Run::Over(Reading::Sorted(SHUFFLED)))?;
     assert!(rt; (shuffled, growths_of_named(&rt)?) == (0, 1));
     Ok(())
 }

@@ -1,25 +1,25 @@
 //! BED files that come in pieces, of whose records the places alone are kept.
 ghost use Rattle.std.specs.Prelude.{◌+◌, ◌<◌, ◌≤◌, ◌^◌, OnOk, length};
-ghost use Rattle.iv_text.specs.KeptDrafts.{AreSound, size_of};
+ghost use Rattle.iv_text.specs.BedReading.{AreSound, size_of};
 
 use crate::places::SIZES;
 use iv_index::Span;
-use iv_text::{FromRecord, Genome, KeptDraft, LoadCause, LoadFault, RecordFault};
+use iv_text::{BedReader, FromRecord, Genome, LoadCause, LoadFault, RecordFault};
 use std::alloc::Allocator;
 use std::test::Fail;
 
 /// Takes a text in pieces of so many bytes.
 fn take_pieces<K: FromRecord<A>, A: Allocator + Copy>(
-    draft: &mut KeptDraft<K, A>,
+    draft: &mut BedReader<K, A>,
     genome: &Genome<A>,
     limit: u32,
     text: &[u8],
     size: usize,
 ) -> Result<(), LoadFault>
     requires size { 0 < size }
-    requires sound { AreSound K.kept genome.now limit draft.old.read }
+    requires sound { AreSound K.projected genome.now limit draft.old.read }
     requires few { size_of draft.old + length text.now < 2 ^ 64 }
-    ensures sound { OnOk result (AreSound K.kept genome.now limit draft.new.read) }
+    ensures sound { OnOk result (AreSound K.projected genome.now limit draft.new.read) }
     ensures few { OnOk result (size_of draft.new ≤ size_of draft.old + length text.now) }
 {
     let mut left = text;
@@ -42,7 +42,7 @@ pub(crate) fn spans_of<A: Allocator + Copy>(
     if size == 0 || text.len() >= 4_294_967_296 {
         return Err(LoadFault::at(1, LoadCause::TooMany));
     }
-    let mut draft: KeptDraft<Span, A> = KeptDraft::new(alloc);
+    let mut draft: BedReader<Span, A> = BedReader::new(alloc);
     take_pieces(&mut draft, genome, limit, text, size)?;
     let (width, spans) = draft.finish(genome, 5, limit)?;
     Ok((width, spans.into_vec()?))

@@ -1,6 +1,6 @@
 //! What operations give for values, and results over records.
+use crate::allocations::{Run, allocations};
 use crate::fixtures::holds;
-use crate::growths::{Run, growths};
 use iv_cover::{Column, ColumnSummary, Op, results, summary};
 use iv_text::{Genome, Record, read_record};
 use std::alloc::Global;
@@ -36,7 +36,7 @@ fn operations_over_values(rt: HostRuntime) -> Result<(), Fail> {
         (Op::Collapse, b"5,.,-7,007"),
         (Op::Distinct, b"-7,.,007,5"),
     ] {
-        assert!(rt; growths(&rt, Run::Summary(op, want))? > 0);
+        assert!(rt; allocations(&rt, Run::Summary(op, want))? > 0);
     }
     Ok(())
 }
@@ -223,7 +223,7 @@ pub(crate) fn refused_results(
 #[test]
 fn results_over_records(rt: HostRuntime) -> Result<(), Fail> {
     for (op, want) in WANTED {
-        assert!(rt; growths(&rt, Run::Results(op, want))? > 0);
+        assert!(rt; allocations(&rt, Run::Results(op, want))? > 0);
     }
     Ok(())
 }

@@ -1,8 +1,8 @@
 //! Each allocation for a track, refused in turn.
 ghost use Rattle.std.specs.Prelude.{◌≡◌, ◌≤◌, IfOk, length};
 
+use crate::allocations::{Reading, Run, allocations};
 use crate::fixtures::{add, replace, stage};
-use crate::growths::{Reading, Run, growths};
 use crate::places::SIZES;
 use iv_text::{BedFile, Genome, Record, read_record};
 use iv_track::{Meter, Track};
@@ -245,7 +245,7 @@ pub(crate) fn refused_calls(
 #[test]
 fn each_growth_of_an_edit_refused(rt: HostRuntime) -> Result<(), Fail> {
     for call in [Call::Add, Call::Stage, Call::Replace] {
-        assert!(rt; growths(&rt, Run::Calls(call))? > 0);
+        assert!(rt; allocations(&rt, Run::Calls(call))? > 0);
     }
     Ok(())
 }
@@ -253,7 +253,7 @@ fn each_growth_of_an_edit_refused(rt: HostRuntime) -> Result<(), Fail> {
 /// How many allocations the building of a track takes.
 fn growths_of_build(rt: &HostRuntime) -> Result<u32, Fail> {
     let text = lines(rt)?;
-    growths(rt, Run::Over(Reading::Track(text.as_bytes())))
+    allocations(rt, Run::Over(Reading::Track(text.as_bytes())))
 }
 
 #[test]

@@ -3,7 +3,7 @@ use crate::shot_fixtures::GENOME;
 use iv_args::{Plan, Slot};
 use iv_bytes::{MemSink, MemSource, Source};
 use iv_index::Span;
-use iv_run::{CliFault, FileFault, Loading, PlacesView};
+use iv_run::{CliFault, FileFault, IntervalsView, Loading};
 use iv_text::{LoadCause, LoadFault};
 use std::alloc::Allocator;
 use std::test::Fail;
@@ -60,7 +60,7 @@ pub(crate) fn run_over<A: Allocator + Copy, S: Source>(
     source: &mut S,
     sink: &mut MemSink,
 ) -> Result<Ended, Fail> {
-    let Some(view) = PlacesView::of_plan(plan) else {
+    let Some(view) = IntervalsView::of_plan(plan) else {
         return Err(Fail::new("a view of more than places"));
     };
     let mut loading: Loading<Span, A> = Loading::begin(alloc, plan, setting.sizes, setting.records);

@@ -2,14 +2,14 @@
 use crate::piece_fixtures::{DONE, SHORT, damage, ends, plan_of};
 use crate::shot_fixtures::{alone, beside, ends as ends_at_once, prints};
 use iv_args::Slot;
-use iv_run::PlacesView;
+use iv_run::IntervalsView;
 use iv_text::{LoadCause, RecordFault};
 use std::test::Fail;
 
 /// Whether a run of these words, separated by spaces, reads its BED file in pieces.
 fn is_in_pieces(rt: &HostRuntime, words: &[u8]) -> Result<bool, Fail> {
     let plan = plan_of(rt, words)?;
-    Ok(PlacesView::of_plan(&plan).is_some())
+    Ok(IntervalsView::of_plan(&plan).is_some())
 }
 
 /// Whether each run of these words does, or none.

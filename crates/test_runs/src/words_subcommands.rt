@@ -1,6 +1,6 @@
 //! Words of runs of one subcommand.
 use crate::piece_fixtures::plan_of;
-use iv_args::{Plan, Run, Slot};
+use iv_args::{Plan, Slot, Subcommand};
 use iv_text::Fault;
 use std::test::Fail;
 use test_faults::words_of;
@@ -28,18 +28,29 @@ pub(crate) fn has_files(rt: &HostRuntime, plan: &Plan<'_>, names: &[u8]) -> Resu
 }
 
 /// Whether a plan is that of this run, and these are the words of its view.
-fn is_run(plan: &Plan<'_>, run: Run, view: &[&[u8]]) -> bool {
+fn is_run(plan: &Plan<'_>, run: Subcommand, view: &[&[u8]]) -> bool {
     (plan.run() == run) & !plan.is_script() & (plan.view_words() == view)
 }
 
 /// The same of words that are separated by spaces.
-fn is_run_of(rt: &HostRuntime, plan: &Plan<'_>, run: Run, view: &[u8]) -> Result<bool, Fail> {
+fn is_run_of(
+    rt: &HostRuntime,
+    plan: &Plan<'_>,
+    run: Subcommand,
+    view: &[u8],
+) -> Result<bool, Fail> {
     let view = words_of(rt.alloc(), view)?;
     Ok(is_run(plan, run, view.as_slice()))
 }
 
 /// Whether words, separated by spaces, are read as a plan of this run over these files, whose view has these words.
-fn reads(rt: &HostRuntime, text: &[u8], run: Run, files: &[u8], view: &[u8]) -> Result<bool, Fail> {
+fn reads(
+    rt: &HostRuntime,
+    text: &[u8],
+    run: Subcommand,
+    files: &[u8],
+    view: &[u8],
+) -> Result<bool, Fail> {
     let plan = plan_of(rt, text)?;
     Ok(has_files(rt, &plan, files)? && is_run_of(rt, &plan, run, view)?)
 }
@@ -58,76 +69,86 @@ const OPTIONS: &[u8] = b"-i -d none none";
 
 /// Words, their run and its files, and the words of its view. That the records may lack a column or a strand is no fault of the
 /// words.
-const RUNS: [(&[u8], Run, &[u8], &[u8]); 15] = [
-    (b"merge -g g -i a", Run::Merge, ONE, b"merge"),
+const RUNS: [(&[u8], Subcommand, &[u8], &[u8]); 15] = [
+    (b"merge -g g -i a", Subcommand::Merge, ONE, b"merge"),
     (
         b"merge -i a -s -g g -d 5",
-        Run::Merge,
+        Subcommand::Merge,
         ONE,
         b"merge -s -d 5",
     ),
     (
         b"merge -c 4 -o sum -i a -width 4 -g g",
-        Run::Merge,
+        Subcommand::Merge,
         ONE,
         b"merge -c 4 -o sum",
     ),
     (
         b"cluster -d 7 -i a -g g",
-        Run::Cluster,
+        Subcommand::Cluster,
         ONE,
         b"cluster -d 7",
     ),
     (
         b"complement -g g -L -i a",
-        Run::Complement,
+        Subcommand::Complement,
         ONE,
         b"complement -L",
     ),
     (
         b"genomecov -d -i a -g g",
-        Run::Genomecov,
+        Subcommand::Genomecov,
         ONE,
         b"genomecov -d",
     ),
-    (b"merge -g g -i a -c 6", Run::Merge, ONE, b"merge -c 6"),
-    (b"merge -g g -i a -c 7", Run::Merge, ONE, b"merge -c 7"),
-    (b"merge -g g -s -i a", Run::Merge, ONE, b"merge -s"),
+    (
+        b"merge -g g -i a -c 6",
+        Subcommand::Merge,
+        ONE,
+        b"merge -c 6",
+    ),
+    (
+        b"merge -g g -i a -c 7",
+        Subcommand::Merge,
+        ONE,
+        b"merge -c 7",
+    ),
+    (b"merge -g g -s -i a", Subcommand::Merge, ONE, b"merge -s"),
     (
         b"intersect -c -a a -b b -g g",
-        Run::Intersect,
+        Subcommand::Intersect,
         BOTH,
         b"intersect -c",
     ),
     (
         b"intersect -g g -wa -b b -wb -a a",
-        Run::Intersect,
+        Subcommand::Intersect,
         BOTH,
         b"intersect -wa -wb",
     ),
     (
         b"subtract -b b -a a -A -g g",
-        Run::Subtract,
+        Subcommand::Subtract,
         BOTH,
         b"subtract -A",
     ),
     (
         b"getfasta -tab -fi f -bed a -s -g g",
-        Run::Getfasta,
+        Subcommand::Getfasta,
         BASES,
         b"getfasta -tab -s",
     ),
-    (b"merge -g -i -i -d", Run::Merge, OPTIONS, b"merge"),
+    (b"merge -g -i -i -d", Subcommand::Merge, OPTIONS, b"merge"),
     (
         b"genomecov -d -g -i -i -d",
-        Run::Genomecov,
+        Subcommand::Genomecov,
         OPTIONS,
         b"genomecov -d",
     ),
 ];
 
 /// Whether each of these words are read so.
-fn are_read(rt: &HostRuntime, runs: &[(&[u8], Run, &[u8], &[u8])]) -> Result<bool, Fail> {
+fn are_read(rt: &HostRuntime, runs: &[(&[u8], Subcommand, &[u8], &[u8])]) -> Result<bool, Fail> {
     for (words, run, files, view) in runs {
         if !reads(rt, words, *run, files, view)? {
             return Ok(false);

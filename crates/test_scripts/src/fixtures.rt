@@ -1,6 +1,7 @@
 //! What several tests begin with.
 ghost use Rattle.std.specs.Prelude.{◌≤◌, All, IfOk, IfSome, length};
 ghost use Rattle.iv_text.specs.Read.{Fits};
+ghost use Rattle.iv_text.specs.Widths.{IsWidth};
 
 use crate::failing::check_failing;
 use iv_bytes::{MemSink, MemSource};
@@ -55,7 +56,7 @@ fn second_of<A: Allocator + Copy>(
     limit: u32,
     text: Option<&[u8]>,
 ) -> Result<Option<BedFile<A>>, Fail>
-    requires { (3 ≤ width) × (width ≤ 6) }
+    requires { IsWidth width }
     ensures fit { IfOk result (λ second. IfSome second (λ file. All (Fits genome.now file.width) file.rows)) }
     ensures few { IfOk result (λ second. IfSome second (λ file. length file.rows ≤ limit)) }
 {

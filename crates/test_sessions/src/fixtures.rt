@@ -1,6 +1,7 @@
 //! What several tests begin with.
 ghost use Rattle.std.specs.Prelude.{◌≤◌, All, IfSome, length};
 ghost use Rattle.iv_text.specs.Read.{Fits};
+ghost use Rattle.iv_text.specs.Widths.{IsWidth};
 
 use iv_bytes::MemSink;
 use iv_text::{BedFile, Genome, RecordFault};
@@ -42,7 +43,7 @@ fn second_of<A: Allocator + Copy>(
     limit: u32,
     text: Option<&[u8]>,
 ) -> Option<Option<BedFile<A>>>
-    requires { (3 ≤ width) × (width ≤ 6) }
+    requires { IsWidth width }
     ensures fit { IfSome result (λ second. IfSome second (λ file. All (Fits genome.now file.width) file.rows)) }
     ensures few { IfSome result (λ second. IfSome second (λ file. length file.rows ≤ limit)) }
 {

@@ -259,7 +259,7 @@ fn prints_in_turn(
             return Ok(seen);
         }
     }
-    Err(Fail::new("no end of growths"))
+    Err(Fail::new("no end of allocations"))
 }
 
 /// Does the edit of a case with each of its allocations refused in turn, until one run has none to refuse.
@@ -277,7 +277,7 @@ fn run_in_turn(
         }
         seen = seen.and(more);
     }
-    Err(Fail::new("no end of growths"))
+    Err(Fail::new("no end of allocations"))
 }
 
 /// The same, with the file of the records before the edit.

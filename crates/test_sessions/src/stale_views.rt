@@ -251,7 +251,7 @@ fn refused_calls(
 
 impl Met {
     /// How many allocations were refused, as far as the answers show.
-    fn growths(self) -> u32 {
+    fn allocations(self) -> u32 {
         let stale = u32::from(self.stale > 0);
         self.calls.saturating_add(stale).saturating_add(self.prints)
     }
@@ -275,7 +275,7 @@ fn refused_in_turn(rt: &HostRuntime, prints: Prints) -> Result<bool, Fail> {
         most.set(most.get().max(met.stale));
         has_met.set(has_met.get() || met.met_prints > 0);
         if met.is_sound(prints) {
-            Ok(met.growths())
+            Ok(met.allocations())
         } else {
             Err(Fail::new("more was refused than the one growth"))
         }
@@ -293,7 +293,7 @@ fn refused_print_growths(rt: &HostRuntime, at_once: bool) -> Result<u64, Fail> {
             return Ok(number - 1);
         }
     }
-    Err(Fail::new("no end of growths"))
+    Err(Fail::new("no end of allocations"))
 }
 
 #[test]

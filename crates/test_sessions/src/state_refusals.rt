@@ -168,13 +168,18 @@ fn is_met_alone(
 }
 
 /// How many allocations the build or the repair of a case has, each of which is refused in turn.
-fn growths(rt: &HostRuntime, first: &[u8], case: Case<'_>, is_build: bool) -> Result<u64, Fail> {
+fn allocations(
+    rt: &HostRuntime,
+    first: &[u8],
+    case: Case<'_>,
+    is_build: bool,
+) -> Result<u64, Fail> {
     for number in 1..10_000u64 {
         if !is_met_alone(rt, first, case, Refused { is_build, number })? {
             return Ok(number - 1);
         }
     }
-    Err(Fail::new("no end of growths"))
+    Err(Fail::new("no end of allocations"))
 }
 
 /// How many allocations there are in the build, the addition and the removal for a view, between records without one and with it.
@@ -199,9 +204,9 @@ fn growths_between(
         ..add
     };
     Ok([
-        growths(rt, less.file.as_bytes(), add, true)?,
-        growths(rt, less.file.as_bytes(), add, false)?,
-        growths(rt, more.file.as_bytes(), remove, false)?,
+        allocations(rt, less.file.as_bytes(), add, true)?,
+        allocations(rt, less.file.as_bytes(), add, false)?,
+        allocations(rt, more.file.as_bytes(), remove, false)?,
     ])
 }
 
@@ -221,7 +226,7 @@ fn kept_states(rt: HostRuntime) -> Result<(), Fail> {
         for count in [0, 15, 300] {
             let [build, add, remove] = growths_of(&rt, kind, count)?;
             if (build > 0) != (count > 0) || count == 0 && add == 0 || remove > 0 {
-                return Err(Fail::new("other growths"));
+                return Err(Fail::new("other allocations"));
             }
         }
     }

@@ -28,7 +28,7 @@ fn add_refused(
             Err(_) => return Err(Fail::new("another answer to an edit")),
         }
     }
-    Err(Fail::new("no end of growths"))
+    Err(Fail::new("no end of allocations"))
 }
 
 /// The same for the record of ten bases at a start.
@@ -146,5 +146,5 @@ fn two_stale_states(rt: HostRuntime) -> Result<(), Fail> {
         neither = neither.saturating_add(u32::from(seen.is_refused && !seen.is_half));
         half = half.saturating_add(u32::from(seen.is_refused && seen.is_half));
     }
-    Err(Fail::new("no end of growths"))
+    Err(Fail::new("no end of allocations"))
 }

@@ -1,6 +1,6 @@
 //! Each allocation for a FASTA file, refused in turn.
+use crate::allocations::{Run, allocations};
 use crate::fasta_fixtures::{SIZES, fasta_of, says};
-use crate::growths::{Run, growths};
 use iv_text::{Genome, LoadCause, LoadFault};
 use std::alloc::Global;
 use std::test::Fail;
@@ -69,7 +69,7 @@ fn memory_of(fault: LoadFault) -> Result<u32, Fail> {
 #[test]
 fn each_growth_refused_in_turn(rt: HostRuntime) -> Result<(), Fail> {
     let text = lines(&rt)?;
-    assert!(rt; COUNT < growths(&rt, Run::Bases(text.as_bytes()))?);
+    assert!(rt; COUNT < allocations(&rt, Run::Bases(text.as_bytes()))?);
     Ok(())
 }
 
@@ -114,6 +114,6 @@ pub(crate) fn refused_damage(rt: &HostRuntime, alloc: &RefusesNth<Global>) -> Re
 
 #[test]
 fn damaged_files_without_memory(rt: HostRuntime) -> Result<(), Fail> {
-    assert!(rt; 0 < growths(&rt, Run::Damage)?);
+    assert!(rt; 0 < allocations(&rt, Run::Damage)?);
     Ok(())
 }

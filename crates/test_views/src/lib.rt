@@ -2,6 +2,8 @@
 #![tactic(auto)]
 
 #[cfg(test)]
+mod allocations;
+#[cfg(test)]
 mod bases;
 #[cfg(test)]
 mod fasta_faults;
@@ -15,8 +17,6 @@ mod fasta_prints;
 mod fasta_refusals;
 #[cfg(test)]
 mod fasta_rows;
-#[cfg(test)]
-mod growths;
 #[cfg(test)]
 mod hits;
 #[cfg(test)]

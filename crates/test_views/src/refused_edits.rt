@@ -1,5 +1,5 @@
 //! Each allocation of an edit of a second file, refused in turn.
-use crate::growths::{Run, growths};
+use crate::allocations::{Run, allocations};
 use crate::hits::hits_are;
 use crate::second_edits::{Edit, answer_to};
 use crate::second_fixtures::{SIZES, second_within};
@@ -176,6 +176,6 @@ pub(crate) fn refused_from_nothing(
 
 #[test]
 fn each_growth_of_an_edit_refused_in_turn(rt: HostRuntime) -> Result<(), Fail> {
-    assert!(rt; 2 < growths(&rt, Run::Edits)?);
+    assert!(rt; 2 < allocations(&rt, Run::Edits)?);
     Ok(())
 }

@@ -1,5 +1,5 @@
 //! Each allocation for a second file, refused in turn.
-use crate::growths::{Run, growths};
+use crate::allocations::{Run, allocations};
 use crate::hits::hits_are;
 use crate::second_fixtures::{SIZES, second_of};
 use iv_pair::Second;
@@ -62,6 +62,6 @@ pub(crate) fn refused_second(alloc: &RefusesNth<Global>, text: &[u8]) -> Result<
 #[test]
 fn each_growth_refused_in_turn(rt: HostRuntime) -> Result<(), Fail> {
     let text = lines(&rt)?;
-    assert!(rt; 2 < growths(&rt, Run::Second(text.as_bytes()))?);
+    assert!(rt; 2 < allocations(&rt, Run::Second(text.as_bytes()))?);
     Ok(())
 }

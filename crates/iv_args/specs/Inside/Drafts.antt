@@ -1,9 +1,9 @@
 -- What the words of a run have said so far. It is what the reader of the words keeps, and no part of what is promised.
 use Rattle.std.specs.Prelude.{◌≡◌, ℕ, Bool, true, false, ◌++◌, List, [], ◌∷◌, Option, None, Some, ◌&&◌, ◌||◌, not}
 use Rattle.std.specs.Option.{option_and_then, option_to_list, is_some}
-use Rattle.iv_args.specs.declared.run.Run.{Run}
-use Rattle.iv_args.specs.declared.run.RunOption.{RunOption}
-use Rattle.iv_args.specs.declared.run.RunOption.TheVariants as option
+use Rattle.iv_args.specs.declared.subcommand.Subcommand.{Subcommand}
+use Rattle.iv_args.specs.declared.subcommand.RunOption.{RunOption}
+use Rattle.iv_args.specs.declared.subcommand.RunOption.TheVariants as option
 use Rattle.iv_args.specs.Words.{RunPlan, option_of, takes_value, lead, width_said, needs_other, needs_bases, are_view_words}
 
 -- what words have said so far
@@ -16,7 +16,7 @@ pub record PartialPlan : Type 0 where
   pub view : List (List ℕ)
 
 -- what the first word says
-abbrev pub begun_by : Run → List ℕ → PartialPlan
+abbrev pub begun_by : Subcommand → List ℕ → PartialPlan
 begun_by run word = record { sizes = None; first = None; other = None; bases = None; width = None; view = lead run word }
 
 -- a value, unless one was given before
@@ -48,18 +48,18 @@ next_drafted None true word next after_both later said = after_both (viewed (wor
 next_drafted None false word next after_both later said = later (viewed (word ∷ []) said)
 
 -- what is said after words, if they can be taken
-abbrev pub drafted : Run → List (List ℕ) → PartialPlan → Option PartialPlan
+abbrev pub drafted : Subcommand → List (List ℕ) → PartialPlan → Option PartialPlan
 drafted run [] said = Some said
 drafted run (word ∷ []) said = last_drafted (option_of run word) word said
 drafted run (word ∷ next ∷ words) said =
     next_drafted (option_of run word) (takes_value run word) word next (drafted run words) (drafted run (next ∷ words)) said
 
 -- whether each file is named that this kind of run needs beside the genome and the records
-abbrev pub has_needed_files : Run → PartialPlan → Bool
+abbrev pub has_needed_files : Subcommand → PartialPlan → Bool
 has_needed_files run said = (is_some said.other || not (needs_other run)) && (is_some said.bases || not (needs_bases run))
 
 -- what words have said makes a plan of this kind
-pub record Makes (run : Run) (said : PartialPlan) (plan : RunPlan) : Type 0 where
+pub record Makes (run : Subcommand) (said : PartialPlan) (plan : RunPlan) : Type 0 where
   pub run_is : plan.run ≡ run
   pub sizes : said.sizes ≡ Some plan.sizes
   pub first : said.first ≡ Some plan.first

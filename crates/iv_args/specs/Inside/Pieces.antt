@@ -1,7 +1,7 @@
 -- The words of a run in pieces: a word, with the value after it if it takes one.
 use Rattle.std.specs.Prelude.{◌≡◌, ℕ, ◌++◌, ◌||◌, List, [], ◌∷◌, Option}
 use Rattle.std.specs.Option.{is_some, option_to_list}
-use Rattle.iv_args.specs.declared.run.Run.{Run}
+use Rattle.iv_args.specs.declared.subcommand.Subcommand.{Subcommand}
 use Rattle.iv_args.specs.Words.{option_of, takes_value}
 
 -- a word, and a value after it or none
@@ -15,5 +15,5 @@ piece_words [] = []
 piece_words (piece ∷ pieces) = (piece.word ∷ option_to_list piece.value) ++ piece_words pieces
 
 -- it has a value exactly if its word is an option of this kind of run, or a word of the view that takes one
-abbrev pub IsPiece : Run → Piece → Type 0
+abbrev pub IsPiece : Subcommand → Piece → Type 0
 IsPiece run piece = is_some piece.value ≡ (is_some (option_of run piece.word) || takes_value run piece.word)

@@ -4,7 +4,7 @@ use Rattle.std.specs.Prelude.{ℕ, ◌+◌, ◌++◌, List, [], ◌∷◌, Optio
 use Rattle.std.specs.List.{flat_map}
 use Rattle.iv_text.specs.Genome.{Sequences, sequence_name}
 use Rattle.iv_text.specs.RecordText.{record_text}
-use Rattle.iv_text.specs.Row.{Row}
+use Rattle.iv_text.specs.RecordValue.{RecordValue}
 use Rattle.iv_cover.specs.declared.block.Block.{Block}
 use Rattle.iv_cover.specs.TrackBlocks.{Group}
 
@@ -22,7 +22,7 @@ abbrev pub interval_row : Sequences → Block → List ℕ
 interval_row g b = sequence_name g b.sequence ++ codes "\t" ++ decimal b.start ++ codes "\t" ++ decimal b.stop ++ codes "\n"
 
 -- the row of a record with this number after its columns
-abbrev pub numbered_row : Sequences → ℕ → Row → List ℕ
+abbrev pub numbered_row : Sequences → ℕ → RecordValue → List ℕ
 numbered_row g number r = record_text g r ++ codes "\t" ++ decimal number ++ codes "\n"
 
 -- the rows of the members of blocks, with the numbers of the blocks, of which the first follows this number

@@ -3,9 +3,10 @@ use Rattle.std.specs.Prelude.{◌≡◌, ◌≢◌, ◌⊎◌, ℕ, Bool, List}
 use Rattle.std.specs.Option.{option_or}
 use Rattle.std.specs.BTreeMap.{insert_entry}
 use Rattle.iv_text.specs.Genome.{Sequences, sequence_name}
-use Rattle.iv_text.specs.Row.{Row}
+use Rattle.iv_text.specs.RecordValue.{RecordValue}
 use Rattle.iv_track.specs.Entries.{IsLedger, value_at}
-use Rattle.iv_blocks.specs.Groups.{is_minus, members_between, listed}
+use Rattle.iv_blocks.specs.Groups.{listed}
+use Rattle.iv_blocks.specs.Inside.Groups.{is_minus, members_between}
 use Rattle.iv_blocks.specs.KeptBlocks.{Key, key_cmp, KeptBlocks, kept_block, kept_at}
 use Rattle.iv_blocks.specs.declared.group.Group.{Group}
 
@@ -18,21 +19,21 @@ abbrev pub IsOfOther : Group → Key → Type 0
 IsOfOther g k = (k.0 ≢ g.rank) ⊎ (k.1 ≢ is_minus g.side)
 
 -- what is kept, with a group's block from start to stop put over what was there
-abbrev pub with_block : KeptBlocks → Sequences → List Row → Group → ℕ → ℕ → KeptBlocks
+abbrev pub with_block : KeptBlocks → Sequences → List RecordValue → Group → ℕ → ℕ → KeptBlocks
 with_block kept genome rows g start stop = record kept {
   entries = insert_entry key_cmp kept.entries (key_of g start)
       (kept_block (sequence_name genome g.rank) (listed kept.options.summaries) (stop, members_between g start stop rows));
 }
 
 -- the blocks of a group's records are put over what was there, and nothing else is changed
-pub record ArePut (g : Group) (names : List (List ℕ)) (rows : List Row) (old new : KeptBlocks) : Type 0 where
+pub record AreInserted (g : Group) (names : List (List ℕ)) (rows : List RecordValue) (old new : KeptBlocks) : Type 0 where
   pub options : new.options ≡ old.options
   pub ordered : IsLedger key_cmp new.entries
   pub here : (x : ℕ) → value_at key_cmp new.entries (key_of g x) ≡ option_or (kept_at old.options names rows (key_of g x)) (value_at key_cmp old.entries (key_of g x))
   pub others : (k : Key) → IsOfOther g k → value_at key_cmp new.entries k ≡ value_at key_cmp old.entries k
 
 -- the blocks of the records on one sequence, of both sides, are put over what was there, and nothing else is changed
-pub record ArePutOn (rank : ℕ) (names : List (List ℕ)) (rows : List Row) (old new : KeptBlocks) : Type 0 where
+pub record AreInsertedOn (rank : ℕ) (names : List (List ℕ)) (rows : List RecordValue) (old new : KeptBlocks) : Type 0 where
   pub options : new.options ≡ old.options
   pub ordered : IsLedger key_cmp new.entries
   pub here : (minus : Bool) (x : ℕ) → value_at key_cmp new.entries (rank, minus, x) ≡ option_or (kept_at old.options names rows (rank, minus, x)) (value_at key_cmp old.entries (rank, minus, x))

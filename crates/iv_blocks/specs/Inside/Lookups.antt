@@ -3,7 +3,7 @@
 use Rattle.std.specs.Prelude.{◌≡◌, ℕ, ◌<◌, ◌≤◌, List, Option, None, Some}
 use Rattle.iv_track.specs.Entries.{value_at}
 use Rattle.iv_blocks.specs.KeptBlocks.{key_cmp, Kept, Entries}
-use Rattle.iv_blocks.specs.Putting.{key_of}
+use Rattle.iv_blocks.specs.Inside.Insertion.{key_of}
 use Rattle.iv_blocks.specs.declared.group.Group.{Group}
 
 -- what is kept of the block of this group that starts at x, if there is one

@@ -2,16 +2,15 @@
 use Rattle.std.specs.Prelude.{ℕ, ◌+◌, ◌≤◌, List, Option, None, Some}
 use Rattle.std.specs.List.{AllByRecursion}
 use Rattle.iv_text.specs.Ordered.{AreInOrder}
-use Rattle.iv_text.specs.Row.{Row}
+use Rattle.iv_text.specs.RecordValue.{RecordValue}
 
 -- the members, in order, and how many records of the sequence, of any strand, the walk goes past for them
 pub record MembersLeft : Type 0 where
-  pub members : List Row
+  pub members : List RecordValue
   pub records : ℕ
 
 -- the records that a walk has left are in order, and none is on a sequence before this one
--- (an invariant of a private type; no part of what is promised)
-pub record IsAhead (rank : ℕ) (rows : List Row) : Type 0 where
+pub record IsAhead (rank : ℕ) (rows : List RecordValue) : Type 0 where
   pub ordered : AreInOrder rows
   pub ranks : AllByRecursion (λ r. rank ≤ r.seq) rows
 

@@ -2,8 +2,8 @@
 -- promised.
 use Rattle.std.specs.Prelude.{ℕ, List, None, filter}
 use Rattle.std.specs.List.{flat_map}
-use Rattle.iv_text.specs.Row.{Row}
-use Rattle.iv_cover.specs.Coming.{coming}
+use Rattle.iv_text.specs.RecordValue.{RecordValue}
+use Rattle.iv_cover.specs.Inside.Coming.{coming}
 use Rattle.iv_cover.specs.TrackBlocks.{Group}
 use Rattle.iv_cover.specs.declared.column.ColumnSummary.{ColumnSummary}
 use Rattle.iv_blocks.specs.Groups.{is_on_side, listed, sides}
@@ -15,9 +15,9 @@ abbrev pub group_row : List ℕ → List ColumnSummary → Group → List ℕ
 group_row name summaries b = block_row name summaries (b.start, (b.stop, b.members))
 
 -- the rows of the blocks of records in order, all of one group
-abbrev pub group_rows : Options → List ℕ → List Row → List ℕ
+abbrev pub group_rows : Options → List ℕ → List RecordValue → List ℕ
 group_rows o name rows = flat_map (group_row name (listed o.summaries)) (coming o.distance None rows)
 
 -- the rows of the blocks of records of one sequence in order, side by side
-abbrev pub sequence_rows : Options → List ℕ → List Row → List ℕ
+abbrev pub sequence_rows : Options → List ℕ → List RecordValue → List ℕ
 sequence_rows o name rows = flat_map (λ minus. group_rows o name (filter (is_on_side o.stranded minus) rows)) (sides o.stranded)

@@ -2,8 +2,8 @@
 use Rattle.std.specs.Prelude.{ℕ, ◌++◌, false, List, [], map, Option, Some}
 use Rattle.std.specs.Iterator.{YieldsFirst}
 use Rattle.iv_text.specs.Genome.{Sequences, sequence_name}
-use Rattle.iv_text.specs.Row.{Row}
-use Rattle.iv_cover.specs.Coming.{coming}
+use Rattle.iv_text.specs.RecordValue.{RecordValue}
+use Rattle.iv_cover.specs.Inside.Coming.{coming}
 use Rattle.iv_cover.specs.TrackBlocks.{Group, with_members}
 use Rattle.iv_cover.specs.declared.block.Block.{Block}
 use Rattle.iv_cover.specs.declared.column.ColumnSummary.{ColumnSummary}
@@ -14,7 +14,7 @@ abbrev pub kept_entry : Sequences → List ColumnSummary → Group → Key × Ke
 kept_entry g summaries b = ((b.sequence, false, b.start), kept_block (sequence_name g b.sequence) summaries (b.stop, b.members))
 
 -- the entries of these records' blocks at a distance, if the block is open and has some members, after entries that were made before
-abbrev pub entries_with : Sequences → List ColumnSummary → ℕ → Entries → Block → List Row → List Row → Entries
+abbrev pub entries_with : Sequences → List ColumnSummary → ℕ → Entries → Block → List RecordValue → List RecordValue → Entries
 entries_with g summaries distance entries block members rows = entries ++ map (kept_entry g summaries) (coming distance (Some (with_members block members)) rows)
 
 -- the key of a block without summaries, and what is kept of it

@@ -6,8 +6,8 @@ use Rattle.std.specs.Map.{remove_entry}
 use Rattle.std.specs.BTreeMap.{is_at}
 use Rattle.iv_track.specs.Entries.{IsLedger, value_at}
 use Rattle.iv_blocks.specs.KeptBlocks.{Key, key_cmp, Kept, KeptBlocks}
-use Rattle.iv_blocks.specs.Lookups.{IsLastBlock}
-use Rattle.iv_blocks.specs.Putting.{key_of, IsOfOther}
+use Rattle.iv_blocks.specs.Inside.Lookups.{IsLastBlock}
+use Rattle.iv_blocks.specs.Inside.Insertion.{key_of, IsOfOther}
 use Rattle.iv_blocks.specs.declared.group.Group.{Group}
 
 -- what is kept, without the group's block that starts at x

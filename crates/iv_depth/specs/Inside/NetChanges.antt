@@ -1,17 +1,17 @@
 -- Where records start and stop, as numbers in order, and the net changes of depth there. This is what a build knows, and no part of
 -- what is promised.
 use Rattle.std.specs.Prelude.{◌≡◌, ◌≢◌, ℕ, ◌+◌, ◌*◌, ◌/◌, ◌%◌, ◌^◌, ◌≤◌, Bool, if◌then◌else◌, List, Option, Some, None, count_by, ℤ, pos, ◌+ℤ◌, ◌-ℤ◌}
-use Rattle.iv_text.specs.Row.{Row}
+use Rattle.iv_text.specs.RecordValue.{RecordValue}
 use Rattle.iv_cover.specs.Depth.{depth}
-use Rattle.iv_depth.specs.Changes.{Place, reaches}
-use Rattle.iv_depth.specs.Edges.{Rise, BeginsElse}
+use Rattle.iv_depth.specs.Changes.{ChangeKey, reaches}
+use Rattle.iv_depth.specs.Inside.Edges.{Rise, BeginsElse}
 
 -- a place as one number, its key: keys ascend as places do
 abbrev pub key_of : ℕ → ℕ → ℕ
 key_of rank position = rank * 2 ^ 32 + position
 
 -- the place of a key
-abbrev pub place_of : ℕ → Place
+abbrev pub place_of : ℕ → ChangeKey
 place_of key = (key / 2 ^ 32, key % 2 ^ 32)
 
 -- how many of the keys are on the sequence of this rank, at p or before
@@ -19,7 +19,7 @@ abbrev pub reached : ℕ → ℕ → List ℕ → ℕ
 reached rank p keys = count_by (λ key. reaches rank p (place_of key)) keys
 
 -- at these keys the records start and stop, and there are no others; both rise
-pub record AreEdgesOf (rows : List Row) (starts stops : List ℕ) : Type 0 where
+pub record AreEdgesOf (rows : List RecordValue) (starts stops : List ℕ) : Type 0 where
   pub starts_rise : Rise 0 starts
   pub stops_rise : Rise 0 stops
   pub depths : (rank p : ℕ) → depth rows rank p + reached rank p stops ≡ reached rank p starts
@@ -51,7 +51,7 @@ pub record SkipsKeys (from : ℕ) (old new : Keys) : Type 0 where
   pub rise : RiseFrom from new
 
 -- the first of the old keys with a change that is not 0 is at this place, and the new keys are those after it
-pub record TakesChange (from : ℕ) (old : Keys) (place : Place) (change : ℤ) (new : Keys) : Type 0 where
+pub record TakesChange (from : ℕ) (old : Keys) (place : ChangeKey) (change : ℤ) (new : Keys) : Type 0 where
   pub key : ℕ
   pub is : place ≡ place_of key
   pub low : from ≤ key
@@ -60,6 +60,6 @@ pub record TakesChange (from : ℕ) (old : Keys) (place : Place) (change : ℤ) 
   pub later : RiseFrom (key + 1) new
 
 -- a call gave the next change that is not 0, or there is none
-abbrev pub GivesChange : Keys → Option (Place × ℤ) → Keys → Type 0
+abbrev pub GivesChange : Keys → Option (ChangeKey × ℤ) → Keys → Type 0
 GivesChange old (Some c) new = (from : ℕ) → RiseFrom from old → TakesChange from old c.0 c.1 new
 GivesChange old None new = (from : ℕ) → RiseFrom from old → (passes : ℕ → Bool) → net passes old ≡ pos 0

@@ -5,10 +5,10 @@ use Rattle.std.specs.List.{AllByRecursion}
 use Rattle.std.specs.Map.{values_of}
 use Rattle.iv_text.specs.Genome.{Sequences, sequence_length}
 use Rattle.iv_track.specs.Entries.{IsLedger, pair_cmp}
-use Rattle.iv_depth.specs.Changes.{Place, Entries, total, reaches}
+use Rattle.iv_depth.specs.Changes.{ChangeKey, Entries, total, reaches}
 
 -- the entry that was read ahead, if there is one, and those that are left
-abbrev pub ahead_of : Option (Place × ℤ) → Entries → Entries
+abbrev pub ahead_of : Option (ChangeKey × ℤ) → Entries → Entries
 ahead_of None entries = entries
 ahead_of (Some e) entries = e ∷ entries
 

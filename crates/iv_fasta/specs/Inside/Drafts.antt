@@ -7,7 +7,7 @@ use Rattle.std.specs.Option.{is_some}
 use Rattle.iv_text.specs.Genome.{Sequences, rank_of}
 use Rattle.iv_text.specs.GenomeFile.{begins_with}
 use Rattle.iv_fasta.specs.Fasta.{Stretch, Found, header_sign, is_no_base, header_name, with_header, with_bases}
-use Rattle.iv_fasta.specs.Places.{bases_at}
+use Rattle.iv_fasta.specs.Inside.BaseRanges.{bases_at}
 use Rattle.iv_fasta.specs.declared.fasta_draft.BaseRange.{BaseRange}
 use Rattle.iv_fasta.specs.declared.fasta_draft.Header.{Header}
 use Rattle.iv_text.specs.declared.fault.LoadCause.{LoadCause}
@@ -16,15 +16,15 @@ use Rattle.iv_text.specs.declared.fault.LoadFault.{LoadFault}
 
 -- a text that is read: the bases that are kept of it, and what is still to be read
 pub record Halves : Type 0 where
-  pub kept : List ℕ
+  pub compacted : List ℕ
   pub coming : List ℕ
 
 -- headers, each under its name, in the order of the file
-abbrev pub Headed : Type 0
-Headed = List (List ℕ × Header)
+abbrev pub PrefixKeyed : Type 0
+PrefixKeyed = List (List ℕ × Header)
 
 -- where the bases of the sequence before these headers end, of so many bases in all
-abbrev pub end_before : Headed → ℕ → ℕ
+abbrev pub end_before : PrefixKeyed → ℕ → ℕ
 end_before [] total = total
 end_before (h ∷ headers) total = h.1.start
 
@@ -34,7 +34,7 @@ end_at None total = total
 end_at (Some h) total = h.1.start
 
 -- the sequences of these headers: each has the bases from its start to the next one's
-abbrev pub cut : Headed → List ℕ → Found
+abbrev pub cut : PrefixKeyed → List ℕ → Found
 cut [] bases = []
 cut (h ∷ headers) bases = (h.0, record { line = h.1.line; bases = slice_range bases h.1.start (end_before headers (length bases)) }) ∷ cut headers bases
 
@@ -43,11 +43,11 @@ abbrev pub sequence_at : List ℕ → ℕ → BaseRange → Stretch
 sequence_at bases line place = record { line = line; bases = bases_at bases place }
 
 -- the headers start in order, from `low` on, and none of them past the bases
-abbrev pub StartInOrder : ℕ → Headed → ℕ → Type 0
+abbrev pub StartInOrder : ℕ → PrefixKeyed → ℕ → Type 0
 StartInOrder low [] total = low ≤ total
 StartInOrder low (h ∷ headers) total = (low ≤ h.1.start) × StartInOrder h.1.start headers total
 
-pub StartInOrder-prop : (low : ℕ) (headers : Headed) (total : ℕ) → IsProp (StartInOrder low headers total)
+pub StartInOrder-prop : (low : ℕ) (headers : PrefixKeyed) (total : ℕ) → IsProp (StartInOrder low headers total)
 StartInOrder-prop low [] total = le_prop
 StartInOrder-prop low (h ∷ headers) total = ×_prop le_prop (StartInOrder-prop h.1.start headers total)
 
@@ -57,7 +57,7 @@ pub record Draft : Type 0 where
   pub named : Bool
 
 -- what these headers and bases say
-abbrev pub drafted : Headed → List ℕ → Bool → Draft
+abbrev pub drafted : PrefixKeyed → List ℕ → Bool → Draft
 drafted headers bases named = record { found = cut headers bases; named = named }
 
 -- what is kept after a header, or its fault
@@ -66,8 +66,8 @@ headed g name (Err c) = Err c
 headed g name (Ok found) = Ok (record { found = found; named = is_some (rank_of g name) })
 
 -- what is kept after a line of bases, or its first fault: nothing of it if the genome doesn't name the sequence
-abbrev pub with_kept_line : Draft → List ℕ → Result Draft LoadCause
-with_kept_line d line =
+abbrev pub with_compacted_line : Draft → List ℕ → Result Draft LoadCause
+with_compacted_line d line =
     cond (length d.found == 0) (Err cause.BasesFirst)
     (cond (list_any is_no_base line) (Err cause.Base)
     (Ok (record { found = with_bases d.found (cond d.named line []); named = d.named })))
@@ -76,9 +76,9 @@ with_kept_line d line =
 unfoldable pub after_kept_line : Sequences → ℕ → Draft → List ℕ → Result Draft LoadCause
 after_kept_line g n d line =
     cond (length line == 0) (Ok d)
-    (cond (begins_with header_sign line) (headed g (header_name line) (with_header n d.found (header_name line))) (with_kept_line d line))
+    (cond (begins_with header_sign line) (headed g (header_name line) (with_header n d.found (header_name line))) (with_compacted_line d line))
 
 -- what is kept after lines of which the first has the number n, or the first fault
-abbrev pub after_kept_lines : Sequences → ℕ → Draft → List (List ℕ) → Result Draft LoadFault
-after_kept_lines g n d [] = Ok d
-after_kept_lines g n d (line ∷ lines) = elim (after_kept_line g n d line) [ Ok more ↦ after_kept_lines g (n + 1) more lines | Err c ↦ Err (record { line = n; cause = c }) ]
+abbrev pub after_compacted_lines : Sequences → ℕ → Draft → List (List ℕ) → Result Draft LoadFault
+after_compacted_lines g n d [] = Ok d
+after_compacted_lines g n d (line ∷ lines) = elim (after_kept_line g n d line) [ Ok more ↦ after_compacted_lines g (n + 1) more lines | Err c ↦ Err (record { line = n; cause = c }) ]

@@ -2,10 +2,10 @@
 use denote.Ref.{Bor}
 use Rattle.std.specs.Prelude.{◌≡◌, ℕ, ◌<◌, ◌≤◌, ◌^◌, ◌++◌, Bool, true, false, List, [], ◌∷◌, Option, Some, None, All, length}
 use Rattle.iv_text.specs.Ordered.{AreInOrder}
-use Rattle.iv_text.specs.Row.{Row}
+use Rattle.iv_text.specs.RecordValue.{RecordValue}
 use Rattle.iv_text.specs.Covering.{covers}
 use Rattle.iv_pair.specs.Hits.{hits}
-use Rattle.iv_pair.specs.Lengths.{AreUpTo}
+use Rattle.iv_pair.specs.Inside.Lengths.{AreUpTo}
 
 -- the records in these slots
 abbrev pub held : {K : Type 0} → List (Option (Bor K)) → List K
@@ -20,36 +20,36 @@ keeps p (Some k) = p k.now
 
 -- the records of the second file, where the search is, and the hits of the interval that was sought last
 pub record Finding : Type 0 where
-  pub records : List Row
+  pub records : List RecordValue
   pub seq : ℕ
   pub start : ℕ
-  pub found : List Row
+  pub found : List RecordValue
 
 -- the place t of sequence s is this place or after it
 abbrev pub IsOnward : ℕ → ℕ → ℕ → ℕ → Type 0
 IsOnward seq start s t = (seq ≤ s) × (seq ≡ s → start ≤ t)
 
 -- each interval from this place on has the same hits in both lists
-abbrev pub HitAlike : ℕ → ℕ → List Row → List Row → Type 0
+abbrev pub HitAlike : ℕ → ℕ → List RecordValue → List RecordValue → Type 0
 HitAlike seq start xs ys = (s t stop : ℕ) → IsOnward seq start s t → hits xs s t stop ≡ hits ys s t stop
 
 -- each of these records has this position
-abbrev pub AllCover : ℕ → ℕ → List Row → Type 0
+abbrev pub AllCover : ℕ → ℕ → List RecordValue → Type 0
 AllCover seq start rows = All (λ b. covers seq start b ≡ true) rows
 
 -- each of these records starts at this place or before it
-abbrev pub AllBegun : ℕ → ℕ → List Row → Type 0
-AllBegun seq start rows = All (λ (b : Row). IsOnward b.seq b.start seq start) rows
+abbrev pub AllBegun : ℕ → ℕ → List RecordValue → Type 0
+AllBegun seq start rows = All (λ (b : RecordValue). IsOnward b.seq b.start seq start) rows
 
 -- the records carried and those ahead have the hits of all records from this place on
-pub record IsPlaced (records carried rows : List Row) (seq start : ℕ) : Type 0 where
+pub record IsPlaced (records carried rows : List RecordValue) (seq start : ℕ) : Type 0 where
   pub cover : AllCover seq start carried
   pub alike : HitAlike seq start (carried ++ rows) records
   pub rows_ordered : AreInOrder rows
   pub rows_few : length rows < 2 ^ 32
 
 -- the search is at this place, and on its sequence no record is longer than `longest`
-pub record StandsAt (records carried rows : List Row) (seq start longest : ℕ) : Type 0 where
+pub record StandsAt (records carried rows : List RecordValue) (seq start longest : ℕ) : Type 0 where
   pub placed : IsPlaced records carried rows seq start
   pub ordered : AreInOrder records
   pub few : length records < 2 ^ 32

@@ -4,17 +4,17 @@ use Rattle.std.specs.Prelude.{◌≡◌, ℕ, ◌+◌, ◌-◌, ◌<◌, ◌≤�
 use Rattle.std.specs.Ordering.{is_eq}
 use Rattle.std.specs.Map.{keys_of, values_of}
 use Rattle.iv_text.specs.Ordered.{copies_by}
-use Rattle.iv_text.specs.Row.{Row}
-use Rattle.iv_track.specs.Copies.{expanded}
+use Rattle.iv_text.specs.RecordValue.{RecordValue}
+use Rattle.iv_track.specs.Inside.Copies.{expanded}
 use Rattle.iv_track.specs.Entries.{IsLedger, pair_cmp}
 use Rattle.iv_track.specs.Tracked.{Tracked}
 
 -- the rank of a record's sequence, and how many positions it has
-abbrev pub length_of : Row → ℕ × ℕ
+abbrev pub length_of : RecordValue → ℕ × ℕ
 length_of r = (r.seq, r.stop - r.start)
 
 -- how many of the records have this length
-abbrev pub with_length : List Row → ℕ × ℕ → ℕ
+abbrev pub with_length : List RecordValue → ℕ × ℕ → ℕ
 with_length rows k = count_by (λ r. is_eq (pair_cmp k (length_of r))) rows
 
 -- a map from lengths of 32 bits to numbers that are not 0
@@ -24,7 +24,7 @@ pub record IsTally (es : List ((ℕ × ℕ) × ℕ)) : Type 0 where
   pub small : All (λ (k : ℕ × ℕ). k.1 < 2 ^ 32) (keys_of es)
 
 -- the map has each length that occurs, with the number of records that have it, and no other
-pub record AreLengths (es : List ((ℕ × ℕ) × ℕ)) (rows : List Row) : Type 0 where
+pub record AreLengths (es : List ((ℕ × ℕ) × ℕ)) (rows : List RecordValue) : Type 0 where
   pub tally : IsTally es
   pub counts : (k : ℕ × ℕ) → copies_by pair_cmp (expanded es) k ≡ with_length rows k
 
@@ -34,5 +34,5 @@ pub record IsSecond (es : List ((ℕ × ℕ) × ℕ)) (track : Tracked) : Type 0
   pub few : length track.rows ≤ track.limit
 
 -- no record on the sequence of this rank has more positions than n
-abbrev pub AreUpTo : ℕ → ℕ → List Row → Type 0
+abbrev pub AreUpTo : ℕ → ℕ → List RecordValue → Type 0
 AreUpTo seq n rows = All (λ q. q.seq ≡ seq → q.stop ≤ q.start + n) rows

@@ -2,12 +2,13 @@
 use Rattle.std.specs.Prelude.{◌≡◌, ◌<◌, ◌≤◌, All, ℕ, ◌+◌, ◌||◌, Bool, false, List, [], ◌∷◌, ◌++◌, Some, length}
 use Rattle.iv_text.specs.BedFile.{is_unread}
 use Rattle.iv_text.specs.Bytes.{tab}
-use Rattle.iv_text.specs.Fields.{columns, is_separator, HasNoTab}
+use Rattle.iv_text.specs.Fields.{columns, is_separator}
+use Rattle.iv_text.specs.Inside.Fields.{HasNoTab}
 use Rattle.iv_text.specs.Lines.{HasNoFeed}
 use Rattle.iv_text.specs.Number.{number}
 use Rattle.iv_text.specs.Genome.{Sequences, rank_of, length_at}
 use Rattle.iv_text.specs.Read.{column, is_line_byte, AreSound}
-use Rattle.iv_text.specs.Row.{strand_of}
+use Rattle.iv_text.specs.RecordValue.{strand_of}
 
 -- the name is that of a sequence of the genome, with its rank and its length; it holds no TAB and no LF, and as a line it would be no header
 pub record IsNamed (g : Sequences) (name : List ℕ) (rank len : ℕ) : Type 0 where

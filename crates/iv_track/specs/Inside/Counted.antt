@@ -4,7 +4,7 @@ use Rattle.std.specs.Prelude.{ℕ, ◌+◌, List, [], ◌∷◌, Option, Some, N
 use Rattle.std.specs.Iterator.{YieldsFirst}
 use Rattle.std.specs.declared.cmp.Ordering.{Ordering}
 use Rattle.std.specs.Ordering.{is_eq}
-use Rattle.iv_text.specs.Row.{Row, IsPlaced}
+use Rattle.iv_text.specs.RecordValue.{RecordValue, IsPlaced}
 
 module _ {K : Type 0} (cmp : K → K → Ordering) where
   -- the entries of a list of which n neighbours alike k were taken, and these are left
@@ -23,5 +23,5 @@ left None ks = ks
 left (Some k) ks = k ∷ ks
 
 -- a call gave the first of the entries, whose record is placed, or none if none was left
-abbrev pub GivesEntry : List (Row × ℕ) → Option (Row × ℕ) → List (Row × ℕ) → Type 0
+abbrev pub GivesEntry : List (RecordValue × ℕ) → Option (RecordValue × ℕ) → List (RecordValue × ℕ) → Type 0
 GivesEntry old given new = YieldsFirst (λ es. es) old given new × IfSome given (λ e. IsPlaced e.0)

@@ -4,7 +4,8 @@ ghost use Rattle.iv_text.specs.Read.{Fits};
 ghost use Rattle.iv_workspace.specs.Edits.{EditFits, FitsIn, IsDone, RefusesIn, read_second, width_of};
 ghost use Rattle.iv_workspace.specs.OpenViews.{stale_count};
 ghost use Rattle.iv_workspace.specs.States.{FitsSecond};
-ghost use Rattle.iv_workspace.specs.ViewStates.{all_seen};
+ghost use Rattle.iv_workspace.specs.Inside.ViewStates.{all_seen};
+ghost use Rattle.iv_text.specs.Widths.{IsWidth};
 
 use super::Session;
 use crate::fault::SecondFault;
@@ -60,7 +61,7 @@ impl<A: Allocator + Copy> Session<A> {
     /// `NoSecond` exactly if the track is the second file and there is none.
     pub fn width_of(&self, target: Target) -> Result<u8, Fault>
         ensures value { result ≡ width_of self.now target }
-        ensures known { IfOk result (λ width. (3 ≤ width) × (width ≤ 6)) }
+        ensures known { IfOk result (λ width. IsWidth width) }
     {
         match target {
             Target::First => Ok(self.track.width()),
@@ -164,7 +165,7 @@ impl<A: Allocator + Copy> Session<A> {
     /// `NoSecond` exactly if there is no second file, or else the line's first fault.
     pub fn read_second<'a>(&self, line: &'a [u8]) -> Result<RecordRef<'a>, SecondFault>
         ensures value { result ≡ read_second self.now line.now }
-        ensures known { IfSome self.now.second (λ t. (3 ≤ t.width) × (t.width ≤ 6)) }
+        ensures known { IfSome self.now.second (λ t. IsWidth t.width) }
         ensures fits { IfOk result (FitsSecond self.now) }
     {
         let Some(width) = self.second_width() else {

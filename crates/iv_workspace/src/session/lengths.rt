@@ -14,7 +14,7 @@ use std::alloc::Allocator;
 
 /// Whether a record is on this sequence, and its stop is above a length.
 fn reaches_past<R: BedRecord>(row: &R, seq: u32, length: u64) -> bool
-    ensures { result ≡ reaches_past seq length (R.as_row row.now) }
+    ensures { result ≡ reaches_past seq length (R.as_record row.now) }
 {
     row.seq() == seq && length < row.stop()
 }

@@ -3,11 +3,11 @@ ghost use Rattle.std.specs.Prelude.{◌≡◌, ◌≢◌, ◌↔◌, ◌<◌, �
 ghost use Rattle.std.specs.List.{slice_get};
 ghost use Rattle.iv_text.specs.Named.{names_of};
 ghost use Rattle.iv_text.specs.Read.{Fits};
-ghost use Rattle.iv_text.specs.Row.{Row};
+ghost use Rattle.iv_text.specs.RecordValue.{RecordValue};
 ghost use Rattle.iv_track.specs.Steps.{TakesUpTo};
 ghost use Rattle.iv_view.specs.KeptStates.{built_for, state_key_of, IsRight, repair_steps};
 ghost use Rattle.iv_workspace.specs.OpenViews.{Stales, all_steps};
-ghost use Rattle.iv_workspace.specs.ViewStates.{AreMarked, AreOwnRight, AreRepaired, AreRight, HaveStates, IsKept, IsMissing, IsOwned, IsOwnRight, IsRepaired, NoneNeeds, WasRight, all_owned, all_seen, kept_with, owned, with_edited};
+ghost use Rattle.iv_workspace.specs.Inside.ViewStates.{AreMarked, AreOwnRight, AreRepaired, AreRight, HaveStates, IsKept, IsMissing, IsOwned, IsOwnRight, IsRepaired, NoneNeeds, WasRight, all_owned, all_seen, kept_with, owned, with_edited};
 
 use super::{OpenView, Views};
 use iv_cover::Kept;
@@ -123,7 +123,7 @@ fn repair_state<A: Allocator + Copy>(
 impl<A: Allocator + Copy> Views<A> {
     /// The state that is kept for this, if a view has one.
     pub(super) fn state_for(&self, what: StateKey) -> Option<&KeptState<A>>
-        ensures right { IfSome result (λ k. (names : List (List ℕ)) (rows : List Row) → AreOwnRight self.now names rows → (built_for k.now ≡ what) × IsRight k.now names rows) }
+        ensures right { IfSome result (λ k. (names : List (List ℕ)) (rows : List RecordValue) → AreOwnRight self.now names rows → (built_for k.now ≡ what) × IsRight k.now names rows) }
         ensures owned { IfSome result (λ k. IsOwned what (all_owned self.now)) }
         ensures none { result ≡ None → IsOwned what (all_owned self.now) → ⊥ }
     {
@@ -170,7 +170,7 @@ impl<A: Allocator + Copy> Views<A> {
     /// Hands the state of a closed view on, if it had one, to the first open one that needs it.
     pub(super) fn hand_on(&mut self, closed: View, state: Option<KeptState<A>>)
         ensures seen { all_seen self.new ≡ all_seen self.old }
-        ensures right { (names : List (List ℕ)) (rows : List Row) → AreOwnRight self.old names rows
+        ensures right { (names : List (List ℕ)) (rows : List RecordValue) → AreOwnRight self.old names rows
             → HaveStates (kept_with closed state ∷ all_owned self.old) (all_seen self.old)
             → IfSome state (λ k. (state_key_of closed ≡ Some (built_for k)) × IsRight k names rows) → AreRight self.new names rows }
     {

@@ -1,6 +1,6 @@
 use Rattle.std.proofs.Common.{◌∙◌, sym, ap, arith, length, List}
 use Rattle.iv_cover.specs.declared.block.Block.{Block}
-use Rattle.iv_blocks.specs.BlockCursor.{starts_until}
+use Rattle.iv_blocks.specs.Inside.BlockCursor.{starts_until}
 use Rattle.iv_blocks.proofs.BlockCursorLemmas.{given-some, TakesForEach-next, take-first, drop-first}
 use Rattle.iv_blocks.proofs.cluster.count_until.Goals as goal
 

@@ -1,6 +1,6 @@
 use Rattle.std.proofs.Common.{◌≡◌, ◌+◌, length}
 use Rattle.std.specs.List.{take_while}
-use Rattle.iv_blocks.specs.BlockCursor.{starts_until, drop_while, TakesForEach}
+use Rattle.iv_blocks.specs.Inside.BlockCursor.{starts_until, drop_while, TakesForEach}
 use Rattle.iv_blocks.proofs.cluster.count_until.Given as goal
 
 abbrev pub invariant-loop-count : goal.invariant-loop-count

@@ -1,7 +1,7 @@
 use Rattle.std.proofs.Common.{◌-◌, not}
 use Rattle.iv_bytes.proofs.Putting.{Underway}
 use Rattle.iv_text.specs.Genome.{seq_count}
-use Rattle.iv_blocks.specs.BlockCursor.{texts, TakesForEach}
+use Rattle.iv_blocks.specs.Inside.BlockCursor.{texts, TakesForEach}
 use Rattle.iv_blocks.proofs.complement.put_gaps.Given as goal
 
 -- the rows of the sequences from this rank on remain to be put

@@ -1,11 +1,11 @@
 use Rattle.std.proofs.Common.{◌≡◌, ◌∙◌, ◌++◌, ◌∷◌, [], List, None, Bor, map, sym, ap}
 use Rattle.std.proofs.lemmas.List.{map-append}
-use Rattle.iv_text.specs.Row.{Row}
-use Rattle.iv_cover.specs.Coming.{coming}
+use Rattle.iv_text.specs.RecordValue.{RecordValue}
+use Rattle.iv_cover.specs.Inside.Coming.{coming}
 use Rattle.iv_cover.specs.TrackBlocks.{with_members}
 use Rattle.iv_track.proofs.WalkLemmas.{filter-from_first}
 use Rattle.iv_blocks.specs.Groups.{listed}
-use Rattle.iv_blocks.specs.Plain.{kept_entry, entries_with}
+use Rattle.iv_blocks.specs.Inside.Plain.{kept_entry, entries_with}
 use Rattle.iv_blocks.proofs.PlainLemmas.{entries-alike, entries-begun, entries-joined, entries-split_up}
 use Rattle.iv_blocks.proofs.entries.entries_of.Goals.{then-is_joined_by, else-is_joined_by+in_ok-memory}
 use Rattle.iv_blocks.proofs.entries.entries_of.Goals as goal
@@ -16,28 +16,28 @@ returns-in_default-clause-entries g c =
     let sums = listed c.args.options.now.summaries in
     let d = c.args.options.now.distance in
     c.new-entries.ensures
-    ∙ ap (λ (rows : List Row). map (kept_entry s sums) (coming d None rows)) (sym c.in_default.ensures.row.0 ∙ c.walk-rows.ensures.rows ∙ filter-from_first c.args.track.now.rows)
+    ∙ ap (λ (rows : List RecordValue). map (kept_entry s sums) (coming d None rows)) (sym c.in_default.ensures.row.0 ∙ c.walk-rows.ensures.rows ∙ filter-from_first c.args.track.now.rows)
 
 pub loop-record-init : goal.loop-record-init
 loop-record-init g c =
     let s = c.args.genome.now in
     let sums = listed c.args.options.now.summaries in
     let d = c.args.options.now.distance in
-    let now : Bor Row → Row = λ (row : Bor Row). row.now in
+    let now : Bor RecordValue → RecordValue = λ (row : Bor RecordValue). row.now in
     let rest = c.next.new.self in
     let pushed : map now c.push.new.self.items ≡ c.in-Some.first.now ∷ [] =
-    ap (map now) (c.in_ok-push.ensures.items ∙ ap (λ (l : List (Bor Row)). l ++ c.in-Some.first ∷ []) c.new-members.ensures.items) in
+    ap (map now) (c.in_ok-push.ensures.items ∙ ap (λ (l : List (Bor RecordValue)). l ++ c.in-Some.first ∷ []) c.new-members.ensures.items) in
     entries-alike s sums d c.new-entries.result [] c.of-block.result c.of-block.result (map now c.push.new.self.items) (c.in-Some.first.now ∷ []) rest
     c.new-entries.ensures (λ i. c.of-block.result) pushed
     ∙ entries-begun s sums d c.in-Some.first.now rest c.of-block.result c.of-block.ensures
-    ∙ ap (λ (rows : List Row). map (kept_entry s sums) (coming d None rows)) (sym c.in-Some.ensures.row ∙ c.walk-rows.ensures.rows ∙ filter-from_first c.args.track.now.rows)
+    ∙ ap (λ (rows : List RecordValue). map (kept_entry s sums) (coming d None rows)) (sym c.in-Some.ensures.row ∙ c.walk-rows.ensures.rows ∙ filter-from_first c.args.track.now.rows)
 
 pub loop-record-preserved : goal.loop-record-preserved
 loop-record-preserved g c =
     let s = c.args.genome.now in
     let sums = listed c.args.options.now.summaries in
     let d = c.args.options.now.distance in
-    let now : Bor Row → Row = λ (row : Bor Row). row.now in
+    let now : Bor RecordValue → RecordValue = λ (row : Bor RecordValue). row.now in
     let l = c.loop-record in
     let j = c.if-is_joined_by in
     let r = c.in-Some-next.record.now in
@@ -55,12 +55,12 @@ loop-record-preserved g c =
           ∙ entries-joined s sums d l.entries l.block (map now l.members.items) r rest next c.of-next.ensures test c.is_joined_by.ensures w.with-block.result w.with-block.ensures w.if-is_joined_by.true
           ∙ before
       | else-is_joined_by+in_ok-memory w ↦
-          entries-alike s sums d j.entries w.put_entry.new.entries j.block next (map now c.push-in-Some-next.new.self.items) (r ∷ []) rest
+          entries-alike s sums d j.entries w.push_entry.new.entries j.block next (map now c.push-in-Some-next.new.self.items) (r ∷ []) rest
           w.entries-is w.block-is
-          (pushed ∙ ap (λ v. map now v.items ++ r ∷ []) w.members-is ∙ ap (λ (m : List (Bor Row)). map now m ++ r ∷ []) w.clear.ensures.items)
-          ∙ entries-split_up s sums d l.entries l.block (map now l.members.items) r rest next c.of-next.ensures test c.is_joined_by.ensures w.put_entry.new.entries
+          (pushed ∙ ap (λ v. map now v.items ++ r ∷ []) w.members-is ∙ ap (λ (m : List (Bor RecordValue)). map now m ++ r ∷ []) w.clear.ensures.items)
+          ∙ entries-split_up s sums d l.entries l.block (map now l.members.items) r rest next c.of-next.ensures test c.is_joined_by.ensures w.push_entry.new.entries
           (w.in_ok-memory.ensures
-          ∙ ap (λ (m : List (Bor Row)). l.entries ++ kept_entry s sums (with_members l.block (map now m)) ∷ []) w.deref.ensures.value)
+          ∙ ap (λ (m : List (Bor RecordValue)). l.entries ++ kept_entry s sums (with_members l.block (map now m)) ∷ []) w.deref.ensures.value)
           w.if-is_joined_by.false
           ∙ before
     ]
@@ -70,9 +70,9 @@ returns-clause-entries g c =
     let s = c.args.genome.now in
     let sums = listed c.args.options.now.summaries in
     let d = c.args.options.now.distance in
-    let now : Bor Row → Row = λ (row : Bor Row). row.now in
+    let now : Bor RecordValue → RecordValue = λ (row : Bor RecordValue). row.now in
     let l = c.loop-record in
-    c.in_ok-put_entry.ensures
-    ∙ ap (λ (m : List (Bor Row)). l.entries ++ kept_entry s sums (with_members l.block (map now m)) ∷ []) c.deref-2.ensures.value
+    c.in_ok-push_entry.ensures
+    ∙ ap (λ (m : List (Bor RecordValue)). l.entries ++ kept_entry s sums (with_members l.block (map now m)) ∷ []) c.deref-2.ensures.value
     ∙ ap (entries_with s sums d l.entries l.block (map now l.members.items)) (sym c.in_default-next.ensures.row.0)
     ∙ l.invariant

@@ -3,7 +3,7 @@ use Rattle.iv_text.specs.Genome.{sequence_name}
 use Rattle.iv_cover.specs.Columns.{results_over}
 use Rattle.iv_blocks.specs.Groups.{listed}
 use Rattle.iv_blocks.specs.KeptBlocks.{Key, Kept}
-use Rattle.iv_blocks.proofs.entries.put_entry.Goals as goal
+use Rattle.iv_blocks.proofs.entries.push_entry.Goals as goal
 
 pub returns : goal.returns
 returns g c =

@@ -1,7 +1,7 @@
 use Rattle.std.proofs.Common.{arith}
 use Rattle.iv_cover.specs.Depth.{depth}
 use Rattle.iv_cover.proofs.EmptyMeanings.{empty-bare, empty-all, empty-apart, empty-once}
-use Rattle.iv_blocks.proofs.laws.gaps_are_maximal.Goals as goal
+use Rattle.iv_blocks.proofs.lemmas.gaps_are_maximal.Goals as goal
 
 pub returns-clause-bare : goal.returns-clause-bare
 returns-clause-bare c = λ rows rank length gap there.

@@ -1,13 +1,14 @@
 use Rattle.std.proofs.Common.{◌≡◌, ◌≤◌, ◌∙◌, None, List, filter, length, vec_capacity, ap, sym, subst, length-append, arith}
 use Rattle.std.specs.List.{flat_map}
 use Rattle.iv_bytes.proofs.Putting.{Underway-begin, Puts-err}
-use Rattle.iv_text.specs.Row.{Row}
-use Rattle.iv_cover.specs.Coming.{coming}
+use Rattle.iv_text.specs.RecordValue.{RecordValue}
+use Rattle.iv_cover.specs.Inside.Coming.{coming}
 use Rattle.iv_cover.specs.TrackBlocks.{Group}
 use Rattle.iv_cover.specs.declared.column.ColumnSummary.{ColumnSummary}
-use Rattle.iv_blocks.specs.Groups.{listed, is_on}
+use Rattle.iv_blocks.specs.Groups.{listed}
+use Rattle.iv_blocks.specs.Inside.Groups.{is_on}
 use Rattle.iv_blocks.proofs.ClusterTexts.{members_of, coming-members}
-use Rattle.iv_blocks.specs.MergeSweeps.{group_row}
+use Rattle.iv_blocks.specs.Inside.MergeSweeps.{group_row}
 use Rattle.iv_cover.specs.Results.{HasRoom}
 use Rattle.iv_cover.proofs.FirstLemmas.{Underway-step, Underway-failed}
 use Rattle.iv_blocks.proofs.RoomLemmas.{room-more}
@@ -22,7 +23,7 @@ loop-found-init g c =
     = c.into_iter-found-iterator.ensures.into_iter_gives ∙ c.of-found-items.ensures in
     record {
       put = rw given (Underway-begin _ _);
-      few = omega (arith, ap (λ (l : List Group). length (members_of l)) given, ap (λ (l : List Row). length l) (coming-members d (filter on c.args.records.now) None), few on c.args.records.now);
+      few = omega (arith, ap (λ (l : List Group). length (members_of l)) given, ap (λ (l : List RecordValue). length l) (coming-members d (filter on c.args.records.now) None), few on c.args.records.now);
       grown = omega arith;
     }
 

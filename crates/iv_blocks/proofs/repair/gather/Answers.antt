@@ -1,20 +1,20 @@
 use Rattle.std.proofs.Common.{◌≡◌, ◌++◌, ◌∷◌, [], List, length, map, refl, sym, ap, ◌∙◌, arith, append_assoc, append-nil}
 use Rattle.std.proofs.lemmas.List.{map-append}
-use Rattle.iv_text.specs.Row.{Row}
+use Rattle.iv_text.specs.RecordValue.{RecordValue}
 use Rattle.iv_blocks.proofs.repair.gather.Goals as goal
 
 -- one more is read
-read-more : {B : Type 0} (now : B → Row) (read : List B) (b : B) (left rest all : List Row) → map now read ++ left ≡ all → left ≡ now b ∷ rest
+read-more : {B : Type 0} (now : B → RecordValue) (read : List B) (b : B) (left rest all : List RecordValue) → map now read ++ left ≡ all → left ≡ now b ∷ rest
     → map now (read ++ b ∷ []) ++ rest ≡ all
 read-more now read b left rest all h is =
-    ap (λ (l : List Row). l ++ rest) (map-append now read (b ∷ []))
+    ap (λ (l : List RecordValue). l ++ rest) (map-append now read (b ∷ []))
     ∙ append_assoc (map now read) (now b ∷ []) rest
-    ∙ ap (λ (l : List Row). map now read ++ l) (sym is)
+    ∙ ap (λ (l : List RecordValue). map now read ++ l) (sym is)
     ∙ h
 
 -- nothing is left
-read-all : (read left all : List Row) → read ++ left ≡ all → left ≡ [] → read ≡ all
-read-all read left all h none = sym (append-nil read) ∙ ap (λ (l : List Row). read ++ l) (sym none) ∙ h
+read-all : (read left all : List RecordValue) → read ++ left ≡ all → left ≡ [] → read ≡ all
+read-all read left all h none = sym (append-nil read) ∙ ap (λ (l : List RecordValue). read ++ l) (sym none) ∙ h
 
 pub loop-row-init : goal.loop-row-init
 loop-row-init g c = record { all = rw c.new-rows.ensures.items refl; no_less = omega arith; paid = omega arith }

@@ -1,5 +1,5 @@
 use Rattle.std.proofs.Common.{◌≡◌, filter, length}
-use Rattle.iv_blocks.specs.Groups.{is_on}
+use Rattle.iv_blocks.specs.Inside.Groups.{is_on}
 use Rattle.iv_blocks.proofs.side_blocks.ahead_on.Given as goal
 
 -- those on the side are all still ahead

@@ -1,9 +1,9 @@
 use Rattle.std.proofs.Common.{◌+◌, ◌==◌, ◌&&◌, nat_le, max, ◌∷◌, Some, List, sym, ap, ◌∙◌, filter, take, arith}
-use Rattle.iv_text.specs.Row.{Row}
+use Rattle.iv_text.specs.RecordValue.{RecordValue}
 use Rattle.iv_cover.specs.declared.block.Block.{Block}
-use Rattle.iv_cover.specs.Coming.{coming}
+use Rattle.iv_cover.specs.Inside.Coming.{coming}
 use Rattle.iv_cover.specs.TrackBlocks.{with_members}
-use Rattle.iv_blocks.specs.Groups.{is_on}
+use Rattle.iv_blocks.specs.Inside.Groups.{is_on}
 use Rattle.iv_blocks.proofs.SideLemmas.{passed, over, joins}
 use Rattle.iv_blocks.proofs.side_blocks.block_from.Goals as goal
 use Rattle.iv_blocks.proofs.side_blocks.block_from.Goals.{then-has+else-not-is_joined_by, else-has}
@@ -20,7 +20,7 @@ loop-record-preserved c =
     let rs = c.next.new.self in
     let at = i.left ∙ c.in-Some.ensures.steps in
     let next = passed n xs r rs at in
-    let before = i.joined ∙ ap (λ (l : List Row). coming d (Some (with_members b (filter p (take n xs)))) (filter p l)) c.in-Some.ensures.steps in
+    let before = i.joined ∙ ap (λ (l : List RecordValue). coming d (Some (with_members b (filter p (take n xs)))) (filter p l)) c.in-Some.ensures.steps in
     elim c.if-has.branch [
       | then-has+else-not-is_joined_by w ↦
           let on = sym c.has.ensures ∙ w.if-has.true in

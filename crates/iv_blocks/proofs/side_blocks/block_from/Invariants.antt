@@ -1,7 +1,7 @@
 use Rattle.std.proofs.Common.{◌≡◌, ◌≤◌, ◌+◌, ◌∷◌, length, take, drop, filter, Some, None}
-use Rattle.iv_cover.specs.Coming.{coming}
+use Rattle.iv_cover.specs.Inside.Coming.{coming}
 use Rattle.iv_cover.specs.TrackBlocks.{with_members}
-use Rattle.iv_blocks.specs.Groups.{is_on}
+use Rattle.iv_blocks.specs.Inside.Groups.{is_on}
 use Rattle.iv_blocks.proofs.side_blocks.block_from.Given as goal
 
 -- so many records are passed, those on the side are in the block, and the others are left

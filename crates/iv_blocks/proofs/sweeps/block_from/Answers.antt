@@ -1,16 +1,16 @@
 use Rattle.std.proofs.Common.{◌≡◌, ◌+◌, ◌==◌, ◌&&◌, nat_le, max, ◌∙◌, ◌++◌, List, [], ◌∷◌, Some, None, sym, ap, refl, length, arith}
-use Rattle.iv_text.specs.Row.{Row}
+use Rattle.iv_text.specs.RecordValue.{RecordValue}
 use Rattle.iv_cover.specs.declared.block.Block.{Block}
-use Rattle.iv_cover.specs.Coming.{coming}
+use Rattle.iv_cover.specs.Inside.Coming.{coming}
 use Rattle.iv_cover.specs.TrackBlocks.{with_members}
 use Rattle.iv_cover.proofs.Comings.{coming-begun, coming-joined, coming-split_up}
-use Rattle.iv_index.specs.Spans.{row_of_span, span_rows}
+use Rattle.iv_index.specs.Inside.Spans.{row_of_span, span_rows}
 use Rattle.iv_index.specs.declared.span.Span.{Span}
 use Rattle.iv_blocks.proofs.sweeps.block_from.Goals as goal
 
 pub loop-span-init : goal.loop-span-init
 loop-span-init c =
-    let first : Row = row_of_span c.args.first in (
+    let first : RecordValue = row_of_span c.args.first in (
       first ∷ [],
       coming-begun c.args.distance first (span_rows c.args.others.now) c.block_of-block.result c.block_of-block.ensures,
     )
@@ -20,8 +20,8 @@ returns-then-not-is_joined_by c =
     let i = c.loop-span.invariant in
     let d = c.args.distance in
     let b = with_members c.loop-span.block i.0 in
-    let r : Row = row_of_span c.in-Some.span.now in
-    let rest : List Row = span_rows c.in-Some.later.now in (
+    let r : RecordValue = row_of_span c.in-Some.span.now in
+    let rest : List RecordValue = span_rows c.in-Some.later.now in (
       i.0,
       i.1 ∙ ap (λ (l : List Span). coming d (Some b) (span_rows l)) c.in-Some.ensures.cases.0
           ∙ coming-split_up d b r rest
@@ -34,8 +34,8 @@ loop-span-preserved c =
     let i = c.loop-span.invariant in
     let d = c.args.distance in
     let b = with_members c.loop-span.block i.0 in
-    let r : Row = row_of_span c.in-Some.span.now in
-    let rest : List Row = span_rows c.in-Some.later.now in (
+    let r : RecordValue = row_of_span c.in-Some.span.now in
+    let rest : List RecordValue = span_rows c.in-Some.later.now in (
       i.0 ++ r ∷ [],
       i.1 ∙ ap (λ (l : List Span). coming d (Some b) (span_rows l)) c.in-Some.ensures.cases.0
           ∙ coming-joined d b r rest

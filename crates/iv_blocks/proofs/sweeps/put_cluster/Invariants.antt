@@ -1,7 +1,7 @@
 use Rattle.std.proofs.Common.{◌+◌, ◌≤◌, length}
 use Rattle.iv_bytes.proofs.Putting.{Underway}
 use Rattle.iv_cover.specs.TrackBlocks.{blocks_of}
-use Rattle.iv_blocks.specs.BlockSweeps.{numbered_rows}
+use Rattle.iv_blocks.specs.Inside.BlockSweeps.{numbered_rows}
 use Rattle.iv_blocks.proofs.sweeps.put_cluster.Given as goal
 
 -- the rows of the blocks that are left remain to be put, and there are no more of them than records

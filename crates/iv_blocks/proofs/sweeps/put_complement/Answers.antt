@@ -1,7 +1,7 @@
 use Rattle.std.proofs.Common.{◌∙◌, ap, not}
 use Rattle.iv_text.specs.Genome.{seq_count}
-use Rattle.iv_index.specs.Spans.{span_rows}
-use Rattle.iv_blocks.specs.BlockCursor.{texts}
+use Rattle.iv_index.specs.Inside.Spans.{span_rows}
+use Rattle.iv_blocks.specs.Inside.BlockCursor.{texts}
 use Rattle.iv_blocks.proofs.ComplementTexts.{gap-texts}
 use Rattle.iv_blocks.proofs.sweeps.put_complement.Goals as goal
 

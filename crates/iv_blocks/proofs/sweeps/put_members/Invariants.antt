@@ -1,6 +1,6 @@
 use Rattle.std.specs.List.{flat_map}
 use Rattle.iv_bytes.proofs.Putting.{Underway}
-use Rattle.iv_blocks.specs.BlockSweeps.{numbered_row}
+use Rattle.iv_blocks.specs.Inside.BlockSweeps.{numbered_row}
 use Rattle.iv_blocks.proofs.sweeps.put_members.Given as goal
 
 -- the rows of the members that are left remain to be put

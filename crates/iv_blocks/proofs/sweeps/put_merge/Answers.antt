@@ -3,10 +3,10 @@ use Rattle.std.specs.List.{flat_map}
 use Rattle.std.proofs.lemmas.List.Folds.{flat_map-map}
 use Rattle.iv_bytes.proofs.Putting.{Underway-begin, Underway-more, Underway-fails, Underway-ends, Puts-err}
 use Rattle.iv_text.specs.Genome.{Sequences}
-use Rattle.iv_index.specs.Spans.{span_rows}
+use Rattle.iv_index.specs.Inside.Spans.{span_rows}
 use Rattle.iv_index.specs.declared.span.Span.{Span}
 use Rattle.iv_cover.specs.TrackBlocks.{blocks_of}
-use Rattle.iv_blocks.specs.BlockSweeps.{interval_of, interval_row}
+use Rattle.iv_blocks.specs.Inside.BlockSweeps.{interval_of, interval_row}
 use Rattle.iv_blocks.specs.MergeRows.{merge_text}
 use Rattle.iv_blocks.specs.PlainOptions.{IsPlain}
 use Rattle.iv_blocks.specs.declared.options.Options.{Options}

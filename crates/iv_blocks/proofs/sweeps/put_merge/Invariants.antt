@@ -2,8 +2,8 @@ use Rattle.std.proofs.Common.{map}
 use Rattle.std.specs.List.{flat_map}
 use Rattle.iv_bytes.proofs.Putting.{Underway}
 use Rattle.iv_cover.specs.TrackBlocks.{blocks_of}
-use Rattle.iv_index.specs.Spans.{span_rows}
-use Rattle.iv_blocks.specs.BlockSweeps.{interval_of, interval_row}
+use Rattle.iv_index.specs.Inside.Spans.{span_rows}
+use Rattle.iv_blocks.specs.Inside.BlockSweeps.{interval_of, interval_row}
 use Rattle.iv_blocks.proofs.sweeps.put_merge.Given as goal
 
 -- the rows of the blocks that are left remain to be put

@@ -1,6 +1,6 @@
 use Rattle.iv_cover.specs.Summaries.{different}
 use Rattle.iv_cover.proofs.DifferentLemmas.{ascends-different, different-from, different-has, one_list}
-use Rattle.iv_cover.proofs.laws.different_values_ascend.Goals as goal
+use Rattle.iv_cover.proofs.lemmas.different_values_ascend.Goals as goal
 
 pub returns-clause-ascend : goal.returns-clause-ascend
 returns-clause-ascend c = ascends-different

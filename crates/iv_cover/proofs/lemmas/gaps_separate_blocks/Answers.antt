@@ -1,6 +1,6 @@
 use Rattle.iv_cover.specs.TrackBlocks.{start_of, stop_of}
 use Rattle.iv_cover.proofs.Meanings.{filled, starts-apart}
-use Rattle.iv_cover.proofs.laws.gaps_separate_blocks.Goals as goal
+use Rattle.iv_cover.proofs.lemmas.gaps_separate_blocks.Goals as goal
 
 pub returns-clause-within : goal.returns-clause-within
 returns-clause-within c = λ d rows x p. filled start_of stop_of d rows x p

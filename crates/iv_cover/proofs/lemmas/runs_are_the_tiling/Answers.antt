@@ -1,5 +1,5 @@
 use Rattle.iv_cover.proofs.RunsLemmas.{Tiles-runs, Tiles-only}
-use Rattle.iv_cover.proofs.laws.runs_are_the_tiling.Goals as goal
+use Rattle.iv_cover.proofs.lemmas.runs_are_the_tiling.Goals as goal
 
 pub returns-clause-tiles : goal.returns-clause-tiles
 returns-clause-tiles c = Tiles-runs

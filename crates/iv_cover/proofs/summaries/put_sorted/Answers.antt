@@ -6,7 +6,7 @@ use Rattle.iv_bytes.proofs.Putting.{Puts-err}
 use Rattle.iv_text.specs.Bytes.{comma}
 use Rattle.iv_text.specs.Ordered.{InOrder}
 use Rattle.iv_cover.specs.Summaries.{different}
-use Rattle.iv_cover.specs.Results.{after_commas}
+use Rattle.iv_cover.specs.Inside.Results.{after_commas}
 use Rattle.iv_cover.proofs.DistinctLemmas.{begun, joined-first, others-next}
 use Rattle.iv_cover.proofs.FirstLemmas.{Underway-first, FailsIn-first, Underway-step, Underway-failed}
 use Rattle.iv_cover.proofs.summaries.put_sorted.Goals as goal

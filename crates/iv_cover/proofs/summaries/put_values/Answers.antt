@@ -2,7 +2,7 @@ use Rattle.std.proofs.Common.{◌∙◌, ap, sym}
 use Rattle.std.specs.List.{join_with_byte}
 use Rattle.iv_bytes.proofs.Putting.{Puts-err}
 use Rattle.iv_text.specs.Bytes.{comma}
-use Rattle.iv_cover.specs.Results.{after_commas}
+use Rattle.iv_cover.specs.Inside.Results.{after_commas}
 use Rattle.iv_cover.proofs.DistinctLemmas.{joined-is}
 use Rattle.iv_cover.proofs.FirstLemmas.{Underway-first, FailsIn-first, Underway-step, Underway-failed}
 use Rattle.iv_cover.proofs.summaries.put_values.Goals as goal

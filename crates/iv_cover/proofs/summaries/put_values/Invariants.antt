@@ -2,7 +2,7 @@ use Rattle.std.proofs.Common.{length}
 use Rattle.std.specs.List.{join_with_byte}
 use Rattle.iv_bytes.proofs.Putting.{Underway}
 use Rattle.iv_text.specs.Bytes.{comma}
-use Rattle.iv_cover.specs.Results.{after_commas}
+use Rattle.iv_cover.specs.Inside.Results.{after_commas}
 use Rattle.iv_cover.proofs.summaries.put_values.Given as goal
 
 -- the values that are left remain

@@ -2,7 +2,7 @@ use Rattle.std.proofs.Common.{◌≡◌, ◌+◌, length, arith, subst, rules, w
 use Rattle.std.specs.Prelude.{ℤ, pos, ◌+ℤ◌, ◌-ℤ◌}
 use Rattle.std.proofs.lemmas.Int.{ints, to_z-of_z}
 use Rattle.std.proofs.lemmas.Result.{on_ok_weaker}
-use Rattle.iv_depth.specs.Changes.{Bumps}
+use Rattle.iv_depth.specs.Inside.Changes.{Bumps}
 use Rattle.iv_depth.proofs.ChangesLemmas.{Shifts-of}
 use Rattle.iv_depth.proofs.BoundLemmas.{change-small, AreChangesOf-within, Bumps-within}
 use Rattle.iv_depth.proofs.changes.shift.Goals as goal
@@ -33,5 +33,5 @@ returns-clause-ok g c =
     = to_z-of_z w64 (pos 0 -ℤ to_z w64 (of_z w64 c.args.by)) (rw same (search rules)) in
     let none : to_z w64 (of_z w64 (pos 0 -ℤ to_z w64 (of_z w64 c.args.by))) +ℤ c.args.by ≡ pos 0 = omega (arith, ints, less, same) in
     on_ok_weaker c.bump-2.result
-    (λ second. Shifts-of r c.args.by _ c.args.changes.now c.bump.new.changes c.bump-2.new.changes _ _ c.law_of_place.ensures.some first second c.seq-2.ensures c.stop.ensures.value none)
+    (λ second. Shifts-of r c.args.by _ c.args.changes.now c.bump.new.changes c.bump-2.new.changes _ _ c.lemma_of_interval.ensures.some first second c.seq-2.ensures c.stop.ensures.value none)
     c.bump-2.ensures.ok

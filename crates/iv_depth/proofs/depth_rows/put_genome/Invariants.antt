@@ -1,7 +1,7 @@
 use Rattle.std.proofs.Common.{◌+◌, ◌≤◌, length}
 use Rattle.iv_bytes.proofs.Putting.{Underway}
 use Rattle.iv_depth.specs.DepthRows.{text_by}
-use Rattle.iv_depth.specs.Walks.{AreAhead, depth_by}
+use Rattle.iv_depth.specs.Inside.Walks.{AreAhead, depth_by}
 use Rattle.iv_depth.proofs.Genomes.{texts_from}
 use Rattle.iv_depth.proofs.depth_rows.put_genome.Given as goal
 

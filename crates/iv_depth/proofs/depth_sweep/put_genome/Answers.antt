@@ -2,9 +2,9 @@ use Rattle.std.proofs.Common.{◌≤◌, ◌<◌, ◌∙◌, nat_lt, List, All, 
 use Rattle.iv_bytes.proofs.Putting.{Underway-begin, Underway-more, Underway-fails, Puts-err}
 use Rattle.iv_text.specs.Genome.{seq_count}
 use Rattle.iv_text.specs.Ordered.{AreInOrder}
-use Rattle.iv_text.specs.Row.{Row}
+use Rattle.iv_text.specs.RecordValue.{RecordValue}
 use Rattle.iv_cover.specs.Depth.{depth}
-use Rattle.iv_index.specs.Spans.{row_of_span, span_rows}
+use Rattle.iv_index.specs.Inside.Spans.{row_of_span, span_rows}
 use Rattle.std.proofs.lemmas.List.{length-map}
 use Rattle.iv_index.proofs.SequenceLemmas.{all-from, from-in, from-order, from-later}
 use Rattle.iv_depth.proofs.EdgeLemmas.{places-few, IsAhead-begin}
@@ -24,7 +24,7 @@ split_sequence-requires-clause-order g c =
 
 pub split_sequence-requires-clause-from : goal.split_sequence-requires-clause-from
 split_sequence-requires-clause-from g c =
-    subst (λ (l : List Row). All (λ r. c.loop-rank.rank ≤ r.seq) l) (sym c.loop-rank.invariant.left_is) (from-in c.loop-rank.rank (span_rows c.args.spans.now))
+    subst (λ (l : List RecordValue). All (λ r. c.loop-rank.rank ≤ r.seq) l) (sym c.loop-rank.invariant.left_is) (from-in c.loop-rank.rank (span_rows c.args.spans.now))
 
 pub slice_bounds-room-end : goal.slice_bounds-room-end
 slice_bounds-room-end g c =

@@ -2,7 +2,7 @@ use Rattle.std.proofs.Common.{◌≡◌, length, filter}
 use Rattle.iv_bytes.proofs.Putting.{Underway}
 use Rattle.iv_cover.specs.Depth.{depth}
 use Rattle.iv_index.proofs.SequenceLemmas.{is_from}
-use Rattle.iv_index.specs.Spans.{span_rows}
+use Rattle.iv_index.specs.Inside.Spans.{span_rows}
 use Rattle.iv_depth.specs.DepthRows.{depth_text}
 use Rattle.iv_depth.proofs.Genomes.{texts_from}
 use Rattle.iv_depth.proofs.depth_sweep.put_genome.Given as goal

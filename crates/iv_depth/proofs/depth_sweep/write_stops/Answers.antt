@@ -1,6 +1,6 @@
 use Rattle.std.proofs.Common.{◌≡◌, arith}
 use Rattle.std.proofs.lemmas.List.Sorted.{IsPermutation-trans}
-use Rattle.iv_depth.specs.Edges.{stops_of}
+use Rattle.iv_depth.specs.Inside.Edges.{stops_of}
 use Rattle.iv_depth.proofs.OrderLemmas.{AreStopsOf-sorted, written-all}
 use Rattle.iv_depth.proofs.depth_sweep.write_stops.Goals as goal
 

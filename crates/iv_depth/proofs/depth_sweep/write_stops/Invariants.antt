@@ -1,5 +1,5 @@
 use Rattle.std.proofs.Common.{◌≡◌, take, length}
-use Rattle.iv_depth.specs.Edges.{stops_of}
+use Rattle.iv_depth.specs.Inside.Edges.{stops_of}
 use Rattle.iv_depth.proofs.depth_sweep.write_stops.Given as goal
 
 -- the stops before `index` are written

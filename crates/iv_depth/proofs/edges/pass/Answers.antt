@@ -1,5 +1,5 @@
 use Rattle.std.proofs.Common.{arith, ap, map, refl, sym, subst, ◌∙◌}
-use Rattle.iv_depth.specs.Edges.{BeginsElse}
+use Rattle.iv_depth.specs.Inside.Edges.{BeginsElse}
 use Rattle.iv_depth.proofs.EdgeLemmas.{IsPassing-begin, IsPassing-next, PassesEdge-stop}
 use Rattle.iv_depth.proofs.edges.pass.Goals as goal
 

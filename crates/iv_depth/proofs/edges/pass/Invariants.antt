@@ -1,5 +1,5 @@
 use Rattle.std.proofs.Common.{◌≡◌, ◌+◌, length, map}
-use Rattle.iv_depth.specs.Edges.{IsPassing, Rise}
+use Rattle.iv_depth.specs.Inside.Edges.{IsPassing, Rise}
 use Rattle.iv_depth.proofs.edges.pass.Given as goal
 
 -- those in front of `left` are at the position

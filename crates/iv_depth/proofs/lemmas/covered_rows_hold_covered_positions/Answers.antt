@@ -2,7 +2,7 @@ use Rattle.iv_cover.specs.Depth.{depth}
 use Rattle.iv_text.proofs.ListLemmas.{contains-mem, mem-contains}
 use Rattle.iv_depth.specs.DepthRows.{covered_runs}
 use Rattle.iv_depth.proofs.Covered.{covered-held, covered-run}
-use Rattle.iv_depth.proofs.laws.covered_rows_hold_covered_positions.Goals as goal
+use Rattle.iv_depth.proofs.lemmas.covered_rows_hold_covered_positions.Goals as goal
 
 pub returns-clause-held : goal.returns-clause-held
 returns-clause-held c = λ rows rank length p low some.

@@ -1,7 +1,7 @@
 use Rattle.std.proofs.Common.{arith}
 use Rattle.iv_cover.specs.Depth.{depth}
 use Rattle.iv_cover.proofs.RunsLemmas.{Tiles-runs, Tiles-only}
-use Rattle.iv_depth.proofs.laws.depth_rows_tile_a_sequence.Goals as goal
+use Rattle.iv_depth.proofs.lemmas.depth_rows_tile_a_sequence.Goals as goal
 
 pub returns-clause-tile : goal.returns-clause-tile
 returns-clause-tile c = λ rows rank length. Tiles-runs (depth rows rank) 0 length (omega arith)

@@ -1,8 +1,8 @@
 use Rattle.std.proofs.Common.{◌∙◌, ℕ, ◌∷◌, sym, ap}
 use Rattle.std.proofs.lemmas.List.Sorted.{IsPermutation-trans}
-use Rattle.iv_text.specs.Row.{Row}
+use Rattle.iv_text.specs.RecordValue.{RecordValue}
 use Rattle.iv_track.proofs.WalkLemmas.{filter-from_first}
-use Rattle.iv_depth.specs.NetChanges.{key_of}
+use Rattle.iv_depth.specs.Inside.NetChanges.{key_of}
 use Rattle.iv_depth.proofs.NetChangesLemmas.{gathered-begin, gathered-next, gathered-all}
 use Rattle.iv_depth.proofs.net_changes.edges_of.Goals as goal
 
@@ -11,12 +11,12 @@ loop-row-init g c = gathered-begin c.args.track.now.rows _ _ _ (c.walk-rows.ensu
 
 pub loop-row-preserved : goal.loop-row-preserved
 loop-row-preserved g c =
-    let r : Row = c.as_ref-row.result in
+    let r : RecordValue = c.as_ref-row.result in
     let first = c.packed.ensures ∙ ap (λ (s : ℕ). key_of s c.start.result) c.seq.ensures ∙ ap (λ (p : ℕ). key_of r.seq p) c.start.ensures in
     let last = c.packed-in-Some.ensures ∙ ap (λ (s : ℕ). key_of s c.stop.result) c.seq-in-Some.ensures ∙ ap (λ (p : ℕ). key_of r.seq p) c.stop.ensures.value in
     gathered-next c.args.track.now.rows c.loop-row.rows c.next.new.self r
     c.loop-row.starts.items c.loop-row.stops.items c.push.new.self.items c.push-in-Some.new.self.items c.packed.result c.packed-in-Some.result
-    c.law_of_place.ensures (c.in-Some.ensures.row ∙ ap (λ (q : Row). q ∷ c.next.new.self) (sym c.as_ref-row.ensures)) first last
+    c.lemma_of_interval.ensures (c.in-Some.ensures.row ∙ ap (λ (q : RecordValue). q ∷ c.next.new.self) (sym c.as_ref-row.ensures)) first last
     c.in_ok-push.ensures.items c.in_ok-push-2.ensures.items c.loop-row.invariant
 
 pub returns : goal.returns

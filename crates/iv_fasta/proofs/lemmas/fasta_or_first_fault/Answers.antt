@@ -1,5 +1,5 @@
 use Rattle.iv_fasta.proofs.FastaLawLemmas.{fasta-value, fasta-fault}
-use Rattle.iv_fasta.proofs.laws.fasta_or_first_fault.Goals as goal
+use Rattle.iv_fasta.proofs.lemmas.fasta_or_first_fault.Goals as goal
 
 pub returns-clause-value : goal.returns-clause-value
 returns-clause-value c = fasta-value

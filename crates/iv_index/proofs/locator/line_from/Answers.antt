@@ -1,6 +1,6 @@
 use Rattle.std.proofs.Common.{sym}
-use Rattle.iv_index.proofs.PlaceLemmas.{line-past, line-found, line-is}
-use Rattle.iv_index.proofs.place.line_from.Goals as goal
+use Rattle.iv_index.proofs.LocatorLemmas.{line-past, line-found, line-is}
+use Rattle.iv_index.proofs.locator.line_from.Goals as goal
 
 pub returns-then-from-text : goal.returns-then-from-text
 returns-then-from-text c = sym (line-past c.args.text.now c.args.from c.if-from-text.true)

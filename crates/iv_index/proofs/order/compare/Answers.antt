@@ -1,7 +1,7 @@
 use Rattle.std.proofs.Common.{sym, ◌∙◌, ap}
 use Rattle.std.specs.Ordering.{is_ne, nat_cmp}
-use Rattle.iv_text.specs.Row.{beside_cmp}
-use Rattle.iv_index.specs.Places.{row_at}
+use Rattle.iv_text.specs.RecordValue.{beside_cmp}
+use Rattle.iv_index.specs.Inside.Locators.{row_at}
 use Rattle.iv_index.proofs.OrderLemmas.{decided, tied}
 use Rattle.iv_index.proofs.order.compare.Goals as goal
 

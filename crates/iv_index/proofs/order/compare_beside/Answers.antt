@@ -1,5 +1,5 @@
 use Rattle.std.proofs.Common.{◌∙◌, refl}
-use Rattle.iv_index.specs.Places.{row_at}
+use Rattle.iv_index.specs.Inside.Locators.{row_at}
 use Rattle.iv_index.proofs.OrderLemmas.{columns-cmp}
 use Rattle.iv_index.proofs.order.compare_beside.Goals as goal
 

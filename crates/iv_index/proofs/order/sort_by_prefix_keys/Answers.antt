@@ -1,8 +1,8 @@
 use Rattle.std.proofs.Common.{◌≡◌, map, ap, sym, subst, ◌∙◌}
 use Rattle.std.specs.List.Sorted.{IsPermutation}
 use Rattle.std.proofs.lemmas.List.Sorted.{IsPermutation-map}
-use Rattle.iv_index.specs.Drafts.{place_of}
-use Rattle.iv_index.proofs.order.sort_by_heads.Goals as goal
+use Rattle.iv_index.specs.Inside.Drafts.{place_of}
+use Rattle.iv_index.proofs.order.sort_by_prefix_keys.Goals as goal
 
 pub returns : goal.returns
 returns g c =
@@ -10,5 +10,5 @@ returns g c =
     let sorted = c.sort_unstable_by.new.self.items in
     let moved = IsPermutation-map place_of headed sorted c.sort_unstable_by.ensures.permutation in
     let same : map place_of headed ≡ c.args.places.now.items = c.in_ok-headed.ensures ∙ c.deref.ensures.value in
-    let put : c.put_places.new.places.items ≡ map place_of sorted = c.put_places.ensures ∙ ap (map place_of) c.deref-2.ensures.value in
-    subst (λ places. IsPermutation places c.put_places.new.places.items) same (subst (IsPermutation (map place_of headed)) (sym put) moved)
+    let put : c.write_locators.new.places.items ≡ map place_of sorted = c.write_locators.ensures ∙ ap (map place_of) c.deref-2.ensures.value in
+    subst (λ places. IsPermutation places c.write_locators.new.places.items) same (subst (IsPermutation (map place_of headed)) (sym put) moved)

@@ -1,6 +1,6 @@
 use Rattle.std.proofs.Common.{◌≡◌, length, map, take}
-use Rattle.iv_index.specs.Drafts.{place_of}
-use Rattle.iv_index.proofs.order.put_places.Given as goal
+use Rattle.iv_index.specs.Inside.Drafts.{place_of}
+use Rattle.iv_index.proofs.order.write_locators.Given as goal
 
 abbrev pub invariant-loop-index : goal.invariant-loop-index
 invariant-loop-index g l = record {

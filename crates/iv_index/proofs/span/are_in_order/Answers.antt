@@ -1,5 +1,5 @@
 use Rattle.std.proofs.Common.{rules}
-use Rattle.iv_index.specs.Spans.{span_lt}
+use Rattle.iv_index.specs.Inside.Spans.{span_lt}
 use Rattle.iv_index.proofs.OrderLemmas.{in-order}
 use Rattle.iv_index.proofs.span.are_in_order.Goals as goal
 

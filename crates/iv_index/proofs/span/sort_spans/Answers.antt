@@ -1,7 +1,7 @@
 use Rattle.std.proofs.Common.{subst, rules}
 use Rattle.std.proofs.lemmas.List.Sorted.{IsPermutation-refl, IsPermutation-trans}
 use Rattle.std.specs.List.Sorted.{IsSortedBy}
-use Rattle.iv_index.specs.Spans.{row_of_span, span_lt}
+use Rattle.iv_index.specs.Inside.Spans.{row_of_span, span_lt}
 use Rattle.iv_index.specs.declared.span.Span.{Span}
 use Rattle.iv_index.proofs.OrderLemmas.{sorted-rows, sorted-by-rows}
 use Rattle.iv_index.proofs.span.sort_spans.Goals as goal

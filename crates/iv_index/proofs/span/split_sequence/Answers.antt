@@ -1,7 +1,7 @@
 use Rattle.std.proofs.Common.{◌∙◌, nat_le, ap, sym, refl, rules}
 use Rattle.std.proofs.lemmas.List.{take-map, drop-map}
 use Rattle.std.proofs.lemmas.List.Sorted.{IsPartitionPoint-from_clause}
-use Rattle.iv_index.specs.Spans.{row_of_span, span_rows}
+use Rattle.iv_index.specs.Inside.Spans.{row_of_span, span_rows}
 use Rattle.iv_index.proofs.SequenceLemmas.{split-rows}
 use Rattle.iv_index.proofs.span.split_sequence.Goals as goal
 

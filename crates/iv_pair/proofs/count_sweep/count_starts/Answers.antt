@@ -1,8 +1,8 @@
 use Rattle.std.proofs.Common.{◌≡◌, ◌≤◌, length, drop, true, false, rules}
 use Rattle.std.specs.List.Sorted.{IsPartitionPoint}
 use Rattle.std.proofs.lemmas.List.Sorted.{IsPartitionPoint-from_clause}
-use Rattle.iv_index.specs.declared.place.Place.{Place}
-use Rattle.iv_pair.specs.Counts.{place_before}
+use Rattle.iv_index.specs.declared.locator.Locator.{Locator}
+use Rattle.iv_pair.specs.Inside.Counts.{place_before}
 use Rattle.iv_pair.proofs.FrontLemmas.{split_up-drop, searched-past, slice-rest}
 use Rattle.iv_pair.proofs.count_sweep.count_starts.Goals as goal
 
@@ -12,7 +12,7 @@ returns c =
     let places = c.args.places.now in
     let passed = c.pass_starts-passed.result in
     let split_up = c.requires.ordered c.args.seq c.args.at in
-    let whole = slice-rest {X = Place} passed places in
+    let whole = slice-rest {X = Locator} passed places in
     let point : IsPartitionPoint (λ place. p place ≡ true) (λ place. p place ≡ false) (drop passed places) c.partition_point.result =
     IsPartitionPoint-from_clause p (drop passed places) c.partition_point.result
     (rw whole at c.partition_point.ensures.partitioned) (split_up-drop p places passed split_up) (λ a r q k. search rules) in

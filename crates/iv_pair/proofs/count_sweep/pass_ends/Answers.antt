@@ -1,5 +1,5 @@
 use Rattle.std.proofs.Common.{◌∙◌, sym}
-use Rattle.iv_pair.specs.Counts.{end_by}
+use Rattle.iv_pair.specs.Inside.Counts.{end_by}
 use Rattle.iv_pair.proofs.FrontLemmas.{passes-more, stops-at, stops-past}
 use Rattle.iv_pair.proofs.count_sweep.pass_ends.Goals as goal
 

@@ -1,6 +1,6 @@
 use Rattle.std.proofs.Common.{◌-◌, ◌≤◌, length}
 use Rattle.std.specs.Prelude.{count_by}
-use Rattle.iv_pair.specs.Counts.{end_by}
+use Rattle.iv_pair.specs.Inside.Counts.{end_by}
 use Rattle.iv_pair.proofs.count_sweep.pass_ends.Given as goal
 
 -- so many are at the position or before it

@@ -1,5 +1,5 @@
 use Rattle.std.proofs.Common.{◌∙◌, sym, arith}
-use Rattle.iv_pair.specs.Counts.{place_before}
+use Rattle.iv_pair.specs.Inside.Counts.{place_before}
 use Rattle.iv_pair.proofs.FrontLemmas.{passes-more, stops-at}
 use Rattle.iv_pair.proofs.count_sweep.pass_starts.Goals as goal
 

@@ -1,6 +1,6 @@
 use Rattle.std.proofs.Common.{◌-◌, ◌≤◌}
 use Rattle.std.specs.Prelude.{count_by}
-use Rattle.iv_pair.specs.Counts.{place_before}
+use Rattle.iv_pair.specs.Inside.Counts.{place_before}
 use Rattle.iv_pair.proofs.count_sweep.pass_starts.Given as goal
 
 -- so many begin before the position

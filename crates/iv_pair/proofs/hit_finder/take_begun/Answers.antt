@@ -1,9 +1,9 @@
 use Rattle.std.proofs.Common.{◌≡◌, ◌≤◌, ◌++◌, [], ◌∷◌, List, true, length, rules, sym, ap, ◌∙◌, subst, arith}
 use Rattle.std.proofs.lemmas.List.Elements.{All-push}
 use Rattle.iv_text.specs.Ordered.{AreInOrder}
-use Rattle.iv_text.specs.Row.{Row}
+use Rattle.iv_text.specs.RecordValue.{RecordValue}
 use Rattle.iv_text.specs.Covering.{covers}
-use Rattle.iv_pair.specs.HitFinder.{AllCover, HitAlike, IsOnward}
+use Rattle.iv_pair.specs.Inside.HitFinder.{AllCover, HitAlike, IsOnward}
 use Rattle.iv_pair.proofs.CarryLemmas.{alike-pushed, alike-passed, begun-not_from}
 use Rattle.iv_pair.proofs.hit_finder.take_begun.Goals.{then-covers+else-not-push, else-covers}
 use Rattle.iv_pair.proofs.hit_finder.take_begun.Goals as goal
@@ -18,7 +18,7 @@ loop-preserved g c =
     let xs = c.loop.carried in
     let old = c.args.carried.now ++ c.args.rows.now in
     let first : c.loop.rows ≡ b ∷ bs = sym c.again-ahead.ensures ∙ c.in-Some.ensures.row in
-    let alike : HitAlike seq start (xs ++ b ∷ bs) old = subst (λ (l : List Row). HitAlike seq start (xs ++ l) old) first i.alike in
+    let alike : HitAlike seq start (xs ++ b ∷ bs) old = subst (λ (l : List RecordValue). HitAlike seq start (xs ++ l) old) first i.alike in
     let order : AreInOrder bs = (subst AreInOrder first i.ordered).1 in
     let fewer : length bs ≤ length c.args.rows.now = omega (arith, ap length first, i.few) in
     elim c.if-covers.branch [
@@ -29,8 +29,8 @@ loop-preserved g c =
           record {
             ordered = order;
             few = fewer;
-            cover = subst (AllCover seq start) (sym e) (All-push (λ (q : Row). covers seq start q ≡ true) xs b i.cover is);
-            alike = subst (λ (l : List Row). HitAlike seq start (l ++ bs) old) (sym e) (alike-pushed seq start b xs bs old alike);
+            cover = subst (AllCover seq start) (sym e) (All-push (λ (q : RecordValue). covers seq start q ≡ true) xs b i.cover is);
+            alike = subst (λ (l : List RecordValue). HitAlike seq start (l ++ bs) old) (sym e) (alike-pushed seq start b xs bs old alike);
           }
       | else-covers w ↦
           let e : c.if-covers.carried ≡ xs = w.carried-is in
@@ -39,6 +39,6 @@ loop-preserved g c =
             ordered = order;
             few = fewer;
             cover = subst (AllCover seq start) (sym e) i.cover;
-            alike = subst (λ (l : List Row). HitAlike seq start (l ++ bs) old) (sym e) (alike-passed seq start b xs bs old begun (sym c.covers.ensures ∙ w.if-covers.false) alike);
+            alike = subst (λ (l : List RecordValue). HitAlike seq start (l ++ bs) old) (sym e) (alike-passed seq start b xs bs old begun (sym c.covers.ensures ∙ w.if-covers.false) alike);
           }
     ]

@@ -1,6 +1,6 @@
 use Rattle.std.proofs.Common.{◌≤◌, ◌++◌, length}
 use Rattle.iv_text.specs.Ordered.{AreInOrder}
-use Rattle.iv_pair.specs.HitFinder.{AllCover, HitAlike}
+use Rattle.iv_pair.specs.Inside.HitFinder.{AllCover, HitAlike}
 use Rattle.iv_pair.proofs.hit_finder.take_begun.Given as goal
 
 -- what is carried and what is ahead have the hits from this place on as before

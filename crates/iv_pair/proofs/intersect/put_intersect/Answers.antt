@@ -9,5 +9,5 @@ returns-in-Shared g c = λ second given. Puts-hits c.args.shown _ _ second _ _ _
 
 pub returns-in-Count : goal.returns-in-Count
 returns-in-Count g c = λ second given.
-    rw c.in-Count.is (c.put_count.ensures (hits_of second (g.R.BedRecord.as_row c.args.row.now))
-    (sym (count_from_yields_List {steps = g.H.Iterator.next_gives} {v = g.T.BedRecord.as_row} c.args.hits c.count.result c.count.ensures.ran record { runs = given })))
+    rw c.in-Count.is (c.put_count.ensures (hits_of second (g.R.BedRecord.as_record c.args.row.now))
+    (sym (count_from_yields_List {steps = g.H.Iterator.next_gives} {v = g.T.BedRecord.as_record} c.args.hits c.count.result c.count.ensures.ran record { runs = given })))

@@ -1,6 +1,6 @@
 use Rattle.iv_cover.specs.Depth.{depth}
 use Rattle.iv_cover.proofs.EmptyMeanings.{empty-bare, empty-all, empty-apart}
-use Rattle.iv_pair.proofs.laws.uncovered_parts_are_maximal.Goals as goal
+use Rattle.iv_pair.proofs.lemmas.uncovered_parts_are_maximal.Goals as goal
 
 pub returns-clause-bare : goal.returns-clause-bare
 returns-clause-bare c = λ second a part there. empty-bare (depth second a.seq) a.start a.stop part there

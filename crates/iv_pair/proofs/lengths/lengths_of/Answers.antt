@@ -1,7 +1,7 @@
 use Rattle.std.proofs.Common.{◌∙◌, List, sym, ap, subst, arith}
 use Rattle.iv_text.specs.Ordered.{added_by}
-use Rattle.iv_text.specs.Row.{Row}
-use Rattle.iv_track.specs.Copies.{expanded}
+use Rattle.iv_text.specs.RecordValue.{RecordValue}
+use Rattle.iv_track.specs.Inside.Copies.{expanded}
 use Rattle.iv_track.specs.Entries.{pair_cmp}
 use Rattle.iv_track.proofs.WalkLemmas.{filter-from_first}
 use Rattle.iv_pair.proofs.LengthLemmas.{IsCounted, IsCounted-begin, IsCounted-next, IsCounted-room, IsCounted-all}
@@ -10,7 +10,7 @@ use Rattle.iv_pair.proofs.lengths.lengths_of.Goals as goal
 pub loop-record-init : goal.loop-record-init
 loop-record-init g c =
     let rows = c.args.track.now.rows in
-    subst (λ (left : List Row). IsCounted c.new-lengths.result left rows) (sym (c.walk-rows.ensures.rows ∙ filter-from_first rows)) (IsCounted-begin c.new-lengths.result rows c.new-lengths.ensures)
+    subst (λ (left : List RecordValue). IsCounted c.new-lengths.result left rows) (sym (c.walk-rows.ensures.rows ∙ filter-from_first rows)) (IsCounted-begin c.new-lengths.result rows c.new-lengths.ensures)
 
 pub raise-requires-clause-room : goal.raise-requires-clause-room
 raise-requires-clause-room g c = omega (arith, IsCounted-room _ _ _ c.length_of.result c.loop-record.invariant, c.requires)

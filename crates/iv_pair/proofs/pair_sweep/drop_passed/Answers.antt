@@ -1,6 +1,6 @@
 use Rattle.std.proofs.Common.{rules}
 use Rattle.std.proofs.lemmas.Fn.{filter_same}
-use Rattle.iv_pair.specs.PairSweeps.{reaches}
+use Rattle.iv_pair.specs.Inside.PairSweeps.{reaches}
 use Rattle.iv_pair.proofs.pair_sweep.drop_passed.Goals as goal
 
 pub returns-clause-kept : goal.returns-clause-kept

@@ -2,9 +2,9 @@ use Rattle.std.proofs.Common.{◌≡◌, ◌<◌, [], ◌∷◌, ◌++◌, All, 
 use Rattle.std.specs.Result.{is_ok}
 use Rattle.std.proofs.lemmas.Bool.{cond-true}
 use Rattle.std.proofs.lemmas.List.Elements.{All-push}
-use Rattle.iv_text.specs.Row.{Row}
+use Rattle.iv_text.specs.RecordValue.{RecordValue}
 use Rattle.iv_text.specs.Ordered.{AreInOrder}
-use Rattle.iv_pair.specs.PairSweeps.{Covers, HitAlike}
+use Rattle.iv_pair.specs.Inside.PairSweeps.{Covers, HitAlike}
 use Rattle.iv_pair.proofs.ReachLemmas.{covers, past-not}
 use Rattle.iv_pair.proofs.StepLemmas.{alike-added, alike-dropped}
 use Rattle.iv_pair.proofs.pair_sweep.take_begun.Goals as goal
@@ -25,7 +25,7 @@ loop-next-preserved-then-reaches g c =
       room = omega (arith, ap length e, i.room, c.push.ensures.upper_bound, c.push.ensures.capacity);
       ordered = (subst AreInOrder e i.ordered).1;
       active = subst (All (Covers a)) (sym pushed) (All-push (Covers a) held b i.active cover);
-      alike = subst (λ (l : List Row). HitAlike a (l ++ bs) old) (sym pushed) (alike-added a b old held bs (subst (λ (l : List Row). HitAlike a (held ++ l) old) e i.alike));
+      alike = subst (λ (l : List RecordValue). HitAlike a (l ++ bs) old) (sym pushed) (alike-added a b old held bs (subst (λ (l : List RecordValue). HitAlike a (held ++ l) old) e i.alike));
     }
 
 pub loop-next-preserved : goal.loop-next-preserved
@@ -41,5 +41,5 @@ loop-next-preserved g c =
       room = omega (arith, ap length e, i.room);
       ordered = (subst AreInOrder e i.ordered).1;
       active = i.active;
-      alike = alike-dropped a b old held bs (past-not a b (sym c.is_past.ensures ∙ c.if-is_past.false)) (sym c.reaches.ensures ∙ c.if-reaches.false) (subst (λ (l : List Row). HitAlike a (held ++ l) old) e i.alike);
+      alike = alike-dropped a b old held bs (past-not a b (sym c.is_past.ensures ∙ c.if-is_past.false)) (sym c.reaches.ensures ∙ c.if-reaches.false) (subst (λ (l : List RecordValue). HitAlike a (held ++ l) old) e i.alike);
     }

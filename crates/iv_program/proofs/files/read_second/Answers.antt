@@ -6,7 +6,7 @@ use Rattle.iv_program.proofs.files.read_second.Goals as goal
 
 pub returns-in-Ok-clause-ok : goal.returns-in-Ok-clause-ok
 returns-in-Ok-clause-ok g c =
-    let kept = g.K.FromRecord.kept in
+    let kept = g.K.FromRecord.projected in
     let read = c.in-Ok.ensures.ok in
     let named : Some c.in-Some.name.now ≡ c.args.plan.now.other = c.in-Some.ensures in (
       Some read.0,

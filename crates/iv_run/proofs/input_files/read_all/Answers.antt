@@ -1,6 +1,6 @@
 use Rattle.std.proofs.lemmas.Result.{err_from_is_err_and}
 use Rattle.iv_run.proofs.ReadingLemmas.{StopsReading-piece}
-use Rattle.iv_run.proofs.reading.read_all.Goals as goal
+use Rattle.iv_run.proofs.input_files.read_all.Goals as goal
 
 pub returns-in_err-take_piece-clause-err : goal.returns-in_err-take_piece-clause-err
 returns-in_err-take_piece-clause-err g c =

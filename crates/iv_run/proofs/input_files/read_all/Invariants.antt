@@ -1,6 +1,6 @@
 use Rattle.std.proofs.Common.{◌-◌, ◌≤◌, length}
 use Rattle.iv_bytes.specs.Sources.{Gives}
-use Rattle.iv_run.proofs.reading.read_all.Given as goal
+use Rattle.iv_run.proofs.input_files.read_all.Given as goal
 
 abbrev pub invariant-pieces : goal.invariant-pieces
 invariant-pieces g l = Gives (g.R.Source.state l.fn.source) (g.R.Source.state l.source) l.bytes.items × (length l.bytes.items ≤ l.limit)

@@ -2,18 +2,18 @@ use Rattle.std.proofs.Common.{◌≡◌, ◌+◌, ◌<◌, ◌≤◌, ◌^◌, �
 use Rattle.iv_run.specs.declared.fault.FileFault.TheVariants.{TooLong}
 use Rattle.iv_run.proofs.ReadingLemmas.{Gives-begin, Gives-more, ReadsWhole-end, StopsReading-piece}
 use Rattle.iv_run.proofs.PieceLemmas.{says-begun, says-few, says-room, says-sound}
-use Rattle.iv_run.proofs.reading.read_bed.Goals as goal
+use Rattle.iv_run.proofs.input_files.read_bed.Goals as goal
 
 -- a front has as many bytes as it is to have
 taken : (n : ℕ) (bytes : List ℕ) → n ≤ length bytes → length (take n bytes) ≡ n
 taken n bytes within = omega (arith, length-take n bytes)
 
 pub pieces-init : goal.pieces-init
-pieces-init g c = ([], Gives-begin _, refl, omega arith, says-begun g.K.FromRecord.kept c.args.genome.now c.args.limit c.new.result c.new.ensures)
+pieces-init g c = ([], Gives-begin _, refl, omega arith, says-begun g.K.FromRecord.projected c.args.genome.now c.args.limit c.new.result c.new.ensures)
 
 pub take_next-so_far-requires-clause-sound : goal.take_next-so_far-requires-clause-sound
 take_next-so_far-requires-clause-sound g c =
-    says-sound g.K.FromRecord.kept c.args.genome.now c.args.limit c.pieces.invariant.0 c.pieces.so_far c.pieces.invariant.4
+    says-sound g.K.FromRecord.projected c.args.genome.now c.args.limit c.pieces.invariant.0 c.pieces.so_far c.pieces.invariant.4
 
 pub take_next-so_far-requires-clause-few : goal.take_next-so_far-requires-clause-few
 take_next-so_far-requires-clause-few g c =
@@ -21,7 +21,7 @@ take_next-so_far-requires-clause-few g c =
     let piece = take c.in_ok-n.n c.pull.new.into in
     let size : length piece ≡ c.in_ok-n.n = taken c.in_ok-n.n c.pull.new.into c.in_ok-n.ensures.some in
     let few : 1 + length front + length piece < 2 ^ 64 = omega (arith, c.pieces.invariant.2, c.pieces.invariant.3, c.if-n-most.false, size, c.requires.most) in
-    says-room g.K.FromRecord.kept c.args.genome.now c.args.limit front piece c.pieces.so_far (2 ^ 64) c.pieces.invariant.4 few
+    says-room g.K.FromRecord.projected c.args.genome.now c.args.limit front piece c.pieces.so_far (2 ^ 64) c.pieces.invariant.4 few
 
 pub pieces-preserved : goal.pieces-preserved
 pieces-preserved g c =
@@ -37,11 +37,11 @@ pieces-preserved g c =
 
 pub finish-requires-clause-sound : goal.finish-requires-clause-sound
 finish-requires-clause-sound g c =
-    says-sound g.K.FromRecord.kept c.args.genome.now c.args.limit c.pieces.invariant.0 c.pieces.so_far c.pieces.invariant.4
+    says-sound g.K.FromRecord.projected c.args.genome.now c.args.limit c.pieces.invariant.0 c.pieces.so_far c.pieces.invariant.4
 
 pub finish-requires-clause-few : goal.finish-requires-clause-few
 finish-requires-clause-few g c =
-    says-few g.K.FromRecord.kept c.args.genome.now c.args.limit c.pieces.invariant.0 c.pieces.so_far (2 ^ 64) c.pieces.invariant.4
+    says-few g.K.FromRecord.projected c.args.genome.now c.args.limit c.pieces.invariant.0 c.pieces.so_far (2 ^ 64) c.pieces.invariant.4
     (omega (arith, c.pieces.invariant.2, c.pieces.invariant.3, c.requires.most))
 
 pub returns-then-n-eq0-clause-ok : goal.returns-then-n-eq0-clause-ok

@@ -2,15 +2,15 @@ use Rattle.std.proofs.Common.{List, sym, subst, ap, ◌∙◌}
 use Rattle.std.specs.Prelude.{All}
 use Rattle.iv_text.specs.Ordered.{AreInOrder, ordered}
 use Rattle.iv_text.specs.Read.{IsOnGenome}
-use Rattle.iv_text.specs.Row.{Row}
+use Rattle.iv_text.specs.RecordValue.{RecordValue}
 use Rattle.iv_text.proofs.OrderedLemmas.{ordered-in_order}
-use Rattle.iv_index.specs.Spans.{span_rows}
+use Rattle.iv_index.specs.Inside.Spans.{span_rows}
 use Rattle.iv_index.proofs.BareLemmas.{kept-on_genome}
 use Rattle.iv_index.proofs.SortedLemmas.{ordered-all}
 use Rattle.iv_view.specs.Views.{kept_text}
 use Rattle.iv_run.specs.Loading.{Parsed}
-use Rattle.iv_run.specs.Prints.{Prints}
-use Rattle.iv_run.proofs.places_view.print_files.Goals as goal
+use Rattle.iv_run.specs.Inside.Prints.{Prints}
+use Rattle.iv_run.proofs.intervals_view.print_files.Goals as goal
 
 pub print-requires-clause-order : goal.print-requires-clause-order
 print-requires-clause-order g c =
@@ -28,4 +28,4 @@ pub returns : goal.returns
 returns g c = λ asked is.
     let rows = ap span_rows c.as_slice.ensures.value ∙ c.sort_spans.ensures ∙ ap ordered c.in_ok-spans.ensures in
     subst (λ (files : Parsed). Prints (g.S.Sink.state c.args.sink.now) (g.S.Sink.state c.print.new.sink) c.print.result (kept_text asked files.genome (ordered files.first.rows))) c.files.view_is
-    (subst (λ (l : List Row). Prints (g.S.Sink.state c.args.sink.now) (g.S.Sink.state c.print.new.sink) c.print.result (kept_text asked c.files.inside.genome l)) rows (c.print.ensures asked is))
+    (subst (λ (l : List RecordValue). Prints (g.S.Sink.state c.args.sink.now) (g.S.Sink.state c.print.new.sink) c.print.result (kept_text asked c.files.inside.genome l)) rows (c.print.ensures asked is))

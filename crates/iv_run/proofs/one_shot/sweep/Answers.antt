@@ -1,5 +1,5 @@
 use Rattle.std.proofs.Common.{refl, inl, inr}
-use Rattle.iv_run.specs.declared.places_view.PlacesView.TheVariants as places
+use Rattle.iv_run.specs.declared.intervals_view.IntervalsView.TheVariants as places
 use Rattle.iv_run.proofs.one_shot.sweep.Goals as goal
 
 pub unreachable-requires : goal.unreachable-requires

@@ -1,5 +1,5 @@
 use Rattle.iv_session.proofs.SizeLemmas.{over-none, over-found}
-use Rattle.iv_session.proofs.laws.first_over_is_first.Goals as goal
+use Rattle.iv_session.proofs.lemmas.first_over_is_first.Goals as goal
 
 pub returns-clause-none : goal.returns-clause-none
 returns-clause-none c = over-none

@@ -1,5 +1,5 @@
 use Rattle.iv_session.proofs.SizeLemmas.{sizes-ended, sizes-last, length-sizes}
-use Rattle.iv_session.proofs.laws.sizes_are_of_lines.Goals as goal
+use Rattle.iv_session.proofs.lemmas.sizes_are_of_lines.Goals as goal
 
 pub returns-clause-ended : goal.returns-clause-ended
 returns-clause-ended c = sizes-ended

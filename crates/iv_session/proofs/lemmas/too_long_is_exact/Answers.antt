@@ -1,5 +1,5 @@
 use Rattle.iv_session.proofs.EndingLemmas.{too_long-exact, done-none, stopped-noticed, stopped-ran}
-use Rattle.iv_session.proofs.laws.too_long_is_exact.Goals as goal
+use Rattle.iv_session.proofs.lemmas.too_long_is_exact.Goals as goal
 
 pub returns-clause-exact : goal.returns-clause-exact
 returns-clause-exact c = too_long-exact

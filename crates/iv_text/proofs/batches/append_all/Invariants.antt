@@ -1,6 +1,6 @@
 use Rattle.std.proofs.Common.{◌≡◌, ◌++◌, length}
 use Rattle.std.specs.Vec.Iter.{into_iter_items, into_iter_len}
-use Rattle.iv_text.specs.Batches.{items_of}
+use Rattle.iv_text.specs.Inside.Batches.{items_of}
 use Rattle.iv_text.proofs.batches.append_all.Given as goal
 
 abbrev pub invariant-loop-vector : goal.invariant-loop-vector

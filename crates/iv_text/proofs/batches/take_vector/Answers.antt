@@ -1,6 +1,6 @@
 use Rattle.std.proofs.lemmas.List.Elements.{All-rest}
 use Rattle.std.specs.Vec.Iter.{into_iter_items}
-use Rattle.iv_text.specs.Batches.{HasItem}
+use Rattle.iv_text.specs.Inside.Batches.{HasItem}
 use Rattle.iv_text.proofs.batches.take_vector.Goals as goal
 
 pub returns-in-Some-clause-some : goal.returns-in-Some-clause-some

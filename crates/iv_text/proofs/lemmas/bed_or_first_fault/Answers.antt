@@ -1,5 +1,5 @@
 use Rattle.iv_text.proofs.BedLawLemmas.{bed-value, bed-fault}
-use Rattle.iv_text.proofs.laws.bed_or_first_fault.Goals as goal
+use Rattle.iv_text.proofs.lemmas.bed_or_first_fault.Goals as goal
 
 pub returns-clause-value : goal.returns-clause-value
 returns-clause-value c = bed-value

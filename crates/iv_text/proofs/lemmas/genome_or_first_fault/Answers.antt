@@ -1,5 +1,5 @@
 use Rattle.iv_text.proofs.FileLawLemmas.{genome-value, genome-fault}
-use Rattle.iv_text.proofs.laws.genome_or_first_fault.Goals as goal
+use Rattle.iv_text.proofs.lemmas.genome_or_first_fault.Goals as goal
 
 pub returns-clause-value : goal.returns-clause-value
 returns-clause-value c = genome-value

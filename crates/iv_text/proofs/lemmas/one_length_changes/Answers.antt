@@ -1,5 +1,5 @@
 use Rattle.iv_text.proofs.LengthLemmas.{name_at-with_length, rank_of-with_length, length_at-with_length, length_at-other}
-use Rattle.iv_text.proofs.laws.one_length_changes.Goals as goal
+use Rattle.iv_text.proofs.lemmas.one_length_changes.Goals as goal
 
 pub returns-clause-names : goal.returns-clause-names
 returns-clause-names c = name_at-with_length

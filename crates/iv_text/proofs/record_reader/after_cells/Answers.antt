@@ -1,8 +1,8 @@
 use Rattle.std.proofs.Common.{ℕ, List, Option, None, Some, arith}
 use Rattle.std.specs.Borrow.{Bor}
 use Rattle.std.specs.Prelude.{IfSome}
-use Rattle.iv_text.specs.OnePass.{BeginsWithCell, BeginsWithCells}
-use Rattle.iv_text.proofs.ShortLemmas.{IsStrand, four-columns, five-columns, six-columns}
+use Rattle.iv_text.specs.Inside.OnePass.{BeginsWithCell, BeginsWithCells}
+use Rattle.iv_text.proofs.FastLineLemmas.{IsStrand, four-columns, five-columns, six-columns}
 use Rattle.iv_text.proofs.record_reader.after_cells.Goals as goal
 
 pub returns-then-width-eq4 : goal.returns-then-width-eq4

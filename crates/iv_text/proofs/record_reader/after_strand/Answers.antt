@@ -1,5 +1,5 @@
 use Rattle.std.proofs.Common.{[], ◌∷◌, ℕ, get_or, ap, sym, ◌∙◌}
-use Rattle.iv_text.proofs.ShortLemmas.{cell-strand, first-byte}
+use Rattle.iv_text.proofs.FastLineLemmas.{cell-strand, first-byte}
 use Rattle.iv_text.proofs.record_reader.after_strand.Goals as goal
 
 pub returns-in-len1-up : goal.returns-in-len1-up

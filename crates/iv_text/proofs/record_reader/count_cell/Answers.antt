@@ -2,7 +2,7 @@ use Rattle.std.proofs.Common.{◌<◌, ◌≤◌, take, map, length, sym, subst,
 use lib.Count.{count_trailing_zeros}
 use lib.Lanes.{mask_l}
 use Rattle.std.proofs.lemmas.Simd.{length-chunk}
-use Rattle.iv_text.specs.OnePass.{IsCell}
+use Rattle.iv_text.specs.Inside.OnePass.{IsCell}
 use Rattle.iv_text.proofs.CellLemmas.{is_control, control-mask, cell-before}
 use Rattle.iv_text.proofs.record_reader.count_cell.Goals as goal
 

@@ -1,5 +1,5 @@
 use Rattle.std.proofs.Common.{◌≤◌, ◌-◌, take, length}
-use Rattle.iv_text.specs.OnePass.{IsCell}
+use Rattle.iv_text.specs.Inside.OnePass.{IsCell}
 use Rattle.iv_text.proofs.record_reader.count_slowly.Given as goal
 
 abbrev pub invariant-loop-end : goal.invariant-loop-end

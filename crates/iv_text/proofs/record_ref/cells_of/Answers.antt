@@ -1,6 +1,6 @@
 use Rattle.std.proofs.Common.{◌≡◌, ◌∷◌, List, ℕ, ap, sym, subst, ◌∙◌}
 use Rattle.iv_text.specs.Fields.{columns as columns_of}
-use Rattle.iv_text.specs.Read.{AreColumns}
+use Rattle.iv_text.specs.Inside.Read.{AreColumns}
 use Rattle.iv_text.proofs.record_ref.cells_of.Goals as goal
 
 pub returns : goal.returns

@@ -1,4 +1,4 @@
-use Rattle.iv_track.proofs.places.find.Goals as goal
+use Rattle.iv_track.proofs.entry_index.find.Goals as goal
 
 pub returns-then-is_below_next-clause-absent : goal.returns-then-is_below_next-clause-absent
 returns-then-is_below_next-clause-absent g c = record {

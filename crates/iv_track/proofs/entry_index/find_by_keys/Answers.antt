@@ -1,9 +1,9 @@
 use Rattle.std.proofs.Common.{rules, arith, ◌-◌}
 use Rattle.std.specs.Vec.{vec_items}
 use Rattle.std.proofs.lemmas.Fn.{always_returns_same}
-use Rattle.iv_track.specs.Chunks.{starts_by}
+use Rattle.iv_track.specs.Inside.Chunks.{starts_by}
 use Rattle.iv_track.proofs.FindLemmas.{no_chunk, found, gap}
-use Rattle.iv_track.proofs.places.find_by_keys.Goals as goal
+use Rattle.iv_track.proofs.entry_index.find_by_keys.Goals as goal
 
 pub returns-then-starts-eq0-clause-absent : goal.returns-then-starts-eq0-clause-absent
 returns-then-starts-eq0-clause-absent g c = no_chunk g.met.K.Ord.total c.args.key.now c.args.chunks.now c.requires c.partition_point-starts.result c.partition_point-starts.ensures.bound

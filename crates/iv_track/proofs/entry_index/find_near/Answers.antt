@@ -2,7 +2,7 @@ use Rattle.std.proofs.Common.{rules, ◌<◌, ◌≡◌, subst, length}
 use Rattle.std.specs.List.{HoldsAt}
 use Rattle.std.specs.declared.cmp.Ordering.TheVariants.{Equal}
 use Rattle.iv_track.proofs.FindLemmas.{found_near}
-use Rattle.iv_track.proofs.places.find_near.Goals as goal
+use Rattle.iv_track.proofs.entry_index.find_near.Goals as goal
 
 pub returns-in-Ok-clause-found : goal.returns-in-Ok-clause-found
 returns-in-Ok-clause-found g c =

@@ -1,7 +1,7 @@
 use Rattle.std.proofs.Common.{rules, ◌≡◌, take, drop}
 use Rattle.std.specs.Vec.{vec_items}
 use Rattle.std.proofs.lemmas.List.Elements.{at_read}
-use Rattle.iv_track.proofs.places.halve.Goals as goal
+use Rattle.iv_track.proofs.entry_index.halve.Goals as goal
 
 pub returns-clause-ok : goal.returns-clause-ok
 returns-clause-ok g c =

@@ -1,7 +1,7 @@
 use Rattle.std.proofs.Common.{sym, refl, arith}
 use Rattle.std.specs.Ordering.{is_lt}
 use Rattle.iv_track.proofs.MapLemmas.{found_after, gap_filter, small_index}
-use Rattle.iv_track.proofs.places.place_after.Goals as goal
+use Rattle.iv_track.proofs.entry_index.index_after.Goals as goal
 
 pub overflow_add-result : goal.overflow_add-result
 overflow_add-result g c = omega (arith, small_index c.args.chunks.now c.in-Ok.at c.requires.filled c.in-Ok.ensures.found.inside)

@@ -1,7 +1,7 @@
 use Rattle.std.proofs.Common.{sym, refl}
 use Rattle.std.specs.Ordering.{is_le}
 use Rattle.iv_track.proofs.MapLemmas.{found_walk, gap_filter}
-use Rattle.iv_track.proofs.places.place_from.Goals as goal
+use Rattle.iv_track.proofs.entry_index.index_from.Goals as goal
 
 pub returns-in-Ok-clause-entries : goal.returns-in-Ok-clause-entries
 returns-in-Ok-clause-entries g c = sym (found_walk g.met.K.Ord.total c.in-Ok.ensures.found refl c.requires refl)

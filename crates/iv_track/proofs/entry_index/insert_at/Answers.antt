@@ -1,15 +1,15 @@
 use Rattle.std.proofs.Common.{rules, arith, ◌++◌, ◌∷◌, ◌≤◌, ◌∙◌, subst, sym, ap, vec_len}
 use Rattle.iv_track.proofs.ChunkLemmas.{joined-set_same, joined-set_inserted, before-from}
 use Rattle.iv_track.proofs.RoomLemmas.{always_on_err}
-use Rattle.iv_track.specs.Chunks.{IsPlaceWithRoom, before, from}
-use Rattle.iv_track.proofs.places.insert_at.Goals as goal
+use Rattle.iv_track.specs.Inside.Chunks.{IsIndexWithRoom, before, from}
+use Rattle.iv_track.proofs.entry_index.insert_at.Goals as goal
 
 pub returns-in_err-insert-clause-err : goal.returns-in_err-insert-clause-err
 returns-in_err-insert-clause-err g c =
     let old = c.args.chunks.now.items in
     let new = c.with_room.new.chunks.items in
     let q = c.in_ok-place.place in
-    let place : IsPlaceWithRoom old c.args.at new q = search rules in
+    let place : IsIndexWithRoom old c.args.at new q = search rules in
     always_on_err c.from_residual-in_err-insert.result (
     joined-set_same new q.chunk c.index_mut.result.now place.chunk_in_range c.index_mut.ensures.value c.insert.new.self (search rules)
     ∙ sym (before-from new q)
@@ -23,7 +23,7 @@ returns-clause-ok g c =
     let old = c.args.chunks.now.items in
     let new = c.with_room.new.chunks.items in
     let q = c.in_ok-place.place in
-    let place : IsPlaceWithRoom old c.args.at new q = search rules in
+    let place : IsIndexWithRoom old c.args.at new q = search rules in
     let x = c.index_mut.result.now in
     let is = c.index_mut.ensures.value in
     let within = subst (λ y. q.index ≤ vec_len y) (sym is) (place.index_in_range x) in

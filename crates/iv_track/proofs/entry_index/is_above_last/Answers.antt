@@ -2,7 +2,7 @@ use Rattle.std.proofs.Common.{arith, rules, ◌<◌, ◌≤◌, ◌+◌, ◌≡�
 use Rattle.std.specs.Vec.{vec_items}
 use Rattle.std.specs.declared.cmp.Ordering.TheVariants.{Greater}
 use Rattle.iv_track.proofs.FindLemmas.{below_place, greater_from_gt}
-use Rattle.iv_track.proofs.places.is_above_last.Goals as goal
+use Rattle.iv_track.proofs.entry_index.is_above_last.Goals as goal
 
 pub returns-clause-entries : goal.returns-clause-entries
 returns-clause-entries g c = λ said.

@@ -4,7 +4,7 @@ use Rattle.std.specs.Option.{option_copied}
 use Rattle.std.specs.declared.cmp.Ordering.TheVariants.{Less}
 use Rattle.iv_track.proofs.Splits.{IsAbove}
 use Rattle.iv_track.proofs.FindLemmas.{above_place, less_from_lt}
-use Rattle.iv_track.proofs.places.is_below_next.Goals as goal
+use Rattle.iv_track.proofs.entry_index.is_below_next.Goals as goal
 
 pub returns-in-Some : goal.returns-in-Some
 returns-in-Some g c = λ said.

@@ -1,6 +1,6 @@
 use Rattle.std.proofs.Common.{arith, subst, sym, ◌<◌, vec_len}
 use Rattle.iv_track.proofs.ChunkLemmas.{joined-set_removed}
-use Rattle.iv_track.proofs.places.remove_at.Goals as goal
+use Rattle.iv_track.proofs.entry_index.remove_at.Goals as goal
 
 pub returns-else-is_empty-clause-rest : goal.returns-else-is_empty-clause-rest
 returns-else-is_empty-clause-rest g c =

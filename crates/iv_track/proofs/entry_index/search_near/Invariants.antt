@@ -1,5 +1,5 @@
 use Rattle.std.proofs.Common.{◌-◌, ◌≤◌, length}
-use Rattle.iv_track.proofs.places.search_near.Given as goal
+use Rattle.iv_track.proofs.entry_index.search_near.Given as goal
 
 abbrev pub invariant-loop-low : goal.invariant-loop-low
 invariant-loop-low g l = record { in_order : l.low ≤ l.high; in_range : l.high ≤ length l.entries }

@@ -1,7 +1,7 @@
 use Rattle.std.proofs.Common.{List, sym, subst}
 use Rattle.std.specs.List.Sorted.{IsPermutation, IsSorted}
 use Rattle.std.proofs.lemmas.List.Sorted.{IsPermutation-refl}
-use Rattle.iv_text.specs.Row.{Row, row_cmp}
+use Rattle.iv_text.specs.RecordValue.{RecordValue, record_cmp}
 use Rattle.iv_track.proofs.track.in_order.Goals as goal
 
 pub returns-then-is_sorted-clause-same : goal.returns-then-is_sorted-clause-same
@@ -12,7 +12,7 @@ returns-then-is_sorted-clause-sorted g c = c.is_sorted.ensures.0 c.if-is_sorted.
 
 pub returns-clause-same : goal.returns-clause-same
 returns-clause-same g c =
-    subst (λ (l : List Row). IsPermutation l c.of.result) c.in_ok-rows.ensures (subst (λ (l : List Row). IsPermutation c.in_ok-rows.rows.items l) (sym c.of.ensures) c.sort.ensures.permutation)
+    subst (λ (l : List RecordValue). IsPermutation l c.of.result) c.in_ok-rows.ensures (subst (λ (l : List RecordValue). IsPermutation c.in_ok-rows.rows.items l) (sym c.of.ensures) c.sort.ensures.permutation)
 
 pub returns-clause-sorted : goal.returns-clause-sorted
-returns-clause-sorted g c = subst (λ (l : List Row). IsSorted row_cmp l) (sym c.of.ensures) c.in_ok-sort.ensures.sorted
+returns-clause-sorted g c = subst (λ (l : List RecordValue). IsSorted record_cmp l) (sym c.of.ensures) c.in_ok-sort.ensures.sorted

@@ -1,7 +1,7 @@
 use Rattle.std.proofs.Common.{◌≡◌, ◌∙◌, ℕ, List, ap, sym, subst}
 use Rattle.iv_text.specs.Named.{names_of}
 use Rattle.iv_text.specs.Ordered.{AreInOrder, added}
-use Rattle.iv_text.specs.Row.{Row}
+use Rattle.iv_text.specs.RecordValue.{RecordValue}
 use Rattle.iv_track.specs.Tracked.{Tracked, removed}
 use Rattle.iv_track.proofs.Edits.{added-removed}
 use Rattle.iv_view.specs.KeptStates.{IsRight}
@@ -20,4 +20,4 @@ is_removed-requires-clause-right c =
     added-removed old.track.rows r order c.in_ok-remove.ensures.ok.done.0 ∙ ap (λ (s : State). added s.track.rows r) (sym is) in
     let names : names_of after.genome ≡ names_of old.genome = ap (λ (s : State). names_of s.genome) is in
     subst (λ (n : List (List ℕ)). IsRight c.args.state.now n (added after.track.rows r)) (sym names)
-    (subst (λ (l : List Row). IsRight c.args.state.now (names_of old.genome) l) rows c.requires.right)
+    (subst (λ (l : List RecordValue). IsRight c.args.state.now (names_of old.genome) l) rows c.requires.right)

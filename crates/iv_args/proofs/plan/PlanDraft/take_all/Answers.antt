@@ -1,6 +1,6 @@
 use Rattle.std.proofs.Common.{inl, inr, ap, ◌∙◌}
 use Rattle.std.proofs.lemmas.Result.{err_from_is_err_and}
-use Rattle.iv_args.specs.Drafts.{drafted}
+use Rattle.iv_args.specs.Inside.Drafts.{drafted}
 use Rattle.iv_args.proofs.DraftLemmas.{one-up, left-later}
 use Rattle.iv_args.proofs.plan.PlanDraft.take_all.Goals as goal
 

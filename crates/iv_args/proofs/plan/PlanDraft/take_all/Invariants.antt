@@ -1,5 +1,5 @@
 use Rattle.std.proofs.Common.{◌≡◌, map, length}
-use Rattle.iv_args.specs.Drafts.{drafted}
+use Rattle.iv_args.specs.Inside.Drafts.{drafted}
 use Rattle.iv_args.proofs.plan.PlanDraft.take_all.Given as goal
 
 abbrev pub invariant-words : goal.invariant-words

@@ -1,5 +1,5 @@
 use Rattle.std.proofs.Common.{◌≡◌, ◌∙◌, ap, map, false}
-use Rattle.iv_blocks.specs.BlockCursor.{interval_of}
+use Rattle.iv_blocks.specs.Inside.BlockCursor.{interval_of}
 use Rattle.iv_blocks.specs.KeptBlocks.{KeptBlocks, Entries}
 use Rattle.iv_blocks.proofs.BlockCursorLemmas.{ahead-read}
 use Rattle.iv_blocks.proofs.EntryLemmas.{from, from-first}

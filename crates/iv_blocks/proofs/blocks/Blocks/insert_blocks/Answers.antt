@@ -1,11 +1,11 @@
 use Rattle.std.proofs.Common.{◌≡◌, ◌+◌, ◌<◌, ℕ, List, [], ◌∷◌, length, ap, sym, subst, ◌∙◌, arith, Result, Ok, Err, OnOk}
-use Rattle.iv_text.specs.Row.{Row}
-use Rattle.iv_blocks.specs.MembersLeft.{MembersLeft}
-use Rattle.iv_blocks.specs.Groups.{between_on, members_between}
+use Rattle.iv_text.specs.RecordValue.{RecordValue}
+use Rattle.iv_blocks.specs.Inside.MembersLeft.{MembersLeft}
+use Rattle.iv_blocks.specs.Inside.Groups.{between_on, members_between}
 use Rattle.iv_track.specs.Entries.{IsLedger}
 use Rattle.iv_blocks.specs.KeptBlocks.{KeptBlocks, key_cmp}
 use Rattle.iv_blocks.proofs.GroupSweeps.{IsSweeping, swept-from, sweep-first, sweep-join, sweep-open, sweep-all, sweep-none, sweep-pays, count-within}
-use Rattle.iv_blocks.proofs.blocks.Blocks.put_blocks.Goals as goal
+use Rattle.iv_blocks.proofs.blocks.Blocks.insert_blocks.Goals as goal
 
 -- two facts at one `Ok`
 on_ok_both : {T E P Q R : Type 0} (r : Result T E) → OnOk r P → OnOk r Q → (P → Q → R) → OnOk r R
@@ -29,7 +29,7 @@ loop-row-init g c =
     sym (ap (λ (m : MembersLeft). m.members) c.of-members.ensures.members) ∙ c.in-Some.ensures.member in
     let records : c.of-members.result.records ≡ length (between_on a.group.rank a.from a.to a.track.now.rows) = ap (λ (m : MembersLeft). m.records) c.of-members.ensures.members in
     record {
-      sweep = rw (c.place-start.ensures, c.as_ref.ensures) (sweep-first a.self.now a.genome.now a.track.now.rows a.group a.from a.to known c.in-Some.first.now c.next.new.self.members all);
+      sweep = rw (c.bounds_of-start.ensures, c.as_ref.ensures) (sweep-first a.self.now a.genome.now a.track.now.rows a.group a.from a.to known c.in-Some.first.now c.next.new.self.members all);
       no_less = omega (arith, c.of-members.ensures.steps.no_less, steps.no_less);
       paid = omega (arith, c.of-members.ensures.steps.at_most, steps.at_most, records);
     }
@@ -51,9 +51,9 @@ loop-row-preserved-then-from-distance g c =
     let rest = c.next-in-loop-row.new.self.members in
     let steps = c.in-Some-next.ensures.steps in
     let s : IsSweeping a.self.now a.genome.now a.track.now.rows a.group a.from a.to c.loop-row.self c.loop-row.start c.loop-row.stop (r ∷ rest) =
-    subst (λ (l : List Row). IsSweeping a.self.now a.genome.now a.track.now.rows a.group a.from a.to c.loop-row.self c.loop-row.start c.loop-row.stop l) c.in-Some-next.ensures.member i.sweep in
+    subst (λ (l : List RecordValue). IsSweeping a.self.now a.genome.now a.track.now.rows a.group a.from a.to c.loop-row.self c.loop-row.start c.loop-row.stop l) c.in-Some-next.ensures.member i.sweep in
     let distance : c.from-distance.result ≡ a.self.now.options.distance = c.from-distance.ensures ∙ ap (λ (b : KeptBlocks). b.options.distance) c.self.view_is in
-    let placed = c.place-next_start.ensures ∙ ap (λ (q : Row). (q.start, q.stop)) c.as_ref-in-Some-next.ensures in
+    let placed = c.bounds_of-next_start.ensures ∙ ap (λ (q : RecordValue). (q.start, q.stop)) c.as_ref-in-Some-next.ensures in
     let starts = ap (λ (p : ℕ × ℕ). p.0) placed in
     record {
       sweep = rw (c.max-stop.ensures, placed)
@@ -63,20 +63,20 @@ loop-row-preserved-then-from-distance g c =
       paid = omega (arith, i.paid, steps.at_most);
     }
 
-pub returns-in_err-put_block-clause-steps : goal.returns-in_err-put_block-clause-steps
-returns-in_err-put_block-clause-steps g c =
+pub returns-in_err-insert_block-clause-steps : goal.returns-in_err-insert_block-clause-steps
+returns-in_err-insert_block-clause-steps g c =
     let a = c.args in
     let i = c.loop-row.invariant in
     let known = swept-from a.self.now a.genome.now a.track.now.rows a.group a.from a.to a.track.now.width c.of-members.ensures.ordered c.requires.fit c.requires.stops in
     let long : c.loop-row.start < c.loop-row.stop = i.sweep.put.last.block.long in
     let next = c.in-Some-next.ensures.steps in
     record {
-      no_less = omega (arith, i.no_less, next.no_less, c.put_block.ensures.steps.no_less);
+      no_less = omega (arith, i.no_less, next.no_less, c.insert_block.ensures.steps.no_less);
       at_most = omega (
         arith,
         i.paid,
         next.at_most,
-        c.put_block.ensures.steps.at_most,
+        c.insert_block.ensures.steps.at_most,
         sweep-pays a.self.now a.genome.now a.track.now.rows a.group a.from a.to known c.loop-row.self c.loop-row.start c.loop-row.stop c.loop-row.members.members i.sweep,
         count-within a.group.rank a.from c.loop-row.stop a.to a.track.now.rows (omega (arith, i.sweep.above, long)) i.sweep.within,
       );
@@ -94,23 +94,23 @@ loop-row-preserved g c =
     let rest = c.next-in-loop-row.new.self.members in
     let next = c.in-Some-next.ensures.steps in
     let s : IsSweeping a.self.now a.genome.now a.track.now.rows a.group a.from a.to c.loop-row.self c.loop-row.start c.loop-row.stop (r ∷ rest) =
-    subst (λ (l : List Row). IsSweeping a.self.now a.genome.now a.track.now.rows a.group a.from a.to c.loop-row.self c.loop-row.start c.loop-row.stop l) c.in-Some-next.ensures.member i.sweep in
+    subst (λ (l : List RecordValue). IsSweeping a.self.now a.genome.now a.track.now.rows a.group a.from a.to c.loop-row.self c.loop-row.start c.loop-row.stop l) c.in-Some-next.ensures.member i.sweep in
     let distance : c.from-distance.result ≡ a.self.now.options.distance = c.from-distance.ensures ∙ ap (λ (b : KeptBlocks). b.options.distance) c.self.view_is in
-    let placed = c.place-next_start.ensures ∙ ap (λ (q : Row). (q.start, q.stop)) c.as_ref-in-Some-next.ensures in
-    let starts : c.place-next_start.result.0 ≡ r.start = ap (λ (p : ℕ × ℕ). p.0) placed in
+    let placed = c.bounds_of-next_start.ensures ∙ ap (λ (q : RecordValue). (q.start, q.stop)) c.as_ref-in-Some-next.ensures in
+    let starts : c.bounds_of-next_start.result.0 ≡ r.start = ap (λ (p : ℕ × ℕ). p.0) placed in
     let parts : c.loop-row.stop + a.self.now.options.distance < r.start = omega (arith, c.if-from-distance.false, c.from.ensures, c.from-in-Some-next.ensures, distance, starts) in
     let long : c.loop-row.start < c.loop-row.stop = i.sweep.put.last.block.long in
     record {
       sweep = rw placed
-          (sweep-open a.self.now a.genome.now a.track.now.rows a.group a.from a.to known c.loop-row.self c.put_block.new.self c.loop-row.start c.loop-row.stop r rest s parts c.in_ok-put_block.ensures.ok);
-      no_less = omega (arith, i.no_less, next.no_less, c.put_block.ensures.steps.no_less);
+          (sweep-open a.self.now a.genome.now a.track.now.rows a.group a.from a.to known c.loop-row.self c.insert_block.new.self c.loop-row.start c.loop-row.stop r rest s parts c.in_ok-insert_block.ensures.ok);
+      no_less = omega (arith, i.no_less, next.no_less, c.insert_block.ensures.steps.no_less);
       paid = omega (
         arith,
         i.paid,
         next.at_most,
-        c.put_block.ensures.steps.at_most,
+        c.insert_block.ensures.steps.at_most,
         sweep-pays a.self.now a.genome.now a.track.now.rows a.group a.from a.to known c.loop-row.self c.loop-row.start c.loop-row.stop c.loop-row.members.members i.sweep,
-        count-within a.group.rank a.from c.loop-row.stop c.place-next_start.result.0 a.track.now.rows (omega (arith, i.sweep.above, long)) (omega (arith, parts, starts)),
+        count-within a.group.rank a.from c.loop-row.stop c.bounds_of-next_start.result.0 a.track.now.rows (omega (arith, i.sweep.above, long)) (omega (arith, parts, starts)),
       );
     }
 
@@ -119,9 +119,9 @@ returns-clause-ok g c =
     let a = c.args in
     let known = swept-from a.self.now a.genome.now a.track.now.rows a.group a.from a.to a.track.now.width c.of-members.ensures.ordered c.requires.fit c.requires.stops in
     let s : IsSweeping a.self.now a.genome.now a.track.now.rows a.group a.from a.to c.loop-row.self c.loop-row.start c.loop-row.stop [] =
-    subst (λ (l : List Row). IsSweeping a.self.now a.genome.now a.track.now.rows a.group a.from a.to c.loop-row.self c.loop-row.start c.loop-row.stop l) c.in_default-next.ensures.member.0 c.loop-row.invariant.sweep in
-    on_ok_both c.put_block-2.result c.put_block-2.ensures.ok c.put_block-2.ensures.ordered (λ put ordered.
-    sweep-all a.self.now a.genome.now a.track.now.rows a.group a.from a.to known c.loop-row.self c.put_block-2.new.self c.loop-row.start c.loop-row.stop s c.requires.apart put ordered)
+    subst (λ (l : List RecordValue). IsSweeping a.self.now a.genome.now a.track.now.rows a.group a.from a.to c.loop-row.self c.loop-row.start c.loop-row.stop l) c.in_default-next.ensures.member.0 c.loop-row.invariant.sweep in
+    on_ok_both c.insert_block-2.result c.insert_block-2.ensures.ok c.insert_block-2.ensures.ordered (λ put ordered.
+    sweep-all a.self.now a.genome.now a.track.now.rows a.group a.from a.to known c.loop-row.self c.insert_block-2.new.self c.loop-row.start c.loop-row.stop s c.requires.apart put ordered)
 
 pub returns-clause-steps : goal.returns-clause-steps
 returns-clause-steps g c =
@@ -131,12 +131,12 @@ returns-clause-steps g c =
     let long : c.loop-row.start < c.loop-row.stop = i.sweep.put.last.block.long in
     let next = c.in_default-next.ensures.steps in
     record {
-      no_less = omega (arith, i.no_less, next.no_less, c.put_block-2.ensures.steps.no_less);
+      no_less = omega (arith, i.no_less, next.no_less, c.insert_block-2.ensures.steps.no_less);
       at_most = omega (
         arith,
         i.paid,
         next.at_most,
-        c.put_block-2.ensures.steps.at_most,
+        c.insert_block-2.ensures.steps.at_most,
         sweep-pays a.self.now a.genome.now a.track.now.rows a.group a.from a.to known c.loop-row.self c.loop-row.start c.loop-row.stop c.loop-row.members.members i.sweep,
         count-within a.group.rank a.from c.loop-row.stop a.to a.track.now.rows (omega (arith, i.sweep.above, long)) i.sweep.within,
       );

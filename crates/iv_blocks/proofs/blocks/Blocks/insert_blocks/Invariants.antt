@@ -1,7 +1,7 @@
 use Rattle.std.proofs.Common.{◌+◌, ◌*◌, ◌≤◌, length}
-use Rattle.iv_blocks.specs.Groups.{between_on}
+use Rattle.iv_blocks.specs.Inside.Groups.{between_on}
 use Rattle.iv_blocks.proofs.GroupSweeps.{IsSweeping}
-use Rattle.iv_blocks.proofs.blocks.Blocks.put_blocks.Given as goal
+use Rattle.iv_blocks.proofs.blocks.Blocks.insert_blocks.Given as goal
 
 -- the blocks before the open one are put, and each record that was passed has paid for the steps
 abbrev pub invariant-loop-row : goal.invariant-loop-row

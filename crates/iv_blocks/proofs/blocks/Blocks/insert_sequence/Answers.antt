@@ -4,22 +4,22 @@ use Rattle.std.proofs.lemmas.Result.{on_ok_weaker}
 use Rattle.iv_text.specs.Genome.{sequence_length}
 use Rattle.iv_blocks.specs.declared.group.Side.TheVariants.{Plus, Minus}
 use Rattle.iv_blocks.proofs.Builds.{all-stops, put-both}
-use Rattle.iv_blocks.proofs.blocks.Blocks.put_sequence.Goals as goal
+use Rattle.iv_blocks.proofs.blocks.Blocks.insert_sequence.Goals as goal
 
-pub put_blocks-requires-clause-stops : goal.put_blocks-requires-clause-stops
-put_blocks-requires-clause-stops g c =
-    let long : c.unwrap_or-length.result ≡ sequence_length c.args.genome.now c.args.rank = c.unwrap_or-length.ensures ∙ ap (λ o. unwrap_or o 0) c.short_length.ensures.value in
+pub insert_blocks-requires-clause-stops : goal.insert_blocks-requires-clause-stops
+insert_blocks-requires-clause-stops g c =
+    let long : c.unwrap_or-length.result ≡ sequence_length c.args.genome.now c.args.rank = c.unwrap_or-length.ensures ∙ ap (λ o. unwrap_or o 0) c.length_u32.ensures.value in
     all-stops c.args.genome.now c.args.track.now.width c.args.track.now.rows c.requires.fit (record { rank = c.args.rank; side = Plus }) c.unwrap_or-length.result long
 
-pub put_blocks-requires-2-clause-stops : goal.put_blocks-requires-2-clause-stops
-put_blocks-requires-2-clause-stops g c =
-    let long : c.unwrap_or-length.result ≡ sequence_length c.args.genome.now c.args.rank = c.unwrap_or-length.ensures ∙ ap (λ o. unwrap_or o 0) c.short_length.ensures.value in
+pub insert_blocks-requires-2-clause-stops : goal.insert_blocks-requires-2-clause-stops
+insert_blocks-requires-2-clause-stops g c =
+    let long : c.unwrap_or-length.result ≡ sequence_length c.args.genome.now c.args.rank = c.unwrap_or-length.ensures ∙ ap (λ o. unwrap_or o 0) c.length_u32.ensures.value in
     all-stops c.args.genome.now c.args.track.now.width c.args.track.now.rows c.requires.fit (record { rank = c.args.rank; side = Minus }) c.unwrap_or-length.result long
 
 pub returns : goal.returns
 returns g c =
     let a = c.args in
-    let long : c.unwrap_or-length.result ≡ sequence_length c.args.genome.now c.args.rank = c.unwrap_or-length.ensures ∙ ap (λ o. unwrap_or o 0) c.short_length.ensures.value in
-    on_ok_weaker c.put_blocks-2.result (λ second.
-    put-both a.genome.now a.track.now.width a.track.now.rows c.requires.fit a.rank c.unwrap_or-length.result long a.self.now c.put_blocks.new.self c.put_blocks-2.new.self
-    c.in_ok-put_blocks.ensures.ok second) c.put_blocks-2.ensures.ok
+    let long : c.unwrap_or-length.result ≡ sequence_length c.args.genome.now c.args.rank = c.unwrap_or-length.ensures ∙ ap (λ o. unwrap_or o 0) c.length_u32.ensures.value in
+    on_ok_weaker c.insert_blocks-2.result (λ second.
+    put-both a.genome.now a.track.now.width a.track.now.rows c.requires.fit a.rank c.unwrap_or-length.result long a.self.now c.insert_blocks.new.self c.insert_blocks-2.new.self
+    c.in_ok-insert_blocks.ensures.ok second) c.insert_blocks-2.ensures.ok

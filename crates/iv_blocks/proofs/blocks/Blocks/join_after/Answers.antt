@@ -1,7 +1,7 @@
 use Rattle.std.proofs.Common.{◌≡◌, ◌+◌, ◌-◌, ℕ, length, None, if◌then◌else◌, ◌==◌, refl, ap, ◌∙◌, arith}
 use Rattle.iv_blocks.specs.KeptBlocks.{KeptBlocks}
 use Rattle.iv_blocks.specs.declared.options.Options.{Options}
-use Rattle.iv_blocks.specs.Lookups.{kept_in}
+use Rattle.iv_blocks.specs.Inside.Lookups.{kept_in}
 use Rattle.iv_blocks.proofs.TakeLemmas.{keeps-all, keeps-taken, without-here, without-fewer}
 use Rattle.iv_blocks.proofs.Joining.{joining-begun, joining-more, joining-done, joining-count}
 use Rattle.iv_blocks.proofs.blocks.Blocks.join_after.Goals as goal

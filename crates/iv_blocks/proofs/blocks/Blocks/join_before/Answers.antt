@@ -1,6 +1,6 @@
 use Rattle.std.proofs.Common.{refl, ap, ◌∙◌, arith, inl, inr}
 use Rattle.iv_blocks.specs.KeptBlocks.{KeptBlocks}
-use Rattle.iv_blocks.specs.Lookups.{kept_in}
+use Rattle.iv_blocks.specs.Inside.Lookups.{kept_in}
 use Rattle.iv_blocks.proofs.TakeLemmas.{keeps-all, keeps-taken, without-here}
 use Rattle.iv_blocks.proofs.blocks.Blocks.join_before.Goals as goal
 

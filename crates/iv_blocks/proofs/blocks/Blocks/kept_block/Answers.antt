@@ -1,7 +1,8 @@
 use Rattle.std.proofs.Common.{◌≡◌, ◌∙◌, ℕ, List, ap}
-use Rattle.iv_blocks.specs.MembersLeft.{MembersLeft}
+use Rattle.iv_blocks.specs.Inside.MembersLeft.{MembersLeft}
 use Rattle.iv_blocks.specs.KeptBlocks.{KeptBlocks}
-use Rattle.iv_blocks.specs.Groups.{members_between, listed}
+use Rattle.iv_blocks.specs.Groups.{listed}
+use Rattle.iv_blocks.specs.Inside.Groups.{members_between}
 use Rattle.iv_blocks.proofs.blocks.Blocks.kept_block.Goals as goal
 
 pub returns-clause-value : goal.returns-clause-value

@@ -3,10 +3,10 @@ use Rattle.std.specs.List.{take_while}
 use Rattle.std.proofs.lemmas.List.{length-map}
 use Rattle.iv_bytes.proofs.Putting.{Underway-begin, Underway-more, Underway-fails, Puts-err}
 use Rattle.iv_text.specs.Ordered.{AreInOrder}
-use Rattle.iv_text.specs.Row.{Row}
+use Rattle.iv_text.specs.RecordValue.{RecordValue}
 use Rattle.iv_cover.specs.declared.block.Block.{Block}
 use Rattle.iv_track.proofs.WalkLemmas.{filter-from_first}
-use Rattle.iv_blocks.specs.BlockCursor.{interval_of, starts_until, drop_while}
+use Rattle.iv_blocks.specs.Inside.BlockCursor.{interval_of, starts_until, drop_while}
 use Rattle.iv_blocks.specs.KeptBlocks.{KeptBlocks, Entries}
 use Rattle.iv_blocks.proofs.ClusterLemmas.{IsPassed-begin, IsPassed-next, IsPassed-few, number-is, rows-next}
 use Rattle.iv_blocks.specs.declared.options.Options.{Options}
@@ -20,10 +20,10 @@ loop-row-init g c =
     let long : length c.of-ahead.result ≡ length c.args.self.now.entries = ap (λ (l : List Block). length l) ahead ∙ length-map c.args.self.now.entries interval_of in
     record {
       put = rw all (Underway-begin _ _);
-      ordered = subst (λ (l : List Row). AreInOrder l) (sym all) c.walk-rows.ensures.ordered;
+      ordered = subst (λ (l : List RecordValue). AreInOrder l) (sym all) c.walk-rows.ensures.ordered;
       passed = IsPassed-begin _ _ _ ahead;
       no_less = omega (arith, c.of-ahead.ensures.steps, c.walk-rows.ensures.steps);
-      at_most = omega (arith, c.of-ahead.ensures.steps, c.walk-rows.ensures.steps, long, ap (λ (l : List Row). length l) all);
+      at_most = omega (arith, c.of-ahead.ensures.steps, c.walk-rows.ensures.steps, long, ap (λ (l : List RecordValue). length l) all);
     }
 
 pub count_until-number-requires : goal.count_until-number-requires
@@ -51,13 +51,13 @@ loop-row-preserved g c =
     let next = rows-next c.args.self.now.options c.args.genome.now c.args.track.now.width c.args.track.now.rows c.args.self.now.entries c.requires.right c.requires.fit (ap (λ (o : Options). o.stranded) c.requires.joined)
     c.loop-row.rows c.next.new.self r (c.loop-row.number + c.count_until-number.result) first number in
     let row : c.as_ref.result ≡ r = c.as_ref.ensures in
-    let sorted : AreInOrder (r ∷ c.next.new.self) = subst (λ (l : List Row). AreInOrder l) first i.ordered in
+    let sorted : AreInOrder (r ∷ c.next.new.self) = subst (λ (l : List RecordValue). AreInOrder l) first i.ordered in
     record {
       put = Underway-more _ _ _ _ _ _ (rw next at i.put) (rw row at c.in_ok-put_numbered.ensures);
       ordered = sorted.1;
       passed = IsPassed-next c.loop-row.number c.count_until-number.result _ c.loop-row.ahead c.count_until-number.new.ahead c.loop-row.rows c.next.new.self r i.passed first counted past i.ordered;
       no_less = omega (arith, i.no_less, c.in-Some.ensures.steps, c.count_until-number.ensures.steps);
-      at_most = omega (arith, i.at_most, c.in-Some.ensures.steps, c.count_until-number.ensures.steps, ap (λ (l : List Row). length l) first);
+      at_most = omega (arith, i.at_most, c.in-Some.ensures.steps, c.count_until-number.ensures.steps, ap (λ (l : List RecordValue). length l) first);
     }
 
 pub returns-in_err-put_numbered-clause-text : goal.returns-in_err-put_numbered-clause-text
@@ -79,7 +79,7 @@ returns-in_err-put_numbered-clause-steps g c =
     let a = c.args in
     let i = c.loop-row.invariant in
     let count = count-is a.self.now.options a.genome.now a.track.now.width a.track.now.rows a.self.now.entries c.requires.right c.requires.fit in
-    let first = ap (λ (l : List Row). length l) c.in-Some.ensures.row in
+    let first = ap (λ (l : List RecordValue). length l) c.in-Some.ensures.row in
     record {
       no_less = omega (arith, i.no_less, c.in-Some.ensures.steps, c.count_until-number.ensures.steps);
       at_most = omega (arith, i.at_most, c.in-Some.ensures.steps, c.count_until-number.ensures.steps, first, count);

@@ -2,7 +2,7 @@ use Rattle.std.proofs.Common.{◌+◌, ◌≤◌, length, map}
 use Rattle.std.specs.List.{flat_map}
 use Rattle.iv_bytes.proofs.Putting.{Underway}
 use Rattle.iv_text.specs.Ordered.{AreInOrder}
-use Rattle.iv_blocks.specs.BlockCursor.{interval_of}
+use Rattle.iv_blocks.specs.Inside.BlockCursor.{interval_of}
 use Rattle.iv_blocks.specs.ClusterRows.{cluster_row, cluster_text}
 use Rattle.iv_blocks.proofs.ClusterLemmas.{IsPassed}
 use Rattle.iv_blocks.proofs.blocks.Blocks.print_cluster.Given as goal

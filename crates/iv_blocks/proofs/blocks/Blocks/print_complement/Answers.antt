@@ -2,7 +2,7 @@ use Rattle.std.proofs.Common.{◌≡◌, ◌∙◌, ap, arith, length, not, List
 use Rattle.std.proofs.lemmas.List.{length-map}
 use Rattle.iv_text.specs.Genome.{seq_count}
 use Rattle.iv_cover.specs.declared.block.Block.{Block}
-use Rattle.iv_blocks.specs.BlockCursor.{interval_of, texts}
+use Rattle.iv_blocks.specs.Inside.BlockCursor.{interval_of, texts}
 use Rattle.iv_blocks.specs.declared.options.Options.{Options}
 use Rattle.iv_blocks.proofs.ComplementLemmas.{gaps-are}
 use Rattle.iv_blocks.proofs.MergeLemmas.{count-is}

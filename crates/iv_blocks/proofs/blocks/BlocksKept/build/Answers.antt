@@ -3,14 +3,14 @@ use Rattle.std.specs.Prelude.{All}
 use Rattle.iv_text.specs.Named.{names_of}
 use Rattle.iv_text.specs.Ordered.{AreInOrder}
 use Rattle.iv_text.specs.Read.{IsOnGenome}
-use Rattle.iv_text.specs.Row.{Row}
+use Rattle.iv_text.specs.RecordValue.{RecordValue}
 use Rattle.iv_cover.specs.TrackBlocks.{blocks_of}
 use Rattle.iv_cover.proofs.Merging.{merge-all}
 use Rattle.iv_track.specs.Entries.{IsLedger, value_at}
 use Rattle.iv_track.proofs.WalkLemmas.{filter-from_first}
 use Rattle.iv_blocks.specs.KeptBlocks.{AreBlocksOf, Entries, key_cmp}
 use Rattle.iv_blocks.specs.Groups.{listed}
-use Rattle.iv_blocks.specs.Plain.{kept_entry, plain_entry}
+use Rattle.iv_blocks.specs.Inside.Plain.{kept_entry, plain_entry}
 use Rattle.iv_blocks.specs.PlainOptions.{IsPlain}
 use Rattle.iv_blocks.specs.declared.options.Options.{Options}
 use Rattle.iv_blocks.proofs.Builds.{built-none, built-next, built-all}
@@ -29,7 +29,7 @@ from_entries-requires-clause-ascend g c es run =
     let s = c.args.genome.now in
     let rows = c.args.track.now.rows in
     let all = c.walk.ensures.rows ∙ filter-from_first rows in
-    let lie = subst (λ (l : List Row). All (IsOnGenome s) l) (sym all) (all-lie s c.args.track.now.width rows c.requires.fit) in
+    let lie = subst (λ (l : List RecordValue). All (IsOnGenome s) l) (sym all) (all-lie s c.args.track.now.width rows c.requires.fit) in
     let left : c.of.result ≡ blocks_of c.args.options.distance s rows = c.of.ensures ∙ c.of-sweep.ensures s lie ∙ ap (blocks_of c.args.options.distance s) all in
     subst (IsLedger key_cmp) (sym (drained c.of.result es run ∙ ap (map plain_entry) left))
     (plain-ordered c.args.options s c.args.track.now.width rows c.requires.fit plain.together plain.nothing)
@@ -41,7 +41,7 @@ returns-then-is_plain-clause-right g c =
     let rows = c.args.track.now.rows in
     let e = c.in_ok-from_entries.ensures in
     let all = c.walk.ensures.rows ∙ filter-from_first rows in
-    let lie = subst (λ (l : List Row). All (IsOnGenome s) l) (sym all) (all-lie s c.args.track.now.width rows c.requires.fit) in
+    let lie = subst (λ (l : List RecordValue). All (IsOnGenome s) l) (sym all) (all-lie s c.args.track.now.width rows c.requires.fit) in
     let left : c.of.result ≡ blocks_of c.args.options.distance s rows = c.of.ensures ∙ c.of-sweep.ensures s lie ∙ ap (blocks_of c.args.options.distance s) all in
     record {
       ordered = e.ordered;
@@ -84,13 +84,13 @@ returns-then-not-options-clause-right g c =
 pub loop-rank-init : goal.loop-rank-init
 loop-rank-init g c = built-none c.args.genome.now c.args.track.now.rows (record { options = c.args.options; entries = c.new.result }) c.new.ensures
 
-pub put_sequence-requires-clause-apart : goal.put_sequence-requires-clause-apart
-put_sequence-requires-clause-apart g c = ap (λ (o : Options). o.stranded) c.loop-rank.invariant.for_options ∙ c.if-not-options.false
+pub insert_sequence-requires-clause-apart : goal.insert_sequence-requires-clause-apart
+insert_sequence-requires-clause-apart g c = ap (λ (o : Options). o.stranded) c.loop-rank.invariant.for_options ∙ c.if-not-options.false
 
 pub loop-rank-preserved : goal.loop-rank-preserved
 loop-rank-preserved g c =
     let a = c.args in
-    built-next a.genome.now a.track.now.width a.track.now.rows c.requires.fit a.options c.loop-rank.rank c.loop-rank.blocks c.put_sequence.new.self c.loop-rank.invariant c.in_ok-put_sequence.ensures
+    built-next a.genome.now a.track.now.width a.track.now.rows c.requires.fit a.options c.loop-rank.rank c.loop-rank.blocks c.insert_sequence.new.self c.loop-rank.invariant c.in_ok-insert_sequence.ensures
 
 pub returns-clause-right : goal.returns-clause-right
 returns-clause-right g c =

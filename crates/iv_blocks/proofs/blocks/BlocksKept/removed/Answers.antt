@@ -3,10 +3,10 @@ use Rattle.std.proofs.lemmas.Result.{on_ok_weaker}
 use Rattle.iv_text.specs.Named.{names_of}
 use Rattle.iv_text.specs.Ordered.{added}
 use Rattle.iv_blocks.specs.KeptBlocks.{AreBlocksOf, KeptBlocks}
-use Rattle.iv_blocks.specs.Groups.{between}
-use Rattle.iv_blocks.specs.Lookups.{kept_in, IsLastBlock}
-use Rattle.iv_blocks.specs.Putting.{ArePut}
-use Rattle.iv_blocks.specs.Repairs.{without_block}
+use Rattle.iv_blocks.specs.Inside.Groups.{between}
+use Rattle.iv_blocks.specs.Inside.Lookups.{kept_in, IsLastBlock}
+use Rattle.iv_blocks.specs.Inside.Insertion.{AreInserted}
+use Rattle.iv_blocks.specs.Inside.Repairs.{without_block}
 use Rattle.iv_blocks.specs.declared.options.Options.{Options}
 use Rattle.iv_blocks.proofs.GroupRepairLemmas.{IsEdit, edit-removed, beside-removed, removed-found, removed-stops, removed-takes, removed-all}
 use Rattle.iv_blocks.proofs.blocks.BlocksKept.removed.Given.{Over}
@@ -24,26 +24,26 @@ unreachable-requires g c =
     let edit = edit-removed a.self.now.options c.self.inside.options c.in-Some.group a.row.now a.track.now.rows a.genome.now a.track.now.width
     (ap (λ (b : KeptBlocks). b.options) c.self.view_is) c.in-Some.ensures c.requires.fit c.requires.fits in
     removed-found a.self.now.options (names_of a.genome.now) c.in-Some.group a.row.now a.track.now.rows (added a.track.now.rows a.row.now) edit a.self.now c.requires.right
-    (λ x within. c.in_default-before.ensures.found x (subst (λ (p : ℕ × ℕ). x ≤ p.0) (sym c.place-start.ensures) within))
+    (λ x within. c.in_default-before.ensures.found x (subst (λ (p : ℕ × ℕ). x ≤ p.0) (sym c.bounds_of-start.ensures) within))
 
 -- what is known once the block is found
-edit : (g : Over) (c : goal.After-put_blocks-arg-2-1 g) → IsEdit c.args.self.now.options c.in-Some.group c.args.row.now c.args.track.now.rows (added c.args.track.now.rows c.args.row.now)
+edit : (g : Over) (c : goal.After-insert_blocks-arg-2-1 g) → IsEdit c.args.self.now.options c.in-Some.group c.args.row.now c.args.track.now.rows (added c.args.track.now.rows c.args.row.now)
 edit g c =
     let a = c.args in
     edit-removed a.self.now.options c.self.inside.options c.in-Some.group a.row.now a.track.now.rows a.genome.now a.track.now.width
     (ap (λ (b : KeptBlocks). b.options) c.self.view_is) c.in-Some.ensures c.requires.fit c.requires.fits
 
-last : (g : Over) (c : goal.After-put_blocks-arg-2-1 g) → IsLastBlock (kept_in c.args.self.now.entries c.in-Some.group) c.args.row.now.start (c.in-Some-before.start, c.in-Some-before.stop)
+last : (g : Over) (c : goal.After-insert_blocks-arg-2-1 g) → IsLastBlock (kept_in c.args.self.now.entries c.in-Some.group) c.args.row.now.start (c.in-Some-before.start, c.in-Some-before.stop)
 last g c =
-    subst (λ (p : ℕ × ℕ). IsLastBlock (kept_in c.args.self.now.entries c.in-Some.group) p.0 (c.in-Some-before.start, c.in-Some-before.stop)) c.place-start.ensures c.in-Some-before.ensures.found
+    subst (λ (p : ℕ × ℕ). IsLastBlock (kept_in c.args.self.now.entries c.in-Some.group) p.0 (c.in-Some-before.start, c.in-Some-before.stop)) c.bounds_of-start.ensures c.in-Some-before.ensures.found
 
-pub put_blocks-requires-clause-apart : goal.put_blocks-requires-clause-apart
-put_blocks-requires-clause-apart g c =
+pub insert_blocks-requires-clause-apart : goal.insert_blocks-requires-clause-apart
+insert_blocks-requires-clause-apart g c =
     let is : IsEdit c.args.self.now.options c.in-Some.group c.args.row.now c.args.track.now.rows (added c.args.track.now.rows c.args.row.now) = edit g c in
     is.apart ∙ sym (ap (λ (b : KeptBlocks). b.options.stranded) c.take.ensures.taken)
 
-pub put_blocks-requires-clause-stops : goal.put_blocks-requires-clause-stops
-put_blocks-requires-clause-stops g c =
+pub insert_blocks-requires-clause-stops : goal.insert_blocks-requires-clause-stops
+insert_blocks-requires-clause-stops g c =
     let a = c.args in
     removed-stops a.self.now.options (names_of a.genome.now) c.in-Some.group a.row.now a.track.now.rows (added a.track.now.rows a.row.now) (edit g c) a.self.now c.requires.right
     (c.in-Some-before.start, c.in-Some-before.stop) (last g c)
@@ -51,23 +51,23 @@ put_blocks-requires-clause-stops g c =
 pub returns-clause-right : goal.returns-clause-right
 returns-clause-right g c =
     let a = c.args in
-    on_ok_weaker c.put_blocks.result
-    (λ (put : ArePut c.in-Some.group (names_of a.genome.now) (between c.in-Some-before.start c.in-Some-before.stop a.track.now.rows) (without_block a.self.now c.in-Some.group c.in-Some-before.start) c.put_blocks.new.self).
-    subst (λ (o : Options). AreBlocksOf o (names_of a.genome.now) a.track.now.rows c.put_blocks.new.self.entries) (sym put.options)
+    on_ok_weaker c.insert_blocks.result
+    (λ (put : AreInserted c.in-Some.group (names_of a.genome.now) (between c.in-Some-before.start c.in-Some-before.stop a.track.now.rows) (without_block a.self.now c.in-Some.group c.in-Some-before.start) c.insert_blocks.new.self).
+    subst (λ (o : Options). AreBlocksOf o (names_of a.genome.now) a.track.now.rows c.insert_blocks.new.self.entries) (sym put.options)
     (removed-all a.self.now.options (names_of a.genome.now) c.in-Some.group a.row.now a.track.now.rows (added a.track.now.rows a.row.now) (edit g c.before) a.self.now c.requires.right
-    (c.in-Some-before.start, c.in-Some-before.stop) (last g c.before) c.put_blocks.new.self refl put))
-    (rw c.take.ensures.taken at c.put_blocks.ensures.ok)
+    (c.in-Some-before.start, c.in-Some-before.stop) (last g c.before) c.insert_blocks.new.self refl put))
+    (rw c.take.ensures.taken at c.insert_blocks.ensures.ok)
 
 pub returns-clause-built_for : goal.returns-clause-built_for
 returns-clause-built_for g c =
-    on_ok_weaker c.put_blocks.result
-    (λ (put : ArePut c.in-Some.group (names_of c.args.genome.now) (between c.in-Some-before.start c.in-Some-before.stop c.args.track.now.rows) (without_block c.args.self.now c.in-Some.group c.in-Some-before.start) c.put_blocks.new.self).
+    on_ok_weaker c.insert_blocks.result
+    (λ (put : AreInserted c.in-Some.group (names_of c.args.genome.now) (between c.in-Some-before.start c.in-Some-before.stop c.args.track.now.rows) (without_block c.args.self.now c.in-Some.group c.in-Some-before.start) c.insert_blocks.new.self).
     put.options)
-    (rw c.take.ensures.taken at c.put_blocks.ensures.ok)
+    (rw c.take.ensures.taken at c.insert_blocks.ensures.ok)
 
 pub returns-clause-steps : goal.returns-clause-steps
 returns-clause-steps g c =
     let a = c.args in
     removed-takes a.self.now.options (names_of a.genome.now) c.in-Some.group a.row.now a.track.now.rows (added a.track.now.rows a.row.now) (edit g c.before) a.self.now c.requires.right
-    (c.in-Some-before.start, c.in-Some-before.stop) (last g c.before) a.meter.now c.before-2.new.meter c.take.new.meter c.put_blocks.new.meter refl
-    c.before-2.ensures.steps c.take.ensures.steps c.put_blocks.ensures.steps
+    (c.in-Some-before.start, c.in-Some-before.stop) (last g c.before) a.meter.now c.before-2.new.meter c.take.new.meter c.insert_blocks.new.meter refl
+    c.before-2.ensures.steps c.take.ensures.steps c.insert_blocks.ensures.steps

@@ -1,7 +1,7 @@
 use Rattle.std.proofs.Common.{◌≡◌, ◌+◌, ◌<◌, ◌≤◌, ◌⊎◌, inl, inr, List, [], ◌∷◌, length, ap, sym, subst, ◌∙◌, arith}
-use Rattle.iv_text.specs.Row.{Row}
-use Rattle.iv_blocks.specs.MembersLeft.{MembersLeft, IsAhead}
-use Rattle.iv_blocks.specs.Groups.{between_on, members_between}
+use Rattle.iv_text.specs.RecordValue.{RecordValue}
+use Rattle.iv_blocks.specs.Inside.MembersLeft.{MembersLeft, IsAhead}
+use Rattle.iv_blocks.specs.Inside.Groups.{between_on, members_between}
 use Rattle.iv_blocks.proofs.MembersLemmas.{ahead-rest, past-members, past-records, rest-none, here-records, here-member, other-member}
 use Rattle.iv_blocks.proofs.group.Members.next.Given.{Over}
 use Rattle.iv_blocks.proofs.group.Members.next.Goals as goal
@@ -25,7 +25,7 @@ past g c = elim c.then-seq-self.branch [
 pub invariant_of-self : goal.invariant_of-self
 invariant_of-self g c =
     let m = c.loop-row.self-inside in
-    ahead-rest m.group.rank c.in-Some.row.now c.next.new.self (subst (λ (l : List Row). IsAhead m.group.rank l) c.in-Some.ensures.row c.loop-row.invariant.ahead)
+    ahead-rest m.group.rank c.in-Some.row.now c.next.new.self (subst (λ (l : List RecordValue). IsAhead m.group.rank l) c.in-Some.ensures.row c.loop-row.invariant.ahead)
 
 pub returns-then-seq-self-clause-member : goal.returns-then-seq-self-clause-member
 returns-then-seq-self-clause-member g c =
@@ -33,7 +33,7 @@ returns-then-seq-self-clause-member g c =
     let m = c.loop-row.self-inside in
     let r = c.in-Some.row.now in
     let rest = c.next.new.self in
-    let ahead : IsAhead m.group.rank (r ∷ rest) = subst (λ (l : List Row). IsAhead m.group.rank l) c.in-Some.ensures.row i.ahead in
+    let ahead : IsAhead m.group.rank (r ∷ rest) = subst (λ (l : List RecordValue). IsAhead m.group.rank l) c.in-Some.ensures.row i.ahead in
     let none : members_between m.group 0 m.to (r ∷ rest) ≡ [] = past-members m.group m.to r rest ahead (past g c) in
     (sym i.members ∙ ap (members_between m.group 0 m.to) c.in-Some.ensures.row ∙ none, rest-none _ r rest none)
 
@@ -43,7 +43,7 @@ returns-then-seq-self-clause-steps g c =
     let m = c.loop-row.self-inside in
     let r = c.in-Some.row.now in
     let rest = c.next.new.self in
-    let ahead : IsAhead m.group.rank (r ∷ rest) = subst (λ (l : List Row). IsAhead m.group.rank l) c.in-Some.ensures.row i.ahead in
+    let ahead : IsAhead m.group.rank (r ∷ rest) = subst (λ (l : List RecordValue). IsAhead m.group.rank l) c.in-Some.ensures.row i.ahead in
     let none : length (between_on m.group.rank 0 m.to rest) ≡ 0 = ap length (rest-none _ r rest (past-records m.group.rank m.to r rest ahead (past g c))) in
     record {
       no_less = omega (arith, i.no_less, c.in-Some.ensures.steps.no_less);
@@ -53,7 +53,7 @@ returns-then-seq-self-clause-steps g c =
 pub invariant_of-self-then-has : goal.invariant_of-self-then-has
 invariant_of-self-then-has g c =
     let m = c.loop-row.self-inside in
-    ahead-rest m.group.rank c.in-Some.row.now c.next.new.self (subst (λ (l : List Row). IsAhead m.group.rank l) c.in-Some.ensures.row c.loop-row.invariant.ahead)
+    ahead-rest m.group.rank c.in-Some.row.now c.next.new.self (subst (λ (l : List RecordValue). IsAhead m.group.rank l) c.in-Some.ensures.row c.loop-row.invariant.ahead)
 
 pub returns-then-has-clause-member : goal.returns-then-has-clause-member
 returns-then-has-clause-member g c =
@@ -72,7 +72,7 @@ returns-then-has-clause-steps g c =
     let rest = c.next.new.self in
     let below : r.start < m.to = omega (arith, c.if-start-from.false, c.start.ensures, c.from.ensures) in
     let passed : length (between_on m.group.rank 0 m.to (r ∷ rest)) ≡ length (between_on m.group.rank 0 m.to rest) + 1 = here-records m.group.rank m.to r rest (sym c.seq.ensures ∙ c.if-seq-self.false) below in
-    let before : length (between_on m.group.rank 0 m.to m.rows) ≡ length (between_on m.group.rank 0 m.to (r ∷ rest)) = ap (λ (l : List Row). length (between_on m.group.rank 0 m.to l)) c.in-Some.ensures.row in
+    let before : length (between_on m.group.rank 0 m.to m.rows) ≡ length (between_on m.group.rank 0 m.to (r ∷ rest)) = ap (λ (l : List RecordValue). length (between_on m.group.rank 0 m.to l)) c.in-Some.ensures.row in
     record {
       no_less = omega (arith, i.no_less, c.in-Some.ensures.steps.no_less);
       at_most = omega (arith, i.paid, c.in-Some.ensures.steps.at_most, passed, before);
@@ -89,9 +89,9 @@ loop-row-preserved g c =
     let rest = c.next.new.self in
     let below : r.start < m.to = omega (arith, c.if-start-from.false, c.start.ensures, c.from.ensures) in
     let passed : length (between_on m.group.rank 0 m.to (r ∷ rest)) ≡ length (between_on m.group.rank 0 m.to rest) + 1 = here-records m.group.rank m.to r rest (sym c.seq.ensures ∙ c.if-seq-self.false) below in
-    let before : length (between_on m.group.rank 0 m.to m.rows) ≡ length (between_on m.group.rank 0 m.to (r ∷ rest)) = ap (λ (l : List Row). length (between_on m.group.rank 0 m.to l)) c.in-Some.ensures.row in
+    let before : length (between_on m.group.rank 0 m.to m.rows) ≡ length (between_on m.group.rank 0 m.to (r ∷ rest)) = ap (λ (l : List RecordValue). length (between_on m.group.rank 0 m.to l)) c.in-Some.ensures.row in
     record {
-      ahead = ahead-rest m.group.rank r rest (subst (λ (l : List Row). IsAhead m.group.rank l) c.in-Some.ensures.row i.ahead);
+      ahead = ahead-rest m.group.rank r rest (subst (λ (l : List RecordValue). IsAhead m.group.rank l) c.in-Some.ensures.row i.ahead);
       members = sym (other-member m.group m.to r rest (sym c.has.ensures ∙ c.if-has.false)) ∙ sym (ap (members_between m.group 0 m.to) c.in-Some.ensures.row) ∙ i.members;
       no_less = omega (arith, i.no_less, c.in-Some.ensures.steps.no_less);
       paid = omega (arith, i.paid, c.in-Some.ensures.steps.at_most, passed, before);
@@ -107,7 +107,7 @@ pub returns-clause-steps : goal.returns-clause-steps
 returns-clause-steps g c =
     let i = c.loop-row.invariant in
     let m = c.loop-row.self-inside in
-    let none : length (between_on m.group.rank 0 m.to c.next.new.self) ≡ 0 = ap (λ (l : List Row). length (between_on m.group.rank 0 m.to l)) c.in_default.ensures.row.1 in
+    let none : length (between_on m.group.rank 0 m.to c.next.new.self) ≡ 0 = ap (λ (l : List RecordValue). length (between_on m.group.rank 0 m.to l)) c.in_default.ensures.row.1 in
     record {
       no_less = omega (arith, i.no_less, c.in_default.ensures.steps.no_less);
       at_most = omega (arith, i.paid, c.in_default.ensures.steps.at_most, none);

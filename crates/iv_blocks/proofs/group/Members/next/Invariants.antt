@@ -1,6 +1,6 @@
 use Rattle.std.proofs.Common.{◌≡◌, ◌+◌, ◌≤◌, length}
-use Rattle.iv_blocks.specs.Groups.{between_on, members_between}
-use Rattle.iv_blocks.specs.MembersLeft.{IsAhead}
+use Rattle.iv_blocks.specs.Inside.Groups.{between_on, members_between}
+use Rattle.iv_blocks.specs.Inside.MembersLeft.{IsAhead}
 use Rattle.iv_blocks.proofs.group.Members.next.Given as goal
 
 -- the same members are left, and each record that was passed has paid for its step

@@ -1,13 +1,13 @@
 use Rattle.std.proofs.Common.{List, inl, inr, ap, sym, subst, ◌∙◌, ℕ}
-use Rattle.iv_text.specs.Row.{Row}
-use Rattle.iv_blocks.specs.MembersLeft.{IsAhead}
+use Rattle.iv_text.specs.RecordValue.{RecordValue}
+use Rattle.iv_blocks.specs.Inside.MembersLeft.{IsAhead}
 use Rattle.iv_blocks.proofs.MembersLemmas.{ahead-walked, coming-walked}
 use Rattle.iv_blocks.proofs.group.Members.of.Goals as goal
 use Rattle.iv_blocks.proofs.group.Members.of.Goals.{then-from-to, else-from-to}
 
 pub invariant_of-result : goal.invariant_of-result
 invariant_of-result g c =
-    subst (λ (l : List Row). IsAhead c.args.group.rank l) (sym c.walk.ensures.rows) (ahead-walked c.args.group.rank c.from.result c.args.track.now.rows c.walk.ensures.ordered)
+    subst (λ (l : List RecordValue). IsAhead c.args.group.rank l) (sym c.walk.ensures.rows) (ahead-walked c.args.group.rank c.from.result c.args.track.now.rows c.walk.ensures.ordered)
 
 pub returns-clause-members : goal.returns-clause-members
 returns-clause-members g c =

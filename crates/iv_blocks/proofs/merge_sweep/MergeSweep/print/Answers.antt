@@ -2,7 +2,7 @@ use Rattle.std.proofs.Common.{◌≡◌, ◌≤◌, ◌<◌, ◌-◌, ◌==◌, 
 use Rattle.iv_bytes.proofs.Putting.{Underway-begin, Puts-err}
 use Rattle.iv_text.specs.Genome.{seq_count}
 use Rattle.iv_text.specs.Ordered.{AreInOrder}
-use Rattle.iv_text.specs.Row.{Row}
+use Rattle.iv_text.specs.RecordValue.{RecordValue}
 use Rattle.iv_text.specs.Covering.{on}
 use Rattle.iv_blocks.specs.Groups.{listed}
 use Rattle.iv_blocks.specs.declared.options.Options.{Options}
@@ -17,13 +17,13 @@ use Rattle.iv_blocks.proofs.merge_sweep.MergeSweep.print.Goals as goal
 pub loop-rank-init : goal.loop-rank-init
 loop-rank-init g c =
     let n : seq_count c.args.genome.now - 0 ≡ seq_count c.args.genome.now = omega arith in
-    let records : c.self.inside.records ≡ c.args.self.now.1 = ap (λ (p : Options × List Row). p.1) c.self.view_is in
+    let records : c.self.inside.records ≡ c.args.self.now.1 = ap (λ (p : Options × List RecordValue). p.1) c.self.view_is in
     record {
       put = rw n (Underway-begin _ _);
       left_is = c.again-left.ensures ∙ records ∙ sym (all-from c.args.self.now.1);
-      options_are = ap (λ (p : Options × List Row). p.0) c.self.view_is;
+      options_are = ap (λ (p : Options × List RecordValue). p.0) c.self.view_is;
       records_are = records;
-      room = subst (λ (p : Options × List Row). HasRoom (vec_capacity c.self.inside.values) (length p.1) (listed p.0.summaries)) c.self.view_is c.self.invariant;
+      room = subst (λ (p : Options × List RecordValue). HasRoom (vec_capacity c.self.inside.values) (length p.1) (listed p.0.summaries)) c.self.view_is c.self.invariant;
     }
 
 pub split_sequence-here-requires-clause-order : goal.split_sequence-here-requires-clause-order
@@ -32,7 +32,7 @@ split_sequence-here-requires-clause-order g c =
 
 pub split_sequence-here-requires-clause-from : goal.split_sequence-here-requires-clause-from
 split_sequence-here-requires-clause-from g c =
-    subst (λ (l : List Row). All (λ r. c.loop-rank.rank ≤ r.seq) l) (sym c.loop-rank.invariant.left_is) (from-in c.loop-rank.rank c.args.self.now.1)
+    subst (λ (l : List RecordValue). All (λ r. c.loop-rank.rank ≤ r.seq) l) (sym c.loop-rank.invariant.left_is) (from-in c.loop-rank.rank c.args.self.now.1)
 
 pub put_sequence-requires : goal.put_sequence-requires
 put_sequence-requires g c =
@@ -41,7 +41,7 @@ put_sequence-requires g c =
     let rank = c.loop-rank.rank in
     let room : ℕ = vec_capacity c.loop-rank.self-inside.values in
     let here : c.split_sequence-here.result.0 ≡ on rank rows = c.split_sequence-here.ensures.here ∙ ap (on rank) i.left_is ∙ from-here rank rows in
-    let fewer : length c.split_sequence-here.result.0 ≤ length rows = omega (arith, ap (λ (l : List Row). length l) here, few (λ (r : Row). r.seq == rank) rows) in
+    let fewer : length c.split_sequence-here.result.0 ≤ length rows = omega (arith, ap (λ (l : List RecordValue). length l) here, few (λ (r : RecordValue). r.seq == rank) rows) in
     record {
       room = room-more room room (length rows) (length c.split_sequence-here.result.0) (listed c.loop-rank.self-inside.options.summaries) (omega arith) fewer
           (subst (λ (o : Options). HasRoom room (length rows) (listed o.summaries)) (sym i.options_are) i.room);
@@ -70,7 +70,7 @@ loop-rank-preserved g c =
     let next = rows-next c.args.self.now.0 genome rows c.requires.order c.requires.on_genome c.loop-rank.self-inside.options c.name_of-name.result.now c.split_sequence-here.result.0 rank low i.options_are c.name_of-name.ensures here in
     record {
       put = Underway-step _ _ _ _ _ _ _ next i.put c.in_ok-put_sequence.ensures.text;
-      left_is = c.split_sequence-here.ensures.later ∙ ap (λ (l : List Row). filter (λ r. nat_lt rank r.seq) l) i.left_is ∙ from-later rank rows;
+      left_is = c.split_sequence-here.ensures.later ∙ ap (λ (l : List RecordValue). filter (λ r. nat_lt rank r.seq) l) i.left_is ∙ from-later rank rows;
       options_are = i.options_are;
       records_are = i.records_are;
       room = room-more (vec_capacity c.loop-rank.self-inside.values) (vec_capacity c.put_sequence.new.values) (length rows) (length rows) (listed c.args.self.now.0.summaries) c.in_ok-put_sequence.ensures.room (omega arith) i.room;

@@ -1,5 +1,5 @@
 use Rattle.std.proofs.Common.{◌≡◌, filter, length}
-use Rattle.iv_blocks.specs.Groups.{is_on}
+use Rattle.iv_blocks.specs.Inside.Groups.{is_on}
 use Rattle.iv_blocks.proofs.side_blocks.SideRecordsIterator.next.Given as goal
 
 -- those on the side among the records left are all that were left

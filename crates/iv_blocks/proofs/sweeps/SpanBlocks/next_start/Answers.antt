@@ -1,8 +1,8 @@
 use Rattle.std.proofs.Common.{◌∙◌, List, None, map, sym, ap}
-use Rattle.iv_cover.specs.Coming.{coming}
-use Rattle.iv_index.specs.Spans.{row_of_span, span_rows}
+use Rattle.iv_cover.specs.Inside.Coming.{coming}
+use Rattle.iv_index.specs.Inside.Spans.{row_of_span, span_rows}
 use Rattle.iv_index.specs.declared.span.Span.{Span}
-use Rattle.iv_blocks.specs.BlockSweeps.{interval_of, next_start}
+use Rattle.iv_blocks.specs.Inside.BlockSweeps.{interval_of, next_start}
 use Rattle.iv_blocks.proofs.ComplementTexts.{coming-start}
 use Rattle.iv_blocks.proofs.sweeps.SpanBlocks.next_start.Goals as goal
 

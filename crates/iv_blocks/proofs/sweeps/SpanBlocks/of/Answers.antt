@@ -1,7 +1,7 @@
 use Rattle.std.proofs.Common.{map, ap}
 use Rattle.iv_cover.proofs.Merging.{merge-all}
-use Rattle.iv_index.specs.Spans.{span_rows}
-use Rattle.iv_blocks.specs.BlockSweeps.{interval_of}
+use Rattle.iv_index.specs.Inside.Spans.{span_rows}
+use Rattle.iv_blocks.specs.Inside.BlockSweeps.{interval_of}
 use Rattle.iv_blocks.proofs.sweeps.SpanBlocks.of.Goals as goal
 
 pub returns : goal.returns

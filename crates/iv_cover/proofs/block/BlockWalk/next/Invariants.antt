@@ -1,13 +1,13 @@
 use Rattle.std.proofs.Common.{◌≡◌, List, length, Some, None}
-use Rattle.iv_text.specs.Row.{Row}
+use Rattle.iv_text.specs.RecordValue.{RecordValue}
 use Rattle.iv_cover.specs.TrackBlocks.{with_members}
-use Rattle.iv_cover.specs.Coming.{coming}
+use Rattle.iv_cover.specs.Inside.Coming.{coming}
 use Rattle.iv_cover.proofs.block.BlockWalk.next.Given as goal
 
 -- the block that is open, with some members, and the records that are left
 abbrev pub invariant-loop-record : goal.invariant-loop-record
 invariant-loop-record g l =
-    (members : List Row)
+    (members : List RecordValue)
     × (l.fn.self ≡ coming l.self-inside.distance (Some (with_members l.block members)) l.self-inside.rows)
     × (l.self-inside.ahead ≡ None)
 

@@ -1,5 +1,5 @@
 use Rattle.std.proofs.Common.{◌≡◌, ◌≤◌, ◌+◌, ◌*◌, ◌^◌, None, length}
-use Rattle.iv_cover.specs.NumberFolds.{both_of, size, going}
+use Rattle.iv_cover.specs.Inside.NumberFolds.{both_of, size, going}
 use Rattle.iv_cover.proofs.number.NumberFold.total.Given as goal
 
 -- what is taken, with the values that are left, is what there was

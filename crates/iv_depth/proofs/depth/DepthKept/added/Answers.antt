@@ -1,6 +1,6 @@
 use Rattle.std.proofs.Common.{◌≡◌, List, ◌∷◌, arith}
 use Rattle.std.proofs.lemmas.Result.{on_ok_weaker}
-use Rattle.iv_text.specs.Row.{Row}
+use Rattle.iv_text.specs.RecordValue.{RecordValue}
 use Rattle.iv_depth.specs.Changes.{AreChangesOf}
 use Rattle.iv_depth.proofs.DepthLemmas.{AreChangesOf-placed, AreChanges-without}
 use Rattle.iv_depth.proofs.depth.DepthKept.added.Goals as goal
@@ -17,6 +17,6 @@ returns-clause-right g c =
     let before = c.requires.right in
     let entries : c.self.inside.changes ≡ c.args.self.now = c.self.view_is in
     on_ok_weaker c.add_record.result
-    (λ (step : (rows : List Row) → AreChangesOf rows c.self.inside.changes → AreChangesOf (c.args.row.now ∷ rows) c.add_record.new.changes).
+    (λ (step : (rows : List RecordValue) → AreChangesOf rows c.self.inside.changes → AreChangesOf (c.args.row.now ∷ rows) c.add_record.new.changes).
     rw before.rows_are (AreChangesOf-placed before.others c.args.row.now c.add_record.new.changes (step before.others (rw entries before.right))))
     c.add_record.ensures.ok

@@ -1,4 +1,4 @@
-use Rattle.iv_depth.specs.NetChanges.{AreEdgesOf}
+use Rattle.iv_depth.specs.Inside.NetChanges.{AreEdgesOf}
 use Rattle.iv_depth.proofs.NetChangesLemmas.{edges-rise, edges-changes, given-ledger}
 use Rattle.iv_depth.proofs.depth.DepthKept.build.Goals as goal
 

@@ -3,7 +3,7 @@ use Rattle.std.proofs.lemmas.Bool.{cases_lt}
 use Rattle.std.proofs.lemmas.Int.{ints}
 use Rattle.std.proofs.lemmas.List.{map-id}
 use Rattle.iv_text.specs.Genome.{sequence_length}
-use Rattle.iv_depth.specs.Edges.{PassesEdge}
+use Rattle.iv_depth.specs.Inside.Edges.{PassesEdge}
 use Rattle.iv_depth.proofs.EdgeLemmas.{IsChange-edge, IsAhead-next, IsAhead-still, IsAhead-end, edge-depth}
 use Rattle.iv_depth.proofs.edges.EdgesDepthChanges.next_on.Goals as goal
 

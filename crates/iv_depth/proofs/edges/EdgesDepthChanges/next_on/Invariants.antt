@@ -1,5 +1,5 @@
 use Rattle.std.proofs.Common.{ℕ, ◌+◌, ◌≤◌, length}
-use Rattle.iv_depth.specs.Edges.{IsAhead, starts_of}
+use Rattle.iv_depth.specs.Inside.Edges.{IsAhead, starts_of}
 use Rattle.iv_depth.proofs.edges.EdgesDepthChanges.next_on.Given as goal
 
 -- what is passed left the depth as it was

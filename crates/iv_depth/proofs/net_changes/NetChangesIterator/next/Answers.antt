@@ -1,7 +1,7 @@
 use Rattle.std.proofs.Common.{◌<◌, ◌^◌, length, sym, ap, subst, arith, rules}
 use Rattle.std.proofs.lemmas.Int.{ints}
 use Rattle.std.proofs.lemmas.List.{map-id}
-use Rattle.iv_depth.specs.NetChanges.{Keys, SkipsKeys}
+use Rattle.iv_depth.specs.Inside.NetChanges.{Keys, SkipsKeys}
 use Rattle.iv_depth.proofs.NetChangesLemmas.{of-keys, skips-begin, skips-next, takes-change, fewer-left, nothing-left}
 use Rattle.iv_depth.proofs.net_changes.NetChangesIterator.next.Goals as goal
 

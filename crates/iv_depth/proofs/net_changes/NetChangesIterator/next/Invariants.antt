@@ -1,5 +1,5 @@
 use Rattle.std.proofs.Common.{ℕ, ◌+◌, ◌≤◌, length}
-use Rattle.iv_depth.specs.NetChanges.{RiseFrom, SkipsKeys}
+use Rattle.iv_depth.specs.Inside.NetChanges.{RiseFrom, SkipsKeys}
 use Rattle.iv_depth.proofs.net_changes.NetChangesIterator.next.Given as goal
 
 -- at the keys that were passed there are as many starts as stops

@@ -1,4 +1,4 @@
-use Rattle.iv_fasta.proofs.PlaceLemmas.{part-is}
+use Rattle.iv_fasta.proofs.BaseRangeLemmas.{part-is}
 use Rattle.iv_fasta.proofs.fasta.Fasta.bases.Goals as goal
 
 pub returns : goal.returns

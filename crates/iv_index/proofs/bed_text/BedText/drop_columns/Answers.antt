@@ -1,12 +1,12 @@
 use Rattle.std.proofs.Common.{List, map, ap, ◌∙◌}
-use Rattle.iv_text.specs.Row.{Row}
+use Rattle.iv_text.specs.RecordValue.{RecordValue}
 use Rattle.iv_text.specs.BedFile.{Bed}
-use Rattle.iv_index.specs.Places.{bare}
+use Rattle.iv_index.specs.Locators.{bare}
 use Rattle.iv_index.proofs.BareLemmas.{rows-bare}
 use Rattle.iv_index.proofs.bed_text.BedText.drop_columns.Goals as goal
 
 pub returns : goal.returns
 returns g c =
-    let with_rows : List Row → Bed = λ rows. record { width = 3; rows = rows } in
+    let with_rows : List RecordValue → Bed = λ rows. record { width = 3; rows = rows } in
     let dropped : Bed → Bed = λ b. record { width = 3; rows = map bare b.rows } in
     ap with_rows (rows-bare c.self.inside.width c.self.inside.text.now c.self.inside.places.items) ∙ ap dropped c.self.view_is

@@ -1,11 +1,13 @@
 use Rattle.std.proofs.Common.{All, List, map, sym, ap, subst, ◌≡◌, ◌∙◌}
 use Rattle.iv_text.specs.BedFile.{Bed}
-use Rattle.iv_text.specs.Row.{Row}
+use Rattle.iv_text.specs.RecordValue.{RecordValue}
 use Rattle.iv_text.specs.Ordered.{AreInOrder}
-use Rattle.iv_index.specs.Cover.{AreApart, is_covered}
-use Rattle.iv_index.specs.Joins.{joined}
-use Rattle.iv_index.specs.Places.{HasBase, bare, rows_at}
-use Rattle.iv_index.specs.declared.place.Place.{Place}
+use Rattle.iv_index.specs.Cover.{is_covered}
+use Rattle.iv_index.specs.Inside.Cover.{AreApart}
+use Rattle.iv_index.specs.Inside.Joins.{joined}
+use Rattle.iv_index.specs.Locators.{bare}
+use Rattle.iv_index.specs.Inside.Locators.{HasBase, rows_at}
+use Rattle.iv_index.specs.declared.locator.Locator.{Locator}
 use Rattle.iv_index.proofs.BareLemmas.{rows-bare}
 use Rattle.iv_index.proofs.JoinLemmas.{bases-joined, covered-joined, rows-joined_apart, rows-joined_order, all-bare}
 use Rattle.iv_index.proofs.bed_text.BedText.join.Goals as goal
@@ -14,7 +16,7 @@ pub invariant_of-self : goal.invariant_of-self
 invariant_of-self g c = record {
   low = c.self.invariant.low;
   high = c.self.invariant.high;
-  some = subst (All HasBase) (sym c.join_places.ensures) (bases-joined c.self.inside.places.items c.self.invariant.some);
+  some = subst (All HasBase) (sym c.join_locators.ensures) (bases-joined c.self.inside.places.items c.self.invariant.some);
 }
 
 pub returns : goal.returns
@@ -22,17 +24,17 @@ returns g c =
     let b = c.self.inside in
     let old = b.places.items in
     let text = b.text.now in
-    let new = c.join_places.new.places.items in
+    let new = c.join_locators.new.places.items in
     let order : AreInOrder (rows_at b.width text old) = subst (λ (bed : Bed). AreInOrder bed.rows) (sym c.self.view_is) c.requires in
     let left : c.drop_columns.new.self.rows ≡ map bare (rows_at b.width text new) = ap (λ (bed : Bed). bed.rows) c.drop_columns.ensures in
     let is : c.drop_columns.new.self.rows ≡ rows_at 3 text (joined old) =
-    left ∙ sym (rows-bare b.width text new) ∙ ap (λ (ps : List Place). rows_at 3 text ps) c.join_places.ensures in
+    left ∙ sym (rows-bare b.width text new) ∙ ap (λ (ps : List Locator). rows_at 3 text ps) c.join_locators.ensures in
     record {
       width = ap (λ (bed : Bed). bed.width) c.drop_columns.ensures;
-      bare = subst (λ (rows : List Row). All (λ (r : Row). r ≡ bare r) rows) (sym left) (all-bare (rows_at b.width text new));
+      bare = subst (λ (rows : List RecordValue). All (λ (r : RecordValue). r ≡ bare r) rows) (sym left) (all-bare (rows_at b.width text new));
       order = subst AreInOrder (sym is) (rows-joined_order b.width 3 text old c.self.invariant.some order);
       covered = λ seq p.
-          ap (λ (rows : List Row). is_covered rows seq p) is
+          ap (λ (rows : List RecordValue). is_covered rows seq p) is
           ∙ covered-joined b.width 3 text old order seq p
           ∙ ap (λ (bed : Bed). is_covered bed.rows seq p) c.self.view_is;
       apart = subst AreApart (sym is) (rows-joined_apart b.width 3 text old order);

@@ -1,6 +1,6 @@
 use Rattle.std.proofs.Common.{◌≡◌, ◌∙◌, ℕ, List, unwrap_or, sym, ap, subst, inl, inr}
-use Rattle.iv_text.proofs.KeptLemmas.{handed-on}
-use Rattle.iv_index.specs.declared.place.Place.{Place}
+use Rattle.iv_text.proofs.BedReadingLemmas.{handed-on}
+use Rattle.iv_index.specs.declared.locator.Locator.{Locator}
 use Rattle.iv_index.proofs.ReadingLemmas.{AreRead, text-read, text-refused}
 use Rattle.iv_index.proofs.bed_text.BedText.parse.Given.{Over}
 use Rattle.iv_index.proofs.bed_text.BedText.parse.Goals as goal
@@ -23,7 +23,7 @@ are_read g c =
     let width : c.unwrap_or.result ≡ unwrap_or now.width empty = c.unwrap_or.ensures ∙ ap (λ o. unwrap_or o empty) c.finish-width.ensures.width in
     let items : c.in_ok-places.places.items ≡ now.kept = c.in_ok-places.ensures ∙ c.finish-width.ensures.kept in
     subst (λ (w : ℕ). AreRead genome limit empty text w c.in_ok-places.places.items) (sym width)
-    (subst (λ (ps : List Place). AreRead genome limit empty text (unwrap_or now.width empty) ps) (sym items)
+    (subst (λ (ps : List Locator). AreRead genome limit empty text (unwrap_or now.width empty) ps) (sym items)
     (text-read genome limit empty text c.requires.small c.new-lines.result now c.new-lines.ensures c.in_ok-take_lines.ensures.ok c.requires.width.0 c.requires.width.1))
 
 pub invariant_of-result : goal.invariant_of-result

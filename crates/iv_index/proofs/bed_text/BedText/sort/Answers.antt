@@ -1,15 +1,15 @@
 use Rattle.std.proofs.Common.{sym, subst, ◌∙◌, ap, List, rules}
 use Rattle.std.proofs.lemmas.List.Sorted.{All-permutation, IsPermutation-refl, IsPermutation-trans}
-use Rattle.iv_text.specs.Row.{Row}
+use Rattle.iv_text.specs.RecordValue.{RecordValue}
 use Rattle.iv_text.specs.Ordered.{ordered}
 use Rattle.iv_text.specs.BedFile.{Bed}
-use Rattle.iv_index.specs.Drafts.{AreInOrder}
-use Rattle.iv_index.specs.Places.{HasBase, row_at}
-use Rattle.iv_index.specs.declared.place.Place.{Place}
+use Rattle.iv_index.specs.Inside.Drafts.{AreInOrder}
+use Rattle.iv_index.specs.Inside.Locators.{HasBase, row_at}
+use Rattle.iv_index.specs.declared.locator.Locator.{Locator}
 use Rattle.iv_index.proofs.OrderLemmas.{sorted-rows, sorted-by-rows}
 use Rattle.iv_index.proofs.bed_text.BedText.sort.Goals as goal
 
-none : Place
+none : Locator
 none = record { span = record { seq = 0; start = 0; stop = 0 }; line = 0 }
 
 pub invariant_of-self : goal.invariant_of-self
@@ -18,13 +18,13 @@ invariant_of-self g c =
     record {
       low = s.low;
       high = s.high;
-      some = All-permutation HasBase c.self.inside.places.items c.order_places.new.places.items c.order_places.ensures s.some;
+      some = All-permutation HasBase c.self.inside.places.items c.order_locators.new.places.items c.order_locators.ensures s.some;
     }
 
 pub invariant_of-self-2 : goal.invariant_of-self-2
 invariant_of-self-2 g c =
     let s = c.self.invariant in
-    let moved = IsPermutation-trans c.self.inside.places.items c.order_places.new.places.items c.sort_unstable_by.new.self.items c.order_places.ensures c.sort_unstable_by.ensures.permutation in
+    let moved = IsPermutation-trans c.self.inside.places.items c.order_locators.new.places.items c.sort_unstable_by.new.self.items c.order_locators.ensures c.sort_unstable_by.ensures.permutation in
     record {
       low = s.low;
       high = s.high;
@@ -37,7 +37,7 @@ returns-then-are_in_order g c =
     let text = c.self.inside.text.now in
     let places = c.self.inside.places.items in
     let up : AreInOrder w text places = subst (AreInOrder w text) c.deref.ensures.value (c.are_in_order.ensures.0 c.if-are_in_order.true) in
-    let with_rows : List Row → Bed = λ rows. record { width = w; rows = rows } in
+    let with_rows : List RecordValue → Bed = λ rows. record { width = w; rows = rows } in
     let in_order : Bed → Bed = λ b. record { width = b.width; rows = ordered b.rows } in
     sym c.self.view_is ∙ ap with_rows (sorted-rows (row_at w text) none places places (IsPermutation-refl places) up) ∙ ap in_order c.self.view_is
 
@@ -45,8 +45,8 @@ pub returns : goal.returns
 returns g c =
     let w = c.self.inside.width in
     let text = c.self.inside.text.now in
-    let moved = IsPermutation-trans c.self.inside.places.items c.order_places.new.places.items c.sort_unstable_by.new.self.items c.order_places.ensures c.sort_unstable_by.ensures.permutation in
-    let with_rows : List Row → Bed = λ rows. record { width = w; rows = rows } in
+    let moved = IsPermutation-trans c.self.inside.places.items c.order_locators.new.places.items c.sort_unstable_by.new.self.items c.order_locators.ensures c.sort_unstable_by.ensures.permutation in
+    let with_rows : List RecordValue → Bed = λ rows. record { width = w; rows = rows } in
     let in_order : Bed → Bed = λ b. record { width = b.width; rows = ordered b.rows } in
     ap with_rows (sorted-rows (row_at w text) none c.self.inside.places.items c.sort_unstable_by.new.self.items moved
     (sorted-by-rows (row_at w text) c.sort_unstable_by.new.self.items c.sort_unstable_by.ensures.sorted (λ a r f' k. search rules)))

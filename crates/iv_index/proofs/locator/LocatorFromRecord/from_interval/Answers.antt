@@ -1,9 +1,9 @@
 use Rattle.std.proofs.Common.{ℕ, ap}
-use Rattle.iv_index.specs.declared.place.Place.{Place}
+use Rattle.iv_index.specs.declared.locator.Locator.{Locator}
 use Rattle.iv_index.specs.declared.span.Span.{Span}
-use Rattle.iv_index.proofs.place.PlaceFromRecord.from_place.Goals as goal
+use Rattle.iv_index.proofs.locator.LocatorFromRecord.from_interval.Goals as goal
 
-abbrev with_line : ℕ → Span → Place
+abbrev with_line : ℕ → Span → Locator
 with_line at span = record { span = span; line = at }
 
 pub returns : goal.returns

@@ -1,7 +1,7 @@
 use Rattle.std.proofs.Common.{ap, sym, ◌∙◌, map}
 use Rattle.std.proofs.lemmas.Simd.{map-map}
-use Rattle.iv_index.specs.Places.{row_at, span_of}
-use Rattle.iv_index.proofs.text_records.TextRecords.places.Goals as goal
+use Rattle.iv_index.specs.Inside.Locators.{row_at, span_of}
+use Rattle.iv_index.proofs.text_records.TextRecords.locators.Goals as goal
 
 pub returns-clause-spots : goal.returns-clause-spots
 returns-clause-spots c =

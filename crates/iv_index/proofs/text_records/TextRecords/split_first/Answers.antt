@@ -1,9 +1,9 @@
 use Rattle.std.proofs.Common.{List, subst, All}
 use Rattle.std.proofs.lemmas.List.Elements.{All-tail}
-use Rattle.iv_index.specs.declared.place.Place.{Place}
-use Rattle.iv_index.specs.Places.{HasBase}
+use Rattle.iv_index.specs.declared.locator.Locator.{Locator}
+use Rattle.iv_index.specs.Inside.Locators.{HasBase}
 use Rattle.iv_index.proofs.text_records.TextRecords.split_first.Goals as goal
 
-pub of_places-requires : goal.of_places-requires
-of_places-requires c =
-    All-tail HasBase c.in_ok-place.place.now c.in_ok-place.rest.now (subst (λ (ps : List Place). All HasBase ps) c.in_ok-place.ensures.cases.0 c.self.invariant)
+pub of_locators-requires : goal.of_locators-requires
+of_locators-requires c =
+    All-tail HasBase c.in_ok-place.place.now c.in_ok-place.rest.now (subst (λ (ps : List Locator). All HasBase ps) c.in_ok-place.ensures.cases.0 c.self.invariant)

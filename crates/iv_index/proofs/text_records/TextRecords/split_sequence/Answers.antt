@@ -1,6 +1,6 @@
 use Rattle.std.proofs.Common.{◌∙◌, nat_le, rules}
 use Rattle.std.proofs.lemmas.List.Sorted.{IsPartitionPoint-from_clause}
-use Rattle.iv_index.specs.Places.{row_at}
+use Rattle.iv_index.specs.Inside.Locators.{row_at}
 use Rattle.iv_index.proofs.SequenceLemmas.{split-rows}
 use Rattle.iv_index.proofs.text_records.TextRecords.split_sequence.Goals as goal
 

@@ -1,9 +1,9 @@
 use Rattle.std.proofs.Common.{List, subst, All}
 use Rattle.std.proofs.lemmas.List.Elements.{All-tail}
-use Rattle.iv_index.specs.declared.place.Place.{Place}
-use Rattle.iv_index.specs.Places.{HasBase}
+use Rattle.iv_index.specs.declared.locator.Locator.{Locator}
+use Rattle.iv_index.specs.Inside.Locators.{HasBase}
 use Rattle.iv_index.proofs.text_records.TextRecordsIterator.next.Goals as goal
 
 pub invariant_of-self : goal.invariant_of-self
 invariant_of-self c =
-    All-tail HasBase c.in_ok-place.place.now c.in_ok-place.others.now (subst (λ (ps : List Place). All HasBase ps) c.in_ok-place.ensures.cases.0 c.self.invariant)
+    All-tail HasBase c.in_ok-place.place.now c.in_ok-place.others.now (subst (λ (ps : List Locator). All HasBase ps) c.in_ok-place.ensures.cases.0 c.self.invariant)

@@ -4,12 +4,12 @@ use Rattle.std.proofs.lemmas.List.Elements.{All-head}
 use Rattle.std.proofs.lemmas.List.Sums.{count_by-le-length}
 use Rattle.iv_bytes.proofs.Putting.{Underway-begin, Underway-more, Underway-fails, Puts-err}
 use Rattle.iv_text.specs.Ordered.{AreInOrder}
-use Rattle.iv_text.specs.Row.{Row}
+use Rattle.iv_text.specs.RecordValue.{RecordValue}
 use Rattle.iv_pair.specs.Hits.{hits_of}
 use Rattle.iv_pair.specs.PairRows.{pair_text}
 use Rattle.iv_pair.specs.declared.intersect.IntersectRows.TheVariants.{Count}
 use Rattle.iv_pair.specs.declared.pair_rows.PairRows.TheVariants.{Intersect}
-use Rattle.iv_pair.specs.Counts.{begins_before, ends_by, place_before}
+use Rattle.iv_pair.specs.Inside.Counts.{begins_before, ends_by, place_before}
 use Rattle.iv_pair.proofs.CountLemmas.{AreStartsOf-rows, begun-later, ended-later, hits-between, passes-all, places-more}
 use Rattle.iv_pair.proofs.count_sweep.CountSweep.print.Goals as goal
 
@@ -20,7 +20,7 @@ loop-row-init g c =
     let given : c.into_iter-row-iterator.result ≡ c.self.inside.first = c.into_iter-row-iterator.ensures.into_iter_gives ∙ c.again-row-items.ensures in
     record {
       ends_are = rw (c.as_slice-ends.ensures.value, ← second) c.self.invariant.ends_are;
-      starts_are = rw (← second) (AreStartsOf-rows _ _ c.places-places.ensures.spots c.places-places.ensures.some c.self.invariant.second_ordered);
+      starts_are = rw (← second) (AreStartsOf-rows _ _ c.locators-places.ensures.spots c.locators-places.ensures.some c.self.invariant.second_ordered);
       order = rw given c.self.invariant.first_ordered;
       begun = λ k d lt. omega arith;
       ended = λ k d lt. omega arith;
@@ -33,7 +33,7 @@ pass_ends-ended-requires-clause-from g c =
     let all = c.args.self.now.second in
     let rest = c.next.new.self in
     let steps : c.loop-row.row-iterator ≡ a ∷ rest = c.in-Some.ensures.steps in
-    let head = All-head (λ (y : Row). c.loop-row.ended ≤ count_by (ends_by y.seq y.start) all) a rest (rw steps at c.loop-row.invariant.ended) in
+    let head = All-head (λ (y : RecordValue). c.loop-row.ended ≤ count_by (ends_by y.seq y.start) all) a rest (rw steps at c.loop-row.invariant.ended) in
     rw (c.seq-seq.ensures, c.start-start.ensures) (omega (arith, head, c.loop-row.invariant.ends_are.counts a.seq a.start))
 
 pub pass_starts-begun-requires-clause-from : goal.pass_starts-begun-requires-clause-from
@@ -42,13 +42,13 @@ pass_starts-begun-requires-clause-from g c =
     let all = c.args.self.now.second in
     let rest = c.next.new.self in
     let steps : c.loop-row.row-iterator ≡ a ∷ rest = c.in-Some.ensures.steps in
-    let head = All-head (λ (y : Row). c.loop-row.begun ≤ count_by (begins_before y.seq y.start) all) a rest (rw steps at c.loop-row.invariant.begun) in
+    let head = All-head (λ (y : RecordValue). c.loop-row.begun ≤ count_by (begins_before y.seq y.start) all) a rest (rw steps at c.loop-row.invariant.begun) in
     rw (c.seq-seq.ensures, c.start-start.ensures) (omega (arith, head, c.loop-row.invariant.starts_are.counts a.seq a.start))
 
 pub count_starts-reached-requires-clause-from : goal.count_starts-reached-requires-clause-from
 count_starts-reached-requires-clause-from g c =
-    let some = c.law_of_place.ensures.some in
-    let more = places-more c.seq-seq.result c.start-start.result c.stop.result c.places-places.result.now (omega (arith, some, c.start-start.ensures, c.stop.ensures.value)) in
+    let some = c.lemma_of_interval.ensures.some in
+    let more = places-more c.seq-seq.result c.start-start.result c.stop.result c.locators-places.result.now (omega (arith, some, c.start-start.ensures, c.stop.ensures.value)) in
     omega (arith, c.pass_starts-begun.ensures.few, more)
 
 pub overflow_sub-reached : goal.overflow_sub-reached
@@ -56,8 +56,8 @@ overflow_sub-reached g c =
     let a = c.in-Some.row in
     let all = c.args.self.now.second in
     let number : length (hits_of all a) + c.pass_ends-ended.result ≡ c.count_starts-reached.result =
-    hits-between a all c.as_slice-ends.result.now c.places-places.result.now c.seq-seq.result c.start-start.result c.stop.result c.pass_ends-ended.result c.count_starts-reached.result
-    c.loop-row.invariant.ends_are c.loop-row.invariant.starts_are c.law_of_place.ensures.some c.seq-seq.ensures c.start-start.ensures c.stop.ensures.value c.pass_ends-ended.ensures c.count_starts-reached.ensures in
+    hits-between a all c.as_slice-ends.result.now c.locators-places.result.now c.seq-seq.result c.start-start.result c.stop.result c.pass_ends-ended.result c.count_starts-reached.result
+    c.loop-row.invariant.ends_are c.loop-row.invariant.starts_are c.lemma_of_interval.ensures.some c.seq-seq.ensures c.start-start.ensures c.stop.ensures.value c.pass_ends-ended.ensures c.count_starts-reached.ensures in
     omega (arith, number)
 
 pub loop-row-preserved : goal.loop-row-preserved
@@ -67,11 +67,11 @@ loop-row-preserved g c =
     let rest = c.next.new.self in
     let steps : c.loop-row.row-iterator ≡ a ∷ rest = c.in-Some.ensures.steps in
     let number : length (hits_of all a) + c.pass_ends-ended.result ≡ c.count_starts-reached.result =
-    hits-between a all c.as_slice-ends.result.now c.places-places.result.now c.seq-seq.result c.start-start.result c.stop.result c.pass_ends-ended.result c.count_starts-reached.result
-    c.loop-row.invariant.ends_are c.loop-row.invariant.starts_are c.law_of_place.ensures.some c.seq-seq.ensures c.start-start.ensures c.stop.ensures.value c.pass_ends-ended.ensures c.count_starts-reached.ensures in
+    hits-between a all c.as_slice-ends.result.now c.locators-places.result.now c.seq-seq.result c.start-start.result c.stop.result c.pass_ends-ended.result c.count_starts-reached.result
+    c.loop-row.invariant.ends_are c.loop-row.invariant.starts_are c.lemma_of_interval.ensures.some c.seq-seq.ensures c.start-start.ensures c.stop.ensures.value c.pass_ends-ended.ensures c.count_starts-reached.ensures in
     let i = c.loop-row.invariant in
     let order : AreInOrder (a ∷ rest) = subst AreInOrder steps i.order in
-    let places = c.places-places.result.now in
+    let places = c.locators-places.result.now in
     let many = count_by (place_before c.seq-seq.result c.start-start.result) places in
     let begun : c.pass_starts-begun.result ≡ many =
     passes-all c.pass_starts-begun.result many (length places) c.pass_starts-begun.ensures.few c.pass_starts-begun.ensures.all
@@ -93,7 +93,7 @@ returns-in_err-put_count g c =
     let rest = c.next.new.self in
     let steps : c.loop-row.row-iterator ≡ a ∷ rest = c.in-Some.ensures.steps in
     let number : length (hits_of all a) + c.pass_ends-ended.result ≡ c.count_starts-reached.result =
-    hits-between a all c.as_slice-ends.result.now c.places-places.result.now c.seq-seq.result c.start-start.result c.stop.result c.pass_ends-ended.result c.count_starts-reached.result
-    c.loop-row.invariant.ends_are c.loop-row.invariant.starts_are c.law_of_place.ensures.some c.seq-seq.ensures c.start-start.ensures c.stop.ensures.value c.pass_ends-ended.ensures c.count_starts-reached.ensures in
+    hits-between a all c.as_slice-ends.result.now c.locators-places.result.now c.seq-seq.result c.start-start.result c.stop.result c.pass_ends-ended.result c.count_starts-reached.result
+    c.loop-row.invariant.ends_are c.loop-row.invariant.starts_are c.lemma_of_interval.ensures.some c.seq-seq.ensures c.start-start.ensures c.stop.ensures.value c.pass_ends-ended.ensures c.count_starts-reached.ensures in
     Puts-err _ _ c.from_residual.result (pair_text (Intersect Count) c.args.genome.now c.args.self.now.first all) c.from_residual.ensures.0
     (Underway-fails _ _ _ _ _ _ (rw steps at c.loop-row.invariant.put) (c.in_err-put_count.ensures (hits_of all a) (omega (arith, number))))

@@ -5,7 +5,7 @@ use Rattle.iv_text.specs.Ordered.{AreInOrder}
 use Rattle.iv_pair.specs.PairRows.{pair_rows, pair_text}
 use Rattle.iv_pair.specs.declared.intersect.IntersectRows.TheVariants.{Count}
 use Rattle.iv_pair.specs.declared.pair_rows.PairRows.TheVariants.{Intersect}
-use Rattle.iv_pair.specs.Counts.{AreEndsOf, AreStartsOf, begins_before, ends_by}
+use Rattle.iv_pair.specs.Inside.Counts.{AreEndsOf, AreStartsOf, begins_before, ends_by}
 use Rattle.iv_pair.proofs.count_sweep.CountSweep.print.Given as goal
 
 -- the rows of the records that are left remain to be put, and each cursor is no further than any of them has it

@@ -1,8 +1,8 @@
 use Rattle.std.proofs.Common.{◌++◌, [], ◌∷◌, List, Some, ap, ◌∙◌}
-use Rattle.iv_text.specs.Row.{Row}
-use Rattle.iv_pair.specs.HitFinder.{held}
+use Rattle.iv_text.specs.RecordValue.{RecordValue}
+use Rattle.iv_pair.specs.Inside.HitFinder.{held}
 use Rattle.iv_pair.proofs.CarryLemmas.{held-append}
 use Rattle.iv_pair.proofs.hit_finder.Carried.push.Goals as goal
 
 pub returns-clause-pushed : goal.returns-clause-pushed
-returns-clause-pushed g c = λ e. ap held c.push.ensures.items ∙ held-append c.self.inside.slots.items (Some c.args.row ∷ []) ∙ ap (λ (l : List Row). l ++ c.args.row.now ∷ []) c.self.view_is
+returns-clause-pushed g c = λ e. ap held c.push.ensures.items ∙ held-append c.self.inside.slots.items (Some c.args.row ∷ []) ∙ ap (λ (l : List RecordValue). l ++ c.args.row.now ∷ []) c.self.view_is

@@ -1,9 +1,9 @@
 use Rattle.std.proofs.Common.{◌≡◌, ◌++◌, ◌∙◌, List, refl, sym, ap, subst, arith, rules}
 use Rattle.std.specs.Prelude.{filter}
-use Rattle.iv_text.specs.Row.{Row}
+use Rattle.iv_text.specs.RecordValue.{RecordValue}
 use Rattle.iv_track.specs.Tracked.{is_from}
-use Rattle.iv_pair.specs.HitFinder.{AllBegun, AllCover, Finding, HitAlike, IsOnward}
-use Rattle.iv_pair.specs.Lengths.{AreUpTo}
+use Rattle.iv_pair.specs.Inside.HitFinder.{AllBegun, AllCover, Finding, HitAlike, IsOnward}
+use Rattle.iv_pair.specs.Inside.Lengths.{AreUpTo}
 use Rattle.iv_pair.proofs.CarryLemmas.{all-begun, alike-onward, kept-cover, kept-alike, placed-on, placed-anew}
 use Rattle.iv_pair.proofs.hit_finder.HitFinder.go_to.Goals.{then-goes_on+else-begins_from, else-goes_on}
 use Rattle.iv_pair.proofs.hit_finder.HitFinder.go_to.Goals as goal
@@ -26,7 +26,7 @@ invariant_of-self g c =
     let begun : AllBegun seq start s.carried = all-begun s.seq s.start seq start s.carried i.placed.cover on in
     let alike : HitAlike seq start (s.carried ++ s.rows) records = alike-onward s.seq s.start seq start (s.carried ++ s.rows) records i.placed.alike on in
     let kept : HitAlike seq start (c.keep.new.self ++ s.rows) records
-    = subst (λ (l : List Row). HitAlike seq start (l ++ s.rows) records) (sym c.keep.ensures) (kept-alike seq start s.carried s.rows records begun alike) in
+    = subst (λ (l : List RecordValue). HitAlike seq start (l ++ s.rows) records) (sym c.keep.ensures) (kept-alike seq start s.carried s.rows records begun alike) in
     record {
       placed = placed-on records t.new.carried t.new.rows c.keep.new.self s.rows seq start t.ensures.cover t.ensures.ordered t.ensures.few i.placed.rows_few t.ensures.alike kept;
       ordered = i.ordered;
@@ -49,7 +49,7 @@ invariant_of-self-2 g c =
     ] in
     let up : AreUpTo seq longest records = subst (λ (f : Finding). AreUpTo seq longest f.records) (sym c.self.view_is) c.longest_on-longest.ensures in
     let from = c.first_start-from.result in
-    let walked = c.walk-self-inside.ensures.rows ∙ ap (λ (l : List Row). filter (is_from seq from) l) are.0 in
+    let walked = c.walk-self-inside.ensures.rows ∙ ap (λ (l : List RecordValue). filter (is_from seq from) l) are.0 in
     rw (are.0, are.1, are.2, are.3)
     (record {
       placed = placed-anew records c.clear.new.self c.walk-self-inside.result seq start from longest c.clear.ensures walked i.ordered i.few up (omega (arith, c.first_start-from.ensures));

@@ -1,5 +1,5 @@
 use Rattle.std.proofs.Common.{◌≡◌, ◌++◌, ap, ◌∙◌, arith, rules}
-use Rattle.iv_pair.specs.HitFinder.{Finding}
+use Rattle.iv_pair.specs.Inside.HitFinder.{Finding}
 use Rattle.iv_pair.specs.Hits.{hits}
 use Rattle.iv_pair.proofs.CarryLemmas.{found, alike-trans, placed-on}
 use Rattle.iv_pair.proofs.hit_finder.HitFinder.seek.Goals as goal

@@ -1,12 +1,12 @@
 use Rattle.std.proofs.Common.{List, length, ap, arith, length-append}
-use Rattle.iv_text.specs.Row.{Row}
-use Rattle.iv_pair.specs.HitFinder.{held}
+use Rattle.iv_text.specs.RecordValue.{RecordValue}
+use Rattle.iv_pair.specs.Inside.HitFinder.{held}
 use Rattle.iv_pair.specs.Hits.{overlaps, hits}
 use Rattle.iv_pair.proofs.CarryLemmas.{held-few}
 use Rattle.iv_pair.proofs.HitsLemmas.{length-filter_le}
-use Rattle.iv_pair.proofs.hits.Hits.law_of_few.Goals as goal
+use Rattle.iv_pair.proofs.hits.Hits.lemma_of_few.Goals as goal
 
 pub returns : goal.returns
 returns g c =
     let i = c.self.inside in
-    omega (arith, ap (λ (l : List Row). length l) c.self.view_is, length-append (held i.carried.now) (hits i.rows i.seq i.start i.stop), held-few i.carried.now, length-filter_le (overlaps i.seq i.start i.stop) i.rows, c.self.invariant.1, c.self.invariant.2)
+    omega (arith, ap (λ (l : List RecordValue). length l) c.self.view_is, length-append (held i.carried.now) (hits i.rows i.seq i.start i.stop), held-few i.carried.now, length-filter_le (overlaps i.seq i.start i.stop) i.rows, c.self.invariant.1, c.self.invariant.2)

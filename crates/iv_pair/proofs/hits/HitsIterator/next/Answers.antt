@@ -1,8 +1,8 @@
 use Rattle.std.proofs.Common.{◌++◌, List, Option, sym, ap, ◌∙◌, subst}
 use denote.Ref.{Bor}
 use Rattle.iv_text.specs.Ordered.{AreInOrder}
-use Rattle.iv_text.specs.Row.{Row}
-use Rattle.iv_pair.specs.HitFinder.{held}
+use Rattle.iv_text.specs.RecordValue.{RecordValue}
+use Rattle.iv_pair.specs.Inside.HitFinder.{held}
 use Rattle.iv_pair.specs.Hits.{hits}
 use Rattle.iv_pair.proofs.HitsLemmas.{hit_not, hits_beyond}
 use Rattle.iv_pair.proofs.hits.HitsIterator.next.Goals as goal
@@ -14,5 +14,5 @@ returns-then-is_from-clause-steps g c =
     let others = c.next.new.self in
     let none = hits_beyond i.seq i.start i.stop row others (subst AreInOrder c.in-Some-next.ensures.row c.loop-row.invariant.ordered) (sym c.is_from.ensures ∙ c.if-is_from.true) in (
       sym c.loop-row.invariant.same ∙ hit_not i.rows others row i.seq i.start i.stop c.in-Some-next.ensures.row (sym c.overlaps.ensures ∙ c.if-overlaps.false) ∙ none,
-      ap (λ (l : List (Option (Bor Row))). held l ++ hits others i.seq i.start i.stop) c.loop-row.invariant.carried ∙ none,
+      ap (λ (l : List (Option (Bor RecordValue))). held l ++ hits others i.seq i.start i.stop) c.loop-row.invariant.carried ∙ none,
     )

@@ -1,9 +1,9 @@
 use Rattle.std.proofs.Common.{◌≡◌, ◌∷◌, ◌++◌, All, List, refl, sym, ap, ◌∙◌, subst}
 use Rattle.std.proofs.lemmas.List.Elements.{All-head}
-use Rattle.iv_text.specs.Row.{Row}
+use Rattle.iv_text.specs.RecordValue.{RecordValue}
 use Rattle.iv_text.specs.Ordered.{AreInOrder}
 use Rattle.iv_pair.specs.Hits.{hits, hits_of}
-use Rattle.iv_pair.specs.PairSweeps.{Covers, Precedes}
+use Rattle.iv_pair.specs.Inside.PairSweeps.{Covers, Precedes}
 use Rattle.iv_pair.proofs.StepLemmas.{kept-covers, begun-next, found-next, same-next}
 use Rattle.iv_pair.proofs.pair_sweep.PairSweep.next.Goals as goal
 
@@ -12,7 +12,7 @@ take_begun-requires-clause-active g c =
     let a = c.in_ok-row.row in
     let split : c.self.inside.first ≡ a ∷ c.in_ok-row.others = c.in_ok-row.ensures in
     let held = c.self.inside.active.items in
-    let begun = subst (λ (l : List Row). All (λ y. All (λ b. Precedes b y) held) l) split c.self.invariant.begun in
+    let begun = subst (λ (l : List RecordValue). All (λ y. All (λ b. Precedes b y) held) l) split c.self.invariant.begun in
     subst (All (Covers a)) (sym c.drop_passed.ensures.kept) (kept-covers a held (All-head (λ y. All (λ b. Precedes b y) held) a c.in_ok-row.others begun))
 
 pub invariant_of-self : goal.invariant_of-self
@@ -24,8 +24,8 @@ invariant_of-self g c =
     let t = c.take_begun.ensures in
     let taken = c.take_begun.new.active.items in
     let order : AreInOrder (a ∷ others) = subst AreInOrder split c.self.invariant.first_ordered in
-    let begun = subst (λ (l : List Row). All (λ y. All (λ b. Precedes b y) s.active.items) l) split c.self.invariant.begun in
-    let same = subst (λ (l : List Row). All (λ y. hits_of (s.active.items ++ s.rest) y ≡ hits_of s.second y) l) split c.self.invariant.alike in
+    let begun = subst (λ (l : List RecordValue). All (λ y. All (λ b. Precedes b y) s.active.items) l) split c.self.invariant.begun in
+    let same = subst (λ (l : List RecordValue). All (λ y. hits_of (s.active.items ++ s.rest) y ≡ hits_of s.second y) l) split c.self.invariant.alike in
     record {
       room = t.room;
       begun = begun-next a others taken order t.active;
@@ -44,12 +44,12 @@ returns g c =
     let t = c.take_begun.ensures in
     let taken = c.take_begun.new.active.items in
     let rest = c.take_begun.new.rest in
-    let begun = subst (λ (l : List Row). All (λ y. All (λ b. Precedes b y) s.active.items) l) split c.self.invariant.begun in
-    let same = subst (λ (l : List Row). All (λ y. hits_of (s.active.items ++ s.rest) y ≡ hits_of s.second y) l) split c.self.invariant.alike in
+    let begun = subst (λ (l : List RecordValue). All (λ y. All (λ b. Precedes b y) s.active.items) l) split c.self.invariant.begun in
+    let same = subst (λ (l : List RecordValue). All (λ y. hits_of (s.active.items ++ s.rest) y ≡ hits_of s.second y) l) split c.self.invariant.alike in
     let at : hits rest c.seq-self-inside.result c.start-self-inside.result c.stop-self-inside.result ≡ hits_of rest a = rw (c.seq-self-inside.ensures, c.start-self-inside.ensures, c.stop-self-inside.ensures.value) refl in (
       sym (ap (λ p. p.first) c.self.view_is) ∙ split,
       ap (λ p. p.second) c.self.view_is,
-      ap (λ (l : List Row). taken ++ l) at
-          ∙ found-next a others s.active.items c.drop_passed.new.active.items taken s.rest rest s.second begun c.drop_passed.ensures.kept t.alike same c.law_of_place.ensures.some t.active
+      ap (λ (l : List RecordValue). taken ++ l) at
+          ∙ found-next a others s.active.items c.drop_passed.new.active.items taken s.rest rest s.second begun c.drop_passed.ensures.kept t.alike same c.lemma_of_interval.ensures.some t.active
           ∙ ap (λ p. hits_of p.second a) c.self.view_is,
     )

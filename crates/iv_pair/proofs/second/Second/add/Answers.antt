@@ -1,5 +1,5 @@
 use Rattle.std.proofs.Common.{◌≤◌, length, arith, sym, subst}
-use Rattle.iv_text.specs.Row.{row_cmp}
+use Rattle.iv_text.specs.RecordValue.{record_cmp}
 use Rattle.iv_text.proofs.OrderedLemmas.{length-added}
 use Rattle.iv_track.specs.Tracked.{Tracked}
 use Rattle.iv_pair.proofs.second.Second.add.Goals as goal
@@ -8,5 +8,5 @@ pub invariant_of-self-2 : goal.invariant_of-self-2
 invariant_of-self-2 g c = record {
   counted = c.stage.ensures.counted;
   few = subst (λ (t : Tracked). length t.rows ≤ t.limit) (sym c.in_ok-stage.ensures.ok)
-      (omega (arith, length-added row_cmp c.self.inside.track.rows c.args.row, c.if-len-limit.false, c.len.ensures.len, c.limit.ensures));
+      (omega (arith, length-added record_cmp c.self.inside.track.rows c.args.row, c.if-len-limit.false, c.len.ensures.len, c.limit.ensures));
 }

@@ -1,6 +1,6 @@
 use Rattle.std.proofs.Common.{subst}
 use Rattle.iv_track.specs.Tracked.{Tracked}
-use Rattle.iv_pair.specs.Lengths.{AreUpTo}
+use Rattle.iv_pair.specs.Inside.Lengths.{AreUpTo}
 use Rattle.iv_pair.proofs.LengthLemmas.{AreLengths-up_to}
 use Rattle.iv_pair.proofs.second.Second.longest.Goals as goal
 

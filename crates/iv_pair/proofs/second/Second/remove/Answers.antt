@@ -1,5 +1,5 @@
 use Rattle.std.proofs.Common.{◌≤◌, length, arith, sym, subst}
-use Rattle.iv_text.specs.Row.{row_cmp}
+use Rattle.iv_text.specs.RecordValue.{record_cmp}
 use Rattle.iv_track.specs.Tracked.{Tracked}
 use Rattle.iv_track.proofs.Counts.{length-removed}
 use Rattle.iv_pair.proofs.second.Second.remove.Goals as goal
@@ -8,5 +8,5 @@ pub invariant_of-self-2 : goal.invariant_of-self-2
 invariant_of-self-2 g c = record {
   counted = c.take.ensures.counted;
   few = subst (λ (t : Tracked). length t.rows ≤ t.limit) (sym c.in_ok-take.ensures.ok)
-      (omega (arith, length-removed row_cmp c.self.inside.track.rows c.args.row.now c.in_ok-take.ensures.there, c.self.invariant.few));
+      (omega (arith, length-removed record_cmp c.self.inside.track.rows c.args.row.now c.in_ok-take.ensures.there, c.self.invariant.few));
 }

@@ -1,9 +1,10 @@
 use Rattle.std.proofs.Common.{ℕ, List, refl, sym, subst, ◌∙◌}
 use Rattle.std.proofs.lemmas.Result.{err_from_is_err_and}
 use Rattle.std.specs.Option.{option_map}
-use Rattle.iv_run.specs.SoFar.{SaysFirst, SaysSizes}
+use Rattle.iv_run.specs.SoFar.{SaysSizes}
+use Rattle.iv_run.specs.Inside.SoFar.{SaysFirst}
 use Rattle.iv_run.proofs.LoadLemmas.{says-first}
-use Rattle.iv_program.specs.Runs.{Says}
+use Rattle.iv_program.specs.Inside.Runs.{Says}
 use Rattle.iv_program.specs.Texts.{Texts}
 use Rattle.iv_program.proofs.RunLemmas.{stops-sizes, stops-first, stops-other, stops-bases, all-texts}
 use Rattle.iv_program.proofs.files.ReadFiles.read.Goals as goal
@@ -44,7 +45,7 @@ returns-clause-ok g c =
     let first = c.in_ok-first.ensures.ok in
     let second = c.in_ok-read_second.ensures.ok in
     let texts : Texts = record { sizes = c.in_ok-sizes.sizes.items; first = first.0; other = second.0; bases = bases } in
-    let kept = g.K.FromRecord.kept in
+    let kept = g.K.FromRecord.projected in
     let sizes_said = subst (λ (l : List ℕ). SaysSizes l c.begin-loading.result) c.as_slice.ensures.value c.begin-loading.ensures.says in
     let first_said = subst (SaysFirst kept texts.sizes first.0) (sym c.take_first.ensures.taken)
     (says-first kept texts.sizes first.0 c.begin-loading.result c.in_ok-first.first sizes_said first.2) in

@@ -1,8 +1,8 @@
 use Rattle.std.proofs.Common.{◌≡◌, ◌∙◌, true, Ok, sym, ap}
 use Rattle.iv_view.specs.Views.{read_words}
 use Rattle.iv_view.specs.declared.view.View.TheVariants as view
-use Rattle.iv_run.proofs.PlacesLemmas.{asks-other, asks-places, asks-columns}
-use Rattle.iv_run.proofs.places_view.PlacesView.of_plan.Goals as goal
+use Rattle.iv_run.proofs.IntervalsLemmas.{asks-other, asks-places, asks-columns}
+use Rattle.iv_run.proofs.intervals_view.IntervalsView.of_plan.Goals as goal
 
 pub returns-in-Ok-Kept-clause-some : goal.returns-in-Ok-Kept-clause-some
 returns-in-Ok-Kept-clause-some g c =

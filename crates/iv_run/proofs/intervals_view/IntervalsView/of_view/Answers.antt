@@ -1,5 +1,5 @@
-use Rattle.iv_run.proofs.PlacesLemmas.{merge-places, merge-columns, cluster-columns}
-use Rattle.iv_run.proofs.places_view.PlacesView.of_view.Goals as goal
+use Rattle.iv_run.proofs.IntervalsLemmas.{merge-places, merge-columns, cluster-columns}
+use Rattle.iv_run.proofs.intervals_view.IntervalsView.of_view.Goals as goal
 
 pub returns-in-Merge-clause-some : goal.returns-in-Merge-clause-some
 returns-in-Merge-clause-some c = rw (c.then_some.ensures, c.in-Merge.is) (merge-places c.is_plain.result c.in-Merge.options c.is_plain.ensures)

@@ -1,7 +1,7 @@
 use Rattle.std.proofs.Common.{◌≡◌, sym, ◌∙◌}
 use Rattle.std.proofs.lemmas.Result.{err_from_is_err_and}
 use Rattle.iv_bytes.proofs.Putting.{Takes-finished, FailsIn-finished}
-use Rattle.iv_run.proofs.places_view.PlacesView.print.Goals as goal
+use Rattle.iv_run.proofs.intervals_view.IntervalsView.print.Goals as goal
 
 pub returns-in_err-finish : goal.returns-in_err-finish
 returns-in_err-finish g c = λ view is.

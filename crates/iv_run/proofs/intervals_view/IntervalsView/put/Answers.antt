@@ -1,6 +1,6 @@
 use Rattle.std.proofs.lemmas.Result.{err_from_is_err_and}
-use Rattle.iv_run.proofs.PlacesLemmas.{of-merge, of-complement, of-genomecov}
-use Rattle.iv_run.proofs.places_view.PlacesView.put.Goals as goal
+use Rattle.iv_run.proofs.IntervalsLemmas.{of-merge, of-complement, of-genomecov}
+use Rattle.iv_run.proofs.intervals_view.IntervalsView.put.Goals as goal
 
 pub returns-in_ok-put_merge-in-Merge-clause-text : goal.returns-in_ok-put_merge-in-Merge-clause-text
 returns-in_ok-put_merge-in-Merge-clause-text g c = rw c.in-Merge.is (of-merge c.in-Merge.distance _ c.in_ok-put_merge-in-Merge.ensures)

@@ -1,22 +1,22 @@
 use Rattle.std.proofs.Common.{ℕ, subst}
 use Rattle.std.proofs.lemmas.Result.{err_from_is_err_and}
 use Rattle.std.specs.Option.{option_map}
-use Rattle.iv_index.specs.Places.{bare}
+use Rattle.iv_index.specs.Locators.{bare}
 use Rattle.iv_run.specs.Loading.{parsed}
-use Rattle.iv_run.specs.SoFar.{ReportsKept}
-use Rattle.iv_run.proofs.PlacesLemmas.{shows-places}
+use Rattle.iv_run.specs.SoFar.{ReportsProjected}
+use Rattle.iv_run.proofs.IntervalsLemmas.{shows-places}
 use Rattle.iv_run.proofs.ShotLemmas.{shows-damage}
-use Rattle.iv_run.proofs.places_view.Loading+Span+A.print.Goals as goal
+use Rattle.iv_run.proofs.intervals_view.Loading+Span+A.print.Goals as goal
 
 pub returns-in_err-files : goal.returns-in_err-files
 returns-in_err-files g c = λ plan sizes text other ask width says.
     let p = err_from_is_err_and c.from_residual.result c.from_residual.ensures.1 in
     let bases = option_map (λ bytes. bytes.items) c.args.bases in
-    let report = subst (λ (w : ℕ). ReportsKept bare c.finish.result (parsed w sizes text other bases c.args.self.limit)) width (c.finish.ensures.says sizes text other says) in
+    let report = subst (λ (w : ℕ). ReportsProjected bare c.finish.result (parsed w sizes text other bases c.args.self.limit)) width (c.finish.ensures.says sizes text other says) in
     rw (p.1, p.2) (shows-damage plan.width sizes text other bases c.args.self.limit plan.view _ _ (rw c.in_err-files.was at report))
 
 pub returns : goal.returns
 returns g c = λ plan sizes text other ask width says.
     let bases = option_map (λ bytes. bytes.items) c.args.bases in
-    let report = subst (λ (w : ℕ). ReportsKept bare c.finish.result (parsed w sizes text other bases c.args.self.limit)) width (c.finish.ensures.says sizes text other says) in
+    let report = subst (λ (w : ℕ). ReportsProjected bare c.finish.result (parsed w sizes text other bases c.args.self.limit)) width (c.finish.ensures.says sizes text other says) in
     shows-places plan sizes text other bases c.args.self.limit c.in_ok-files.files (rw c.in_ok-files.was at report) c.args.view ask _ _ c.print_files.result (c.print_files.ensures ask.asked ask.is_view)

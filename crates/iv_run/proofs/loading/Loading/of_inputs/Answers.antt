@@ -1,12 +1,13 @@
 use Rattle.std.proofs.Common.{List, ℕ, Option, Some, sym, ap, subst, ◌∙◌}
 use Rattle.std.specs.Option.{option_copied}
-use Rattle.iv_run.specs.SoFar.{SaysFirst, SaysSecond}
+use Rattle.iv_run.specs.SoFar.{SaysSecond}
+use Rattle.iv_run.specs.Inside.SoFar.{SaysFirst}
 use Rattle.iv_run.proofs.LoadLemmas.{says-first, says-second, says-no_second}
 use Rattle.iv_run.proofs.loading.Loading.of_inputs.Goals as goal
 
 pub returns-in-Some-clause-says : goal.returns-in-Some-clause-says
 returns-in-Some-clause-says g c =
-    let kept = g.K.FromRecord.kept in
+    let kept = g.K.FromRecord.projected in
     let sizes = c.args.inputs.now.sizes.now in
     let text = c.args.inputs.now.first.now in
     let first = subst (SaysFirst kept sizes text) (sym c.take_first.ensures.taken)
@@ -17,7 +18,7 @@ returns-in-Some-clause-says g c =
 
 pub returns-in_default-clause-says : goal.returns-in_default-clause-says
 returns-in_default-clause-says g c =
-    let kept = g.K.FromRecord.kept in
+    let kept = g.K.FromRecord.projected in
     let sizes = c.args.inputs.now.sizes.now in
     let text = c.args.inputs.now.first.now in
     let first = subst (SaysFirst kept sizes text) (sym c.take_first.ensures.taken)

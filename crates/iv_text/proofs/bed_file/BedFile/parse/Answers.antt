@@ -1,8 +1,8 @@
 use Rattle.std.proofs.Common.{◌≡◌, ◌∙◌, ◌++◌, List, ℕ, [], Ok, sym, ap, inl, inr, append-nil}
 use Rattle.iv_text.specs.BedFile.{bed_of, finished}
-use Rattle.iv_text.specs.Row.{Row}
-use Rattle.iv_text.specs.KeptDrafts.{Reading, begun, coming}
-use Rattle.iv_text.proofs.KeptLemmas.{handed-on, kept-all, rows-all, fit-all, whole-file}
+use Rattle.iv_text.specs.RecordValue.{RecordValue}
+use Rattle.iv_text.specs.BedReading.{Reading, begun, coming}
+use Rattle.iv_text.proofs.BedReadingLemmas.{handed-on, kept-all, rows-all, fit-all, whole-file}
 use Rattle.iv_text.proofs.bed_file.BedFile.parse.Goals as goal
 
 pub returns-in_err-take_piece-clause-err : goal.returns-in_err-take_piece-clause-err
@@ -11,7 +11,7 @@ returns-in_err-take_piece-clause-err g c =
     let limit = c.args.limit in
     let empty = c.args.empty_width in
     let text : List ℕ = c.args.text.now in
-    let same : Row → Row = λ r. r in
+    let same : RecordValue → RecordValue = λ r. r in
     handed-on c.from_residual.result _ _ c.from_residual.ensures.1
     (elim c.in_err-take_piece.ensures.err [
       | inl memory ↦ inl memory
@@ -29,7 +29,7 @@ returns-in_err-width-clause-err g c =
     let limit = c.args.limit in
     let empty = c.args.empty_width in
     let text : List ℕ = c.args.text.now in
-    let same : Row → Row = λ r. r in
+    let same : RecordValue → RecordValue = λ r. r in
     let whole : bed_of genome empty limit text ≡ finished empty (coming same genome limit c.take_piece.new.self []) =
     sym (kept-all (bed_of genome empty limit text))
     ∙ sym (whole-file same genome limit empty text)
@@ -48,14 +48,14 @@ returns-clause-ok g c =
     let limit = c.args.limit in
     let empty = c.args.empty_width in
     let text : List ℕ = c.args.text.now in
-    let same : Row → Row = λ r. r in
+    let same : RecordValue → RecordValue = λ r. r in
     let whole : bed_of genome empty limit text ≡ finished empty (coming same genome limit c.take_piece.new.self []) =
     sym (kept-all (bed_of genome empty limit text))
     ∙ sym (whole-file same genome limit empty text)
     ∙ ap (λ (t : List ℕ). finished empty (coming same genome limit begun t)) (sym (append-nil text))
     ∙ ap (λ (r : Reading). finished empty (coming same genome limit r (text ++ []))) (sym c.new-draft.ensures)
     ∙ ap (finished empty) (c.in_ok-take_piece.ensures.ok []) in
-    whole ∙ c.in_ok-width.ensures.ok ∙ ap (λ (rows : List Row). Ok (record { width = c.in_ok-width.width; rows = rows })) (rows-all c.in_ok-width.records ∙ sym c.in_ok-records.ensures)
+    whole ∙ c.in_ok-width.ensures.ok ∙ ap (λ (rows : List RecordValue). Ok (record { width = c.in_ok-width.width; rows = rows })) (rows-all c.in_ok-width.records ∙ sym c.in_ok-records.ensures)
 
 pub returns-clause-fit : goal.returns-clause-fit
 returns-clause-fit g c =

@@ -1,8 +1,8 @@
 use Rattle.std.proofs.Common.{◌≡◌, ◌∙◌, ◌++◌, ℕ, List, [], sym, ap, inl, inr, take, drop, take-append-drop, rules}
 use Rattle.iv_text.specs.Lines.{lines}
-use Rattle.iv_text.specs.KeptDrafts.{Reading, after, coming, shown}
-use Rattle.iv_text.proofs.KeptLemmas.{carried-lines, ended-rest, handed-on, refused-so, taken-so}
-use Rattle.iv_text.proofs.kept_draft.KeptDraft.end_line.Goals as goal
+use Rattle.iv_text.specs.BedReading.{Reading, after, coming, shown}
+use Rattle.iv_text.proofs.BedReadingLemmas.{carried-lines, ended-rest, handed-on, refused-so, taken-so}
+use Rattle.iv_text.proofs.bed_reader.BedReader.end_line.Goals as goal
 
 pub returns-in_err-take_lines-clause-err : goal.returns-in_err-take_lines-clause-err
 returns-in_err-take_lines-clause-err g c =
@@ -12,17 +12,17 @@ returns-in_err-take_lines-clause-err g c =
     let limit = c.args.limit in
     let all = c.args.lines.now in
     let size = c.first_end-size.result in
-    let read = shown k.as_row c.self.inside.read in
+    let read = shown k.as_record c.self.inside.read in
     let tail : List ℕ = c.self.inside.tail.items in
     let line_is : tail ++ take size all ≡ c.as_slice.result.now = sym (c.as_slice.ensures.value ∙ c.in_ok-keep.ensures.ok) in
     handed-on c.from_residual-in_err-take_lines.result _ _ c.from_residual-in_err-take_lines.ensures.1
     (elim c.in_err-take_lines.ensures.err [
       | inl memory ↦ inl memory
       | inr refused ↦ inr (λ more.
-          ap (λ (r : Reading). coming k.kept genome limit r (all ++ more)) (sym c.self.view_is)
-          ∙ ap (after k.kept genome limit read) (carried-lines k.kept genome limit tail all (take size all) (drop size all) more (sym (take-append-drop size all)) c.first_end-size.ensures.ended)
-          ∙ ap (λ (t : List ℕ). after k.kept genome limit read (lines t ++ lines (drop size all ++ more))) line_is
-          ∙ refused-so k.kept_of genome limit k.kept k.as_row law.again law.stands c.self.inside.read c.as_slice.result.now _ refused (lines (drop size all ++ more)))
+          ap (λ (r : Reading). coming k.projected genome limit r (all ++ more)) (sym c.self.view_is)
+          ∙ ap (after k.projected genome limit read) (carried-lines k.projected genome limit tail all (take size all) (drop size all) more (sym (take-append-drop size all)) c.first_end-size.ensures.ended)
+          ∙ ap (λ (t : List ℕ). after k.projected genome limit read (lines t ++ lines (drop size all ++ more))) line_is
+          ∙ refused-so k.held_of genome limit k.projected k.as_record law.again law.stands c.self.inside.read c.as_slice.result.now _ refused (lines (drop size all ++ more)))
     ])
 
 pub returns-clause-ok : goal.returns-clause-ok
@@ -33,15 +33,15 @@ returns-clause-ok g c = λ more.
     let limit = c.args.limit in
     let all = c.args.lines.now in
     let size = c.first_end-size.result in
-    let read = shown k.as_row c.self.inside.read in
+    let read = shown k.as_record c.self.inside.read in
     let tail : List ℕ = c.self.inside.tail.items in
     let line_is : tail ++ take size all ≡ c.as_slice.result.now = sym (c.as_slice.ensures.value ∙ c.in_ok-keep.ensures.ok) in
     let cleared : c.clear.new.self.items ≡ [] = search rules in
-    ap (λ (r : Reading). coming k.kept genome limit r (all ++ more)) (sym c.self.view_is)
-    ∙ ap (after k.kept genome limit read) (carried-lines k.kept genome limit tail all (take size all) (drop size all) more (sym (take-append-drop size all)) c.first_end-size.ensures.ended)
-    ∙ ap (λ (t : List ℕ). after k.kept genome limit read (lines t ++ lines (drop size all ++ more))) line_is
-    ∙ taken-so k.kept_of genome limit k.kept k.as_row law.again law.stands c.self.inside.read c.take_lines.new.self c.as_slice.result.now c.in_ok-take_lines.ensures.ok (lines (drop size all ++ more))
-    ∙ sym (ap (λ (t : List ℕ). after k.kept genome limit (shown k.as_row c.take_lines.new.self) (lines (t ++ (drop size all ++ more)))) cleared)
+    ap (λ (r : Reading). coming k.projected genome limit r (all ++ more)) (sym c.self.view_is)
+    ∙ ap (after k.projected genome limit read) (carried-lines k.projected genome limit tail all (take size all) (drop size all) more (sym (take-append-drop size all)) c.first_end-size.ensures.ended)
+    ∙ ap (λ (t : List ℕ). after k.projected genome limit read (lines t ++ lines (drop size all ++ more))) line_is
+    ∙ taken-so k.held_of genome limit k.projected k.as_record law.again law.stands c.self.inside.read c.take_lines.new.self c.as_slice.result.now c.in_ok-take_lines.ensures.ok (lines (drop size all ++ more))
+    ∙ sym (ap (λ (t : List ℕ). after k.projected genome limit (shown k.as_record c.take_lines.new.self) (lines (t ++ (drop size all ++ more)))) cleared)
 
 pub returns-clause-ended : goal.returns-clause-ended
 returns-clause-ended g c = ended-rest c.first_end-size.result c.args.lines.now c.requires.ended

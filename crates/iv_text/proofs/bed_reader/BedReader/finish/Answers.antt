@@ -1,11 +1,11 @@
 use Rattle.std.proofs.Common.{All, subst, ◌∙◌, ℕ, List, [], Result, Ok, sym, ap, inl, inr, map, unwrap_or, append-nil}
 use Rattle.iv_text.specs.BedFile.{Bed, finished}
 use Rattle.iv_text.specs.Lines.{lines}
-use Rattle.iv_text.specs.Row.{Row}
+use Rattle.iv_text.specs.RecordValue.{RecordValue}
 use Rattle.iv_text.specs.declared.fault.LoadFault.{LoadFault}
-use Rattle.iv_text.specs.KeptDrafts.{IsKept, Reading, after, coming, shown}
-use Rattle.iv_text.proofs.KeptLemmas.{handed-on, kept-again, refused-so, sound-kept, taken-so}
-use Rattle.iv_text.proofs.kept_draft.KeptDraft.finish.Goals as goal
+use Rattle.iv_text.specs.BedReading.{IsProjected, Reading, after, coming, shown}
+use Rattle.iv_text.proofs.BedReadingLemmas.{handed-on, kept-again, refused-so, sound-kept, taken-so}
+use Rattle.iv_text.proofs.bed_reader.BedReader.finish.Goals as goal
 
 pub returns-in_err-take_lines-clause-err : goal.returns-in_err-take_lines-clause-err
 returns-in_err-take_lines-clause-err g c =
@@ -19,10 +19,10 @@ returns-in_err-take_lines-clause-err g c =
     (elim c.in_err-take_lines.ensures.err [
       | inl memory ↦ inl memory
       | inr refused ↦ inr (
-          ap (λ (r : Reading). coming k.kept genome limit r []) (sym c.self.view_is)
-          ∙ ap (λ (t : List ℕ). after k.kept genome limit (shown k.as_row read) (lines t)) (append-nil c.self.inside.tail.items ∙ sym c.as_slice.ensures.value)
-          ∙ ap (after k.kept genome limit (shown k.as_row read)) (sym (append-nil (lines line)))
-          ∙ refused-so k.kept_of genome limit k.kept k.as_row law.again law.stands read line _ refused [])
+          ap (λ (r : Reading). coming k.projected genome limit r []) (sym c.self.view_is)
+          ∙ ap (λ (t : List ℕ). after k.projected genome limit (shown k.as_record read) (lines t)) (append-nil c.self.inside.tail.items ∙ sym c.as_slice.ensures.value)
+          ∙ ap (after k.projected genome limit (shown k.as_record read)) (sym (append-nil (lines line)))
+          ∙ refused-so k.held_of genome limit k.projected k.as_record law.again law.stands read line _ refused [])
     ])
 
 pub returns-clause-ok : goal.returns-clause-ok
@@ -35,17 +35,17 @@ returns-clause-ok g c =
     let read = c.self.inside.read in
     let new = c.take_lines.new.self in
     let line : List ℕ = c.as_slice.result.now in
-    let done : ℕ → List Row → Result Bed LoadFault = λ w rows. Ok (record { width = w; rows = rows }) in
-    let rows : List Row = map k.as_row new.kept in
-    let wide = sound-kept k.kept genome limit (shown k.as_row new) empty c.in_ok-take_lines.ensures.sound c.requires.width.0 c.requires.width.1 in
+    let done : ℕ → List RecordValue → Result Bed LoadFault = λ w rows. Ok (record { width = w; rows = rows }) in
+    let rows : List RecordValue = map k.as_record new.kept in
+    let wide = sound-kept k.projected genome limit (shown k.as_record new) empty c.in_ok-take_lines.ensures.sound c.requires.width.0 c.requires.width.1 in
     ap (finished empty)
-    (ap (λ (r : Reading). coming k.kept genome limit r []) (sym c.self.view_is)
-    ∙ ap (λ (t : List ℕ). after k.kept genome limit (shown k.as_row read) (lines t)) (append-nil c.self.inside.tail.items ∙ sym c.as_slice.ensures.value)
-    ∙ ap (after k.kept genome limit (shown k.as_row read)) (sym (append-nil (lines line)))
-    ∙ taken-so k.kept_of genome limit k.kept k.as_row law.again law.stands read new line c.in_ok-take_lines.ensures.ok [])
-    ∙ ap (done (unwrap_or new.width empty)) (kept-again k.kept genome limit law.again _ rows wide.2)
+    (ap (λ (r : Reading). coming k.projected genome limit r []) (sym c.self.view_is)
+    ∙ ap (λ (t : List ℕ). after k.projected genome limit (shown k.as_record read) (lines t)) (append-nil c.self.inside.tail.items ∙ sym c.as_slice.ensures.value)
+    ∙ ap (after k.projected genome limit (shown k.as_record read)) (sym (append-nil (lines line)))
+    ∙ taken-so k.held_of genome limit k.projected k.as_record law.again law.stands read new line c.in_ok-take_lines.ensures.ok [])
+    ∙ ap (done (unwrap_or new.width empty)) (kept-again k.projected genome limit law.again _ rows wide.2)
     ∙ ap (λ w. done w rows) (ap (λ o. unwrap_or o empty) (sym c.finish-width.ensures.width) ∙ sym c.unwrap_or.ensures)
-    ∙ ap (λ items. done c.unwrap_or.result (map k.as_row items)) (sym c.finish-width.ensures.kept)
+    ∙ ap (λ items. done c.unwrap_or.result (map k.as_record items)) (sym c.finish-width.ensures.kept)
 
 pub returns-clause-kept : goal.returns-clause-kept
 returns-clause-kept g c =
@@ -53,6 +53,6 @@ returns-clause-kept g c =
     let genome = c.args.genome.now in
     let empty = c.args.empty_width in
     let new = c.take_lines.new.self in
-    let wide = sound-kept k.kept genome c.args.limit (shown k.as_row new) empty c.in_ok-take_lines.ensures.sound c.requires.width.0 c.requires.width.1 in
-    subst (λ items. All (IsKept k.kept genome c.unwrap_or.result) (map k.as_row items)) (sym c.finish-width.ensures.kept)
-    (subst (λ w. All (IsKept k.kept genome w) (map k.as_row new.kept)) (ap (λ o. unwrap_or o empty) (sym c.finish-width.ensures.width) ∙ sym c.unwrap_or.ensures) wide.2)
+    let wide = sound-kept k.projected genome c.args.limit (shown k.as_record new) empty c.in_ok-take_lines.ensures.sound c.requires.width.0 c.requires.width.1 in
+    subst (λ items. All (IsProjected k.projected genome c.unwrap_or.result) (map k.as_record items)) (sym c.finish-width.ensures.kept)
+    (subst (λ w. All (IsProjected k.projected genome w) (map k.as_record new.kept)) (ap (λ o. unwrap_or o empty) (sym c.finish-width.ensures.width) ∙ sym c.unwrap_or.ensures) wide.2)

@@ -1,6 +1,6 @@
 use Rattle.std.proofs.Common.{refl}
-use Rattle.iv_text.proofs.ShortLemmas.{short-line}
-use Rattle.iv_text.proofs.record_reader.RecordReader.read_short.Goals as goal
+use Rattle.iv_text.proofs.FastLineLemmas.{short-line}
+use Rattle.iv_text.proofs.record_reader.RecordReader.read_fast.Goals as goal
 
 pub returns : goal.returns
 returns g c =

@@ -1,6 +1,6 @@
 use Rattle.std.proofs.Common.{◌≡◌, ℕ, suc, ◌+◌, ◌^◌, ◌<◌, ◌∙◌, List, [], ◌∷◌, length, sym, ap, subst, arith}
-use Rattle.iv_text.specs.Row.{Row, row_cmp}
-use Rattle.iv_track.specs.Counted.{grouped, left}
+use Rattle.iv_text.specs.RecordValue.{RecordValue, record_cmp}
+use Rattle.iv_track.specs.Inside.Counted.{grouped, left}
 use Rattle.iv_track.proofs.CountedLemmas.{IsCounting, counting-begins, counting-more, counting-ends, counting-last}
 use Rattle.iv_track.proofs.counted.CountedIterator.next.Goals.{in-Some, in-None+in_ok-first-in-None}
 use Rattle.iv_track.proofs.counted.CountedIterator.next.Goals as goal
@@ -14,7 +14,7 @@ loop-row-init g c =
       | in-Some w ↦ (
         counting-begins c.args.self.now (left i.ahead i.rest) first now.rest c.self.view_is c.self.invariant
             (ap (λ o. left o i.rest) (sym c.take.ensures.value ∙ w.in-Some.is)
-            ∙ ap (λ (r : Row). r ∷ i.rest) (sym w.first-is)
+            ∙ ap (λ (r : RecordValue). r ∷ i.rest) (sym w.first-is)
             ∙ ap (λ s. first ∷ s.rest) (sym w.self-inside-is)),
         ap (λ s. s.ahead) w.self-inside-is ∙ c.take.ensures.after,
       )
@@ -22,7 +22,7 @@ loop-row-init g c =
         counting-begins c.args.self.now (left i.ahead i.rest) first now.rest c.self.view_is c.self.invariant
             (ap (λ o. left o i.rest) (sym c.take.ensures.value ∙ w.in-None.is)
             ∙ w.in_ok-first-in-None.ensures.steps
-            ∙ ap (λ (r : Row). r ∷ w.next.new.self) (sym w.first-is)
+            ∙ ap (λ (r : RecordValue). r ∷ w.next.new.self) (sym w.first-is)
             ∙ ap (λ s. first ∷ s.rest) (sym w.self-inside-is)),
         ap (λ s. s.ahead) w.self-inside-is ∙ c.take.ensures.after,
       )
@@ -32,7 +32,7 @@ pub overflow_add-count : goal.overflow_add-count
 overflow_add-count g c =
     let rest = c.next-in-loop-row.new.self in
     let few : c.loop-row.count + suc (length rest) < 2 ^ 32 =
-    (subst (λ (l : List Row). IsCounting c.args.self.now c.match-take.first c.loop-row.count l) c.in-Some-next.ensures.steps c.loop-row.invariant.0).few in
+    (subst (λ (l : List RecordValue). IsCounting c.args.self.now c.match-take.first c.loop-row.count l) c.in-Some-next.ensures.steps c.loop-row.invariant.0).few in
     record { fits = omega (arith, few) }
 
 pub loop-row-preserved : goal.loop-row-preserved
@@ -40,7 +40,7 @@ loop-row-preserved g c =
     let l = c.loop-row in (
       counting-more c.args.self.now c.match-take.first c.in-Some-next.row l.count c.next-in-loop-row.new.self
           (sym c.ne.ensures ∙ c.if-ne.false)
-          (subst (λ (rows : List Row). IsCounting c.args.self.now c.match-take.first l.count rows) c.in-Some-next.ensures.steps l.invariant.0),
+          (subst (λ (rows : List RecordValue). IsCounting c.args.self.now c.match-take.first l.count rows) c.in-Some-next.ensures.steps l.invariant.0),
       l.invariant.1,
     )
 
@@ -48,21 +48,21 @@ pub returns-then-ne : goal.returns-then-ne
 returns-then-ne g c =
     let l = c.loop-row in
     let rest = c.next-in-loop-row.new.self in
-    let is : c.args.self.now ≡ (c.match-take.first, l.count) ∷ grouped row_cmp (c.in-Some-next.row ∷ rest) =
+    let is : c.args.self.now ≡ (c.match-take.first, l.count) ∷ grouped record_cmp (c.in-Some-next.row ∷ rest) =
     counting-ends c.args.self.now c.match-take.first c.in-Some-next.row l.count rest (sym c.ne.ensures ∙ c.if-ne.true)
-    (subst (λ (rows : List Row). IsCounting c.args.self.now c.match-take.first l.count rows) c.in-Some-next.ensures.steps l.invariant.0) in
-    let longer : length c.args.self.now ≡ suc (length (grouped row_cmp (c.in-Some-next.row ∷ rest))) = ap length is in
-    record { steps = (is, c.law_of_place.ensures); goes = record { on = λ _. (tt, tt, omega (arith, longer)); keeps = tt; rests = λ _. tt } }
+    (subst (λ (rows : List RecordValue). IsCounting c.args.self.now c.match-take.first l.count rows) c.in-Some-next.ensures.steps l.invariant.0) in
+    let longer : length c.args.self.now ≡ suc (length (grouped record_cmp (c.in-Some-next.row ∷ rest))) = ap length is in
+    record { steps = (is, c.lemma_of_interval.ensures); goes = record { on = λ _. (tt, tt, omega (arith, longer)); keeps = tt; rests = λ _. tt } }
 
 pub returns : goal.returns
 returns g c =
     let l = c.loop-row in
     let now = c.in_default.ensures.steps in
     let rest = c.next-in-loop-row.new.self in
-    let nothing : grouped row_cmp (left l.self-inside.ahead rest) ≡ [] =
-    ap (λ o. grouped row_cmp (left o rest)) l.invariant.1 ∙ ap (grouped row_cmp) now.1 in
-    let is : c.args.self.now ≡ (c.match-take.first, l.count) ∷ grouped row_cmp (left l.self-inside.ahead rest) =
+    let nothing : grouped record_cmp (left l.self-inside.ahead rest) ≡ [] =
+    ap (λ o. grouped record_cmp (left o rest)) l.invariant.1 ∙ ap (grouped record_cmp) now.1 in
+    let is : c.args.self.now ≡ (c.match-take.first, l.count) ∷ grouped record_cmp (left l.self-inside.ahead rest) =
     counting-last c.args.self.now c.match-take.first l.count l.self-inside.rest now.0 l.invariant.0
-    ∙ ap (λ (es : List (Row × ℕ)). (c.match-take.first, l.count) ∷ es) (sym nothing) in
-    let longer : length c.args.self.now ≡ suc (length (grouped row_cmp (left l.self-inside.ahead rest))) = ap length is in
-    record { steps = (is, c.law_of_place.ensures); goes = record { on = λ _. (tt, tt, omega (arith, longer)); keeps = tt; rests = λ _. tt } }
+    ∙ ap (λ (es : List (RecordValue × ℕ)). (c.match-take.first, l.count) ∷ es) (sym nothing) in
+    let longer : length c.args.self.now ≡ suc (length (grouped record_cmp (left l.self-inside.ahead rest))) = ap length is in
+    record { steps = (is, c.lemma_of_interval.ensures); goes = record { on = λ _. (tt, tt, omega (arith, longer)); keeps = tt; rests = λ _. tt } }

@@ -1,6 +1,6 @@
 use Rattle.std.proofs.Common.{rules, refl, sym, ◌∙◌, subst, ◌≡◌}
 use Rattle.std.specs.Iterator.{Drains, Yields}
-use Rattle.iv_track.specs.Chunks.{joined}
+use Rattle.iv_track.specs.Inside.Chunks.{joined}
 use Rattle.iv_track.specs.Entries.{IsLedger}
 use Rattle.iv_track.proofs.MapLemmas.{whole_gathered}
 use Rattle.iv_track.proofs.ledger.Ledger.from_entries.Goals as goal

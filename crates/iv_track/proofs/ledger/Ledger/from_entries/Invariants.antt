@@ -1,5 +1,5 @@
 use Rattle.std.proofs.Common.{◌≡◌, ◌++◌, ◌<◌, ◌≤◌, ◌^◌, length, vec_len}
-use Rattle.iv_track.specs.Chunks.{AreFilled, joined, most_at_once}
+use Rattle.iv_track.specs.Inside.Chunks.{AreFilled, joined, most_at_once}
 use Rattle.iv_track.proofs.ledger.Ledger.from_entries.Given as goal
 
 abbrev pub invariant-loop-entry : goal.invariant-loop-entry

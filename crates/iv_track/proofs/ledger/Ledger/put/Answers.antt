@@ -1,5 +1,5 @@
 use Rattle.std.proofs.Common.{rules, arith, sym, ap, ◌∙◌, ◌≡◌, ◌++◌, ◌∷◌, Some}
-use Rattle.iv_track.specs.Chunks.{joined, before, from}
+use Rattle.iv_track.specs.Inside.Chunks.{joined, before, from}
 use Rattle.iv_track.proofs.RoomLemmas.{always_on_err}
 use Rattle.iv_track.proofs.MapLemmas.{entry_read, found_value, written_insert, whole_written, whole_inserted, gap_value, gap_insert}
 use Rattle.iv_track.proofs.ledger.Ledger.put.Goals as goal

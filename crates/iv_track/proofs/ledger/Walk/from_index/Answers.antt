@@ -2,9 +2,9 @@ use Rattle.std.proofs.Common.{rules, arith, sym, ap, subst, ◌∙◌, ◌≡◌
 use Rattle.std.specs.Vec.{vec_items}
 use Rattle.std.specs.List.{between}
 use Rattle.std.proofs.lemmas.Slice.{between_to_end}
-use Rattle.iv_track.specs.Chunks.{joined}
+use Rattle.iv_track.specs.Inside.Chunks.{joined}
 use Rattle.iv_track.proofs.ChunkLemmas.{from_at}
-use Rattle.iv_track.proofs.ledger.Walk.from_place.Goals as goal
+use Rattle.iv_track.proofs.ledger.Walk.from_index.Goals as goal
 
 pub returns-in-Some : goal.returns-in-Some
 returns-in-Some g c =

@@ -1,6 +1,6 @@
 use Rattle.std.proofs.Common.{rules, arith, subst, ◌≡◌, ◌∷◌, length}
 use Rattle.std.proofs.lemmas.List.Elements.{All-head, All-tail}
-use Rattle.iv_track.specs.Chunks.{IsFilled, AreFilled}
+use Rattle.iv_track.specs.Inside.Chunks.{IsFilled, AreFilled}
 use Rattle.iv_track.proofs.ledger.Walk.next.Goals as goal
 
 pub returns-in_err-entry : goal.returns-in_err-entry

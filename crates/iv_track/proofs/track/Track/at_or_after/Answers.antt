@@ -1,6 +1,6 @@
 use Rattle.std.proofs.Common.{◌∙◌, sym, ap}
 use Rattle.iv_track.specs.Tracked.{Tracked, next_from, is_from}
-use Rattle.iv_track.proofs.PlaceLemmas.{find-begun, find-nowhere}
+use Rattle.iv_track.proofs.EntryIndexLemmas.{find-begun, find-nowhere}
 use Rattle.iv_track.proofs.TrackLemmas.{next-entry}
 use Rattle.iv_track.proofs.track.Track.at_or_after.Goals as goal
 

@@ -1,9 +1,10 @@
 use Rattle.std.proofs.Common.{◌≡◌, ℕ, ◌<◌, ◌-◌, ◌∙◌, sym, ap, arith, List, Some, subst}
 use Rattle.std.specs.Prelude.{unwrap_or}
-use Rattle.iv_text.specs.Row.{Row, row_cmp, rows_total}
+use Rattle.iv_text.specs.RecordValue.{RecordValue, record_cmp, rows_total}
 use Rattle.iv_track.specs.Entries.{value_at}
 use Rattle.iv_text.specs.Ordered.{AreInOrder, copies}
-use Rattle.iv_track.specs.Tracked.{Tracked, IsTrack, removed}
+use Rattle.iv_track.specs.Tracked.{Tracked, removed}
+use Rattle.iv_track.specs.Inside.Tracked.{IsTrack}
 use Rattle.iv_track.proofs.Counts.{in_order-expanded}
 use Rattle.iv_track.proofs.TrackLemmas.{count_here, found, count-pos, len-pos, IsLowered, lowered_by_take, lowered_by_set, lowered_track, set_gives}
 use Rattle.iv_track.proofs.track.Track.remove.Given as given
@@ -30,7 +31,7 @@ changed : (g : given.Over) (c : goal.Joined-count-eq1 g) → IsLowered c.self.in
 changed g c =
     let i = c.self.inside in
     let n = c.in-Some.count in
-    let count : value_at row_cmp i.ledger c.args.row.now ≡ Some n = sym c.get.ensures.value ∙ sym c.copied.ensures ∙ c.in-Some.is in
+    let count : value_at record_cmp i.ledger c.args.row.now ≡ Some n = sym c.get.ensures.value ∙ sym c.copied.ensures ∙ c.in-Some.is in
     elim c.if-count-eq1.branch [
       | then-count-eq1 w ↦
           let is = w.self-inside-is in (
@@ -52,14 +53,14 @@ changed g c =
 pub overflow_sub-self : goal.overflow_sub-self
 overflow_sub-self g c =
     let i = c.self.inside in
-    let count : value_at row_cmp i.ledger c.args.row.now ≡ Some c.in-Some.count = sym c.get.ensures.value ∙ sym c.copied.ensures ∙ c.in-Some.is in
+    let count : value_at record_cmp i.ledger c.args.row.now ≡ Some c.in-Some.count = sym c.get.ensures.value ∙ sym c.copied.ensures ∙ c.in-Some.is in
     omega (arith, len-pos i.ledger i.ledger i.len i.width i.limit c.args.row.now c.self.invariant c.in-Some.count count, (changed g c).1)
 
 pub invariant_of-self : goal.invariant_of-self
 invariant_of-self g c =
     let i = c.self.inside in
     let j = c.if-count-eq1.self-inside in
-    let count : value_at row_cmp i.ledger c.args.row.now ≡ Some c.in-Some.count = sym c.get.ensures.value ∙ sym c.copied.ensures ∙ c.in-Some.is in
+    let count : value_at record_cmp i.ledger c.args.row.now ≡ Some c.in-Some.count = sym c.get.ensures.value ∙ sym c.copied.ensures ∙ c.in-Some.is in
     let d = changed g c.before in
     let low = lowered_track i.ledger j.ledger i.len i.width i.limit c.args.row.now c.self.invariant c.in-Some.count count d.0 in
     subst (λ l. IsTrack j.ledger (l - 1) j.width j.limit) (sym d.1)
@@ -69,21 +70,21 @@ invariant_of-self g c =
 pub returns-clause-ok : goal.returns-clause-ok
 returns-clause-ok g c =
     let d = changed g c.before in
-    let with : List Row → ℕ → ℕ → Tracked = λ rows width limit. record { rows = rows; width = width; limit = limit } in
+    let with : List RecordValue → ℕ → ℕ → Tracked = λ rows width limit. record { rows = rows; width = width; limit = limit } in
     (λ k. with (d.0.rows k) (d.2 k) (d.3 k))
     ∙ ap (λ (t : Tracked). record t { rows = removed t.rows c.args.row.now }) c.self.view_is
 
 pub returns-clause-there : goal.returns-clause-there
 returns-clause-there g c =
     let i = c.self.inside in
-    let count : value_at row_cmp i.ledger c.args.row.now ≡ Some c.in-Some.count = sym c.get.ensures.value ∙ sym c.copied.ensures ∙ c.in-Some.is in
+    let count : value_at record_cmp i.ledger c.args.row.now ≡ Some c.in-Some.count = sym c.get.ensures.value ∙ sym c.copied.ensures ∙ c.in-Some.is in
     subst (λ (t : Tracked). 0 < copies t.rows c.args.row.now) c.self.view_is
     (found i.ledger i.ledger i.len i.width i.limit c.args.row.now c.self.invariant c.in-Some.count count)
 
 pub returns-in_default-clause-was_ordered : goal.returns-in_default-clause-was_ordered
 returns-in_default-clause-was_ordered g c =
-    subst (λ (t : Tracked). AreInOrder t.rows) c.self.view_is (in_order-expanded row_cmp rows_total c.self.inside.ledger c.self.invariant.ordered)
+    subst (λ (t : Tracked). AreInOrder t.rows) c.self.view_is (in_order-expanded record_cmp rows_total c.self.inside.ledger c.self.invariant.ordered)
 
 pub returns-clause-was_ordered : goal.returns-clause-was_ordered
 returns-clause-was_ordered g c =
-    subst (λ (t : Tracked). AreInOrder t.rows) c.self.view_is (in_order-expanded row_cmp rows_total c.self.inside.ledger c.self.invariant.ordered)
+    subst (λ (t : Tracked). AreInOrder t.rows) c.self.view_is (in_order-expanded record_cmp rows_total c.self.inside.ledger c.self.invariant.ordered)

@@ -1,24 +1,24 @@
 use Rattle.std.proofs.Common.{◌≡◌, ◌∙◌, ◌<◌, sym, ap, arith, List}
-use Rattle.iv_text.specs.Row.{Row, row_cmp, rows_total}
+use Rattle.iv_text.specs.RecordValue.{RecordValue, record_cmp, rows_total}
 use Rattle.iv_text.specs.Ordered.{copies, added}
 use Rattle.iv_track.specs.Tracked.{Tracked, removed}
 use Rattle.iv_text.proofs.OrderedLemmas.{copies-added}
 use Rattle.iv_track.proofs.Counts.{removed-added}
 use Rattle.iv_track.proofs.Edits.{refused-absent}
-use Rattle.iv_text.proofs.RowLemmas.{rows_exact}
+use Rattle.iv_text.proofs.RecordLemmas.{rows_exact}
 use Rattle.iv_track.proofs.track.Track.replace.Goals as goal
 
 pub unreachable-requires : goal.unreachable-requires
 unreachable-requires g c =
     let rows = c.args.self.now.rows in
     let none : copies (added rows c.args.new) c.args.old.now ≡ 0 = ap (λ (t : Tracked). copies t.rows c.args.old.now) (sym c.in_ok-stage.ensures.ok) ∙ refused-absent c.stage.new.self c.args.old.now _ c.in-Err.ensures.why in
-    omega (arith, none, copies-added row_cmp rows c.args.new c.args.old.now, c.copies.ensures.value, c.if-copies-eq0.false)
+    omega (arith, none, copies-added record_cmp rows c.args.new c.args.old.now, c.copies.ensures.value, c.if-copies-eq0.false)
 
 pub returns-clause-ok : goal.returns-clause-ok
 returns-clause-ok g c =
     let t = c.args.self.now in
     let some : 0 < copies t.rows c.args.old.now = omega (arith, c.copies.ensures.value, c.if-copies-eq0.false) in
-    let with_rows : List Row → Tracked = λ rows. record { rows = rows; width = t.width; limit = t.limit } in
+    let with_rows : List RecordValue → Tracked = λ rows. record { rows = rows; width = t.width; limit = t.limit } in
     c.in-Ok.ensures.ok
     ∙ ap (λ (s : Tracked). record s { rows = removed s.rows c.args.old.now }) c.in_ok-stage.ensures.ok
-    ∙ ap with_rows (removed-added row_cmp rows_total rows_exact t.rows c.args.new c.args.old.now c.copies.ensures.ordered some)
+    ∙ ap with_rows (removed-added record_cmp rows_total rows_exact t.rows c.args.new c.args.old.now c.copies.ensures.ordered some)

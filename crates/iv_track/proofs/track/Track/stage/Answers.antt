@@ -1,7 +1,7 @@
 use Rattle.std.proofs.Common.{◌≡◌, ◌∙◌, sym, ap, arith, List, length}
 use Rattle.std.proofs.Common.{Result, Ok, Err}
 use Rattle.std.specs.Prelude.{unwrap_or, OnErr}
-use Rattle.iv_text.specs.Row.{Row, row_cmp}
+use Rattle.iv_text.specs.RecordValue.{RecordValue, record_cmp}
 use Rattle.iv_track.specs.Entries.{value_at}
 use Rattle.iv_text.specs.Ordered.{added, copies}
 use Rattle.iv_track.specs.Tracked.{Tracked}
@@ -11,7 +11,7 @@ use Rattle.iv_track.proofs.track.Track.stage.Goals as goal
 pub overflow_add-count : goal.overflow_add-count
 overflow_add-count g c =
     let i = c.self.inside in
-    let e : c.unwrap_or-count.result ≡ unwrap_or (value_at row_cmp i.ledger c.args.row) 0 = c.unwrap_or-count.ensures ∙ ap (λ o. unwrap_or o 0) (c.copied.ensures ∙ c.get.ensures.value) in
+    let e : c.unwrap_or-count.result ≡ unwrap_or (value_at record_cmp i.ledger c.args.row) 0 = c.unwrap_or-count.ensures ∙ ap (λ o. unwrap_or o 0) (c.copied.ensures ∙ c.get.ensures.value) in
     record { fits = omega (arith, e, count-le-len i.ledger i.len i.width i.limit c.args.row c.self.invariant, c.self.invariant.room, c.self.invariant.bounded) }
 
 pub invariant_of-self-2 : goal.invariant_of-self-2
@@ -20,14 +20,14 @@ invariant_of-self-2 g c =
     let e = c.unwrap_or-count.ensures ∙ ap (λ o. unwrap_or o 0) (c.copied.ensures ∙ c.get.ensures.value) in
     staged_track i.ledger c.put.new.self i.len i.width i.limit c.args.row c.self.invariant c.unwrap_or-count.result e c.in_ok-put.ensures.ok c.in_ok-put.ensures.ordered
     (c.requires.width ∙ sym (ap (λ (t : Tracked). t.width) c.self.view_is))
-    c.law_of_place.ensures
+    c.lemma_of_interval.ensures
     (omega (arith, c.requires.room, len-rows i.ledger i.len i.width i.limit c.self.invariant, ap (λ (t : Tracked). length t.rows) c.self.view_is, ap (λ (t : Tracked). t.limit) c.self.view_is))
 
 pub returns-clause-ok : goal.returns-clause-ok
 returns-clause-ok g c =
     let i = c.self.inside in
     let e = c.unwrap_or-count.ensures ∙ ap (λ o. unwrap_or o 0) (c.copied.ensures ∙ c.get.ensures.value) in
-    let with_rows : List Row → Tracked = λ rows. record { rows = rows; width = i.width; limit = i.limit } in
+    let with_rows : List RecordValue → Tracked = λ rows. record { rows = rows; width = i.width; limit = i.limit } in
     ap with_rows (staged_rows i.ledger c.put.new.self i.len i.width i.limit c.args.row c.self.invariant c.unwrap_or-count.result e c.in_ok-put.ensures.ok)
     ∙ ap (λ (t : Tracked). record t { rows = added t.rows c.args.row }) c.self.view_is
 

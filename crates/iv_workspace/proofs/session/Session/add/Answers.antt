@@ -3,12 +3,13 @@ use Rattle.std.proofs.Common.{◌≡◌, ◌∙◌, ◌<◌, inr, length, arith,
 use Rattle.std.proofs.lemmas.Result.{err_from_is_err_and}
 use Rattle.iv_text.specs.Ordered.{added}
 use Rattle.iv_text.specs.Read.{Fits}
-use Rattle.iv_text.specs.Row.{Row}
+use Rattle.iv_text.specs.RecordValue.{RecordValue}
 use Rattle.iv_track.specs.Tracked.{Tracked}
-use Rattle.iv_workspace.specs.ViewStates.{all_seen}
+use Rattle.iv_workspace.specs.Inside.ViewStates.{all_seen}
 use Rattle.iv_workspace.specs.OpenViews.{all_steps}
 use Rattle.iv_track.specs.Edits.{RefusesAdd, with_record}
-use Rattle.iv_workspace.specs.States.{State, IsTrackOn}
+use Rattle.iv_workspace.specs.States.{State}
+use Rattle.iv_workspace.specs.Inside.States.{IsTrackOn}
 use Rattle.iv_workspace.specs.declared.session.edits.Accepted.{Accepted}
 use Rattle.iv_workspace.proofs.SessionLemmas.{edited, fit-added, track-added, session-stales}
 use Rattle.iv_workspace.proofs.session.Session.add.Goals as goal
@@ -25,7 +26,7 @@ repair-requires-clause-fit g c =
     let inside = c.self.inside in
     let F : State → Type 0 = λ s. Fits s.genome s.track.width c.args.row.now in
     let fits : Fits inside.genome inside.track.width c.in_ok-record.record =
-    subst (λ (r : Row). Fits inside.genome inside.track.width r) (sym c.in_ok-record.ensures.ok) (subst F (sym c.self.view_is) c.requires) in
+    subst (λ (r : RecordValue). Fits inside.genome inside.track.width r) (sym c.in_ok-record.ensures.ok) (subst F (sym c.self.view_is) c.requires) in
     subst (λ (t : Tracked). All (Fits inside.genome t.width) t.rows) (sym c.in_ok-add.ensures.ok)
     (fit-added inside.genome inside.track c.in_ok-record.record c.self.invariant.0.track_is fits)
 
@@ -39,7 +40,7 @@ invariant_of-self-2 g c =
     let inside = c.self.inside in
     let F : State → Type 0 = λ s. Fits s.genome s.track.width c.args.row.now in
     let fits : Fits inside.genome inside.track.width c.in_ok-record.record =
-    subst (λ (r : Row). Fits inside.genome inside.track.width r) (sym c.in_ok-record.ensures.ok) (subst F (sym c.self.view_is) c.requires) in (
+    subst (λ (r : RecordValue). Fits inside.genome inside.track.width r) (sym c.in_ok-record.ensures.ok) (subst F (sym c.self.view_is) c.requires) in (
       session-stales inside.genome inside.track _ inside.second _ _ c.self.invariant.0
           (subst (IsTrackOn inside.genome) (sym c.in_ok-add.ensures.ok) (track-added inside.genome inside.track c.in_ok-record.record c.self.invariant.0.track_is fits c.in_ok-add.ensures.room))
           c.repair.ensures.stales,
@@ -51,14 +52,14 @@ returns-clause-ok g c =
     let inside = c.self.inside in
     let same : all_steps (all_seen inside.views) c.add.new.self.rows c.args.row.now ≡ all_steps c.args.self.now.views (added c.args.self.now.track.rows c.args.row.now) c.args.row.now =
     ap (λ (t : Tracked). all_steps (all_seen inside.views) t.rows c.args.row.now) c.in_ok-add.ensures.ok
-    ∙ ap (λ (r : Row). all_steps (all_seen inside.views) (added inside.track.rows r) c.args.row.now) c.in_ok-record.ensures.ok
+    ∙ ap (λ (r : RecordValue). all_steps (all_seen inside.views) (added inside.track.rows r) c.args.row.now) c.in_ok-record.ensures.ok
     ∙ ap (λ (s : State). all_steps s.views (added s.track.rows c.args.row.now) c.args.row.now) c.self.view_is in
     let more = c.repair.ensures.steps in
     record {
       done = (
         subst (λ (s : State). length s.track.rows < s.track.limit) c.self.view_is c.in_ok-add.ensures.room,
         edited (with_record c.args.row.now) _ _ c.add.new.self _ c.self.view_is
-            (c.in_ok-add.ensures.ok ∙ ap (λ (r : Row). record inside.track { rows = added inside.track.rows r }) c.in_ok-record.ensures.ok) c.repair.ensures.stales,
+            (c.in_ok-add.ensures.ok ∙ ap (λ (r : RecordValue). record inside.track { rows = added inside.track.rows r }) c.in_ok-record.ensures.ok) c.repair.ensures.stales,
       );
       steps = omega (arith, same, more.at_most, c.in_ok-add.ensures.steps.at_most, c.new-meter.ensures, ap (λ (a : Accepted). a.steps) c.of.ensures);
       stale = ap (λ (a : Accepted). a.stale) c.of.ensures;
@@ -70,4 +71,4 @@ returns-in_err-add-clause-why g c =
     let reported = c.in_err-add.field-0.0 in
     rw (p.1, p.2) (inr
     (subst (λ (s : State). RefusesAdd s.track c.args.row.now reported) c.self.view_is
-    (subst (λ (r : Row). RefusesAdd c.self.inside.track r reported) c.in_ok-record.ensures.ok c.in_err-add.ensures.why)))
+    (subst (λ (r : RecordValue). RefusesAdd c.self.inside.track r reported) c.in_ok-record.ensures.ok c.in_err-add.ensures.why)))

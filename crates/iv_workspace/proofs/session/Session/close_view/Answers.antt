@@ -3,8 +3,9 @@ use Rattle.std.specs.Map.{remove_entry}
 use Rattle.std.specs.Str.{bytes_eq}
 use Rattle.std.specs.Prelude.{IsSome}
 use Rattle.iv_text.specs.Named.{names_of}
-use Rattle.iv_workspace.specs.ViewStates.{all_seen}
-use Rattle.iv_workspace.specs.States.{State, IsServed, IsWrittenFresh}
+use Rattle.iv_workspace.specs.Inside.ViewStates.{all_seen}
+use Rattle.iv_workspace.specs.States.{State}
+use Rattle.iv_workspace.specs.Inside.States.{IsServed, IsWrittenFresh}
 use Rattle.iv_workspace.specs.Views.{view_named}
 use Rattle.iv_workspace.proofs.OpenViewLemmas.{all-removed}
 use Rattle.iv_workspace.proofs.SessionLemmas.{views-changed}

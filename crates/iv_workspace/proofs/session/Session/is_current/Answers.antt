@@ -1,5 +1,5 @@
 use Rattle.std.proofs.Common.{◌∙◌, refl, ap}
-use Rattle.iv_workspace.specs.ViewStates.{seen}
+use Rattle.iv_workspace.specs.Inside.ViewStates.{seen}
 use Rattle.iv_workspace.specs.States.{State}
 use Rattle.iv_workspace.specs.Views.{view_named}
 use Rattle.iv_workspace.proofs.PrintLemmas.{match-none, match-some}

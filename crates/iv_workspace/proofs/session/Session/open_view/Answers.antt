@@ -3,10 +3,10 @@ use Rattle.std.specs.Option.{is_some}
 use Rattle.std.proofs.lemmas.List.{length-map}
 use Rattle.iv_view.specs.Views.{read_words}
 use Rattle.iv_view.proofs.WordLemmas.{needs-there}
-use Rattle.iv_workspace.specs.ViewStates.{all_seen, seen}
+use Rattle.iv_workspace.specs.Inside.ViewStates.{all_seen, seen}
 use Rattle.iv_workspace.specs.declared.views.OpenView.{OpenView}
 use Rattle.iv_workspace.specs.OpenViews.{Shown}
-use Rattle.iv_workspace.specs.States.{IsServed, AreServed, IsWrittenFresh, AreWrittenFresh}
+use Rattle.iv_workspace.specs.Inside.States.{IsServed, AreServed, IsWrittenFresh, AreWrittenFresh}
 use Rattle.iv_workspace.specs.Views.{is_view_name, view_named}
 use Rattle.iv_workspace.proofs.OpenViewLemmas.{all-pushed}
 use Rattle.iv_workspace.proofs.SessionLemmas.{no-name_fault, views-changed}

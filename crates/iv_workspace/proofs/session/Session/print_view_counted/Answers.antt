@@ -3,9 +3,10 @@ use Rattle.std.specs.Prelude.{IfNone, Option}
 use Rattle.std.proofs.lemmas.Result.{err_from_is_err_and}
 use Rattle.iv_bytes.proofs.Putting.{Puts-finished}
 use Rattle.iv_view.specs.declared.view.View.{View}
-use Rattle.iv_workspace.specs.ViewStates.{IsKept, all_owned, all_seen}
+use Rattle.iv_workspace.specs.Inside.ViewStates.{IsKept, all_owned, all_seen}
 use Rattle.iv_workspace.specs.OpenViews.{current, with_current}
-use Rattle.iv_workspace.specs.States.{State, IsServed, IsWrittenFresh}
+use Rattle.iv_workspace.specs.States.{State}
+use Rattle.iv_workspace.specs.Inside.States.{IsServed, IsWrittenFresh}
 use Rattle.iv_workspace.specs.Views.{view_named}
 use Rattle.iv_workspace.proofs.OpenViewLemmas.{all-named}
 use Rattle.iv_workspace.proofs.PrintLemmas.{match-none, match-some, view-found, view-none, some-and, current-found, same-text, Puts-text, view-answered}

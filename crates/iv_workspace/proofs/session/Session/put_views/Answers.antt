@@ -1,7 +1,8 @@
 use Rattle.std.proofs.Common.{◌≡◌, ◌∙◌, ◌+◌, drop, false, slice_get, sym, ap, arith}
 use Rattle.iv_bytes.proofs.Putting.{Underway-begin, Underway-fails, Underway-more, Puts-err}
-use Rattle.iv_workspace.specs.ViewStates.{IsKept, all_owned, all_seen, seen}
-use Rattle.iv_workspace.specs.States.{State, IsServed}
+use Rattle.iv_workspace.specs.Inside.ViewStates.{IsKept, all_owned, all_seen, seen}
+use Rattle.iv_workspace.specs.States.{State}
+use Rattle.iv_workspace.specs.Inside.States.{IsServed}
 use Rattle.iv_workspace.specs.Views.{text_in}
 use Rattle.iv_workspace.proofs.OpenViewLemmas.{all-at}
 use Rattle.iv_workspace.proofs.PrintLemmas.{seen-at, all-get, past-views, views-next, Takes-text, FailsIn-text}

@@ -2,19 +2,20 @@ use Rattle.std.proofs.Common.{◌≡◌, ◌∙◌, ◌<◌, List, inr, arith, a
 use Rattle.std.proofs.lemmas.Result.{err_from_is_err_and}
 use Rattle.iv_text.specs.Ordered.{added, copies}
 use Rattle.iv_text.specs.Read.{Fits}
-use Rattle.iv_text.specs.Row.{Row}
+use Rattle.iv_text.specs.RecordValue.{RecordValue}
 use Rattle.iv_track.specs.Tracked.{Tracked, removed}
-use Rattle.iv_workspace.specs.ViewStates.{all_seen}
+use Rattle.iv_workspace.specs.Inside.ViewStates.{all_seen}
 use Rattle.iv_workspace.specs.OpenViews.{all_steps}
 use Rattle.iv_track.specs.Edits.{RefusesRemove, without_record}
-use Rattle.iv_workspace.specs.States.{State, IsTrackOn}
+use Rattle.iv_workspace.specs.States.{State}
+use Rattle.iv_workspace.specs.Inside.States.{IsTrackOn}
 use Rattle.iv_workspace.specs.declared.session.edits.Accepted.{Accepted}
 use Rattle.iv_track.proofs.Edits.{added-removed}
 use Rattle.iv_workspace.proofs.SessionLemmas.{edited, track-removed, session-stales}
 use Rattle.iv_workspace.proofs.session.Session.remove.Goals as goal
 
 -- the records before, by those after and the one that was taken out
-with-again : (old new : Tracked) (r q : Row) → r ≡ q → old.rows ≡ added (removed old.rows r) r → new ≡ record old { rows = removed old.rows r }
+with-again : (old new : Tracked) (r q : RecordValue) → r ≡ q → old.rows ≡ added (removed old.rows r) r → new ≡ record old { rows = removed old.rows r }
     → old.rows ≡ added new.rows q
 with-again old new r q same again is = again ∙ ap (λ (t : Tracked). added t.rows r) (sym is) ∙ ap (added new.rows) same
 
@@ -52,14 +53,14 @@ returns-clause-ok g c =
     let e = c.in_ok-remove.ensures in
     let rows = with-again inside.track c.remove.new.self _ c.args.row.now c.in_ok-record.ensures.ok (added-removed inside.track.rows c.in_ok-record.record e.was_ordered e.there) e.ok in
     let same : all_steps (all_seen inside.views) (added c.remove.new.self.rows c.args.row.now) c.args.row.now ≡ all_steps c.args.self.now.views c.args.self.now.track.rows c.args.row.now =
-    ap (λ (l : List Row). all_steps (all_seen inside.views) l c.args.row.now) (sym rows)
+    ap (λ (l : List RecordValue). all_steps (all_seen inside.views) l c.args.row.now) (sym rows)
     ∙ ap (λ (s : State). all_steps s.views s.track.rows c.args.row.now) c.self.view_is in
     let more = c.repair.ensures.steps in
     record {
       done = (
-        subst (λ (s : State). 0 < copies s.track.rows c.args.row.now) c.self.view_is (subst (λ (r : Row). 0 < copies inside.track.rows r) c.in_ok-record.ensures.ok e.there),
+        subst (λ (s : State). 0 < copies s.track.rows c.args.row.now) c.self.view_is (subst (λ (r : RecordValue). 0 < copies inside.track.rows r) c.in_ok-record.ensures.ok e.there),
         edited (without_record c.args.row.now) _ _ c.remove.new.self _ c.self.view_is
-            (e.ok ∙ ap (λ (r : Row). record inside.track { rows = removed inside.track.rows r }) c.in_ok-record.ensures.ok) c.repair.ensures.stales,
+            (e.ok ∙ ap (λ (r : RecordValue). record inside.track { rows = removed inside.track.rows r }) c.in_ok-record.ensures.ok) c.repair.ensures.stales,
       );
       steps = omega (arith, same, more.at_most, e.steps.at_most, c.new-meter.ensures, ap (λ (a : Accepted). a.steps) c.of.ensures);
       stale = ap (λ (a : Accepted). a.stale) c.of.ensures;
@@ -71,4 +72,4 @@ returns-in_err-remove-clause-why g c =
     let reported = c.in_err-remove.field-0.0 in
     rw (p.1, p.2) (inr
     (subst (λ (s : State). RefusesRemove s.track c.args.row.now reported) c.self.view_is
-    (subst (λ (r : Row). RefusesRemove c.self.inside.track r reported) c.in_ok-record.ensures.ok c.in_err-remove.ensures.why)))
+    (subst (λ (r : RecordValue). RefusesRemove c.self.inside.track r reported) c.in_ok-record.ensures.ok c.in_err-remove.ensures.why)))

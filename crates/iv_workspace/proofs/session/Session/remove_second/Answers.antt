@@ -1,11 +1,11 @@
 use Rattle.std.proofs.Common.{◌<◌, ◌⊎◌, ◌∙◌, inr, arith, ap, sym, subst}
 use Rattle.std.proofs.lemmas.Result.{err_from_is_err_and}
 use Rattle.iv_text.specs.Ordered.{copies}
-use Rattle.iv_text.specs.Row.{Row}
+use Rattle.iv_text.specs.RecordValue.{RecordValue}
 use Rattle.iv_track.specs.Edits.{RefusesRemove, without_record}
 use Rattle.iv_workspace.specs.Edits.{RefusesCopy}
-use Rattle.iv_workspace.specs.ViewStates.{all_seen}
-use Rattle.iv_workspace.specs.States.{IsTrackOn}
+use Rattle.iv_workspace.specs.Inside.ViewStates.{all_seen}
+use Rattle.iv_workspace.specs.Inside.States.{IsTrackOn}
 use Rattle.iv_workspace.specs.declared.session.edits.Accepted.{Accepted}
 use Rattle.iv_workspace.proofs.SessionLemmas.{track-removed}
 use Rattle.iv_workspace.proofs.SecondLemmas.{of-second, second-edited, second-track, session-second}
@@ -17,7 +17,7 @@ returns-in_err-remove-clause-why g c =
     let reported = c.in_err-remove.field-0.0 in
     rw (p.1, p.2)
     (of-second (λ t. RefusesCopy t reported ⊎ RefusesRemove t c.args.row.now reported) _ c.args.self.now c.in-Some.second c.self.view_is c.in-Some.is
-    (inr (subst (λ (r : Row). RefusesRemove c.in-Some.second r reported) c.in_ok-record.ensures.ok c.in_err-remove.ensures.why)))
+    (inr (subst (λ (r : RecordValue). RefusesRemove c.in-Some.second r reported) c.in_ok-record.ensures.ok c.in_err-remove.ensures.why)))
 
 pub returns-clause-ok : goal.returns-clause-ok
 returns-clause-ok g c =
@@ -25,9 +25,9 @@ returns-clause-ok g c =
     let e = c.in_ok-remove.ensures in
     record {
       done = (
-        of-second (λ u. 0 < copies u.rows c.args.row.now) _ c.args.self.now t c.self.view_is c.in-Some.is (subst (λ (r : Row). 0 < copies t.rows r) c.in_ok-record.ensures.ok e.there),
+        of-second (λ u. 0 < copies u.rows c.args.row.now) _ c.args.self.now t c.self.view_is c.in-Some.is (subst (λ (r : RecordValue). 0 < copies t.rows r) c.in_ok-record.ensures.ok e.there),
         second-edited (without_record c.args.row.now) _ c.args.self.now t c.remove.new.self c.self.view_is c.in-Some.is
-            (e.ok ∙ ap (λ (r : Row). without_record r t) c.in_ok-record.ensures.ok),
+            (e.ok ∙ ap (λ (r : RecordValue). without_record r t) c.in_ok-record.ensures.ok),
       );
       steps = omega (arith, e.steps.at_most, c.new-meter.ensures, ap (λ (a : Accepted). a.steps) c.of.ensures);
       stale = ap (λ (a : Accepted). a.stale) c.of.ensures;

@@ -3,9 +3,9 @@ use Rattle.std.proofs.Common.{◌≡◌, ◌∙◌, ◌<◌, List, inr, arith, a
 use Rattle.std.proofs.lemmas.Result.{err_from_is_err_and}
 use Rattle.iv_text.specs.Ordered.{added, copies}
 use Rattle.iv_text.specs.Read.{Fits}
-use Rattle.iv_text.specs.Row.{Row}
+use Rattle.iv_text.specs.RecordValue.{RecordValue}
 use Rattle.iv_track.specs.Tracked.{Tracked}
-use Rattle.iv_workspace.specs.ViewStates.{all_seen}
+use Rattle.iv_workspace.specs.Inside.ViewStates.{all_seen}
 use Rattle.iv_workspace.specs.OpenViews.{all_steps}
 use Rattle.iv_track.specs.Edits.{with_replaced}
 use Rattle.iv_workspace.specs.States.{State}
@@ -21,9 +21,9 @@ returns-in_err-stage-clause-why g c =
     let inside = c.self.inside in
     let there : 0 < copies c.self.inside.track.rows c.in_ok-before.before = omega (arith, c.copies.ensures.value) in
     let first : 0 < copies c.args.self.now.track.rows c.args.old.now =
-    subst (λ (s : State). 0 < copies s.track.rows c.args.old.now) c.self.view_is (subst (λ (r : Row). 0 < copies inside.track.rows r) c.in_ok-before.ensures.ok there) in
+    subst (λ (s : State). 0 < copies s.track.rows c.args.old.now) c.self.view_is (subst (λ (r : RecordValue). 0 < copies inside.track.rows r) c.in_ok-before.ensures.ok there) in
     let none : copies c.args.self.now.track.rows c.args.new.now ≡ 0 =
-    subst (λ (s : State). copies s.track.rows c.args.new.now ≡ 0) c.self.view_is (subst (λ (r : Row). copies inside.track.rows r ≡ 0) c.in_ok-after.ensures.ok c.in_err-stage.ensures.memory) in
+    subst (λ (s : State). copies s.track.rows c.args.new.now ≡ 0) c.self.view_is (subst (λ (r : RecordValue). copies inside.track.rows r ≡ 0) c.in_ok-after.ensures.ok c.in_err-stage.ensures.memory) in
     rw (p.1, p.2) (inr (first, none))
 
 pub returns-then-copies-eq0-clause-why : goal.returns-then-copies-eq0-clause-why
@@ -31,14 +31,14 @@ returns-then-copies-eq0-clause-why g c =
     let none : copies c.self.inside.track.rows c.in_ok-before.before ≡ 0 = omega (arith, c.copies.ensures.value, c.if-copies-eq0.true) in
     inr
     (subst (λ (s : State). copies s.track.rows c.args.old.now ≡ 0) c.self.view_is
-    (subst (λ (r : Row). copies c.self.inside.track.rows r ≡ 0) c.in_ok-before.ensures.ok none))
+    (subst (λ (r : RecordValue). copies c.self.inside.track.rows r ≡ 0) c.in_ok-before.ensures.ok none))
 
 pub repair-requires-clause-fit : goal.repair-requires-clause-fit
 repair-requires-clause-fit g c =
     let inside = c.self.inside in
     let F : State → Type 0 = λ s. Fits s.genome s.track.width c.args.new.now in
     let fits : Fits inside.genome inside.track.width c.in_ok-after.after =
-    subst (λ (r : Row). Fits inside.genome inside.track.width r) (sym c.in_ok-after.ensures.ok) (subst F (sym c.self.view_is) c.requires.new) in
+    subst (λ (r : RecordValue). Fits inside.genome inside.track.width r) (sym c.in_ok-after.ensures.ok) (subst F (sym c.self.view_is) c.requires.new) in
     subst (λ (t : Tracked). All (Fits inside.genome t.width) t.rows) (sym c.in_ok-stage.ensures.ok) (fit-added inside.genome inside.track c.in_ok-after.after c.self.invariant.0.track_is fits)
 
 pub unreachable-requires : goal.unreachable-requires
@@ -84,19 +84,19 @@ returns-clause-ok g c =
     let there : 0 < copies c.self.inside.track.rows c.in_ok-before.before = omega (arith, c.copies.ensures.value) in
     let whole = replaced-in _ _ _ _ _ _ _ _ c.self.view_is c.in_ok-before.ensures.ok c.in_ok-after.ensures.ok c.self.invariant.0.track_is c.copies.ensures.ordered there c.requires.new
     c.in_ok-stage.ensures.ok c.in-Ok.ensures.ok in
-    let bound : (r : Row) → all_steps (all_seen inside.views) c.stage.new.self.rows r ≡ all_steps c.args.self.now.views (added c.args.self.now.track.rows c.args.new.now) r = λ r.
+    let bound : (r : RecordValue) → all_steps (all_seen inside.views) c.stage.new.self.rows r ≡ all_steps c.args.self.now.views (added c.args.self.now.track.rows c.args.new.now) r = λ r.
     ap (λ (t : Tracked). all_steps (all_seen inside.views) t.rows r) c.in_ok-stage.ensures.ok
-    ∙ ap (λ (q : Row). all_steps (all_seen inside.views) (added inside.track.rows q) r) c.in_ok-after.ensures.ok
+    ∙ ap (λ (q : RecordValue). all_steps (all_seen inside.views) (added inside.track.rows q) r) c.in_ok-after.ensures.ok
     ∙ ap (λ (s : State). all_steps s.views (added s.track.rows c.args.new.now) r) c.self.view_is in
     let second : all_steps (all_seen inside.views) (added c.remove.new.self.rows c.args.old.now) c.args.old.now
     ≡ all_steps c.args.self.now.views (added c.args.self.now.track.rows c.args.new.now) c.args.old.now =
-    ap (λ (l : List Row). all_steps (all_seen inside.views) l c.args.old.now) (sym whole.again) ∙ bound c.args.old.now in
+    ap (λ (l : List RecordValue). all_steps (all_seen inside.views) l c.args.old.now) (sym whole.again) ∙ bound c.args.old.now in
     let less = stales-steps _ _ (added c.remove.new.self.rows c.args.old.now) c.args.old.now c.repair.ensures.stales in
     let one = c.repair.ensures.steps in
     let two = c.repair-2.ensures.steps in
     record {
       done = (
-        subst (λ (s : State). 0 < copies s.track.rows c.args.old.now) c.self.view_is (subst (λ (r : Row). 0 < copies inside.track.rows r) c.in_ok-before.ensures.ok there),
+        subst (λ (s : State). 0 < copies s.track.rows c.args.old.now) c.self.view_is (subst (λ (r : RecordValue). 0 < copies inside.track.rows r) c.in_ok-before.ensures.ok there),
         edited (with_replaced c.args.old.now c.args.new.now) _ _ c.remove.new.self _ c.self.view_is whole.is (stales-trans _ _ _ c.repair.ensures.stales c.repair-2.ensures.stales),
       );
       steps = omega (

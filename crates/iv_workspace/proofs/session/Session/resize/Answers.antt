@@ -2,7 +2,7 @@ use Rattle.std.proofs.Common.{◌∙◌, List, ℕ, sym, ap, subst}
 use Rattle.iv_text.specs.Genome.{rank_of}
 use Rattle.iv_text.specs.Named.{names_of}
 use Rattle.iv_text.proofs.LengthLemmas.{names-with_length, rank-within}
-use Rattle.iv_workspace.specs.ViewStates.{AreRight, all_seen}
+use Rattle.iv_workspace.specs.Inside.ViewStates.{AreRight, all_seen}
 use Rattle.iv_workspace.specs.States.{State}
 use Rattle.iv_workspace.proofs.ResizeLemmas.{session-resized, resized-unknown, resized-shorter, resized-fixed, resized-in}
 use Rattle.iv_workspace.proofs.session.Session.resize.Goals as goal

@@ -1,7 +1,7 @@
 use Rattle.std.proofs.Common.{◌∙◌, arith, sym, ap, subst}
 use Rattle.std.specs.List.{list_any}
 use Rattle.iv_text.specs.Ordered.{AreInOrder}
-use Rattle.iv_text.specs.Row.{row_cmp}
+use Rattle.iv_text.specs.RecordValue.{record_cmp}
 use Rattle.iv_track.specs.Tracked.{is_from}
 use Rattle.iv_text.proofs.InOrderLemmas.{in_order-filter}
 use Rattle.iv_workspace.specs.Resizes.{reaches_past}
@@ -10,7 +10,7 @@ use Rattle.iv_workspace.proofs.session.lengths.track_reaches_past.Goals as goal
 
 pub loop-row-init : goal.loop-row-init
 loop-row-init g c = record {
-  ordered = subst AreInOrder (sym c.walk-walk.ensures.rows) (in_order-filter row_cmp (is_from c.args.seq 0) c.args.track.now.rows c.walk-walk.ensures.ordered);
+  ordered = subst AreInOrder (sym c.walk-walk.ensures.rows) (in_order-filter record_cmp (is_from c.args.seq 0) c.args.track.now.rows c.walk-walk.ensures.ordered);
   same = ap (list_any (reaches_past c.args.seq c.args.length)) c.walk-walk.ensures.rows ∙ past-from_first c.args.seq c.args.length c.args.track.now.rows;
 }
 

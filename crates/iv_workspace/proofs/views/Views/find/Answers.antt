@@ -2,7 +2,7 @@ use Rattle.std.proofs.Common.{◌∙◌, ap, sym}
 use Rattle.std.specs.Map.{lookup}
 use Rattle.std.specs.Option.{option_map}
 use Rattle.std.specs.Str.{bytes_eq}
-use Rattle.iv_workspace.specs.ViewStates.{seen}
+use Rattle.iv_workspace.specs.Inside.ViewStates.{seen}
 use Rattle.iv_workspace.proofs.OpenViewLemmas.{seen-lookup}
 use Rattle.iv_workspace.proofs.views.Views.find.Goals as goal
 

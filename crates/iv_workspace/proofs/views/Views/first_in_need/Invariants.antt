@@ -1,5 +1,5 @@
 use Rattle.std.proofs.Common.{drop}
-use Rattle.iv_workspace.specs.ViewStates.{NoneNeeds, all_seen}
+use Rattle.iv_workspace.specs.Inside.ViewStates.{NoneNeeds, all_seen}
 use Rattle.iv_workspace.proofs.views.Views.first_in_need.Given as goal
 
 abbrev pub invariant-loop-place : goal.invariant-loop-place

@@ -2,7 +2,7 @@ use Rattle.std.proofs.Common.{◌∙◌, ◌++◌, ◌∷◌, [], ap, sym, subst
 use Rattle.std.proofs.lemmas.Result.{on_ok_weaker}
 use Rattle.iv_text.specs.Named.{names_of, place_of}
 use Rattle.iv_text.proofs.NamedLemmas.{unplaced}
-use Rattle.iv_workspace.specs.ViewStates.{AreRight, all_seen}
+use Rattle.iv_workspace.specs.Inside.ViewStates.{AreRight, all_seen}
 use Rattle.iv_workspace.proofs.OpenViewLemmas.{seen-append}
 use Rattle.iv_workspace.proofs.StateLemmas.{opened-right, renewed}
 use Rattle.iv_workspace.proofs.views.Views.open.Goals as goal

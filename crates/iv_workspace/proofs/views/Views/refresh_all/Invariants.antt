@@ -1,6 +1,6 @@
 use Rattle.std.proofs.Common.{◌≡◌, ◌⊎◌, ◌<◌, length}
 use Rattle.iv_text.specs.Named.{names_of}
-use Rattle.iv_workspace.specs.ViewStates.{AreRight, all_seen}
+use Rattle.iv_workspace.specs.Inside.ViewStates.{AreRight, all_seen}
 use Rattle.iv_workspace.specs.OpenViews.{stale_count}
 use Rattle.iv_workspace.proofs.StateLemmas.{current_to}
 use Rattle.iv_workspace.proofs.views.Views.refresh_all.Given as goal

@@ -1,7 +1,7 @@
 use Rattle.std.proofs.Common.{◌∙◌, ◌∷◌, sym, ap, subst}
 use Rattle.std.specs.Map.{lookup, remove_entry}
 use Rattle.std.specs.Str.{bytes_eq}
-use Rattle.iv_workspace.specs.ViewStates.{AreOwnRight, HaveStates, all_owned, all_seen, owned}
+use Rattle.iv_workspace.specs.Inside.ViewStates.{AreOwnRight, HaveStates, all_owned, all_seen, owned}
 use Rattle.iv_workspace.proofs.OpenViewLemmas.{remove-seen}
 use Rattle.iv_workspace.proofs.StateLemmas.{closed-right, own-kept}
 use Rattle.iv_workspace.proofs.views.Views.remove.Goals as goal

@@ -1,6 +1,6 @@
 use Rattle.std.proofs.Common.{◌≡◌, ◌≤◌, length}
 use Rattle.iv_text.specs.Named.{names_of}
-use Rattle.iv_workspace.specs.ViewStates.{with_edited}
+use Rattle.iv_workspace.specs.Inside.ViewStates.{with_edited}
 use Rattle.iv_workspace.proofs.StateLemmas.{Repairing}
 use Rattle.iv_workspace.proofs.views.Views.repair_each.Given as goal
 

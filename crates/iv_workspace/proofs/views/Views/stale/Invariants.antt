@@ -1,5 +1,5 @@
 use Rattle.std.proofs.Common.{◌≡◌, ◌+◌, ◌≤◌, drop}
-use Rattle.iv_workspace.specs.ViewStates.{all_seen}
+use Rattle.iv_workspace.specs.Inside.ViewStates.{all_seen}
 use Rattle.iv_workspace.specs.OpenViews.{stale_count}
 use Rattle.iv_workspace.proofs.views.Views.stale.Given as goal
 

@@ -1,0 +1,11 @@
+-- Definitions that only lemmas and private functions cite. No public contract reaches one.
+pub mod Groups
+pub mod Plain
+pub mod MembersLeft
+pub mod BlockStorage
+pub mod Insertion
+pub mod Lookups
+pub mod Repairs
+pub mod BlockCursor
+pub mod BlockSweeps
+pub mod MergeSweeps

@@ -1,0 +1,46 @@
+-- What only lemmas and private functions cite, beside Groups.
+use Rattle.std.specs.Prelude.{ℕ, ◌+◌, slice_set, ◌==◌, ◌&&◌, nat_le, nat_lt, Bool, true, false, List, filter}
+use Rattle.iv_text.specs.RecordValue.{RecordValue}
+use Rattle.iv_cover.specs.declared.column.ColumnSummary.{ColumnSummary}
+use Rattle.iv_blocks.specs.declared.group.Group.{Group}
+use Rattle.iv_blocks.specs.declared.group.Side.{Side}
+use Rattle.iv_blocks.specs.declared.options.Summaries.{Summaries}
+use Rattle.iv_text.specs.declared.record_ref.Strand.TheVariants.{Plus, Minus}
+use Rattle.iv_blocks.specs.declared.group.Side.TheVariants as side
+use Rattle.iv_blocks.specs.Groups.{is_in_group, is_on_side}
+
+-- whether it is the side of one strand
+abbrev pub is_apart : Side → Bool
+is_apart side.Both = false
+is_apart side.Plus = true
+is_apart side.Minus = true
+
+-- whether it is the side of `-`
+abbrev pub is_minus : Side → Bool
+is_minus side.Both = false
+is_minus side.Plus = false
+is_minus side.Minus = true
+
+-- the record is on this side: any is if strands are together; else it is one on `+`, or one on `-`
+abbrev pub is_on : Side → RecordValue → Bool
+is_on s r = is_on_side (is_apart s) (is_minus s) r
+
+-- the record starts at `from` or after, and below `to`
+abbrev pub starts_between : ℕ → ℕ → RecordValue → Bool
+starts_between from to r = nat_le from r.start && nat_lt r.start to
+
+-- the records that start at `from` or after and below `to`
+abbrev pub between : ℕ → ℕ → List RecordValue → List RecordValue
+between from to rows = filter (starts_between from to) rows
+
+-- those of them on the sequence of this rank, of any strand
+abbrev pub between_on : ℕ → ℕ → ℕ → List RecordValue → List RecordValue
+between_on rank from to rows = filter (λ r. (r.seq == rank) && starts_between from to r) rows
+
+-- those of them in the group
+abbrev pub members_between : Group → ℕ → ℕ → List RecordValue → List RecordValue
+members_between g from to rows = filter (λ r. is_in_group (is_apart g.side) g.rank (is_minus g.side) r && starts_between from to r) rows
+
+-- one more summary at the end
+abbrev pub pushed : Summaries → ColumnSummary → Summaries
+pushed s summary = record { summaries = slice_set s.summaries s.count summary; count = s.count + 1 }

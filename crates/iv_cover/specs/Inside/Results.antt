@@ -1,0 +1,8 @@
+-- What only lemmas and private functions cite, beside Results.
+use Rattle.std.specs.Prelude.{ℕ, ◌∷◌, List}
+use Rattle.std.specs.List.{flat_map}
+use Rattle.iv_text.specs.Bytes.{comma}
+
+-- values, each with a comma in front of it
+abbrev pub after_commas : List (List ℕ) → List ℕ
+after_commas values = flat_map (λ value. comma ∷ value) values

@@ -1,0 +1,21 @@
+-- What only lemmas and private functions cite, beside Fasta.
+use Rattle.std.specs.Prelude.{◌≡◌, ℕ, ◌+◌, ◌++◌, true, false, List, [], ◌∷◌, None}
+use Rattle.std.specs.List.{list_any, concat}
+use Rattle.iv_text.specs.Named.{place_of}
+use Rattle.iv_text.specs.GenomeFile.{begins_with, bad_name}
+use Rattle.iv_fasta.specs.Fasta.{Found, header_name, header_sign, is_no_base}
+
+-- the line is the header of one more sequence: its name is good and new
+pub record IsNewHeader (found : Found) (line : List ℕ) : Type 0 where
+  pub begins : begins_with header_sign line ≡ true
+  pub good : bad_name (header_name line) ≡ false
+  pub new : place_of found (header_name line) ≡ None
+
+-- the line is empty or all bases, and no header
+pub record IsBaseLine (line : List ℕ) : Type 0 where
+  pub no_header : begins_with header_sign line ≡ false
+  pub all_bases : list_any is_no_base line ≡ false
+
+-- the sequences with one more: its header's line has this number, and its bases are those of all these lines
+abbrev pub with_joined : ℕ → Found → List ℕ → List (List ℕ) → Found
+with_joined n found header base_lines = found ++ (header_name header, record { line = n; bases = concat base_lines }) ∷ []

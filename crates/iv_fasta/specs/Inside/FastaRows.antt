@@ -1,0 +1,11 @@
+-- What only lemmas and private functions cite, beside FastaRows.
+use Rattle.std.specs.Prelude.{ℕ, ◌++◌, List, [], codes}
+use Rattle.iv_text.specs.Genome.{Sequences}
+use Rattle.iv_text.specs.RecordValue.{RecordValue}
+use Rattle.iv_fasta.specs.declared.rows.FastaRows.{FastaRows}
+use Rattle.iv_fasta.specs.FastaRows.{head}
+
+-- what is before the bases of a row
+abbrev pub front : FastaRows → Sequences → RecordValue → List ℕ
+front shown g r =
+    (if shown.tab then [] else codes ">") ++ head shown g r ++ (if shown.tab then codes "\t" else codes "\n")

@@ -1,0 +1,2 @@
+-- Definitions that only lemmas and private functions cite. No public contract reaches one.
+pub mod Runs

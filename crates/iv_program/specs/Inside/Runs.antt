@@ -1,0 +1,14 @@
+-- What only lemmas and private functions cite, beside Runs.
+use Rattle.std.specs.Prelude.{◌≡◌, ℕ, List, Option}
+use Rattle.iv_text.specs.RecordValue.{RecordValue}
+use Rattle.iv_args.specs.Words.{RunPlan}
+use Rattle.iv_run.specs.SoFar.{SaysSecond, SoFar}
+use Rattle.iv_program.specs.Limits.{most_records}
+use Rattle.iv_program.specs.Texts.{Texts}
+
+-- what is known of the files of a plan, and the bytes of its FASTA file, are what these texts say
+pub record Says (kept : RecordValue → RecordValue) (plan : RunPlan) (texts : Texts) (known : SoFar) (bases : Option (List ℕ)) : Type 0 where
+  pub width_is : known.width ≡ plan.width
+  pub limit_is : known.limit ≡ most_records
+  pub known_is : SaysSecond kept texts.sizes texts.first texts.other known
+  pub bases_are : bases ≡ texts.bases

@@ -1,0 +1,8 @@
+-- Definitions that only lemmas and private functions cite. No public contract reaches one.
+pub mod Fields
+pub mod Read
+pub mod BedFile
+pub mod BedReading
+pub mod Batches
+pub mod OnePass
+pub mod NameAndScore

@@ -1,0 +1,37 @@
+-- What only lemmas and private functions cite, beside BedReading.
+use Rattle.std.specs.Prelude.{◌≡◌, ◌⊎◌, ℕ, ◌+◌, ◌++◌, List, [], ◌∷◌, Err, drop}
+use Rattle.iv_text.specs.Bytes.{line_feed}
+use Rattle.iv_text.specs.BedFile.{after_rows}
+use Rattle.iv_text.specs.Genome.{Sequences}
+use Rattle.iv_text.specs.Lines.{lines}
+use Rattle.iv_text.specs.RecordValue.{RecordValue}
+use Rattle.iv_text.specs.declared.fault.LoadCause.{LoadCause}
+use Rattle.iv_text.specs.BedReading.{AreSound, Held, LinesRead, Shows, known, projected_draft, shown}
+
+-- the first of these lines was read, and those others are left: whatever comes after them, and whatever the line's number is
+abbrev pub Takes : (RecordValue → RecordValue) → Sequences → ℕ → LinesRead → LinesRead → List (List ℕ) → List (List ℕ) → Type 0
+Takes kept g limit old new all left =
+    (n : ℕ) (rest : List (List ℕ)) → projected_draft kept (after_rows g limit n (known old) (all ++ rest)) ≡ projected_draft kept (after_rows g limit (n + 1) (known new) (left ++ rest))
+
+-- the first of these lines is the first faulty one, and this is its cause
+abbrev pub Refuses : (RecordValue → RecordValue) → Sequences → ℕ → LinesRead → List (List ℕ) → LoadCause → Type 0
+Refuses kept g limit old all c = (n : ℕ) (rest : List (List ℕ)) → projected_draft kept (after_rows g limit n (known old) (all ++ rest)) ≡ Err (record { line = n; cause = c })
+
+module _ {K : Type 0} (held_of : RecordValue → ℕ → K) (g : Sequences) where
+  -- the first line of a text was read, and what is left of the text is after so many bytes, however what is kept is shown
+  abbrev pub TakesLine : ℕ → Held K → Held K → List ℕ → ℕ → Type 0
+  TakesLine limit old new text size = (kept : RecordValue → RecordValue) (row_of : K → RecordValue) → Shows held_of g kept row_of old.at text
+      → (AreSound kept g limit (shown row_of old) → AreSound kept g limit (shown row_of new))
+      × Takes kept g limit (shown row_of old) (shown row_of new) (lines text) (lines (drop size text))
+
+  -- the first line of a text is the first faulty one, and this is its cause
+  abbrev pub RefusesLine : ℕ → Held K → List ℕ → LoadCause → Type 0
+  RefusesLine limit old text c = (kept : RecordValue → RecordValue) (row_of : K → RecordValue) → Refuses kept g limit (shown row_of old) (lines text) c
+
+-- the bytes end at a line feed
+abbrev pub EndsAtFeed : List ℕ → Type 0
+EndsAtFeed bytes = (front : List ℕ) × (bytes ≡ front ++ line_feed ∷ [])
+
+-- the bytes are lines that are ended, each by its line feed, or there are none
+abbrev pub IsEnded : List ℕ → Type 0
+IsEnded bytes = (bytes ≡ []) ⊎ EndsAtFeed bytes

@@ -1,0 +1,17 @@
+-- What only lemmas and private functions cite, beside Read.
+use Rattle.std.specs.Prelude.{◌≡◌, ℕ, Bool, cond, List, ◌∷◌, length}
+use Rattle.iv_text.specs.Read.{column}
+
+-- a column in front of the others, if it is wanted
+abbrev pub chosen : Bool → List ℕ → List (List ℕ) → List (List ℕ)
+chosen wanted column others = cond wanted (column ∷ others) others
+
+-- cs has a column for each of the width, which are these; those beyond the width are empty
+pub record AreColumns (width : ℕ) (cs : List (List ℕ)) (seq start stop name score strand : List ℕ) : Type 0 where
+  pub count : length cs ≡ width
+  pub seq_is : column cs 0 ≡ seq
+  pub start_is : column cs 1 ≡ start
+  pub stop_is : column cs 2 ≡ stop
+  pub name_is : column cs 3 ≡ name
+  pub score_is : column cs 4 ≡ score
+  pub strand_is : column cs 5 ≡ strand

@@ -1,0 +1,7 @@
+-- What only lemmas and private functions cite, beside Copies.
+use Rattle.std.specs.Prelude.{ℕ, List, [], ◌∷◌, ◌++◌, replicate}
+
+-- the list that a map from keys to numbers of copies means
+abbrev pub expanded : {K : Type 0} → List (K × ℕ) → List K
+expanded [] = []
+expanded (e ∷ es) = replicate e.1 e.0 ++ expanded es

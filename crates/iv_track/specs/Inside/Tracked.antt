@@ -1,0 +1,22 @@
+-- What only lemmas and private functions cite, beside Tracked.
+use Rattle.std.specs.Prelude.{◌≡◌, ℕ, ◌+◌, ◌<◌, ◌≤◌, false, List, Option, Some, None, All, sum}
+use Rattle.std.specs.Ordering.{is_le}
+use Rattle.std.specs.Map.{keys_of, values_of}
+use Rattle.iv_track.specs.Entries.{IsLedger}
+use Rattle.iv_text.specs.RecordValue.{RecordValue, IsPlaced, record_cmp}
+use Rattle.iv_track.specs.Tracked.{is_from, most_records}
+
+-- where a search for these records begins: the placed records at or after the key are these, and with no key there are none
+abbrev pub BeginsFrom : ℕ → ℕ → Option RecordValue → Type 0
+BeginsFrom seq start (Some least) = (q : RecordValue) → IsPlaced q → is_le (record_cmp least q) ≡ is_from seq start q
+BeginsFrom seq start None = (q : RecordValue) → IsPlaced q → is_from seq start q ≡ false
+
+-- the map of a track: it is in order, each record in it is placed and has a copy and the width, and `len` counts the copies
+pub record IsTrack (es : List (RecordValue × ℕ)) (len width limit : ℕ) : Type 0 where
+  pub ordered : IsLedger record_cmp es
+  pub present : All (λ n. 0 < n) (values_of es)
+  pub widths : All (λ q. q.width ≡ width) (keys_of es)
+  pub placed : All IsPlaced (keys_of es)
+  pub len_is : len ≡ sum (values_of es)
+  pub room : len ≤ limit + 1
+  pub bounded : limit ≤ most_records
