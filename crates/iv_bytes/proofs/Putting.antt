@@ -215,7 +215,7 @@ pub Puts-finished : {T E : Type 0} (old mid new : SinkState) (name after : GName
 Puts-finished old mid new name after held text (Ok x) took puts = Takes-finished old mid new name after held text took puts
 Puts-finished old mid new name after held text (Err e) took puts = FailsIn-finished old mid new name after held text took puts
 
--- a new buffer failed, and what it held is given up
+-- a new buffer failed, and what it held is lost
 pub FailsIn-given_up : (old mid : SinkState) (name after : GName) (held text : List ℕ)
     → FailsIn (buffered old name []) (buffered mid after held) text → FailsIn old mid text
 FailsIn-given_up old mid name after held text fails =

@@ -45,7 +45,7 @@ impl ByteQueue {
         &self.chunk[self.start..self.end]
     }
 
-    /// Lets go of the first n bytes.
+    /// Drops the first n bytes.
     pub fn skip(&mut self, n: usize)
         requires { n ≤ length self.old }
         ensures { self.new ≡ drop n self.old }
@@ -70,8 +70,8 @@ impl ByteQueue {
         n
     }
 
-    /// Pulls, if nothing is held; else it leaves the source alone. Whether anything is held then; if not, the input is at its end.
-    /// After a fault nothing is held.
+    /// Pulls if nothing is held, and else leaves the source alone. It answers whether anything is held then: if not, the input is at
+    /// its end. After a fault nothing is held.
     pub fn fill<S: Source>(&mut self, source: &mut S) -> Result<bool, ReadFault>
         ensures some { IfOk result (λ some. IsTrue some ↔ 0 < length self.new) }
         ensures end { IfOk result (λ some. some ≡ false → IsAtEnd (S.state source.new).coming) }

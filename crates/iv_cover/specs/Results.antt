@@ -1,4 +1,4 @@
--- The results of several summaries, the room that they need, and values in the midst of a text.
+-- The results of several summaries, and the room that they need.
 use Rattle.std.specs.Prelude.{◌≡◌, ℕ, ◌≤◌, ◌++◌, List, All, codes}
 use Rattle.std.specs.List.{flat_map}
 use Rattle.iv_cover.specs.Summaries.{summary_of}

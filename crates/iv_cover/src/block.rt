@@ -20,7 +20,7 @@ pub struct Block {
 }
 
 impl Block {
-    /// A block of one record. That its place is of 32 bits is what `lemma_of_interval` of each kind of record says.
+    /// A block of one record. That its interval has 32 bits is what `lemma_of_interval` of each kind of record shows.
     pub fn of<R: BedRecord>(row: &R) -> Block
         requires { IsPlaced (R.as_record row.now) }
         ensures { result ≡ record { sequence = (R.as_record row.now).seq; start = (R.as_record row.now).start; stop = (R.as_record row.now).stop } }

@@ -1,4 +1,4 @@
-//! States that are kept under edits.
+//! The contract of the states of kept views.
 ghost use Rattle.std.specs.Prelude.{◌≡◌, ℕ, List, All, IfOk, OnOk};
 ghost use Rattle.iv_text.specs.Named.{names_of};
 ghost use Rattle.iv_text.specs.Ordered.{added as with_one};
@@ -11,7 +11,7 @@ use iv_text::{Genome, RecordRef};
 use iv_track::{Meter, Track};
 use std::alloc::{AllocError, Allocator};
 
-/// What is kept for views, so that an edit of the track costs it little.
+/// The state of a kept view, which is updated at each edit of the track, at little cost.
 ///
 /// The records of the track, and the one that is added or removed, fit the genome throughout. The genome may be
 /// another one at each call, as long as its names are those at `build`.
@@ -20,7 +20,7 @@ pub trait Kept<A: Allocator + Copy> {
 
     /// What the state was built for.
     ghost built_for: { Self → Self.Settings };
-    /// Whether the state is right for a genome of these names and these records in order.
+    /// Whether the state is right for a genome of these names and for these records, in order.
     ghost is_right: { Self → List (List ℕ) → List RecordValue → Type 0 };
     /// How many steps a repair takes at most, with the record among the records.
     ghost repair_steps: { Self.Settings → List RecordValue → RecordValue → ℕ };

@@ -1,5 +1,5 @@
-//! What records cover: blocks, depth and runs of positions; summaries of their columns; and the contract of states that are kept
-//! for views.
+//! What records cover: blocks, depth and runs of positions; summaries of their columns; and the contract of the states of
+//! kept views.
 #![tactic(auto)]
 
 mod block;

@@ -51,7 +51,7 @@ impl ParsedNumber {
         }
     }
 
-    /// What the value of a record's column spells, if its sequence has this name. A position isn't written first.
+    /// What the value of a record's column spells, if its sequence has this name. For a position no text is made.
     pub fn of_column<'a>(column: Column, sequence: &'a [u8], row: &RecordRef<'a>) -> ParsedNumber
         ensures value { result ≡ spelled (column_value sequence.now column row.now) }
         ensures short { IsShort result }

@@ -72,7 +72,7 @@ const MOST_DIGITS: usize = 20;
 /// A number in decimal. It is stored inline, and takes no memory.
 #[derive(Debug, Drop)]
 struct Digits {
-    // They stand at the end, from `start` on.
+    // They are at the end, from `start` on.
     digits: [u8; MOST_DIGITS],
     start: usize,
 }

@@ -1,4 +1,4 @@
-//! What the values of columns are read from.
+//! Lists and records that values of columns are read from.
 ghost use Rattle.std.specs.Prelude.{◌≡◌, ◌<◌, ◌^◌, ℕ, List, length, map, IfSome};
 ghost use Rattle.std.specs.Iterator.{YieldsFirst};
 ghost use Rattle.iv_cover.specs.Columns.{column_value};

@@ -16,7 +16,7 @@ use Rattle.iv_fasta.specs.declared.fasta_draft.BaseRange.{BaseRange}
 abbrev bases_under : Found → List ℕ → Option (List ℕ)
 bases_under found name = option_map (λ (f : Stretch). f.bases) (lookup (bytes_eq name) found)
 
--- one more place
+-- one more range
 pub placed-more : (g : Sequences) (found : Found) (places more : List (Option BaseRange)) (bases : List ℕ) (rank : ℕ) (place : Option BaseRange) → rank < length g
     → placed places bases ≡ take rank (by_rank g found) → option_map (bases_at bases) place ≡ bases_of (by_rank g found) rank → more ≡ places ++ place ∷ []
     → placed more bases ≡ take (rank + 1) (by_rank g found)
@@ -37,7 +37,7 @@ placed-at places bases seq place at =
     by (Some None) is = cc
     by (Some (Some p)) is = let same : place ≡ p = cc in ap {B = Option (List ℕ)} (λ (q : BaseRange). Some (bases_at bases q)) (sym same)
 
--- if each place is among so many bases, so is one of them
+-- if each range is among so many bases, so is one of them
 is_placed-at : (places : List (Option BaseRange)) (total seq : ℕ) (place : BaseRange) (o : Option (Option BaseRange)) → All (IsPlacedWithin total) places → slice_get places seq ≡ o
     → Some place ≡ unwrap_or o None → EndsWithin total place
 is_placed-at places total seq place None all at is = cc

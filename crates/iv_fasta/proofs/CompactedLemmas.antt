@@ -1,4 +1,4 @@
--- What is kept of a FASTA is all of it but the bases of the sequences that the genome doesn't name.
+-- What is held of a FASTA file is all of it except the bases of the sequences that the genome doesn't name.
 use Rattle.std.proofs.Common.{◌≡◌, ℕ, ◌+◌, ◌++◌, ◌==◌, ◌&&◌, Bool, true, false, not, cond, List, [], ◌∷◌, Option, None, Some, Result, Ok, Err, length, map, find, append_assoc, refl, sym, ◌∙◌, ap}
 use Rattle.std.proofs.lemmas.List.{length-map}
 use Rattle.std.specs.List.{list_any, position}
@@ -127,7 +127,7 @@ module _ (g : Sequences) where
       by (Ok more) rest = rest more
       by (Err c) rest = refl
 
-  -- ---- lengths, and bases by rank, are those of what is kept
+  -- ---- lengths, and bases by rank, are those of what is held
 
   wrong-either : (b : Bool) (xs : List ℕ) (n : ℕ) → (b && not (length (cond b xs []) == n)) ≡ (b && not (length xs == n))
   wrong-either true xs n = refl

@@ -1,4 +1,4 @@
--- The sequences that headers and the bases after them say.
+-- The sequences of headers and the bases after them.
 use Rattle.std.proofs.Common.{◌≡◌, ℕ, zero, suc, ◌+◌, ◌-◌, ◌<◌, ◌≤◌, List, [], ◌∷◌, ◌++◌, Option, None, Some, length, take, drop, slice_get, refl, sym, ◌∙◌, ap, arith, length-drop, add-one, false, true, position, get_or, Bool}
 use Rattle.std.proofs.lemmas.List.{take-append-le, drop-append-le, take_rest}
 use Rattle.std.proofs.lemmas.List.Edits.{between_none}
@@ -20,7 +20,7 @@ range-front : (xs ys : List ℕ) (a b : ℕ) → a ≤ b → b ≤ length xs →
 range-front xs ys a b order within =
     ap (take (b - a)) (drop-append-le a xs ys (omega arith)) ∙ take-append-le (b - a) (drop a xs) ys (omega (arith, length-drop a xs))
 
--- all from a place in the front on
+-- all from an index in the front on
 range-rest : (xs ys : List ℕ) (a : ℕ) → a ≤ length xs → slice_range (xs ++ ys) a (length (xs ++ ys)) ≡ slice_range xs a (length xs) ++ ys
 range-rest xs ys a within =
     take_rest (xs ++ ys) a ∙ drop-append-le a xs ys within ∙ ap (λ (l : List ℕ). l ++ ys) (sym (take_rest xs a))
@@ -64,7 +64,7 @@ names-cut : (hs : PrefixKeyed) (bases : List ℕ) → names_of (cut hs bases) �
 names-cut [] bases = refl
 names-cut (h ∷ hs) bases = ap (λ (l : List (List ℕ)). h.0 ∷ l) (names-cut hs bases)
 
--- the places of the names are those of the headers
+-- the indexes of the names are those of the headers
 pub place-cut : (hs : PrefixKeyed) (bases name : List ℕ) → place_of (cut hs bases) name ≡ place_of hs name
 place-cut hs bases name = ap (position (bytes_eq name)) (names-cut hs bases)
 
@@ -76,7 +76,7 @@ end-first : (hs : PrefixKeyed) (total : ℕ) → end_before hs total ≡ end_at 
 end-first [] total = refl
 end-first (h ∷ hs) total = refl
 
--- the sequence at a place
+-- the sequence at an index
 cut-at : (hs : PrefixKeyed) (bases : List ℕ) (i : ℕ) (h : List ℕ × Header) → slice_get hs i ≡ Some h
     → slice_get (cut hs bases) i ≡ Some (h.0, record { line = h.1.line; bases = slice_range bases h.1.start (end_at (slice_get hs (suc i)) (length bases)) })
 cut-at [] bases i h at = cc
@@ -122,14 +122,14 @@ first-there test (x ∷ es) zero e at is before =
 first-there test (x ∷ es) (suc i) e at is before =
     cond-false _ _ _ (before zero (omega arith)) ∙ first-there test es i e at is (λ k below. before (suc k) (omega arith))
 
--- under a name is what is at its place
+-- under a name is what is at its index
 pub lookup-at : {V : Type 0} (es : List (List ℕ × V)) (name : List ℕ) (i : ℕ) (e : List ℕ × V) → place_of es name ≡ Some i → slice_get es i ≡ Some e → lookup (bytes_eq name) es ≡ Some e.1
 lookup-at {V} es name i e there at =
     let found = position-Some (bytes_eq name) (names_of es) i [] there in
     let named : get_or (names_of es) i [] ≡ e.0 = get_or_from_slice_get (names_of es) i e.0 [] (slice_get-map (λ (n : List ℕ × V). n.0) es i ∙ ap (option_map (λ (n : List ℕ × V). n.0)) at) in
     first-there (bytes_eq name) es i e at (ap (bytes_eq name) (sym named) ∙ found.1) found.2
 
--- a place of a name is a place
+-- an index of a name is an index of a header
 pub place-there : {V : Type 0} (es : List (List ℕ × V)) (name : List ℕ) (i : ℕ) → place_of es name ≡ Some i → slice_get es i ≡ None → ⊥
 place-there {V} es name i there none =
     let found = position-Some (bytes_eq name) (names_of es) i [] there in

@@ -252,7 +252,7 @@ module _ (g : Sequences) (text : List ℕ) where
   fault-back f (inl w) = refused f w
   fault-back f (inr w) = decided w.0 ∙ ap (Lengths g (sequences_said all)) w.1.first ∙ ap {B = Result Bases LoadFault} Err (sym w.1.fault)
 
-  -- one of two: the lines say sequences, or a first line has a cause
+  -- one of two: the lines have sequences, or a first line has a cause
   lined : (r : Result Counted LoadFault) → run 1 (says []) all ≡ r → HaveNoCause line_cause all ⊎ ((f : LoadFault) × IsFirstFault line_cause all f)
   lined (Ok s) is = inl ((run-value line_cause says run fasta-run all s).0 is).0
   lined (Err f) is = inr (f, (run-fault line_cause says run fasta-run all f).0 is)

@@ -4,7 +4,7 @@ use Rattle.std.proofs.lemmas.List.{drop-drop}
 use Rattle.std.proofs.lemmas.List.Edits.{drop-paste}
 use lib.Seq.{paste}
 
--- if a part of what is still to be read moves to the front, what is read after it is as it was
+-- if a part of what remains to be read moves to the front, what is read after it is as it was
 pub coming-less : (bytes moved : List ℕ) (compacted read more whole : ℕ) → moved ≡ paste bytes compacted (drop read bytes) (read + more - read) → compacted ≤ read → more ≤ whole → read + more ≤ length bytes
     → drop (read + whole) moved ≡ drop whole (drop read bytes)
 coming-less bytes moved compacted read more whole is low front within =

@@ -21,7 +21,7 @@ differs-named g name count r n named long =
     let is : length_of g name ≡ n = ap (λ o. unwrap_or (length_at g (unwrap_or o 0)) 0) (sym named) ∙ ap (λ o. unwrap_or o 0) long in
     ap (λ (k : ℕ). not (count == k)) (sym is) ∙ ap (λ (o : Option ℕ). is_some o && not (count == length_of g name)) named
 
--- a sequence whose bases are at a place is as long as the place
+-- a sequence whose bases are in a range is as long as the range
 place-long : (g : Sequences) (name bases : List ℕ) (line : ℕ) (place : BaseRange) → place.stop ≤ length bases
     → differs g name (place.stop - place.start) ≡ has_wrong_length g (name, record { line = line; bases = bases_at bases place })
 place-long g name bases line place within = ap (differs g name) (sym (length-between bases place.start place.stop within))

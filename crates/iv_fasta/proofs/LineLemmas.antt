@@ -1,4 +1,4 @@
--- One line of a FASTA.
+-- One line of a FASTA file.
 use Rattle.std.proofs.Common.{◌≡◌, ◌≢◌, ℕ, ◌+◌, ◌-◌, ◌<◌, ◌==◌, ◌++◌, Bool, true, false, cond, List, [], ◌∷◌, Result, Ok, Err, length, take, drop, get_or, refl, sym, ◌∙◌, ap, arith}
 use Rattle.std.proofs.lemmas.Bool.{cond-true, cond-false, ne_eqb, eq-eqb}
 use Rattle.std.proofs.lemmas.List.{drop-take}
@@ -65,7 +65,7 @@ compacted-bases g n d line some not = cond-false _ _ _ some ∙ cond-false _ _ _
 
 -- ---- lines, one after another
 
--- what is kept of the lines after one of this number, or its fault
+-- what is held of the lines after one of this number, or its fault
 abbrev lines-later : Sequences → ℕ → List (List ℕ) → Result Draft LoadCause → Result Draft LoadFault
 lines-later g n rest (Ok more) = after_compacted_lines g (n + 1) more rest
 lines-later g n rest (Err why) = Err (record { line = n; cause = why })
@@ -94,7 +94,7 @@ pub line-stops : (g : Sequences) (n : ℕ) (d : Draft) (why : LoadCause) (line c
     → after_compacted_lines g n d (lines coming) ≡ Err (record { line = n; cause = why })
 line-stops g n d why line coming next first is = ap (after_compacted_lines g n d) first ∙ line-later g n d line (lines (drop next coming)) (Err why) is
 
--- the name in the first so many bytes of what comes
+-- the name in the first so many bytes of what remains
 pub name-within : (coming : List ℕ) (count : ℕ) → 0 < count → before_first is_blank (take (count - 1) (drop 1 coming)) ≡ header_name (take count coming)
 name-within coming count some =
     let whole : 1 + (count - 1) ≡ count = omega arith in

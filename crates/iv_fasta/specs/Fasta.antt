@@ -1,4 +1,4 @@
--- The bases that a FASTA file says, or its first fault.
+-- The bases of a FASTA file, or its first fault.
 use Rattle.std.specs.Prelude.{◌≡◌, ℕ, ◌+◌, ◌++◌, ◌==◌, ◌&&◌, ◌||◌, nat_lt, Bool, not, cond, List, [], ◌∷◌, Option, None, Some, Result, Ok, Err, length, map, find, drop, slice_get}
 use Rattle.std.specs.List.{list_any, before_first}
 use Rattle.std.specs.Map.{lookup}
@@ -70,11 +70,11 @@ abbrev pub after_fasta_lines : ℕ → Found → List (List ℕ) → Result Foun
 after_fasta_lines n found [] = Ok found
 after_fasta_lines n found (line ∷ lines) = elim (after_fasta_line n found line) [ Ok more ↦ after_fasta_lines (n + 1) more lines | Err c ↦ Err (record { line = n; cause = c }) ]
 
--- the genome names a sequence so, and says another number of bases of it
+-- the genome names a sequence so, and gives it another number of bases
 abbrev pub differs : Sequences → List ℕ → ℕ → Bool
 differs g name count = is_some (rank_of g name) && not (count == length_of g name)
 
--- a sequence that the genome names has not as many bases as the genome says
+-- a sequence that the genome names has another number of bases than the genome says
 abbrev pub has_wrong_length : Sequences → List ℕ × Stretch → Bool
 has_wrong_length g s = differs g s.0 (length s.1.bases)
 
@@ -90,7 +90,7 @@ by_rank g found = map (λ s. option_map (λ (f : Stretch). f.bases) (lookup (byt
 abbrev pub with_lengths : Sequences → Found → Result Bases LoadFault
 with_lengths g found = elim (find (has_wrong_length g) found) [ None ↦ Ok (by_rank g found) | Some s ↦ Err (record { line = s.1.line; cause = cause.WrongLength }) ]
 
--- the bases that a text says of a genome, or its first fault: lengths are looked at in a text without another fault
+-- the bases of a text for a genome, or its first fault: lengths are looked at in a text without another fault
 abbrev pub fasta_of : Sequences → List ℕ → Result Bases LoadFault
 fasta_of g text = elim (after_fasta_lines 1 [] (lines text)) [ Ok found ↦ with_lengths g found | Err f ↦ Err f ]
 
@@ -101,5 +101,3 @@ bases_of fasta seq = unwrap_or (slice_get fasta seq) None
 -- each sequence that the file has is as long as the genome says
 abbrev pub HasLengthsOf : Sequences → Bases → Type 0
 HasLengthsOf g fasta = (seq : ℕ) (bases : List ℕ) → bases_of fasta seq ≡ Some bases → length_at g seq ≡ Some (length bases)
-
--- ---- words of the lemma on joined lines

@@ -18,7 +18,7 @@ bracketed (Some s) = codes "(" ++ strand_byte s ∷ codes ")"
 abbrev pub shown_strand : FastaRows → RecordValue → Option Strand
 shown_strand shown r = if shown.stranded then r.strand else None
 
--- the head of a record: its sequence, from where to where, and the strand if it is shown
+-- the head of a record: its sequence, its interval, and the strand if it is shown
 abbrev pub head : FastaRows → Sequences → RecordValue → List ℕ
 head shown g r = sequence_name g r.seq ++ codes ":" ++ decimal r.start ++ codes "-" ++ decimal r.stop ++ bracketed (shown_strand shown r)
 

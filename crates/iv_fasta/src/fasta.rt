@@ -31,7 +31,7 @@ impl<A: Allocator> Model for Fasta<A> {
     ghost invariant = { λ f. All (IsPlacedWithin (length f.bases.items)) f.places.items };
 }
 
-/// The place at this rank, if there is one.
+/// The range at this rank, if there is one.
 fn range_in<A: Allocator>(places: &Vec<Option<BaseRange>, A>, seq: u32) -> Option<BaseRange>
     ensures { result ≡ unwrap_or (slice_get places.now.items seq) None }
 {
@@ -39,7 +39,7 @@ fn range_in<A: Allocator>(places: &Vec<Option<BaseRange>, A>, seq: u32) -> Optio
 }
 
 impl<A: Allocator + Copy> Fasta<A> {
-    /// The bases that a FASTA file says, or the file's first fault.
+    /// The bases of a FASTA file, or the file's first fault.
     ///
     /// A header is a line that begins with `>`. Its name ends before the first space or TAB, or at the end of the line, and
     /// is once, whether or not the genome has it. The lines after it are its bases, joined: bytes from 33 to 126. Empty

@@ -1,4 +1,4 @@
-//! What is kept of a FASTA file while it is read.
+//! What is held of a FASTA file while it is read.
 ghost use Rattle.std.specs.Prelude.{◌≡◌, ◌≤◌, ◌++◌, [], IsTrue, length, take, drop, All, false, ◌<◌, ◌+◌, ◌⊎◌, ◌∷◌, cond, None, Ok, Err, OnOk, OnErr, IfOk, IfErr, IfSome, slice_get, filter, find, fold};
 ghost use Rattle.std.specs.Hash.DefaultHasher.{initial, write};
 ghost use Rattle.std.specs.List.{list_any, before_first};
@@ -21,14 +21,14 @@ use std::alloc::{AllocError, Allocator};
 use std::hash::{DefaultHasher, Hasher};
 use std::marker::Model;
 
-/// Where the bases of a sequence lie among all that are kept.
+/// Where the bases of a sequence lie among all that are held.
 #[derive(Clone, Copy)]
 pub(crate) struct BaseRange {
     pub(crate) start: usize,
     pub(crate) stop: usize,
 }
 
-/// The text of a FASTA file while it is read: in front the bases that are kept of it, at its end what is still to be read.
+/// The text of a FASTA file while it is read: in front the bases that are held of it, at its end what remains to be read.
 ///
 /// So the bases take no memory of their own. Its model is the pair of both.
 #[derive(Drop)]
@@ -61,21 +61,21 @@ impl<A: Allocator> CompactedText<A> {
         }
     }
 
-    /// How many bases are kept.
+    /// How many bases are held.
     pub(crate) fn count(&self) -> usize
         ensures { result ≡ length self.now.compacted }
     {
         self.compacted
     }
 
-    /// What is still to be read.
+    /// What remains to be read.
     pub(crate) fn coming(&self) -> &[u8]
         ensures { result.now ≡ self.now.coming }
     {
         &self.bytes[self.read..]
     }
 
-    /// Reads so many bytes, of which so many in front are kept.
+    /// Reads so many bytes, and holds so many in front of them.
     pub(crate) fn read(&mut self, bytes: usize, compacted: usize)
         requires front { compacted ≤ bytes }
         requires within { bytes ≤ length self.old.coming }
@@ -88,7 +88,7 @@ impl<A: Allocator> CompactedText<A> {
         self.read += bytes;
     }
 
-    /// The bases that are kept. The memory of the rest is given back.
+    /// The bases that are held. The memory of the rest is given back.
     pub(crate) fn into_compacted(self) -> Vec<u8, A>
         ensures { result.items ≡ self.compacted }
     {
@@ -136,7 +136,7 @@ pub(crate) fn has_no_base(line: &[u8]) -> bool
 /// How many names are hashed before the next headers are looked at. So few take no time, whether or not they collide.
 const FEW: usize = 1000;
 
-/// A header: the number of its line, and where the bases after it start among all that are kept.
+/// A header: the number of its line, and where the bases after it start among all that are held.
 #[derive(Clone, Copy)]
 pub(crate) struct Header {
     line: u64,
@@ -174,7 +174,7 @@ fn push_header<A: Allocator + Copy>(
     headers.push(alloc, name, header)
 }
 
-/// Where the bases before the header at a place end, of so many bases in all.
+/// Where the bases before the header at an index end, of so many bases in all.
 fn end_before<A: Allocator + Copy>(
     headers: &NameMap<Header, A>,
     place: usize,
@@ -188,7 +188,7 @@ fn end_before<A: Allocator + Copy>(
     }
 }
 
-/// What is kept of a FASTA file while it is read: its headers, and the bases of the sequences that the
+/// What is held of a FASTA file while it is read: its headers, and the bases of the sequences that the
 /// genome names, one after another in the front of its text.
 #[derive(Drop)]
 pub(crate) struct FastaDraft<A: Allocator> {
@@ -198,7 +198,7 @@ pub(crate) struct FastaDraft<A: Allocator> {
     ghost in_order: { StartInOrder 0 headers (length text.compacted) } by { StartInOrder-prop 0 headers (length text.compacted) },
 }
 
-/// Whether the genome names a sequence so, and says another number of bases of it.
+/// Whether the genome names a sequence so, and gives it another number of bases.
 fn differs<A: Allocator + Copy>(genome: &Genome<A>, name: &[u8], count: usize) -> bool
     ensures { result ≡ differs_in genome.now name.now count }
 {
@@ -209,7 +209,7 @@ fn differs<A: Allocator + Copy>(genome: &Genome<A>, name: &[u8], count: usize) -
 }
 
 impl<A: Allocator + Copy> FastaDraft<A> {
-    /// The draft before any line is read.
+    /// What is held before any line is read.
     fn of(alloc: A, text: Vec<u8, A>) -> Self
         ensures draft { drafted result.headers result.text.compacted result.named ≡ record { found = []; named = false } }
         ensures coming { result.text.coming ≡ text.items }
@@ -221,7 +221,7 @@ impl<A: Allocator + Copy> FastaDraft<A> {
         }
     }
 
-    /// What is kept of a FASTA file, in its text, or the first fault of the first faulty line.
+    /// What is held of a FASTA file, in its text, or the first fault of the first faulty line.
     pub(crate) fn read(alloc: A, genome: &Genome<A>, text: Vec<u8, A>) -> Result<Self, LoadFault>
         ensures ok { IfOk result (λ d. after_compacted_lines genome.now 1 (record { found = []; named = false }) (lines text.items) ≡ Ok (drafted d.headers d.text.compacted d.named)) }
         ensures err { IfErr result (λ f. (f ≡ record { line = 0; cause = cause.Memory }) ⊎ (after_compacted_lines genome.now 1 (record { found = []; named = false }) (lines text.items) ≡ Err f)) }
@@ -310,7 +310,7 @@ impl<A: Allocator + Copy> FastaDraft<A> {
         Ok(())
     }
 
-    /// Where the bases of the sequence at this place lie, with its name and the number of its header's line.
+    /// Where the bases of the sequence at this index lie, with its name and the number of its header's line.
     fn sequence(&self, place: usize) -> Option<(&[u8], u64, BaseRange)>
         ensures value { option_map (λ s. (s.0.now, sequence_at self.now.text.compacted s.1 s.2)) result ≡ slice_get (cut self.now.headers self.now.text.compacted) place }
         ensures within { IfSome result (λ s. EndsWithin (length self.now.text.compacted) s.2) }

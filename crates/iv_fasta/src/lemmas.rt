@@ -15,7 +15,7 @@ pub fn joined_lines_are_a_sequence()
     ensures { (n : ℕ) (found : Found) (header : List ℕ) (base_lines rest : List (List ℕ)) → IsNewHeader found header → All IsBaseLine base_lines → after_fasta_lines n found (header ∷ (base_lines ++ rest)) ≡ after_fasta_lines (n + 1 + length base_lines) (with_joined n found header base_lines) rest }
 {}
 
-/// A FASTA file says its sequences exactly if no line has a cause to refuse it, and each that the genome names has the genome's
+/// A FASTA file is accepted exactly if no line has a cause to refuse it, and each sequence that the genome names has the genome's
 /// length. A sequence has the bases of the lines between its header and the next one; those that the genome lacks are left out.
 ///
 /// Else it has the fault of the first line that has a cause: the number of that line, counted from 1, and its first cause. If no

@@ -17,9 +17,9 @@ use Rattle.iv_index.specs.Locators.{bare}
 use Rattle.iv_index.specs.Inside.Locators.{row_at, rows_at}
 use Rattle.iv_index.specs.declared.locator.Locator.{Locator}
 
--- ---- records of places
+-- ---- records of locators
 
--- at width 3 the records of places are bare
+-- at width 3 the records of locators are bare
 pub rows-bare : (w : ℕ) (text : List ℕ) (places : List Locator) → rows_at 3 text places ≡ map bare (rows_at w text places)
 rows-bare w text [] = refl
 rows-bare w text (p ∷ places) = ap (λ (l : List RecordValue). row_at 3 text p ∷ l) (rows-bare w text places)
@@ -34,7 +34,7 @@ on_genome-bare g rows lie = All-from_recursion (IsOnGenome g) (map bare rows) (b
     by [] all = tt
     by (r ∷ rows) all = (record { some = all.0.some; within = all.0.within }, by rows all.1)
 
--- so is what is held of records that fit it, if only their places are
+-- so is what is held of records that fit it, if only their intervals are
 pub kept-on_genome : (g : Sequences) (w : ℕ) (rows : List RecordValue) → All (IsProjected bare g w) rows → All (IsOnGenome g) rows
 kept-on_genome g w rows kept k e within =
     let one : IsProjected bare g w (get_or rows k e) = kept k e within in
@@ -42,7 +42,7 @@ kept-on_genome g w rows kept k e within =
 
 -- ---- their order
 
--- what is no more by place and columns is no more by place
+-- what is no more by interval and columns is no more by interval
 le_first : (a b c d : Ordering) → is_le (ordering_then a (ordering_then b (ordering_then c d))) ≡ true → is_le (ordering_then a (ordering_then b (ordering_then c Equal))) ≡ true
 le_first Less b c d h = refl
 le_first Greater b c d h = cc

@@ -1,15 +1,15 @@
--- What `dedup_by` leaves if its closure joins places.
+-- What `dedup_by` leaves if its closure joins locators.
 use Rattle.std.proofs.Common.{◌≡◌, Bool, true, false, cond, List, [], ◌∷◌, MatchBool, ap, subst, ◌∙◌}
 use Rattle.std.specs.List.Retain.{DedupsFrom, IsDeduped}
 use Rattle.iv_index.specs.Inside.Joins.{touches, grown, joined, joined_from}
 use Rattle.iv_index.specs.declared.locator.Locator.{Locator}
 
--- a call that is shown a place and the last one kept: it tells whether they touch, leaves the place, and joins it to the last if they do
+-- a call on a locator and the last one that stays: it answers whether they touch, leaves the first, and joins it to the last if they do
 abbrev pub Joins : Locator → Locator → Bool → Locator → Locator → Type 0
 Joins place last answer place' last' = (answer ≡ touches last place) × (place' ≡ place) × (last' ≡ cond (touches last place) (grown last place) last)
 
 module _ {S : Type 0} (R : S → Locator → Locator → Bool → S → Locator → Locator → Type 0) (calls : (s : S) (x k : Locator) (b : Bool) (t : S) (x' k' : Locator) → R s x k b t x' k' → Joins x k b x' k') where
-  -- what is left of the places after x, by what the call gave
+  -- what is left of the locators after x, by what the call gave
   abbrev Rest : Locator → Locator → List Locator → List Locator → S → Locator → Locator → Bool → Type 0
   Rest x k xs ys t x' k' b = MatchBool b (DedupsFrom R t k' xs ys) ((zs : List Locator) × DedupsFrom R t x' xs zs × (ys ≡ k' ∷ zs))
 

@@ -1,4 +1,4 @@
--- Places that are joined: what they cover, and that they are apart.
+-- Locators that are joined: what they cover, and that they are apart.
 use Rattle.std.proofs.Common.{◌≡◌, ℕ, ◌<◌, ◌≤◌, ◌==◌, ◌&&◌, ◌||◌, nat_le, nat_lt, Bool, true, false, cond, List, [], ◌∷◌, map, All, refl, sym, ap, ◌∙◌, arith, inl, inr}
 use Rattle.std.specs.List.{AllByRecursion, list_any}
 use Rattle.std.specs.Ordering.{is_le, nat_cmp}
@@ -18,7 +18,7 @@ use Rattle.iv_index.specs.Locators.{bare}
 use Rattle.iv_index.specs.Inside.Locators.{HasBase, row_at, rows_at}
 use Rattle.iv_index.specs.declared.locator.Locator.{Locator}
 
--- the place covers position p of the sequence of this rank
+-- the locator covers position p of the sequence of this rank
 abbrev on : ℕ → ℕ → Locator → Bool
 on seq p place = (place.span.seq == seq) && (nat_le place.span.start p && nat_lt p place.span.stop)
 
@@ -30,7 +30,7 @@ Before a b = (a.span.seq ≤ b.span.seq) × (a.span.seq ≡ b.span.seq → a.spa
 abbrev Past : Locator → Locator → Type 0
 Past a b = (a.span.seq ≤ b.span.seq) × (a.span.seq ≡ b.span.seq → a.span.stop < b.span.start)
 
--- each place is so beside each that comes after it
+-- each locator is so beside each that comes after it
 abbrev pub InTurn : (Locator → Locator → Type 0) → List Locator → Type 0
 InTurn R [] = Unit {0}
 InTurn R (x ∷ xs) = AllByRecursion (R x) xs × InTurn R xs
@@ -41,7 +41,7 @@ or_assoc : (a b c : Bool) → ((a || b) || c) ≡ (a || (b || c))
 or_assoc true b c = refl
 or_assoc false b c = refl
 
--- two places that touch, as one place
+-- two locators that touch, as one locator
 on-grown : (seq p : ℕ) (k x : Locator) → touches k x ≡ true → Before k x → on seq p (grown k x) ≡ (on seq p k || on seq p x)
 on-grown seq p k x touch before =
     let parts = and_parts (k.span.seq == x.span.seq) (nat_le x.span.start k.span.stop) touch in
@@ -172,7 +172,7 @@ rows-apart w text (x ∷ xs) turn =
     AllPairs-cons (λ (a b : RecordValue). a.seq ≡ b.seq → a.stop < b.start) (row_at w text x) (rows_at w text xs)
     (All-from_recursion (λ (y : RecordValue). x.span.seq ≡ y.seq → x.span.stop < y.start) (rows_at w text xs) (each-apart w text x xs turn.0)) (rows-apart w text xs turn.1)
 
--- the records of joined places cover what those of the places do
+-- the records of joined locators cover what those of the locators do
 pub covered-joined : (w v : ℕ) (text : List ℕ) (xs : List Locator) → AreInOrder (rows_at w text xs) → (seq p : ℕ) → is_covered (rows_at v text (joined xs)) seq p ≡ is_covered (rows_at w text xs) seq p
 covered-joined w v text xs order seq p = cover-rows v text seq p (joined xs) ∙ cover-joined seq p xs (in-turn w text xs order) ∙ sym (cover-rows w text seq p xs)
 

@@ -1,4 +1,4 @@
--- Places in the order of their records.
+-- Locators in the order of their records.
 use Rattle.std.proofs.Common.{◌≡◌, ℕ, ◌+◌, ◌<◌, Bool, true, false, not, List, Option, length, map, refl, sym, ap, subst, ◌∙◌, arith}
 use Rattle.std.proofs.lemmas.List.{length-map, get_or-map}
 use Rattle.std.proofs.lemmas.List.Sorted.{IsPermutation-map}
@@ -80,7 +80,7 @@ sorted-by-rows {g = g} {f = f} row ps up h =
     up (λ x y. is_lt (record_cmp (row x) (row y))) (ranks_by rows_total row)
     (always_returns_same g (λ a r. is_lt r ≡ is_lt (record_cmp (row a.0.now) (row a.1.0.now))) f (λ a r f' k. (ap is_lt (h a r f' k).0, (h a r f' k).1)))
 
--- what `is_sorted_by` says of its closure, if each call tells that the second doesn't belong in front of the first
+-- what `is_sorted_by` says of its closure, if each call answers whether the second doesn't belong in front of the first
 pub in-order : {X F : Type 0} {g : Mut F (Bor X × (Bor X × Unit {0})) Bool} {f : F} (d : X) (lt : X → X → Bool) (ps : List X) (r : Bool)
     → ((e : X → X → Bool) → ComputesOnPairs g e f → IsAllAdjacentAnswer (λ x y b. b ≡ e x y) ps r)
     → ((a : Bor X × (Bor X × Unit {0})) (s : Bool) (f' : F) → Called g f a s f' → (s ≡ not (lt a.1.0.now a.0.now)) × (f' ≡ f))

@@ -56,7 +56,7 @@ wanted {X} k w x d beyond = by (nat_le k w) refl
     by true e = refl
     by false e = sym (beyond (grind (arith, nat_tests, e)))
 
--- the record of a line is that of its place
+-- the record of a line is that of its locator
 pub place-row : (g : Sequences) (w : ℕ) (line : List ℕ) (r : RecordValue) (p : Locator) → read g w line ≡ Ok r → p.span.seq ≡ r.seq → p.span.start ≡ r.start → p.span.stop ≡ r.stop → r ≡ row_of w line p
 place-row g w line r p says rank start stop =
     let cs = columns line in
@@ -70,7 +70,7 @@ place-row g w line r p says rank start stop =
 
 -- ---- a whole file
 
--- the record of a place in a text, of as many columns as its line has
+-- the record of a locator into a text, of as many columns as its line has
 abbrev row_in : List ℕ → Locator → RecordValue
 row_in text p = row_of (length (columns (line_at text p.line))) (line_at text p.line) p
 
@@ -98,7 +98,7 @@ rows-in g w text (p ∷ ps) fit =
     let wide : length (columns (line_at text p.line)) ≡ w = (All-head (Fits g w) (row_in text p) (map (row_in text) ps) fit).width_is in
     λ i. row_of (wide i) (line_at text p.line) p ∷ rows-in g w text ps (All-tail (Fits g w) (row_in text p) (map (row_in text) ps) fit) i
 
--- the places are those of the records that the text says
+-- the locators are those of the records of the text
 pub record AreRead (g : Sequences) (limit empty : ℕ) (text : List ℕ) (w : ℕ) (places : List Locator) : Type 0 where
   pub says : bed_of g empty limit text ≡ Ok (record { width = w; rows = rows_at w text places })
   pub fit : All (Fits g w) (rows_at w text places)
@@ -106,7 +106,7 @@ pub record AreRead (g : Sequences) (limit empty : ℕ) (text : List ℕ) (w : �
   pub places_are : AreLocators w places
 
 module _ (g : Sequences) (limit empty : ℕ) (text : List ℕ) (small : length text < 2 ^ 32) where
-  -- a place that is kept shows the record of its line
+  -- a locator that is held shows the record of its line
   shows-places : Shows locator_at g (λ r. r) (row_in text) 0 text
   shows-places = record {
     again = λ r. refl;
@@ -120,7 +120,7 @@ module _ (g : Sequences) (limit empty : ℕ) (text : List ℕ) (small : length t
         ∙ sym (place-row g w line r p reads refl refl refl);
   }
 
-  -- what the text says is what is known once its lines were read
+  -- the BED file of the text is what is known once its lines were read
   says : (r : Result Draft LoadFault) → after (λ r. r) g limit begun.read (lines text ++ []) ≡ r → bed_of g empty limit text ≡ finished empty r
   says r is =
       sym (kept-all (bed_of g empty limit text))

@@ -57,7 +57,7 @@ module _ {X : Type 0} (row : X → RecordValue) (rank : ℕ) where
       let not_later : nat_lt rank (row p).seq ≡ false = le-ltb rank (row p).seq low in
       (rw on_it (ap (λ (l : List RecordValue). row p ∷ l) rest.0), rw not_later rest.1)
 
-  -- so a search among the places of records in order finds how many there are
+  -- so a search among the intervals of records in order finds how many there are
   pub split-rows : (places : List X) (rows : List RecordValue) (n : ℕ) → map row places ≡ rows → AreInOrder rows → All (λ r. rank ≤ r.seq) rows
       → n ≤ length places
       → (IsPartitionedBy (λ place. nat_le (row place).seq rank) places → IsPartitionPoint (λ place. nat_le (row place).seq rank ≡ true) (λ place. nat_le (row place).seq rank ≡ false) places n)

@@ -1,4 +1,4 @@
--- What records cover, and records that are apart.
+-- What records cover.
 use Rattle.std.specs.Prelude.{ℕ, Bool, List}
 use Rattle.std.specs.List.{list_any}
 use Rattle.iv_text.specs.RecordValue.{RecordValue}

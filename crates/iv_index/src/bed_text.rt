@@ -1,4 +1,4 @@
-//! The records of a BED file as places in its text.
+//! The records of a BED file as locators into its text.
 ghost use Rattle.std.specs.Prelude.{◌≡◌, cond, ◌<◌, ◌≤◌, ◌^◌, ◌⊎◌, ℕ, All, length, map, Ok, Err, IfOk, IfErr, OnOk};
 ghost use Rattle.iv_text.specs.BedFile.{bed_of};
 ghost use Rattle.iv_text.specs.Ordered.{AreInOrder, ordered};
@@ -17,7 +17,7 @@ use iv_text::{BedLines, Genome, LoadFault};
 use std::alloc::{AllocError, Allocator, Global};
 use std::marker::Model;
 
-/// Joins a place to one that doesn't start past it, if the two overlap or are book-ended. Says whether they do.
+/// Joins a locator to one that doesn't start past it, if the two overlap or are book-ended, and answers whether they do.
 fn take_in(last: &mut Locator, place: &Locator) -> bool
     ensures touches { result ≡ touches last.old place.now }
     ensures new { last.new ≡ cond (touches last.old place.now) (grown last.old place.now) last.old }
@@ -29,7 +29,7 @@ fn take_in(last: &mut Locator, place: &Locator) -> bool
     true
 }
 
-/// Joins places that are in order, each to the one before it if the two overlap or are book-ended. It is one pass,
+/// Joins locators that are in order, each to the one before it if the two overlap or are book-ended. It is one pass,
 /// and takes no memory.
 pub(crate) fn join_locators<A: Allocator>(places: &mut Vec<Locator, A>)
     ensures { places.new.items ≡ joined places.old.items }
@@ -61,7 +61,7 @@ impl<'t, A: Allocator> Model for BedText<'t, A> {
 }
 
 impl<'t, A: Allocator + Copy> BedText<'t, A> {
-    /// The records that a BED file says, or the file's first fault, as [`BedFile::parse`](iv_text::BedFile::parse)
+    /// The records of a BED file, or the file's first fault, as [`BedFile::parse`](iv_text::BedFile::parse)
     /// answers them.
     ///
     /// The first record's number of columns is the width, and all others have it too. Empty lines and
@@ -107,7 +107,7 @@ impl<'t, A: Allocator + Copy> BedText<'t, A> {
         TextRecords::of_locators(self.text, self.places.as_slice(), self.width)
     }
 
-    /// Drops the columns after the third: of each record only its place is kept.
+    /// Drops the columns after the third: only the interval of each record remains.
     ///
     /// The text isn't looked at, here or by a sort after this call.
     pub fn drop_columns(&mut self)
@@ -117,9 +117,9 @@ impl<'t, A: Allocator + Copy> BedText<'t, A> {
     }
 
     /// Sorts the records in the order of a track, in one pass if they are sorted, or at most three if only a
-    /// few records of one start are out of order. Lines are looked at only for records of one place, and none at width 3.
+    /// few records of one start are out of order. Lines are looked at only for records of one interval, and none at width 3.
     ///
-    /// Memory is taken only if many records of one place are out of order: 24 bytes for each record, while it sorts.
+    /// Memory is taken only if many records of one interval are out of order: 24 bytes for each record, while it sorts.
     pub fn sort(&mut self, alloc: A) -> Result<(), AllocError>
         ensures { OnOk result (self.new ≡ record self.old { rows = ordered self.old.rows }) }
     {
@@ -154,7 +154,7 @@ impl<'t, A: Allocator + Copy> BedText<'t, A> {
     pub fn lemma_of_bases(&self)
         ensures { All (λ r. r.start < r.stop) self.now.rows }
     {
-        // What is read has its invariant.
+        // After this read the type's invariant is known.
         let _width = self.width;
     }
 }

@@ -1,4 +1,4 @@
-//! The records of a BED file as places in its text, or as intervals alone.
+//! The records of a BED file as locators into its text, or as intervals alone.
 #![tactic(auto)]
 
 mod bed_text;

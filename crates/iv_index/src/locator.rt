@@ -1,4 +1,4 @@
-//! Places in a text: where records are, and the columns of their lines.
+//! Locators of records: their intervals, and where their lines begin; and the columns of these lines.
 ghost use Rattle.std.specs.Prelude.{◌≡◌, ◌≤◌, [], None, cond, drop, nat_le, refl};
 ghost use Rattle.iv_text.specs.Fields.{columns as columns_of};
 ghost use Rattle.iv_text.specs.Read.{column};
@@ -10,10 +10,10 @@ use crate::span::Span;
 use iv_text::{FastLine, Fields, FromRecord, RecordRef, Strand, columns, read_strand, split_line};
 use std::alloc::{AllocError, Allocator};
 
-/// Where a record is, and where its line begins in the text of its file.
+/// A record's interval, and where its line begins in the text of its file.
 #[derive(Clone, Copy, Debug, PartialEq, Eq)]
 pub struct Locator {
-    /// Where the record is, 0-based and half-open.
+    /// The record's interval, 0-based and half-open.
     pub span: Span,
     /// The byte of the text at which its line begins.
     pub line: u32,
@@ -49,7 +49,7 @@ impl<A: Allocator + Copy> FromRecord<A> for Locator {
     }
 }
 
-/// The columns of a record besides its place. Those beyond the width are empty.
+/// The columns of a record after the third. Those beyond the width are empty.
 #[derive(Clone, Copy)]
 pub(crate) struct OptionalColumns<'t> {
     pub(crate) name: &'t [u8],
@@ -90,7 +90,7 @@ fn optional_columns_in(line: &[u8], width: u8) -> OptionalColumns<'_>
     beside
 }
 
-/// Name, score and strand of the record of a place. At width 3 its line isn't looked at.
+/// Name, score and strand of the record of a locator. At width 3 its line isn't looked at.
 pub(crate) fn optional_columns_of(text: &[u8], place: Locator, width: u8) -> OptionalColumns<'_>
     ensures name { result.name.now ≡ (row_at width text.now place).name }
     ensures score { result.score.now ≡ (row_at width text.now place).score }

@@ -1,4 +1,4 @@
-//! The order of a track among places of a text, and the sorts by it.
+//! The order of a track among locators into a text, and the sorts by it.
 ghost use Rattle.std.specs.Prelude.{◌≡◌, ◌↔◌, IsTrue, ◌≤◌, IfOk, length, map, ◌<◌};
 ghost use Rattle.std.specs.List.Sorted.{IsPermutation};
 ghost use Rattle.std.specs.Cmp.Lexicographic.{slice_cmp};
@@ -22,7 +22,7 @@ fn compare_columns(first: &OptionalColumns<'_>, second: &OptionalColumns<'_>) ->
     first.name.cmp(second.name).then(scores.then(strands))
 }
 
-/// The records of two places by their columns after the third. At width 3 no line is looked at.
+/// Compares the records of two locators by their columns after the third. At width 3 no line is looked at.
 fn compare_beside(text: &[u8], width: u8, first: &Locator, second: &Locator) -> Ordering
     ensures { result ≡ beside_cmp (row_at width text.now first.now) (row_at width text.now second.now) }
 {
@@ -35,7 +35,7 @@ fn compare_beside(text: &[u8], width: u8, first: &Locator, second: &Locator) -> 
     )
 }
 
-/// The records of two places in the order of a track.
+/// Compares the records of two locators in the order of a track.
 pub(crate) fn compare(text: &[u8], width: u8, first: &Locator, second: &Locator) -> Ordering
     ensures { result ≡ record_cmp (row_at width text.now first.now) (row_at width text.now second.now) }
 {
@@ -46,17 +46,17 @@ pub(crate) fn compare(text: &[u8], width: u8, first: &Locator, second: &Locator)
     compare_beside(text, width, first, second)
 }
 
-/// Whether places are in the order of a track.
+/// Whether locators are in the order of a track.
 pub(crate) fn are_in_order(text: &[u8], width: u8, places: &[Locator]) -> bool
     ensures { IsTrue result ↔ AreInOrder width text.now places.now }
 {
     places.is_sorted_by(|first, second| !compare(text, width, second, first).is_lt())
 }
 
-/// Brings places into the order of a track, or near to it: what is left to a sort is mostly to see that they are in order.
+/// Brings locators into the order of a track, or near to it: a sort after it mostly only sees that they are in order.
 ///
-/// Records of one place are the slow part of a sort, since each comparison cuts two lines. A few of them are moved past each
-/// other. If there are many of one place, they are sorted by a few bytes of their names, which takes memory.
+/// Records of one interval are the slow part of a sort, since each comparison cuts two lines. A few of them are moved past each
+/// other. If there are many of one interval, they are sorted by a few bytes of their names, which takes memory.
 pub(crate) fn order_locators<A: Allocator + Copy>(
     alloc: A,
     text: &[u8],
@@ -76,8 +76,8 @@ pub(crate) fn order_locators<A: Allocator + Copy>(
     sort_by_prefix_keys(alloc, text, width, places)
 }
 
-/// Moves each place past a few others of its start that belong after it. So files that are in order except for records of
-/// one start, as most tools leave them, are then in the order of a track. It stops if there are more than a few, and says
+/// Moves each locator past a few others of its start that belong after it. So files that are in order except for records of
+/// one start, as most tools leave them, are then in the order of a track. It stops if there are more than a few, and answers
 /// whether it came to the end.
 fn order_ties<A: Allocator>(text: &[u8], width: u8, places: &mut Vec<Locator, A>) -> bool
     ensures { IsPermutation places.old.items places.new.items }
@@ -92,20 +92,20 @@ fn order_ties<A: Allocator>(text: &[u8], width: u8, places: &mut Vec<Locator, A>
     )
 }
 
-/// A place, with a few bytes of its record's name as a number: of two names, the one with the lesser number is first.
+/// A locator with its prefix key, a few bytes of its record's name as a number: of two names, the one with the lesser key is first.
 #[derive(Clone, Copy)]
 pub(crate) struct PrefixKeyed {
     head: u64,
     place: Locator,
 }
 
-/// Sorts places by interval, and then by a few bytes of their names, so that hardly any comparison looks at two lines.
+/// Sorts locators by interval, and then by a few bytes of their names, so that hardly any comparison looks at two lines.
 ///
-/// It takes 24 bytes for each place while it sorts.
+/// It takes 24 bytes for each locator while it sorts.
 ///
 /// # Errors
 ///
-/// An allocation failed. The places are as they were.
+/// An allocation failed. The locators are as they were.
 pub(crate) fn sort_by_prefix_keys<A: Allocator + Copy>(
     alloc: A,
     text: &[u8],
@@ -120,7 +120,7 @@ pub(crate) fn sort_by_prefix_keys<A: Allocator + Copy>(
     Ok(())
 }
 
-/// The places, each with bytes of its name that follow those that all names begin with.
+/// The locators, each with the bytes of its name that follow those that all names begin with.
 fn with_prefix_keys<A: Allocator + Copy>(
     alloc: A,
     text: &[u8],
@@ -174,14 +174,14 @@ fn head_of(name: &[u8], from: usize) -> u64 {
     head
 }
 
-/// By interval, then by head, then by all columns.
+/// Compares by interval, then by prefix key, then by all columns.
 fn compare_headed(text: &[u8], width: u8, first: &PrefixKeyed, second: &PrefixKeyed) -> Ordering {
     compare_spans(&first.place.span, &second.place.span)
         .then(first.head.cmp(&second.head))
         .then_with(|| compare(text, width, &first.place, &second.place))
 }
 
-/// Puts the places of these instead of as many others.
+/// Writes the locators of these over as many others.
 fn write_locators<A: Allocator>(places: &mut Vec<Locator, A>, headed: &[PrefixKeyed])
     requires { length places.old.items ≡ length headed.now }
     ensures { places.new.items ≡ map place_of headed.now }
@@ -194,10 +194,10 @@ fn write_locators<A: Allocator>(places: &mut Vec<Locator, A>, headed: &[PrefixKe
 /// The most items that one is moved past.
 const MOST_MOVES: usize = 16;
 
-/// Moves each item past those right before it that belong after it, and says whether it came to the end. It stops at an item that
+/// Moves each item past those right before it that belong after it, and answers whether it came to the end. It stops at an item that
 /// is moved past 16.
 ///
-/// What is in order but for a few neighbors, as most tools leave it, is then in order, and a sort only looks at it.
+/// Items that are in order except for a few neighbours, as most tools leave them, are then in order, and a sort only looks at them.
 pub fn order_nearly<T: Copy, F: Fn(&T, &T) -> bool>(items: &mut [T], belongs_after: F) -> bool
     requires { F.IsAlwaysCallable belongs_after }
     ensures permutation { IsPermutation items.old items.new }
@@ -211,7 +211,7 @@ pub fn order_nearly<T: Copy, F: Fn(&T, &T) -> bool>(items: &mut [T], belongs_aft
     true
 }
 
-/// Moves the items of a vector past a few neighbors that belong after them, as [`order_nearly`] does.
+/// Moves the items of a vector past a few neighbours that belong after them, as [`order_nearly`] does.
 pub fn order_neighbors<T: Copy, A: Allocator, F: Fn(&T, &T) -> bool>(
     items: &mut Vec<T, A>,
     belongs_after: F,
@@ -222,7 +222,7 @@ pub fn order_neighbors<T: Copy, A: Allocator, F: Fn(&T, &T) -> bool>(
     order_nearly(items.as_mut_slice(), belongs_after);
 }
 
-/// Moves the item at an index past a few before it that belong after it, and says whether that was enough.
+/// Moves the item at an index past a few before it that belong after it, and answers whether that was enough.
 fn move_forward<T: Copy, F: Fn(&T, &T) -> bool>(
     items: &mut [T],
     index: usize,

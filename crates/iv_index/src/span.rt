@@ -1,4 +1,4 @@
-//! Where a record is, and nothing else; the order of a track among such places.
+//! The intervals of records, and the order of a track among them.
 ghost use Rattle.std.specs.Prelude.{◌≡◌, ◌↔◌, ◌≤◌, nat_lt, All, IsTrue, filter, refl};
 ghost use Rattle.std.specs.List.Sorted.{IsSortedBy};
 ghost use Rattle.iv_text.specs.Covering.{on};
@@ -13,7 +13,7 @@ use iv_text::{FastLine, FromRecord, RecordRef};
 use std::alloc::{AllocError, Allocator};
 use std::cmp::Ordering;
 
-/// Where a record is, 0-based and half-open.
+/// A record's interval, 0-based and half-open.
 #[derive(Clone, Copy, Debug, PartialEq, Eq)]
 pub struct Span {
     /// The rank of its sequence in the genome.
@@ -61,7 +61,7 @@ impl<A: Allocator + Copy> FromRecord<A> for Span {
     }
 }
 
-/// The records of two places in the order of a track.
+/// Compares two intervals in the order of a track.
 pub(crate) fn compare_spans(first: &Span, second: &Span) -> Ordering
     ensures { result ≡ record_cmp (row_of_span first.now) (row_of_span second.now) }
 {
@@ -74,14 +74,14 @@ pub(crate) fn compare_spans(first: &Span, second: &Span) -> Ordering
     first.stop.cmp(&second.stop)
 }
 
-/// Whether places are in the order of a track.
+/// Whether intervals are in the order of a track.
 fn are_in_order(spans: &[Span]) -> bool
     ensures { IsTrue result ↔ IsSortedBy span_lt spans.now }
 {
     spans.is_sorted_by(|first, second| !compare_spans(second, first).is_lt())
 }
 
-/// Sorts places in the order of a track: in one pass if they are sorted, or in few if only records of one start are out of
+/// Sorts intervals in the order of a track: in one pass if they are sorted, or in few if only records of one start are out of
 /// order. It takes no memory.
 pub fn sort_spans<A: Allocator>(spans: &mut Vec<Span, A>)
     ensures { span_rows spans.new.items ≡ ordered (span_rows spans.old.items) }
@@ -93,7 +93,7 @@ pub fn sort_spans<A: Allocator>(spans: &mut Vec<Span, A>)
     spans.sort_unstable_by(|first, second| compare_spans(first, second));
 }
 
-/// The places on the sequence of this rank, and those on later ones.
+/// The intervals on the sequence of this rank, and those on later ones.
 pub fn split_sequence(spans: &[Span], rank: u32) -> (&[Span], &[Span])
     requires order { AreInOrder (span_rows spans.now) }
     requires from { All (λ r. rank ≤ r.seq) (span_rows spans.now) }

@@ -34,7 +34,7 @@ impl<'t> Model for TextRecord<'t> {
 }
 
 impl<'t> TextRecord<'t> {
-    /// The record of a place of a text.
+    /// The record of a locator into a text.
     pub(crate) fn of_locator(text: &'t [u8], place: Locator, width: u8) -> TextRecord<'t>
         requires { HasBase place }
         ensures { result ≡ row_at width text.now place }
@@ -58,12 +58,12 @@ impl<'t> TextRecord<'t> {
     pub fn lemma_of_interval(&self)
         ensures { IsPlaced self.now }
     {
-        // What is read has the bounds of its type.
+        // After this read the type's bounds are known.
         let _seq = self.place.span.seq;
         let _stop = self.place.span.stop;
     }
 
-    /// The columns besides its place.
+    /// Its columns after the third.
     fn optional_columns(&self) -> OptionalColumns<'t>
         ensures name { result.name.now ≡ self.now.name }
         ensures score { result.score.now ≡ self.now.score }
@@ -138,7 +138,7 @@ impl<'t> Model for TextRecords<'t> {
 }
 
 impl<'t> TextRecords<'t> {
-    /// The records of places of a text.
+    /// The records of locators into a text.
     pub(crate) fn of_locators(text: &'t [u8], places: &'t [Locator], width: u8) -> TextRecords<'t>
         requires { All HasBase places.now }
         ensures { result ≡ rows_at width text.now places.now }
@@ -224,7 +224,7 @@ impl<'t> TextRecords<'t> {
         self.split_at(self.places.partition_point(|place| place.span.seq <= rank))
     }
 
-    /// The places of the records, in their order.
+    /// The locators of the records, in their order.
     pub fn locators(&self) -> &'t [Locator]
         ensures spots { map span_in result.now ≡ map span_of self.now }
         ensures some { All HasBase result.now }

@@ -21,7 +21,7 @@ use Rattle.iv_text.proofs.FileLawLemmas.{same-ok, same-err, ok-err, IsRun, run-v
 
 -- ---- what is known after lines
 
--- from the lines that say a record
+-- from the lines that have a record
 abbrev draft_of : Sequences → List (List ℕ) → Draft
 draft_of g said = record {
   width = option_map (λ line. length (columns line)) (slice_get said 0);

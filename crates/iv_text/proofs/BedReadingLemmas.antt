@@ -198,7 +198,7 @@ module _ (kept : RecordValue → RecordValue) (g : Sequences) (limit : ℕ) wher
       by None none same = subst (λ (l : List RecordValue). All (IsProjected kept g w) l) (sym none) (All-nil (IsProjected kept g w))
       by (Some k) some same = subst (λ (n : ℕ). All (IsProjected kept g n) old.rows) (sym same) some.2
 
-  -- a record was taken: what is kept is sound
+  -- a record was taken: what was read is sound
   pub record-sound : (old new : LinesRead) (line : List ℕ) (w : ℕ) (r k : RecordValue) → AreSound kept g limit old → w ≡ unwrap_or old.width (length (columns line)) → 3 ≤ w → w ≤ 6
       → Fits g w r → k ≡ kept r → length old.rows < limit → new.rows ≡ old.rows ++ k ∷ [] → new.width ≡ Some w → AreSound kept g limit new
   record-sound old new line w r k sound wide low high fits kept_is free grown width =
@@ -257,7 +257,7 @@ module _ (kept : RecordValue → RecordValue) (g : Sequences) (limit : ℕ) wher
   pub begun-sound : AreSound kept g limit begun.read
   begun-sound = record { fit = refl; few = omega arith }
 
-  -- what a file says of which nothing has come is what its text says
+  -- what is known of a file before its first byte, if its text remains, is what is known of the text
   pub whole-file : (empty : ℕ) (text : List ℕ) → finished empty (coming kept g limit begun text) ≡ projected_bed_of kept g empty limit text
   whole-file empty text = by (after_rows g limit 1 (record { width = None; rows = [] }) (lines text))
     where
@@ -265,7 +265,7 @@ module _ (kept : RecordValue → RecordValue) (g : Sequences) (limit : ℕ) wher
       by (Ok d) = refl
       by (Err f) = refl
 
-  -- what is kept stays so
+  -- what is projected stays so
   pub kept-again : ((r : RecordValue) → kept (kept r) ≡ kept r) → (w : ℕ) (rows : List RecordValue) → All (IsProjected kept g w) rows → map kept rows ≡ rows
   kept-again again w [] all = refl
   kept-again again w (k ∷ rows) all =
@@ -304,7 +304,7 @@ begins-next at now size next same is skipped =
 known-at : (width : Option ℕ) (w : ℕ) (line : List ℕ) → width ≡ Some w → w ≡ unwrap_or width (length (columns line))
 known-at width w line is = sym (ap (λ (o : Option ℕ). unwrap_or o (length (columns line))) is)
 
--- the record of a line in one pass is read where the line says
+-- the record of a line in one pass has the line's interval
 pub short-read : (g : Sequences) (w : ℕ) (text : List ℕ) (l : FastLine) (short : IsShortLine g w text l) → IsReadAt w l short.row
 short-read g w text l short = record { genome = g; line = short.line; reads = short.reads; seq_is = short.seq_is; start_is = short.start_is; stop_is = short.stop_is }
 
@@ -318,7 +318,7 @@ module _ {K : Type 0} (held_of : RecordValue → ℕ → K) (g : Sequences) (lim
         ∙ s.shows (size + skipped) w line others r (sym (ap lines (drop-drop skipped size text)) ∙ are) reads;
   }
 
-  -- a line that says no record
+  -- a line without a record
   pub held-unread : (h : Held K) (text line : List ℕ) (size : ℕ) → lines text ≡ line ∷ lines (drop size text) → is_unread line ≡ true → TakesLine held_of g limit h h text size
   held-unread h text line size are unread = λ kept row_of s.
       (λ sound. sound, unread-taken kept g limit (shown row_of h) (lines text) (lines (drop size text)) line are unread)
@@ -400,7 +400,7 @@ module _ {K : Type 0} (held_of : RecordValue → ℕ → K) (g : Sequences) (lim
   takes-refused old now text left n c takes refuses is = λ kept row_of s rest.
       (takes kept row_of s).2 rest ∙ refuses kept row_of now.number rest ∙ ap (λ (m : ℕ). Err (record { line = m; cause = c })) (sym is)
 
-  -- ---- what is kept, shown as what it stands for
+  -- ---- items shown as the records that they represent
 
   module _ (kept : RecordValue → RecordValue) (as_record : K → RecordValue) (again : (r : RecordValue) → kept (kept r) ≡ kept r) (stands : (r : RecordValue) (at : ℕ) → as_record (held_of r at) ≡ kept r) where
     pub stands-so : (at : ℕ) (text : List ℕ) → Shows held_of g kept as_record at text
@@ -414,7 +414,7 @@ module _ {K : Type 0} (held_of : RecordValue → ℕ → K) (g : Sequences) (lim
         → (rest : List (List ℕ)) → after kept g limit (shown as_record old) (lines text ++ rest) ≡ Err f
     refused-so old text f refuses = refuses kept as_record (stands-so old.at text)
 
--- if all of each record is kept, records are as they were
+-- if all columns are held, records are as they were
 pub rows-all : (rows : List RecordValue) → map (λ r. r) rows ≡ rows
 rows-all [] = refl
 rows-all (r ∷ rows) = ap (λ (rest : List RecordValue). r ∷ rest) (rows-all rows)

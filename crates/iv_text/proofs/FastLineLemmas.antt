@@ -130,7 +130,7 @@ unread-after (b ∷ bs) rest other =
 
 -- ---- the line
 
--- the columns of a place, with no rest
+-- the columns of an interval, with no rest
 abbrev place_line : List ℕ → List ℕ → List ℕ → List ℕ
 place_line name starts stops = name ++ 9 ∷ (starts ++ 9 ∷ stops)
 
@@ -168,7 +168,7 @@ ended line rest next plain kept (inr feed) =
     let cut : strip_last 13 raw ≡ line = strip-front line 13 [] ∙ ap (λ t. line ++ t) (strip-is 13 []) ∙ append-nil line in
     (raw ++ 10 ∷ [], grind (arith, common_steps), whole, ap lines whole ∙ lines-line raw next feedless_raw ∙ ap (λ (s : List ℕ). s ∷ lines next) cut)
 
--- ---- the cells of a line after its place
+-- ---- the cells of a line after its interval
 
 cell-without : (z : ℕ) (cell : List ℕ) → ends_cell z ≡ true → IsCell cell → All (λ b. b ≢ z) cell
 cell-without z cell ends plain = λ k d within e. false≢true (sym (plain k d within) ∙ ap ends_cell e ∙ ends)
@@ -199,7 +199,7 @@ cell-text cell some plain = or_neither (length cell == 0) (list_any is_line_byte
         or_neither (is_line_byte b) (list_any is_line_byte bs) (or_false (is_line_byte b) (is_separator 9 b) (All-head (λ x. ends_cell x ≡ false) b bs p)).0
         (none bs (All-tail (λ x. ends_cell x ≡ false) b bs p))
 
--- a byte that says a strand is a cell
+-- a byte that means a strand is a cell
 pub cell-strand : (b : ℕ) → is_some (strand_of (b ∷ [])) ≡ true → IsCell (b ∷ [])
 cell-strand b is =
     All-cons (λ x. ends_cell x ≡ false) b []

@@ -80,7 +80,7 @@ looked cause_of (line ∷ lines) = by (cause_of [] line) refl (looked (past line
 
 -- ---- a loop over lines
 
--- if a line has no cause the loop goes on, with what the lines say so far; if it has one it ends with that
+-- if a line has no cause the loop goes on, with the value of the lines so far; if it has one it ends with that
 pub record IsRun {S : Type 0} (cause_of : List (List ℕ) → List ℕ → Option LoadCause) (says : List (List ℕ) → S) (run : ℕ → S → List (List ℕ) → Result S LoadFault) : Type 0 where
   pub ends : (n : ℕ) (s : S) → run n s [] ≡ Ok s
   pub goes : (n : ℕ) (before : List (List ℕ)) (line : List ℕ) (lines : List (List ℕ)) → cause_of before line ≡ None → run n (says before) (line ∷ lines) ≡ run (n + 1) (says (before ++ line ∷ [])) lines
@@ -119,7 +119,7 @@ module _ {S : Type 0} (cause_of : List (List ℕ) → List ℕ → Option LoadCa
       ∙ t.stops (1 + length w.front) w.front w.faulty w.back f.cause w.first
       ∙ ap {B = Result S LoadFault} (λ (k : ℕ). Err (record { line = k; cause = f.cause })) number
 
-  -- the value is what the lines say, if none has a cause
+  -- the value is that of the lines, if none has a cause
   pub run-value : (all : List (List ℕ)) (s : S) → (run 1 (says []) all ≡ Ok s) ↔ (HaveNoCause cause_of all × (s ≡ says all))
   run-value all s = (by (looked cause_of all), λ h. run-none all h.0 ∙ ap Ok (sym h.1))
     where

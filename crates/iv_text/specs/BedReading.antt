@@ -1,4 +1,4 @@
--- What the reading of a BED file in pieces keeps, and what the file says in the midst of it.
+-- A BED file that is read in pieces: what is held of its records, and what is known of it after some of its bytes.
 use Rattle.std.specs.Prelude.{◌≡◌, ◌≤◌, ℕ, ◌+◌, ◌%◌, ◌^◌, ◌++◌, All, MatchOption, List, [], ◌∷◌, Option, None, Result, Ok, Err, length, map, drop}
 use Rattle.iv_text.specs.BedFile.{Bed, Draft, after_rows, bed_of}
 use Rattle.iv_text.specs.Genome.{Sequences}
@@ -8,7 +8,7 @@ use Rattle.iv_text.specs.RecordValue.{RecordValue}
 use Rattle.iv_text.specs.declared.fault.LoadFault.{LoadFault}
 use Rattle.iv_text.specs.declared.record_reader.FastLine.{FastLine}
 
--- the record is what some line of this width says, and it is where the line in one pass says
+-- the record is that of some line of this width, and its interval is that of the line that was read in one pass
 pub record IsReadAt (width : ℕ) (l : FastLine) (r : RecordValue) : Type 0 where
   pub genome : Sequences
   pub line : List ℕ
@@ -26,7 +26,7 @@ abbrev pub projected_or_fault : (RecordValue → RecordValue) → Result Bed Loa
 projected_or_fault kept (Ok b) = Ok (projected_bed kept b)
 projected_or_fault kept (Err f) = Err f
 
--- the BED file that a text says, with its records projected, or its first fault
+-- the BED file of a text, with its records projected, or its first fault
 abbrev pub projected_bed_of : (RecordValue → RecordValue) → Sequences → ℕ → ℕ → List ℕ → Result Bed LoadFault
 projected_bed_of kept g empty limit text = projected_or_fault kept (bed_of g empty limit text)
 
@@ -53,13 +53,13 @@ after kept g limit l rest = projected_draft kept (after_rows g limit l.number (k
 abbrev pub IsProjected : (RecordValue → RecordValue) → Sequences → ℕ → RecordValue → Type 0
 IsProjected kept g width k = (r : RecordValue) × Fits g width r × (k ≡ kept r)
 
--- what was read is sound: a width of three columns to six, once there is a record; what is held of records of that width on the
--- genome; and not more than the limit
+-- what was read is sound: its width is 3 to 6, once there is a record; its records are projections of records of that width on the
+-- genome; and they aren't more than the limit
 pub record AreSound (kept : RecordValue → RecordValue) (g : Sequences) (limit : ℕ) (l : LinesRead) : Type 0 where
   pub fit : MatchOption l.width (l.rows ≡ []) (λ w. (3 ≤ w) × (w ≤ 6) × All (IsProjected kept g w) l.rows)
   pub few : length l.rows ≤ limit
 
--- the byte at which a line begins, as far as 32 bits tell it: so many bytes after another
+-- the byte at which a line begins, so many bytes after another, counted with 32 bits
 abbrev pub byte_after : ℕ → ℕ → ℕ
 byte_after at skipped = (at + skipped) % 2 ^ 32
 
@@ -79,18 +79,18 @@ pub record Held (K : Type 0) : Type 0 where
 abbrev pub none_held : {K : Type 0} → Held K
 none_held = record { number = 1; at = 0; width = None; kept = [] }
 
--- the same lines, if this is the record that something kept stands for
+-- the same lines, if this is the record that each item represents
 abbrev pub shown : {K : Type 0} → (K → RecordValue) → Held K → LinesRead
 shown row_of h = record { number = h.number; width = h.width; rows = map row_of h.kept }
 
 module _ {K : Type 0} (held_of : RecordValue → ℕ → K) (g : Sequences) where
-  -- a way to show what is kept as records: of a record in this text, whose first line begins at this byte, it shows what is to be kept
+  -- a way to show items as records: the item of a record in this text, whose first line begins at this byte, shows as its projection
   pub record Shows (kept : RecordValue → RecordValue) (row_of : K → RecordValue) (at : ℕ) (text : List ℕ) : Type 0 where
     pub again : (r : RecordValue) → kept (kept r) ≡ kept r
     pub shows : (skipped w : ℕ) (line : List ℕ) (others : List (List ℕ)) (r : RecordValue) → lines (drop skipped text) ≡ line ∷ others → read g w line ≡ Ok r
         → row_of (held_of r (byte_after at skipped)) ≡ kept r
 
-  -- all lines of a text were read, whatever lines come after them, and however what is kept is shown
+  -- all lines of a text were read, whatever lines come after them, and however items are shown
   abbrev pub TakesLines : ℕ → Held K → Held K → List ℕ → Type 0
   TakesLines limit old new text = (kept : RecordValue → RecordValue) (row_of : K → RecordValue) → Shows kept row_of old.at text
       → (AreSound kept g limit (shown row_of old) → AreSound kept g limit (shown row_of new))
@@ -101,19 +101,19 @@ module _ {K : Type 0} (held_of : RecordValue → ℕ → K) (g : Sequences) wher
   RefusesLines limit old text f = (kept : RecordValue → RecordValue) (row_of : K → RecordValue) → Shows kept row_of old.at text
       → (rest : List (List ℕ)) → after kept g limit (shown row_of old) (lines text ++ rest) ≡ Err f
 
--- a file of which some bytes have come: its lines that were read, and the bytes of a line that isn't ended yet
+-- a file of which some bytes were read: its lines, and the bytes of a line that hasn't ended
 pub record Reading : Type 0 where
   pub read : LinesRead
   pub tail : List ℕ
 
--- a file of which nothing has come
+-- a file of which no byte was read
 abbrev pub begun : Reading
 begun = record { read = record { number = 1; width = None; rows = [] }; tail = [] }
 
--- what the file says if these bytes remain, with its records projected, or its first fault
+-- what is known of the file once these remaining bytes are read, with its records projected, or its first fault
 abbrev pub coming : (RecordValue → RecordValue) → Sequences → ℕ → Reading → List ℕ → Result Draft LoadFault
 coming kept g limit r more = after kept g limit r.read (lines (r.tail ++ more))
 
--- more than the number of lines that have come, and no more than one and the number of bytes
+-- more than the number of lines that were read, and at most one more than the number of bytes
 abbrev pub size_of : Reading → ℕ
 size_of r = r.read.number + length r.tail

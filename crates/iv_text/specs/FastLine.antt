@@ -7,7 +7,7 @@ use Rattle.iv_text.specs.Read.{read, Fits}
 use Rattle.iv_text.specs.RecordValue.{RecordValue}
 use Rattle.iv_text.specs.declared.record_reader.FastLine.{FastLine}
 
--- the first line of the text says a record of this width that is here, and the next line begins so many bytes further on
+-- the first line of the text has a record of this width with this interval, and the next line begins so many bytes further on
 pub record IsShortLine (g : Sequences) (width : ℕ) (text : List ℕ) (l : FastLine) : Type 0 where
   pub line : List ℕ
   pub row : RecordValue

@@ -1,4 +1,4 @@
--- What genome files and BED files say, line by line: a value if no line has a cause to refuse it, else the first fault.
+-- What genome files and BED files mean, line by line: a value if no line has a cause to refuse it, else the first fault.
 use Rattle.std.specs.Prelude.{◌≡◌, ℕ, ◌+◌, ◌++◌, nat_le, not, Bool, false, cond, List, [], ◌∷◌, Option, None, Some, length, map, filter, find, slice_get, option_map, unwrap_or}
 use Rattle.iv_text.specs.Fields.{columns}
 use Rattle.iv_text.specs.Genome.{Sequences}
@@ -24,7 +24,7 @@ pub record IsFirstFault (cause_of : List (List ℕ) → List ℕ → Option Load
   pub number : f.line ≡ length front + 1
   pub first : cause_of front faulty ≡ Some f.cause
 
--- the sequences that lines say, one for each line that isn't skipped
+-- the sequences of lines, one for each line that isn't skipped
 abbrev pub sequences_of : List (List ℕ) → Sequences
 sequences_of lines = map (λ line. sequence (columns line)) (filter (λ line. not (is_skipped line)) lines)
 
@@ -32,23 +32,23 @@ sequences_of lines = map (λ line. sequence (columns line)) (filter (λ line. no
 abbrev pub sequence_cause : List (List ℕ) → List ℕ → Option LoadCause
 sequence_cause before line = cond (is_skipped line) None (find (has_cause (sequences_of before) (columns line)) causes)
 
--- the lines that say a record
+-- the lines that have a record
 abbrev pub record_lines : List (List ℕ) → List (List ℕ)
 record_lines lines = filter (λ line. not (is_unread line)) lines
 
--- the width that lines say: the number of columns of the first that says a record
+-- the width of lines: the number of columns of the first that has a record
 abbrev pub first_width : List (List ℕ) → Option ℕ
 first_width lines = option_map (λ line. length (columns line)) (slice_get (record_lines lines) 0)
 
--- the records that lines say, all of that width
+-- the records of lines, all of that width
 abbrev pub rows_of : Sequences → List (List ℕ) → List RecordValue
 rows_of g lines = map (λ line. row g (unwrap_or (first_width lines) 0) (columns line)) (record_lines lines)
 
--- the BED file that lines say; if none says a record, its width is the one handed in
+-- the BED file of lines; if none has a record, its width is the one handed in
 abbrev pub bed_from : Sequences → ℕ → List (List ℕ) → Bed
 bed_from g empty lines = record { width = unwrap_or (first_width lines) empty; rows = rows_of g lines }
 
--- the width for a line after these lines: theirs, or the number of its own columns if none of them says a record
+-- the width for a line after these lines: theirs, or the number of its own columns if none of them has a record
 abbrev pub width_after : List (List ℕ) → List ℕ → ℕ
 width_after before line = unwrap_or (first_width before) (length (columns line))
 
@@ -63,6 +63,6 @@ has_row_cause g limit before line other = false
 abbrev pub row_causes : List LoadCause
 row_causes = cause.Columns ∷ (map cause.Record faults ++ cause.TooMany ∷ [])
 
--- the first cause of a line after these lines, unless it says no record
+-- the first cause of a line after these lines, unless it has no record
 abbrev pub row_cause : Sequences → ℕ → List (List ℕ) → List ℕ → Option LoadCause
 row_cause g limit before line = cond (is_unread line) None (find (has_row_cause g limit before line) row_causes)

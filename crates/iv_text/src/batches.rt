@@ -124,7 +124,7 @@ impl<T: Ord, A: Allocator> Batches<T, A> {
 }
 
 impl<T: Drop, A: Allocator + Copy> Batches<T, A> {
-    /// A list of nothing. It takes no memory.
+    /// An empty list. It takes no memory.
     pub fn new(alloc: A) -> Self
         ensures { result ≡ [] }
     {
@@ -146,7 +146,7 @@ impl<T: Drop, A: Allocator + Copy> Batches<T, A> {
         }
     }
 
-    /// Begins a vector of so many items, if the last one has as many.
+    /// Begins a new vector, with room for `most` items, if the last one has as many.
     fn make_room(&mut self, most: usize) -> Result<(), AllocError>
         ensures { self.new ≡ self.old }
     {
@@ -159,7 +159,7 @@ impl<T: Drop, A: Allocator + Copy> Batches<T, A> {
         Ok(())
     }
 
-    /// Adds an item at the end: to the last vector, or if that has `most` items already to a new one, which is made for so many.
+    /// Adds an item at the end: to the last vector, or if that has `most` items already, to a new one with room for as many.
     ///
     /// # Errors
     ///

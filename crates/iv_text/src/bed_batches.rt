@@ -9,7 +9,7 @@ use std::marker::Model;
 
 /// The records of a BED file, in the order of the file, all of one width, in vectors of bounded length.
 ///
-/// It says what a [`BedFile`](crate::BedFile) says. What is made of the records can free each vector once it is used.
+/// It holds what a [`BedFile`](crate::BedFile) holds. Whoever takes the records can free each vector once it is used.
 #[derive(Drop)]
 pub struct BedBatches<A: Allocator = Global> {
     width: u8,

@@ -42,7 +42,7 @@ pub trait FromRecord<A: Allocator + Copy>: Sized + Drop {
 
     /// A projected record is its own projection.
     ghost again: { (r : RecordValue) → projected (projected r) ≡ projected r };
-    /// What is held of a record stands for its projection.
+    /// What is held of a record represents its projection.
     ghost stands: { (r : RecordValue) (at : ℕ) → as_record (held_of r at) ≡ projected r };
 }
 
@@ -79,7 +79,7 @@ impl<A: Allocator + Copy> FromRecord<A> for Record<A> {
     }
 }
 
-/// What lines of a BED file have said: how many columns their records have, and what is held of these.
+/// Lines of a BED file that were read: how many columns their records have, and what is held of these.
 #[derive(Drop)]
 pub struct BedLines<K: FromRecord<A>, A: Allocator + Copy> {
     // The number of the next line, from 1.
@@ -111,7 +111,7 @@ fn held_of<K: FromRecord<A>, A: Allocator + Copy>(
 }
 
 impl<K: FromRecord<A>, A: Allocator + Copy> BedLines<K, A> {
-    /// No line was read.
+    /// No lines yet.
     pub fn new(alloc: A) -> Self
         ensures { result ≡ none_held }
     {
@@ -162,8 +162,8 @@ impl<K: FromRecord<A>, A: Allocator + Copy> BedLines<K, A> {
         Ok(())
     }
 
-    /// Takes the first line of a text if a width is known, the reader reads the line in one pass, and the place of its record is
-    /// all that is kept of it, and answers the line's size.
+    /// Takes the first line of a text if a width is known, the reader reads the line in one pass, and the interval of its record is
+    /// all that is held of it. It answers the line's size.
     #[inline(always)]
     fn take_fast(
         &mut self,
@@ -196,7 +196,7 @@ impl<K: FromRecord<A>, A: Allocator + Copy> BedLines<K, A> {
         Ok(Some(line.size))
     }
 
-    /// Takes the first line of a text, and what is held of its record, if it says one. It answers the line's size.
+    /// Takes the first line of a text, and what is held of its record, if it has one. It answers the line's size.
     fn take_line<'t>(
         &mut self,
         alloc: A,
@@ -236,7 +236,7 @@ impl<K: FromRecord<A>, A: Allocator + Copy> BedLines<K, A> {
     ///
     /// # Errors
     ///
-    /// The first fault, or an allocation failed. Nothing is said of the lines then.
+    /// The first fault, or an allocation failed. What was read is then unspecified.
     pub fn take_lines(
         &mut self,
         alloc: A,

@@ -15,8 +15,8 @@ use std::marker::Model;
 
 /// A BED file that comes in pieces, and what is held of its records.
 ///
-/// A line may begin in one piece and end in another. What has come of a line that isn't ended yet is kept until its end comes;
-/// of all other lines no text is kept.
+/// A line may begin in one piece and end in another. The bytes of a line that hasn't ended are held until its end comes; of all
+/// other lines no text is held.
 #[derive(Drop)]
 pub struct BedReader<K: FromRecord<A>, A: Allocator + Copy> {
     alloc: A,
@@ -61,7 +61,7 @@ fn first_end(lines: &[u8]) -> usize
     lines.len()
 }
 
-/// Keeps more bytes of a line that isn't ended yet.
+/// Adds bytes to those of a line that hasn't ended.
 fn keep<A: Allocator>(tail: &mut Vec<u8, A>, bytes: &[u8]) -> Result<(), LoadFault>
     ensures ok { OnOk result (tail.new.items ≡ tail.old.items ++ bytes.now) }
     ensures err { IfErr result (λ f. f ≡ record { line = 0; cause = cause.Memory }) }
@@ -71,7 +71,7 @@ fn keep<A: Allocator>(tail: &mut Vec<u8, A>, bytes: &[u8]) -> Result<(), LoadFau
 }
 
 impl<K: FromRecord<A>, A: Allocator + Copy> BedReader<K, A> {
-    /// A file of which nothing has come.
+    /// A file of which no byte was read.
     pub fn new(alloc: A) -> Self
         ensures { result ≡ begun }
     {
@@ -86,7 +86,7 @@ impl<K: FromRecord<A>, A: Allocator + Copy> BedReader<K, A> {
     ///
     /// # Errors
     ///
-    /// The file's first fault, or an allocation failed. Nothing is said of the draft then.
+    /// The file's first fault, or an allocation failed. What was read is then unspecified.
     pub fn take_piece(
         &mut self,
         genome: &Genome<A>,
@@ -113,8 +113,8 @@ impl<K: FromRecord<A>, A: Allocator + Copy> BedReader<K, A> {
         Ok(())
     }
 
-    /// Takes the line that isn't ended yet, if there is one, together with the first of more lines, and tells how many bytes of
-    /// these that takes.
+    /// Takes the line that hasn't ended, if there is one, together with the first of more lines, which ends it. It answers how many
+    /// bytes of these it took.
     fn end_line(&mut self, genome: &Genome<A>, limit: u32, lines: &[u8]) -> Result<usize, LoadFault>
         requires sound { AreSound K.projected genome.now limit self.old.read }
         requires few { size_of self.old + length lines.now < 2 ^ 64 }
@@ -138,8 +138,8 @@ impl<K: FromRecord<A>, A: Allocator + Copy> BedReader<K, A> {
         Ok(size)
     }
 
-    /// What is held of the records of the whole file, once all its bytes have come, and how many columns they have. What has come
-    /// of a line that isn't ended yet is the last line. A file without a record has the width that is handed in.
+    /// What is held of the records of the whole file, once all its bytes have come, and how many columns they have. A line that
+    /// hasn't ended is the last line. A file without a record has the width that is handed in.
     ///
     /// # Errors
     ///

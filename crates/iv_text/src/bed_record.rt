@@ -6,9 +6,9 @@ use crate::record::Record;
 use crate::record_ref::RecordRef;
 use std::alloc::Allocator;
 
-/// A checked record. Its place is known; its other columns may have to be cut from its line.
+/// A checked record. Its interval is known; its other columns may have to be cut from its line.
 pub trait BedRecord: Drop {
-    /// The row that it is.
+    /// The record that it is.
     ghost as_record: { Self → RecordValue };
 
     /// The rank of its sequence in the genome.

@@ -14,7 +14,7 @@ use std::ops::{Index, IndexMut};
 
 /// Values, each under a name, in the order in which they came.
 ///
-/// No name is twice. Its model is the list of the names with their values.
+/// No name occurs twice. Its model is the list of the names with their values.
 #[derive(Drop)]
 pub struct NameMap<V, A: Allocator = Global> {
     // The keys are plain vectors: for lookups by slices a key type of our own would need an `Equivalent` of its own.
@@ -50,7 +50,7 @@ impl<V: Drop, A: Allocator + Copy> NameMap<V, A> {
         Ok(())
     }
 
-    /// Puts a value under a new name, last.
+    /// Adds a value under a new name, at the end.
     ///
     /// # Errors
     ///
@@ -76,7 +76,7 @@ impl<V: Drop, A: Allocator + Copy> NameMap<V, A> {
         self.named.shift_remove(name)
     }
 
-    /// The place of a name, byte for byte, from 0.
+    /// The index of a name, byte for byte, from 0.
     pub fn index_of(&self, name: &[u8]) -> Option<usize>
         ensures value { result ≡ place_of self.now name.now }
         ensures within { IfSome result (λ place. place < length self.now) }
@@ -84,7 +84,7 @@ impl<V: Drop, A: Allocator + Copy> NameMap<V, A> {
         self.named.get_index_of(name)
     }
 
-    /// The place of a name, with the value under it.
+    /// The index of a name, with the value under it.
     pub fn find(&self, name: &[u8]) -> Option<(usize, &V)>
         ensures place { option_map (λ p. p.0) result ≡ place_of self.now name.now }
         ensures value { option_map (λ p. p.1.now) result ≡ lookup (bytes_eq name.now) self.now }
@@ -96,7 +96,7 @@ impl<V: Drop, A: Allocator + Copy> NameMap<V, A> {
         }
     }
 
-    /// The name at a place, with its value.
+    /// The name at an index, with its value.
     pub fn at(&self, place: usize) -> Option<(&[u8], &V)>
         ensures value { option_map (λ p. (p.0.now, p.1.now)) result ≡ slice_get self.now place }
         ensures small { IfSome result (λ _. place < 2 ^ 63) }
@@ -113,7 +113,7 @@ impl<V: Drop, A: Allocator + Copy> NameMap<V, A> {
         self.named.len()
     }
 
-    /// A lemma for callers' proofs: no name is twice. The call does nothing.
+    /// A lemma for callers' proofs: no name occurs twice. The call does nothing.
     pub fn lemma_of_names(&self)
         ensures { AreApart self.now }
     {
@@ -150,7 +150,7 @@ impl<V, A: Allocator> IndexMut<usize> for NameMap<V, A> {
 /// A text below this size has so few names that it does no harm if they all collide.
 const SHORT: usize = 32768;
 
-/// Hashes a name: fast, if names may be made to collide, or slower and after a text.
+/// Hashes a name: fast, if it does no harm that names collide, or slower and after a text.
 #[derive(Clone, Copy)]
 pub enum NameHasher {
     /// Names may be made to collide.

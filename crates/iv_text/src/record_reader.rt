@@ -70,7 +70,7 @@ fn after_text(text: &[u8]) -> Option<&[u8]>
     Some(&cell[end..])
 }
 
-/// Whether the byte alone says a strand.
+/// Whether the byte alone means a strand.
 fn is_strand(byte: u8) -> bool
     ensures { result ≡ is_some (strand_of (byte ∷ [])) }
 {
@@ -107,7 +107,7 @@ pub(crate) fn after_cells(width: u8, text: &[u8]) -> Option<&[u8]>
     after_strand(after_score)
 }
 
-/// The first line of a text: where its record is, 0-based and half-open, and how long the line is.
+/// The first line of a text, read in one pass: the interval of its record, 0-based and half-open, and how long the line is.
 #[derive(Clone, Copy, Debug)]
 pub struct FastLine {
     /// The rank of its sequence in the genome.
@@ -128,7 +128,7 @@ struct Named<'t> {
     length: u32,
 }
 
-/// The columns that a text begins with: where a record is, and what follows.
+/// The columns that a text begins with: the interval of a record, and what follows.
 #[derive(Clone, Copy)]
 struct Front<'a> {
     rank: u32,
@@ -141,8 +141,8 @@ struct Front<'a> {
 ///
 /// Its value is that of its genome: what it answers doesn't depend on the lines that it read.
 ///
-/// Most lines of a sorted file are of that kind: reading them in one pass saves a search for each TAB and a lookup of the name, for a
-/// second body under one contract. In unsorted files the comparison with the name before is wasted, 30 to 45 ns a record.
+/// Most lines of a sorted file are of that kind. Reading them in one pass saves a search for each TAB and a lookup of the name, at the
+/// price of a second body under one contract. In unsorted files the comparison with the name before is wasted: 30 to 45 ns a record.
 #[derive(Drop)]
 pub struct RecordReader<'g, 't, A: Allocator> {
     genome: &'g Genome<A>,
@@ -161,7 +161,7 @@ impl<'g, 't, A: Allocator> Model for RecordReader<'g, 't, A> {
     ghost invariant = { λ r. IfSome r.before (λ b. IsNamed r.genome.now b.name.now b.rank b.length) };
 }
 
-/// The four bytes from this place on as one number, the first one lowest.
+/// The four bytes from this index on as one number, the first one lowest.
 #[inline(always)]
 fn word_at(text: &[u8], at: usize) -> u32
     requires { at + 4 ≤ length text.now }

@@ -12,13 +12,12 @@ const ROOM: usize = 192;
 
 /// The back of a row, laid from its last byte towards its first: at most 192 bytes, on the stack.
 ///
-/// So a number is written where it is, and a row is put as a whole. Written at its place in the output it takes no less time: the
-/// number of digits has to be known first, and each piece needs a look at the room that is left.
-/// It is lent to who writes a row: handing it over would copy its
-/// array.
+/// So a number is written where it belongs, and a row is put as a whole. Written directly into the output it takes no less time: the
+/// number of digits has to be known first, and each piece needs a look at the room that is left. The buffer is lent to whatever
+/// writes a row: handing it over would copy its array.
 #[derive(Drop)]
 pub struct RowBuffer {
-    // They stand at the end, from `start` on.
+    // What is laid is at the end, from `start` on.
     bytes: [u8; 192],
     start: usize,
 }

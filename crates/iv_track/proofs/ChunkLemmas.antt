@@ -1,4 +1,4 @@
--- What the entries of a list of chunks are, at a place and after an edit of one chunk.
+-- What the entries of a list of chunks are, at an index and after an edit of one chunk.
 use Rattle.std.proofs.Common.{◌≡◌, ℕ, suc, ◌+◌, ◌<◌, ◌≤◌, List, [], ◌∷◌, ◌++◌, length, take, drop, get_or, set, sym, ap, ◌∙◌, append_assoc, arith}
 use Rattle.std.specs.Vec.{vec_items}
 use Rattle.std.specs.List.{insert, remove}
@@ -10,7 +10,7 @@ use Rattle.iv_track.specs.Inside.Chunks.{joined, before, from, IsFilled, AreFill
 use Rattle.iv_track.specs.declared.entry_index.EntryIndex.{EntryIndex}
 
 module _ {X Z : Type 0} (cs : List (Vec X Z)) where
-  -- the entries before a place and those from it on are all
+  -- the entries before an index and those from it on are all
   pub before-from : (p : EntryIndex) → before cs p ++ from cs p ≡ joined cs
   before-from p =
       append_assoc (joined (take p.chunk cs)) (take p.index (joined (drop p.chunk cs))) (from cs p)
@@ -75,7 +75,7 @@ module _ {X Z : Type 0} (cs : List (Vec X Z)) where
           joined-set_from y i within (e ∷ drop i (vec_items x)) has
           ∙ ap (λ xs. before cs (record { chunk = c; index = i }) ++ e ∷ xs) (sym (from_at i within))
 
-      -- the entries after the one at a place
+      -- the entries after the one at an index
       pub from_next : i < length (vec_items x) → drop 1 (from cs (record { chunk = c; index = i })) ≡ drop (suc i) (vec_items x) ++ joined (drop (c + 1) cs)
       from_next within =
           let some : 1 ≤ length (drop i (vec_items x)) = omega (arith, length-drop i (vec_items x)) in
@@ -96,7 +96,7 @@ module _ {X Z : Type 0} (cs : List (Vec X Z)) where
           joined-set_from y i (omega arith) (e ∷ drop (suc i) (vec_items x)) (has ∙ set_split (vec_items x) i e within)
           ∙ ap (λ xs. before cs (record { chunk = c; index = i }) ++ e ∷ xs) (sym (from_next within))
 
-      -- the entry at a place
+      -- the entry at an index
       pub from_here : (e : X) → i < length (vec_items x) → e ≡ get_or (vec_items x) i e → from cs (record { chunk = c; index = i }) ≡ e ∷ drop 1 (from cs (record { chunk = c; index = i }))
       from_here e within same =
           let next : i + 1 ≡ suc i = omega arith in
@@ -106,7 +106,7 @@ module _ {X Z : Type 0} (cs : List (Vec X Z)) where
           ∙ ap (λ z. z ∷ (drop (suc i) (vec_items x) ++ joined (drop (c + 1) cs))) (sym same)
           ∙ ap (λ xs. e ∷ xs) (sym (from_next within))
 
-      -- the entries before the next place
+      -- the entries before the next index
       pub before_next : (e : X) → i < length (vec_items x) → e ≡ get_or (vec_items x) i e → (m : ℕ) → m ≡ i + 1 → before cs (record { chunk = c; index = m }) ≡ before cs (record { chunk = c; index = i }) ++ e ∷ []
       before_next e within same m next =
           ap (λ n. before cs (record { chunk = c; index = n })) next

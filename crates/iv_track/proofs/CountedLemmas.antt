@@ -122,7 +122,7 @@ yielded-placed : (s xs t : List (RecordValue × ℕ)) → Yields GivesEntry s xs
 yielded-placed s [] t y = tt
 yielded-placed s (x ∷ xs) t y = (y.1.1, yielded-placed y.0 xs t y.2)
 
--- the entries of rows in order
+-- the entries of records in order
 pub given-counted : (rows : List RecordValue) (xs : List (RecordValue × ℕ)) → AreInOrder rows → Drains GivesEntry (grouped record_cmp rows) xs → AreCounted xs rows
 given-counted rows xs order run =
     let same : xs ≡ grouped record_cmp rows = given-entries (grouped record_cmp rows) xs run in
@@ -134,7 +134,7 @@ given-ordered rows xs order run = subst (IsLedger record_cmp) (sym (given-entrie
 
 -- ---- one entry
 
--- n neighbours alike `held` were taken, and these rows are left: with them, all entries that were left before
+-- n neighbours alike `held` were taken, and these records are left: with them, all entries that were left before
 pub record IsCounting (all : List (RecordValue × ℕ)) (held : RecordValue) (n : ℕ) (rest : List RecordValue) : Type 0 where
   pub all_is : all ≡ grouped_from record_cmp held n rest
   pub few : n + length rest < 2 ^ 32

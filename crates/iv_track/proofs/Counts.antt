@@ -146,7 +146,7 @@ module _ {K : Type 0} (cmp : K → K → Ordering) where
   find-here p zero k xs some h = absurd (omega arith)
   find-here p (suc m) k xs some h = ap (λ b. cond b (Some k) (find p (replicate m k ++ xs))) h
 
-  -- the first row that passes is the key of the first entry that does
+  -- the first element that passes is the key of the first entry that does
   pub find-expanded : (p : K → Bool) (es : List (K × ℕ)) → All (λ n. 0 < n) (values_of es) → find p (expanded es) ≡ option_map (λ e. e.0) (find (λ e. p e.0) es)
   find-expanded p [] h = refl
   find-expanded p (e ∷ es) h =

@@ -1,4 +1,4 @@
--- Where a search from a place begins.
+-- Where a search from a position begins.
 use Rattle.std.proofs.Common.{◌≡◌, ℕ, ◌+◌, ◌<◌, Bool, true, false, cond, nat_eq, List, [], ◌∷◌, Option, Some, None, refl, ap, ◌∙◌, arith, zero, suc}
 use borrow.Author.Tests.{lt-ltb}
 use Rattle.std.proofs.lemmas.List.Elements.{All-head, All-tail}
@@ -40,7 +40,7 @@ none_le : (s : Option Strand) → is_le (option_cmp strand_cmp None s) ≡ true
 none_le None = refl
 none_le (Some s) = refl
 
--- the least record at a place is before exactly the records from there on that have a base
+-- the least record at a position is before exactly the records from there on that have a base
 least-is_from : (seq start : ℕ) (q : RecordValue) → q.start < q.stop → is_le (record_cmp (record { seq = seq; start = start; stop = start + 1; name = []; score = []; strand = None; width = 0 }) q) ≡ is_from seq start q
 least-is_from seq start q some =
     from_least (nat_cmp seq q.seq) (nat_cmp start q.start) _ (λ tied.
@@ -59,7 +59,7 @@ find-placed p r same [] h = refl
 find-placed p r same (e ∷ es) h =
     (λ i. cond (same e.0 (All-head IsPlaced e.0 (keys_of es) h) i) (Some e) (find-placed p r same es (All-tail IsPlaced e.0 (keys_of es) h) i))
 
--- a search from where it begins finds the first record from the place on
+-- a search from where it begins finds the first record from the position on
 pub find-begun : (seq start : ℕ) (least : RecordValue) (es : List (RecordValue × ℕ)) → BeginsFrom seq start (Some least) → All IsPlaced (keys_of es) → find (λ e. is_le (record_cmp least e.0)) es ≡ find (λ e. is_from seq start e.0) es
 find-begun seq start least es begins = find-placed (λ q. is_le (record_cmp least q)) (is_from seq start) begins es
 
@@ -71,7 +71,7 @@ find-nothing (e ∷ es) = find-nothing es
 pub find-nowhere : (seq start : ℕ) (es : List (RecordValue × ℕ)) → BeginsFrom seq start None → All IsPlaced (keys_of es) → find (λ e. is_from seq start e.0) es ≡ None
 find-nowhere seq start es begins h = find-placed (is_from seq start) (λ q. false) begins es h ∙ find-nothing es
 
--- the entries from the least record at a place on are those of the records from there on
+-- the entries from the least record at a position on are those of the records from there on
 pub filter-least : (seq start : ℕ) (es : List (RecordValue × ℕ)) → All IsPlaced (keys_of es)
     → filter (λ e. is_le (record_cmp (record { seq = seq; start = start; stop = start + 1; name = []; score = []; strand = None; width = 0 }) e.0)) es ≡ filter (λ e. is_from seq start e.0) es
 filter-least seq start [] h = refl

@@ -228,7 +228,7 @@ module _ {K V : Type 0} {cmp : K → K → Ordering} (o : IsTotalOrder cmp) wher
                         );
                   }
 
-        -- a place where the entry before it is below k
+        -- an index where the entry before it is below k
         module _ (c j : ℕ) (x : Vec (K × V) Z) (read : x ≡ get_or cs c x) (lt : c < length cs) (within : j < length (vec_items x)) (e : K × V) (here : e ≡ get_or (vec_items x) j e) (less : cmp k e.0 ≡ Greater) where
           -- the entries before that one are below k too
           below_last : All (IsBelow cmp k) (before cs (record { chunk = c; index = j }))
@@ -238,13 +238,13 @@ module _ {K V : Type 0} {cmp : K → K → Ordering} (o : IsTotalOrder cmp) wher
               let sorted = subst (IsLedger cmp) all ok.ordered in
               All-from_recursion (IsBelow cmp k) (before cs p) (weaken (λ f. cmp f.0 e.0 ≡ Less) (IsBelow cmp k) (λ f h. turned o f.0 k Less (o.trans f.0 e.0 k h (turned o k e.0 Greater less))) (before cs p) (around_below o (before cs p) e (drop 1 (from cs p)) sorted))
 
-          -- so are all before the place
+          -- so are all before the index
           pub below_place : (i : ℕ) → i ≡ j + 1 → All (IsBelow cmp k) (before cs (record { chunk = c; index = i }))
           below_place i next =
               subst (All (IsBelow cmp k)) (sym (before_next cs c x lt read x j e within here i next)) (
               All-append (IsBelow cmp k) (before cs (record { chunk = c; index = j })) (e ∷ []) below_last (All-cons (IsBelow cmp k) e [] less (All-nil (IsBelow cmp k)))
               )
 
-        -- a place where the entry at it is above k, or there is none
+        -- an index where the entry at it is above k, or there is none
         pub above_place : (p : EntryIndex) → IfSome (slice_get (from cs p) 0) (IsAbove cmp k) → All (IsAbove cmp k) (from cs p)
         above_place p h = above_first (from cs p) (ledger_back (before cs p) (from cs p) (subst (IsLedger cmp) (sym (before-from cs p)) ok.ordered)) h

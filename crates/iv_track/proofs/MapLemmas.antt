@@ -1,4 +1,4 @@
--- A list of chunks as a map, at the place that a search found.
+-- A list of chunks as a map, at the index that a search found.
 use Rattle.std.proofs.Common.{◌≡◌, ℕ, ◌+◌, ◌-◌, ◌<◌, ◌≤◌, ◌^◌, Bool, true, false, List, [], ◌∷◌, ◌++◌, Option, Some, None, length, take, drop, get_or, set, refl, sym, ap, ◌∙◌, subst, append_assoc, arith, vec_len}
 use Rattle.std.specs.Prelude.{All, filter, find}
 use Rattle.std.specs.List.{slice_get}
@@ -36,7 +36,7 @@ pub small_index : {X Z : Type 0} (cs : List (Vec X Z)) (p : EntryIndex) → AreF
 small_index [] p filled inside = absurd (omega (arith, inside.chunk_in_range))
 small_index (c ∷ cs) p filled inside = omega (arith, filled p.chunk c inside.chunk_in_range, inside.index_in_range c)
 
--- the first entry from a place on is the first that passes a test, if those from there on are all that pass
+-- the first entry from an index on is the first that passes a test, if those from there on are all that pass
 pub first_found : {X Z : Type 0} {cs ds fs : List (Vec X Z)} {es : List X} {r : Option X} → fs ≡ cs → ds ≡ cs → joined cs ≡ es → (t : X → Bool) (p : EntryIndex) → from ds p ≡ filter t (joined ds) → r ≡ slice_get (from fs p) 0 → r ≡ find t es
 first_found again same all t p passing first =
     first
@@ -55,7 +55,7 @@ head_or d (x ∷ xs) = x
 
 -- ---- the key is there
 
--- among the entries es of the chunks, the one at the place is e, and its key is k
+-- among the entries es of the chunks, the one at the index is e, and its key is k
 pub record IsEntry {K V Z : Type 0} (cmp : K → K → Ordering) (k : K) (cs : List (Vec (K × V) Z)) (es : List (K × V)) (p : EntryIndex) (e : K × V) : Type 0 where
   pub total : IsTotalOrder cmp
   pub sorted : IsLedger cmp es
@@ -200,11 +200,11 @@ module _ {K V Z : Type 0} {cmp : K → K → Ordering} (o : IsTotalOrder cmp) {k
       let one = entry_there cs refl in
       subst (IsEntry cmp k cs es p) (ap (head_or e) (sym one.1.first ∙ first)) one.1
 
-  -- the place is where the entries from the key on begin
+  -- the index is where the entries from the key on begin
   pub found_walk : filter (λ f. is_le (cmp k f.0)) es ≡ from cs p
   found_walk = from_entry (entry_there cs refl).1
 
-  -- and the next place is where those after the key begin
+  -- and the next index is where those after the key begin
   pub found_after : filter (λ f. is_lt (cmp k f.0)) es ≡ from cs (record { chunk = p.chunk; index = p.index + 1 })
   found_after = after_entry (entry_there cs refl).1 ∙ drop-drop 1 p.index (joined (drop p.chunk cs))
 
@@ -214,7 +214,7 @@ module _ {K V Z : Type 0} {cmp : K → K → Ordering} {k : K} {cs ds : List (Ve
   gap : IsGap cmp cs k p
   gap = subst (λ ys. IsGap cmp ys k p) same missing
 
-  -- all entries: those before the place and those from it on
+  -- all entries: those before the index and those from it on
   around : before cs p ++ from cs p ≡ es
   around = before-from cs p ∙ all
 
@@ -226,7 +226,7 @@ module _ {K V Z : Type 0} {cmp : K → K → Ordering} {k : K} {cs ds : List (Ve
   pub gap_remove : remove_entry (is_at (cmp k)) es ≡ es
   gap_remove = ap (remove_entry (is_at (cmp k))) (sym around) ∙ remove_absent cmp k (before cs p) (from cs p) gap.below gap.above ∙ around
 
-  -- an insertion of the key puts its entry in at the place
+  -- an insertion of the key puts its entry in at the index
   pub gap_insert : (v : V) → insert_entry cmp es k v ≡ before cs p ++ (k, v) ∷ from cs p
   gap_insert v = ap (λ xs. insert_entry cmp xs k v) (sym around) ∙ insert_absent cmp k (before cs p) (from cs p) gap.below gap.above v
 
@@ -237,11 +237,11 @@ module _ {K V Z : Type 0} {cmp : K → K → Ordering} {k : K} {cs ds : List (Ve
       ∙ filter_from (λ f. t (cmp k f.0)) (before cs p) (from cs p)
       (All-weaker (IsBelow cmp k) (λ f. t (cmp k f.0) ≡ false) (λ f h. ap t h ∙ below_not) (before cs p) gap.below) (All-weaker (IsAbove cmp k) (λ f. t (cmp k f.0) ≡ true) (λ f h. ap t h ∙ above_so) (from cs p) gap.above)
 
-  -- no key from the place on is at or before the key
+  -- no key from the index on is at or before the key
   not_above : All (λ f. is_ge (cmp k f.0) ≡ false) (from cs p)
   not_above = All-weaker (IsAbove cmp k) (λ f. is_ge (cmp k f.0) ≡ false) (λ f h. ap is_ge h) (from cs p) gap.above
 
-  -- at the first place there is nothing before
+  -- before the first index there is nothing
   pub gap_no_last : p.index ≡ 0 → last_until cmp es k ≡ None
   gap_no_last first =
       let none : before cs p ≡ [] = ap (λ i. joined (take p.chunk cs) ++ take i (joined (drop p.chunk cs))) first ∙ ap (λ c. joined (take c cs) ++ []) (gap.first_is_first first) in

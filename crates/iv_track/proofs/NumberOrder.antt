@@ -1,4 +1,4 @@
--- What comparisons of numbers tell. (That `is_le` of one means ≤ is in std, as `le_from_is_le`.)
+-- What follows from comparisons of numbers. (That `is_le` of one means ≤ is in std, as `le_from_is_le`.)
 use Rattle.std.proofs.Common.{◌≡◌, ℕ, ◌<◌, ◌≤◌, true, refl, sym, arith}
 use Rattle.std.specs.declared.cmp.Ordering.{Ordering}
 use Rattle.std.specs.declared.cmp.Ordering.TheVariants.{Less, Equal, Greater}

@@ -1,4 +1,4 @@
--- A place in a list of chunks of which one was split.
+-- An index in a list of chunks of which one was split.
 use Rattle.std.proofs.Common.{◌≡◌, ℕ, suc, ◌+◌, ◌-◌, ◌/◌, ◌<◌, ◌≤◌, List, [], ◌∷◌, ◌++◌, length, take, drop, get_or, set, sym, ap, ◌∙◌, subst, append_assoc, arith, vec_len, Result, Ok, Err}
 use Rattle.std.specs.Result.{OnErr}
 use Rattle.std.specs.Vec.{vec_items}
@@ -9,7 +9,7 @@ use Rattle.std.proofs.lemmas.List.Concat.{flat_map-append}
 use Rattle.iv_track.specs.Inside.Chunks.{joined, before, from, IsFilled, AreFilled, IsSplit, IsWithin, IsIndexWithRoom, most_in_chunk}
 use Rattle.iv_track.proofs.ChunkLemmas.{before_at, from_at, filled-insert, filled-set}
 
--- a place in a chunk between others
+-- an index in a chunk between others
 module _ {X Z : Type 0} (p : List (Vec X Z)) (y : Vec X Z) (q : List (Vec X Z)) (m i : ℕ) (at : length p ≡ m) (within : i ≤ length (vec_items y)) where
   -- the entries before it
   before_part : before (p ++ y ∷ q) (record { chunk = m; index = i }) ≡ joined p ++ take i (vec_items y)
@@ -87,7 +87,7 @@ module _ {X Z : Type 0} {old : List (Vec X Z)} {c n size : ℕ} {new : List (Vec
   right_at : (d : Vec X Z) → get_or new (c + 1) d ≡ split.right
   right_at d = ap (λ cs. get_or cs (c + 1) d) parts ∙ get_or_at (take c old ++ split.left ∷ []) split.right (drop (c + 1) old) d (c + 1) both_len
 
-  -- a place in the first part
+  -- an index in the first part
   pub room_left : (i : ℕ) → i ≤ n → IsIndexWithRoom old (record { chunk = c; index = i }) new (record { chunk = c; index = i })
   room_left i le =
       let rest_items = joined (drop (c + 1) old) in
@@ -114,7 +114,7 @@ module _ {X Z : Type 0} {old : List (Vec X Z)} {c n size : ℕ} {new : List (Vec
             ∙ sym (from_at old c x lt is i (omega (arith, sizes, len)));
       }
 
-  -- a place in the second
+  -- an index in the second
   room_after : (j : ℕ) → n + j ≤ vec_len x → IsIndexWithRoom old (record { chunk = c; index = n + j }) new (record { chunk = c + 1; index = j })
   room_after j le =
       let rest_items = joined (drop (c + 1) old) in
@@ -139,7 +139,7 @@ module _ {X Z : Type 0} {old : List (Vec X Z)} {c n size : ℕ} {new : List (Vec
             ∙ sym (from_at old c x lt is (n + j) (omega (arith, sizes, len)));
       }
 
-  -- an index after the middle is a place in the second
+  -- an index after the middle is one in the second part
   pub room_right : (i : ℕ) → n ≤ i → IsWithin old (record { chunk = c; index = i }) → IsIndexWithRoom old (record { chunk = c; index = i }) new (record { chunk = c + 1; index = i - n })
   room_right i above within =
       let bound = subst (λ y. i ≤ vec_len y) (sym is) (within.index_in_range (omega arith) x) in

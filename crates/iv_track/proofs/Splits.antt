@@ -24,7 +24,7 @@ module _ {X : Type 0} (p : X → Bool) where
   filter_none [] h = refl
   filter_none (x ∷ xs) h = rw h.0 (filter_none xs h.1)
 
-  -- what passes, if all after a place pass and none before it
+  -- what passes, if all after an index pass and none before it
   pub filter_from : (front back : List X) → All (λ x. p x ≡ false) front → All (λ x. p x ≡ true) back → filter p (front ++ back) ≡ back
   filter_from front back h g =
       filter-append p front back
@@ -100,7 +100,7 @@ module _ {K V : Type 0} (cmp : K → K → Ordering) (k : K) where
     pub insert_absent : (v : V) → insert_entry cmp (front ++ back) k v ≡ front ++ (k, v) ∷ back
     insert_absent v = insert_past front back v below ∙ ap (λ es. front ++ es) (insert_above back v above)
 
-  -- ---- a key that is there, at its place
+  -- ---- a key that is there, at its index
   module _ (front : List (K × V)) (e : K × V) (back : List (K × V)) (below : All IsBelow front) (here : cmp k e.0 ≡ Equal) where
     pub value_present : value_at cmp (front ++ e ∷ back) k ≡ Some e.1
     value_present = lookup_past front (e ∷ back) below ∙ rw here refl

@@ -25,7 +25,7 @@ count_here es len width limit r t = copies-expanded record_cmp rows_total es r t
 pub count-le-len : (es : List (RecordValue × ℕ)) (len width limit : ℕ) (r : RecordValue) → IsTrack es len width limit → unwrap_or (value_at record_cmp es r) 0 ≤ len
 count-le-len es len width limit r t = omega (arith, lookup-le-sum (is_at (record_cmp r)) es, t.len_is)
 
--- len is the number of rows
+-- len is the number of records
 pub len-rows : (es : List (RecordValue × ℕ)) (len width limit : ℕ) → IsTrack es len width limit → len ≡ length (expanded es)
 len-rows es len width limit t = t.len_is ∙ sym (length-expanded es)
 
@@ -105,7 +105,7 @@ set_gives {V} (Err x) at n m P here done absent = let none : at ≡ None = absen
     some_not_none : (n : V) → Some n ≡ None → ⊥
     some_not_none n e = cc
 
--- the first row that passes a test, with its copies, is the first entry that does
+-- the first record that passes a test, with its copies, is the first entry that does
 pub next-entry : (p : RecordValue → Bool) (es : List (RecordValue × ℕ)) (len width limit : ℕ) → IsTrack es len width limit → with_copies (expanded es) (find p (expanded es)) ≡ find (λ e. p e.0) es
 next-entry p es len width limit t =
     ap (with_copies (expanded es)) (find-expanded record_cmp p es t.present)

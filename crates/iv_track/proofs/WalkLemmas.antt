@@ -1,4 +1,4 @@
--- A walk over the entries of a track's map, seen as rows.
+-- A walk over the entries of a track's map, seen as records.
 use Rattle.std.proofs.Common.{◌≡◌, ℕ, ◌<◌, Bool, true, false, cond, List, [], ◌∷◌, ◌++◌, refl, sym, ap, ◌∙◌, zero, suc}
 use Rattle.std.specs.Prelude.{All, filter, replicate}
 use Rattle.std.specs.Map.{values_of}
@@ -18,7 +18,7 @@ module _ {K : Type 0} where
     | false ↦ λ is. filter-replicate p n k ∙ ap (λ b. cond b (replicate n k) []) is
   ]) refl
 
-  -- the rows of the entries that pass are the rows that pass
+  -- the records of the entries that pass are the records that pass
   pub expanded-filter : (p : K → Bool) (es : List (K × ℕ)) → expanded (filter (λ e. p e.0) es) ≡ filter p (expanded es)
   expanded-filter p [] = refl
   expanded-filter p (e ∷ es) =

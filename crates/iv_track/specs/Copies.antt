@@ -1,4 +1,4 @@
--- A list in order from which copies are taken, and a map from keys to numbers of copies.
+-- A list in order from which a copy is taken, and copies of one key.
 use denote.Ref.{Bor}
 use Rattle.std.specs.Prelude.{ℕ, cond, List, [], ◌∷◌, replicate, Option, Some, None}
 use Rattle.std.specs.declared.cmp.Ordering.{Ordering}

@@ -15,7 +15,7 @@ pub record Tracked : Type 0 where
   pub width : ℕ
   pub limit : ℕ
 
--- the rows with one copy of r fewer
+-- the records with one copy of r fewer
 abbrev pub removed : List RecordValue → RecordValue → List RecordValue
 removed = removed_by record_cmp
 

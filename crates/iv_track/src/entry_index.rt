@@ -23,10 +23,10 @@ pub(crate) struct EntryIndex {
     pub(crate) index: usize,
 }
 
-/// Where the key is, or else the place before which it would go.
+/// Where the key is, or else the index before which it would go.
 ///
 /// The abbreviations of the chunks' first keys give the chunk to begin with. They are a guess that is looked at: if the key turns out to
-/// be in another chunk, its place is found by the keys alone.
+/// be in another chunk, its index is found by the keys alone.
 pub(crate) fn find<K: Ord + Abbreviated, V, A: Allocator>(
     chunks: &[Vec<(K, V), A>],
     starts: &[u64],
@@ -47,7 +47,7 @@ pub(crate) fn find<K: Ord + Abbreviated, V, A: Allocator>(
     }
 }
 
-/// Where the key is in the chunk that the abbreviations point to, or else a place where it may be missing.
+/// Where the key is in the chunk that the abbreviations point to, or else an index where it may be missing.
 fn find_near<K: Ord + Abbreviated, V, A: Allocator>(
     chunks: &[Vec<(K, V), A>],
     starts: &[u64],
@@ -135,7 +135,7 @@ fn between(low: usize, high: usize, probe: usize) -> usize
     middle(low, high)
 }
 
-/// Whether the key is above all entries before a place. At the first index of a later chunk the answer is no.
+/// Whether the key is above all entries before an index. At the first index of a later chunk the answer is no.
 fn is_above_last<K: Ord, V, A: Allocator>(
     chunks: &[Vec<(K, V), A>],
     key: &K,
@@ -159,7 +159,7 @@ fn is_above_last<K: Ord, V, A: Allocator>(
     key.cmp(&entry.0).is_gt()
 }
 
-/// Whether the key is below all entries from a place on.
+/// Whether the key is below all entries from an index on.
 fn is_below_next<K: Ord, V, A: Allocator>(
     chunks: &[Vec<(K, V), A>],
     key: &K,
@@ -175,7 +175,7 @@ fn is_below_next<K: Ord, V, A: Allocator>(
     }
 }
 
-/// Where the key is, or else the place before which it would go, by the keys alone.
+/// Where the key is, or else the index before which it would go, by the keys alone.
 fn find_by_keys<K: Ord, V, A: Allocator>(
     chunks: &[Vec<(K, V), A>],
     key: &K,
@@ -213,7 +213,7 @@ fn starts_until<K: Ord, V, A: Allocator>(chunk: &Vec<(K, V), A>, key: &K) -> boo
     }
 }
 
-/// The place from which on the entries are at the key or after it.
+/// The index from which on the entries are at the key or after it.
 pub(crate) fn index_from<K: Ord + Abbreviated, V, A: Allocator>(
     chunks: &[Vec<(K, V), A>],
     starts: &[u64],
@@ -229,7 +229,7 @@ pub(crate) fn index_from<K: Ord + Abbreviated, V, A: Allocator>(
     }
 }
 
-/// The place from which on the entries are after the key.
+/// The index from which on the entries are after the key.
 pub(crate) fn index_after<K: Ord + Abbreviated, V, A: Allocator>(
     chunks: &[Vec<(K, V), A>],
     starts: &[u64],
@@ -248,7 +248,7 @@ pub(crate) fn index_after<K: Ord + Abbreviated, V, A: Allocator>(
     }
 }
 
-/// The first entry from a place on.
+/// The first entry from an index on.
 pub(crate) fn first_from<T, A: Allocator>(chunks: &[Vec<T, A>], at: EntryIndex) -> Option<&T>
     requires within { IsWithin chunks.now at }
     requires filled { AreFilled chunks.now }
@@ -260,7 +260,7 @@ pub(crate) fn first_from<T, A: Allocator>(chunks: &[Vec<T, A>], at: EntryIndex) 
     }
 }
 
-/// Puts an entry in at a place.
+/// Inserts an entry at an index.
 ///
 /// # Errors
 ///
@@ -287,7 +287,7 @@ pub(crate) fn insert_at<T: Drop, A: Allocator + Clone + Drop>(
     Ok(())
 }
 
-/// Puts an entry after all others, of which the last are not among the chunks yet.
+/// Adds an entry after all others, of which the last are not among the chunks yet.
 pub(crate) fn append<T: Drop, A: Allocator + Clone + Drop>(
     chunks: &mut Vec<Vec<T, A>, A>,
     last: &mut Vec<T, A>,
@@ -329,7 +329,7 @@ pub(crate) fn with_last<T: Drop, A: Allocator + Drop>(
     Ok(chunks)
 }
 
-/// The same place in a chunk that is not full: a full one is halved.
+/// The index of the same entry in a chunk that is not full: a full one is halved.
 ///
 /// # Errors
 ///
@@ -399,7 +399,7 @@ fn move_tail<T, A: Allocator>(left: &mut Vec<T, A>, half: usize, right: &mut Vec
     right.reverse();
 }
 
-/// Takes the entry at a place out, and with it a chunk that it leaves empty.
+/// Takes the entry at an index out, and with it a chunk that it leaves empty.
 pub(crate) fn remove_at<T: Drop, A: Allocator + Drop>(
     chunks: &mut Vec<Vec<T, A>, A>,
     at: EntryIndex,

@@ -25,12 +25,12 @@ const MOST_ENTRIES: usize = 9_223_372_036_854_775_807;
 
 /// An ordered map from keys to values that counts its calls, so that a contract can say how many a method makes.
 ///
-/// Each call that takes a `Meter` adds one step to it, whatever it finds. Only `put` takes memory, and only for a new key. No key is
-/// twice. Its model is the list of its entries in the order of the keys.
+/// Each call that takes a `Meter` adds one step to it, whatever it finds. Only `put` takes memory, and only for a new key. No key
+/// occurs twice. Its model is the list of its entries in the order of the keys.
 ///
 /// The entries are in chunks, each a vector of some of them in order. No chunk is empty or has more than 256 entries, and the keys
-/// ascend over all chunks. Beside the chunks lie the abbreviations of their first keys, for the time of a search alone: nothing is
-/// said of them, and whatever they are, what a call gives is the same.
+/// ascend over all chunks. Beside the chunks are the abbreviations of their first keys, which only make a search faster: whatever
+/// they are, a call answers the same.
 #[derive(Drop)]
 pub struct Ledger<K: Ord, V, A: Allocator = Global> {
     chunks: Vec<Vec<(K, V), A>, A>,
@@ -263,7 +263,7 @@ impl<'a, K, V, A: Allocator> Model for Walk<'a, K, V, A> {
 }
 
 impl<'a, K, V, A: Allocator> Walk<'a, K, V, A> {
-    /// The entries from a place on.
+    /// The entries from an index on.
     fn from_index(chunks: &'a [Vec<(K, V), A>], at: EntryIndex) -> Walk<'a, K, V, A>
         requires within { IsWithin chunks.now at }
         requires filled { AreFilled chunks.now }

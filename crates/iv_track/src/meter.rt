@@ -6,7 +6,7 @@ use std::marker::Model;
 
 /// The count of steps: how many calls of ledgers and of their walks were made with it.
 ///
-/// Who wants to know how many steps a method takes makes a meter, lends it, and reads it afterwards. The methods of
+/// Whoever wants to know how many steps a method takes makes a meter, lends it, and reads it afterwards. The methods of
 /// a `Track` say in their contracts how many they take at most. Nothing sets a meter back.
 #[derive(Drop)]
 pub struct Meter {

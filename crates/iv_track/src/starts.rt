@@ -31,7 +31,7 @@ impl Abbreviated for (u32, u32) {
     }
 }
 
-/// The last bit of the second number gives way to the strand.
+/// The strand takes the last bit of the second number.
 impl Abbreviated for (u32, bool, u32) {
     fn abbreviation(&self) -> u64 {
         let lower = self.2 / 2;
@@ -55,12 +55,12 @@ pub(crate) struct Starts<A: Allocator> {
 }
 
 impl<A: Allocator + Clone + Drop> Starts<A> {
-    /// None yet; nothing is allocated.
+    /// No abbreviation yet; nothing is allocated.
     pub(crate) fn new() -> Self {
         Starts { list: None }
     }
 
-    /// Those of these chunks.
+    /// The abbreviations of these chunks.
     pub(crate) fn of<K: Abbreviated, V>(
         alloc: A,
         chunks: &[Vec<(K, V), A>],
@@ -82,7 +82,7 @@ impl<A: Allocator + Clone + Drop> Starts<A> {
         }
     }
 
-    /// Makes room for one more if an entry at this place will make a new chunk.
+    /// Makes room for one more if an entry at this index will make a new chunk.
     pub(crate) fn make_room<T>(
         &mut self,
         chunks: &Vec<Vec<T, A>, A>,
@@ -101,7 +101,7 @@ impl<A: Allocator + Clone + Drop> Starts<A> {
         Ok(())
     }
 
-    /// Follows the chunks after an entry was put in at a place.
+    /// Follows the chunks after an entry was inserted at an index.
     pub(crate) fn follow_insert<K: Abbreviated, V>(
         &mut self,
         chunks: &[Vec<(K, V), A>],
@@ -123,7 +123,7 @@ impl<A: Allocator + Clone + Drop> Starts<A> {
         }
     }
 
-    /// Follows the chunks after the entry at a place was taken out.
+    /// Follows the chunks after the entry at an index was taken out.
     pub(crate) fn follow_remove<K: Abbreviated, V>(
         &mut self,
         chunks: &[Vec<(K, V), A>],
@@ -144,7 +144,7 @@ impl<A: Allocator + Clone + Drop> Starts<A> {
     }
 }
 
-/// Puts in the abbreviation of the first key of a chunk that is new.
+/// Inserts the abbreviation of the first key of a chunk that is new.
 fn insert_start<K: Abbreviated, V, A: Allocator>(
     list: &mut Vec<u64, A>,
     chunks: &[Vec<(K, V), A>],

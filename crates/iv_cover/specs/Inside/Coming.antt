@@ -1,5 +1,5 @@
--- The blocks that a walk over records in order has still to give. This is the state of `BlockWalk`, as seen by its proof,
--- and no part of what is promised: a new `BlockWalk` shows `blocks_of`.
+-- The blocks that remain of a walk over records in order. This is the state of `BlockWalk`, as seen by its proof: a new
+-- `BlockWalk` shows `blocks_of`.
 use denote.Ref.{Bor}
 use Rattle.std.specs.Prelude.{ℕ, ◌+◌, ◌==◌, ◌&&◌, nat_le, Bool, List, [], ◌∷◌, ◌++◌, max, Option, None, Some, if◌then◌else◌}
 use Rattle.iv_text.specs.RecordValue.{RecordValue}

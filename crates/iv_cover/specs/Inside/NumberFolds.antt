@@ -22,7 +22,7 @@ abbrev pub size : Option ℤ → ℕ
 size None = 0
 size (Some number) = unsigned_abs number
 
--- remaining numbers, combined with what was combined before
+-- the remaining numbers, combined with what was combined before
 abbrev pub from_taken : (ℤ → ℤ → ℤ) → Option ℤ → List ℤ → Option ℤ
 from_taken both None numbers = taken_together both numbers
 from_taken both (Some taken) numbers = Some (fold both taken numbers)

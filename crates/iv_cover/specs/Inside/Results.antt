@@ -1,4 +1,4 @@
--- What only lemmas and private functions cite, beside Results.
+-- Values that are joined with commas.
 use Rattle.std.specs.Prelude.{ℕ, ◌∷◌, List}
 use Rattle.std.specs.List.{flat_map}
 use Rattle.iv_text.specs.Bytes.{comma}

@@ -1,5 +1,4 @@
--- What is kept of a FASTA file while it is read: the bases of the sequences that the genome names, all in one list. No public
--- clause cites this module: it is no part of what is promised.
+-- What is held of a FASTA file while it is read: the bases of the sequences that the genome names, all in one list.
 use Rattle.std.specs.Prelude.{◌≤◌, ℕ, ◌+◌, ◌==◌, Bool, cond, List, [], ◌∷◌, Option, None, Some, Result, Ok, Err, length, slice_range}
 use Rattle.std.specs.List.{list_any}
 use Rattle.std.specs.Coded.{×_prop, le_prop}
@@ -14,7 +13,7 @@ use Rattle.iv_text.specs.declared.fault.LoadCause.{LoadCause}
 use Rattle.iv_text.specs.declared.fault.LoadCause.TheVariants as cause
 use Rattle.iv_text.specs.declared.fault.LoadFault.{LoadFault}
 
--- a text that is read: the bases that are kept of it, and what is still to be read
+-- a text that is read: the bases that are held of it, and what remains to be read
 pub record Halves : Type 0 where
   pub compacted : List ℕ
   pub coming : List ℕ
@@ -38,7 +37,7 @@ abbrev pub cut : PrefixKeyed → List ℕ → Found
 cut [] bases = []
 cut (h ∷ headers) bases = (h.0, record { line = h.1.line; bases = slice_range bases h.1.start (end_before headers (length bases)) }) ∷ cut headers bases
 
--- the sequence whose header is in this line, and whose bases are at this place
+-- the sequence whose header is in this line, and whose bases are in this range
 abbrev pub sequence_at : List ℕ → ℕ → BaseRange → Stretch
 sequence_at bases line place = record { line = line; bases = bases_at bases place }
 
@@ -56,29 +55,29 @@ pub record Draft : Type 0 where
   pub found : Found
   pub named : Bool
 
--- what these headers and bases say
+-- the sequences of these headers and bases
 abbrev pub drafted : PrefixKeyed → List ℕ → Bool → Draft
 drafted headers bases named = record { found = cut headers bases; named = named }
 
--- what is kept after a header, or its fault
+-- what is held after a header, or its fault
 abbrev pub headed : Sequences → List ℕ → Result Found LoadCause → Result Draft LoadCause
 headed g name (Err c) = Err c
 headed g name (Ok found) = Ok (record { found = found; named = is_some (rank_of g name) })
 
--- what is kept after a line of bases, or its first fault: nothing of it if the genome doesn't name the sequence
+-- what is held after a line of bases, or its first fault: nothing of it if the genome doesn't name the sequence
 abbrev pub with_compacted_line : Draft → List ℕ → Result Draft LoadCause
 with_compacted_line d line =
     cond (length d.found == 0) (Err cause.BasesFirst)
     (cond (list_any is_no_base line) (Err cause.Base)
     (Ok (record { found = with_bases d.found (cond d.named line []); named = d.named })))
 
--- what is kept after one more line, or its first fault
+-- what is held after one more line, or its first fault
 unfoldable pub after_kept_line : Sequences → ℕ → Draft → List ℕ → Result Draft LoadCause
 after_kept_line g n d line =
     cond (length line == 0) (Ok d)
     (cond (begins_with header_sign line) (headed g (header_name line) (with_header n d.found (header_name line))) (with_compacted_line d line))
 
--- what is kept after lines of which the first has the number n, or the first fault
+-- what is held after lines of which the first has the number n, or the first fault
 abbrev pub after_compacted_lines : Sequences → ℕ → Draft → List (List ℕ) → Result Draft LoadFault
 after_compacted_lines g n d [] = Ok d
 after_compacted_lines g n d (line ∷ lines) = elim (after_kept_line g n d line) [ Ok more ↦ after_compacted_lines g (n + 1) more lines | Err c ↦ Err (record { line = n; cause = c }) ]

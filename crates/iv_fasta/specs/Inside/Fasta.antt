@@ -1,4 +1,4 @@
--- What only lemmas and private functions cite, beside Fasta.
+-- A header and the lines of bases after it.
 use Rattle.std.specs.Prelude.{◌≡◌, ℕ, ◌+◌, ◌++◌, true, false, List, [], ◌∷◌, None}
 use Rattle.std.specs.List.{list_any, concat}
 use Rattle.iv_text.specs.Named.{place_of}

@@ -1,4 +1,4 @@
--- What a FASTA file says, line by line: its sequences if no line has a cause to refuse it, else the first fault.
+-- What a FASTA file means, line by line: its sequences if no line has a cause to refuse it, else the first fault.
 use Rattle.std.specs.Prelude.{◌≡◌, ℕ, ◌+◌, ◌==◌, ◌&&◌, Bool, false, not, cond, List, [], ◌∷◌, Option, None, Some, length, find}
 use Rattle.std.specs.List.{list_any, concat}
 use Rattle.std.specs.Option.{is_some}
@@ -19,7 +19,7 @@ abbrev pub before_header : List (List ℕ) → List (List ℕ)
 before_header [] = []
 before_header (line ∷ lines) = cond (is_header line) [] (line ∷ before_header lines)
 
--- the sequences that lines say of which the first has the number n: one for each header, with its name, the number of its line, and
+-- the sequences of lines of which the first has the number n: one for each header, with its name, the number of its line, and
 -- the bases of the lines between it and the next header
 abbrev pub sequences_from : ℕ → List (List ℕ) → Found
 sequences_from n [] = []
@@ -28,7 +28,7 @@ sequences_from n (line ∷ lines) =
     ((header_name line, record { line = n; bases = concat (before_header lines) }) ∷ sequences_from (n + 1) lines)
     (sequences_from (n + 1) lines)
 
--- the sequences that the lines of a file say
+-- the sequences of the lines of a file
 abbrev pub sequences_said : List (List ℕ) → Found
 sequences_said lines = sequences_from 1 lines
 

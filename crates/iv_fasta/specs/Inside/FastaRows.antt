@@ -1,4 +1,4 @@
--- What only lemmas and private functions cite, beside FastaRows.
+-- The parts of a row of getfasta.
 use Rattle.std.specs.Prelude.{ℕ, ◌++◌, List, [], codes}
 use Rattle.iv_text.specs.Genome.{Sequences}
 use Rattle.iv_text.specs.RecordValue.{RecordValue}

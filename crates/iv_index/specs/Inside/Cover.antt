@@ -1,4 +1,4 @@
--- What only lemmas and private functions cite, beside Cover.
+-- Records that are apart.
 use Rattle.std.specs.Prelude.{◌≡◌, ◌<◌, List}
 use Rattle.std.specs.List.{AllPairs}
 use Rattle.iv_text.specs.RecordValue.{RecordValue}

@@ -1,4 +1,4 @@
--- Places that were read, and their order. No public call speaks of it: it is no part of what is promised.
+-- Locators that were read, and their order.
 use Rattle.std.specs.Prelude.{◌≤◌, ℕ, All, List}
 use Rattle.std.specs.Ordering.{is_lt}
 use Rattle.std.specs.List.Sorted.{IsSortedBy}
@@ -7,16 +7,16 @@ use Rattle.iv_index.specs.Inside.Locators.{HasBase, row_at}
 use Rattle.iv_index.specs.declared.order.PrefixKeyed.{PrefixKeyed}
 use Rattle.iv_index.specs.declared.locator.Locator.{Locator}
 
--- the places are those of records that have a base, and of a width
+-- the locators are those of records that have a base, and the width is one of a record
 pub record AreLocators (width : ℕ) (places : List Locator) : Type 0 where
   pub low : 3 ≤ width
   pub high : width ≤ 6
   pub some : All HasBase places
 
--- the places stand in the order of a track: no record belongs in front of the one before it
+-- the locators are in the order of a track: no record belongs in front of the one before it
 abbrev pub AreInOrder : ℕ → List ℕ → List Locator → Type 0
 AreInOrder width text places = IsSortedBy (λ x y. is_lt (record_cmp (row_at width text x) (row_at width text y))) places
 
--- the place of a place with a head
+-- the locator of one with its prefix key
 abbrev pub place_of : PrefixKeyed → Locator
 place_of headed = headed.place

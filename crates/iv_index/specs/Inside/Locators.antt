@@ -1,4 +1,4 @@
--- What only lemmas and private functions cite, beside Locators.
+-- The records of locators into a text, and their intervals.
 use Rattle.std.specs.Prelude.{◌<◌, ℕ, nat_le, cond, List, [], None, drop, map}
 use Rattle.std.specs.List.{slice_index_or}
 use Rattle.iv_text.specs.Fields.{columns}
@@ -12,7 +12,7 @@ use Rattle.iv_index.specs.declared.span.Span.{Span}
 unfoldable pub line_at : List ℕ → ℕ → List ℕ
 line_at text from = slice_index_or (lines (drop from text)) 0 []
 
--- the record of a place and its line: name, score and strand are columns of the line, as far as the width goes
+-- the record of a locator and its line: name, score and strand are columns of the line, as far as the width goes
 abbrev pub row_of : ℕ → List ℕ → Locator → RecordValue
 row_of width line p = record {
   seq = p.span.seq;
@@ -24,26 +24,26 @@ row_of width line p = record {
   width = width;
 }
 
--- the record of a place in a text
+-- the record of a locator into a text
 abbrev pub row_at : ℕ → List ℕ → Locator → RecordValue
 row_at width text p = row_of width (line_at text p.line) p
 
--- the records of places in a text
+-- the records of locators into a text
 abbrev pub rows_at : ℕ → List ℕ → List Locator → List RecordValue
 rows_at width text places = map (row_at width text) places
 
--- where a record is
+-- the interval of a record
 abbrev pub span_of : RecordValue → Span
 span_of r = record { seq = r.seq; start = r.start; stop = r.stop }
 
--- the place of a record whose line begins at this byte of a text
+-- the locator of a record whose line begins at this byte of a text
 abbrev pub locator_at : RecordValue → ℕ → Locator
 locator_at r at = record { span = span_of r; line = at }
 
--- the place has a base
+-- the locator has a base
 abbrev pub HasBase : Locator → Type 0
 HasBase p = p.span.start < p.span.stop
 
--- the interval of a place
+-- the interval of a locator
 abbrev pub span_in : Locator → Span
 span_in p = p.span

@@ -1,17 +1,17 @@
--- Records of which only their places are kept.
+-- Records of which only the intervals are held.
 use Rattle.std.specs.Prelude.{Bool, List, [], None, map}
 use Rattle.std.specs.Ordering.{is_lt}
 use Rattle.iv_text.specs.RecordValue.{RecordValue, record_cmp}
 use Rattle.iv_index.specs.declared.span.Span.{Span}
 
--- the record of a place, in three columns
+-- the record of an interval, in three columns
 abbrev pub row_of_span : Span → RecordValue
 row_of_span s = record { seq = s.seq; start = s.start; stop = s.stop; name = []; score = []; strand = None; width = 3 }
 
--- the records of places
+-- the records of intervals
 abbrev pub span_rows : List Span → List RecordValue
 span_rows spans = map row_of_span spans
 
--- the record of the first place belongs in front of that of the second
+-- the record of the first interval belongs in front of that of the second
 abbrev pub span_lt : Span → Span → Bool
 span_lt x y = is_lt (record_cmp (row_of_span x) (row_of_span y))

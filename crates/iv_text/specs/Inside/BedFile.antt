@@ -1,4 +1,4 @@
--- What only lemmas and private functions cite, beside BedFile.
+-- What holds of a BED file after some of its lines.
 use Rattle.std.specs.Prelude.{◌≡◌, ◌≤◌, All, MatchOption, ℕ, [], length}
 use Rattle.iv_text.specs.Read.{Fits}
 use Rattle.iv_text.specs.Genome.{Sequences}

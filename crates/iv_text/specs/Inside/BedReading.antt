@@ -1,4 +1,4 @@
--- What only lemmas and private functions cite, beside BedReading.
+-- One line of a BED file that is read in pieces, and bytes that end with their line.
 use Rattle.std.specs.Prelude.{◌≡◌, ◌⊎◌, ℕ, ◌+◌, ◌++◌, List, [], ◌∷◌, Err, drop}
 use Rattle.iv_text.specs.Bytes.{line_feed}
 use Rattle.iv_text.specs.BedFile.{after_rows}
@@ -18,7 +18,7 @@ abbrev pub Refuses : (RecordValue → RecordValue) → Sequences → ℕ → Lin
 Refuses kept g limit old all c = (n : ℕ) (rest : List (List ℕ)) → projected_draft kept (after_rows g limit n (known old) (all ++ rest)) ≡ Err (record { line = n; cause = c })
 
 module _ {K : Type 0} (held_of : RecordValue → ℕ → K) (g : Sequences) where
-  -- the first line of a text was read, and what is left of the text is after so many bytes, however what is kept is shown
+  -- the first line of a text, which has so many bytes, was read, however items are shown
   abbrev pub TakesLine : ℕ → Held K → Held K → List ℕ → ℕ → Type 0
   TakesLine limit old new text size = (kept : RecordValue → RecordValue) (row_of : K → RecordValue) → Shows held_of g kept row_of old.at text
       → (AreSound kept g limit (shown row_of old) → AreSound kept g limit (shown row_of new))

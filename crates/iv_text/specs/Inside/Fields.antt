@@ -1,4 +1,4 @@
--- What only lemmas and private functions cite, beside Fields.
+-- Bytes that have no TAB among them.
 use Rattle.std.specs.Prelude.{◌≡◌, All, ℕ, false, List}
 use Rattle.iv_text.specs.Bytes.{tab}
 use Rattle.iv_text.specs.Fields.{is_separator}

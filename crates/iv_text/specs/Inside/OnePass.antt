@@ -1,4 +1,4 @@
--- What the readers of a line in one pass say of its parts. No public call speaks of it: it is no part of what is promised.
+-- The parts of a line, as they are read in one pass from its front.
 use Rattle.std.specs.Prelude.{◌≡◌, ◌<◌, ◌≤◌, All, ℕ, ◌+◌, ◌||◌, Bool, false, List, [], ◌∷◌, ◌++◌, Some, length}
 use Rattle.iv_text.specs.BedFile.{is_unread}
 use Rattle.iv_text.specs.Bytes.{tab}
@@ -22,11 +22,11 @@ pub record IsNamed (g : Sequences) (name : List ℕ) (rank len : ℕ) : Type 0 w
 abbrev pub BeginsWithNumber : List ℕ → ℕ → List ℕ → Type 0
 BeginsWithNumber text n rest = (digits : List ℕ) × (text ≡ digits ++ rest) × (number digits ≡ Some n)
 
--- the columns after a column that ends where the rest of its line begins
+-- the columns after a column that ends at the rest of its line
 abbrev pub AreBehind : List ℕ → List (List ℕ) → Type 0
 AreBehind rest others = (column : List ℕ) → HasNoTab column → columns (column ++ rest) ≡ column ∷ others
 
--- the text begins with the columns of a place on the genome: a name, a start and a stop; the rest is after them
+-- the text begins with the columns of an interval on the genome: a name, a start and a stop; the rest is after them
 pub record BeginsWithPlace (g : Sequences) (text : List ℕ) (rank start stop : ℕ) (rest : List ℕ) : Type 0 where
   pub name : List ℕ
   pub starts : List ℕ
@@ -56,7 +56,7 @@ abbrev pub laid : List (List ℕ) → List ℕ
 laid [] = []
 laid (cell ∷ cells) = tab ∷ (cell ++ laid cells)
 
--- the text begins with the cells of a record of this width after its place, each after its TAB, and the rest is after them
+-- the text begins with the cells of a record of this width after its interval, each after its TAB, and the rest is after them
 pub record BeginsWithCells (width : ℕ) (text rest : List ℕ) : Type 0 where
   pub cells : List (List ℕ)
   pub text_is : text ≡ laid cells ++ rest

@@ -1,4 +1,4 @@
--- What only lemmas and private functions cite, beside Read.
+-- The columns of a line that a record of some width has.
 use Rattle.std.specs.Prelude.{◌≡◌, ℕ, Bool, cond, List, ◌∷◌, length}
 use Rattle.iv_text.specs.Read.{column}
 
@@ -6,7 +6,7 @@ use Rattle.iv_text.specs.Read.{column}
 abbrev pub chosen : Bool → List ℕ → List (List ℕ) → List (List ℕ)
 chosen wanted column others = cond wanted (column ∷ others) others
 
--- cs has a column for each of the width, which are these; those beyond the width are empty
+-- cs has as many columns as the width, and they are these; those beyond the width are empty
 pub record AreColumns (width : ℕ) (cs : List (List ℕ)) (seq start stop name score strand : List ℕ) : Type 0 where
   pub count : length cs ≡ width
   pub seq_is : column cs 0 ≡ seq

@@ -29,24 +29,24 @@ module _ {X Z : Type 0} where
   abbrev pub AreFilled : List (Vec X Z) → Type 0
   AreFilled chunks = All IsFilled chunks
 
-  -- the entries before a place, and those from it on
+  -- the entries before an index, and those from it on
   abbrev pub before : List (Vec X Z) → EntryIndex → List X
   before chunks p = joined (take p.chunk chunks) ++ take p.index (joined (drop p.chunk chunks))
 
   abbrev pub from : List (Vec X Z) → EntryIndex → List X
   from chunks p = drop p.index (joined (drop p.chunk chunks))
 
-  -- the place is of an entry
+  -- the index is of an entry
   pub record IsInside (chunks : List (Vec X Z)) (p : EntryIndex) : Type 0 where
     pub chunk_in_range : p.chunk < length chunks
     pub index_in_range : HoldsAt (λ chunk. p.index < vec_len chunk) chunks p.chunk
 
-  -- the place is of an entry or at the end of a chunk, or there is no chunk
+  -- the index is of an entry or at the end of a chunk, or there is no chunk
   pub record IsWithin (chunks : List (Vec X Z)) (p : EntryIndex) : Type 0 where
     pub chunk_in_range : 0 < length chunks → p.chunk < length chunks
     pub index_in_range : 0 < length chunks → HoldsAt (λ chunk. p.index ≤ vec_len chunk) chunks p.chunk
 
-  -- the place q is in a chunk that is not full, and has the entries before it and from it on that p has in the old chunks
+  -- the index q is in a chunk that is not full, and has the entries before it and from it on that p has in the old chunks
   pub record IsIndexWithRoom (old : List (Vec X Z)) (p : EntryIndex) (new : List (Vec X Z)) (q : EntryIndex) : Type 0 where
     pub chunk_in_range : q.chunk < length new
     pub index_in_range : HoldsAt (λ chunk. q.index ≤ vec_len chunk) new q.chunk
@@ -74,12 +74,12 @@ module _ {K V Z : Type 0} (cmp : K → K → Ordering) where
     pub counted : len ≡ length (joined chunks)
     pub small : len < 2 ^ 63
 
-  -- the entry at the place has the key k
+  -- the entry at the index has the key k
   pub record IsFound (chunks : List (Vec (K × V) Z)) (k : K) (p : EntryIndex) : Type 0 where
     pub inside : IsInside chunks p
     pub has_key : HoldsAt (λ chunk. HoldsAt (λ e. cmp k e.0 ≡ Equal) (vec_items chunk) p.index) chunks p.chunk
 
-  -- the key k would go before the entry at the place: smaller keys before it, and greater keys from it on
+  -- the key k would go before the entry at the index: smaller keys before it, and greater keys from it on
   pub record IsGap (chunks : List (Vec (K × V) Z)) (k : K) (p : EntryIndex) : Type 0 where
     pub within : IsWithin chunks p
     pub first_is_first : p.index ≡ 0 → p.chunk ≡ 0

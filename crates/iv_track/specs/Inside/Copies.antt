@@ -1,4 +1,4 @@
--- What only lemmas and private functions cite, beside Copies.
+-- Maps from keys to numbers of copies.
 use Rattle.std.specs.Prelude.{ℕ, List, [], ◌∷◌, ◌++◌, replicate}
 
 -- the list that a map from keys to numbers of copies means

@@ -1,5 +1,5 @@
 -- Equal neighbours of a list as one entry each. This is the state of the iterator that a track is built from, as seen by
--- its proof, and no part of what is promised.
+-- its proof.
 use Rattle.std.specs.Prelude.{ℕ, ◌+◌, List, [], ◌∷◌, Option, Some, None, if◌then◌else◌, IfSome}
 use Rattle.std.specs.Iterator.{YieldsFirst}
 use Rattle.std.specs.declared.cmp.Ordering.{Ordering}

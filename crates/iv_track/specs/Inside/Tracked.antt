@@ -1,4 +1,4 @@
--- What only lemmas and private functions cite, beside Tracked.
+-- The map of a track, and where a search in it begins.
 use Rattle.std.specs.Prelude.{◌≡◌, ℕ, ◌+◌, ◌<◌, ◌≤◌, false, List, Option, Some, None, All, sum}
 use Rattle.std.specs.Ordering.{is_le}
 use Rattle.std.specs.Map.{keys_of, values_of}
