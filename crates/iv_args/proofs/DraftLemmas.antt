@@ -77,9 +77,9 @@ module _ (run : Subcommand) (word : List ℕ) (old : PartialPlan) where
   word-taken [] value first is takes = absurd (none≢some value (sym first))
   word-taken (next ∷ rest) value first is takes = next-is None false next.now (texts rest) (sym is) takes
 
--- ---- what all words say
+-- ---- what all words mean
 
--- the value said for an option
+-- the value given for an option
 abbrev pub said_of : PartialPlan → RunOption → Option (List ℕ)
 said_of said option.Sizes = said.sizes
 said_of said option.First = said.first
@@ -102,7 +102,7 @@ values-cons asked given value settings =
     ∙ map-append (λ (setting : Setting). setting.1) (filter (λ (setting : Setting). is_option asked setting.0) ((given, value) ∷ []))
     (filter (λ (setting : Setting). is_option asked setting.0) settings)
 
--- what is said once an option has this value
+-- what is read once an option has this value
 abbrev set_to : RunOption → List ℕ → PartialPlan → PartialPlan
 set_to option.Sizes value said = record said { sizes = Some value }
 set_to option.First value said = record said { first = Some value }
@@ -165,7 +165,7 @@ set-view option.Other old value = refl
 set-view option.Bases old value = refl
 set-view option.Width old value = refl
 
--- a setting that is taken says its value and no other
+-- a setting that is taken gives its value and no other
 record IsSet (asked : RunOption) (value : List ℕ) (old new : PartialPlan) : Type 0 where
   says : (k : RunOption) → listed new k ≡ listed old k ++ one_of k asked value
   view : new.view ≡ old.view
@@ -195,7 +195,7 @@ viewed-says option.Width words old = refl
 
 -- ---- words that can be taken
 
--- the words have parts, and what is said after them is what was said before and these
+-- the words have parts, and what is read after them is what was read before and these
 pub record Gives (said_parts : Option SplitWords) (old new : PartialPlan) : Type 0 where
   pub parts : SplitWords
   pub are : said_parts ≡ Some parts

@@ -1,4 +1,4 @@
--- Pieces of the words of a run that change places, and an option that comes twice.
+-- Pieces of the words of a run that are exchanged, and an option that comes twice.
 use Rattle.std.proofs.Common.{◌≡◌, ◌≢◌, ◌↔◌, ℕ, ◌+◌, ◌≤◌, Bool, true, false, true≢false, List, [], ◌∷◌, ◌++◌, Option, Some, None, length, map, cond, refl, sym, ap, ◌∙◌, subst, arith, append_assoc, unwrap_or}
 use Rattle.std.specs.Prelude.{◌||◌, filter, All}
 use Rattle.std.specs.List.{AllByRecursion}
@@ -64,7 +64,7 @@ split_words-pieces run (piece ∷ pieces) words whole =
     ∙ ap (option_map (put (option_of run piece.word) piece)) (split_words-pieces run pieces words whole.1)
     ∙ map-both (put (option_of run piece.word) piece) (put_all run pieces) (split_words run words)
 
--- ---- pieces that change places
+-- ---- pieces that are exchanged
 
 -- parts with the same words of the view, in which each option has the same values
 record SameParts (p q : SplitWords) : Type 0 where
@@ -184,7 +184,7 @@ plan-moved plan word front a b back whole other is =
     plan-alike word (piece_words (front ++ a ∷ b ∷ []) ++ back) (piece_words (front ++ b ∷ a ∷ []) ++ back) plan is
     (parts-swapped plan.run front a b back is.parts whole other (plan-parts word (piece_words (front ++ a ∷ b ∷ []) ++ back) plan is))
 
--- two pieces that change places leave the plan as it is
+-- two pieces that are exchanged leave the plan as it is
 pub plan-swapped : (plan : RunPlan) (word : List ℕ) (front : List Piece) (a b : Piece) (back : List (List ℕ)) → All (IsPiece plan.run) (front ++ a ∷ b ∷ [])
     → option_of plan.run a.word ≢ option_of plan.run b.word
     → (IsPlan (word ∷ (piece_words (front ++ a ∷ b ∷ []) ++ back)) plan ↔ IsPlan (word ∷ (piece_words (front ++ b ∷ a ∷ []) ++ back)) plan)

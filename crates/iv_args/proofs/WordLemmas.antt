@@ -46,7 +46,7 @@ needed-by false bases true b f g = absurd (no (f refl))
     no : false ≡ true → ⊥
     no e = cc
 
--- a width is said by one value at most
+-- a width is given by one value at most
 pub width-once : (values : List (List ℕ)) (width : ℕ) → width_said values ≡ Some width → length values ≤ 1
 width-once [] width h = omega arith
 width-once (value ∷ []) width h = omega arith
@@ -60,7 +60,7 @@ few-listed (Some value) = omega arith
 module _ (word : List ℕ) (rest : List (List ℕ)) (run : Subcommand) (is_run : Some run ≡ run_of word) where
   -- ---- words that are a plan
 
-  -- the values of the settings are what was said
+  -- the values of the settings are what was read
   values-said : (said : PartialPlan) (g : Gives (split_words run rest) (begun_by run word) said) (k : RunOption) → values_of k g.parts.settings ≡ listed said k
   values-said said g k = sym (g.values k ∙ ap (λ (l : List (List ℕ)). l ++ values_of k g.parts.settings) (begun-says run word k))
 
@@ -92,7 +92,7 @@ module _ (word : List ℕ) (rest : List (List ℕ)) (run : Subcommand) (is_run :
 
   -- ---- words that are none
 
-  -- what a plan of the words says of their kind and their parts
+  -- what follows from a plan of the words about their kind and their parts
   record IsOf (plan : RunPlan) (is : IsPlan (word ∷ rest) plan) : Type 0 where
     run_is : plan.run ≡ run
     word_is : is.word ≡ word
@@ -146,7 +146,7 @@ module _ (word : List ℕ) (rest : List (List ℕ)) (run : Subcommand) (is_run :
       nothing (Some x) e = cc
   said-same o (Some value) e = said-value o value e
 
-  -- a plan of the words is made of what they have said
+  -- a plan of the words is made of what was read
   makes : (said : PartialPlan) (plan : RunPlan) → drafted run rest (begun_by run word) ≡ Some said → IsPlan (word ∷ rest) plan → Makes run said plan
   makes said plan h is =
       let g = drafted-gives run rest (begun_by run word) said h in
@@ -206,7 +206,7 @@ refuse-word word rest none plan is = none≢some plan.run (none ∙ ap run_of (h
     head : {a b : List ℕ} {xs ys : List (List ℕ)} → a ∷ xs ≡ b ∷ ys → a ≡ b
     head e = cc
 
--- ---- what an outcome says
+-- ---- what follows from an outcome
 
 pub ok-map : {T E : Type 0} {P Q : T → Type 0} (r : Result T E) → ((t : T) → P t → Q t) → IfOk r P → IfOk r Q
 ok-map (Ok t) f h = f t h

@@ -1,4 +1,4 @@
--- What the program says of itself.
+-- What the program says about itself.
 use Rattle.std.specs.Prelude.{ℕ, List}
 use Rattle.iv_args.specs.declared.help.TheConstants.{HELP, SESSION, MERGE, CLUSTER, COMPLEMENT, GENOMECOV, INTERSECT, SUBTRACT, GETFASTA}
 use Rattle.iv_args.specs.declared.notice.TheConstants.{VERSION}

@@ -13,7 +13,7 @@ use Rattle.iv_args.specs.declared.subcommand.RunOption.TheVariants as option
 use Rattle.iv_args.specs.declared.plan.Slot.{Slot}
 use Rattle.iv_args.specs.declared.plan.Slot.TheVariants.{Sizes, First, Other, Bases}
 
--- what the words of a run say: its kind; the names of its files, the second file's and the FASTA file's if there is one;
+-- what the words of a run mean: its kind; the names of its files, the second file's and the FASTA file's if there is one;
 -- the width of a BED file without a record; and the words of the view that is printed, the subcommand first, none for a session
 pub record RunPlan : Type 0 where
   pub run : Subcommand
@@ -31,7 +31,7 @@ file_of plan First = Some plan.first
 file_of plan Other = plan.other
 file_of plan Bases = plan.bases
 
--- the kind of run that a word says
+-- the kind of run that a word names
 abbrev pub run_of : List ℕ → Option Subcommand
 run_of word =
     cond (bytes_eq word (codes "session")) (Some kind.Session)
@@ -56,7 +56,7 @@ first_option kind.Subtract = codes "-a"
 first_option kind.Getfasta = codes "-bed"
 first_option run = codes "-i"
 
--- whether a second file of records can be named
+-- whether a second file can be named
 abbrev pub takes_other : Subcommand → Bool
 takes_other kind.Session = true
 takes_other kind.Intersect = true
@@ -145,13 +145,13 @@ is_option asked _ = false
 abbrev pub values_of : RunOption → List Setting → List (List ℕ)
 values_of asked settings = map (λ setting. setting.1) (filter (λ setting. is_option asked setting.0) settings)
 
--- a width is said by one digit from 3 to 6
+-- a width is one digit from 3 to 6
 abbrev pub width_of : List ℕ → Option ℕ
 width_of [] = None
 width_of (b ∷ []) = cond (nat_le 51 b && nat_le b 54) (Some (b - 48)) None
 width_of (b ∷ c ∷ bs) = None
 
--- the width that the values given for it say: 3 if there is none
+-- the width of the values that are given for it: 3 if there is none
 abbrev pub width_said : List (List ℕ) → Option ℕ
 width_said [] = Some 3
 width_said (value ∷ []) = width_of value
@@ -168,14 +168,14 @@ are_understood (Ok view) = true
 are_understood (Err fault.Words) = false
 are_understood (Err why) = true
 
--- whether the words of the view are such, of records of six columns and beside both files; a session has no such words
+-- whether the words of the view are accepted, for records of six columns and beside both files; a session has none
 abbrev pub are_view_words : Subcommand → List (List ℕ) → Bool
 are_view_words kind.Session [] = true
 are_view_words kind.Session (word ∷ words) = false
 are_view_words run words = are_understood (read_words 6 true true words)
 
 -- the words are those of the plan: the first is that of its kind, and the others are separated into settings and the words of its view;
--- `-g` and the file of the records are once, `-width` once at most, and the second file and the FASTA file once if the kind needs
+-- `-g` and the file of the records are given once, `-width` once at most, and the second file and the FASTA file once if the kind needs
 -- them, and at most once otherwise
 pub record IsPlan (words : List (List ℕ)) (plan : RunPlan) : Type 0 where
   pub word : List ℕ

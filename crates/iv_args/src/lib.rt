@@ -1,4 +1,4 @@
-//! The arguments: what a run is to do, with which files, and what the program says of itself.
+//! The arguments: what a run is to do, with which files, and what the program says about itself.
 #![tactic(auto)]
 
 mod help;

@@ -1,4 +1,4 @@
-//! What the program says of itself.
+//! What the program says about itself.
 ghost use Rattle.std.specs.Prelude.{◌≡◌, map};
 ghost use Rattle.iv_args.specs.Notices.{notice_of, is_help_command as help_command, is_help_option as help_option};
 ghost use Rattle.iv_args.specs.Texts.{notice_text};
@@ -6,7 +6,7 @@ ghost use Rattle.iv_args.specs.Texts.{notice_text};
 use crate::help::{HELP, help_of};
 use crate::subcommand::Subcommand;
 
-/// What the program can say of itself.
+/// What the program can say about itself.
 #[derive(Clone, Copy, Debug, PartialEq, Eq)]
 pub enum Notice {
     /// How it is used.

@@ -1,4 +1,4 @@
-//! The arguments of a run: what they have said so far, and what all of them ask for.
+//! The arguments of a run: what is read of them so far, and what all of them ask for.
 ghost use Rattle.std.specs.Prelude.{◌≡◌, ◌≤◌, ◌⊎◌, ◌∷◌, [], true, Some, None, IsSome, IfOk, IfErr, OnOk, map, length, drop};
 ghost use Rattle.std.specs.Option.{option_copied, option_to_list};
 ghost use Rattle.iv_view.specs.Views.{read_words};
@@ -28,7 +28,7 @@ pub enum Slot {
 /// The width of a BED file without a record, if none is asked for.
 const USUAL_WIDTH: u8 = 3;
 
-/// The width that a value says: one digit from 3 to 6.
+/// The width that a value means: one digit from 3 to 6.
 fn read_width(value: &[u8]) -> Option<u8>
     ensures { result ≡ width_of value.now }
 {
@@ -72,7 +72,7 @@ impl<'a, A: Allocator + Copy> Model for PlanDraft<'a, A> {
 }
 
 impl<'a, A: Allocator + Copy> PlanDraft<'a, A> {
-    /// What the first argument says.
+    /// What is given once the first argument is read.
     fn new(alloc: A, run: Subcommand, word: &'a [u8]) -> Result<Self, Fault>
         ensures ok { IfOk result (λ draft. draft ≡ begun_by run word.now) }
         ensures err { IfErr result (λ fault. fault ≡ Fault.NoMemory) }
@@ -113,7 +113,7 @@ impl<'a, A: Allocator + Copy> PlanDraft<'a, A> {
         Ok(())
     }
 
-    /// Takes one more argument, and the first of the others if that is its value. It says how many of the others it has
+    /// Takes one more argument, and the first of the others if that is its value. It answers how many of the others it has
     /// taken: one or none.
     fn take(&mut self, run: Subcommand, word: &'a [u8], others: &[&'a [u8]]) -> Result<usize, Fault>
         ensures ok { IfOk result (λ values. drafted run (word.now ∷ map (λ word. word.now) others.now) self.old
@@ -175,14 +175,14 @@ impl<'a, A: Allocator + Copy> PlanDraft<'a, A> {
         (self.other.is_some() || !run.needs_other()) && (self.bases.is_some() || !run.needs_bases())
     }
 
-    /// What the arguments of the view say, for records of six columns beside both files.
+    /// What the arguments of the view ask for, for records of six columns beside both files.
     fn read_view(&self) -> Result<View, ViewFault>
         ensures { result ≡ read_words 6 true true self.now.view }
     {
         View::asked(self.words.as_slice())
     }
 
-    /// Whether the arguments of the view are such, given what they say. A session has none.
+    /// Whether the arguments of the view are accepted, given what they ask for. A session has none.
     fn has_view(&self, run: Subcommand, view: Result<View, ViewFault>) -> bool
         requires { view ≡ read_words 6 true true self.now.view }
         ensures { result ≡ are_view_words run self.now.view }
@@ -193,7 +193,7 @@ impl<'a, A: Allocator + Copy> PlanDraft<'a, A> {
         }
     }
 
-    /// The width of a BED file without a record, 3 if none is given, and `None` if what is given says none.
+    /// The width of a BED file without a record, 3 if none is given, and `None` if what is given isn't one.
     fn width(&self) -> Option<u8>
         ensures { result ≡ width_said (option_to_list self.now.width) }
     {
@@ -214,7 +214,7 @@ pub struct Plan<'a, A: Allocator + Copy = Global> {
     bases: Option<&'a [u8]>,
     width: u8,
     words: Vec<&'a [u8], A>,
-    // What the arguments of the view say for records of six columns beside both files.
+    // What the arguments of the view ask for, for records of six columns beside both files.
     view: Result<View, ViewFault>,
 }
 
@@ -231,7 +231,7 @@ impl<'a, A: Allocator + Copy> Model for Plan<'a, A> {
     ghost invariant = { λ p. (3 ≤ p.width) × (p.width ≤ 6) × (p.view ≡ read_words 6 true true (map (λ word. word.now) p.words.items)) };
 }
 
-/// The plan of what the arguments have said, if that is one.
+/// The plan of what is given, if that makes one.
 fn plan_of<'a, A: Allocator + Copy>(
     run: Subcommand,
     draft: PlanDraft<'a, A>,
@@ -263,8 +263,8 @@ impl<'a, A: Allocator + Copy> Plan<'a, A> {
     /// What the arguments after the program's name ask for.
     ///
     /// The first is `session` or a subcommand. After it come, in any order and each once, the options that name files,
-    /// `-width N` if it is wanted, and the options of the subcommand: `-g GENOME` for all; `-i RECORDS`, but for
-    /// `intersect` and `subtract` `-a RECORDS -b RECORDS`, and for `getfasta` `-bed RECORDS -fi FASTA`; a session takes
+    /// `-width N` if it is wanted, and the options of the subcommand: `-g GENOME` for all; `-i RECORDS`, except that
+    /// `intersect` and `subtract` have `-a RECORDS -b RECORDS`, and `getfasta` has `-bed RECORDS -fi FASTA`; a session takes
     /// `-b` and `-fi` too if they are wanted. The argument after an option that takes a value is its value, whatever it is;
     /// `N` is one digit from 3 to 6.
     ///

@@ -33,7 +33,7 @@ pub(crate) enum RunOption {
 }
 
 impl Subcommand {
-    /// The kind of run that an argument says: the first of the arguments after the program's name.
+    /// The kind of run that an argument names: the first of the arguments after the program's name.
     pub fn of(word: &[u8]) -> Option<Subcommand>
         ensures { result ≡ run_of word.now }
     {
@@ -73,7 +73,7 @@ impl Subcommand {
         }
     }
 
-    /// Whether a second file of records can be named.
+    /// Whether a second file can be named.
     fn takes_other(self) -> bool
         ensures { result ≡ other_taken self }
     {
@@ -83,7 +83,7 @@ impl Subcommand {
         )
     }
 
-    /// Whether a second file of records has to be named.
+    /// Whether a second file has to be named.
     pub(crate) fn needs_other(self) -> bool
         ensures { result ≡ other_needed self }
     {
@@ -138,7 +138,7 @@ impl Subcommand {
 }
 
 /// Options that name files or the width may come in any order, also among the arguments of the view: two pieces next to each other
-/// may change places, unless both are of the view or both of one option.
+/// may be exchanged, unless both are of the view or both of one option.
 pub fn options_among_view_words()
     ensures { (plan : RunPlan) (word : List ℕ) (front : List Piece) (a b : Piece) (back : List (List ℕ)) → All (IsPiece plan.run) (front ++ a ∷ b ∷ []) → option_of plan.run a.word ≢ option_of plan.run b.word → (IsPlan (word ∷ (piece_words (front ++ a ∷ b ∷ []) ++ back)) plan ↔ IsPlan (word ∷ (piece_words (front ++ b ∷ a ∷ []) ++ back)) plan) }
 {}

@@ -82,7 +82,7 @@ module _ (genome : Sequences) (width : ℕ) (rows : List RecordValue) (fit : All
       omega (arith, low, at))))
 
   module _ (rank end : ℕ) (is : end ≡ sequence_length genome rank) (old : KeptBlocks) where
-    -- a side's blocks are put, as they are to be
+    -- a side's blocks are inserted, as they are to be
     put-whole : (side : Side) (now next : KeptBlocks) → now.options ≡ old.options
         → AreInserted (record { rank = rank; side = side }) (names_of genome) (between 0 end rows) now next
         → (x : ℕ) → value_at key_cmp next.entries (rank, is_minus side, x) ≡ option_or (kept_at old.options (names_of genome) rows (rank, is_minus side, x)) (value_at key_cmp now.entries (rank, is_minus side, x))

@@ -104,7 +104,7 @@ right-beside : (o : Options) (names : List (List ℕ)) (less rows : List RecordV
 right-beside o names less rows r more beside k =
     kept-beside o names less rows r k more (false_from_ne_true _ (λ e. both_ways _ (beside k.1) (and_parts (r.seq == k.0) (is_on_side o.stranded k.1 r) e).1))
 
--- what two clauses say of a success
+-- what follows from two clauses about a success
 pub on-both : {T E : Type 0} (result : Result T E) (P Q R : Type 0) → (P → Q → R) → OnOk result P → OnOk result Q → OnOk result R
 on-both (Ok x) P Q R f p q = f p q
 on-both (Err e) P Q R f p q = p

@@ -1,4 +1,4 @@
--- The state of a sweep over a group's records of a range, whose blocks are put one after another, and its steps.
+-- The state of a sweep over a group's records of a range, whose blocks are inserted one after another, and its steps.
 use Rattle.std.proofs.Common.{ℕ, ◌+◌, ◌*◌, ◌<◌, ◌≤◌, max, ◌≡◌, ◌⊎◌, inl, inr, Bool, false, ◌&&◌, ◌==◌, if◌then◌else◌, List, [], ◌∷◌, ◌++◌, length, filter, All, Option, Some, refl, sym, ap, ap₂, subst, ◌∙◌, arith, append-nil, append_assoc, eq-eqb}
 use Rattle.std.specs.Option.{option_map, option_or}
 use Rattle.std.proofs.lemmas.Bool.{cond-true, cond-false, cases_Bool, cases_lt, and_parts, and_from, and_left, and_right, false_from_ne_true}
@@ -140,7 +140,7 @@ module _ (o : KeptBlocks) (genome : Sequences) (rows : List RecordValue) (g : Gr
   abbrev pub kept : ℕ × List RecordValue → Kept
   kept = kept_block (sequence_name genome g.rank) (listed o.options.summaries)
 
-  -- the open block starts and stops here: those before it are put, and these members are left
+  -- the open block starts and stops here: those before it are inserted, and these members are left
   pub record IsSweeping (now : KeptBlocks) (start stop : ℕ) (left : List RecordValue) : Type 0 where
     pub passed : List RecordValue
     pub all : members_between g from to rows ≡ passed ++ left
@@ -226,7 +226,7 @@ module _ (o : KeptBlocks) (genome : Sequences) (rows : List RecordValue) (g : Gr
         ∙ ap (filter test) (sym s.all)
         ∙ members-narrow g from to start stop rows s.above s.within
 
-    -- the open block, once it is put
+    -- the open block, once it is inserted
     step : (now next : KeptBlocks) (start stop : ℕ) (left : List RecordValue) → (s : IsSweeping now start stop left) → ((q : RecordValue) → Mem q left → stop ≤ q.start)
         → next ≡ with_block now genome rows g start stop
         → (x : ℕ) → look g next.entries x ≡ (if x == start then Some (kept (stop, filter (starts_in start_of stop_of o.options.distance start stop) s.passed)) else look g now.entries x)
@@ -241,7 +241,7 @@ module _ (o : KeptBlocks) (genome : Sequences) (rows : List RecordValue) (g : Gr
     step_others now next start stop left s is k other =
         ap (λ (b : KeptBlocks). value_at key_cmp b.entries k) is ∙ look-put_other now.entries g start _ k other ∙ s.others k other
 
-    -- the open block is put, and a member opens the next
+    -- the open block is inserted, and a member opens the next
     pub sweep-open : (now next : KeptBlocks) (start stop : ℕ) (r : RecordValue) (left : List RecordValue) → (s : IsSweeping now start stop (r ∷ left)) → stop + o.options.distance < r.start
         → next ≡ with_block now genome rows g start stop → IsSweeping next r.start r.stop left
     sweep-open now next start stop r left s parts is =
@@ -270,7 +270,7 @@ module _ (o : KeptBlocks) (genome : Sequences) (rows : List RecordValue) (g : Gr
         (sym (name-same genome g.rank))
         (sym (members-group g from to rows) ∙ ap (λ (b : Bool). group b g.rank (is_minus g.side) (between from to rows)) apart)
 
-    -- after the last member the open block is put, and all are
+    -- after the last member the open block is inserted, and all are
     pub sweep-all : (now next : KeptBlocks) (start stop : ℕ) → IsSweeping now start stop [] → is_apart g.side ≡ o.options.stranded → next ≡ with_block now genome rows g start stop
         → IsLedger key_cmp next.entries → AreInserted g (names_of genome) (between from to rows) o next
     sweep-all now next start stop s apart is ledger =
@@ -288,7 +288,7 @@ module _ (o : KeptBlocks) (genome : Sequences) (rows : List RecordValue) (g : Gr
           others = step_others now next start stop [] s is;
         }
 
-    -- if there is no member, nothing is put
+    -- if there is no member, nothing is inserted
     pub sweep-none : is_apart g.side ≡ o.options.stranded → members_between g from to rows ≡ [] → IsLedger key_cmp o.entries → AreInserted g (names_of genome) (between from to rows) o o
     sweep-none apart none ledger = record {
       options = refl;
@@ -298,7 +298,7 @@ module _ (o : KeptBlocks) (genome : Sequences) (rows : List RecordValue) (g : Gr
       others = λ k other. refl;
     }
 
-    -- a block is put in so many steps, which its records pay for
+    -- a block is inserted in so many steps, which its records pay for
     pub sweep-pays : (now : KeptBlocks) (start stop : ℕ) (left : List RecordValue) → IsSweeping now start stop left
         → 4 * length (between_on g.rank from start rows) + (3 + length (between_on g.rank start stop rows)) ≤ 4 * length (between_on g.rank from stop rows)
     sweep-pays now start stop left s =

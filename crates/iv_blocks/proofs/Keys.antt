@@ -1,4 +1,4 @@
--- Keys of blocks, and what is at a key after a put.
+-- Keys of blocks, and what is at a key after an insertion.
 use Rattle.std.proofs.Common.{◌≡◌, ◌⊎◌, inl, inr, ℕ, ◌==◌, Bool, true, false, cond, if◌then◌else◌, List, [], ◌∷◌, Option, Some, Ordering, Less, Equal, Greater, nat_cmp, refl, sym, ap, subst, ◌∙◌, eq-eqb, ne_eqb}
 use Rattle.std.specs.Ordering.{bool_cmp, is_eq}
 use Rattle.std.specs.Cmp.{IsTotalOrder, then_total, on_total, nat_cmp_total, bool_cmp_total, tied_itself, Equal-is}
@@ -62,7 +62,7 @@ key-of_other g k x other = false_from_ne_true _ (λ e.
     let same : k ≡ key_of g x = keys_exact k (key_of g x) ((Equal-is (key_cmp k (key_of g x))).0 e) in
     elim other [ inl rank ↦ rank (ap (λ (j : Key). j.0) same) | inr side ↦ side (ap (λ (j : Key). j.1) same) ])
 
--- a block that is put, as seen at the positions of its group
+-- a block that is inserted, as seen at the positions of its group
 pub look-put : (entries : Entries) (g : Group) (x : ℕ) (v : Kept) (y : ℕ)
     → value_at key_cmp (insert_entry key_cmp entries (key_of g x) v) (key_of g y) ≡ (if y == x then Some v else value_at key_cmp entries (key_of g y))
 look-put entries g x v y = elim (cases_eq y x) [

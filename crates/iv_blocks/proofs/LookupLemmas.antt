@@ -1,4 +1,4 @@
--- What look-ups say of the blocks of one group.
+-- Look-ups among the blocks of one group.
 use Rattle.std.proofs.Common.{◌≡◌, ◌≢◌, ℕ, ◌<◌, ◌≤◌, Bool, true, false, Option, Some, None, MatchOption, Ordering, Less, Equal, Greater, nat_cmp, refl, sym, ap, subst, ◌∙◌, arith}
 use Rattle.std.specs.Ordering.{is_le, is_ge, bool_cmp, ordering_reverse}
 use Rattle.std.specs.Cmp.{bool_cmp_total}

@@ -39,7 +39,7 @@ le-then : (o p : Ordering) → (o ≡ Less) ⊎ ((o ≡ Equal) × (is_le p ≡ t
 le-then o p (inl e) = rw e refl
 le-then o p (inr e) = rw (e.0, e.1) refl
 
--- from a place on: on a later sequence, or on this one and no earlier
+-- from a position on: on a later sequence, or on this one and no earlier
 pub from-true : (rank from : ℕ) (q : RecordValue) → is_from rank from q ≡ true → (rank < q.seq) ⊎ ((rank ≡ q.seq) × (from ≤ q.start))
 from-true rank from q e = elim (then-le (nat_cmp rank q.seq) (nat_cmp from q.start) e) [
   | inl less ↦ inl (by_ranked (rank < q.seq) (rank ≡ q.seq) (q.seq < rank) (nat_cmp rank q.seq) (ranked rank q.seq _ refl) (λ _ l. l) (λ f _. cc) (λ f _. cc))
@@ -83,7 +83,7 @@ walked p rank from to rows on =
     let range = between-true from to q both.1 in
     and_from _ _ (from-here rank from q (sym (on q both.0)) range.0) (and_from _ _ both.0 (between-from 0 to q (omega arith) range.1))))
 
--- in a range without a place there is none
+-- in a range without a position there is none
 pub none_between : (p : RecordValue → Bool) (from to : ℕ) (rows : List RecordValue) → to ≤ from → filter (λ q. p q && starts_between from to q) rows ≡ []
 none_between p from to rows empty = filter-none _ rows (λ q m. false_from_ne_true _ (λ e.
     let both = and_parts (p q) (starts_between from to q) e in
@@ -96,7 +96,7 @@ in_group-on g q e = eqb-true _ _ (and_parts (q.seq == g.rank) (is_on_side (is_ap
 on-rank : (rank : ℕ) (q : RecordValue) → (q.seq == rank) ≡ true → q.seq ≡ rank
 on-rank rank q e = eqb-true _ _ e
 
--- what is ahead of a walk from a place on
+-- what is ahead of a walk from a position on
 pub members-walked : (g : Group) (from to : ℕ) (rows : List RecordValue) → members_between g 0 to (filter (is_from g.rank from) rows) ≡ members_between g from to rows
 members-walked g from to rows = walked (is_in_group (is_apart g.side) g.rank (is_minus g.side)) g.rank from to rows (in_group-on g)
 

@@ -113,7 +113,7 @@ module _ (d : ℕ) (name : List ℕ) (summaries : List ColumnSummary) where
           in-part : (q : RecordValue) → Mem q part → (b.0 ≤ q.start) × (q.start < b.1)
           in-part q m = starts_in-true start_of stop_of d b.0 b.1 q (mem-filter (starts_in start_of stop_of d b.0 b.1) G q m).1
 
-          -- outside the block nothing is put, and what was there is right
+          -- outside the block nothing is inserted, and what was there is right
           outside : (x < b.0) ⊎ (b.1 + d < x) → ((q : RecordValue) → Mem q part → q.start ≡ x → ⊥) → new x ≡ shown G x
           outside out none =
               put x

@@ -1,4 +1,4 @@
--- Blocks of records in order of their starts, put one after another over what was there.
+-- Blocks of records in order of their starts, inserted one after another over what was there.
 use Rattle.std.proofs.Common.{ℕ, ◌+◌, ◌<◌, ◌≤◌, max, ◌≡◌, inl, inr, if◌then◌else◌, ◌==◌, List, [], ◌∷◌, ◌++◌, filter, Option, Some, refl, sym, ap, ◌∙◌, arith, eq-eqb, ne_eqb}
 use Rattle.std.specs.Option.{option_map, option_or}
 use Rattle.std.proofs.lemmas.Bool.{cond-true, cond-false, cases_lt, cases_eq}
@@ -13,13 +13,13 @@ module _ {X V : Type 0} (start stop : X → ℕ) (d : ℕ) (kept : ℕ × List X
   abbrev pub shown : List X → ℕ → Option V
   shown G k = option_map kept (block_at start stop d G k)
 
-  -- the last block of G is open: those before it are put over what was there, and it is not yet
+  -- the last block of G is open: those before it are inserted over what was there, and it is not yet
   pub record IsPut (G : List X) (x s : ℕ) (old now : ℕ → Option V) : Type 0 where
     pub last : IsLastBlock start stop d G x s
     pub before : (k : ℕ) → k < x → now k ≡ option_or (shown G k) (old k)
     pub from : (k : ℕ) → x ≤ k → now k ≡ old k
 
-  -- once the last block is put, all blocks are
+  -- once the last block is inserted, all blocks are
   pub put-all : (G : List X) (x s : ℕ) (old now next : ℕ → Option V) → Lasting start stop d G → IsPut G x s old now
       → ((k : ℕ) → next k ≡ (if k == x then Some (kept (s, filter (starts_in start stop d x s) G)) else now k))
       → (k : ℕ) → next k ≡ option_or (shown G k) (old k)
@@ -54,7 +54,7 @@ module _ {X V : Type 0} (start stop : X → ℕ) (d : ℕ) (kept : ℕ × List X
       from = put.from;
     }
 
-    -- the open block is put, and a record opens the next
+    -- the open block is inserted, and a record opens the next
     pub put-open : s + d < start r → (next : ℕ → Option V)
         → ((k : ℕ) → next k ≡ (if k == x then Some (kept (s, filter (starts_in start stop d x s) G)) else now k))
         → IsPut (G ++ r ∷ []) (start r) (stop r) old next

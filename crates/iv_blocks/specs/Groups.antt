@@ -37,7 +37,7 @@ sides stranded = if stranded then false ∷ true ∷ [] else false ∷ []
 abbrev pub listed : Summaries → List ColumnSummary
 listed s = take s.count s.summaries
 
--- a place that holds no summary
+-- an entry that holds no summary
 abbrev pub unused : ColumnSummary
 unused = record { column = Sequence; op = Count }
 

@@ -1,4 +1,4 @@
-//! The blocks of a track, kept under edits.
+//! The blocks of a track: a state of kept views.
 ghost use Rattle.std.specs.Prelude.{◌≡◌};
 ghost use Rattle.iv_blocks.specs.KeptBlocks.{AreBlocksOf, block_steps};
 
@@ -40,7 +40,7 @@ impl<A: Allocator + Copy> Kept<A> for Blocks<A> {
     ghost repair_steps = { block_steps };
 
     /// It allocates only the ledger, the results that are kept, and, while it is built, its entries and the members of a block.
-    /// If strands are together, the ledger is built at once from one walk over the track; else the blocks are put one by one.
+    /// If strands are together, the ledger is built at once from one walk over the track; else the blocks are inserted one by one.
     fn build(
         alloc: A,
         options: Options,
@@ -92,7 +92,7 @@ impl<A: Allocator + Copy> Kept<A> for Blocks<A> {
         self.insert_block(track, genome, group, low, high, meter)
     }
 
-    /// The record's block is taken out, and the others that were in it are put as blocks again.
+    /// The record's block is taken out, and the others that were in it are inserted as blocks again.
     fn removed(
         &mut self,
         track: &Track<A>,

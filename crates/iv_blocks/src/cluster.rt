@@ -36,7 +36,7 @@ impl<A: Allocator + Copy> Blocks<A> {
         ensures text { Puts (S.state sink.old) (S.state sink.new) result (cluster_text self.now.options.distance genome.now track.now.rows) }
         ensures steps { TakesUpTo meter.old meter.new (4 + length track.now.rows + length (all_blocks self.now.options genome.now track.now.rows)) }
     {
-        // So few blocks are kept that 64 bits number them.
+        // There are so few blocks that 64 bits number them.
         let _few = self.ledger.len();
         let mut ahead = BlockCursor::of(self, meter);
         let mut number: u64 = 0;

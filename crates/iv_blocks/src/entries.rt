@@ -72,8 +72,8 @@ pub(crate) fn entries_of<A: Allocator + Copy>(
     Ok(entries)
 }
 
-/// Makes the results of a block over its members, and puts it at the end of the entries. The results are written in the memory of a
-/// text that is no longer needed, and copied from there. It is given back.
+/// Makes the results of a block over its members, and adds it at the end of the entries. The results are written in the memory of a
+/// text that is no longer needed, and copied from there. That memory is the answer.
 fn push_entry<A: Allocator + Copy>(
     alloc: A,
     options: &Options,

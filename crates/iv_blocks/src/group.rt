@@ -146,7 +146,7 @@ impl<'a, A: Allocator + Copy> Members<'a, A> {
         ensures ordered { AreInOrder track.now.rows }
         ensures steps { TakesUpTo meter.old meter.new 1 }
     {
-        // If the range is empty, there may be no place to begin a walk at its start.
+        // If the range is empty, a walk may not be able to begin at its start.
         let (from, to) = if from < to { (from, to) } else { (0, 0) };
         Members {
             rows: track.walk(group.rank, u64::from(from), meter),

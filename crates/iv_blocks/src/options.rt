@@ -9,7 +9,7 @@ use iv_cover::{Column, ColumnSummary, Op};
 /// The summaries of each block, at most 16, in the order of their columns of output.
 #[derive(Clone, Copy, Debug, PartialEq, Eq, Drop)]
 pub struct Summaries {
-    // Those from `count` on mean nothing.
+    // Entries from `count` on are unused.
     summaries: [ColumnSummary; 16],
     count: u8,
 }
@@ -29,7 +29,7 @@ impl Summaries {
         }
     }
 
-    /// One more summary at the end. Whether there was room for it; else nothing is changed.
+    /// Adds a summary at the end, and answers whether there was room for it. If not, nothing is changed.
     pub fn push(&mut self, summary: ColumnSummary) -> bool
         ensures room { result ≡ nat_lt self.old.count 16 }
         ensures pushed { IsTrue result → self.new ≡ pushed self.old summary }

@@ -1,4 +1,4 @@
-//! The parts of a repair: blocks that are looked up, joined, taken out and put.
+//! The parts of a repair: blocks that are looked up, joined, taken out and inserted.
 ghost use Rattle.std.specs.Prelude.{◌≡◌, ◌≢◌, ◌+◌, ◌-◌, ◌*◌, ◌≤◌, ℕ, None, true, All, IfOk, MatchOption, OnOk, OnErr, length, map};
 ghost use Rattle.iv_text.specs.Genome.{sequence_name};
 ghost use Rattle.iv_text.specs.Named.{names_of};
@@ -120,7 +120,7 @@ impl<A: Allocator + Copy> Blocks<A> {
         self.ledger.take(&group.key(start), meter);
     }
 
-    /// Puts the blocks of the records on the sequence of this rank over what is there, those of each strand.
+    /// Inserts the blocks of the records on the sequence of this rank over what is there, those of each strand.
     pub(crate) fn insert_sequence(
         &mut self,
         track: &Track<A>,
@@ -145,11 +145,11 @@ impl<A: Allocator + Copy> Blocks<A> {
         self.insert_blocks(track, genome, minus, 0, length, meter)
     }
 
-    /// Puts the blocks of a group's records that start at `from` or after and below `to`, over what is there: they are the
+    /// Inserts the blocks of a group's records that start at `from` or after and below `to`, over what is there: they are the
     /// blocks of these records alone.
     ///
     /// None of these records stops past `to`. At most 2 steps, and 5 for each record, of any strand, that starts there.
-    /// After a refusal some of the blocks may be put.
+    /// After a refusal some of the blocks may be inserted.
     pub(crate) fn insert_blocks(
         &mut self,
         track: &Track<A>,
@@ -165,7 +165,7 @@ impl<A: Allocator + Copy> Blocks<A> {
         ensures ok { OnOk result (AreInserted group (names_of genome.now) (between from to track.now.rows) self.old self.new) }
         ensures steps { TakesUpTo meter.old meter.new (2 + 5 * length (between_on group.rank from to track.now.rows)) }
     {
-        // The keys of the ledger ascend, even if nothing is put.
+        // The keys of the ledger ascend, even if nothing is inserted.
         let _ordered = self.ledger.len();
         let distance = u64::from(self.options.distance);
         let mut members = Members::of(track, group, from, to, meter);
@@ -185,7 +185,7 @@ impl<A: Allocator + Copy> Blocks<A> {
         self.insert_block(track, genome, group, start, stop, meter)
     }
 
-    /// Puts the block of a group's records that start at `start` or after and below `stop`, over what is there.
+    /// Inserts the block of a group's records that start at `start` or after and below `stop`, over what is there.
     ///
     /// At most 3 steps, and one for each record, of any strand, that starts there.
     /// After a refusal the blocks are as before.

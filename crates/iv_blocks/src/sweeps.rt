@@ -1,4 +1,4 @@
-//! The rows of a merge and a complement in one sweep over sorted places, and those of a cluster over sorted records of a text.
+//! The rows of a merge and a complement in one sweep over sorted intervals, and those of a cluster over sorted records of a text.
 ghost use Rattle.std.specs.Prelude.{◌≡◌, ◌∷◌, map, None, Some, List, All};
 ghost use Rattle.std.specs.Iterator.{YieldsFirst, item_count};
 ghost use Rattle.std.specs.List.{flat_map};
@@ -28,7 +28,7 @@ use std::marker::Model;
 
 /// Puts a row for each block of records at most `distance` bases apart: its sequence's name, start and stop.
 ///
-/// The places of the records are in the order of a track and are on the genome. One sweep over them, and no memory. On a
+/// The intervals of the records are in the order of a track and are on the genome. One sweep over them, and no memory. On a
 /// fault the sink has taken a prefix of the text.
 pub fn put_merge<A: Allocator + Copy, S: Sink>(
     distance: u32,
@@ -72,7 +72,7 @@ pub fn put_cluster<A: Allocator + Copy, S: Sink>(
     requires on_genome { All (IsOnGenome genome.now) records.now }
     ensures { Puts (S.state sink.old) (S.state sink.new) result (cluster_text distance genome.now records.now) }
 {
-    // So few records there are, and so few blocks, that 64 bits number them.
+    // There are so few records, and so few blocks, that 64 bits number them.
     let _few = records.len();
     let mut number: u64 = 0;
     for found in SideBlocks::of_all(records, distance) {
@@ -99,7 +99,7 @@ fn put_members<A: Allocator + Copy, S: Sink>(
 
 /// Puts a row for each maximal interval that no record covers, of all sequences, or if `limited`, of those with a record.
 ///
-/// The places of the records are in the order of a track and are on the genome. One sweep over them, and no memory. On a
+/// The intervals of the records are in the order of a track and are on the genome. One sweep over them, and no memory. On a
 /// fault the sink has taken a prefix of the text.
 pub fn put_complement<A: Allocator + Copy, S: Sink>(
     limited: bool,
@@ -115,9 +115,9 @@ pub fn put_complement<A: Allocator + Copy, S: Sink>(
     put_gaps(limited, genome, &mut blocks, &mut (), sink)
 }
 
-/// The blocks that remain of a sweep over places: an iterator.
+/// The blocks that remain of a sweep over intervals: an iterator.
 ///
-/// Places of one sequence that overlap, are book-ended or are at most `distance` bases apart are in one block. Blocks come by
+/// Intervals of one sequence that overlap, are book-ended or are at most `distance` bases apart are in one block. Blocks come by
 /// the sequence's rank, and then by start. The model is the list of those that are left. No call takes memory.
 #[derive(Drop)]
 pub(crate) struct SpanBlocks<'s> {
@@ -138,9 +138,9 @@ impl<'s> Model for SpanBlocks<'s> {
 }
 
 impl<'s> SpanBlocks<'s> {
-    /// The blocks of places that are in the order of a track.
+    /// The blocks of intervals that are in the order of a track.
     ///
-    /// They are the blocks of the definition for every genome that the places are on.
+    /// They are the blocks of the definition for every genome that the intervals are on.
     pub(crate) fn of(spans: &'s [Span], distance: u32) -> Self
         requires { AreInOrder (span_rows spans.now) }
         ensures { (g : Sequences) → All (IsOnGenome g) (span_rows spans.now) → result ≡ map interval_of (blocks_of distance g (span_rows spans.now)) }
@@ -167,7 +167,7 @@ impl<'s> Iterator for SpanBlocks<'s> {
 
     ghost remaining = { item_count (λ blocks. blocks) };
 
-    /// The next block, `None` after the last. It looks at its places, and at the one after them.
+    /// The next block, `None` after the last. It looks at its intervals, and at the one after them.
     fn next(&mut self) -> Option<Block> {
         let (first, others) = self.rest.split_first()?;
         let (block, rest) = block_from(*first, others, self.distance);
@@ -204,7 +204,7 @@ fn block_of(span: Span) -> Block
     }
 }
 
-/// The block that a place begins, with those of the others that join it, and the places after it.
+/// The block that an interval begins, with those of the others that join it, and the intervals after it.
 fn block_from(first: Span, others: &[Span], distance: u32) -> (Block, &[Span])
     ensures { GivesFirst (coming distance None (row_of_span first ∷ span_rows others.now)) (Some result.0) (coming distance None (span_rows result.1.now)) }
 {

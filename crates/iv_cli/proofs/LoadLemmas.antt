@@ -15,7 +15,7 @@ use Rattle.iv_run.specs.Loading.{IsReport, Parsed, parsed}
 use Rattle.iv_run.specs.SoFar.{AreProjected, ReportsProjected, kept_files}
 use Rattle.iv_cli.specs.Loading.{loaded, session_of}
 
--- what is kept of whole records is the records
+-- what is held of whole records is the records
 same-all : (rows : List RecordValue) → map (λ (r : RecordValue). r) rows ≡ rows
 same-all [] = refl
 same-all (r ∷ rows) = ap (λ (l : List RecordValue). r ∷ l) (same-all rows)
@@ -51,7 +51,7 @@ report-err (Ok value) said is = tt
 report-err (Err k) said is = is
 
 module _ (width : ℕ) (sizes text : List ℕ) (other bases : Option (List ℕ)) (limit : ℕ) where
-  -- the files are sound, and all of their records is kept
+  -- the files are sound, and all of their records is held
   pub begins : (files : Parsed) (r : Result State CliFault) → ReportsProjected (λ r. r) (Ok files) (parsed width sizes text other bases limit)
       → IfOk r (λ s. s ≡ begun files.genome files.first files.second files.bases files.limit) → IfErr r (λ k. k ≡ Memory) → IsReport r (loaded width sizes text other bases limit)
   begins files (Ok s) all ok err =

@@ -61,7 +61,7 @@ pub fn begin_session<A: Allocator + Copy>(
 /// The session that the files of a run begin, with no view open, or the fault of the first damaged file, given the bytes of the files.
 /// It is for callers outside this repository.
 ///
-/// A BED file without a record has the width that the plan says, and each may have at most `limit` records. `bases` are the bytes of
+/// A BED file without a record has the width that the plan gives, and each may have at most `limit` records. `bases` are the bytes of
 /// the FASTA file, if the plan names one; they are taken.
 pub fn load<A: Allocator + Copy>(
     alloc: A,

@@ -32,7 +32,7 @@ total-none k (e ∷ entries) h =
     let rest : total (is_at (pair_cmp k)) entries ≡ pos 0 = total-none k entries h.1 in
     rw (less, rest) refl
 
--- the change at a place is all that there is at it
+-- the change at a key is all that there is at it
 total-found : (k : ChangeKey) (entries : Entries) (z : ℤ) → IsStrictlySortedBy pair_cmp (keys_of entries)
     → lookup (is_at (pair_cmp k)) entries ≡ Some z → total (is_at (pair_cmp k)) entries ≡ z
 unfolding IsStrictlySortedBy
@@ -50,7 +50,7 @@ total-found k (e ∷ entries) z sorted found = go (λ there. total-found k entri
         rw is (omega (arith, ints, value, rest))
     go further false is = let rest = further (rw is at found) in rw is (omega (arith, ints, rest))
 
--- a place elsewhere is reached by the next position if it is by this one
+-- a key elsewhere is reached by the next position if it is by this one
 reaches-elsewhere : (s p : ℕ) (place : ChangeKey) → is_at (pair_cmp (s, p + 1)) place ≡ false → reaches s (p + 1) place ≡ reaches s p place
 reaches-elsewhere s p place is = go (eqb_tells place.0 s)
   where

@@ -135,7 +135,7 @@ All-values-remove_entry test P (e ∷ entries) all = go (All-values-remove_entry
     go rest true is = rw is (All-tail P e.1 (values_of entries) all)
     go rest false is = rw is (All-cons P e.1 (values_of (remove_entry test entries)) (All-head P e.1 (values_of entries) all) rest)
 
--- a place without a change gets one
+-- a key without a change gets one
 pub Bumps-insert_entry : (entries : Entries) (place : ChangeKey) (by : ℤ) → lookup (is_at (pair_cmp place)) entries ≡ None
     → by ≢ pos 0 → IsLedger pair_cmp (insert_entry pair_cmp entries place by) → Bumps entries (insert_entry pair_cmp entries place by) place by
 Bumps-insert_entry entries place by absent other ordered = record {
@@ -172,10 +172,10 @@ Bumps-set_value entries place old by found other ordered = record {
     sums a b true e = omega (arith, ints)
     sums a b false e = omega (arith, ints)
 
--- ---- a change that is put where one is, and then taken out or set
+-- ---- a change that is written where one is, and then taken out or set
 
 module _ {K : Type 0} (cmp : K → K → Ordering) (total_order : IsTotalOrder cmp) where
-  -- what is put at a key that is there takes the place of its value
+  -- a value that is written at a key that is there replaces its value
   insert_entry-found : (entries : List (K × ℤ)) (k : K) (old new : ℤ) → IsLedger cmp entries → lookup (is_at (cmp k)) entries ≡ Some old
       → insert_entry cmp entries k new ≡ set_value (is_at (cmp k)) entries new
   unfolding IsStrictlySortedBy
@@ -223,11 +223,11 @@ module _ (entries between after : Entries) (place : ChangeKey) (before by : ℤ)
   between-is : between ≡ set_value (is_at (pair_cmp place)) entries by
   between-is = put ∙ insert_entry-found pair_cmp pair_total entries place before by ordered found
 
-  -- what was put is found
+  -- what was written is found
   pub found-put : value_at pair_cmp between place ≡ Some by
   found-put = rw between-is (lookup-set (is_at (pair_cmp place)) entries before by found)
 
-  -- the two changes at the place cancel
+  -- the two changes at the key cancel
   pub Bumps-taken : before +ℤ by ≡ pos 0 → after ≡ remove_entry (is_at (pair_cmp place)) between → IsLedger pair_cmp after → Bumps entries after place by
   Bumps-taken none taken sorted =
       let is : after ≡ remove_entry (is_at (pair_cmp place)) entries

@@ -13,7 +13,7 @@ pub ahead-read : (old new : Entries) (given : Option (ChangeKey × ℤ)) → Tak
 ahead-read old new None took = took.1 ∙ sym took.0
 ahead-read old new (Some e) took = sym took
 
--- no place is before the first
+-- no key is before the first
 pub filter-from_first : (entries : Entries) → filter (λ e. is_le (pair_cmp (0, 0) e.0)) entries ≡ entries
 filter-from_first [] = refl
 filter-from_first (e ∷ entries) =

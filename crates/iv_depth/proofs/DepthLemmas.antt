@@ -1,4 +1,4 @@
--- The records' depth, and what their changes say of it.
+-- The records' depth, and its changes.
 use Rattle.std.proofs.Common.{◌≡◌, ℕ, ◌+◌, ◌*◌, ◌<◌, ◌≤◌, ◌^◌, List, [], ◌∷◌, refl, sym, ◌∙◌, ap, subst, arith, leb, true, false, Bool, ◌&&◌, cond, get_or, length, inl, inr}
 use Rattle.std.specs.Prelude.{pos, All}
 use lib.IntN.{nat_abs}

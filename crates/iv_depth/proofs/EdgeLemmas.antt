@@ -208,7 +208,7 @@ module _ (f : ℕ → ℕ) (from limit depth : ℕ) (starts stops : List ℕ) (a
 
 -- ---- the records of one sequence
 
--- places start and stop where their records do
+-- intervals start and stop where their records do
 starts-are : (places : List Span) (rows : List RecordValue) → span_rows places ≡ rows → starts_of places ≡ map start_of rows
 starts-are places rows same = sym (map-map start_of row_of_span places) ∙ ap (map start_of) same
 
@@ -280,7 +280,7 @@ module _ (g : Sequences) (rank : ℕ) where
           count_by-le-length (is_from rank) rows,
         )
 
-    -- so the places of the records on a sequence, and their stops in order, say what the depth is
+    -- so the intervals of the records on a sequence, and their stops in order, give the depth
     pub IsAhead-begin : (stops : List ℕ) → AreInOrder rows → All (IsOnGenome g) rows → AreStopsOf places stops
         → IsAhead (depth rows rank) 0 (sequence_length g rank) 0 (starts_of places) stops
     IsAhead-begin stops order lie are =

@@ -31,7 +31,7 @@ use Rattle.iv_depth.proofs.OrderLemmas.{rise-sorted}
 
 -- ---- keys
 
--- keys ascend as places do
+-- keys ascend as ranks and positions do
 key-order : (a b : ℕ) → a < b → pair_cmp (place_of a) (place_of b) ≡ Less
 key-order a b h = go (nat_cmp (a / 2 ^ 32) (b / 2 ^ 32)) refl
   where

@@ -1,28 +1,28 @@
--- Net changes of depth, by place. This is what is kept, as seen by proofs; the rows are defined without it.
+-- Net changes of depth, by key. This is the state of a kept view, as seen by proofs; the rows are defined without it.
 use Rattle.std.specs.Prelude.{◌≡◌, ◌≢◌, ℕ, ◌==◌, ◌&&◌, nat_le, Bool, List, [], ◌∷◌, ℤ, pos, ◌+ℤ◌, All, if◌then◌else◌}
 use Rattle.std.specs.Map.{values_of}
 use Rattle.iv_text.specs.RecordValue.{RecordValue}
 use Rattle.iv_track.specs.Entries.{IsLedger, pair_cmp}
 use Rattle.iv_cover.specs.Depth.{depth}
 
--- a place: the rank of a sequence and a position on it, from 0
+-- a key: the rank of a sequence and a position on it, from 0
 abbrev pub ChangeKey : Type 0
 ChangeKey = ℕ × ℕ
 
--- places with a net change of depth at each
+-- keys with a net change of depth at each
 abbrev pub Entries : Type 0
 Entries = List (ChangeKey × ℤ)
 
--- the sum of the changes at the places that pass
+-- the sum of the changes at the keys that pass
 abbrev pub total : {K : Type 0} → (K → Bool) → List (K × ℤ) → ℤ
 total passes [] = pos 0
 total passes (e ∷ entries) = (if passes e.0 then e.1 else pos 0) +ℤ total passes entries
 
--- the place is on the sequence of this rank, at p or before
+-- the key is on the sequence of this rank, at p or before
 abbrev pub reaches : ℕ → ℕ → ChangeKey → Bool
 reaches rank p place = (place.0 == rank) && nat_le place.1 p
 
--- these are the net changes of the records' depth: places ascend, no change is 0, and up to each position they sum to its depth
+-- these are the net changes of the records' depth: keys ascend, no change is 0, and up to each position they sum to its depth
 pub record AreChangesOf (rows : List RecordValue) (entries : Entries) : Type 0 where
   pub ordered : IsLedger pair_cmp entries
   pub changes : All (λ z. z ≢ pos 0) (values_of entries)

@@ -60,9 +60,9 @@ fn shift<A: Allocator + Copy>(
     bump(changes, (row.seq(), row.stop() as u32), -by, meter)
 }
 
-/// Adds 1 or -1 to the change at a place. An entry that becomes 0 is taken out. At most 2 steps.
+/// Adds 1 or -1 to the change at a key. An entry that becomes 0 is taken out. At most 2 steps.
 ///
-/// Only a place without a change takes memory. After a refusal the changes are as before.
+/// Only a key without a change takes memory. After a refusal the changes are as before.
 fn bump<A: Allocator + Copy>(
     changes: &mut Changes<A>,
     place: (u32, u32),
@@ -74,7 +74,7 @@ fn bump<A: Allocator + Copy>(
     ensures ok { OnOk result (Bumps changes.old changes.new place by) }
     ensures steps { TakesUpTo meter.old meter.new 2 }
 {
-    // Most places are new, and then this one call is enough.
+    // Most keys are new, and then this one call is enough.
     let Some(before) = changes.put(place, by, meter)? else {
         return Ok(());
     };

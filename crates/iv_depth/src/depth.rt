@@ -1,4 +1,4 @@
-//! What is kept of rows of depth.
+//! Changes of depth: the state of a kept view.
 ghost use Rattle.std.specs.Prelude.{◌+◌, ◌*◌, All, length};
 ghost use Rattle.iv_bytes.specs.Sinks.{Puts};
 ghost use Rattle.iv_text.specs.Read.{Fits};
@@ -16,9 +16,9 @@ use iv_track::{Ledger, Meter, Track};
 use std::alloc::{AllocError, Allocator, Global};
 use std::marker::Model;
 
-/// The net changes of depth at each place where some record starts or stops.
+/// The net changes of depth at each position where some record starts or stops.
 ///
-/// A change of 0 is not kept. It is one ledger, and knows no length of a sequence.
+/// A change of 0 is left out. It is one ledger, and knows no length of a sequence.
 #[derive(Drop)]
 pub struct Depth<A: Allocator + Copy = Global> {
     changes: Changes<A>,
@@ -41,7 +41,7 @@ impl<A: Allocator + Copy> Kept<A> for Depth<A> {
 
     ghost repair_steps = { λ _ _ _. 8 };
 
-    /// One entry for each place where the depth changes, all put at once. It allocates only the ledger, and while it is built
+    /// One entry for each position where the depth changes, all inserted at once. It allocates only the ledger, and while it is built
     /// 16 bytes for each record: where it starts and where it stops.
     fn build(
         alloc: A,

@@ -1,4 +1,4 @@
-//! The rows of depth, and how they are put.
+//! The rows of depth, and how they are written.
 ghost use Rattle.std.specs.Prelude.{ℕ, ◌++◌, ◌+◌, ◌-◌, ◌<◌, length, codes, decimal, OnOk};
 ghost use Rattle.std.specs.List.{flat_map, range_with_len};
 ghost use Rattle.iv_bytes.specs.Sinks.{Puts};

@@ -1,4 +1,4 @@
-//! Rows of depth of the places of records.
+//! Rows of depth from the intervals of records.
 ghost use Rattle.std.specs.Prelude.{◌≡◌, ◌≤◌, All, IfOk, length};
 ghost use Rattle.iv_bytes.specs.Sinks.{Puts};
 ghost use Rattle.iv_text.specs.Ordered.{AreInOrder};
@@ -15,7 +15,7 @@ use iv_text::Genome;
 use std::alloc::{AllocError, Allocator, Global};
 use std::marker::Model;
 
-/// How many records cover each position: the places of the records, and room for one stop of each, 4 bytes.
+/// How many records cover each position: the intervals of the records, and room for one stop of each, 4 bytes.
 #[derive(Drop)]
 pub struct DepthSweep<'s, A: Allocator = Global> {
     spans: &'s [Span],
@@ -36,7 +36,7 @@ impl<'s, A: Allocator> Model for DepthSweep<'s, A> {
 }
 
 impl<'s, A: Allocator + Copy> DepthSweep<'s, A> {
-    /// A sweep over places. It takes all the memory that it needs: 4 bytes for each.
+    /// A sweep over intervals. It takes all the memory that it needs: 4 bytes for each.
     pub fn new(alloc: A, spans: &'s [Span]) -> Result<Self, AllocError>
         ensures { IfOk result (λ s. s ≡ span_rows spans.now) }
     {
@@ -47,7 +47,7 @@ impl<'s, A: Allocator + Copy> DepthSweep<'s, A> {
 
     /// Prints the rows that say how many records cover each position, sequence by sequence. It takes no memory.
     ///
-    /// The places are in the order of a track, and are on the genome. They are left as they are. On a fault the sink has taken a
+    /// The intervals are in the order of a track, and are on the genome. They are left as they are. On a fault the sink has taken a
     /// prefix of the text.
     pub fn print<S: Sink>(
         &mut self,
@@ -93,7 +93,7 @@ fn put_genome<A: Allocator + Copy, S: Sink>(
     Ok(())
 }
 
-/// Writes where the places stop, from the least to the greatest.
+/// Writes where the intervals stop, from the least to the greatest.
 fn write_stops(spans: &[Span], stops: &mut [u32])
     requires { length stops.old ≡ length spans.now }
     ensures stops { AreStopsOf spans.now stops.new }

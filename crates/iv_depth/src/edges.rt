@@ -52,7 +52,7 @@ fn next_edge(starts: &[Span], stops: &[u32]) -> Option<u32>
     }
 }
 
-/// What is at a position: a place is at its start, and a number where it is.
+/// An item that is at a position: an interval is at its start, and a number at itself.
 pub(crate) trait Positioned {
     ghost at: { Self → ℕ };
 

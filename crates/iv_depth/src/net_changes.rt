@@ -14,7 +14,7 @@ const POSITIONS: u64 = 1 << 32;
 
 /// Where the records of a track start and where they stop, as keys from the least to the greatest.
 ///
-/// Starts come in the track's order, which their sort only looks at, and stops mostly a few places from their own.
+/// Starts come in the track's order, so their sort only looks at them, and most stops come a few indexes from their own.
 pub(crate) fn edges_of<A: Allocator + Copy>(
     alloc: A,
     track: &Track<A>,
@@ -38,21 +38,21 @@ pub(crate) fn edges_of<A: Allocator + Copy>(
     Ok((starts, stops))
 }
 
-/// A place as one number: keys ascend as places do, and sort faster.
+/// A rank and a position as one number, a key: keys ascend as they do, and sort faster.
 fn packed(rank: u32, position: u32) -> u64
     ensures { result ≡ key_of rank position }
 {
     rank as u64 * POSITIONS + position as u64
 }
 
-/// The place of a key.
+/// The rank and the position of a key.
 fn unpacked(key: u64) -> (u32, u32)
     ensures { result ≡ place_of key }
 {
     ((key / POSITIONS) as u32, (key % POSITIONS) as u32)
 }
 
-/// An iterator over the net changes at keys of starts and stops, by place. None is 0.
+/// An iterator over the net changes at keys of starts and stops, in order. None is 0.
 ///
 /// Its model is the keys that are left.
 #[derive(Drop)]

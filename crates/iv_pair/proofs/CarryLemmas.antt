@@ -36,7 +36,7 @@ held-few [] = omega arith
 held-few (None ∷ xs) = let r : length (held xs) ≤ length xs = held-few xs in omega arith
 held-few (Some k ∷ xs) = let r : length (held xs) ≤ length xs = held-few xs in omega arith
 
--- ---- places
+-- ---- positions
 
 pub onward-trans : (a b c d e f : ℕ) → IsOnward a b c d → IsOnward c d e f → IsOnward a b e f
 onward-trans a b c d e f h k =
@@ -54,7 +54,7 @@ onward-trans a b c d e f h k =
 pub onward-itself : (a b : ℕ) → IsOnward a b a b
 onward-itself a b = (omega arith, λ e. omega arith)
 
--- what isn't past a place starts there or before it
+-- what isn't past a position starts there or before it
 pub begun-not_from : (seq start : ℕ) (b : RecordValue) → is_from seq (start + 1) b ≡ false → IsOnward b.seq b.start seq start
 begun-not_from seq start b not = (
   elim (cases_lt seq b.seq) [
@@ -73,7 +73,7 @@ covers-begun seq start b is =
     let here : b.seq ≡ seq = parts.0 in
     (omega arith, λ e. parts.1)
 
--- a record that starts at a place or before it, and that an interval from there on hits, has the position
+-- a record that starts at a position or before it, and that an interval from there on hits, has the position
 pub begun-covers : (seq start s t stop : ℕ) (b : RecordValue) → IsOnward b.seq b.start seq start → IsOnward seq start s t → overlaps s t stop b ≡ true → covers seq start b ≡ true
 begun-covers seq start s t stop b h k hit =
     let parts = overlaps_parts s t stop b hit in
@@ -94,7 +94,7 @@ cover-hit seq start stop b some is =
     let low : b.start ≤ start = parts.1 in
     overlaps_from seq start stop b parts.0 (omega arith) parts.2
 
--- ---- from a place to a later one
+-- ---- from a position to a later one
 
 pub all-begun : (a b seq start : ℕ) (xs : List RecordValue) → AllCover a b xs → IsOnward a b seq start → AllBegun seq start xs
 all-begun a b seq start xs cover on =
@@ -136,7 +136,7 @@ alike-passed seq start b xs bs old begun not h = λ s t stop on.
 
 -- ---- from the root
 
--- if no record is longer than n, the hits from a place on are among the records from its start less n on
+-- if no record is longer than n, the hits from a position on are among the records from its start less n on
 pub alike-anew : (rows : List RecordValue) (seq start from n : ℕ) → AreUpTo seq n rows → from ≤ start + 1 - n → HitAlike seq start (filter (is_from seq from) rows) rows
 alike-anew rows seq start from n up low = λ s t stop on.
     filter-implied (overlaps s t stop) (is_from seq from) rows (λ q m is.

@@ -51,7 +51,7 @@ count-hits a second some long = ap (λ (n : ℕ). n + count_by (ends_by a.seq a.
 
 -- ---- positions in order
 
--- the place t of sequence s is this place or after it
+-- the position t of sequence s is this position or after it
 abbrev IsOnward : ℕ → ℕ → ℕ → ℕ → Type 0
 IsOnward seq at s t = (seq ≤ s) × (seq ≡ s → at ≤ t)
 
@@ -76,9 +76,9 @@ begun-more seq at s t rows low same = count-implied (begins_before seq at) (begi
 pub ended-more : (seq at s t : ℕ) (rows : List RecordValue) → seq ≤ s → (seq ≡ s → at ≤ t) → count_by (ends_by seq at) rows ≤ count_by (ends_by s t) rows
 ended-more seq at s t rows low same = count-implied (ends_by seq at) (ends_by s t) rows (λ b e. up_to-later seq at s t b.seq b.stop (low, same) e)
 
--- ---- places as records
+-- ---- locators as records
 
--- the places are where the records are
+-- the locators have the intervals of the records
 abbrev LieAs : List Locator → List RecordValue → Type 0
 LieAs places rows = map span_in places ≡ map span_of rows
 
@@ -94,7 +94,7 @@ none-same b ys e = cc
 some-same : (a : Span) (xs : List Span) → a ∷ xs ≡ [] → ⊥
 some-same a xs e = cc
 
--- what holds of each place holds of each record, if it is said of where they are
+-- what holds of each locator holds of each record, if it depends only on the interval
 all-rows : (P : Span → Type 0) (places : List Locator) (rows : List RecordValue) → LieAs places rows → All (λ place. P (span_in place)) places → All (λ r. P (span_of r)) rows
 all-rows P [] [] e h = All-nil (λ r. P (span_of r))
 all-rows P [] (r ∷ rows) e h = absurd (none-same _ _ e)
@@ -113,7 +113,7 @@ all-places P (place ∷ places) (r ∷ rows) e h =
     (subst P (sym (head-same _ _ _ _ e)) (All-head (λ q. P (span_of q)) r rows h))
     (all-places P places rows (tail-same _ _ _ _ e) (All-tail (λ q. P (span_of q)) r rows h))
 
--- a test of where they are counts as many places as records
+-- a test of the interval counts as many locators as records
 count-places : (p : Span → Bool) (places : List Locator) (rows : List RecordValue) → LieAs places rows → count_by (λ place. p (span_in place)) places ≡ count_by (λ r. p (span_of r)) rows
 count-places p places rows e = sym (count-map span_in p places) ∙ ap (λ (l : List Span). count_by p l) e ∙ count-map span_of p rows
 
@@ -204,7 +204,7 @@ ended-later a rows second ends seq start n order are on from is =
 
 -- ---- a cursor over starts
 
--- no fewer places begin before a later position
+-- no fewer locators begin before a later position
 pub places-more : (seq at later : ℕ) (places : List Locator) → at ≤ later → count_by (place_before seq at) places ≤ count_by (place_before seq later) places
 places-more seq at later places le = count-implied (place_before seq at) (place_before seq later) places (λ place e. before-later seq at seq later place.span.seq place.span.start (omega arith, λ _. le) e)
 
@@ -215,7 +215,7 @@ passes-all n count most few all low = elim (cases_lt n most) [
   | inr past ↦ omega arith
 ]
 
--- ---- what two cursors say of a record
+-- ---- what follows from two cursors about a record
 
 pub hits-between : (a : RecordValue) (second : List RecordValue) (ends : List End) (places : List Locator) (seq start stop ended reached : ℕ) → AreEndsOf ends second → AreStartsOf places second
     → a.start < a.stop → seq ≡ a.seq → start ≡ a.start → stop ≡ a.stop → ended ≡ count_by (end_by seq start) ends → reached ≡ count_by (place_before seq stop) places

@@ -33,7 +33,7 @@ Puts-hits shown g a second old new result put which =
 -- ---- hit by hit, as an iterator gives them
 
 module _ {S T : Type 0} (steps : S → Option T → S → Type 0) (row_of : T → RecordValue) (a : RecordValue) (line : RecordValue → List ℕ) where
-  -- the lines of the hits before are put, and those of the hits that are left remain to be put
+  -- the lines of the hits before are put, and those of the hits that are left remain to be written
   pub record LinesLeft (s : S) (begun now : SinkState) (all : List ℕ) : Type 0 where
     pub found : List RecordValue
     pub given : AlwaysYields steps row_of s found

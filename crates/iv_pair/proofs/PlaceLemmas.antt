@@ -1,4 +1,4 @@
--- Orders of pairs of numbers, as numbers; and records from a place on.
+-- Orders of pairs of numbers, as numbers; and records from a position on.
 use Rattle.std.proofs.Common.{◌≡◌, ℕ, ◌<◌, ◌≤◌, ◌&&◌, Bool, true, false, List, ◌∷◌, refl, sym, ap, ◌∙◌, arith, inl, inr}
 use Rattle.std.specs.Prelude.{filter}
 use Rattle.std.specs.declared.cmp.Ordering.{Ordering}
@@ -46,7 +46,7 @@ pair_ge a c d h = go (nat_cmp a a) refl
     go Equal e = ge-cmp c d h
     go Greater e = let r : a < a = ranked a a Greater e in absurd (omega arith)
 
--- ---- records from a place on
+-- ---- records from a position on
 
 -- a test that implies another takes the same after it
 pub filter-implied : {X : Type 0} (p t : X → Bool) (xs : List X) → ((q : X) → Mem q xs → p q ≡ true → t q ≡ true) → filter p (filter t xs) ≡ filter p xs

@@ -112,7 +112,7 @@ none_before : (seq low to p : ℕ) (rows : List RecordValue) → HitsFrom seq lo
 none_before seq low to p [] h l = refl
 none_before seq low to p (b ∷ rows) h l = omega (arith, depth-cons b rows seq p, ap {B = ℕ} (λ c. cond c 1 0) (off_before seq p b (omega (arith, h.2))), none_before seq b.start to p rows h.3 (omega (arith, h.2)))
 
--- in the midst: from here on the depth is that of the hits that are left
+-- during the loop: from here on the depth is that of the hits that are left
 pub record Left (f : ℕ → ℕ) (seq from to : ℕ) (rows : List RecordValue) : Type 0 where
   pub low : ℕ
   pub found : HitsFrom seq low to rows

@@ -1,4 +1,4 @@
--- How many records begin before a position, and how many end up to it. Positions are in order by the rank of the sequence first.
+-- The two lists of a sweep that counts hits.
 use Rattle.std.specs.Prelude.{List}
 use Rattle.iv_text.specs.RecordValue.{RecordValue}
 

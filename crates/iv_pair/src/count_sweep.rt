@@ -15,7 +15,7 @@ use iv_text::{BedRecord, Genome};
 use std::alloc::{AllocError, Allocator, Global};
 use std::marker::Model;
 
-/// How many places are looked at one after another, before a search goes over those that are left.
+/// How many locators are looked at one after another, before a search goes over those that are left.
 const FEW: usize = 8;
 
 /// Two lists of records in order, and where those of the second end: 8 bytes for each of them.
@@ -94,7 +94,7 @@ struct End {
     stop: u32,
 }
 
-/// The ends of these places, in order: 8 bytes for each.
+/// The ends of these locators, in order: 8 bytes for each.
 fn ends_of<A: Allocator>(alloc: A, places: &[Locator]) -> Result<Vec<End, A>, AllocError>
     ensures moved { IfOk result (λ ends. IsPermutation (map end_of places.now) ends.items) }
     ensures ordered { IfOk result (λ ends. EndsAscend ends.items) }
@@ -133,7 +133,7 @@ fn is_by(end: &End, seq: u32, at: u64) -> bool
     end.seq < seq || end.seq == seq && u64::from(end.stop) <= at
 }
 
-/// How many places begin before a position, if it is known that so many do.
+/// How many locators begin before a position, if it is known that so many do.
 ///
 /// The next few are looked at one after another. If all of them begin before it, the others are searched.
 fn count_starts(places: &[Locator], from: usize, seq: u32, at: u64) -> usize
@@ -150,7 +150,7 @@ fn count_starts(places: &[Locator], from: usize, seq: u32, at: u64) -> usize
     passed + others.partition_point(|place| begins_before(place, seq, at))
 }
 
-/// Passes places that begin before a position, if it is known that so many do. It goes no further than to an index.
+/// Passes locators that begin before a position, if it is known that so many do. It goes no further than to an index.
 fn pass_starts(places: &[Locator], from: usize, until: usize, seq: u32, at: u64) -> usize
     requires ordered { StartsAscend places.now }
     requires from { from ≤ count_by (place_before seq at) places.now }
@@ -168,7 +168,7 @@ fn pass_starts(places: &[Locator], from: usize, until: usize, seq: u32, at: u64)
     passed
 }
 
-/// Whether a place begins before a position of a sequence.
+/// Whether a locator begins before a position of a sequence.
 fn begins_before(place: &Locator, seq: u32, at: u64) -> bool
     ensures { result ≡ is_before seq at place.now.span.seq place.now.span.start }
 {

@@ -19,10 +19,10 @@ const MOST_CARRIED: usize = 64;
 
 /// The hits of one interval after another.
 ///
-/// A search goes on from where the one before was, as long as intervals come in the order of a track. It carries the records
-/// that it has passed and that reach past the place where it is, as many as it has room for, and doesn't go on where it has
-/// none: so what is carried and what is ahead have all hits. If the next place is far ahead it begins at the root, from
-/// the longest length before that place.
+/// A search goes on from the position of the one before, as long as intervals come in the order of a track. It carries the
+/// records that it has passed and that reach past its position, as many as it has room for, and doesn't go on if it has none:
+/// so the records that it carries and those ahead have all hits. If the next position is far ahead, it begins at the root, from
+/// the longest length before that position.
 #[derive(Drop)]
 pub(crate) struct HitFinder<'a, A: Allocator + Copy> {
     second: &'a Second<A>,
@@ -83,7 +83,7 @@ impl<'a, A: Allocator + Copy> HitFinder<'a, A> {
         self.stop = stop;
     }
 
-    /// Goes to a place: on from where the search is, if that is near and not past it, and else from the root.
+    /// Goes to a position: on from where the search is, if that is near and not past it, and else from the root.
     fn go_to(&mut self, seq: u32, start: u64, meter: &mut Meter)
         requires { start < 2 ^ 64 - 1 }
         ensures same { self.new.records ≡ self.old.records }
@@ -131,7 +131,7 @@ impl<'a, A: Allocator + Copy> HitFinder<'a, A> {
     }
 }
 
-/// Whether a place `to` of the sequence of rank `to_seq` is the place `at` of sequence `seq` or after it.
+/// Whether the position `to` of the sequence of rank `to_seq` is the position `at` of sequence `seq` or after it.
 fn is_onward(seq: u32, at: u64, to_seq: u32, to: u64) -> bool
     ensures { result ≡ true → IsOnward seq at to_seq to }
 {
@@ -151,7 +151,7 @@ fn begins_from<A: Allocator + Copy>(
     }
 }
 
-/// Goes on over records that start at this place or before it, at most so many, and carries those that reach past it. It stops
+/// Goes on over records that start at this position or before it, at most so many, and carries those that reach past it. It stops
 /// at one of them if there is no room.
 fn take_begun<'a, A: Allocator + Copy>(
     carried: &mut Carried<'a, A>,
@@ -186,8 +186,8 @@ fn take_begun<'a, A: Allocator + Copy>(
     }
 }
 
-/// A few records of the second file, in its order, on the stack: those that a search has passed and that reach past the place
-/// where it is.
+/// A few records of the second file, in its order, on the stack: those that a search has passed and that reach past its
+/// position.
 ///
 /// Its model is their list.
 #[derive(Drop)]

@@ -40,7 +40,7 @@ impl<'a, A: Allocator + Copy> Model for Hits<'a, A> {
 }
 
 impl<'a, A: Allocator + Copy> Hits<'a, A> {
-    /// These, and after them those among the records of a walk.
+    /// The hits that are carried, and after them those among the records of a walk.
     pub(crate) fn of(
         carried: &'a [Option<&'a Record<A>>],
         rows: Rows<'a, A>,
@@ -67,7 +67,7 @@ impl<'a, A: Allocator + Copy> Hits<'a, A> {
     pub(crate) fn lemma_of_few(&self)
         ensures { length self.now < 2 ^ 33 }
     {
-        // What is read has its invariant.
+        // After this read the type's invariant is known.
         let _seq = self.seq;
     }
 }

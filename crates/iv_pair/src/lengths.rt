@@ -24,7 +24,7 @@ pub(crate) fn length_of<A: Allocator + Copy>(row: &Record<A>) -> (u32, u32)
     (row.seq(), (row.stop() - row.start()) as u32)
 }
 
-/// One record more of this length. At most 2 steps.
+/// Counts one record more of this length. At most 2 steps.
 ///
 /// # Errors
 ///
@@ -47,7 +47,7 @@ pub(crate) fn raise<A: Allocator + Copy>(
     Ok(())
 }
 
-/// One record less of this length, which some record has. At most 2 steps, and no memory.
+/// Counts one record less of this length, which some record has. At most 2 steps, and no memory.
 pub(crate) fn lower<A: Allocator + Copy>(
     lengths: &mut Lengths<A>,
     key: (u32, u32),

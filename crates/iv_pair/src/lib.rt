@@ -1,5 +1,5 @@
 //! The second file of a session, and the rows that are made with it: intersect and subtract. The FASTA file and the rows of
-//! `iv_fasta` are passed on.
+//! `iv_fasta` are re-exported.
 #![tactic(auto)]
 
 mod count_sweep;

@@ -95,7 +95,7 @@ impl<'t, A: Allocator + Copy> PairSweep<'t, A> {
     fn lemma_of_order(&self)
         ensures { AreInOrder self.now.second }
     {
-        // What is read has its invariant.
+        // After this read the type's invariant is known.
         let _seq = self.seq;
     }
 
@@ -159,7 +159,7 @@ impl<'a, 't> ActiveHits<'a, 't> {
     fn lemma_of_few(&self)
         ensures { length self.now < 2 ^ 64 }
     {
-        // What is read has its invariant.
+        // After this read the type's invariant is known.
         let _seq = self.seq;
     }
 }
@@ -218,7 +218,7 @@ fn take_begun<'t, A: Allocator>(
         }
         *rest = others;
         if reaches(row, &next) {
-            // There is room for it: `new` took as much as the second list is long.
+            // There is room for it: `new` allocated as much as the second list is long.
             let _ = active.push(next);
         }
     }

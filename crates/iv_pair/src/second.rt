@@ -199,7 +199,7 @@ impl<A: Allocator + Copy> Second<A> {
     }
 }
 
-/// A start that no record starts before which reaches past a position, if none has more than `longest` positions.
+/// A start before which no record starts that reaches past a position, if none has more than `longest` positions.
 ///
 /// It is one that a walk may begin at.
 pub(crate) fn first_start(position: u64, longest: u64) -> u64
@@ -217,8 +217,8 @@ pub(crate) fn first_start(position: u64, longest: u64) -> u64
 ///
 /// # Errors
 ///
-/// An allocation failed, which happens for a record without a copy alone. The track is unchanged. If it is the track that is
-/// refused, the length was counted before, and is counted no more, which takes no memory.
+/// An allocation failed, which happens for a record without a copy alone. The track is unchanged. If it is the track that
+/// has no memory, the length was counted before, and is no longer counted, which takes no memory.
 fn stage<A: Allocator + Copy>(
     track: &mut Track<A>,
     lengths: &mut Lengths<A>,
@@ -247,7 +247,7 @@ fn stage<A: Allocator + Copy>(
     }
 }
 
-/// Takes one copy of a record out, and counts its length no more. At most 5 steps, and no memory.
+/// Takes one copy of a record out, and no longer counts its length. At most 5 steps, and no memory.
 ///
 /// # Errors
 ///

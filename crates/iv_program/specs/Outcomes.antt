@@ -30,7 +30,7 @@ pub record RunsAll (plan : RunPlan) (texts : Texts) (before after : Streams) : T
   pub runs : Done LineRuns old new before reached most_lines most_line_bytes count 0
   pub flushed : Takes reached.output after.output []
 
--- this was done of a run of a plan
+-- all that a plan asks for was done with these texts
 abbrev pub DoesAllWith : Bool → RunPlan → Texts → Streams → Streams → Type 0
 DoesAllWith true plan texts before after = RunsAll plan texts before after
 DoesAllWith false plan texts before after = PrintsAll plan texts before after

@@ -20,7 +20,7 @@ use Rattle.iv_program.specs.Limits.{most_records, most_lines, most_line_bytes}
 use Rattle.iv_program.specs.Texts.{Texts, AreTexts, StopsAt}
 use Rattle.iv_cli.specs.declared.ending.Ending.TheVariants as ending
 
--- what a run speaks to: its files, its input, its output and its messages
+-- all that a run uses: its files, its input, its output and its messages
 pub record World : Type 0 where
   pub files : FilesState
   pub streams : Streams

@@ -164,7 +164,7 @@ impl<A: Allocator + Copy> FileTexts<A> {
     }
 }
 
-/// What the BED file of this name says.
+/// The BED file of this name.
 fn load_file<K: FromRecord<A>, A: Allocator + Copy, F: InputFiles>(
     files: &mut F,
     name: &[u8],
@@ -181,7 +181,7 @@ fn load_file<K: FromRecord<A>, A: Allocator + Copy, F: InputFiles>(
     read
 }
 
-/// What the BED file of this name says, which is in this slot of a plan.
+/// The BED file of this name, which is in this slot of a plan.
 fn load_named<K: FromRecord<A>, A: Allocator + Copy, F: InputFiles>(
     files: &mut F,
     slot: Slot,
@@ -224,7 +224,7 @@ fn read_second<K: FromRecord<A>, A: Allocator + Copy, F: InputFiles>(
     }
 }
 
-/// The files of a plan, once all are read: what the genome file and the BED files say, of which no text is kept, and the bytes of
+/// The files of a plan, once all are read: the genome file and the BED files, of which no text is held, and the bytes of
 /// the FASTA file.
 #[derive(Drop)]
 pub(crate) struct ReadFiles<K: FromRecord<A>, A: Allocator + Copy = Global> {

@@ -72,7 +72,7 @@ fn ending_of(done: Result<(), CliFault>) -> Ending
     }
 }
 
-/// Prints a view whose rows depend on nothing of a record but its place, of the files that were read.
+/// Prints a view whose rows depend on nothing of a record except its interval, of the files that were read.
 fn print_intervals<A: Allocator + Copy, W: Sink>(
     view: IntervalsView,
     read: ReadFiles<Span, A>,
@@ -153,7 +153,7 @@ pub fn tell<E: Sink>(ending: Ending, name: &[u8], messages: &mut E) -> u8
     ensures quiet { is_through ending ≡ true → messages.new ≡ messages.old }
     ensures status { result ≡ status_of ending }
 {
-    // If the messages take no more, the status alone tells.
+    // If the messages take no more, only the status reports it.
     let _ = ending.put_line(name, messages);
     ending.status()
 }
@@ -203,19 +203,19 @@ pub fn run_program<A: Allocator + Copy, F: InputFiles, R: Source, W: Flush, E: S
 }
 
 /// A run that gives the status 0 has done all that its arguments ask for: the output has taken the whole text of the notice or of the
-/// view, as the files' bytes say it, or every line of the script was run and none refused.
+/// view for the files' bytes, or every line of the script was run and none refused.
 pub fn done_is_all()
     ensures notice { (words : List (List ℕ)) (before after : World) (notice : Notice) (ended : Ended) → notice_of words ≡ Some notice → Runs words before after ended → status_of ended.ending ≡ 0 → Takes before.streams.output after.streams.output (notice_text notice) }
     ensures plan { (words : List (List ℕ)) (before after : World) (plan : RunPlan) (ended : Ended) → notice_of words ≡ None → IsPlan words plan → Runs words before after ended → status_of ended.ending ≡ 0 → DoesAll plan before after }
 {}
 
-/// At most one plan fits arguments: what they say decides all of it.
+/// Arguments have at most one plan: they decide all of it.
 pub fn one_plan_at_most()
     ensures { (words : List (List ℕ)) (one other : RunPlan) → IsPlan words one → IsPlan words other → one ≡ other }
 {}
 
 /// What a run of one subcommand prints, puts among the messages and gives as its status depends on its arguments and on the bytes of its
-/// files alone, if no device fails, no file is too long and memory suffices: it is what the view's definition says of these bytes.
+/// files alone, if no device fails, no file is too long and memory suffices: it is what the view's definition gives for these bytes.
 pub fn views_depend_on_bytes_alone()
     ensures { (words : List (List ℕ)) (before after : World) (plan : RunPlan) (texts : Texts) (ended : Ended) → notice_of words ≡ None → IsPlan words plan → is_session plan.run ≡ false
         → Hold before.files plan texts → Runs words before after ended → AreSound after → status_of ended.ending ≢ 5

@@ -1,4 +1,4 @@
--- The views whose rows depend on nothing of a record but its place.
+-- The views whose rows depend on nothing of a record except its interval.
 use Rattle.std.proofs.Common.{◌≡◌, ℕ, ◌++◌, ◌==◌, ◌&&◌, ◌||◌, Bool, true, false, not, cond, List, [], ◌∷◌, map, Option, Some, None, if◌then◌else◌, refl, sym, ap, ◌∙◌}
 use Rattle.std.specs.Prelude.{filter, max}
 use Rattle.std.specs.List.{cons_option, filter_map, flat_map, list_any, range_with_len}

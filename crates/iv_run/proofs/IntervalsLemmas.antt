@@ -1,4 +1,4 @@
--- A run whose rows depend on nothing of a record but its place.
+-- A run whose rows depend on nothing of a record except its interval.
 use Rattle.std.proofs.Common.{◌≡◌, ◌↔◌, ℕ, Bool, true, false, true≢false, not, ◌&&◌, List, Option, None, Some, Result, Ok, Err, IfSome, if◌then◌else◌, refl, sym, ap, ◌∙◌, subst}
 use Rattle.std.specs.Prelude.{nat_lt}
 use Rattle.std.specs.Bool.{then_some}
@@ -39,7 +39,7 @@ use Rattle.iv_run.proofs.ShotLemmas.{shows-text}
 
 -- ---- views
 
--- what holds of each view that a view of places can be holds of the one that it is
+-- what holds of each view that a view of intervals can be holds of the one that it is
 pub of-merge : (distance : ℕ) (P : KeptView → Type 0) → ((o : Options) → IsPlain distance o → P (kept.Merge o)) → (asked : KeptView) → IsViewOf (places.Merge distance) asked → P asked
 of-merge distance P each (kept.Merge options) is = each options is
 of-merge distance P each (kept.Cluster d) is = absurd is
@@ -58,13 +58,13 @@ of-genomecov rows P one (kept.Cluster d) is = absurd is
 of-genomecov rows P one (kept.Complement limited) is = absurd is
 of-genomecov rows P one (kept.Genomecov asked) is = subst (λ (d : DepthRows). P (kept.Genomecov d)) (sym is) one
 
--- nothing but the places of records counts
+-- nothing except the intervals of records counts
 needs-places : (v : IntervalsView) (asked : KeptView) → IsViewOf v asked → NeedsIntervalsAlone asked
 needs-places (places.Merge distance) = of-merge distance NeedsIntervalsAlone (λ o plain g rows. merge-bare distance o g rows plain)
 needs-places (places.Complement limited) = of-complement limited NeedsIntervalsAlone (λ g rows. complement-bare limited g rows)
 needs-places (places.Genomecov asked) = of-genomecov asked NeedsIntervalsAlone (λ g rows. genomecov-bare asked g rows)
 
--- a merge is a view of places if it is plain
+-- a merge is a view of intervals if it is plain
 module _ (b : Bool) (o : Options) (plain : (b ≡ true) ↔ IsPlain o.distance o) where
   pub merge-places : IfSome (then_some b (places.Merge o.distance)) (λ v. IsViewOf v (kept.Merge o))
   merge-places = by b plain.0
@@ -90,7 +90,7 @@ cluster-columns distance (places.Genomecov rows) is = is
 
 -- ---- the words of a view
 
--- a view of places is the same on fewer columns and without files
+-- a view of intervals is the same on fewer columns and without files
 narrowed-same : (width : ℕ) (b c : Bool) (v : IntervalsView) (asked : KeptView) → IsViewOf v asked → narrowed width b c (view.Kept asked) ≡ Ok (view.Kept asked)
 narrowed-same width b c (places.Merge distance) = of-merge distance (λ (k : KeptView). narrowed width b c (view.Kept k) ≡ Ok (view.Kept k))
     (λ o plain i. as_merge (if not (has_columns width (plain.nothing i)) then Err refused.Column else if plain.together i && nat_lt width 6 then Err refused.NoStrand else Ok o))
@@ -112,7 +112,7 @@ fasta-never true u rows asked is = cc
 fasta-never false true rows asked is = cc
 fasta-never false false rows asked is = cc
 
--- a view of which a state is kept is what it was on six columns and beside both files
+-- a kept view is what it was on six columns and beside both files
 narrowed-kept : (width : ℕ) (b c : Bool) (v : View) (asked : KeptView) → narrowed width b c v ≡ Ok (view.Kept asked) → v ≡ view.Kept asked
 narrowed-kept width b c (view.Kept (kept.Merge o)) asked is = merge-kept (not (has_columns width (listed o.summaries))) (o.stranded && nat_lt width 6) o asked is
 narrowed-kept width b c (view.Kept (kept.Cluster distance)) asked is = cc
@@ -122,7 +122,7 @@ narrowed-kept width b c (view.Written (written.Paired rows)) asked is = absurd (
 narrowed-kept width b c (view.Written (written.Getfasta rows)) asked is = absurd (fasta-never (rows.stranded && nat_lt width 6) c rows asked is)
 
 module _ (words : List (List ℕ)) where
-  -- if no view of places is asked for on six columns, none is on fewer
+  -- if no view of intervals is asked for on six columns, none is on fewer
   asks-none : ((k : KeptView) → read_words 6 true true words ≡ Ok (view.Kept k) → NeedsColumns k) → AskForColumns words
   asks-none none asked width b c is = by (read_words 6 true true words) refl
     where
@@ -133,11 +133,11 @@ module _ (words : List (List ℕ)) where
       by (Ok v) e = none asked (e ∙ ap Ok (narrowed-kept width b c v asked (view-narrowed width b c words v e ∙ is)))
       by (Err why) e = never why (sym (fault-narrowed width b c words why e) ∙ is)
 
-  -- a view of which no state is kept, or a fault
+  -- a written view, or a fault
   pub asks-other : (r : Result View Fault) → read_words 6 true true words ≡ r → ((k : KeptView) → r ≡ Ok (view.Kept k) → ⊥) → AskForColumns words
   asks-other r is other = asks-none (λ k e. absurd (other k (sym is ∙ e)))
 
-  -- a view of which a state is kept
+  -- a kept view
   module _ (asked : KeptView) (is : read_words 6 true true words ≡ Ok (view.Kept asked)) where
     pub asks-places : (o : Option IntervalsView) → IfSome o (λ v. IsViewOf v asked) → IfSome o (λ v. AskForIntervals words v)
     asks-places None some = tt
@@ -152,7 +152,7 @@ module _ (words : List (List ℕ)) where
 
 -- ---- what is shown
 
--- the text of the view is printed of the places, and so of the records
+-- the text of the view is printed from the intervals, and so from the records
 pub shows-places : (plan : RunPlan) (sizes text : List ℕ) (other bases : Option (List ℕ)) (limit : ℕ) (files : Parsed)
     → ReportsProjected bare (Ok files) (parsed plan.width sizes text other bases limit)
     → (v : IntervalsView) (ask : AskForIntervals plan.view v) (old new : SinkState) (result : Result (Unit {0}) CliFault)

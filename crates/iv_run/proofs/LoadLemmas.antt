@@ -34,7 +34,7 @@ reported cause.WrongLength damaged = inr refl
 reported (cause.Record f) damaged = inr refl
 reported cause.TooMany damaged = inr refl
 
--- why a file's fault is reported: out of memory, or what the file's text says
+-- why a file's fault is reported: out of memory, or the fault of the file's text
 abbrev pub IsWhy : {T : Type 0} → LoadFault → Result T LoadFault → Type 0
 IsWhy f said = (f ≡ record { line = 0; cause = cause.Memory }) ⊎ (said ≡ Err f)
 
@@ -50,7 +50,7 @@ reported-by slot f P leads (inr is) = elim (reported f.cause (Damaged slot f)) [
 -- ---- the first damaged file
 
 module _ (width : ℕ) (sizes text : List ℕ) (limit : ℕ) where
-  -- whatever the other files say, this is the first fault
+  -- whatever the other files are, this is the first fault
   abbrev IsFault : CliFault → Type 0
   IsFault k = (other bases : Option (List ℕ)) → parsed width sizes text other bases limit ≡ Err k
 
@@ -84,7 +84,7 @@ module _ (width : ℕ) (sizes text : List ℕ) (limit : ℕ) where
         pub bases-damaged : (f : LoadFault) → IsWhy f (bases_said g bases) → (damage_of Bases f ≡ Memory) ⊎ IsLastFault (damage_of Bases f)
         bases-damaged f why = reported-by Bases f IsLastFault (λ is. past-second ∙ ap (with_bases g bed second limit) is) why
 
--- ---- files of which the records are kept
+-- ---- files of which the records are held
 
 kept-sound : (kept : RecordValue → RecordValue) (r : Result Bed LoadFault) (file : Bed) → projected_or_fault kept r ≡ Ok file → (bed : Bed) × (r ≡ Ok bed) × (file ≡ projected_bed kept bed)
 kept-sound kept (Ok bed) file is = let same : projected_bed kept bed ≡ file = cc in (bed, refl, sym same)

@@ -42,7 +42,7 @@ module _ (kept : RecordValue → RecordValue) (g : Sequences) (limit : ℕ) wher
     says-still f (inl memory) = inl memory
     says-still f (inr refused) = inr (λ more. joined more ∙ refused (piece ++ more))
 
-  -- what is kept is sound
+  -- what is held is sound
   pub says-sound : (front : List ℕ) (r : Result Reading LoadFault) → SaysSoFar kept g limit front r → IfOk r (λ d. AreSound kept g limit d.read)
   says-sound front (Ok r) says = says.0
   says-sound front (Err f) says = tt

@@ -1,4 +1,4 @@
--- What became of reading a whole file.
+-- The outcome of reading a whole file.
 use Rattle.std.specs.Prelude.{◌≡◌, ℕ, ◌≤◌, ◌<◌, List, true, length}
 use Rattle.std.specs.Io.KnownBytes.{Consumes, IsAtEnd}
 use Rattle.iv_bytes.specs.Sources.{SourceState, IsInput}
@@ -12,7 +12,7 @@ pub record ReadsWhole (old new : SourceState) (limit : ℕ) (bytes : List ℕ) :
   pub ended : IsAtEnd new.coming
   pub failed : new.failed ≡ old.failed
 
--- what each fault says of the source and of the number of bytes that it has given
+-- what each fault means for the source and for the number of bytes that it has given
 abbrev pub IsFaultOf : FileFault → SourceState → SourceState → ℕ → ℕ → Type 0
 IsFaultOf Input old new limit count = (new.failed ≡ true) × (count ≤ limit)
 IsFaultOf TooLong old new limit count = (new.failed ≡ old.failed) × (limit < count)

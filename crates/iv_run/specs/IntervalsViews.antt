@@ -1,4 +1,4 @@
--- Views whose rows depend on nothing of a record but its place.
+-- Views whose rows depend on nothing of a record except its interval.
 use Rattle.std.specs.Prelude.{◌≡◌, ℕ, Bool, List, Ok}
 use Rattle.iv_blocks.specs.PlainOptions.{IsPlain}
 use Rattle.iv_view.specs.Views.{read_words}
@@ -15,7 +15,7 @@ IsViewOf (places.Complement limited) (kept.Complement asked) = asked ≡ limited
 IsViewOf (places.Genomecov shown) (kept.Genomecov asked) = asked ≡ shown
 IsViewOf _ _ = ⊥
 
--- these words ask for this view of places, at each width and beside any files
+-- these words ask for this view of intervals, at each width and beside any files
 pub record AskForIntervals (words : List (List ℕ)) (shown : IntervalsView) : Type 0 where
   pub asked : KeptView
   pub is_view : IsViewOf shown asked

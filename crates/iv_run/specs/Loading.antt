@@ -1,4 +1,4 @@
--- What the files of a run say.
+-- The values of the files of a run, or their first fault.
 use Rattle.std.specs.Prelude.{◌≡◌, ◌⊎◌, ℕ, List, Option, Result, Ok, Err}
 use Rattle.std.specs.Option.{option_map, option_transpose}
 use Rattle.iv_text.specs.Genome.{Sequences}
@@ -24,12 +24,12 @@ fault_of other damaged = damaged
 abbrev pub damage_of : Slot → LoadFault → CliFault
 damage_of slot f = fault_of f.cause (Damaged slot f)
 
--- a call answers with what a file says, or with the file's first fault, or out of memory
+-- a call answers with the value of a file, or with the file's first fault, or out of memory
 abbrev pub IsAnswer : {T : Type 0} → Result T LoadFault → Result T LoadFault → Type 0
 IsAnswer (Ok value) said = said ≡ Ok value
 IsAnswer (Err f) said = (f ≡ record { line = 0; cause = cause.Memory }) ⊎ (said ≡ Err f)
 
--- a call reports what files say, or the fault of the first damaged one, or out of memory
+-- a call answers with the value of files, or reports the fault of the first damaged one, or out of memory
 abbrev pub IsReport : {T : Type 0} → Result T CliFault → Result T CliFault → Type 0
 IsReport (Ok value) said = said ≡ Ok value
 IsReport (Err fault) said = (fault ≡ Memory) ⊎ (said ≡ Err fault)
@@ -39,7 +39,7 @@ abbrev pub fault_of_words : Fault → CliFault
 fault_of_words refused.NoMemory = Memory
 fault_of_words why = Words (code_of why)
 
--- what the files of a run say, and how many records each track of them may hold
+-- the files of a run, and how many records each track of them may hold
 pub record Parsed : Type 0 where
   pub genome : Sequences
   pub first : Bed
@@ -47,11 +47,11 @@ pub record Parsed : Type 0 where
   pub bases : Option fasta.Bases
   pub limit : ℕ
 
--- what a BED file that may be left out says
+-- a BED file that may be left out, or its first fault
 abbrev pub second_of : Sequences → ℕ → ℕ → Option (List ℕ) → Result (Option Bed) LoadFault
 second_of g width limit text = option_transpose (option_map (bed_of g width limit) text)
 
--- what a FASTA file that may be left out says
+-- a FASTA file that may be left out, or its first fault
 abbrev pub bases_said : Sequences → Option (List ℕ) → Result (Option fasta.Bases) LoadFault
 bases_said g text = option_transpose (option_map (fasta.fasta_of g) text)
 
@@ -75,7 +75,7 @@ abbrev pub with_genome : ℕ → List ℕ → Option (List ℕ) → Option (List
 with_genome width first other bases limit (Err f) = Err (Damaged Sizes f)
 with_genome width first other bases limit (Ok g) = with_first g width other bases limit (bed_of g width limit first)
 
--- what the bytes of the genome file, of the first file, and of the second and the FASTA file, if there are any, say: a
+-- the files of these bytes: the genome file, the first file, and the second and the FASTA file, if there are any. A
 -- BED file without a record has this width, and a track holds at most as many records as the limit; or the fault of the first
 -- damaged file
 abbrev pub parsed : ℕ → List ℕ → List ℕ → Option (List ℕ) → Option (List ℕ) → ℕ → Result Parsed CliFault

@@ -1,4 +1,4 @@
--- What is known of the files of a run while they are read. No part of what is promised.
+-- What is known of the files of a run while they are read.
 use Rattle.std.specs.Prelude.{◌≡◌, ◌⊎◌, ℕ, ◌≤◌, List, Option, None, Some, All, length, Result, Ok, Err}
 use Rattle.std.specs.Option.{option_map}
 use Rattle.iv_text.specs.BedFile.{Bed, bed_of}
@@ -13,7 +13,7 @@ use Rattle.iv_run.specs.declared.fault.CliFault.{CliFault}
 use Rattle.iv_run.specs.declared.fault.CliFault.TheVariants.{Memory}
 
 -- the genome on which BED files are read; the report of the first damaged file; which width a BED file without a record has, and how
--- many records each may have; and the BED files that were read, with their records as they are kept
+-- many records each may have; and the BED files that were read, with their records projected
 pub record SoFar : Type 0 where
   pub genome : Sequences
   pub damage : Option CliFault
@@ -22,7 +22,7 @@ pub record SoFar : Type 0 where
   pub first : Bed
   pub second : Option Bed
 
--- these are kept of records of the file's width on the genome, and they are not more than the limit
+-- the records are projections of records of the file's width on the genome, and they are not more than the limit
 pub record AreProjected (kept : RecordValue → RecordValue) (g : Sequences) (limit : ℕ) (file : Bed) : Type 0 where
   pub kept_all : All (IsProjected kept g file.width) file.rows
   pub few : length file.rows ≤ limit
@@ -36,8 +36,8 @@ abbrev pub noted : Option CliFault → CliFault → Option CliFault
 noted None fault = Some fault
 noted (Some before) fault = Some before
 
--- a call answers with what a BED file of these bytes says beside what is known, its records as they are kept; or with its first fault,
--- or out of memory
+-- a call answers with the BED file of these bytes, given what is known, with its records projected; or with its first fault, or out of
+-- memory
 abbrev pub IsSaid : (RecordValue → RecordValue) → SoFar → List ℕ → Result Bed LoadFault → Type 0
 IsSaid kept known text said = IsAnswer said (projected_bed_of kept known.genome known.width known.limit text)
 
@@ -51,13 +51,13 @@ abbrev pub taken_second : SoFar → Result Bed LoadFault → SoFar
 taken_second known (Ok file) = record known { second = Some file }
 taken_second known (Err f) = record known { damage = noted known.damage (damage_of Other f) }
 
--- the genome file of these bytes is sound; or this is the report of all files, whatever the others say
+-- the genome file of these bytes is sound; or this is the report of all files, whatever the others are
 abbrev pub SaysSizesBy : List ℕ → SoFar → Option CliFault → Type 0
 SaysSizesBy sizes known None = genome_of sizes ≡ Ok known.genome
 SaysSizesBy sizes known (Some k) =
     (k ≡ Memory) ⊎ ((text : List ℕ) (other bases : Option (List ℕ)) → parsed known.width sizes text other bases known.limit ≡ Err k)
 
--- what is known is what the genome file of these bytes says
+-- what is known is the value of the genome file of these bytes
 abbrev pub SaysSizes : List ℕ → SoFar → Type 0
 SaysSizes sizes known = SaysSizesBy sizes known known.damage
 
@@ -75,21 +75,21 @@ pub record AreBoth (kept : RecordValue → RecordValue) (sizes text : List ℕ) 
   pub beside_is : second_of known.genome known.width known.limit other ≡ Ok beside
   pub kept_is : known.second ≡ option_map (projected_bed kept) beside
 
--- the files of these bytes are sound; or this is the report of all files, whatever the FASTA file says
+-- the files of these bytes are sound; or this is the report of all files, whatever the FASTA file is
 abbrev pub SaysSecondBy : (RecordValue → RecordValue) → List ℕ → List ℕ → Option (List ℕ) → SoFar → Option CliFault → Type 0
 SaysSecondBy kept sizes text other known None = AreBoth kept sizes text other known
 SaysSecondBy kept sizes text other known (Some k) =
     (k ≡ Memory) ⊎ ((bases : Option (List ℕ)) → parsed known.width sizes text other bases known.limit ≡ Err k)
 
--- what is known is what the genome file and the BED files of these bytes say
+-- what is known is the value of the genome file and the BED files of these bytes
 abbrev pub SaysSecond : (RecordValue → RecordValue) → List ℕ → List ℕ → Option (List ℕ) → SoFar → Type 0
 SaysSecond kept sizes text other known = SaysSecondBy kept sizes text other known known.damage
 
--- files with their records as they are kept
+-- files with their records projected
 abbrev pub kept_files : (RecordValue → RecordValue) → Parsed → Parsed
 kept_files kept files = record files { first = projected_bed kept files.first; second = option_map (projected_bed kept) files.second }
 
--- a call answers with what files say, their records as they are kept; or it reports the fault of the first damaged one, or out of memory
+-- a call answers with files, with their records projected; or it reports the fault of the first damaged one, or out of memory
 abbrev pub ReportsProjected : (RecordValue → RecordValue) → Result Parsed CliFault → Result Parsed CliFault → Type 0
 ReportsProjected kept (Ok files) said = (whole : Parsed) × (said ≡ Ok whole) × (files ≡ kept_files kept whole)
 ReportsProjected kept (Err k) said = (k ≡ Memory) ⊎ (said ≡ Err k)

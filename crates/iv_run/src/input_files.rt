@@ -1,4 +1,4 @@
-//! Files that are read from a source to their ends: all their bytes, or what is kept of the records of a BED file.
+//! Files that are read from a source to their ends: all their bytes, or what is held of the records of a BED file.
 ghost use Rattle.std.specs.Prelude.{◌≡◌, ◌↔◌, ◌<◌, ◌+◌, ◌^◌, ◌++◌, ◌≤◌, ◌⊎◌, ℕ, List, [], false, length, map, Ok, Err, Some, Result, IfOk, IfErr, OnOk};
 ghost use Rattle.std.specs.Option.{option_map};
 ghost use Rattle.iv_bytes.specs.Sources.{SourceState};
@@ -63,12 +63,12 @@ pub fn read_all<A: Allocator + Copy, R: Source>(
     }
 }
 
-/// A file whose read ended neither by a read fault nor out of memory is called too long exactly if it has more bytes than the limit.
+/// A file whose read ended neither by a read fault nor out of memory is reported as too long exactly if it has more bytes than the limit.
 pub fn too_long_above_the_limit()
     ensures { (old new : SourceState) (limit : ℕ) (text : List ℕ) (ended : Result (List ℕ) FileFault) → old.coming ≡ Some text → EndsReading old new limit ended → new.failed ≡ false → HadMemory ended → IsTooLong ended ↔ (limit < length text) }
 {}
 
-/// What is kept of the records of a BED file, and how many columns each of them has.
+/// What is held of the records of a BED file, and how many columns each of them has.
 #[derive(Drop)]
 pub struct ParsedFile<K: FromRecord<A>, A: Allocator + Copy = Global> {
     width: u8,
@@ -101,7 +101,7 @@ impl<K: FromRecord<A>, A: Allocator + Copy> ParsedFile<K, A> {
 }
 
 impl<A: Allocator + Copy> ParsedFile<Record<A>, A> {
-    /// The file with its records, of which all is kept.
+    /// The file with its records, of which all is held.
     pub fn into_bed(self) -> BedBatches<A>
         ensures { result ≡ self }
     {
@@ -111,7 +111,7 @@ impl<A: Allocator + Copy> ParsedFile<Record<A>, A> {
 }
 
 impl<A: Allocator + Copy> ParsedFile<Span, A> {
-    /// The places of the file's records.
+    /// The intervals of the file's records.
     ///
     /// # Errors
     ///
@@ -139,7 +139,7 @@ fn take_next<K: FromRecord<A>, A: Allocator + Copy>(
     Ok(draft)
 }
 
-/// What is kept of a whole file, or its fault, once all bytes have come. Without a record it has the width that is handed in.
+/// What is held of a whole file, or its fault, once all bytes have come. Without a record it has the width that is handed in.
 fn finish<K: FromRecord<A>, A: Allocator + Copy>(
     so_far: Result<BedReader<K, A>, LoadFault>,
     genome: &Genome<A>,
@@ -156,7 +156,7 @@ fn finish<K: FromRecord<A>, A: Allocator + Copy>(
     Ok(ParsedFile { width, kept })
 }
 
-/// What a BED file says on this genome, given all its bytes. It may have at most `limit` records.
+/// A BED file on this genome, given all its bytes. It may have at most `limit` records.
 pub(crate) fn parse_bed<K: FromRecord<A>, A: Allocator + Copy>(
     alloc: A,
     genome: &Genome<A>,
@@ -172,7 +172,7 @@ pub(crate) fn parse_bed<K: FromRecord<A>, A: Allocator + Copy>(
     finish(said, genome, empty_width, limit)
 }
 
-/// What a BED file says on this genome, read from a source to its end, at most `most` bytes. It may have at most `limit` records.
+/// A BED file on this genome, read from a source to its end, at most `most` bytes. It may have at most `limit` records.
 ///
 /// After a fault of the file no more of it is looked at, but it is read to its end.
 pub(crate) fn read_bed<K: FromRecord<A>, A: Allocator + Copy, R: Source>(
@@ -205,7 +205,7 @@ pub(crate) fn read_bed<K: FromRecord<A>, A: Allocator + Copy, R: Source>(
     }
 }
 
-/// What a file says, or its fault with the file that it is of.
+/// The value of a file, or its fault, with the slot of the file.
 pub(crate) fn in_slot<T: Drop>(slot: Slot, said: Result<T, LoadFault>) -> Result<T, CliFault>
     ensures ok { IfOk result (λ value. said ≡ Ok value) }
     ensures err { IfErr result (λ fault. (why : LoadFault) × (said ≡ Err why) × (fault ≡ damage_of slot why)) }
@@ -216,7 +216,7 @@ pub(crate) fn in_slot<T: Drop>(slot: Slot, said: Result<T, LoadFault>) -> Result
     }
 }
 
-/// What the FASTA file says, if there is one, or its first fault.
+/// The FASTA file, if there is one, or its first fault.
 pub(crate) fn parse_fasta<A: Allocator + Copy>(
     alloc: A,
     genome: &Genome<A>,

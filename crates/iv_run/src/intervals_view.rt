@@ -48,7 +48,7 @@ impl IntervalsView {
         }
     }
 
-    /// A view of which a state is kept, if it is such a one.
+    /// The view for a kept view, if it is such a one.
     fn of_view(view: &KeptView) -> Option<IntervalsView>
         ensures some { IfSome result (λ shown. IsViewOf shown view.now) }
         ensures none { result ≡ None → NeedsColumns view.now }
@@ -115,7 +115,7 @@ impl IntervalsView {
     }
 }
 
-/// Sorts the places of the first file, and prints a view of them.
+/// Sorts the intervals of the first file, and prints a view of them.
 fn print_files<A: Allocator + Copy, S: Sink>(
     view: IntervalsView,
     files: LoadedFiles<Span, A>,

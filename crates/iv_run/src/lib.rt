@@ -1,4 +1,4 @@
-//! From the files of a run to what they say, or to the rows of one view.
+//! From the files of a run to their records and bases, or to the rows of one view.
 #![tactic(auto)]
 
 mod fault;

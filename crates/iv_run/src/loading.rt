@@ -26,11 +26,11 @@ pub struct Inputs<'a> {
     pub other: Option<&'a [u8]>,
 }
 
-/// The files of a run while they are read: what they say so far, or the fault of the first damaged one. Of each record of a BED
-/// file is kept what `K` says: all of it ([`Record`](iv_text::Record)), or its place ([`Span`](iv_index::Span)).
+/// The files of a run while they are read: their values so far, or the fault of the first damaged one. Each record of a BED file is
+/// held as a `K`: all of it ([`Record`](iv_text::Record)), or its interval ([`Span`](iv_index::Span)).
 ///
 /// The genome file comes first, then the first file, the second, if there is one, and the FASTA file. A file that can't be
-/// read is reported before a damaged one, so each is read to its end, whatever the others said: if the genome file is damaged,
+/// read is reported before a damaged one, so each is read to its end, whatever the others are: if the genome file is damaged,
 /// the BED files are read on a genome of no sequence.
 #[derive(Drop)]
 pub struct Loading<K: FromRecord<A>, A: Allocator + Copy = Global> {
@@ -54,7 +54,7 @@ impl<K: FromRecord<A>, A: Allocator + Copy> Model for Loading<K, A> {
     ghost invariant = { λ l. (3 ≤ l.empty_width) × (l.empty_width ≤ 6) × AreProjected K.projected l.genome l.limit l.first × IfSome l.second (AreProjected K.projected l.genome l.limit) };
 }
 
-/// What all files of a run say, of each record what is kept of it.
+/// All files of a run, with what is held of each record.
 #[derive(Drop)]
 pub struct LoadedFiles<K: FromRecord<A>, A: Allocator + Copy = Global> {
     pub alloc: A,
@@ -100,7 +100,7 @@ impl<K: FromRecord<A>, A: Allocator + Copy> Loading<K, A> {
         }
     }
 
-    /// Begins with the bytes of a genome file. A BED file of the run without a record has the width that the plan says, and each may
+    /// Begins with the bytes of a genome file. A BED file of the run without a record has the width that the plan gives, and each may
     /// have at most `limit` records.
     pub fn begin(alloc: A, plan: &Plan<'_, A>, sizes: &[u8], limit: u32) -> Self
         ensures says { SaysSizes sizes.now result }
@@ -124,7 +124,7 @@ impl<K: FromRecord<A>, A: Allocator + Copy> Loading<K, A> {
         }
     }
 
-    /// What a BED file says, given all its bytes.
+    /// A BED file, given all its bytes.
     fn parse(&self, text: &[u8]) -> Result<ParsedFile<K, A>, LoadFault>
         ensures says { IsSaid K.projected self.now text.now result }
         ensures kept { IfOk result (AreProjected K.projected self.now.genome self.now.limit) }
@@ -132,11 +132,11 @@ impl<K: FromRecord<A>, A: Allocator + Copy> Loading<K, A> {
         parse_bed(self.alloc, &self.genome, self.empty_width, self.limit, text)
     }
 
-    /// What a BED file says, read from a source to its end, at most `most` bytes.
+    /// A BED file, read from a source to its end, at most `most` bytes.
     ///
     /// # Errors
     ///
-    /// A fault of the source. That the file is damaged is no error here, but what it says.
+    /// A fault of the source. That the file is damaged is no error here, but a part of the answer.
     pub fn read<R: Source>(
         &self,
         source: &mut R,
@@ -157,7 +157,7 @@ impl<K: FromRecord<A>, A: Allocator + Copy> Loading<K, A> {
         )
     }
 
-    /// Takes what the first file says. If it is damaged, [`Loading::finish`] reports it.
+    /// Takes the first file. If it is damaged, [`Loading::finish`] reports it.
     pub fn take_first(&mut self, said: Result<ParsedFile<K, A>, LoadFault>)
         requires { IfOk said (AreProjected K.projected self.old.genome self.old.limit) }
         ensures taken { self.new ≡ taken_first self.old said }
@@ -170,7 +170,7 @@ impl<K: FromRecord<A>, A: Allocator + Copy> Loading<K, A> {
         }
     }
 
-    /// Takes what the second file says, as [`Loading::take_first`] does of the first one.
+    /// Takes the second file, as [`Loading::take_first`] takes the first one.
     pub fn take_second(&mut self, said: Result<ParsedFile<K, A>, LoadFault>)
         requires { IfOk said (AreProjected K.projected self.old.genome self.old.limit) }
         ensures taken { self.new ≡ taken_second self.old said }
@@ -198,7 +198,7 @@ impl<K: FromRecord<A>, A: Allocator + Copy> Loading<K, A> {
         loading
     }
 
-    /// What all files say, once the BED files are read, or the fault of the first damaged one. `bases` are the bytes of the FASTA
+    /// All files, once the BED files are read, or the fault of the first damaged one. `bases` are the bytes of the FASTA
     /// file, if there is one. They are taken: the bases stay in their memory.
     pub fn finish(self, bases: Option<Vec<u8, A>>) -> Result<LoadedFiles<K, A>, CliFault>
         ensures says { (sizes text : List ℕ) (other : Option (List ℕ)) → SaysSecond K.projected sizes text other self

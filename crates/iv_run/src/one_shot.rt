@@ -33,8 +33,8 @@ use iv_view::{Beside, KeptView, View, ViewFault, WrittenView};
 use std::alloc::{AllocError, Allocator, Global};
 use std::marker::Model;
 
-/// A genome, the records of one BED file or two, and the bases of a FASTA file or none, as the files say them. The records of
-/// the first are on the genome.
+/// A genome, the records of one BED file or two, and the bases of a FASTA file or none. The records of the first
+/// file are on the genome.
 #[derive(Drop)]
 struct TextFiles<'t, A: Allocator + Copy = Global> {
     genome: Genome<A>,
@@ -56,7 +56,7 @@ impl<'t, A: Allocator + Copy> Model for TextFiles<'t, A> {
     ghost invariant = { λ files. All (IsOnGenome files.genome) files.first.rows };
 }
 
-/// What the second file says, if there is one, or its first fault.
+/// The second file, if there is one, or its first fault.
 fn parse_second<'t, A: Allocator + Copy>(
     alloc: A,
     genome: &Genome<A>,
@@ -77,7 +77,7 @@ fn parse_second<'t, A: Allocator + Copy>(
 }
 
 impl<'t, A: Allocator + Copy> TextFiles<'t, A> {
-    /// What the files say, or the fault of the first damaged one, in the order genome file, first file, second file,
+    /// The files, or the fault of the first damaged one, in the order genome file, first file, second file,
     /// FASTA file.
     fn read(
         alloc: A,
@@ -231,7 +231,7 @@ fn sweep<'t, A: Allocator + Copy, S: Sink>(
 }
 
 /// Sorts the records of a second file in the order of a track, for one print of these rows. If the rows depend only on the
-/// positions that it covers, its records are joined, so that few are gone over however many there are at one place.
+/// positions that it covers, its records are joined, so that few are gone over however many there are at one position.
 fn sort_beside<'t, A: Allocator + Copy>(
     alloc: A,
     rows: PairRows,
@@ -333,7 +333,7 @@ pub fn print_columns<A: Allocator + Copy, S: Sink>(
 /// Prints what the plan's subcommand shows of the files, given their bytes: all of it, and nothing else.
 ///
 /// Each BED file has fewer than 2^32 bytes. `bases` are the bytes of the FASTA file, if the plan names one; they are taken.
-/// Every byte of memory is had before the first byte is printed.
+/// All memory is allocated before the first byte is printed.
 ///
 /// # Errors
 ///

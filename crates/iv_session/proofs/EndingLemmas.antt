@@ -1,4 +1,4 @@
--- What the end of a run says of the limits.
+-- What follows from the end of a run about the limits.
 use Rattle.std.proofs.Common.{◌≡◌, ◌≢◌, ℕ, ◌+◌, ◌≤◌, ◌<◌, ◌++◌, ◌⊎◌, inl, inr, List, length, Option, Some, None, Result, Ok, Err, IfSome, ◌↔◌, refl, sym, ap, ◌∙◌, subst, arith, true≢false}
 use Rattle.iv_bytes.specs.Sources.{SourceState, IsInput}
 use Rattle.iv_session.specs.Endings.{Ran, AreSound, HadMemory, IsTooLongAt}

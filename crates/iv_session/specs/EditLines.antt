@@ -1,4 +1,4 @@
--- The edits that columns say.
+-- The edits that columns mean.
 use Rattle.std.specs.Prelude.{◌+◌, ℕ, ◌==◌, if◌then◌else◌, List, Result, Ok, Err, length, take, drop}
 use Rattle.iv_text.specs.Genome.{Sequences}
 use Rattle.iv_text.specs.Read.{read_columns}
@@ -28,7 +28,7 @@ abbrev pub edit_of : {X : Type 0} → (X → Edit) → Result X Fault → Result
 edit_of asks (Ok x) = Ok (asks x)
 edit_of asks (Err f) = Err f
 
--- the edit of a kind that columns say on a genome, at the width of a track, or the first fault
+-- the edit of a kind that columns mean on a genome, at the width of a track, or the first fault
 abbrev pub edit_said : Sequences → ℕ → EditKind → List (List ℕ) → Result Edit Fault
 edit_said g width kind.Add cs = edit_of (λ r. edit.Add r) (read_columns g width cs)
 edit_said g width kind.Remove cs = edit_of (λ r. edit.Remove r) (read_columns g width cs)

@@ -1,4 +1,4 @@
--- How a run of a script ends, as its contract says it.
+-- How a run of a script ends, as its contract has it.
 use Rattle.std.specs.Prelude.{◌≡◌, ◌≢◌, ℕ, ⊤, false, Result, Ok, Err}
 use Rattle.iv_workspace.specs.States.{State}
 use Rattle.iv_session.specs.Running.{Runs, RunsLast}
@@ -25,7 +25,7 @@ abbrev pub HadMemory : Result Summary RunFault → Type 0
 HadMemory (Ok summary) = ⊤
 HadMemory (Err fault) = fault.cause ≢ Memory
 
--- the run was called too long at line number n
+-- the run was reported as too long at line number n
 abbrev pub IsTooLongAt : ℕ → Result Summary RunFault → Type 0
 IsTooLongAt n (Ok summary) = ⊥
 IsTooLongAt n (Err fault) = (fault.line ≡ n) × (fault.cause ≡ TooLong)

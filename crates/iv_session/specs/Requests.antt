@@ -42,7 +42,7 @@ abbrev pub as_length : Option ℕ → Result ℕ Fault
 as_length None = Err fault.StopNumber
 as_length (Some n) = if nat_le n most_length then Ok n else Err fault.StopNumber
 
--- the length that a field says: 1 to 10 digits
+-- the length that a field means: 1 to 10 digits
 abbrev pub length_said : List ℕ → Result ℕ Fault
 length_said field = as_length (number field)
 
@@ -51,22 +51,22 @@ abbrev pub beside_name : List ℕ → Result ℕ Fault → Result (List ℕ × �
 beside_name name (Ok n) = Ok (name, n)
 beside_name name (Err f) = Err f
 
--- a name and the length that the field after it says, or the first fault
+-- a name and the length that the field after it means, or the first fault
 abbrev pub name_and_length : Result (List ℕ × List ℕ) Fault → Result (List ℕ × ℕ) Fault
 name_and_length (Ok fields) = beside_name fields.0 (length_said fields.1)
 name_and_length (Err f) = Err f
 
--- the request with what the fields say, or their fault
+-- the request with what the fields mean, or their fault
 abbrev pub of_fields : {X : Type 0} → (X → Request) → Result X Fault → Result Request Fault
 of_fields asks (Ok x) = Ok (asks x)
 of_fields asks (Err f) = Err f
 
--- the edit of a track of this width that fields say, or why there is none
+-- the edit of a track of this width that fields mean, or why there is none
 abbrev pub edit_at : Sequences → Target → EditKind → List (List ℕ) → Result ℕ Fault → Result Request Fault
 edit_at g target kind fields (Err f) = Err f
 edit_at g target kind fields (Ok width) = of_fields (request.Edit target) (edit_said g width kind fields)
 
--- the edit of a track of a session that fields say: that there is no second file is reported first
+-- the edit of a track of a session that fields mean: that there is no second file is reported first
 abbrev pub edit_asked : State → Target → EditKind → List (List ℕ) → Result Request Fault
 edit_asked s target kind fields = edit_at s.genome target kind fields (width_of s target)
 
@@ -86,7 +86,7 @@ asked_by s word fields =
     else if bytes_eq word (codes "resize") then of_fields (λ pair. request.Resize pair.0 pair.1) (name_and_length (two_fields fields))
     else Err fault.Command
 
--- what a line asks for in a session: nothing, if it is empty or a comment; else what its first column says, with the others
+-- what a line asks for in a session: nothing, if it is empty or a comment; else what its first column asks for, with the others
 -- as fields
 abbrev pub asked : State → List ℕ → Result Request Fault
 asked s text =

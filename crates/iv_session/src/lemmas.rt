@@ -24,7 +24,7 @@ pub fn first_over_is_first()
     ensures first { (most_lines most : ℕ) (front back : List ℕ) → AreWithin most_lines most front → Passes most_lines most (length front + 1) back → first_over most_lines most 1 (front ++ back) ≡ Some (length front + 1) }
 {}
 
-/// A run that ended neither by a stream nor out of memory is called too long exactly if some line passes a limit, and at the first.
+/// A run that ended neither by a stream nor out of memory is reported as too long exactly if some line passes a limit, and at the first.
 ///
 /// A run that is done has no such line, and no run goes on after one, whatever ends it.
 pub fn too_long_is_exact()

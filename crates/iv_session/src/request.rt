@@ -215,7 +215,7 @@ fn two_fields(fields: Option<&[u8]>) -> Result<(Field<'_>, Field<'_>), Fault>
     }
 }
 
-/// The length that a field says: 1 to 10 digits, and at most 4,000,000,000.
+/// The length that a field means: 1 to 10 digits, and at most 4,000,000,000.
 fn read_length(field: &[u8]) -> Result<u64, Fault>
     ensures value { result ≡ length_said field.now }
     ensures bounded { IfOk result (λ length. length ≤ most_length) }
@@ -226,7 +226,7 @@ fn read_length(field: &[u8]) -> Result<u64, Fault>
     }
 }
 
-/// The edit that the columns after a command say, on a track of this width, or their first fault.
+/// The edit that the columns after a command mean, on a track of this width, or their first fault.
 fn read_edit<'a, A: Allocator + Copy>(
     genome: &Genome<A>,
     width: u8,

@@ -9,7 +9,7 @@ use Rattle.std.proofs.lemmas.List.Sums.{length-filter}
 use Rattle.std.proofs.lemmas.List.Filters.{length-filter_both}
 use Rattle.iv_view.specs.Flags.{beside_flag}
 
--- two others say nothing, and the flag is no other
+-- two others mean nothing, and the flag is no other
 pub record AreOthers {R : Type 0} (is_flag : List ℕ → Bool) (said : Bool → List (List ℕ) → Option R) : Type 0 where
   pub two : (flag : Bool) (first second : List ℕ) (words : List (List ℕ)) → said flag (first ∷ second ∷ words) ≡ None
   pub own : (word : List ℕ) → is_flag word ≡ true → said true (word ∷ []) ≡ None
@@ -20,7 +20,7 @@ module _ {R : Type 0} (is_flag : List ℕ → Bool) (said : Bool → List (List 
   two-others flag (word ∷ []) long = absurd (omega (arith, long))
   two-others flag (word ∷ next ∷ words) long = others.two flag word next words
 
-  -- three words say nothing
+  -- three words mean nothing
   pub three-words : (words : List (List ℕ)) → 3 ≤ length words → beside_flag is_flag said words ≡ None
   three-words words long = by (nat_le (count_by is_flag words) 1) refl
     where

@@ -2,7 +2,7 @@
 use Rattle.std.proofs.Common.{◌≡◌, List, [], ◌∷◌, ◌++◌, Option, Some, None, refl, sym, ap, append-nil, append_assoc}
 use Rattle.std.specs.Option.{option_map}
 
--- what is collected, and what the rest says
+-- what is collected, and what the rest means
 abbrev pub with_rest : {A : Type 0} → List A → Option (List A) → Option (List A)
 with_rest done rest = option_map (λ later. done ++ later) rest
 

@@ -1,4 +1,4 @@
--- The options of `merge` and `cluster`: what their words say, in any order.
+-- The options of `merge` and `cluster`: what their words mean, in any order.
 use Rattle.std.proofs.Common.{◌≡◌, ◌∙◌, ◌↔◌, ◌⊎◌, inl, inr, ℕ, zero, suc, ◌<◌, Bool, true, false, true≢false, cond, List, [], ◌∷◌, ◌++◌, Option, Some, None, map, length, get_or, set, swap, refl, sym, ap, subst, arith, append-nil, IsPermutation}
 use Rattle.std.specs.Prelude.{if◌then◌else◌, option_and_then, codes, slice_get}
 use Rattle.std.specs.Option.{is_some, option_to_list}
@@ -22,7 +22,7 @@ none≢some a is = cc
 abbrev unless : Bool → MergeArgs → Option MergeArgs
 unless b next = cond b None (Some next)
 
--- what is said after an option, if it can be given
+-- the options after one more, if it can be given
 abbrev taken : MergeOption → MergeArgs → Option MergeArgs
 taken (Distance value) said = unless_given said.distance (record said { distance = Some value })
 taken (Columns value) said = unless_given said.columns (record said { columns = Some value })
@@ -36,7 +36,7 @@ has (Columns value) said = is_some said.columns
 has (Ops value) said = is_some said.ops
 has Stranded said = said.stranded
 
--- what is said with the option
+-- the options with this one
 abbrev given : MergeOption → MergeArgs → MergeArgs
 given (Distance value) said = record said { distance = Some value }
 given (Columns value) said = record said { columns = Some value }
@@ -70,7 +70,7 @@ said-after a words said = said-first a words said ∙ ap (option_and_then (said_
 
 -- ---- two options
 
--- neither changes whether the other was given, and what is said is the same in either order
+-- neither changes whether the other was given, and the options are the same in either order
 abbrev AreApart : MergeOption → MergeOption → MergeArgs → Type 0
 AreApart a b said = (has b (given a said) ≡ has b said) × (has a (given b said) ≡ has a said) × (given b (given a said) ≡ given a (given b said))
 
@@ -106,7 +106,7 @@ never-after : (p : Bool) (x : MergeArgs) (f : MergeArgs → Option MergeArgs) �
 never-after true x f h = refl
 never-after false x f h = h
 
--- what two options say in one order they say in the other
+-- what two options mean in one order they mean in the other
 swapped : (a b : MergeOption) (said : MergeArgs) → option_and_then (taken b) (taken a said) ≡ option_and_then (taken a) (taken b said)
 swapped a b said = ap (option_and_then (taken b)) (taken-is a said) ∙ middle (cases-of a b said) ∙ sym (ap (option_and_then (taken a)) (taken-is b said))
   where
@@ -129,7 +129,7 @@ then-same : (f g : MergeArgs → Option MergeArgs) → ((s : MergeArgs) → f s 
 then-same f g is None = refl
 then-same f g is (Some s) = is s
 
--- options that say the same, whatever was said before them
+-- options that mean the same, whatever was given before them
 abbrev pub SayTheSame : List MergeOption → List MergeOption → Type 0
 SayTheSame xs ys = (said : MergeArgs) → said_by (option_words xs) said ≡ said_by (option_words ys) said
 
@@ -148,11 +148,11 @@ two-first a b xs said =
     said-first a (option_words (b ∷ xs)) said
     ∙ then-then (said_by (option_words xs)) (taken b) (said_by (option_words (b ∷ xs))) (said-first b (option_words xs)) (taken a said)
 
--- neighbours may change places
+-- neighbours may be exchanged
 pub same-swapped : (a b : MergeOption) (xs : List MergeOption) → SayTheSame (a ∷ b ∷ xs) (b ∷ a ∷ xs)
 same-swapped a b xs said = two-first a b xs said ∙ ap (option_and_then (said_by (option_words xs))) (swapped a b said) ∙ sym (two-first b a xs said)
 
--- an option changes places with the first
+-- an option is exchanged with the first
 same-moved : (xs : List MergeOption) (j : ℕ) (x d : MergeOption) → j < length xs → SayTheSame (get_or xs j d ∷ set xs j x) (x ∷ xs)
 same-moved [] j x d low said = absurd (omega arith)
 same-moved (z ∷ xs) zero x d low said = same-swapped z x xs said
@@ -161,7 +161,7 @@ same-moved (z ∷ xs) (suc j) x d low said =
     ∙ same-after z (get_or xs j d ∷ set xs j x) (x ∷ xs) (same-moved xs j x d (omega arith)) said
     ∙ same-swapped z x xs said
 
--- any two options change places
+-- any two options are exchanged
 same-exchanged : (xs : List MergeOption) (i j : ℕ) (d : MergeOption) → i < length xs → j < length xs → SayTheSame (set (set xs i (get_or xs j d)) j (get_or xs i d)) xs
 same-exchanged [] i j d low high said = absurd (omega arith)
 same-exchanged (x ∷ xs) zero zero d low high said = refl
@@ -177,7 +177,7 @@ same-swap (d ∷ xs) i j low high said = same-exchanged (d ∷ xs) i j d low hig
 same-permuted : (xs ys : List MergeOption) → IsPermutation xs ys → SayTheSame ys xs
 same-permuted xs ys = IsPermutation-keeps xs (λ l. SayTheSame l xs) (λ said. refl) (λ l i j low high same said. same-swap l i j low high said ∙ same said) ys
 
--- ---- what the options that are said say
+-- ---- what the options that are given mean
 
 abbrev said_of : (d c o : Option (List ℕ)) (s : Bool) → MergeArgs
 said_of d c o s = record { distance = d; columns = c; ops = o; stranded = s }
@@ -200,7 +200,7 @@ own-said (Some d) (Some c) None true = refl
 own-said (Some d) (Some c) (Some o) false = refl
 own-said (Some d) (Some c) (Some o) true = refl
 
--- ---- words that say something
+-- ---- words that mean something
 
 -- the words are those of some options
 abbrev AreOptions : List (List ℕ) → Type 0
@@ -262,7 +262,7 @@ read-options (word ∷ []) old new is = read-one word old new (bytes_eq word (co
 read-options (word ∷ next ∷ words) old new is =
     read-more word next words old new (λ mid. read-options (next ∷ words) mid new) (λ mid. read-options words mid new) (bytes_eq word (codes "-s")) refl (option_of word) refl is
 
--- ---- what they say are just their options
+-- ---- what they mean are just their options
 
 in-place : (front after : List MergeOption) (a : MergeOption) → IsPermutation (a ∷ ((front ++ []) ++ after)) ((front ++ a ∷ []) ++ after)
 in-place front after a =
@@ -286,7 +286,7 @@ all_ops said = map Ops (option_to_list said.ops)
 abbrev all_flags : MergeArgs → List MergeOption
 all_flags said = if said.stranded then Stranded ∷ [] else []
 
--- an option more is one more of what is said
+-- an option more is one more of those given
 given-options : (a : MergeOption) (said : MergeArgs) → has a said ≡ false → IsPermutation (a ∷ options_of said) (options_of (given a said))
 given-options (Distance value) said free = by said.distance free
   where
@@ -311,7 +311,7 @@ given-options Stranded said free = by said.stranded free
     by true free = absurd (true≢false free)
     by false free = at-end (all_distances said ++ all_columns said ++ all_ops said) Stranded
 
--- the options that were said before, and those that are read, are those that are said
+-- the options that were given before, and those that are read, are those that are given
 holds-first : (a : MergeOption) (options : List MergeOption) (old new : MergeArgs)
     → ((mid : MergeArgs) → said_by (option_words options) mid ≡ Some new → IsPermutation (options ++ options_of mid) (options_of new))
     → said_by (option_words (a ∷ options)) old ≡ Some new → IsPermutation (a ∷ (options ++ options_of old)) (options_of new)
@@ -334,7 +334,7 @@ holds : (options : List MergeOption) (old new : MergeArgs) → said_by (option_w
 holds [] old new is = subst (λ (s : MergeArgs). IsPermutation (options_of old) (options_of s)) (some-same old new is) (IsPermutation-refl (options_of old))
 holds (a ∷ options) old new is = holds-first a options old new (λ mid. holds options mid new) is
 
--- the words are those of the options that are said, in some order
+-- the words are those of the options that are given, in some order
 abbrev pub AreWordsOf : List (List ℕ) → MergeArgs → Type 0
 AreWordsOf words said = (options : List MergeOption) × (words ≡ option_words options) × IsPermutation options (options_of said)
 

@@ -1,4 +1,4 @@
--- Values of which `==` says that they are equal are the same.
+-- Values that are equal by `==` are the same.
 use Rattle.std.proofs.Common.{◌≡◌, Bool, true, false, List, [], ◌∷◌, refl, sym, ap, rules, eqb-true}
 use Rattle.std.proofs.Math.Bool.{beq}
 use Rattle.std.proofs.lemmas.Bool.{and_parts}

@@ -35,7 +35,7 @@ pushed-filled done s few =
     ∙ ap (λ (k : ℕ). (done ++ s ∷ []) ++ replicate (16 - k) unused) (sym long) in
     ap₂ (λ (l : List ColumnSummary) (k : ℕ). record { summaries = l; count = k }) places (sym long)
 
--- what is asked for up to a place is in its places, and with the rest it is all that is asked for
+-- what is asked for up to an index is at its indexes, and with the rest it is all that is asked for
 pub record IsAsked (width : ℕ) (columns : List ℕ) (ops : List Op) (place : ℕ) (now : Summaries) : Type 0 where
   pub done : List ColumnSummary
   pub filled_with : now ≡ filled done

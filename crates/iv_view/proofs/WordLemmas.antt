@@ -29,7 +29,7 @@ some-same a b is = cc
 none-some : (a : MergeArgs) → ◌≡◌ {A = Option MergeArgs} None (Some a) → ⊥
 none-some a is = cc
 
--- how many words may still come: an option and its value for each that has none, and a flag
+-- how many words may follow: an option and its value for each that has none, and a flag
 abbrev pub room : Option (List ℕ) → ℕ
 room None = 2
 room (Some value) = 0
@@ -68,7 +68,7 @@ flag-takes said next is = go said.stranded refl is
     go true at is = absurd (none-some next is)
     go false at is = let same = some-same _ _ is in omega (arith, ap flag_room at, ap rooms same)
 
--- more words than there is room for say nothing
+-- more words than there is room for mean nothing
 too-many : (n : ℕ) (words : List (List ℕ)) (said : MergeArgs) → length words ≤ n → rooms said < length words → said_by words said ≡ None
 too-many n [] said size more = absurd (omega arith)
 too-many n (word ∷ []) said size more = go (bytes_eq word (codes "-s")) (with_flag said) refl

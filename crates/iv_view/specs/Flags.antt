@@ -9,7 +9,7 @@ only_flag flag [] = Some false
 only_flag flag (word ∷ []) = if bytes_eq word flag then Some true else None
 only_flag flag (word ∷ next ∷ words) = None
 
--- what words say: the flag is among them once at most, and beside it or without it the others say the rest
+-- what words mean: the flag is among them once at most, and with it or without it the others mean the rest
 abbrev pub beside_flag : {R : Type 0} → (List ℕ → Bool) → (Bool → List (List ℕ) → Option R) → List (List ℕ) → Option R
 beside_flag is_flag said words =
     if nat_le (count_by is_flag words) 1

@@ -11,7 +11,7 @@ all_some [] = Some []
 all_some (None ∷ items) = None
 all_some (Some item ∷ items) = option_map (λ others. item ∷ others) (all_some items)
 
--- what the items of a list say, if there are at most 16 and each says something
+-- what the items of a list mean, if there are at most 16 and each means something
 abbrev pub items_in : {A : Type 0} → (List ℕ → Option A) → List ℕ → Option (List A)
 items_in says text =
     if nat_le (length (fields comma text)) 16

@@ -18,7 +18,7 @@ use Rattle.iv_view.specs.Lists.{all_some, items_in, pairs}
 use Rattle.iv_view.specs.declared.merge.ValuedOption.{ValuedOption}
 use Rattle.iv_view.specs.declared.merge.ValuedOption.TheVariants as option
 
--- what options say: the values of `-d`, `-c` and `-o` as they are, and whether `-s` is there
+-- the options that are given: the values of `-d`, `-c` and `-o` as they are written, and whether `-s` is there
 pub record MergeArgs : Type 0 where
   pub distance : Option (List ℕ)
   pub columns : Option (List ℕ)
@@ -57,7 +57,7 @@ with_value_of (Some option.Ops) value said = unless_given said.ops (record said 
 abbrev pub with_value : List ℕ → List ℕ → MergeArgs → Option MergeArgs
 with_value word value said = with_value_of (option_of word) value said
 
--- what words say beside what was said before them: each is `-s`, or an option with its value after it, and none is twice
+-- the options of words, with those before them: each word is `-s`, or an option with its value after it, and none comes twice
 abbrev pub said_by : List (List ℕ) → MergeArgs → Option MergeArgs
 said_by [] said = Some said
 said_by (word ∷ []) said = if bytes_eq word (codes "-s") then with_flag said else None
@@ -66,12 +66,12 @@ said_by (word ∷ next ∷ words) said =
     then option_and_then (said_by (next ∷ words)) (with_flag said)
     else option_and_then (said_by words) (with_value word next said)
 
--- the distance that a value says: a number up to 1,000,000,000, and 0 if there is none
+-- the distance that a value means: a number up to 1,000,000,000, and 0 if there is none
 abbrev pub distance_of : Option (List ℕ) → Option ℕ
 distance_of None = Some 0
 distance_of (Some value) = option_and_then (λ n. if nat_le n 1000000000 then Some n else None) (number value)
 
--- the columns and operations that the values of `-c` and `-o` say: the operation left out is `sum`, and there is none without a column
+-- the columns and operations that the values of `-c` and `-o` mean: the operation left out is `sum`, and there is none without a column
 abbrev pub lists_of : Option (List ℕ) → Option (List ℕ) → Option (List ℕ × List Op)
 lists_of None None = Some ([], [])
 lists_of None (Some ops) = None
@@ -86,7 +86,7 @@ column_within width n = if nat_le n width then column_numbered n else None
 abbrev pub summary_within : ℕ → ℕ × Op → Option ColumnSummary
 summary_within width asked = option_map (λ column. record { column = column; op = asked.1 }) (column_within width asked.0)
 
--- the summaries in their places; a fault if one asks for a column that isn't there
+-- the summaries in their order; a fault if one asks for a column that isn't there
 abbrev pub filled_or_fault : Option (List ColumnSummary) → Result Summaries Fault
 filled_or_fault None = Err fault.Column
 filled_or_fault (Some summaries) = Ok (filled summaries)
@@ -114,13 +114,13 @@ abbrev pub pairs_of : Option (List ℕ × List Op) → Option (List (ℕ × Op))
 pairs_of None = None
 pairs_of (Some lists) = pairs lists.0 lists.1
 
--- the options of a merge on a track of this width that words after `merge` say, or their first fault
+-- the options of a merge on a track of this width that words after `merge` mean, or their first fault
 abbrev pub merge_options : ℕ → Option MergeArgs → Result Options Fault
 merge_options width None = Err fault.Words
 merge_options width (Some said) =
     options_with width said.stranded (distance_of said.distance) (asked_summaries width (pairs_of (lists_of said.columns said.ops)))
 
--- the distance of a cluster that words after `cluster` say: they are `-d` and its value, or none
+-- the distance of a cluster that words after `cluster` mean: they are `-d` and its value, or none
 abbrev pub cluster_distance : Option MergeArgs → Option ℕ
 cluster_distance None = None
 cluster_distance (Some said) = if said.stranded || is_some said.columns || is_some said.ops then None else distance_of said.distance

@@ -88,7 +88,7 @@ fn intersect_rows_of(option: &[u8], whole: bool) -> Option<IntersectRows>
     }
 }
 
-/// Whether the words after `subtract` say that only whole records are taken: `-A`, or nothing.
+/// Whether the words after `subtract` ask that only whole records be taken: `-A`, or nothing.
 pub(crate) fn read_subtract(words: &[&[u8]]) -> Option<bool>
     ensures { result ≡ flag_alone (codes "-A") (map (λ word. word.now) words.now) }
 {

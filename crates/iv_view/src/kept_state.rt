@@ -25,7 +25,7 @@ pub enum StateKey {
 }
 
 impl StateKey {
-    /// Whether both say the same, so that their views can share a state.
+    /// Whether both are the same, so that their views can share a state.
     pub fn is(&self, other: &StateKey) -> bool
         ensures { IsTrue result ↔ self.now ≡ other.now }
     {
@@ -94,7 +94,7 @@ impl View {
     }
 }
 
-/// A state that is kept for views, so that an edit of the track costs it little. Each kind hands on to its own.
+/// The state of a kept view, which is updated at each edit of the track, at little cost. Each kind calls its own.
 #[derive(Drop)]
 pub enum KeptState<A: Allocator + Copy = Global> {
     Blocks(Blocks<A>),

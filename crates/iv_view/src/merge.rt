@@ -22,7 +22,7 @@ const MOST_DISTANCE: u64 = 1_000_000_000;
 /// A list has at most this many items.
 const MOST_ITEMS: usize = 16;
 
-/// The options that the words after `merge` say, for records of six columns.
+/// The options that the words after `merge` mean, for records of six columns.
 pub(crate) fn read_merge(words: &[&[u8]]) -> Result<Options, ViewFault>
     ensures { result ≡ merge_options 6 (said_by (map (λ word. word.now) words.now) nothing_said) }
 {
@@ -37,7 +37,7 @@ pub(crate) fn read_merge(words: &[&[u8]]) -> Result<Options, ViewFault>
     })
 }
 
-/// The distance that the words after `cluster` say: `-d` and its value, or none.
+/// The distance that the words after `cluster` mean: `-d` and its value, or none.
 pub(crate) fn read_cluster(words: &[&[u8]]) -> Option<u32>
     ensures { result ≡ cluster_distance (said_by (map (λ word. word.now) words.now) nothing_said) }
 {
@@ -48,7 +48,7 @@ pub(crate) fn read_cluster(words: &[&[u8]]) -> Option<u32>
     read_distance(said.distance)
 }
 
-/// What options say: their values as they are.
+/// The values of options, as they are written.
 #[derive(Drop)]
 struct MergeArgs<'a> {
     distance: Option<&'a [u8]>,
@@ -67,7 +67,7 @@ impl<'a> Model for MergeArgs<'a> {
 }
 
 impl<'a> MergeArgs<'a> {
-    /// What words say: each is `-s`, or an option with its value after it, and none is twice.
+    /// The options of words: each word is `-s`, or an option with its value after it, and none comes twice.
     fn read(words: &[&'a [u8]]) -> Option<MergeArgs<'a>>
         ensures { result ≡ said_by (map (λ word. word.now) words.now) nothing_said }
     {
@@ -151,7 +151,7 @@ fn valued_option(word: &[u8]) -> Option<ValuedOption>
     }
 }
 
-/// The distance that a value says, 0 if there is none.
+/// The distance that a value means, 0 if there is none.
 fn read_distance(value: Option<&[u8]>) -> Option<u32>
     ensures { result ≡ distance_of (option_copied value.entry) }
 {
@@ -172,7 +172,7 @@ struct Lists {
     ops: ArrayVec<Op, MOST_ITEMS>,
 }
 
-/// The lists that the values of `-c` and `-o` say. The operation left out is `sum`, and there is none without a column.
+/// The lists that the values of `-c` and `-o` mean. The operation left out is `sum`, and there is none without a column.
 fn read_lists(columns: Option<&[u8]>, ops: Option<&[u8]>) -> Option<Lists>
     ensures { option_map (λ lists. (lists.columns.items, lists.ops.items)) result ≡ lists_of (option_copied columns.entry) (option_copied ops.entry) }
 {
@@ -266,10 +266,10 @@ fn number_of(column: Column) -> u8
 
 /// An item of a list.
 trait Item: Copy + Default {
-    /// What a text says.
+    /// What a text means.
     ghost says: { List ℕ → Option Self };
 
-    /// The item that a text says.
+    /// The item that a text means.
     fn read(text: &[u8]) -> Option<Self>
         ensures { result ≡ says text.now };
 }
@@ -290,7 +290,7 @@ impl Item for Op {
     }
 }
 
-/// The items of a list, if there are at most 16 and each says something.
+/// The items of a list, if there are at most 16 and each means something.
 fn read_items<T: Item>(text: &[u8]) -> Option<ArrayVec<T, MOST_ITEMS>>
     ensures { option_map (λ list. list.items) result ≡ items_in T.says text.now }
 {

@@ -35,7 +35,7 @@ const EVERYTHING: Beside = Beside {
 /// A view of a track, with its options.
 #[derive(Clone, Copy, Debug, PartialEq, Eq)]
 pub enum View {
-    /// A view of which a state is kept between prints, so that an edit of the track costs it little.
+    /// A kept view: it has a state, which is updated at each edit of the track, at little cost.
     Kept(KeptView),
     /// A view that is written from the records at each print.
     Written(WrittenView),

@@ -1,4 +1,4 @@
-//! The views of which nothing is kept.
+//! The views that have no state.
 ghost use Rattle.std.specs.Prelude.{[], IsTrue, IsSome};
 ghost use Rattle.std.specs.Option.{option_copied, unwrap_or};
 ghost use Rattle.iv_bytes.specs.Sinks.{Puts};
@@ -15,7 +15,7 @@ use std::alloc::Allocator;
 /// A view that is written from the records at each print.
 #[derive(Clone, Copy, Debug, PartialEq, Eq)]
 pub enum WrittenView {
-    /// `intersect` or `subtract`: the records of the track beside the second file, or without what it covers.
+    /// `intersect` or `subtract`: the records of the track with those of the second file, or without what these cover.
     Paired(PairRows),
     /// `getfasta`: the bases of each record whose sequence the FASTA file has.
     Getfasta(FastaRows),

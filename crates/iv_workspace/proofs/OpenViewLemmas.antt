@@ -14,9 +14,9 @@ use Rattle.iv_workspace.specs.Inside.ViewStates.{all_seen, seen}
 use Rattle.iv_workspace.specs.OpenViews.{Shown, Stales, Freshens, current, all_current, with_current, stale_count, all_steps, view_steps}
 use Rattle.iv_workspace.specs.declared.views.OpenView.{OpenView}
 
--- ---- a walk over the places of a map, each of which is written
+-- ---- a walk over the indexes of a map, each of which is written
 
--- the entries before a place are done
+-- the entries before an index are done
 pub record Midway {V : Type 0} (Done : List (List ℕ × V) → List (List ℕ × V) → Type 0) (old now : List (List ℕ × V)) (place : ℕ) : Type 0 where
   pub front : List (List ℕ × V)
   pub done : List (List ℕ × V)
@@ -30,7 +30,7 @@ pub record Midway {V : Type 0} (Done : List (List ℕ × V) → List (List ℕ �
 pub midway-begin : {V : Type 0} (Done : List (List ℕ × V) → List (List ℕ × V) → Type 0) (old now : List (List ℕ × V)) → now ≡ old → Done [] [] → Midway Done old now 0
 midway-begin Done old now same does = record { front = []; done = []; rest = old; old_is = refl; now_is = same; front_is = refl; done_is = refl; does = does }
 
--- the entry at a place, once it is written
+-- the entry at an index, once it is written
 written : {V : Type 0} (es : List (List ℕ × V)) (done rest : List (List ℕ × V)) (place : ℕ) (v w : V)
     → es ≡ done ++ rest → place ≡ length done → slice_get (values_of es) place ≡ Some v
     → (n : List ℕ) × (more : List (List ℕ × V)) × (rest ≡ (n, v) ∷ more) × (set_value_at es place w ≡ done ++ (n, w) ∷ more)
@@ -69,7 +69,7 @@ midway-next {V} Done Then old es place v w mid found step =
       does = step mid.front mid.done p.1 p.0 old_is mid.does;
     }
 
--- the entry at a place before it is written, and once it is
+-- the entry at an index before it is written, and once it is
 pub record Written {V : Type 0} (old new : List (List ℕ × V)) (place : ℕ) (v w : V) : Type 0 where
   pub front : List (List ℕ × V)
   pub more : List (List ℕ × V)
@@ -133,9 +133,9 @@ stales-trans (v ∷ old) (m ∷ mid) (w ∷ new) first second = (
   stales-trans old mid new first.4 second.4,
 )
 
--- ---- the view at a place
+-- ---- the view at an index
 
--- what the stale views from a place on are
+-- what the stale views from an index on are
 pub stale-next : {A : Type 0} (es : List (List ℕ × OpenView A)) (i : ℕ) (v : OpenView A) → slice_get (values_of es) i ≡ Some v
     → stale_count (all_seen (drop i es)) ≡ (if (seen v).stale then 1 else 0) + stale_count (all_seen (drop (i + 1) es))
 stale-next {A} es i v found = subst (λ (k : ℕ). stale_count (all_seen (drop i es)) ≡ (if (seen v).stale then 1 else 0) + stale_count (all_seen (drop k es))) (sym (add-one i)) (by es i found)
@@ -158,7 +158,7 @@ pub all-back : {X : Type 0} (P : X → Type 0) (xs ys : List X) → AllByRecursi
 all-back P [] ys a = a
 all-back P (x ∷ xs) ys a = all-back P xs ys a.1
 
--- the view at a place, if all were right before
+-- the view at an index, if all were right before
 pub midway-at : {V : Type 0} (Done : List (List ℕ × V) → List (List ℕ × V) → Type 0) (P : V → Type 0) (old : List (List ℕ × V)) (es : List (List ℕ × V)) (place : ℕ) (v : V)
     → Midway Done old es place → slice_get (values_of es) place ≡ Some v → AllByRecursion (λ e. P e.1) old → P v
 midway-at {V} Done P old es place v mid found all =
@@ -220,7 +220,7 @@ seen-view {A} name views = by (lookup (bytes_eq name) views) ∙ sym (ap (option
     by None = refl
     by (Some v) = refl
 
--- the same, at the place where the loop is
+-- the same, at the index where the loop is
 pub stale-yes : {A : Type 0} (es : List (List ℕ × OpenView A)) (i : ℕ) (v : OpenView A) → slice_get (values_of es) i ≡ Some v → (seen v).stale ≡ true
     → stale_count (all_seen (drop i es)) ≡ 1 + stale_count (all_seen (drop (i + 1) es))
 stale-yes es i v found is = stale-next es i v found ∙ ap (λ (b : Bool). (if b then 1 else 0) + stale_count (all_seen (drop (i + 1) es))) is
@@ -252,7 +252,7 @@ pub all-pushed : {V : Type 0} (P : V → Type 0) (name : List ℕ) (views : List
     → AllByRecursion (λ w. P w.1) views → P v → AllByRecursion (λ w. P w.1) (views ++ (name, v) ∷ [])
 all-pushed P name views v all one = all-append (λ e. P e.1) views ((name, v) ∷ []) all (one, tt)
 
--- of the view at a place of a list, and of the view of a name
+-- of the view at an index of a list, and of the view of a name
 pub all-at : {V : Type 0} (P : V → Type 0) (views : List (List ℕ × V)) (i : ℕ) (e : List ℕ × V) → slice_get views i ≡ Some e → AllByRecursion (λ v. P v.1) views → P e.1
 all-at P [] i e found all = absurd (cc (found))
 all-at {V} P (v ∷ views) zero e found all = let is : v ≡ e = cc (found) in subst (λ (u : List ℕ × V). P u.1) is all.0

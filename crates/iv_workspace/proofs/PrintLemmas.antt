@@ -66,7 +66,7 @@ FailsIn-text old new a b same fails = subst (λ (l : List ℕ). FailsIn old new 
 pub Puts-text : {T E : Type 0} (old new : SinkState) (put : Result T E) (a b : List ℕ) → a ≡ b → Puts old new put a → Puts old new put b
 Puts-text old new put a b same puts = subst (λ (l : List ℕ). Puts old new put l) same puts
 
--- what a print answers whose text was put: of one view, and of all
+-- the answer of a print whose text was put, of one view and of all
 pub view-answered : {E : Type 0} (old new : State) (name : List ℕ) (v : Shown) (out0 out1 : SinkState) (put : Result (Unit {0}) E) (result : Result (Unit {0}) PrintFault)
     → MatchResult put (λ done. result ≡ Ok done) (λ fault. result ≡ Err printing.Write) → Puts out0 out1 put (text_in old v.view) → new ≡ with_printed old name → PrintedView old name v new out0 out1 result
 view-answered old new name v out0 out1 (Ok done) result is took same = subst (λ (r : Result (Unit {0}) PrintFault). PrintedView old name v new out0 out1 r) (sym is) (took, same)
@@ -77,7 +77,7 @@ pub all-answered : {E : Type 0} (old new : State) (out0 out1 : SinkState) (put :
 all-answered old new out0 out1 (Ok done) result is took same = subst (λ (r : Result (Unit {0}) PrintFault). PrintedAll old new out0 out1 r) (sym is) (took, same)
 all-answered old new out0 out1 (Err fault) result is fails same = subst (λ (r : Result (Unit {0}) PrintFault). PrintedAll old new out0 out1 r) (sym is) (fails, same)
 
--- the view at a place, as contracts see it
+-- the view at an index, as contracts see it
 pub seen-at : {A : Type 0} (views : List (List ℕ × OpenView A)) (i : ℕ) (name : List ℕ) (v : OpenView A) → Some (name, v) ≡ slice_get views i
     → Some (name, seen v) ≡ slice_get (all_seen views) i
 seen-at {A} views i name v found =
@@ -101,7 +101,7 @@ all-fresh views more is = subst (λ (l : List (List ℕ × Shown)). All (λ v. v
     by [] = tt
     by (v ∷ views) = (refl, by views)
 
--- the view at a place is the next to be printed
+-- the view at an index is the next to be printed
 pub views-next : (inside s : State) → inside ≡ s → (i : ℕ) (v : List ℕ × Shown) → Some v ≡ slice_get inside.views i
     → flat_map (headed_text s) (drop i s.views) ≡ heading v.0 ++ (text_in s v.1.view ++ flat_map (headed_text s) (drop (i + 1) s.views))
 views-next inside s same i v found =

@@ -263,7 +263,7 @@ lengths-corrected g fasta seq n are within not_other k bases at = elim (cases_eq
   | inr differ ↦ length_at-other g seq n k differ ∙ are k bases at
 ]
 
--- what an accepted resize says
+-- what follows from an accepted resize
 accepted : (old new : State) (name : List ℕ) (n : ℕ) → resized old name n ≡ Ok new
     → (seq : ℕ) × (rank_of old.genome name ≡ Some seq) × (has_other_bases old.bases seq n ≡ false) × (with_sequence_length old seq n ≡ new)
 accepted old new name n is = by (rank_of old.genome name) refl is

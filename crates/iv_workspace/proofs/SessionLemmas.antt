@@ -48,7 +48,7 @@ track-removed g t r is there = record {
   few = omega (arith, length-removed record_cmp t.rows r there, is.few);
 }
 
--- a record that takes the place of one needs no room
+-- a record that replaces another needs no room
 pub track-replaced : (g : Sequences) (t : Tracked) (r q : RecordValue)
     → IsTrackOn g t → 0 < copies t.rows r → Fits g t.width q → IsTrackOn g (record t { rows = added (removed t.rows r) q })
 track-replaced g t r q is there fits =
@@ -105,7 +105,7 @@ replaced-in inside s mid new before r after q same first next session order ther
     (staged ∙ ap (λ (x : RecordValue). record old { rows = added old.rows x }) next)
     (taken ∙ ap (λ (x : RecordValue). record mid { rows = removed mid.rows x }) first)
 
--- a name without a fault leaves it to the words
+-- if the name has no fault, the words decide
 pub no-name_fault : (inside s : State) (name : List ℕ) (words : List (List ℕ)) (v : View) → inside ≡ s → is_view_name name ≡ true → is_some (view_named inside.views name) ≡ false
     → length inside.views < 64 → words_said inside words ≡ Ok v → opened s name words ≡ Ok v
 no-name_fault inside s name words v same good free few said =
@@ -132,7 +132,7 @@ served-fresher second (v ∷ old) (w ∷ new) less served =
 pub served-current : (second : Option Tracked) (name : List ℕ) (old new : List (List ℕ × Shown)) → new ≡ with_current old name → AreServed second old → AreServed second new
 served-current second name old new are served = subst (AreServed second) (sym are) (all-current (IsServed second) name old served)
 
--- ---- views of which nothing is kept
+-- ---- written views
 
 fresh-stales : (old new : List (List ℕ × Shown)) → Stales old new → AreWrittenFresh old → AreWrittenFresh new
 fresh-stales [] [] less fresh = tt
@@ -156,7 +156,7 @@ fresh-fresher (v ∷ old) (w ∷ new) less fresh =
     still false c up is = refl
     still true c up is = let both : true ≡ false = sym (up refl) ∙ is in absurd (cc (both))
 
--- a view that is stale is one of which something is kept
+-- a view that is stale is a kept view
 pub stale-kept : (v : Shown) → IsWrittenFresh v → v.stale ≡ true → IsSome (state_key_of v.view)
 stale-kept v fresh stale = by (state_key_of v.view) refl
   where

@@ -34,7 +34,7 @@ among-back : (what : StateKey) (xs ys : List (Option StateKey)) → IsOwned what
 among-back what [] ys a = a
 among-back what (x ∷ xs) ys a = inr (among-back what xs ys a)
 
--- another state in the place of one, if what was kept there is kept still
+-- another state instead of one, if what was kept there is still kept
 among-written : (what : StateKey) (xs ys : List (Option StateKey)) (o p : Option StateKey) → (o ≡ Some what → IsOwned what (xs ++ p ∷ ys))
     → IsOwned what (xs ++ o ∷ ys) → IsOwned what (xs ++ p ∷ ys)
 among-written what [] ys o p there (inl here) = there here
@@ -57,7 +57,7 @@ kept-more states more view grows kept = by (state_key_of view) kept
     by None kept = tt
     by (Some what) kept = grows what kept
 
--- a view of which nothing is kept needs no state
+-- a written view needs no state
 kept-none : (states : List (Option StateKey)) (view : View) → state_key_of view ≡ None → IsKept states view
 kept-none states view none = subst (λ (o : Option StateKey). IfSome o (λ what. IsOwned what states)) (sym none) tt
 
@@ -127,7 +127,7 @@ module _ {A : Type 0} (names : List (List ℕ)) (rows with_r : List RecordValue)
       let same = all.unless refl in
       (all.right, subst (λ (l : List (Option StateKey)). HaveStates l (all_seen new)) (sym same.1) (subst (HaveStates (all_owned old)) (sym same.0) have))
 
--- in the midst of repairs
+-- during the repairs
 pub record Repairing {A : Type 0} (names : List (List ℕ)) (rows with_r : List RecordValue) (r : RecordValue) (kept : Bool) (old now : List (List ℕ × OpenView A)) (place before after : ℕ) : Type 0 where
   pub mid : Midway (λ front done. AreRepaired names rows with_r r kept front done before after) old now place
 
@@ -155,7 +155,7 @@ module _ {A : Type 0} (names : List (List ℕ)) (rows with_r : List RecordValue)
 
 -- ---- views whose state is lost
 
--- in the midst of marking views, beside these states
+-- while views are marked, beside these states
 pub record Marking {A : Type 0} (states : List (Option StateKey)) (old new : List (List ℕ × OpenView A)) : Type 0 where
   pub owned_same : all_owned new ≡ all_owned old
   pub right : (names : List (List ℕ)) (rows : List RecordValue) → AreOwnRight old names rows → AreOwnRight new names rows
@@ -205,13 +205,13 @@ module _ {A : Type 0} (states : List (Option StateKey)) (v : OpenView A) (b : Bo
 pub owned-here : {A : Type 0} (front more : List (List ℕ × OpenView A)) (n : List ℕ) (v : OpenView A) (what : StateKey) → owned v ≡ Some what → IsOwned what (all_owned (front ++ (n, v) ∷ more))
 owned-here front more n v what is = rw (owned-append front ((n, v) ∷ more)) (among-back what (all_owned front) (owned v ∷ all_owned more) (inl is))
 
--- in the midst of marking, what the states are kept for is as before
+-- while views are marked, what the states are kept for is as before
 marking-owned : {A : Type 0} (states : List (Option StateKey)) (old now : List (List ℕ × OpenView A)) (place : ℕ) → Midway (Marking states) old now place → all_owned now ≡ all_owned old
 marking-owned states old now place mid =
     ap all_owned mid.now_is ∙ owned-append mid.done mid.rest ∙ ap (λ (l : List (Option StateKey)). l ++ all_owned mid.rest) mid.does.owned_same
     ∙ sym (owned-append mid.front mid.rest) ∙ sym (ap all_owned mid.old_is)
 
--- in the midst of a walk that marks views
+-- during a walk that marks views
 pub record MarkingUpTo {A : Type 0} (old now : List (List ℕ × OpenView A)) (place : ℕ) : Type 0 where
   pub mid : Midway (Marking (all_owned old)) old now place
 
@@ -228,7 +228,7 @@ module _ {A : Type 0} (old : List (List ℕ × OpenView A)) where
       record { right = all.right; stales = all.stales; states = subst (λ (l : List (Option StateKey)). HaveStates l (all_seen now)) (sym all.owned_same) all.have }
 
 module _ {A : Type 0} (old : List (List ℕ × OpenView A)) where
-  -- `kept` says whether the view has a state among those that there are
+  -- `kept` is whether the view has a state among those that there are
   pub marks-next : (es : List (List ℕ × OpenView A)) (place : ℕ) (v w : OpenView A) (kept : Bool) → MarkingUpTo old es place → slice_get (values_of es) place ≡ Some v
       → (kept ≡ true → IsKept (all_owned es) v.view) × (IsKept (all_owned es) v.view → kept ≡ true) → w ≡ marked v (v.stale || not kept)
       → MarkingUpTo old (set_value_at es place w) (place + 1)
@@ -259,9 +259,9 @@ module _ {A : Type 0} (old : List (List ℕ × OpenView A)) where
       fresh-kept false true is = refl
       fresh-kept false false is = absurd (cc (is))
 
--- ---- the view at a place
+-- ---- the view at an index
 
--- the view at a place of a map, among the views
+-- the view at an index of a map, among the views
 pub at-place : {A : Type 0} (es : List (List ℕ × OpenView A)) (place : ℕ) (v : OpenView A) → slice_get (values_of es) place ≡ Some v
     → (n : List ℕ) × (slice_get es place ≡ Some (n, v)) × (drop place es ≡ (n, v) ∷ drop (place + 1) es)
 at-place {A} es place v found =
@@ -280,7 +280,7 @@ owned-at {A} (x ∷ views) zero e what found is = let same : x ≡ e = cc (found
 owned-at {A} (x ∷ views) (suc place) e what found is = inr (owned-at views place e what found is)
 
 module _ {A : Type 0} (views : List (List ℕ × OpenView A)) (es : List (List ℕ × OpenView A)) (same : es ≡ views) (place : ℕ) (v : OpenView A) (found : slice_get (values_of es) place ≡ Some v) where
-  -- its name, its place and what follows it
+  -- its name, its index and what follows it
   pub view-at : (n : List ℕ) × (slice_get views place ≡ Some (n, v)) × (drop place views ≡ (n, v) ∷ drop (place + 1) views)
   view-at = subst (λ (l : List (List ℕ × OpenView A)). (n : List ℕ) × (slice_get l place ≡ Some (n, v)) × (drop place l ≡ (n, v) ∷ drop (place + 1) l)) same (at-place es place v found)
 
@@ -313,7 +313,7 @@ module _ {A : Type 0} (views : List (List ℕ × OpenView A)) (es : List (List �
   pub needless-at : (what : StateKey) → ((v.stale ≡ false) × (state_key_of v.view ≡ Some what) → ⊥) → NoneNeeds what (all_seen (drop (place + 1) views)) → NoneNeeds what (all_seen (drop place views))
   needless-at what needless later = subst (λ (l : List (List ℕ × OpenView A)). NoneNeeds what (all_seen l)) (sym view-at.2) ((λ fresh kept. needless (fresh, kept)), later)
 
--- the same, by the views before the place is written
+-- the same, by the views before the index is written
 pub marks-in : {A : Type 0} (old now : List (List ℕ × OpenView A)) (es : List (List ℕ × OpenView A)) → es ≡ now → (place : ℕ) (v : OpenView A) → slice_get (values_of es) place ≡ Some v → (w : OpenView A) (kept : Bool)
     → MarkingUpTo old now place → (kept ≡ true → IsKept (all_owned now) v.view) × (IsKept (all_owned now) v.view → kept ≡ true) → w ≡ marked v (v.stale || not kept)
     → MarkingUpTo old (set_value_at es place w) (place + 1)
@@ -324,7 +324,7 @@ marks-in {A} old now es same place v found w kept u says is =
 -- ---- a view that is written
 
 module _ {A : Type 0} (old new : List (List ℕ × OpenView A)) (place : ℕ) (v w : OpenView A) (u : Written old new place v w) where
-  -- what was kept is kept still, if that is so of the state in its place
+  -- what was kept is still kept, if it is by the state at the index
   written-grows : ((what : StateKey) → owned v ≡ Some what → IsOwned what (all_owned new)) → (what : StateKey) → IsOwned what (all_owned old) → IsOwned what (all_owned new)
   written-grows there what a =
       let states_are : all_owned new ≡ all_owned u.front ++ owned w ∷ all_owned u.more = ap all_owned u.new_is ∙ owned-append u.front ((u.name, w) ∷ u.more) in
@@ -540,7 +540,7 @@ stale-among zero at views stale within = counted at views stale within
 stale-among (suc place) zero (v ∷ views) stale within = absurd (cc (stale))
 stale-among (suc place) (suc at) (v ∷ views) stale within = omega (arith, stale-among place at views stale (omega (arith, within)))
 
--- the view at a place is made current
+-- the view at an index is made current
 pub written-current : {A : Type 0} (old new : List (List ℕ × OpenView A)) (place : ℕ) (v w : OpenView A) → Written old new place v w → w.view ≡ v.view → w.stale ≡ false
     → all_seen new ≡ current_at place (all_seen old)
 written-current {A} old new place v w u view fresh =
@@ -554,7 +554,7 @@ written-current {A} old new place v w u view fresh =
     by (e ∷ front) zero at is = absurd (omega (arith, at))
     by (e ∷ front) (suc place) at is = ap (λ (l : List (List ℕ × Shown)). (e.0, seen e.1) ∷ l) (by front place (omega (arith, at)) is)
 
--- what is at one place is the same
+-- what is at one index is the same
 pub same-there : {X : Type 0} {o : Option X} (x y : X) → o ≡ Some x → o ≡ Some y → x ≡ y
 same-there x y first second = let both : Some x ≡ Some y = sym first ∙ second in cc (both)
 
@@ -567,10 +567,10 @@ current-same zero (e ∷ views) v found is =
     ap (λ (s : Shown). (e.0, s) ∷ views) fresh
 current-same (suc place) (e ∷ views) v found is = ap (λ (l : List (List ℕ × Shown)). e ∷ l) (current-same place views v found is)
 
--- ---- the view of a name, by its place
+-- ---- the view of a name, by its index
 
 module _ {A : Type 0} (name : List ℕ) where
-  -- the key at a place is the first of the name
+  -- the key at an index is the first of the name
   abbrev IsFirst : List (List ℕ × OpenView A) → ℕ → Type 0
   IsFirst [] place = ⊥
   IsFirst (e ∷ es) zero = bytes_eq name e.0 ≡ true
@@ -599,7 +599,7 @@ module _ {A : Type 0} (name : List ℕ) where
           ap (λ (l : List (List ℕ × Shown)). (e.0, seen e.1) ∷ l) (by es place first.1)
           ∙ sym (ap (λ (b : Bool). if b then (e.0, current (seen e.1)) ∷ all_seen es else (e.0, seen e.1) ∷ with_current (all_seen es) name) first.0)
 
-  -- the view of the name is the one at the place
+  -- the view of the name is the one at the index
   pub placed-stale : (es : List (List ℕ × OpenView A)) (place : ℕ) → place_of es name ≡ Some place
       → IfSome (slice_get (all_seen es) place) (λ v. v.1.stale ≡ true) → IfSome (lookup (bytes_eq name) (all_seen es)) (λ v. v.stale ≡ true)
   placed-stale es place is = by es place (first-of es place is)
@@ -626,7 +626,7 @@ module _ {A : Type 0} (name : List ℕ) where
           head true none more = absurd (cc (none))
           head false none more = ap (λ (l : List (List ℕ × Shown)). (e.0, seen e.1) ∷ l) (more none)
 
--- if the view of a name was found at a place, then it is the one at the place
+-- if the view of a name was found at an index, then it is the one at the index
 pub stale-named : {A : Type 0} (name : List ℕ) (inside views : List (List ℕ × OpenView A)) (place : ℕ) (v : OpenView A) → inside ≡ views → Some place ≡ place_of inside name
     → Some v ≡ lookup (bytes_eq name) inside → IfSome (slice_get (all_seen views) place) (λ v. v.1.stale ≡ true) → IsSomeAnd (lookup (bytes_eq name) (all_seen views)) (λ v. v.stale ≡ true)
 stale-named name inside views place v same at found stale =
@@ -634,13 +634,13 @@ stale-named name inside views place v same at found stale =
     let some = ap (option_map seen) (found ∙ ap (lookup (bytes_eq name)) same) ∙ sym (seen-lookup name views) in
     subst (λ o. IfSome o (λ v. v.stale ≡ true) → IsSomeAnd o (λ v. v.stale ≡ true)) some (λ is. is) is
 
--- ---- the view at a place of a map is written
+-- ---- the view at an index of a map is written
 
 module _ {A : Type 0} (old : List (List ℕ × OpenView A)) (es : List (List ℕ × OpenView A)) (same : es ≡ old) (place : ℕ) (v : OpenView A) (found : slice_get (values_of es) place ≡ Some v) where
   written-in : (w : OpenView A) → Written old (set_value_at es place w) place v w
   written-in w = subst (λ (l : List (List ℕ × OpenView A)). Written l (set_value_at es place w) place v w) same (written-at es place v w found)
 
-  -- the view at the place, as contracts see it
+  -- the view at the index, as contracts see it
   pub seen-at-place : (n : List ℕ) × (slice_get (all_seen old) place ≡ Some (n, seen v))
   seen-at-place = let at = view-at old es same place v found in (at.0, by old place at.1)
     where

@@ -60,7 +60,7 @@ pub nothing-taken : (views : List (List ℕ × Shown)) (g : Sequences) (rows : L
 nothing-taken [] g rows n = refl
 nothing-taken (v ∷ views) g rows n = (n, none-taken v.1.view g rows n, nothing-taken views g rows n)
 
--- the view at a place is printed
+-- the view at an index is printed
 pub next-within : (inside s : State) (i : ℕ) (v : List ℕ × Shown) (first old mid : ℕ) → inside ≡ s → Some v ≡ slice_get inside.views i
     → ((m : ℕ) → AllPrintWithin (drop i s.views) s.genome s.track.rows old m → AllPrintWithin s.views s.genome s.track.rows first m)
     → ViewPrintsWithin v.1.view inside.genome inside.track.rows old mid

@@ -82,7 +82,7 @@ IsLeft target.Second e old new = new ≡ with_second old (edited e)
 abbrev pub IsEdited : Target → Edit → State → State → Type 0
 IsEdited to e old new = AllowsIn to e old × IsLeft to e old new
 
--- the most steps that an edit takes: 8 in the track and those of the views for each record that comes or goes; 16 in the second file
+-- the most steps that an edit takes: 8 in the track and those of the views for each record added or taken out; 16 in the second file
 abbrev pub most_steps : Target → Edit → State → ℕ
 most_steps target.First (edit.Add r) s = 8 + all_steps s.views (added s.track.rows r) r
 most_steps target.First (edit.Remove r) s = 8 + all_steps s.views s.track.rows r

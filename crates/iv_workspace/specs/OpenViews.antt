@@ -23,7 +23,7 @@ abbrev pub with_current : List (List ℕ × Shown) → List ℕ → List (List �
 with_current [] name = []
 with_current (v ∷ views) name = if bytes_eq name v.0 then (v.0, current v.1) ∷ views else v ∷ with_current views name
 
--- the views are the same, except that some may have become stale, of which something is kept
+-- the views are the same, except that some kept views may have become stale
 abbrev pub Stales : List (List ℕ × Shown) → List (List ℕ × Shown) → Type 0
 Stales [] [] = Unit {0}
 Stales [] (w ∷ new) = ⊥
@@ -46,7 +46,7 @@ stale_count [] = 0
 stale_count (v ∷ views) = (if v.1.stale then 1 else 0) + stale_count views
 
 -- how many steps the repair of an open view takes at most, with the record among the records: none of a stale one, and none of
--- one of which nothing is kept
+-- a written one
 abbrev pub view_steps : Shown → List RecordValue → RecordValue → ℕ
 view_steps v rows r = if v.stale then 0 else repair_steps_of v.view rows r
 

@@ -23,7 +23,7 @@ abbrev pub is_other : Option ℕ → ℕ → Bool
 is_other None n = false
 is_other (Some count) n = not (count == n)
 
--- the FASTA file has the sequence of this rank, and not so many bases of it
+-- the FASTA file has the sequence of this rank, and another number of bases of it
 abbrev pub has_other_bases : Option Bases → ℕ → ℕ → Bool
 has_other_bases bases seq n = is_other (option_map length (bases_of (unwrap_or bases []) seq)) n
 

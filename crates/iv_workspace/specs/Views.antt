@@ -26,7 +26,7 @@ is_view_name name = nat_le 1 (length name) && nat_le (length name) 32 && list_al
 abbrev pub view_named : List (List ℕ × Shown) → List ℕ → Option Shown
 view_named views name = lookup (bytes_eq name) views
 
--- as many views may be open
+-- how many views may be open
 abbrev pub most_views : ℕ
 most_views = 64
 

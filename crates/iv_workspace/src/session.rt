@@ -78,7 +78,7 @@ fn into_batches<A: Allocator + Copy>(file: Option<BedFile<A>>) -> Option<BedBatc
 }
 
 impl<A: Allocator + Copy> Session<A> {
-    /// A session of the records of a file, and of a second file and a FASTA file or none, with no view open. Copies are kept.
+    /// A session of the records of a file, and of a second file and a FASTA file or none, with no view open. Equal records all stay.
     pub fn new(
         alloc: A,
         genome: Genome<A>,

@@ -27,7 +27,7 @@ pub(crate) use states::Change;
 use std::alloc::{AllocError, Allocator, Global};
 use std::marker::Model;
 
-/// An open view. What is kept of it is in its own state, or in that of another open view of which the same is kept.
+/// An open view. Its state, if it has one, is its own or that of another open view which needs the same.
 #[derive(Drop)]
 pub(crate) struct OpenView<A: Allocator + Copy = Global> {
     pub(crate) view: View,
@@ -88,7 +88,7 @@ impl<A: Allocator + Copy> Views<A> {
         self.find(name).is_some()
     }
 
-    /// The name and the view at a place in the order of opening.
+    /// The name and the view at an index in the order of opening.
     pub(crate) fn at(&self, place: usize) -> Option<(&[u8], &OpenView<A>)>
         ensures { option_map (λ p. (p.0.now, p.1.now)) result ≡ slice_get self.now place }
     {
@@ -201,7 +201,7 @@ impl<A: Allocator + Copy> Views<A> {
         Ok(())
     }
 
-    /// Rebuilds the view at a place, if it is stale. If another view has its state, nothing is built. No step is taken if it isn't
+    /// Rebuilds the view at an index, if it is stale. If another view has its state, nothing is built. No step is taken if it isn't
     /// stale. An error changes nothing.
     fn refresh_at(
         &mut self,

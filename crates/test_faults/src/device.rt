@@ -4,11 +4,11 @@ ghost use Rattle.std.specs.Prelude.{◌≤◌, IfOk};
 use std::io;
 use std::io::{ErrorKind, Read, Write};
 
-/// What a device answers at its bad call.
+/// The answer of a device at its bad call.
 #[derive(Clone, Copy)]
 pub enum Bad {
     Fails(ErrorKind),
-    /// It takes nothing, or gives nothing, and says so.
+    /// It takes or gives nothing, and answers 0.
     Nothing,
 }
 

@@ -90,7 +90,7 @@ unsafe impl<B: Allocator> Allocator for RefusesNth<B> {
     }
 }
 
-/// Makes a run with its first allocation refused, one with its second, and so on, until one meets no refusal. The sum of what
+/// Makes a run with its first allocation refused, one with its second, and so on, until one meets no refusal. It answers the sum of what
 /// the runs give: how many of their calls were answered with out of memory. That is never more than allocations were refused in
 /// the run, so it is 0 in the last one.
 ///

@@ -169,7 +169,7 @@ const KINDS: [Kind<'static>; 7] = [
     },
 ];
 
-/// The version of a file that the last digit of a number says, which has digits from 0 to 2.
+/// The version of a file that the last digit of a number means, which has digits from 0 to 2.
 fn version_of<'a>(versions: &Versions<'a>, number: u32) -> Version<'a> {
     match number % 3 {
         0 => versions.sound,
@@ -178,7 +178,7 @@ fn version_of<'a>(versions: &Versions<'a>, number: u32) -> Version<'a> {
     }
 }
 
-/// The versions of the files that a number says.
+/// The versions of the files that a number means.
 fn chosen(kind: &Kind<'_>, number: u32) -> [Version<'static>; 4] {
     let third = if kind.is_third_bases { BASES } else { SECOND };
     [

@@ -144,7 +144,7 @@ const SCRIPT: [Step<'static>; 9] = [
     },
 ];
 
-/// The script of some steps, and all that they print and tell.
+/// The script of some steps, and all that they print and report.
 #[derive(Drop)]
 struct Texts {
     script: Vec<u8>,
@@ -173,7 +173,7 @@ fn texts_of(rt: &HostRuntime, steps: &[Step<'_>]) -> Result<Texts, AllocError> {
     Ok(texts)
 }
 
-/// How many bytes steps print and tell, and whether there was room for all of them.
+/// How many bytes steps print and report, and whether there was room for all of them.
 #[derive(Clone, Copy)]
 struct Reached {
     output: usize,

@@ -47,11 +47,11 @@ pub(crate) enum Run<'t> {
 pub(crate) enum Reading<'t> {
     /// As so many records of so many columns, unless it has a fault.
     Records(&'t [u8], u32, u8, Option<LoadFault>),
-    /// As their places alone, in pieces of so many bytes.
+    /// As their intervals alone, in pieces of so many bytes.
     Pieces(&'t [u8], usize, u8, Option<LoadFault>),
-    /// As places in its text.
+    /// As locators into its text.
     Places(&'t [u8]),
-    /// As places in its text, which are sorted. Only the sort may run out of memory.
+    /// As locators into its text, which are sorted. Only the sort may run out of memory.
     Sorted(&'t [u8]),
     /// As a track. Only its building may run out of memory.
     Track(&'t [u8]),
@@ -73,7 +73,7 @@ pub(crate) fn memory_of(fault: LoadFault, damage: Option<LoadFault>) -> Result<u
     }
 }
 
-/// Reads a BED file over a genome in memory of the first allocator, and says how often the second one refused an allocation.
+/// Reads a BED file over a genome in memory of the first allocator, and answers how often the second one refused an allocation.
 fn refused_over<'a>(
     granting: &'a RefusesNth<Global>,
     alloc: &'a RefusesNth<Global>,

@@ -77,7 +77,7 @@ fn is_order_seen(rt: &HostRuntime, index: usize) -> Result<bool, Fail>
     Ok(batches_of(rt, &NUMBERS)?.is_sorted() && !batches_of(rt, &numbers)?.is_sorted())
 }
 
-/// Whether that is so at each index but the first, within a vector and between two.
+/// Whether that is so at each index except the first, within a vector and between two.
 fn are_orders_seen(rt: &HostRuntime) -> Result<bool, Fail> {
     for index in 1..10 {
         if !is_order_seen(rt, index)? {
@@ -108,7 +108,7 @@ fn is_push_refused(
     Ok(true)
 }
 
-/// Adds ten numbers to batches and moves them into one vector, and says how often an allocation failed.
+/// Adds ten numbers to batches and moves them into one vector, and answers how often an allocation failed.
 pub(crate) fn refused_batches(alloc: &RefusesNth<Global>) -> Result<u32, Fail> {
     let mut batches = Batches::new(alloc);
     let mut refused = 0u32;

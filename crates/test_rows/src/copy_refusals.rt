@@ -16,7 +16,7 @@ fn check_texts<A: Allocator>(record: &Record<A>, texts: (&[u8], &[u8])) -> Resul
     }
 }
 
-/// Copies a record with these texts, and says how often an allocation failed, once or never.
+/// Copies a record with these texts, and answers how often an allocation failed, once or never.
 pub(crate) fn refused_copy(
     alloc: &RefusesNth<Global>,
     row: &RecordRef<'_>,
@@ -122,7 +122,7 @@ fn check_room<S: Sink>(sink: &mut S, room: usize) -> Result<u32, Fail> {
     }
 }
 
-/// Makes a sink, and says how often an allocation failed, once or never.
+/// Makes a sink, and answers how often an allocation failed, once or never.
 pub(crate) fn refused_sink(alloc: &RefusesNth<Global>, room: usize) -> Result<u32, Fail> {
     match MemSink::new(alloc, room, 7) {
         Ok(mut sink) => check_room(&mut sink, room),
@@ -130,7 +130,7 @@ pub(crate) fn refused_sink(alloc: &RefusesNth<Global>, room: usize) -> Result<u3
     }
 }
 
-/// All room is had at once.
+/// All room is allocated at once.
 #[test]
 fn the_growth_of_a_sink_refused(rt: HostRuntime) -> Result<(), Fail> {
     for room in [1, 9, 20_000] {

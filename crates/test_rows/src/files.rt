@@ -26,7 +26,7 @@ fn genome_files(rt: HostRuntime) {
     }
 }
 
-/// What a genome says of a rank: the rank of its name, the name and the length.
+/// What a genome has at a rank: the rank of its name, the name and the length.
 fn sequence_of(genome: &Genome, rank: u32) -> Option<(u32, &[u8], u64)> {
     let name = genome.name(rank)?;
     Some((genome.rank(name)?, name, genome.length(rank)?))
@@ -54,7 +54,7 @@ fn sequences_of_a_genome(rt: HostRuntime) -> Result<(), Fail> {
     Ok(())
 }
 
-/// What a BED file says: its width, how many records it has and where the last one is, or the fault.
+/// What a BED file has: its width, how many records it has and where the last one is, or the fault.
 fn file_of(
     rt: &HostRuntime,
     genome: &Genome,

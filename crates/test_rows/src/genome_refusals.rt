@@ -51,7 +51,7 @@ fn check_sequences<A: Allocator + Copy>(
     }
 }
 
-/// Reads that genome file, and says how often an allocation failed, once or never.
+/// Reads that genome file, and answers how often an allocation failed, once or never.
 pub(crate) fn refused_genome(
     rt: &HostRuntime,
     alloc: &RefusesNth<Global>,
@@ -79,7 +79,7 @@ fn each_growth_of_a_genome_refused(rt: HostRuntime) -> Result<(), Fail> {
     Ok(())
 }
 
-/// Reads a damaged genome file, and says how often an allocation failed, once or never.
+/// Reads a damaged genome file, and answers how often an allocation failed, once or never.
 pub(crate) fn refused_damage(
     alloc: &RefusesNth<Global>,
     text: &[u8],

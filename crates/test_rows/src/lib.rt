@@ -1,4 +1,4 @@
-//! Tests below the views: bytes, files, records, tracks, places, sinks and sources, and summaries of columns.
+//! Tests below the views: bytes, files, records, tracks, locators and intervals, sinks and sources, and summaries of columns.
 #![tactic(auto)]
 
 #[cfg(test)]

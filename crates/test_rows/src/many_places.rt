@@ -1,4 +1,4 @@
-//! Many places of a BED file, and each allocation of reading some of them, refused in turn.
+//! Many records of a BED file, as locators and as intervals alone, and each allocation of reading some of them, refused in turn.
 use crate::allocations::{Reading, Run, allocations, memory_of};
 use crate::fixtures::holds;
 use crate::places::{SIZES, bed_text};
@@ -42,7 +42,7 @@ fn are_many_sorted(rt: &HostRuntime, genome: &Genome, text: &[u8]) -> Result<boo
     Ok(are_many(bed.records()))
 }
 
-/// Whether places alone are one at each tenth start.
+/// Whether intervals alone are one at each tenth start.
 fn are_many_places(spans: &[Span]) -> bool {
     let mut start = 0u32;
     for span in spans {
@@ -54,7 +54,7 @@ fn are_many_places(spans: &[Span]) -> bool {
     spans.len() == MANY as usize
 }
 
-/// Whether the places alone of that file are sorted so.
+/// Whether the intervals alone of that file are sorted so.
 fn are_many_places_sorted(rt: &HostRuntime, genome: &Genome, text: &[u8]) -> Result<bool, Fail> {
     let (_, mut places) = spans_of(rt.alloc(), genome, MANY, text, text.len())?;
     sort_spans(&mut places);
@@ -88,7 +88,7 @@ fn end_of<'a>(
     }
 }
 
-/// Reads a text of forty records, and says how often an allocation failed, once or never.
+/// Reads a text of forty records, and answers how often an allocation failed, once or never.
 pub(crate) fn refused_reads<'a>(
     alloc: &'a RefusesNth<Global>,
     genome: &Genome<&'a RefusesNth<Global>>,

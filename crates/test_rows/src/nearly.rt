@@ -1,8 +1,8 @@
-//! Numbers that are in order, but for neighbors that stand the wrong way round.
+//! Numbers that are in order except for neighbours that are the wrong way round.
 use iv_index::order_nearly;
 use std::test::Fail;
 
-/// How many runs of neighbors there are.
+/// How many runs of neighbours there are.
 const RUNS: u32 = 1_200;
 
 /// The numbers from 0 on, each run of so many of them from the last to the first.

@@ -48,7 +48,7 @@ fn has_records<A: Allocator + Copy>(file: &BedFile<A>, count: u32, width: u8) ->
     start == u64::from(count) && file.width() == width
 }
 
-/// Reads a BED file of so many records over a genome, and says how often an allocation failed, once or never.
+/// Reads a BED file of so many records over a genome, and answers how often an allocation failed, once or never.
 pub(crate) fn refused_file<'a>(
     alloc: &'a RefusesNth<Global>,
     genome: &Genome<&'a RefusesNth<Global>>,
@@ -115,7 +115,7 @@ fn damaged_bed_files_without_memory(rt: HostRuntime) -> Result<(), Fail> {
     Ok(())
 }
 
-/// Whether the places of a file are just those of the records in that file.
+/// Whether the intervals of a file are just those of the records in that file.
 fn has_places(spans: &[Span]) -> bool {
     let mut start = 0u32;
     for span in spans {
@@ -127,7 +127,7 @@ fn has_places(spans: &[Span]) -> bool {
     start == COUNT
 }
 
-/// Reads a BED file in pieces of so many bytes over a genome, and says how often an allocation failed, once or never.
+/// Reads a BED file in pieces of so many bytes over a genome, and answers how often an allocation failed, once or never.
 pub(crate) fn refused_spans<'a>(
     alloc: &'a RefusesNth<Global>,
     genome: &Genome<&'a RefusesNth<Global>>,
@@ -172,7 +172,7 @@ fn pieces_of_width(rt: &HostRuntime, width: u8) -> Result<bool, Fail> {
     pieces_take_more(rt, text.as_bytes(), width)
 }
 
-/// Places take allocations of one vector, and what has come of a line that isn't ended yet some of another.
+/// Intervals take allocations of one vector, and the bytes of a line that hasn't ended some of another.
 #[test]
 fn each_growth_of_pieces_refused(rt: HostRuntime) -> Result<(), Fail> {
     for width in [3, 6] {

@@ -1,4 +1,4 @@
-//! BED files as places in their text.
+//! BED files as locators into their text.
 use crate::fixtures::holds;
 use iv_index::{BedText, TextRecord, TextRecords};
 use iv_text::{BedRecord, Genome, LoadCause, LoadFault, RecordFault, Strand};
@@ -22,7 +22,7 @@ pub(crate) fn bed_text<'t, A: Allocator + Copy>(
     BedText::parse(alloc, genome, 5, limit, text)
 }
 
-/// What a text says: its width, how many records it has and where the last one is, or the fault.
+/// What a text has: its width, how many records it has and where the last one is, or the fault.
 fn file_of(
     rt: &HostRuntime,
     genome: &Genome,
@@ -90,7 +90,7 @@ fn texts_of_bed_files(rt: HostRuntime) -> Result<(), Fail> {
 /// Rank, start and stop, name and score, strand.
 pub(crate) type Cells<'t> = ((u32, u64, u64), (&'t [u8], &'t [u8]), Option<Strand>);
 
-/// Whether the record has these columns, and the same place and strand if it is asked for them alone.
+/// Whether the record has these columns, and the same interval and strand if it is asked for them alone.
 pub(crate) fn has_cells(record: &TextRecord<'_>, width: u8, cells: Cells<'_>) -> bool {
     let (place, texts, strand) = cells;
     let row = record.to_ref();
@@ -179,7 +179,7 @@ fn are_three(records: TextRecords<'_>) -> bool {
         && first.again().stop() == 12
 }
 
-/// Whether places and indexes lead to the same three records.
+/// Whether locators and indexes lead to the same three records.
 fn are_at_indexes(records: &TextRecords<'_>) -> bool {
     let mut sum = 0u64;
     for place in records.locators() {

@@ -153,7 +153,7 @@ fn short_line(genome: &Genome, width: u8, text: &[u8]) -> Option<(u32, u32, u32,
     Some((line.seq, line.start, line.stop, line.size))
 }
 
-/// Whether these texts begin with a line that is known at once, or do not.
+/// Whether these texts begin with a line that is known at once, or don't.
 fn are_short(genome: &Genome) -> bool {
     for (text, want) in [
         (
@@ -285,7 +285,7 @@ fn have_names(rt: &HostRuntime) -> Result<bool, Fail> {
     Ok(true)
 }
 
-/// Positions of 1 to 10 digits; 11 digits, and a byte that is no digit at each place, aren't known.
+/// Positions of 1 to 10 digits; 11 digits, and a byte that is no digit at each index, aren't known.
 fn have_numbers(rt: &HostRuntime) -> Result<bool, Fail> {
     for (start, stop, want) in [
         (b"1".as_slice(), b"39".as_slice(), Some((1, 39))),
@@ -370,7 +370,7 @@ fn is_bad(rt: &HostRuntime, name: &[u8]) -> Result<bool, Fail> {
     })
 }
 
-/// A name of so many bytes, with this byte at a place.
+/// A name of so many bytes, with this byte at an index.
 fn name_with(rt: &HostRuntime, size: usize, place: usize, byte: u8) -> Result<Vec<u8>, Fail> {
     let mut name = Vec::new(rt.alloc());
     for at in 0..size {
@@ -379,7 +379,7 @@ fn name_with(rt: &HostRuntime, size: usize, place: usize, byte: u8) -> Result<Ve
     Ok(name)
 }
 
-/// Names of 1 to 20 bytes, with each of these bytes at each place.
+/// Names of 1 to 20 bytes, with each of these bytes at each index.
 fn have_bytes(rt: &HostRuntime, bytes: &[u8]) -> Result<bool, Fail> {
     for place in 0..20 {
         for byte in bytes {
@@ -393,7 +393,7 @@ fn have_bytes(rt: &HostRuntime, bytes: &[u8]) -> Result<bool, Fail> {
     Ok(true)
 }
 
-/// Each of these bytes at each place of a name refuses its line.
+/// Each of these bytes at each index of a name refuses its line.
 fn refuse_bytes(rt: &HostRuntime, bytes: &[u8]) -> Result<bool, Fail> {
     for place in 0..20 {
         for byte in bytes {

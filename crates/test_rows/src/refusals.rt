@@ -67,7 +67,7 @@ fn is_put_refused(
     Ok(true)
 }
 
-/// Puts one key after the other into a ledger, and says how many calls met the refusal.
+/// Puts one key after the other into a ledger, and answers how many calls met the refusal.
 fn refused_puts(ledger: &mut Ledger<u32, u32, &RefusesNth<Global>>) -> Result<u32, Fail> {
     let mut refused = 0u32;
     for key in 0..COUNT {

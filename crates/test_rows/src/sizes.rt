@@ -1,4 +1,4 @@
-//! Calls at real sizes: a body that gives up above some size and says that memory ran out is seen here.
+//! Calls at real sizes: code that fails above some size and claims that memory ran out is caught here.
 use crate::fixtures::{holds, track_of};
 use iv_text::{Genome, LoadCause, LoadFault};
 use iv_track::{Ledger, Meter, Track};

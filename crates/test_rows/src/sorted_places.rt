@@ -1,4 +1,4 @@
-//! The places of a BED file in the order of a track, and each allocation of reading and sorting them, refused in turn.
+//! The locators and the intervals of a BED file in the order of a track, and each allocation of reading and sorting them, refused in turn.
 use crate::allocations::{Reading, Run, allocations};
 use crate::fixtures::holds;
 use crate::places::{SIZES, bed_text, has_cells};
@@ -9,7 +9,7 @@ use std::alloc::Global;
 use std::test::Fail;
 use test_faults::RefusesNth;
 
-/// Records of one place among others, in no order, copies and headers among them.
+/// Records of one interval among others, in no order, copies and headers among them.
 const SHUFFLED: &[u8] = b"chr2\t5\t9\tb\t1\t+
 #comment
 chr1\t30\t40\tb\t1\t+
@@ -63,7 +63,7 @@ fn sorts_as(
     Ok(is_unsorted && are_same(bed.records(), orders.sorted))
 }
 
-/// Whether places are those of these records, in order.
+/// Whether intervals are those of these records, in order.
 fn are_places_of(spans: &[Span], records: &[Record]) -> bool {
     if spans.len() != records.len() {
         return false;
@@ -79,7 +79,7 @@ fn are_places_of(spans: &[Span], records: &[Record]) -> bool {
     true
 }
 
-/// Whether the places alone of a text are those of these records, in its order and then sorted.
+/// Whether the intervals alone of a text are those of these records, in its order and then sorted.
 fn places_sort_as(
     rt: &HostRuntime,
     genome: &Genome,
@@ -104,7 +104,7 @@ fn sorted_records_of(rt: &HostRuntime, genome: &Genome, text: &[u8]) -> Result<V
     Ok(records)
 }
 
-/// Whether the records of a text and their places alone are sorted as these.
+/// Whether the records of a text and their intervals alone are sorted as these.
 fn both_sort_as(
     rt: &HostRuntime,
     genome: &Genome,
@@ -125,7 +125,7 @@ fn both_sort_as_their_file(rt: &HostRuntime, genome: &Genome, text: &[u8]) -> Re
     both_sort_as(rt, genome, text, orders)
 }
 
-/// The lines of records in order, but for so many of one start, of which the longest come first.
+/// The lines of records in order except for so many of one start, of which the longest come first.
 fn tied_lines(rt: &HostRuntime, count: u32) -> Result<String, Fail> {
     let mut text = String::new(rt.alloc());
     text.push_str("chr1\t1\t2\tn\t0\t+\n")?;
@@ -160,7 +160,7 @@ fn records_of_one_start(rt: HostRuntime) -> Result<(), Fail> {
     holds(do_all_ties_sort(&rt, &genome))
 }
 
-/// The lines of so many records of one place, the columns after the third in no order: names of one to nine bytes after a
+/// The lines of so many records of one interval, the columns after the third in no order: names of one to nine bytes after a
 /// beginning that all have, some of them the same, so that scores and strands decide.
 fn named_lines(rt: &HostRuntime, count: u32) -> Result<String, Fail> {
     let mut text = String::new(rt.alloc());
@@ -174,13 +174,13 @@ fn named_lines(rt: &HostRuntime, count: u32) -> Result<String, Fail> {
     Ok(text)
 }
 
-/// Whether so many records of one place are sorted.
+/// Whether so many records of one interval are sorted.
 fn do_named_sort(rt: &HostRuntime, genome: &Genome, count: u32) -> Result<bool, Fail> {
     let text = named_lines(rt, count)?;
     both_sort_as_their_file(rt, genome, text.as_bytes())
 }
 
-/// Whether records in no order are sorted, and many records of one place by the bytes of their names.
+/// Whether records in no order are sorted, and many records of one interval by the bytes of their names.
 fn do_shuffled_sort(rt: &HostRuntime, genome: &Genome) -> Result<bool, Fail> {
     for count in [3, 17, 300] {
         if !do_named_sort(rt, genome, count)? {
@@ -196,7 +196,7 @@ fn records_in_the_order_of_a_track(rt: HostRuntime) -> Result<(), Fail> {
     holds(do_shuffled_sort(&rt, &genome))
 }
 
-/// Sorts the records of a text, and says how often an allocation failed, once or never.
+/// Sorts the records of a text, and answers how often an allocation failed, once or never.
 pub(crate) fn refused_sorts<'a>(
     granting: &'a RefusesNth<Global>,
     alloc: &'a RefusesNth<Global>,
@@ -207,13 +207,13 @@ pub(crate) fn refused_sorts<'a>(
     Ok(u32::from(bed.sort(alloc).is_err()))
 }
 
-/// How many allocations a sort takes if many records of one place are out of order.
+/// How many allocations a sort takes if many records of one interval are out of order.
 fn growths_of_named(rt: &HostRuntime) -> Result<u32, Fail> {
     let named = named_lines(rt, 40)?;
     allocations(rt, Run::Over(Reading::Sorted(named.as_bytes())))
 }
 
-/// A sort takes memory once, if many records of one place are out of order, and else none.
+/// A sort takes memory once, if many records of one interval are out of order, and else none.
 #[test]
 fn memory_of_a_sort_refused(rt: HostRuntime) -> Result<(), Fail> {
     let shuffled = allocations(&rt, Run::Over(Reading::Sorted(SHUFFLED)))?;

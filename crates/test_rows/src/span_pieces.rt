@@ -1,4 +1,4 @@
-//! BED files that come in pieces, of whose records the places alone are kept.
+//! BED files that come in pieces, of whose records only the intervals are held.
 ghost use Rattle.std.specs.Prelude.{◌+◌, ◌<◌, ◌≤◌, ◌^◌, OnOk, length};
 ghost use Rattle.iv_text.specs.BedReading.{AreSound, size_of};
 
@@ -31,7 +31,7 @@ fn take_pieces<K: FromRecord<A>, A: Allocator + Copy>(
     Ok(())
 }
 
-/// The width and the places of a text below 4 GiB that comes in pieces of so many bytes. Without a record it has the width 5.
+/// The width and the intervals of a text below 4 GiB that comes in pieces of so many bytes. Without a record it has the width 5.
 pub(crate) fn spans_of<A: Allocator + Copy>(
     alloc: A,
     genome: &Genome<A>,
@@ -51,7 +51,7 @@ pub(crate) fn spans_of<A: Allocator + Copy>(
 /// Rank, start and stop of a record.
 type At = (u32, u32, u32);
 
-/// Whether places are these.
+/// Whether intervals are these.
 fn are_at(spans: &[Span], places: &[At]) -> bool {
     if spans.len() != places.len() {
         return false;
@@ -66,7 +66,7 @@ fn are_at(spans: &[Span], places: &[At]) -> bool {
     true
 }
 
-/// Whether the records of a text that comes in pieces of so many bytes are at these places, or its fault.
+/// Whether the records of a text that comes in pieces of so many bytes have these intervals, or its fault.
 fn is_read(
     rt: &HostRuntime,
     genome: &Genome,
@@ -134,7 +134,7 @@ const FILES: [(&[u8], u8, &[At]); 13] = [
     ),
 ];
 
-/// Whether each of these files says its places, in whatever pieces it comes.
+/// Whether each of these files gives its intervals, in whatever pieces it comes.
 fn files_are_read(rt: &HostRuntime, genome: &Genome) -> bool {
     for (text, width, places) in FILES {
         if !is_answered(rt, genome, 3, text, (width, places), Ok(true)) {
@@ -151,7 +151,7 @@ fn files_in_pieces(rt: HostRuntime) -> Result<(), Fail> {
     Ok(())
 }
 
-/// Files with damaged lines, the number of the first of these, and its fault. Each may say two records.
+/// Files with damaged lines, the number of the first of these, and its fault. Each may have two records.
 const FAULTS: [(&[u8], u64, LoadCause); 18] = [
     // A damaged last line, with LF and without.
     (
@@ -252,7 +252,7 @@ fn damaged_files_in_pieces(rt: HostRuntime) -> Result<(), Fail> {
     Ok(())
 }
 
-/// Whether places are as many as the limit, of one and of none too.
+/// Whether intervals are as many as the limit, of one and of none too.
 fn limits_are_met(rt: &HostRuntime, genome: &Genome) -> bool {
     let one = b"#\nchr2\t1\t2\n".as_slice();
     let too_many = Err(LoadFault {

@@ -162,7 +162,7 @@ fn is_refused<'a>(
     Ok(true)
 }
 
-/// Edits a track at one start after the other, and says how many edits met the refusal.
+/// Edits a track at one start after the other, and answers how many edits met the refusal.
 fn refused_edits<'a>(
     rt: &HostRuntime,
     genome: &Genome,
@@ -201,7 +201,7 @@ fn check_track<A: Allocator + Copy>(track: &Track<A>) -> Result<u32, Fail> {
     }
 }
 
-/// Builds a track from the records of a text, which are read with no allocation refused, and says how often an allocation failed,
+/// Builds a track from the records of a text, which are read with no allocation refused, and answers how often an allocation failed,
 /// once or never.
 pub(crate) fn refused_build<'a>(
     granting: &'a RefusesNth<Global>,

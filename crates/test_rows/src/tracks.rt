@@ -186,7 +186,7 @@ fn add_all(
     Ok(())
 }
 
-/// Looks at a track to which two copies of a record and one of another come.
+/// Looks at a track to which two copies of a record and one of another are added.
 fn check_copies(rt: &HostRuntime, genome: &Genome, track: &mut Track) -> Result<(), Fail> {
     let (a, b) = (b"chr1\t10\t20\ta".as_slice(), b"chr1\t10\t20\tb".as_slice());
     add_all(rt, genome, track, &[b, a, a])?;
@@ -235,7 +235,7 @@ fn check_starts(track: &Track) -> Result<(), Fail> {
     Ok(())
 }
 
-/// The same of a track to which two records come.
+/// The same of a track to which two records are added.
 fn check_last_starts(rt: &HostRuntime, genome: &Genome, track: &mut Track) -> Result<(), Fail> {
     let lines = [b"chr1\t99\t100\ta".as_slice(), b"chr2\t0\t1\ta"];
     add_all(rt, genome, track, &lines)?;

@@ -145,7 +145,7 @@ pub(crate) fn cases() -> [Case<'static>; 10] {
     ]
 }
 
-/// A run of each subcommand of which places alone are kept, over the same records.
+/// A run of each subcommand that holds only intervals, over the same records.
 pub(crate) fn place_cases() -> [Case<'static>; 5] {
     let plain = places(0, 5, "", false);
     let named = places(0, 5, "\tn", true);

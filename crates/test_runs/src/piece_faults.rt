@@ -81,7 +81,7 @@ fn no_record(line: u64, fault: RecordFault) -> Ended {
     damaged(Slot::First, line, LoadCause::Record(fault))
 }
 
-/// A read of no byte is the file's end, wherever it comes: what came before is what the file says.
+/// A read of no byte is the file's end, wherever it comes: what came before is the whole file.
 #[test]
 fn each_read_gives_nothing(rt: HostRuntime) -> Result<(), Fail> {
     let no_columns = damaged(Slot::First, 1, LoadCause::Columns);

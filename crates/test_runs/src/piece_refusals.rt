@@ -43,7 +43,7 @@ fn run(
     }
 }
 
-/// Runs it, and says how often that was out of memory, once or never.
+/// Runs it, and answers how often that was out of memory, once or never.
 fn refused_run(
     rt: &HostRuntime,
     alloc: &RefusesNth<Global>,
@@ -107,7 +107,7 @@ fn ended<'a>(
     run_over(alloc, plan, SHORT, &mut StdSource::new(&mut device), sink)
 }
 
-/// Runs such a merge, and says 0: that an allocation failed is never reported.
+/// Runs such a merge, and answers 0: that an allocation failed is never reported.
 fn lost_by<'a>(
     rt: &HostRuntime,
     alloc: &'a RefusesNth<Global>,

@@ -22,7 +22,7 @@ fn are_in_pieces(rt: &HostRuntime, runs: &[&[u8]], want: bool) -> Result<bool, F
     Ok(true)
 }
 
-/// Runs that print no column of a record after the third, and don't set records apart by one.
+/// Runs that print no column of a record after the third, and don't separate records by one.
 const IN_PIECES: [&[u8]; 8] = [
     b"merge -g g -i a",
     b"merge -g g -d 0 -i a",

@@ -16,7 +16,7 @@ fn is_read(alloc: &RefusesNth<Global>, text: &[u8], piece: usize) -> Result<bool
     Ok(bytes.as_slice() == text)
 }
 
-/// Reads a text in pieces of so many bytes, and says how often an allocation failed, once or never.
+/// Reads a text in pieces of so many bytes, and answers how often an allocation failed, once or never.
 fn refused_read(alloc: &RefusesNth<Global>, text: &[u8], piece: usize) -> Result<u32, Fail> {
     match is_read(alloc, text, piece) {
         Ok(true) => Ok(0),
@@ -61,7 +61,7 @@ fn each_growth_of_a_file_refused(rt: HostRuntime) -> Result<(), Fail> {
     Ok(())
 }
 
-/// Words of a merge, with options in the midst.
+/// Words of a merge, with options between them.
 const WORDS: [&[u8]; 12] = [
     b"merge", b"-d", b"7", b"-g", b"g", b"-c", b"4,5", b"-i", b"a", b"-width", b"6", b"-s",
 ];
@@ -79,7 +79,7 @@ fn is_plan_read(alloc: &RefusesNth<Global>) -> Result<bool, Fault> {
     Ok(is_merge(&plan))
 }
 
-/// Reads those words, and says how often an allocation failed, once or never.
+/// Reads those words, and answers how often an allocation failed, once or never.
 fn refused_plan(alloc: &RefusesNth<Global>) -> Result<u32, Fail> {
     match is_plan_read(alloc) {
         Ok(true) => Ok(0),
@@ -148,7 +148,7 @@ fn is_print_refused<'a>(
     }
 }
 
-/// Prints a session, and says how often an allocation failed, once or never.
+/// Prints a session, and answers how often an allocation failed, once or never.
 fn refused_print<'a>(
     rt: &HostRuntime,
     session: &mut Session<&'a RefusesNth<Global>>,

@@ -74,7 +74,7 @@ fn loaded(
     loaded_by(alloc, &plan, inputs, bases, piece)
 }
 
-/// Loads the files, and says how often that was out of memory, once or never. Else they are loaded whole, though an allocation was
+/// Loads the files, and answers how often that was out of memory, once or never. Else they are loaded whole, though an allocation was
 /// refused: it may have been tried again at another size.
 fn refused_load(
     rt: &HostRuntime,

@@ -48,7 +48,7 @@ fn wrong_rooms(
     wrong_rooms_by(rt, &plan, inputs, bases, printed)
 }
 
-/// Rows of places, and rows with results: for each number of bytes.
+/// Rows of intervals, and rows with results: for each number of bytes.
 #[test]
 fn outputs_that_fail(rt: HostRuntime) -> Result<(), Fail> {
     for (words, first, rows) in [

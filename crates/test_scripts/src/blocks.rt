@@ -2,7 +2,7 @@
 use crate::fixtures::{Example, check};
 use std::test::Fail;
 
-/// Blocks that join and part: plain, at a distance, and beside complement.
+/// Blocks that join and split: plain, at a distance, and beside complement.
 #[test]
 fn merges_under_edits(rt: HostRuntime) -> Result<(), Fail> {
     let examples = [

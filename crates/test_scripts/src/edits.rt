@@ -57,7 +57,7 @@ fn full_tracks(rt: HostRuntime) -> Result<(), Fail> {
             refused: 1,
             left: 2,
         },
-        // A record of more than three columns takes memory, and still it is the limit that is reported.
+        // A record of more than three columns takes memory, but it is the limit that is reported.
         Example {
             width: 4,
             first: b"",

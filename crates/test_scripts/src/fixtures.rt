@@ -33,7 +33,7 @@ pub(crate) const ALONE: Beside<'static> = Beside {
     bases: None,
 };
 
-/// What a FASTA file says, if there is one.
+/// The FASTA file, if there is one.
 fn fasta_of<A: Allocator + Copy>(
     alloc: A,
     genome: &Genome<A>,
@@ -48,7 +48,7 @@ fn fasta_of<A: Allocator + Copy>(
     }
 }
 
-/// What a second file says, if there is one.
+/// The second file, if there is one.
 fn second_of<A: Allocator + Copy>(
     alloc: A,
     genome: &Genome<A>,

@@ -12,7 +12,7 @@ pub(crate) fn ended(rt: &HostRuntime, script: Script<'_>, piece: usize) -> Resul
 /// Lines that print, after a refused one.
 pub(crate) const PRINTS: &[u8] = b"open\tm\tmerge\npaint\tm\nadd\tchr1\t10\t20\nprint\tm";
 
-/// Lines that end in CR LF, but for the last, which has no end. The third one is no command.
+/// Lines that end in CR LF, except the last, which has no end. The third one is no command.
 pub(crate) const CRLF_PRINTS: &[u8] =
     b"open\tm\tmerge\r\n# a note\r\npaint\tm\r\nadd\tchr1\t10\t20\r\nprint\tm";
 

@@ -100,7 +100,7 @@ fn gaps_beside_blocks_and_depth(rt: HostRuntime) -> Result<(), Fail> {
     check(&rt, &examples)
 }
 
-/// What words say for a track of three columns beside a second file.
+/// What words ask for on a track of three columns beside a second file.
 fn view_of(rt: &HostRuntime, words: &[&[u8]]) -> Result<ViewWords, ViewFault> {
     ViewWords::read(rt.alloc(), 3, true, false, words)
 }

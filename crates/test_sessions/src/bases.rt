@@ -104,7 +104,7 @@ fn edits_beside_bases(rt: HostRuntime) -> Result<(), Fail> {
     in_session(&rt, |session| edit_without_steps(session, views, &EDITS))
 }
 
-/// Corrects lengths of that session: records past the new end are reported before the bases, and what has none is free.
+/// Corrects lengths of that session: records past the new end are reported before the bases, and a sequence without bases isn't fixed.
 fn corrects(session: &mut Session) -> bool {
     answers(session, b"s", 9, Some(ResizeFault::Shorter))
         && answers(session, b"s", 12, Some(ResizeFault::Fixed))

@@ -35,7 +35,7 @@ pub(crate) fn alone(first: &[u8], limit: u32) -> Files<'_> {
     }
 }
 
-/// What the second file says, if there is one; `None` if it has a fault or an allocation fails.
+/// The second file, if there is one; `None` if it has a fault or an allocation fails.
 fn second_of<A: Allocator + Copy>(
     alloc: A,
     genome: &Genome<A>,

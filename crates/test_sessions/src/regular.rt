@@ -318,7 +318,7 @@ fn edit_of(
     refused_in_turn(rt, views, case)
 }
 
-/// What is seen at edits of so many records: one more, one less, and one in the place of another.
+/// What is seen at edits of so many records: one more, one less, and one instead of another.
 fn edits_of(rt: &HostRuntime, views: &[Open<'_>], count: u32) -> Result<[Seen; 3], Fail> {
     let add = Edit::Add(b"big\t500\t510");
     let remove = Edit::Remove(b"big\t0\t10");

@@ -183,7 +183,7 @@ fn edits_of_a_thousand_copies(rt: HostRuntime) -> Result<(), Fail> {
     })
 }
 
-/// Opens the views, closes all but those of these names, and gives the steps of an edit beside them.
+/// Opens the views, closes all except those of these names, and gives the steps of an edit beside them.
 fn steps_of(session: &mut Session, names: &[&[u8]]) -> Result<u64, Fail> {
     open_views(session, &VIEWS)?;
     for (name, _) in VIEWS {
@@ -212,7 +212,7 @@ fn views_that_keep_the_same(rt: HostRuntime) -> Result<(), Fail> {
     Ok(())
 }
 
-/// Closes a view, does an edit that leaves none stale, and tells whether others print these texts.
+/// Closes a view, does an edit that leaves none stale, and answers whether others print these texts.
 fn edit_without(
     rt: &HostRuntime,
     session: &mut Session,
@@ -250,7 +250,7 @@ fn views_that_are_closed(rt: HostRuntime) -> Result<(), Fail> {
     )
 }
 
-/// Adds a record without a strand beside a view of strands, which takes no steps but those of the edit and of its place.
+/// Adds a record without a strand beside a view of strands, which takes no steps except those of the edit and of its lookup.
 fn add_without_a_strand(rt: &HostRuntime, session: &mut Session) -> Result<(), Fail> {
     let views: [Open<'_>; 1] = [(b"s", &[b"merge", b"-s"])];
     repair_within(
@@ -262,7 +262,7 @@ fn add_without_a_strand(rt: &HostRuntime, session: &mut Session) -> Result<(), F
     holds(prints(rt, session, Some(b"s"), b"big\t10\t20\n")?)
 }
 
-/// It stands in no block.
+/// It is in no block.
 #[test]
 fn record_without_a_strand(rt: HostRuntime) -> Result<(), Fail> {
     in_session(

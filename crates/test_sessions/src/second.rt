@@ -102,7 +102,7 @@ fn beside<'a>(first: &'a [u8], second: &'a [u8]) -> Files<'a> {
     }
 }
 
-/// Views of which a state is kept, and views that are written from the records, before and after edits of the track.
+/// Kept views, and views that are written from the records, before and after edits of the track.
 #[test]
 fn views_beside_a_second_file(rt: HostRuntime) -> Result<(), Fail> {
     in_session(&rt, beside(FIRST, SECOND), |session| {
@@ -110,7 +110,7 @@ fn views_beside_a_second_file(rt: HostRuntime) -> Result<(), Fail> {
     })
 }
 
-/// Views of which nothing is kept add no step to an edit.
+/// Written views add no step to an edit.
 #[test]
 fn edits_beside_written_views(rt: HostRuntime) -> Result<(), Fail> {
     let views = &VIEWS[1..11];

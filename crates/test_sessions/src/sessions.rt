@@ -43,7 +43,7 @@ fn edits(rt: HostRuntime) -> Result<(), Fail> {
     in_session(&rt, alone(b"chr1\t10\t20\tn\n", 2), check_edits)
 }
 
-/// What the session says of a line, and whether the record is one of a session with four columns.
+/// How the session reads a line, and whether the record is one of a session with four columns.
 fn fault_of_line(session: &Session, other: &Session, line: &[u8]) -> (Option<RecordFault>, bool) {
     match session.read(line) {
         Ok(row) => (None, other.fits(&row)),

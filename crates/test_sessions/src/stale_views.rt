@@ -59,7 +59,7 @@ const EDITS: [Edit<'static>; 3] = [
     Edit::Remove(b"chr1\t10\t20\tn"),
 ];
 
-/// Nine records. Depth changes at fifteen places, which fill one node of a tree: the first edit has to split it.
+/// Nine records. Depth changes at fifteen positions, which fill one node of a tree: the first edit has to split it.
 const FIRST: &[u8] =
     b"chr1\t0\t30\tn\nchr1\t10\t20\tn\nchr1\t20\t30\tn\nchr2\t1\t2\tn\nchr2\t3\t4\tn\nchr2\t5\t6\tn\nchr2\t7\t8\tn\nchr2\t9\t10\tn\nchr2\t11\t12\tn\n";
 

@@ -29,7 +29,7 @@ fn most_steps<A: Allocator + Copy>(state: &KeptState<A>) -> u64 {
     }
 }
 
-/// A view of which something is kept.
+/// A kept view.
 fn kept(view: View) -> Result<KeptView, Fail> {
     match view {
         View::Kept(view) => Ok(view),
@@ -37,7 +37,7 @@ fn kept(view: View) -> Result<KeptView, Fail> {
     }
 }
 
-/// The view of these words, of which something is kept.
+/// The kept view of these words.
 pub(crate) fn view_of(rt: &HostRuntime, words: &[u8]) -> Result<KeptView, Fail> {
     let words = words_of(rt.alloc(), words)?;
     kept(View::read(rt.alloc(), 3, false, false, words.as_slice())?)
@@ -166,14 +166,14 @@ pub(crate) fn is_removed_beside<'a>(
     is_removed(session, state, &row)
 }
 
-/// Puts the line of a record of this name at the end of a text. All are of one place.
+/// Puts the line of a record of this name at the end of a text. All have one interval.
 fn push_line(rt: &HostRuntime, text: &mut String, name: u32) -> Result<(), Fail> {
     let line = format!(in rt.alloc(); "big\t0\t10\t{name}\n")?;
     text.push_str(line.as_str())?;
     Ok(())
 }
 
-/// A thousand records of one place.
+/// A thousand records of one interval.
 fn lines_of_one_place(rt: &HostRuntime) -> Result<String, Fail> {
     let mut text = String::new(rt.alloc());
     for name in 1..1001u32 {
@@ -194,7 +194,7 @@ fn prints_in_four(
     prints(rt, session, view, &state, want, 4)
 }
 
-/// Prints three views of a thousand records of one place.
+/// Prints three views of a thousand records of one interval.
 fn check_prints(rt: &HostRuntime, session: &Session) -> Result<(), Fail> {
     for (words, want) in [
         (b"merge".as_slice(), b"big\t0\t10\n".as_slice()),
@@ -206,7 +206,7 @@ fn check_prints(rt: &HostRuntime, session: &Session) -> Result<(), Fail> {
     Ok(())
 }
 
-/// Each print of a thousand records of one place takes four steps at most.
+/// Each print of a thousand records of one interval takes four steps at most.
 #[test]
 fn records_of_one_place(rt: HostRuntime) -> Result<(), Fail> {
     let first = lines_of_one_place(&rt)?;

@@ -3,7 +3,7 @@ use crate::fasta_fixtures::{fasta_of, genome, says};
 use iv_text::{Genome, LoadFault};
 use std::test::Fail;
 
-/// Whether a FASTA file says just these bases of the sequences.
+/// Whether a FASTA file has just these bases of the sequences.
 fn reads(
     rt: &HostRuntime,
     genome: &Genome,
@@ -14,7 +14,7 @@ fn reads(
     Ok(says(&fasta, want))
 }
 
-/// Each of these files says just these bases of the sequences of a genome.
+/// Each of these files has just these bases of the sequences of a genome.
 fn check_over(
     rt: &HostRuntime,
     genome: &Genome,

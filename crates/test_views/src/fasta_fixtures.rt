@@ -23,7 +23,7 @@ pub(crate) fn holds(is_so: Result<bool, Fail>) -> Result<(), Fail> {
     }
 }
 
-/// What a FASTA file of these bytes says.
+/// The FASTA file of these bytes.
 pub(crate) fn fasta_of<A: Allocator + Copy>(
     alloc: A,
     genome: &Genome<A>,

@@ -35,7 +35,7 @@ pub(crate) struct Texts<'t> {
     pub(crate) records: &'t [u8],
 }
 
-/// What they say.
+/// What is parsed of them.
 #[derive(Clone, Copy)]
 struct Files<'f> {
     genome: &'f Genome,

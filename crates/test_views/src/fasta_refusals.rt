@@ -20,7 +20,7 @@ fn lines(rt: &HostRuntime) -> Result<String, Fail> {
     Ok(text)
 }
 
-/// Reads a FASTA file, and says how often it met the refusal, once or never.
+/// Reads a FASTA file, and answers how often it met the refusal, once or never.
 fn refused_beside<'a>(
     alloc: &'a RefusesNth<Global>,
     genome: &Genome<&'a RefusesNth<Global>>,
@@ -94,7 +94,7 @@ fn refusal_of(fault: LoadFault) -> Result<u32, Fail> {
     }
 }
 
-/// Reads that file over a genome, and says how often it met the refusal, once or never.
+/// Reads that file over a genome, and answers how often it met the refusal, once or never.
 fn refused_damage_over<'a>(
     granting: &'a RefusesNth<Global>,
     alloc: &'a RefusesNth<Global>,

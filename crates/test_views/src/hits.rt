@@ -114,7 +114,7 @@ fn many_lines(rt: &HostRuntime) -> Result<String, Fail> {
     Ok(text)
 }
 
-/// A body that gives up above some size and says that memory ran out is seen here alone.
+/// Only this test catches code that fails above some size and claims that memory ran out.
 #[test]
 fn second_file_of_many_records(rt: HostRuntime) -> Result<(), Fail> {
     let text = many_lines(&rt)?;

@@ -27,7 +27,7 @@ fn complements_of_all_bytes(rt: HostRuntime) {
     }
 }
 
-/// But for U, the complement of the complement is the base.
+/// Except for U, the complement of the complement is the base.
 #[test]
 fn complements_of_complements(rt: HostRuntime) {
     for base in 0..=255u8 {

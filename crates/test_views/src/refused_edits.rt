@@ -117,7 +117,7 @@ fn refused_replacements<'a>(
     Ok(refused)
 }
 
-/// Whether the records at the later starts are left, by the hits of one place.
+/// Whether the records at the later starts are left, by the hits of one interval.
 fn has_later(second: &Second<&RefusesNth<Global>>) -> bool {
     let hits = [
         (10, 21),

@@ -38,7 +38,7 @@ fn check_second(second: &Second<&RefusesNth<Global>>) -> Result<u32, Fail> {
     }
 }
 
-/// Makes the second file, and says how often it met the refusal, once or never; not if its lines did.
+/// Makes the second file, and answers how often it met the refusal, once or never; not if its lines did.
 fn refused_beside<'a>(
     alloc: &'a RefusesNth<Global>,
     genome: &Genome<&'a RefusesNth<Global>>,

@@ -1,4 +1,4 @@
--- What the words of a run have said so far. It is what the reader of the words keeps, and no part of what is promised.
+-- What is read of the words of a run so far. This is the state of their reader, as seen by its proof.
 use Rattle.std.specs.Prelude.{◌≡◌, ℕ, Bool, true, false, ◌++◌, List, [], ◌∷◌, Option, None, Some, ◌&&◌, ◌||◌, not}
 use Rattle.std.specs.Option.{option_and_then, option_to_list, is_some}
 use Rattle.iv_args.specs.declared.subcommand.Subcommand.{Subcommand}
@@ -6,7 +6,7 @@ use Rattle.iv_args.specs.declared.subcommand.RunOption.{RunOption}
 use Rattle.iv_args.specs.declared.subcommand.RunOption.TheVariants as option
 use Rattle.iv_args.specs.Words.{RunPlan, option_of, takes_value, lead, width_said, needs_other, needs_bases, are_view_words}
 
--- what words have said so far
+-- what is read of the words so far
 pub record PartialPlan : Type 0 where
   pub sizes : Option (List ℕ)
   pub first : Option (List ℕ)
@@ -15,7 +15,7 @@ pub record PartialPlan : Type 0 where
   pub width : Option (List ℕ)
   pub view : List (List ℕ)
 
--- what the first word says
+-- what is read once the first word is
 abbrev pub begun_by : Subcommand → List ℕ → PartialPlan
 begun_by run word = record { sizes = None; first = None; other = None; bases = None; width = None; view = lead run word }
 
@@ -24,7 +24,7 @@ abbrev pub unless_given : Option (List ℕ) → PartialPlan → Option PartialPl
 unless_given None said = Some said
 unless_given (Some value) said = None
 
--- what is said after a value for an option, if it can be given
+-- what is read after a value for an option, if it can be given
 abbrev pub with_value : RunOption → List ℕ → PartialPlan → Option PartialPlan
 with_value option.Sizes value said = unless_given said.sizes (record said { sizes = Some value })
 with_value option.First value said = unless_given said.first (record said { first = Some value })
@@ -32,22 +32,22 @@ with_value option.Other value said = unless_given said.other (record said { othe
 with_value option.Bases value said = unless_given said.bases (record said { bases = Some value })
 with_value option.Width value said = unless_given said.width (record said { width = Some value })
 
--- what is said after more words of the view
+-- what is read after more words of the view
 abbrev pub viewed : List (List ℕ) → PartialPlan → PartialPlan
 viewed words said = record said { view = said.view ++ words }
 
--- what is said after the last word, if it can be taken
+-- what is read after the last word, if it can be taken
 abbrev pub last_drafted : Option RunOption → List ℕ → PartialPlan → Option PartialPlan
 last_drafted None word said = Some (viewed (word ∷ []) said)
 last_drafted (Some asked) word said = None
 
--- what is said after a word, the next one if it is a value, and those after
+-- what is read after a word, the next one if it is a value, and those after
 abbrev pub next_drafted : Option RunOption → Bool → List ℕ → List ℕ → (PartialPlan → Option PartialPlan) → (PartialPlan → Option PartialPlan) → PartialPlan → Option PartialPlan
 next_drafted (Some asked) takes word next after_both later said = option_and_then after_both (with_value asked next said)
 next_drafted None true word next after_both later said = after_both (viewed (word ∷ next ∷ []) said)
 next_drafted None false word next after_both later said = later (viewed (word ∷ []) said)
 
--- what is said after words, if they can be taken
+-- what is read after words, if they can be taken
 abbrev pub drafted : Subcommand → List (List ℕ) → PartialPlan → Option PartialPlan
 drafted run [] said = Some said
 drafted run (word ∷ []) said = last_drafted (option_of run word) word said
@@ -58,7 +58,7 @@ drafted run (word ∷ next ∷ words) said =
 abbrev pub has_needed_files : Subcommand → PartialPlan → Bool
 has_needed_files run said = (is_some said.other || not (needs_other run)) && (is_some said.bases || not (needs_bases run))
 
--- what words have said makes a plan of this kind
+-- what is read of words makes a plan of this kind
 pub record Makes (run : Subcommand) (said : PartialPlan) (plan : RunPlan) : Type 0 where
   pub run_is : plan.run ≡ run
   pub sizes : said.sizes ≡ Some plan.sizes

@@ -1,4 +1,4 @@
--- A walk over kept blocks, one read ahead. This is the state of a print, as seen by its proof, and no part of what is promised.
+-- A walk over kept blocks, one read ahead. This is the state of a print, as seen by its proof.
 use Rattle.std.specs.Prelude.{◌≡◌, ℕ, zero, suc, ◌+◌, ◌≤◌, ◌==◌, ◌&&◌, ◌||◌, nat_le, nat_lt, Bool, true, false, if◌then◌else◌, List, [], ◌∷◌, ◌++◌, Option, Some, None, map, length, drop}
 use Rattle.std.specs.List.{flat_map, prefix_len, take_while}
 use Rattle.iv_text.specs.Genome.{Sequences, sequence_length, sequence_name}
@@ -7,7 +7,7 @@ use Rattle.iv_cover.specs.declared.block.Block.{Block}
 use Rattle.iv_blocks.specs.ComplementRows.{gap_row}
 use Rattle.iv_blocks.specs.KeptBlocks.{Key, Kept, Entries}
 
--- where a kept block is
+-- the interval of a kept block
 abbrev pub interval_of : Key × Kept → Block
 interval_of e = record { sequence = e.0.0; start = e.0.2; stop = e.1.stop }
 

@@ -1,4 +1,4 @@
--- Where what is kept of a block is. No public clause cites this module.
+-- How what is kept of a block is stored.
 use Rattle.std.specs.Prelude.{[]}
 use Rattle.iv_blocks.specs.KeptBlocks.{Kept}
 use Rattle.iv_blocks.specs.declared.kept_block.Storage.{Storage}

@@ -1,5 +1,4 @@
--- What is still to be put in the midst of a sweep over blocks. This is the state of a print, as seen by its proof, and no part of
--- what is promised.
+-- What remains to be written during a sweep over blocks. This is the state of a print, as seen by its proof.
 use Rattle.std.specs.Prelude.{ℕ, ◌+◌, ◌++◌, List, [], ◌∷◌, Option, Some, None, codes, decimal}
 use Rattle.std.specs.List.{flat_map}
 use Rattle.iv_text.specs.Genome.{Sequences, sequence_name}
@@ -8,7 +7,7 @@ use Rattle.iv_text.specs.RecordValue.{RecordValue}
 use Rattle.iv_cover.specs.declared.block.Block.{Block}
 use Rattle.iv_cover.specs.TrackBlocks.{Group}
 
--- where a block with members is
+-- the interval of a block with members
 abbrev pub interval_of : Group → Block
 interval_of b = record { sequence = b.sequence; start = b.start; stop = b.stop }
 

@@ -1,4 +1,4 @@
--- What only lemmas and private functions cite, beside Groups.
+-- Sides, and the records of a group that start within a range.
 use Rattle.std.specs.Prelude.{ℕ, ◌+◌, slice_set, ◌==◌, ◌&&◌, nat_le, nat_lt, Bool, true, false, List, filter}
 use Rattle.iv_text.specs.RecordValue.{RecordValue}
 use Rattle.iv_cover.specs.declared.column.ColumnSummary.{ColumnSummary}

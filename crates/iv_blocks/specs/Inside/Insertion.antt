@@ -1,4 +1,4 @@
--- Blocks that are put over those that are kept.
+-- Blocks that are inserted over those that are kept.
 use Rattle.std.specs.Prelude.{◌≡◌, ◌≢◌, ◌⊎◌, ℕ, Bool, List}
 use Rattle.std.specs.Option.{option_or}
 use Rattle.std.specs.BTreeMap.{insert_entry}
@@ -18,21 +18,21 @@ key_of g x = (g.rank, is_minus g.side, x)
 abbrev pub IsOfOther : Group → Key → Type 0
 IsOfOther g k = (k.0 ≢ g.rank) ⊎ (k.1 ≢ is_minus g.side)
 
--- what is kept, with a group's block from start to stop put over what was there
+-- what is kept, with a group's block from start to stop inserted over what was there
 abbrev pub with_block : KeptBlocks → Sequences → List RecordValue → Group → ℕ → ℕ → KeptBlocks
 with_block kept genome rows g start stop = record kept {
   entries = insert_entry key_cmp kept.entries (key_of g start)
       (kept_block (sequence_name genome g.rank) (listed kept.options.summaries) (stop, members_between g start stop rows));
 }
 
--- the blocks of a group's records are put over what was there, and nothing else is changed
+-- the blocks of a group's records are inserted over what was there, and nothing else is changed
 pub record AreInserted (g : Group) (names : List (List ℕ)) (rows : List RecordValue) (old new : KeptBlocks) : Type 0 where
   pub options : new.options ≡ old.options
   pub ordered : IsLedger key_cmp new.entries
   pub here : (x : ℕ) → value_at key_cmp new.entries (key_of g x) ≡ option_or (kept_at old.options names rows (key_of g x)) (value_at key_cmp old.entries (key_of g x))
   pub others : (k : Key) → IsOfOther g k → value_at key_cmp new.entries k ≡ value_at key_cmp old.entries k
 
--- the blocks of the records on one sequence, of both sides, are put over what was there, and nothing else is changed
+-- the blocks of the records on one sequence, of both sides, are inserted over what was there, and nothing else is changed
 pub record AreInsertedOn (rank : ℕ) (names : List (List ℕ)) (rows : List RecordValue) (old new : KeptBlocks) : Type 0 where
   pub options : new.options ≡ old.options
   pub ordered : IsLedger key_cmp new.entries

@@ -1,5 +1,4 @@
--- The blocks of one group by position, as look-ups and repairs see them. These are words for clauses of private functions, and no
--- part of what is promised.
+-- The blocks of one group by position, as look-ups and repairs see them.
 use Rattle.std.specs.Prelude.{◌≡◌, ℕ, ◌<◌, ◌≤◌, List, Option, None, Some}
 use Rattle.iv_track.specs.Entries.{value_at}
 use Rattle.iv_blocks.specs.KeptBlocks.{key_cmp, Kept, Entries}

@@ -1,4 +1,4 @@
--- The members of a group that a walk has still to give.
+-- The members of a group that remain of a walk.
 use Rattle.std.specs.Prelude.{ℕ, ◌+◌, ◌≤◌, List, Option, None, Some}
 use Rattle.std.specs.List.{AllByRecursion}
 use Rattle.iv_text.specs.Ordered.{AreInOrder}

@@ -1,5 +1,4 @@
--- What is still to be put in the midst of a sweep. This is the state of a print, as seen by its proof, and no part of what is
--- promised.
+-- What remains to be written during a sweep. This is the state of a print, as seen by its proof.
 use Rattle.std.specs.Prelude.{ℕ, List, None, filter}
 use Rattle.std.specs.List.{flat_map}
 use Rattle.iv_text.specs.RecordValue.{RecordValue}

@@ -1,5 +1,4 @@
--- Blocks of one group by position, before and after an edit. These are words for clauses of private functions, and no part of what is
--- promised.
+-- Blocks of one group by position, before and after an edit.
 use Rattle.std.specs.Prelude.{◌≡◌, ◌⊎◌, ℕ, zero, suc, ◌+◌, ◌<◌, ◌≤◌, ◌==◌, max, Option, None, Some, if◌then◌else◌}
 use Rattle.std.specs.Option.{is_some}
 use Rattle.std.specs.Map.{remove_entry}
@@ -14,7 +13,7 @@ use Rattle.iv_blocks.specs.declared.group.Group.{Group}
 abbrev pub without_block : KeptBlocks → Group → ℕ → KeptBlocks
 without_block kept g x = record kept { entries = remove_entry (is_at (key_cmp (key_of g x))) kept.entries }
 
--- nothing but blocks of this group may have changed
+-- nothing except blocks of this group may have changed
 pub record KeepsOthers (g : Group) (old new : KeptBlocks) : Type 0 where
   pub options : new.options ≡ old.options
   pub ordered : IsLedger key_cmp new.entries

@@ -1,4 +1,4 @@
--- What only lemmas and private functions cite, beside Changes.
+-- Net changes of depth, and how one record changes them.
 use Rattle.std.specs.Prelude.{◌≡◌, ◌≢◌, ℕ, ◌<◌, ◌^◌, Bool, List, length, ℤ, pos, ◌+ℤ◌, All, if◌then◌else◌}
 use Rattle.std.specs.Map.{values_of}
 use Rattle.iv_text.specs.RecordValue.{RecordValue}
@@ -12,13 +12,13 @@ pub record AreChanges (entries : Entries) : Type 0 where
   pub right : AreChangesOf rows entries
   pub few : length rows < 2 ^ 32
 
--- the new entries have this change more at the place, and as before places ascend and no change is 0
+-- the new entries have this change more at the key, and as before keys ascend and no change is 0
 pub record Bumps (old new : Entries) (place : ChangeKey) (by : ℤ) : Type 0 where
   pub ordered : IsLedger pair_cmp new
   pub changes : All (λ z. z ≢ pos 0) (values_of old) → All (λ z. z ≢ pos 0) (values_of new)
   pub sums : (passes : ChangeKey → Bool) → total passes new ≡ total passes old +ℤ (if passes place then by else pos 0)
 
--- the new entries change the depth by this number at each position that the record covers, and as before places ascend and no
+-- the new entries change the depth by this number at each position that the record covers, and as before keys ascend and no
 -- change is 0
 pub record Shifts (r : RecordValue) (by : ℤ) (old new : Entries) : Type 0 where
   pub ordered : IsLedger pair_cmp new

@@ -1,4 +1,4 @@
--- What changes of depth say of the depth along a sequence. This is what a print knows, and no part of what is promised.
+-- The depth along a sequence, from its changes, as a print goes over them.
 use Rattle.std.specs.Prelude.{◌≡◌, ◌≢◌, ℕ, ◌+◌, ◌<◌, ◌≤◌, ◌^◌, Option, Some, None, ℤ, pos, ◌+ℤ◌}
 use Rattle.iv_text.specs.Genome.{Sequences, sequence_length}
 

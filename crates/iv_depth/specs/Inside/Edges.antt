@@ -1,9 +1,9 @@
--- Starts and stops of records, as numbers in order. This is what a sweep knows, and no part of what is promised.
+-- Starts and stops of records, as numbers in order. This is the state of a sweep, as seen by its proof.
 use Rattle.std.specs.Prelude.{◌≡◌, ◌≢◌, ℕ, ◌+◌, ◌≤◌, nat_le, Bool, List, [], ◌∷◌, map, count_by, if◌then◌else◌}
 use Rattle.std.specs.List.{AllByRecursion}
 use Rattle.iv_index.specs.declared.span.Span.{Span}
 
--- where the places start
+-- where the intervals start
 abbrev pub starts_of : List Span → List ℕ
 starts_of spans = map (λ (span : Span). span.start) spans
 
@@ -30,7 +30,7 @@ BeginsElse p (n ∷ ns) = n ≢ p
 abbrev pub AreWithin : ℕ → List ℕ → Type 0
 AreWithin limit ns = AllByRecursion (λ n. n ≤ limit) ns
 
--- these are the stops of the places, from the least to the greatest
+-- these are the stops of the intervals, from the least to the greatest
 pub record AreStopsOf (places : List Span) (stops : List ℕ) : Type 0 where
   pub rise : Rise 0 stops
   pub within : (limit : ℕ) → AreWithin limit (stops_of places) → AreWithin limit stops

@@ -1,16 +1,16 @@
--- Where records start and stop, as numbers in order, and the net changes of depth there. This is what a build knows, and no part of
--- what is promised.
+-- Where records start and stop, as numbers in order, and the net changes of depth there. This is the state of a build, as
+-- seen by its proof.
 use Rattle.std.specs.Prelude.{◌≡◌, ◌≢◌, ℕ, ◌+◌, ◌*◌, ◌/◌, ◌%◌, ◌^◌, ◌≤◌, Bool, if◌then◌else◌, List, Option, Some, None, count_by, ℤ, pos, ◌+ℤ◌, ◌-ℤ◌}
 use Rattle.iv_text.specs.RecordValue.{RecordValue}
 use Rattle.iv_cover.specs.Depth.{depth}
 use Rattle.iv_depth.specs.Changes.{ChangeKey, reaches}
 use Rattle.iv_depth.specs.Inside.Edges.{Rise, BeginsElse}
 
--- a place as one number, its key: keys ascend as places do
+-- a rank and a position as one number, a key: keys ascend as they do
 abbrev pub key_of : ℕ → ℕ → ℕ
 key_of rank position = rank * 2 ^ 32 + position
 
--- the place of a key
+-- the rank and the position of a key
 abbrev pub place_of : ℕ → ChangeKey
 place_of key = (key / 2 ^ 32, key % 2 ^ 32)
 
@@ -50,7 +50,7 @@ pub record SkipsKeys (from : ℕ) (old new : Keys) : Type 0 where
   pub sums : (passes : ℕ → Bool) → net passes old ≡ net passes new
   pub rise : RiseFrom from new
 
--- the first of the old keys with a change that is not 0 is at this place, and the new keys are those after it
+-- the first of the old keys with a change that is not 0 is this one, and the new keys are those after it
 pub record TakesChange (from : ℕ) (old : Keys) (place : ChangeKey) (change : ℤ) (new : Keys) : Type 0 where
   pub key : ℕ
   pub is : place ≡ place_of key

@@ -1,4 +1,4 @@
--- A walk over changes of depth, sequence by sequence. This is the state of a print, as seen by its proof, and no part of what is promised.
+-- A walk over changes of depth, sequence by sequence. This is the state of a print, as seen by its proof.
 use Rattle.std.specs.Prelude.{◌≡◌, ◌≢◌, ℕ, ◌+◌, ◌==◌, ◌<◌, ◌≤◌, ◌^◌, if◌then◌else◌, nat_le, List, [], ◌∷◌, Option, Some, None, ℤ, pos, ◌+ℤ◌, All}
 use Rattle.std.specs.Int.RustNames.{unsigned_abs}
 use Rattle.std.specs.List.{AllByRecursion}

@@ -1,4 +1,4 @@
--- What only lemmas and private functions cite, beside Counts.
+-- How many records begin before a position, and how many end up to it. Positions are in order by the rank of the sequence first.
 use Rattle.std.specs.Prelude.{◌≡◌, ◌<◌, ℕ, ◌==◌, ◌&&◌, ◌||◌, nat_le, nat_lt, Bool, List, All, count_by}
 use Rattle.std.specs.List.Sorted.{IsPartitionedBy}
 use Rattle.iv_text.specs.Ordered.{AreInOrder}
@@ -22,7 +22,7 @@ begins_before seq at b = is_before seq at b.seq b.start
 abbrev pub ends_by : ℕ → ℕ → RecordValue → Bool
 ends_by seq at b = is_up_to seq at b.seq b.stop
 
--- whether a place begins before a position
+-- whether a locator begins before a position
 abbrev pub place_before : ℕ → ℕ → Locator → Bool
 place_before seq at place = is_before seq at place.span.seq place.span.start
 
@@ -30,7 +30,7 @@ place_before seq at place = is_before seq at place.span.seq place.span.start
 abbrev pub end_by : ℕ → ℕ → End → Bool
 end_by seq at end = is_up_to seq at end.seq end.stop
 
--- the places are in order of where they begin
+-- the locators are in order of where they begin
 abbrev pub StartsAscend : List Locator → Type 0
 StartsAscend places = (seq at : ℕ) → IsPartitionedBy (place_before seq at) places
 
@@ -38,7 +38,7 @@ StartsAscend places = (seq at : ℕ) → IsPartitionedBy (place_before seq at) p
 abbrev pub EndsAscend : List End → Type 0
 EndsAscend ends = (seq at : ℕ) → IsPartitionedBy (end_by seq at) ends
 
--- where a place ends
+-- where a locator ends
 abbrev pub end_of : Locator → End
 end_of place = record { seq = place.span.seq; stop = place.span.stop }
 
@@ -47,7 +47,7 @@ pub record AreEndsOf (ends : List End) (rows : List RecordValue) : Type 0 where
   pub ascend : EndsAscend ends
   pub counts : (seq at : ℕ) → count_by (end_by seq at) ends ≡ count_by (ends_by seq at) rows
 
--- these places are where the records are, in order, and each record has a base
+-- these locators have the intervals of the records, in order, and each record has a base
 pub record AreStartsOf (places : List Locator) (rows : List RecordValue) : Type 0 where
   pub ascend : StartsAscend places
   pub counts : (seq at : ℕ) → count_by (place_before seq at) places ≡ count_by (begins_before seq at) rows

@@ -1,4 +1,4 @@
--- Where a search for hits is. This is the state of `HitFinder`, as seen by its proof, and no part of what is promised.
+-- Where a search for hits is. This is the state of `HitFinder`, as seen by its proof.
 use denote.Ref.{Bor}
 use Rattle.std.specs.Prelude.{◌≡◌, ℕ, ◌<◌, ◌≤◌, ◌^◌, ◌++◌, Bool, true, false, List, [], ◌∷◌, Option, Some, None, All, length}
 use Rattle.iv_text.specs.Ordered.{AreInOrder}
@@ -25,11 +25,11 @@ pub record Finding : Type 0 where
   pub start : ℕ
   pub found : List RecordValue
 
--- the place t of sequence s is this place or after it
+-- the position t of sequence s is this position or after it
 abbrev pub IsOnward : ℕ → ℕ → ℕ → ℕ → Type 0
 IsOnward seq start s t = (seq ≤ s) × (seq ≡ s → start ≤ t)
 
--- each interval from this place on has the same hits in both lists
+-- each interval from this position on has the same hits in both lists
 abbrev pub HitAlike : ℕ → ℕ → List RecordValue → List RecordValue → Type 0
 HitAlike seq start xs ys = (s t stop : ℕ) → IsOnward seq start s t → hits xs s t stop ≡ hits ys s t stop
 
@@ -37,18 +37,18 @@ HitAlike seq start xs ys = (s t stop : ℕ) → IsOnward seq start s t → hits 
 abbrev pub AllCover : ℕ → ℕ → List RecordValue → Type 0
 AllCover seq start rows = All (λ b. covers seq start b ≡ true) rows
 
--- each of these records starts at this place or before it
+-- each of these records starts at this position or before it
 abbrev pub AllBegun : ℕ → ℕ → List RecordValue → Type 0
 AllBegun seq start rows = All (λ (b : RecordValue). IsOnward b.seq b.start seq start) rows
 
--- the records carried and those ahead have the hits of all records from this place on
+-- the records carried and those ahead have the hits of all records from this position on
 pub record IsPlaced (records carried rows : List RecordValue) (seq start : ℕ) : Type 0 where
   pub cover : AllCover seq start carried
   pub alike : HitAlike seq start (carried ++ rows) records
   pub rows_ordered : AreInOrder rows
   pub rows_few : length rows < 2 ^ 32
 
--- the search is at this place, and on its sequence no record is longer than `longest`
+-- the search is at this position, and on its sequence no record is longer than `longest`
 pub record StandsAt (records carried rows : List RecordValue) (seq start longest : ℕ) : Type 0 where
   pub placed : IsPlaced records carried rows seq start
   pub ordered : AreInOrder records

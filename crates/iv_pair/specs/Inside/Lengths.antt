@@ -1,5 +1,4 @@
--- How many records there are of each length, in a map. This is a part of the state of `Second`, as seen by its proof, and no part of
--- what is promised.
+-- How many records there are of each length, in a map. This is a part of the state of `Second`, as seen by its proof.
 use Rattle.std.specs.Prelude.{◌≡◌, ℕ, ◌+◌, ◌-◌, ◌<◌, ◌≤◌, ◌^◌, List, All, count_by, length}
 use Rattle.std.specs.Ordering.{is_eq}
 use Rattle.std.specs.Map.{keys_of, values_of}
@@ -28,7 +27,7 @@ pub record AreLengths (es : List ((ℕ × ℕ) × ℕ)) (rows : List RecordValue
   pub tally : IsTally es
   pub counts : (k : ℕ × ℕ) → copies_by pair_cmp (expanded es) k ≡ with_length rows k
 
--- what a second file keeps true: the map has the lengths of its track's records, of which there are no more than the limit
+-- the invariant of a second file: the map has the lengths of its track's records, of which there are no more than the limit
 pub record IsSecond (es : List ((ℕ × ℕ) × ℕ)) (track : Tracked) : Type 0 where
   pub counted : AreLengths es track.rows
   pub few : length track.rows ≤ track.limit

@@ -1,4 +1,4 @@
--- What a sweep keeps. This is the state of `PairSweep`, as seen by its proof, and no part of what is promised.
+-- What a sweep holds. This is the state of `PairSweep`, as seen by its proof.
 use Rattle.std.specs.Prelude.{◌≡◌, ℕ, ◌+◌, ◌<◌, ◌≤◌, ◌==◌, ◌&&◌, ◌||◌, ◌++◌, Bool, nat_lt, List, All, length}
 use Rattle.iv_text.specs.Ordered.{AreInOrder}
 use Rattle.iv_text.specs.RecordValue.{RecordValue}

@@ -1,4 +1,4 @@
--- What only lemmas and private functions cite, beside Pairs.
+-- One step of a sweep over two lists.
 use Rattle.std.specs.Prelude.{◌≡◌, [], ◌∷◌, Option, Some, None}
 use Rattle.iv_text.specs.RecordValue.{RecordValue}
 use Rattle.iv_pair.specs.Hits.{hits_of}

@@ -1,4 +1,4 @@
--- Lines of one hit and of one part. These are words for clauses of private functions, and no part of what is promised.
+-- Lines of one hit and of one part.
 use Rattle.std.specs.Prelude.{◌≡◌, ℕ, true, nat_lt, if◌then◌else◌, List, []}
 use Rattle.std.specs.List.{AllByRecursion}
 use Rattle.iv_text.specs.Genome.{Sequences}
@@ -12,7 +12,7 @@ use Rattle.iv_pair.specs.declared.intersect.IntersectRows.TheVariants.{Shared, S
 abbrev pub Overlaps : RecordValue → RecordValue → Type 0
 Overlaps a b = overlaps a.seq a.start a.stop b ≡ true
 
--- each of these records does
+-- each of these records shares a position with a
 abbrev pub AllOverlap : RecordValue → List RecordValue → Type 0
 AllOverlap a found = AllByRecursion (Overlaps a) found
 

@@ -1,4 +1,4 @@
--- What only lemmas and private functions cite, beside Files.
+-- How reading a whole file ends.
 use Rattle.std.specs.Prelude.{◌≡◌, ◌≢◌, ℕ, ⊤, ◌≤◌, ◌<◌, List, Result, Ok, Err}
 use Rattle.iv_bytes.specs.Sources.{SourceState}
 use Rattle.iv_run.specs.declared.fault.FileFault.{FileFault}
@@ -15,7 +15,7 @@ abbrev pub HadMemory : Result (List ℕ) FileFault → Type 0
 HadMemory (Ok bytes) = ⊤
 HadMemory (Err fault) = fault ≢ Memory
 
--- the file was called too long
+-- the file was reported as too long
 abbrev pub IsTooLong : Result (List ℕ) FileFault → Type 0
 IsTooLong (Ok bytes) = ⊥
 IsTooLong (Err fault) = fault ≡ TooLong

@@ -1,4 +1,4 @@
--- Which views need nothing of a record but its place.
+-- Which views need nothing of a record except its interval.
 use Rattle.std.specs.Prelude.{◌≡◌, List, map}
 use Rattle.iv_text.specs.Genome.{Sequences}
 use Rattle.iv_text.specs.RecordValue.{RecordValue}
@@ -6,6 +6,6 @@ use Rattle.iv_index.specs.Locators.{bare}
 use Rattle.iv_view.specs.Views.{kept_text}
 use Rattle.iv_view.specs.declared.view.KeptView.{KeptView}
 
--- on each genome and for each list of records, the text stays as it is if only the places of the records are kept
+-- on each genome and for each list of records, the text stays as it is if only the intervals of the records are held
 abbrev pub NeedsIntervalsAlone : KeptView → Type 0
 NeedsIntervalsAlone view = (g : Sequences) (rows : List RecordValue) → kept_text view g (map bare rows) ≡ kept_text view g rows

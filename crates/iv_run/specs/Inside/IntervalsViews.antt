@@ -1,4 +1,4 @@
--- What only lemmas and private functions cite, beside IntervalsViews.
+-- Kept views that need more of a record than its interval.
 use Rattle.std.specs.Prelude.{◌≡◌, ℕ, Bool, List, Ok}
 use Rattle.iv_view.specs.Views.{read_words}
 use Rattle.iv_view.specs.declared.view.KeptView.{KeptView}
@@ -6,10 +6,10 @@ use Rattle.iv_run.specs.declared.intervals_view.IntervalsView.{IntervalsView}
 use Rattle.iv_view.specs.declared.view.View.TheVariants as view
 use Rattle.iv_run.specs.IntervalsViews.{IsViewOf}
 
--- it is none of them
+-- the view is no view of intervals
 abbrev pub NeedsColumns : KeptView → Type 0
 NeedsColumns asked = (shown : IntervalsView) → ¬ IsViewOf shown asked
 
--- a view of which a state is kept is none of places, if these words ask for it at some width and beside some files
+-- each kept view that these words ask for, at some width and beside some files, is no view of intervals
 abbrev pub AskForColumns : List (List ℕ) → Type 0
 AskForColumns words = (asked : KeptView) (width : ℕ) (has_second has_bases : Bool) → read_words width has_second has_bases words ≡ Ok (view.Kept asked) → NeedsColumns asked

@@ -1,4 +1,4 @@
--- What a BED file says of which some bytes are not read yet
+-- A BED file of which some bytes are not read yet.
 use Rattle.std.specs.Prelude.{◌≡◌, ◌≤◌, ◌⊎◌, ℕ, ◌+◌, ◌++◌, List, Result, Ok, Err, length}
 use Rattle.iv_text.specs.Genome.{Sequences}
 use Rattle.iv_text.specs.BedReading.{AreSound, Reading, begun, coming, size_of}
@@ -6,8 +6,8 @@ use Rattle.iv_text.specs.RecordValue.{RecordValue}
 use Rattle.iv_text.specs.declared.fault.LoadCause.TheVariants as cause
 use Rattle.iv_text.specs.declared.fault.LoadFault.{LoadFault}
 
--- what is known of a file once these bytes of it have come: what is kept of them says, whatever comes after them, what the whole
--- file says; or the fault is out of memory, or that of the file, whatever comes
+-- what is known of a file once these bytes of it are read: what is held of them and the remaining bytes, whatever these are, give the
+-- whole file; or the fault is out of memory, or that of the file, whatever remains
 abbrev pub SaysSoFar : (RecordValue → RecordValue) → Sequences → ℕ → List ℕ → Result Reading LoadFault → Type 0
 SaysSoFar kept g limit front (Ok r) =
     AreSound kept g limit r.read × (size_of r ≤ 1 + length front) × ((more : List ℕ) → coming kept g limit begun (front ++ more) ≡ coming kept g limit r more)

@@ -1,4 +1,4 @@
--- What only lemmas and private functions cite, beside Requests.
+-- Requests that fit their session.
 use Rattle.std.specs.Prelude.{◌≤◌}
 use Rattle.iv_text.specs.Genome.{most_length}
 use Rattle.iv_workspace.specs.States.{State}

@@ -1,4 +1,4 @@
--- What only lemmas and private functions cite, beside Running.
+-- What one line writes, as the functions that run it see it.
 use Rattle.std.specs.Prelude.{◌≡◌, ℕ, Option, None, Some, Result, Ok, Err}
 use Rattle.iv_bytes.specs.Sinks.{SinkState, Takes, FailsIn}
 use Rattle.iv_text.specs.Fault.{fault_text}

@@ -1,4 +1,4 @@
--- What only lemmas and private functions cite, beside Scripts.
+-- The outcome of one line, and its texts.
 use Rattle.std.specs.Prelude.{Option, Some, None, Result, Ok, Err, ◌≡◌, ℕ}
 use Rattle.iv_bytes.specs.Sinks.{SinkState, Takes, FailsIn}
 use Rattle.iv_text.specs.Fault.{fault_text}

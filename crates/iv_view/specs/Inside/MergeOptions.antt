@@ -22,7 +22,7 @@ abbrev pub option_words : List MergeOption → List (List ℕ)
 option_words [] = []
 option_words (first ∷ options) = words_of first ++ option_words options
 
--- the options that are said, each once
+-- the options that are given, each once
 abbrev pub options_of : MergeArgs → List MergeOption
 options_of said =
     map Distance (option_to_list said.distance) ++ map Columns (option_to_list said.columns) ++ map Ops (option_to_list said.ops)

@@ -1,4 +1,4 @@
--- What only lemmas and private functions cite, beside States.
+-- The invariant of a session.
 use Rattle.std.specs.Prelude.{◌≡◌, ◌≤◌, ℕ, false, List, Option, None, All, IsTrue, IsSome, IfSome, length}
 use Rattle.std.specs.List.{AllByRecursion}
 use Rattle.iv_text.specs.Genome.{Sequences}
@@ -9,7 +9,7 @@ use Rattle.iv_view.specs.Views.{needs_second}
 use Rattle.iv_view.specs.declared.view.View.{View}
 use Rattle.iv_workspace.specs.OpenViews.{Shown}
 
--- what each session keeps true of each of its tracks: the width is one of a BED file, and the records fit the genome and are not
+-- the invariant of each track of a session: the width is one of a BED file, and the records fit the genome and are not
 -- above the limit
 pub record IsTrackOn (genome : Sequences) (track : Tracked) : Type 0 where
   pub low : 3 ≤ track.width
@@ -17,15 +17,15 @@ pub record IsTrackOn (genome : Sequences) (track : Tracked) : Type 0 where
   pub fit : All (Fits genome track.width) track.rows
   pub few : length track.rows ≤ track.limit
 
--- a view that needs a second file is beside one
+-- if a view needs a second file, there is one
 abbrev pub IsServed : Option Tracked → View → Type 0
 IsServed second view = IsTrue (needs_second view) → IsSome second
 
--- each view that needs a second file is beside one
+-- if some view needs a second file, there is one
 abbrev pub AreServed : Option Tracked → List (List ℕ × Shown) → Type 0
 AreServed second views = AllByRecursion (λ v. IsServed second v.1.view) views
 
--- a view of which nothing is kept isn't stale
+-- a written view isn't stale
 abbrev pub IsWrittenFresh : Shown → Type 0
 IsWrittenFresh v = state_key_of v.view ≡ None → v.stale ≡ false
 
@@ -33,7 +33,7 @@ IsWrittenFresh v = state_key_of v.view ≡ None → v.stale ≡ false
 abbrev pub AreWrittenFresh : List (List ℕ × Shown) → Type 0
 AreWrittenFresh views = AllByRecursion (λ v. IsWrittenFresh v.1) views
 
--- what each session keeps true
+-- the invariant of a session
 pub record IsSession (genome : Sequences) (track : Tracked) (second : Option Tracked) (views : List (List ℕ × Shown)) : Type 0 where
   pub track_is : IsTrackOn genome track
   pub second_is : IfSome second (IsTrackOn genome)

@@ -1,4 +1,4 @@
--- The states of open views, and their repairs
+-- The states of open views, and their repairs.
 use Rattle.std.specs.Prelude.{◌≡◌, ◌⊎◌, ℕ, zero, suc, Bool, true, false, List, [], ◌∷◌, Option, None, Some, IfSome, map}
 use Rattle.std.specs.List.{AllByRecursion}
 use Rattle.iv_text.specs.Ordered.{added}
@@ -107,7 +107,7 @@ abbrev pub IsMissing : {A : Type 0} → List (Option StateKey) → View → List
 IsMissing states view names rows None = IsKept states view
 IsMissing states view names rows (Some k) = (state_key_of view ≡ Some (built_for k)) × IsRight k names rows
 
--- the views, that at a place current
+-- the views, that at an index current
 abbrev pub current_at : ℕ → List (List ℕ × Shown) → List (List ℕ × Shown)
 current_at place [] = []
 current_at zero (v ∷ views) = (v.0, record v.1 { stale = false }) ∷ views

@@ -42,7 +42,7 @@ pub struct Accepted {
 }
 
 impl Accepted {
-    /// What an edit answers: the reading of its meter, and how many of the views are stale.
+    /// The answer of an edit that was done: the reading of its meter, and how many of the views are stale.
     fn of<A: Allocator + Copy>(meter: &Meter, views: &Views<A>) -> Accepted
         ensures { result ≡ record { steps = meter.now; stale = stale_count (all_seen views.now) } }
     {
@@ -185,7 +185,7 @@ impl<A: Allocator + Copy> Session<A> {
         }
     }
 
-    /// Adds a record to the second file, which there is. No view keeps anything of it, so none becomes stale. At most 16 steps.
+    /// Adds a record to the second file, which exists. No view has a state of it, so none becomes stale. At most 16 steps.
     ///
     /// `Full` comes exactly if the second file holds its limit, unless memory runs out. A record of width 3 needs no
     /// memory for its own copy, and the second file needs none for a record that is there. A refusal changes nothing.
@@ -204,7 +204,7 @@ impl<A: Allocator + Copy> Session<A> {
         Ok(Accepted::of(&meter, &self.views))
     }
 
-    /// Takes one copy of a record out of the second file, which there is. No view becomes stale. At most 16 steps.
+    /// Takes one copy of a record out of the second file, which exists. No view becomes stale. At most 16 steps.
     ///
     /// `Absent` comes exactly if there is no copy, unless memory runs out, which is reported only for the copy of
     /// the record that is searched for, never at width 3. A refusal changes nothing.
@@ -223,7 +223,7 @@ impl<A: Allocator + Copy> Session<A> {
         Ok(Accepted::of(&meter, &self.views))
     }
 
-    /// Takes one copy of the old record out of the second file, which there is, and adds the new one, if it is full too. No view
+    /// Takes one copy of the old record out of the second file, which exists, and adds the new one, even if it is full. No view
     /// becomes stale. At most 16 steps.
     ///
     /// `Absent` comes exactly if there is no copy of the old record, unless memory runs out. A record that is

@@ -19,8 +19,8 @@ fn reaches_past<R: BedRecord>(row: &R, seq: u32, length: u64) -> bool
     row.seq() == seq && length < row.stop()
 }
 
-// The track has no counts of lengths, as the second file has, that would say where a search has to begin.
-/// Whether a record of the track does: a walk over its records on the sequence, up to the first that does.
+// The track doesn't count lengths, as the second file does, which would give a search its beginning.
+/// Whether a record of the track ends past a length: a walk over its records on the sequence, up to the first that does.
 pub(crate) fn track_reaches_past<A: Allocator + Copy>(
     track: &Track<A>,
     seq: u32,
@@ -41,8 +41,8 @@ pub(crate) fn track_reaches_past<A: Allocator + Copy>(
     false
 }
 
-/// Whether a record of the second file does, if those on the sequence stop at most at its present end: whether one of
-/// them shares a position with what is to be cut off.
+/// Whether a record of the second file ends past a length. Those on the sequence end at its present end or before, so it is
+/// enough to look for one that shares a position with what is to be cut off.
 pub(crate) fn second_reaches_past<A: Allocator + Copy>(
     second: &Second<A>,
     seq: u32,
@@ -61,7 +61,7 @@ impl<A: Allocator + Copy> Session<A> {
     /// Corrects the length of the sequence of this name. No view is rebuilt or becomes stale: each prints by the new
     /// length from then on. It takes no memory.
     ///
-    /// A record that was read before may not fit any more; `fits` says whether it does.
+    /// A record that was read before may no longer fit; `fits` answers whether it does.
     ///
     /// # Errors
     ///

@@ -40,7 +40,7 @@ fn put_heading<S: Sink>(sink: &mut S, name: &[u8]) -> Result<(), WriteFault>
     put_pieces(sink, &[b"#", name, b"\n"])
 }
 
-/// What a print answers whose text was put.
+/// The answer of a print, once its text was put.
 fn answer_of(put: Result<(), WriteFault>) -> Result<(), PrintFault>
     ensures { MatchResult put (λ done. result ≡ Ok done) (λ fault. result ≡ Err PrintFault.Write) }
 {
@@ -126,8 +126,8 @@ impl<A: Allocator + Copy> Session<A> {
     /// Prints the view of this name, as [`Session::print_view`] does, and counts the steps.
     ///
     /// A view that is current takes no more than its print from what is kept for it: two steps, and one for each block (`merge`,
-    /// `complement`) or two for each row of a depth above 0 (`genomecov`); `cluster` four, and one for each record and each block. Of
-    /// a stale view, which is built again, and of one that is written from the records nothing is said.
+    /// `complement`) or two for each row of a depth above 0 (`genomecov`); `cluster` four, and one for each record and each block. There
+    /// is no bound for a stale view, which is built again, or for one that is written from the records.
     ///
     /// # Errors
     ///

@@ -1,4 +1,4 @@
-//! What is kept of open views: which one has it, and its repair after an edit.
+//! The states of open views: which view has one, and its repair after an edit.
 ghost use Rattle.std.specs.Prelude.{◌≡◌, ◌≢◌, ◌↔◌, ◌<◌, ◌∷◌, ℕ, List, None, Some, IfSome, IfOk, OnOk, MatchOption, All, length, IsTrue, true, false};
 ghost use Rattle.std.specs.List.{slice_get};
 ghost use Rattle.iv_text.specs.Named.{names_of};

@@ -4,7 +4,7 @@ use Rattle.iv_text.specs.Genome.{seq_count}
 use Rattle.iv_blocks.specs.Inside.BlockCursor.{texts, TakesForEach}
 use Rattle.iv_blocks.proofs.complement.put_gaps.Given as goal
 
--- the rows of the sequences from this rank on remain to be put
+-- the rows of the sequences from this rank on remain to be written
 abbrev pub invariant-loop-rank : goal.invariant-loop-rank
 invariant-loop-rank g l = record {
   put : Underway (g.S.Sink.state l.fn.sink) (g.S.Sink.state l.sink)

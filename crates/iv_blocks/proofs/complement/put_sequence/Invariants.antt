@@ -5,7 +5,7 @@ use Rattle.iv_blocks.specs.Inside.BlockCursor.{gaps_between, starts_until, drop_
 use Rattle.iv_blocks.specs.ComplementRows.{gap_row}
 use Rattle.iv_blocks.proofs.complement.put_sequence.Given as goal
 
--- the gaps from `start` on remain to be put
+-- the gaps from `start` on remain to be written
 abbrev pub invariant-loop-block : goal.invariant-loop-block
 invariant-loop-block g l = record {
   put : Underway (g.S.Sink.state l.fn.sink) (g.S.Sink.state l.sink)

@@ -7,7 +7,7 @@ use Rattle.iv_blocks.specs.Inside.MergeSweeps.{group_row, group_rows}
 use Rattle.iv_blocks.proofs.ClusterTexts.{members_of}
 use Rattle.iv_blocks.proofs.merge_sweep.put_side.Given as goal
 
--- the rows of the blocks that are left remain to be put, and these have no more members than there are records
+-- the rows of the blocks that are left remain to be written, and these have no more members than there are records
 abbrev pub invariant-loop-found : goal.invariant-loop-found
 invariant-loop-found g l = record {
   put : Underway (g.S.Sink.state l.fn.sink) (g.S.Sink.state l.sink)

@@ -2,7 +2,7 @@ use Rattle.std.proofs.Common.{◌≡◌, filter, length}
 use Rattle.iv_blocks.specs.Inside.Groups.{is_on}
 use Rattle.iv_blocks.proofs.side_blocks.ahead_on.Given as goal
 
--- those on the side are all still ahead
+-- those on the side are all ahead
 abbrev pub invariant-loop-record : goal.invariant-loop-record
 invariant-loop-record l = filter (is_on l.side) l.ahead ≡ filter (is_on l.side) l.records
 

@@ -5,7 +5,7 @@ use Rattle.iv_cover.specs.TrackBlocks.{with_members}
 use Rattle.iv_index.specs.Inside.Spans.{row_of_span, span_rows}
 use Rattle.iv_blocks.proofs.sweeps.block_from.Given as goal
 
--- the places that are passed are in the block
+-- the intervals that are passed are in the block
 abbrev pub invariant-loop-span : goal.invariant-loop-span
 invariant-loop-span l =
     (members : List RecordValue) × (coming l.distance None (row_of_span l.fn.first ∷ span_rows l.fn.others) ≡ coming l.distance (Some (with_members l.block members)) (span_rows l.rest))

@@ -4,7 +4,7 @@ use Rattle.iv_cover.specs.TrackBlocks.{blocks_of}
 use Rattle.iv_blocks.specs.Inside.BlockSweeps.{numbered_rows}
 use Rattle.iv_blocks.proofs.sweeps.put_cluster.Given as goal
 
--- the rows of the blocks that are left remain to be put, and there are no more of them than records
+-- the rows of the blocks that are left remain to be written, and there are no more of them than records
 abbrev pub invariant-loop-found : goal.invariant-loop-found
 invariant-loop-found g l = record {
   put : Underway (g.S.Sink.state l.fn.sink) (g.S.Sink.state l.sink)

@@ -3,7 +3,7 @@ use Rattle.iv_bytes.proofs.Putting.{Underway}
 use Rattle.iv_blocks.specs.Inside.BlockSweeps.{numbered_row}
 use Rattle.iv_blocks.proofs.sweeps.put_members.Given as goal
 
--- the rows of the members that are left remain to be put
+-- the rows of the members that are left remain to be written
 abbrev pub invariant-loop-member : goal.invariant-loop-member
 invariant-loop-member g l = Underway (g.S.Sink.state l.fn.sink) (g.S.Sink.state l.sink)
     (flat_map (numbered_row l.genome l.number) l.member-iterator) (flat_map (numbered_row l.genome l.number) l.fn.members)

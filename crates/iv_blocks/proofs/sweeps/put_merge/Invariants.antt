@@ -6,7 +6,7 @@ use Rattle.iv_index.specs.Inside.Spans.{span_rows}
 use Rattle.iv_blocks.specs.Inside.BlockSweeps.{interval_of, interval_row}
 use Rattle.iv_blocks.proofs.sweeps.put_merge.Given as goal
 
--- the rows of the blocks that are left remain to be put
+-- the rows of the blocks that are left remain to be written
 abbrev pub invariant-loop-block : goal.invariant-loop-block
 invariant-loop-block g l = Underway (g.S.Sink.state l.fn.sink) (g.S.Sink.state l.sink)
     (flat_map (interval_row l.genome) l.block-iterator)

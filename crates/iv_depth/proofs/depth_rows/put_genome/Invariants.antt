@@ -5,7 +5,7 @@ use Rattle.iv_depth.specs.Inside.Walks.{AreAhead, depth_by}
 use Rattle.iv_depth.proofs.Genomes.{texts_from}
 use Rattle.iv_depth.proofs.depth_rows.put_genome.Given as goal
 
--- the rows of the sequences from this rank on remain to be put
+-- the rows of the sequences from this rank on remain to be written
 abbrev pub invariant-loop-rank : goal.invariant-loop-rank
 invariant-loop-rank g l = record {
   put : Underway (g.S.Sink.state l.fn.sink) (g.S.Sink.state l.sink) (texts_from l.shown l.genome (depth_by l.changes) l.rank) (text_by l.shown l.genome (depth_by l.changes));

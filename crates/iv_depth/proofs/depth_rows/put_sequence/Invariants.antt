@@ -4,7 +4,7 @@ use Rattle.iv_track.specs.Inside.Steps.{TakesForEach}
 use Rattle.iv_depth.specs.DepthRows.{rows_between}
 use Rattle.iv_depth.proofs.depth_rows.put_sequence.Given as goal
 
--- the rows from `start` on remain to be put, and the changes that are left say how the depth goes on
+-- the rows from `start` on remain to be written, and the changes that are left are those of the depth from there on
 abbrev pub invariant-loop-position : goal.invariant-loop-position
 invariant-loop-position g l = record {
   put : (f : ℕ → ℕ → ℕ) → g.C.DepthChanges.are_of l.fn.changes l.genome f l.rank 0 0

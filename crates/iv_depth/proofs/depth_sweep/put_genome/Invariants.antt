@@ -7,7 +7,7 @@ use Rattle.iv_depth.specs.DepthRows.{depth_text}
 use Rattle.iv_depth.proofs.Genomes.{texts_from}
 use Rattle.iv_depth.proofs.depth_sweep.put_genome.Given as goal
 
--- the rows of the sequences from this rank on remain to be put, and their records are left
+-- the rows of the sequences from this rank on remain to be written, and their records are left
 abbrev pub invariant-loop-rank : goal.invariant-loop-rank
 invariant-loop-rank g l = record {
   put : Underway (g.S.Sink.state l.fn.sink) (g.S.Sink.state l.sink) (texts_from l.shown l.genome (depth (span_rows l.spans)) l.rank) (depth_text l.shown l.genome (span_rows l.spans));

@@ -3,7 +3,7 @@ use Rattle.iv_text.specs.Ordered.{AreInOrder}
 use Rattle.iv_pair.specs.Inside.HitFinder.{AllCover, HitAlike}
 use Rattle.iv_pair.proofs.hit_finder.take_begun.Given as goal
 
--- what is carried and what is ahead have the hits from this place on as before
+-- what is carried and what is ahead have the hits from this position on as before
 abbrev pub invariant-loop : goal.invariant-loop
 invariant-loop g l = record {
   ordered : AreInOrder l.rows;

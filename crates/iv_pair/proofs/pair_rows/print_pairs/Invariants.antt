@@ -4,7 +4,7 @@ use Rattle.iv_bytes.proofs.Putting.{Underway}
 use Rattle.iv_pair.proofs.pair_rows.print_pairs.Given as goal
 use Rattle.iv_pair.specs.PairRows.{pair_rows, pair_text}
 
--- the rows of the records that are left remain to be put
+-- the rows of the records that are left remain to be written
 abbrev pub invariant-loop-row : goal.invariant-loop-row
 invariant-loop-row g l = record {
   finder : l.finder.records ≡ l.second.rows;

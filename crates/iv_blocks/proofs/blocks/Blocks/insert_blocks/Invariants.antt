@@ -3,7 +3,7 @@ use Rattle.iv_blocks.specs.Inside.Groups.{between_on}
 use Rattle.iv_blocks.proofs.GroupSweeps.{IsSweeping}
 use Rattle.iv_blocks.proofs.blocks.Blocks.insert_blocks.Given as goal
 
--- the blocks before the open one are put, and each record that was passed has paid for the steps
+-- the blocks before the open one are inserted, and each record that was passed has paid for the steps
 abbrev pub invariant-loop-row : goal.invariant-loop-row
 invariant-loop-row g l = record {
   sweep : IsSweeping l.fn.self l.genome l.track.rows l.group l.from l.to l.self l.start l.stop l.members.members;

@@ -7,7 +7,7 @@ use Rattle.iv_blocks.specs.ClusterRows.{cluster_row, cluster_text}
 use Rattle.iv_blocks.proofs.ClusterLemmas.{IsPassed}
 use Rattle.iv_blocks.proofs.blocks.Blocks.print_cluster.Given as goal
 
--- the rows of the records that are left remain to be put
+-- the rows of the records that are left remain to be written
 abbrev pub invariant-loop-row : goal.invariant-loop-row
 invariant-loop-row g l = record {
   put : Underway (g.S.Sink.state l.fn.sink) (g.S.Sink.state l.sink)

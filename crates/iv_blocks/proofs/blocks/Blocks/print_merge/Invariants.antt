@@ -4,7 +4,7 @@ use Rattle.iv_bytes.proofs.Putting.{Underway}
 use Rattle.iv_blocks.proofs.MergeLemmas.{entry_row}
 use Rattle.iv_blocks.proofs.blocks.Blocks.print_merge.Given as goal
 
--- the rows of the entries that are left remain to be put
+-- the rows of the entries that are left remain to be written
 abbrev pub invariant-loop-key : goal.invariant-loop-key
 invariant-loop-key g l = record {
   put : Underway (g.S.Sink.state l.fn.sink) (g.S.Sink.state l.sink) (flat_map (entry_row l.genome) l.walk) (flat_map (entry_row l.genome) l.self.entries);

@@ -8,7 +8,7 @@ use Rattle.iv_cover.specs.Results.{HasRoom}
 use Rattle.iv_index.proofs.SequenceLemmas.{is_from}
 use Rattle.iv_blocks.proofs.merge_sweep.MergeSweep.print.Given as goal
 
--- the rows of the sequences from this rank on remain to be put
+-- the rows of the sequences from this rank on remain to be written
 abbrev pub invariant-loop-rank : goal.invariant-loop-rank
 invariant-loop-rank g l = record {
   put : Underway (g.S.Sink.state l.fn.sink) (g.S.Sink.state l.sink)

@@ -8,7 +8,7 @@ use Rattle.iv_pair.specs.declared.pair_rows.PairRows.TheVariants.{Intersect}
 use Rattle.iv_pair.specs.Inside.Counts.{AreEndsOf, AreStartsOf, begins_before, ends_by}
 use Rattle.iv_pair.proofs.count_sweep.CountSweep.print.Given as goal
 
--- the rows of the records that are left remain to be put, and each cursor is no further than any of them has it
+-- the rows of the records that are left remain to be written, and each cursor is no further than any of them has it
 abbrev pub invariant-loop-row : goal.invariant-loop-row
 invariant-loop-row g l = record {
   ends_are : AreEndsOf l.ends l.self.second;

@@ -4,7 +4,7 @@ use Rattle.iv_bytes.proofs.Putting.{Underway}
 use Rattle.iv_pair.specs.PairRows.{pair_rows, pair_text}
 use Rattle.iv_pair.proofs.pair_sweep.PairSweep.print.Given as goal
 
--- the second list stays, and the rows of the records that are left remain to be put
+-- the second list stays, and the rows of the records that are left remain to be written
 abbrev pub invariant-loop-row : goal.invariant-loop-row
 invariant-loop-row g l = record {
   same : l.self.second ≡ l.fn.self.second;
