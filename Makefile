@@ -98,7 +98,7 @@ test:
 	python3 scripts/test/fuzz.py $(PROGRAM) --seed 1 --seconds 20
 
 wrong-bodies:
-	RT=$(RT) scripts/prove/mutants.sh
+	RT=$(RT) python3 scripts/prove/mutants.py
 
 clean:
 	rm -rf build crates/*/out
