@@ -11,7 +11,7 @@ ghost use Rattle.std.specs.Prelude.{None};
 
 use crate::seen_files::SeenFiles;
 use iv_bytes::{ReadFault, Source, StdSink, StdSource, put_all};
-use iv_cli::Ending;
+use iv_cli::ExitReason;
 use iv_hints::{Hint, hint_of, hint_of_no_words, hint_of_session};
 use iv_program::{InputFiles, run_program, tell};
 use std::alloc::AllocError;
@@ -58,7 +58,7 @@ fn show(rt: &HostRuntime, hint: Result<Hint, AllocError>) {
 }
 
 /// Runs what the arguments ask for.
-fn run(rt: &HostRuntime) -> Result<u8, Ending> {
+fn run(rt: &HostRuntime) -> Result<u8, ExitReason> {
     let words: Vec<String> = env::args(rt)?.collect(rt.alloc())?;
     let after_program = words.iter().skip(1).map(|word| word.as_bytes());
     let names: Vec<&[u8]> = after_program.collect(rt.alloc())?;
@@ -76,18 +76,18 @@ fn run(rt: &HostRuntime) -> Result<u8, Ending> {
     );
     if has_reader {
         let files = &mut SeenFiles { rt };
-        let (ending, line) = (ended.ending, ended.line);
-        let hint = hint_of(rt.alloc(), names.as_slice(), ending, line, files);
+        let (exit_reason, line) = (ended.exit_reason, ended.line);
+        let hint = hint_of(rt.alloc(), names.as_slice(), exit_reason, line, files);
         show(rt, hint);
     }
     Ok(ended.status())
 }
 
 /// Ends a run whose arguments the system doesn't give.
-fn end(rt: &HostRuntime, ending: Ending) -> u8 {
-    let status = tell(ending, b"", &mut StdSink::new(rt.stderr()));
+fn end(rt: &HostRuntime, exit_reason: ExitReason) -> u8 {
+    let status = tell(exit_reason, b"", &mut StdSink::new(rt.stderr()));
     if rt.stderr().is_terminal() {
-        show(rt, hint_of_no_words(rt.alloc(), ending));
+        show(rt, hint_of_no_words(rt.alloc(), exit_reason));
     }
     status
 }
@@ -95,6 +95,6 @@ fn end(rt: &HostRuntime, ending: Ending) -> u8 {
 fn main(rt: HostRuntime) -> ExitCode {
     ExitCode::from(match run(&rt) {
         Ok(status) => status,
-        Err(ending) => end(&rt, ending),
+        Err(exit_reason) => end(&rt, exit_reason),
     })
 }

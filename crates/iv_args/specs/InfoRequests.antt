@@ -3,8 +3,8 @@ use Rattle.std.specs.Prelude.{ℕ, ◌||◌, Bool, if◌then◌else◌, List, []
 use Rattle.std.specs.Option.{option_map}
 use Rattle.std.specs.Str.{bytes_eq}
 use Rattle.iv_args.specs.Words.{run_of}
-use Rattle.iv_args.specs.declared.notice.Notice.{Notice}
-use Rattle.iv_args.specs.declared.notice.Notice.TheVariants.{Help, HelpOf, Version}
+use Rattle.iv_args.specs.declared.info_request.InfoRequest.{InfoRequest}
+use Rattle.iv_args.specs.declared.info_request.InfoRequest.TheVariants.{Help, HelpOf, Version}
 
 -- the first words that ask for help
 abbrev pub is_help_command : List ℕ → Bool
@@ -16,7 +16,7 @@ is_help_option word = bytes_eq word (codes "--help") || bytes_eq word (codes "-h
 
 -- the notice that words ask for: help if one of these words is alone; help on one kind of run if its word comes after the
 -- first word that asks for help, or before the option; and the version if `--version` is alone
-abbrev pub notice_of : List (List ℕ) → Option Notice
+abbrev pub notice_of : List (List ℕ) → Option InfoRequest
 notice_of [] = None
 notice_of (word ∷ []) =
     if is_help_command word || is_help_option word then Some Help

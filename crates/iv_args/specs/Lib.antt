@@ -1,4 +1,4 @@
 pub mod Words
-pub mod Notices
+pub mod InfoRequests
 pub mod Texts
 pub mod Inside

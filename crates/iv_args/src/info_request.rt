@@ -1,6 +1,6 @@
 //! What the program says about itself.
 ghost use Rattle.std.specs.Prelude.{◌≡◌, map};
-ghost use Rattle.iv_args.specs.Notices.{notice_of, is_help_command as help_command, is_help_option as help_option};
+ghost use Rattle.iv_args.specs.InfoRequests.{notice_of, is_help_command as help_command, is_help_option as help_option};
 ghost use Rattle.iv_args.specs.Texts.{notice_text};
 
 use crate::help::{HELP, help_of};
@@ -8,7 +8,7 @@ use crate::subcommand::Subcommand;
 
 /// What the program can say about itself.
 #[derive(Clone, Copy, Debug, PartialEq, Eq)]
-pub enum Notice {
+pub enum InfoRequest {
     /// How it is used.
     Help,
     /// How one kind of run is used.
@@ -36,19 +36,23 @@ fn is_help_option(word: &[u8]) -> bool
     word == b"--help".as_slice() || word == b"-h".as_slice()
 }
 
-impl Notice {
+impl InfoRequest {
     /// The notice that the arguments after the program's name ask for.
     ///
     /// Help: `--help`, `-h` or `help` alone. Help on a subcommand or on `session`: its argument after `--help` or `help`, or
     /// before `--help` or `-h`. The version: `--version` alone.
-    pub fn of(words: &[&[u8]]) -> Option<Notice>
+    pub fn of(words: &[&[u8]]) -> Option<InfoRequest>
         ensures { result ≡ notice_of (map (λ word. word.now) words.now) }
     {
         match words {
-            [word] if is_help_command(word) || is_help_option(word) => Some(Notice::Help),
-            [word] if *word == b"--version".as_slice() => Some(Notice::Version),
-            [word, subject] if is_help_command(word) => Subcommand::of(subject).map(Notice::HelpOf),
-            [subject, word] if is_help_option(word) => Subcommand::of(subject).map(Notice::HelpOf),
+            [word] if is_help_command(word) || is_help_option(word) => Some(InfoRequest::Help),
+            [word] if *word == b"--version".as_slice() => Some(InfoRequest::Version),
+            [word, subject] if is_help_command(word) => Subcommand::of(subject).map(
+                InfoRequest::HelpOf,
+            ),
+            [subject, word] if is_help_option(word) => Subcommand::of(subject).map(
+                InfoRequest::HelpOf,
+            ),
             _ => None,
         }
     }
@@ -58,9 +62,9 @@ impl Notice {
         ensures { result.now ≡ notice_text self }
     {
         match self {
-            Notice::Help => HELP,
-            Notice::HelpOf(run) => help_of(run),
-            Notice::Version => VERSION,
+            InfoRequest::Help => HELP,
+            InfoRequest::HelpOf(run) => help_of(run),
+            InfoRequest::Version => VERSION,
         }
     }
 }

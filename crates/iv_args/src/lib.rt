@@ -2,10 +2,10 @@
 #![tactic(auto)]
 
 mod help;
-mod notice;
+mod info_request;
 mod plan;
 mod subcommand;
 
-pub use notice::Notice;
+pub use info_request::InfoRequest;
 pub use plan::{Plan, Slot};
 pub use subcommand::{Subcommand, no_option_twice, options_among_view_words};

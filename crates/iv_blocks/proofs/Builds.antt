@@ -18,12 +18,12 @@ use Rattle.iv_blocks.specs.Inside.Insertion.{AreInserted, AreInsertedOn}
 use Rattle.iv_blocks.specs.declared.group.Group.{Group}
 use Rattle.iv_blocks.specs.declared.group.Side.{Side}
 use Rattle.iv_blocks.specs.declared.group.Side.TheVariants.{Plus, Minus}
-use Rattle.iv_blocks.specs.declared.options.Options.{Options}
+use Rattle.iv_blocks.specs.declared.options.BlockOptions.{BlockOptions}
 use Rattle.iv_blocks.proofs.GroupSweeps.{member-in}
 use Rattle.iv_blocks.proofs.MembersLemmas.{between-from}
 
 -- the sequences below this rank have their blocks, and the others have none yet
-pub record IsBuiltTo (genome : Sequences) (rows : List RecordValue) (options : Options) (rank : ℕ) (now : KeptBlocks) : Type 0 where
+pub record IsBuiltTo (genome : Sequences) (rows : List RecordValue) (options : BlockOptions) (rank : ℕ) (now : KeptBlocks) : Type 0 where
   pub for_options : now.options ≡ options
   pub ordered : IsLedger key_cmp now.entries
   pub below : (k : Key) → k.0 < rank → value_at key_cmp now.entries k ≡ kept_at options (names_of genome) rows k
@@ -67,13 +67,13 @@ module _ (genome : Sequences) (width : ℕ) (rows : List RecordValue) (fit : All
       let at : sequence_length genome q.seq ≡ sequence_length genome rank = ap (sequence_length genome) (in_group-rank s rank minus q e) in
       and_from _ _ (between-from 0 (sequence_length genome rank) q (omega arith) (omega (arith, is_placed.some, is_placed.within.1, at))) e))
 
-  pub kept-whole : (o : Options) (rank : ℕ) (minus : Bool) (x : ℕ)
+  pub kept-whole : (o : BlockOptions) (rank : ℕ) (minus : Bool) (x : ℕ)
       → kept_at o (names_of genome) (between 0 (sequence_length genome rank) rows) (rank, minus, x) ≡ kept_at o (names_of genome) rows (rank, minus, x)
   kept-whole o rank minus x =
       ap (λ (l : List RecordValue). option_map (kept_block (name_of (names_of genome) rank) (listed o.summaries)) (block_at start_of stop_of o.distance l x)) (group-whole o.stranded rank minus)
 
   -- nor past the last sequence
-  pub kept-past : (o : Options) (k : Key) → length genome ≤ k.0 → kept_at o (names_of genome) rows k ≡ None
+  pub kept-past : (o : BlockOptions) (k : Key) → length genome ≤ k.0 → kept_at o (names_of genome) rows k ≡ None
   kept-past o k past =
       ap (λ (l : List RecordValue). option_map (kept_block (name_of (names_of genome) k.0) (listed o.summaries)) (block_at start_of stop_of o.distance l k.2))
       (filter-none (is_in_group o.stranded k.0 k.1) rows (λ q m. false_from_ne_true _ (λ e.
@@ -114,7 +114,7 @@ module _ (genome : Sequences) (width : ℕ) (rows : List RecordValue) (fit : All
   option_or-none None = refl
   option_or-none (Some v) = refl
 
-  pub built-next : (options : Options) (rank : ℕ) (now next : KeptBlocks) → IsBuiltTo genome rows options rank now → AreInsertedOn rank (names_of genome) rows now next → IsBuiltTo genome rows options (rank + 1) next
+  pub built-next : (options : BlockOptions) (rank : ℕ) (now next : KeptBlocks) → IsBuiltTo genome rows options rank now → AreInsertedOn rank (names_of genome) rows now next → IsBuiltTo genome rows options (rank + 1) next
   built-next options rank now next built put = record {
     for_options = put.options ∙ built.for_options;
     ordered = put.ordered;
@@ -132,7 +132,7 @@ module _ (genome : Sequences) (width : ℕ) (rows : List RecordValue) (fit : All
     from = λ k high. put.others k (λ at. omega arith) ∙ built.from k (omega arith);
   }
 
-  pub built-all : (options : Options) (rank : ℕ) (now : KeptBlocks) → IsBuiltTo genome rows options rank now → length genome ≤ rank → AreBlocksOf options (names_of genome) rows now.entries
+  pub built-all : (options : BlockOptions) (rank : ℕ) (now : KeptBlocks) → IsBuiltTo genome rows options rank now → length genome ≤ rank → AreBlocksOf options (names_of genome) rows now.entries
   built-all options rank now built past = record {
     ordered = built.ordered;
     blocks = λ k. elim (cases_lt k.0 rank) [

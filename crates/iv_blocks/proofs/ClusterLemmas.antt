@@ -19,7 +19,7 @@ use Rattle.iv_text.specs.RecordText.{record_text}
 use Rattle.iv_text.specs.RecordValue.{RecordValue, record_cmp}
 use Rattle.iv_cover.specs.Blocks.{blocks_below, block_at}
 use Rattle.iv_cover.specs.TrackBlocks.{start_of, stop_of}
-use Rattle.iv_text.specs.Covering.{on}
+use Rattle.iv_text.specs.CoveredPositions.{on}
 use Rattle.iv_cover.specs.declared.block.Block.{Block}
 use Rattle.iv_cover.proofs.Groups.{mem-append}
 use Rattle.iv_text.proofs.PrecedesLemmas.{Precedes, precedes-from}
@@ -28,7 +28,7 @@ use Rattle.iv_blocks.specs.Inside.BlockCursor.{interval_of, starts_until, drop_w
 use Rattle.iv_blocks.specs.ClusterRows.{blocks_before, cluster_row}
 use Rattle.iv_blocks.specs.Groups.{is_in_group, group, listed}
 use Rattle.iv_blocks.specs.KeptBlocks.{Key, Kept, Entries, AreBlocksOf, key_cmp, kept_at, kept_block, name_of}
-use Rattle.iv_blocks.specs.declared.options.Options.{Options}
+use Rattle.iv_blocks.specs.declared.options.BlockOptions.{BlockOptions}
 use Rattle.iv_blocks.proofs.BlockCursorLemmas.{take-all, begins-else, take-first, take-none, drop-first, drop-none}
 use Rattle.iv_blocks.proofs.EntryLemmas.{from, entry-found, side_entries, rank_entries, all_entries, walked-on, ranks-all}
 use Rattle.iv_blocks.proofs.KeptLemmas.{none-past, side-is, side-other, entry_of, group-other}
@@ -183,7 +183,7 @@ past-key s p x v after side = false_from_ne_true _ (λ e. elim (or_cases (nat_lt
 pub on-is : (s : ℕ) (rows : List RecordValue) → group false s false rows ≡ on s rows
 on-is s rows = filter-agree (is_in_group false s false) (λ r. r.seq == s) rows (λ q m. and-true (q.seq == s))
 
-module _ (o : Options) (g : Sequences) (width : ℕ) (rows : List RecordValue) (entries : Entries) (right : AreBlocksOf o (names_of g) rows entries) (fit : All (Fits g width) rows)
+module _ (o : BlockOptions) (g : Sequences) (width : ℕ) (rows : List RecordValue) (entries : Entries) (right : AreBlocksOf o (names_of g) rows entries) (fit : All (Fits g width) rows)
     (together : o.stranded ≡ false) where
   abbrev look : Key → Option Kept
   look = kept_at o (names_of g) rows

@@ -12,12 +12,12 @@ use Rattle.iv_text.specs.Ordered.{AreInOrder}
 use Rattle.iv_text.specs.Read.{IsOnGenome}
 use Rattle.iv_text.specs.RecordValue.{RecordValue}
 use Rattle.iv_cover.specs.Blocks.{blocks_below, is_block_start, block_stop, members}
-use Rattle.iv_cover.specs.Inside.Coming.{is_joined, block_of, joined, still_open, coming}
+use Rattle.iv_cover.specs.Inside.RemainingBlocks.{is_joined, block_of, joined, still_open, coming}
 use Rattle.iv_cover.specs.TrackBlocks.{Group, start_of, stop_of, block_on, blocks_on, blocks_of}
-use Rattle.iv_text.specs.Covering.{on}
+use Rattle.iv_text.specs.CoveredPositions.{on}
 use Rattle.iv_cover.proofs.Comings.{coming-joined, coming-split_up}
 use Rattle.iv_cover.proofs.Cover.{home}
-use Rattle.iv_cover.proofs.Merging.{gathered, gathered-more, merge-all, on-in}
+use Rattle.iv_cover.proofs.WalkLemmas.{gathered, gathered-more, merge-all, on-in}
 use Rattle.iv_cover.proofs.Positions.{values, values-none, values-some}
 use Rattle.iv_text.proofs.ListLemmas.{Mem, mem-filter, mem-contains}
 use Rattle.iv_blocks.specs.ClusterRows.{blocks_before, block_number, cluster_row, cluster_text}

@@ -10,7 +10,7 @@ use Rattle.iv_text.specs.Named.{names_of}
 use Rattle.iv_text.specs.Read.{Fits, IsOnGenome}
 use Rattle.iv_text.specs.RecordValue.{RecordValue}
 use Rattle.iv_cover.specs.Blocks.{block_stop, block_at, blocks_below}
-use Rattle.iv_text.specs.Covering.{covers}
+use Rattle.iv_text.specs.CoveredPositions.{covers}
 use Rattle.iv_cover.specs.Depth.{depth}
 use Rattle.iv_cover.specs.Runs.{empty_runs}
 use Rattle.iv_cover.specs.TrackBlocks.{start_of, stop_of}
@@ -23,11 +23,11 @@ use Rattle.iv_blocks.specs.Inside.BlockCursor.{interval_of, gap_between, gaps_be
 use Rattle.iv_blocks.specs.ComplementRows.{gap_row, gap_rows, is_shown, complement_text}
 use Rattle.iv_blocks.specs.Groups.{is_in_group, group, sides}
 use Rattle.iv_blocks.specs.KeptBlocks.{Entries, AreBlocksOf}
-use Rattle.iv_blocks.specs.declared.options.Options.{Options}
+use Rattle.iv_blocks.specs.declared.options.BlockOptions.{BlockOptions}
 use Rattle.iv_blocks.proofs.BlockCursorLemmas.{take-all, drop-all, begins-else}
 use Rattle.iv_blocks.proofs.GapLemmas.{all_gaps-are}
 use Rattle.iv_blocks.proofs.KeptLemmas.{group-in, entry_of, side_blocks, entries-are, flat_map-agree, map-filter_map}
-use Rattle.iv_blocks.proofs.PlainLemmas.{all-lie, map-flat_map}
+use Rattle.iv_blocks.proofs.UnstrandedLemmas.{all-lie, map-flat_map}
 
 -- ---- one block after another
 
@@ -145,7 +145,7 @@ depth-none rows s p free =
 abbrev pub place_of : ℕ → ℕ → Option (ℕ × List RecordValue) → Option Block
 place_of s x at = option_map (λ (b : ℕ × List RecordValue). record { sequence = s; start = x; stop = b.0 }) at
 
-place-of : (o : Options) (g : Sequences) (s x : ℕ) (at : Option (ℕ × List RecordValue))
+place-of : (o : BlockOptions) (g : Sequences) (s x : ℕ) (at : Option (ℕ × List RecordValue))
     → option_map interval_of (option_map (entry_of o g s false) (option_map (λ b. (x, b)) at)) ≡ place_of s x at
 place-of o g s x None = refl
 place-of o g s x (Some b) = refl
@@ -221,7 +221,7 @@ module _ (g : Sequences) (rows : List RecordValue) (lie : All (IsOnGenome g) row
       texts-are (not limited) g (intervals_on g rows) are-own (seq_count g) 0
       ∙ flat_map-agree (λ s. sequence_text (not limited) g s (intervals_on g rows s)) (gap_rows limited g rows) (range_with_len 0 (seq_count g)) (sequence-is limited)
 
-module _ (o : Options) (g : Sequences) (width : ℕ) (rows : List RecordValue) (entries : Entries) (right : AreBlocksOf o (names_of g) rows entries) (fit : All (Fits g width) rows)
+module _ (o : BlockOptions) (g : Sequences) (width : ℕ) (rows : List RecordValue) (entries : Entries) (right : AreBlocksOf o (names_of g) rows entries) (fit : All (Fits g width) rows)
     (distance : o.distance ≡ 0) (together : o.stranded ≡ false) where
   -- where the entries of a sequence are
   abbrev own_entries : ℕ → Entries

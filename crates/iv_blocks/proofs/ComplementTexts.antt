@@ -7,7 +7,7 @@ use Rattle.iv_text.specs.Genome.{Sequences, seq_count, sequence_length}
 use Rattle.iv_text.specs.Read.{IsOnGenome}
 use Rattle.iv_text.specs.RecordValue.{RecordValue}
 use Rattle.iv_cover.specs.Blocks.{block_at, blocks_below}
-use Rattle.iv_cover.specs.Inside.Coming.{is_joined, block_of, joined, coming}
+use Rattle.iv_cover.specs.Inside.RemainingBlocks.{is_joined, block_of, joined, coming}
 use Rattle.iv_cover.specs.TrackBlocks.{Group, start_of, stop_of, block_on, blocks_on, blocks_of}
 use Rattle.iv_cover.proofs.Comings.{coming-joined, coming-split_up}
 use Rattle.iv_cover.proofs.Positions.{values-agree}
@@ -16,7 +16,7 @@ use Rattle.iv_blocks.specs.Groups.{group}
 use Rattle.iv_blocks.proofs.ClusterLemmas.{on-is}
 use Rattle.iv_blocks.proofs.ComplementLemmas.{place_of, interval_at, intervals_on, gaps-of_blocks}
 use Rattle.iv_blocks.proofs.KeptLemmas.{flat_map-agree, map-filter_map}
-use Rattle.iv_blocks.proofs.PlainLemmas.{map-flat_map}
+use Rattle.iv_blocks.proofs.UnstrandedLemmas.{map-flat_map}
 use Rattle.iv_blocks.specs.Inside.BlockCursor.{texts}
 use Rattle.iv_blocks.specs.Inside.BlockSweeps.{interval_of, next_start}
 

@@ -25,7 +25,7 @@ use Rattle.iv_blocks.specs.Inside.Lookups.{kept_in, IsLastBlock}
 use Rattle.iv_blocks.specs.Inside.Insertion.{key_of, IsOfOther, AreInserted, with_block}
 use Rattle.iv_blocks.specs.Inside.Repairs.{without_block, KeepsOthers, JoinsBefore, JoinsAfter, count_from}
 use Rattle.iv_blocks.specs.declared.group.Group.{Group}
-use Rattle.iv_blocks.specs.declared.options.Options.{Options}
+use Rattle.iv_blocks.specs.declared.options.BlockOptions.{BlockOptions}
 use Rattle.iv_blocks.proofs.Keys.{key-cases, look-put, look-put_other}
 use Rattle.iv_blocks.proofs.NameLemmas.{name-same}
 use Rattle.iv_blocks.proofs.TakeLemmas.{without-here, without-others}
@@ -95,12 +95,12 @@ fits-last_more genome width less rows r more fit fits q m = elim (more.cases q m
 ]
 
 -- nothing changes where the record is not
-kept-beside : (o : Options) (names : List (List ℕ)) (less rows : List RecordValue) (r : RecordValue) (k : Key) → HasOneMore less r rows → is_in_group o.stranded k.0 k.1 r ≡ false → kept_at o names rows k ≡ kept_at o names less k
+kept-beside : (o : BlockOptions) (names : List (List ℕ)) (less rows : List RecordValue) (r : RecordValue) (k : Key) → HasOneMore less r rows → is_in_group o.stranded k.0 k.1 r ≡ false → kept_at o names rows k ≡ kept_at o names less k
 kept-beside o names less rows r k more beside =
     ap (λ (l : List RecordValue). option_map (kept_block (name_of names k.0) (listed o.summaries)) (block_at start_of stop_of o.distance l k.2)) (more.others (is_in_group o.stranded k.0 k.1) beside)
 
 -- so nothing changes if the record is in no group
-right-beside : (o : Options) (names : List (List ℕ)) (less rows : List RecordValue) (r : RecordValue) → HasOneMore less r rows → ((minus : Bool) → is_on_side o.stranded minus r ≡ false) → (k : Key) → kept_at o names rows k ≡ kept_at o names less k
+right-beside : (o : BlockOptions) (names : List (List ℕ)) (less rows : List RecordValue) (r : RecordValue) → HasOneMore less r rows → ((minus : Bool) → is_on_side o.stranded minus r ≡ false) → (k : Key) → kept_at o names rows k ≡ kept_at o names less k
 right-beside o names less rows r more beside k =
     kept-beside o names less rows r k more (false_from_ne_true _ (λ e. both_ways _ (beside k.1) (and_parts (r.seq == k.0) (is_on_side o.stranded k.1 r) e).1))
 
@@ -110,17 +110,17 @@ on-both (Ok x) P Q R f p q = f p q
 on-both (Err e) P Q R f p q = p
 
 -- r is of the group g, rows have it, and less are the others
-pub record IsEdit (o : Options) (g : Group) (r : RecordValue) (less rows : List RecordValue) : Type 0 where
+pub record IsEdit (o : BlockOptions) (g : Group) (r : RecordValue) (less rows : List RecordValue) : Type 0 where
   pub more : HasOneMore less r rows
   pub apart : is_apart g.side ≡ o.stranded
   pub in_group : is_in_group o.stranded g.rank (is_minus g.side) r ≡ true
   pub lasts : (q : RecordValue) → Mem q rows → q.start < q.stop
 
 -- what an edit knows of the record's group, which was found by the options p
-edit-of : (o p : Options) (g : Group) (r : RecordValue) (less rows : List RecordValue) → p ≡ o → (is_apart g.side ≡ p.stranded) × (is_in_group p.stranded g.rank (is_minus g.side) r ≡ true)
+edit-of : (o p : BlockOptions) (g : Group) (r : RecordValue) (less rows : List RecordValue) → p ≡ o → (is_apart g.side ≡ p.stranded) × (is_in_group p.stranded g.rank (is_minus g.side) r ≡ true)
     → HasOneMore less r rows → ((q : RecordValue) → Mem q rows → q.start < q.stop) → IsEdit o g r less rows
 edit-of o p g r less rows same known more lasts =
-    let stranded : p.stranded ≡ o.stranded = ap (λ (x : Options). x.stranded) same in
+    let stranded : p.stranded ≡ o.stranded = ap (λ (x : BlockOptions). x.stranded) same in
     record {
       more = more;
       apart = known.0 ∙ stranded;
@@ -128,35 +128,35 @@ edit-of o p g r less rows same known more lasts =
       lasts = lasts;
     }
 
-pub edit-added : (o p : Options) (g : Group) (r : RecordValue) (less rows : List RecordValue) (genome : Sequences) (width : ℕ) → p ≡ o → (is_apart g.side ≡ p.stranded) × (is_in_group p.stranded g.rank (is_minus g.side) r ≡ true)
+pub edit-added : (o p : BlockOptions) (g : Group) (r : RecordValue) (less rows : List RecordValue) (genome : Sequences) (width : ℕ) → p ≡ o → (is_apart g.side ≡ p.stranded) × (is_in_group p.stranded g.rank (is_minus g.side) r ≡ true)
     → rows ≡ added less r → All (Fits genome width) rows → IsEdit o g r less rows
 edit-added o p g r less rows genome width same known rows_are fit =
     edit-of o p g r less rows same known (subst (λ (l : List RecordValue). HasOneMore less r l) (sym rows_are) (added-more less r)) (fits-last genome width rows fit)
 
-pub edit-removed : (o p : Options) (g : Group) (r : RecordValue) (rows : List RecordValue) (genome : Sequences) (width : ℕ) → p ≡ o → (is_apart g.side ≡ p.stranded) × (is_in_group p.stranded g.rank (is_minus g.side) r ≡ true)
+pub edit-removed : (o p : BlockOptions) (g : Group) (r : RecordValue) (rows : List RecordValue) (genome : Sequences) (width : ℕ) → p ≡ o → (is_apart g.side ≡ p.stranded) × (is_in_group p.stranded g.rank (is_minus g.side) r ≡ true)
     → All (Fits genome width) rows → Fits genome width r → IsEdit o g r rows (added rows r)
 edit-removed o p g r rows genome width same known fit fits =
     let more = added-more rows r in
     edit-of o p g r rows (added rows r) same known more (fits-last_more genome width rows (added rows r) r more fit fits)
 
 -- blocks stay right if the record is in no group
-pub beside-added : (o p : Options) (names : List (List ℕ)) (less rows : List RecordValue) (r : RecordValue) (entries : Entries) → p ≡ o → ((minus : Bool) → is_on_side p.stranded minus r ≡ false)
+pub beside-added : (o p : BlockOptions) (names : List (List ℕ)) (less rows : List RecordValue) (r : RecordValue) (entries : Entries) → p ≡ o → ((minus : Bool) → is_on_side p.stranded minus r ≡ false)
     → rows ≡ added less r → AreBlocksOf o names less entries → AreBlocksOf o names rows entries
 beside-added o p names less rows r entries same beside rows_are right =
     let more : HasOneMore less r rows = subst (λ (l : List RecordValue). HasOneMore less r l) (sym rows_are) (added-more less r) in
     record {
       ordered = right.ordered;
-      blocks = λ k. right.blocks k ∙ sym (right-beside o names less rows r more (subst (λ (x : Options). (minus : Bool) → is_on_side x.stranded minus r ≡ false) same beside) k);
+      blocks = λ k. right.blocks k ∙ sym (right-beside o names less rows r more (subst (λ (x : BlockOptions). (minus : Bool) → is_on_side x.stranded minus r ≡ false) same beside) k);
     }
 
-pub beside-removed : (o p : Options) (names : List (List ℕ)) (rows : List RecordValue) (r : RecordValue) (entries : Entries) → p ≡ o → ((minus : Bool) → is_on_side p.stranded minus r ≡ false)
+pub beside-removed : (o p : BlockOptions) (names : List (List ℕ)) (rows : List RecordValue) (r : RecordValue) (entries : Entries) → p ≡ o → ((minus : Bool) → is_on_side p.stranded minus r ≡ false)
     → AreBlocksOf o names (added rows r) entries → AreBlocksOf o names rows entries
 beside-removed o p names rows r entries same beside right = record {
   ordered = right.ordered;
-  blocks = λ k. right.blocks k ∙ right-beside o names rows (added rows r) r (added-more rows r) (subst (λ (x : Options). (minus : Bool) → is_on_side x.stranded minus r ≡ false) same beside) k;
+  blocks = λ k. right.blocks k ∙ right-beside o names rows (added rows r) r (added-more rows r) (subst (λ (x : BlockOptions). (minus : Bool) → is_on_side x.stranded minus r ≡ false) same beside) k;
 }
 
-module _ (o : Options) (names : List (List ℕ)) (g : Group) (r : RecordValue) (less rows : List RecordValue) (edit : IsEdit o g r less rows) where
+module _ (o : BlockOptions) (names : List (List ℕ)) (g : Group) (r : RecordValue) (less rows : List RecordValue) (edit : IsEdit o g r less rows) where
   parts : (r.seq == g.rank ≡ true) × (is_on_side o.stranded (is_minus g.side) r ≡ true)
   parts = and_parts (r.seq == g.rank) (is_on_side o.stranded (is_minus g.side) r) edit.in_group
 
@@ -261,7 +261,7 @@ module _ (o : Options) (names : List (List ℕ)) (g : Group) (r : RecordValue) (
         value-is : value ≡ kept_block (name_of names g.rank) (listed o.summaries) (to, filter (starts_in start_of stop_of o.distance joined.0 to) H)
         value-is =
             ap (λ (n : List ℕ). kept_block n (listed next.options.summaries) (to, members_between g joined.0 to rows)) (sym (name-same genome g.rank) ∙ ap (λ (l : List (List ℕ)). name_of l g.rank) (sym of_genome))
-            ∙ ap (λ (p : Options). kept_block (name_of names g.rank) (listed p.summaries) (to, members_between g joined.0 to rows)) (second.options ∙ options)
+            ∙ ap (λ (p : BlockOptions). kept_block (name_of names g.rank) (listed p.summaries) (to, members_between g joined.0 to rows)) (second.options ∙ options)
             ∙ ap (λ (s : Bool). kept_block (name_of names g.rank) (listed o.summaries) (to, filter (λ q. is_in_group s g.rank (is_minus g.side) q && starts_between joined.0 to q) rows)) edit.apart
             ∙ ap (λ (l : List RecordValue). kept_block (name_of names g.rank) (listed o.summaries) (to, l)) (sym (filter-filter (starts_between joined.0 to) (is_in_group o.stranded g.rank (is_minus g.side)) rows))
 
@@ -313,6 +313,6 @@ module _ (o : Options) (names : List (List ℕ)) (g : Group) (r : RecordValue) (
               (kept_in (without_block old g b.0).entries g) (kept_in new.entries g) last
               (λ y. without-here old.entries g b.0 right.ordered y)
               (λ y. put.here y
-              ∙ ap (λ (p : Options). option_or (kept_at p names (between b.0 b.1 less) (key_of g y)) (kept_in (without_block old g b.0).entries g y)) options
+              ∙ ap (λ (p : BlockOptions). option_or (kept_at p names (between b.0 b.1 less) (key_of g y)) (kept_in (without_block old g b.0).entries g y)) options
               ∙ ap (λ (l : List RecordValue). option_or (shown o.distance (name_of names g.rank) (listed o.summaries) l y) (kept_in (without_block old g b.0).entries g y))
               (filter-swap (is_in_group o.stranded g.rank (is_minus g.side)) (starts_between b.0 b.1) less)) x

@@ -19,10 +19,10 @@ use Rattle.iv_blocks.specs.Inside.Groups.{starts_between, between, between_on, m
 use Rattle.iv_blocks.specs.KeptBlocks.{Key, key_cmp, Kept, Entries, KeptBlocks, kept_block, kept_at}
 use Rattle.iv_blocks.specs.Inside.Insertion.{key_of, IsOfOther, with_block, AreInserted}
 use Rattle.iv_blocks.specs.declared.group.Group.{Group}
-use Rattle.iv_blocks.specs.declared.options.Options.{Options}
+use Rattle.iv_blocks.specs.declared.options.BlockOptions.{BlockOptions}
 use Rattle.iv_blocks.proofs.Keys.{look-put, look-put_other}
 use Rattle.iv_blocks.proofs.NameLemmas.{name-same}
-use Rattle.iv_blocks.proofs.Sweeping.{shown, IsPut, put-first, put-join, put-open, put-all}
+use Rattle.iv_blocks.proofs.SweepLemmas.{shown, IsPut, put-first, put-join, put-open, put-all}
 use Rattle.iv_text.proofs.InOrderLemmas.{in_order-filter}
 use Rattle.iv_blocks.proofs.MembersLemmas.{between-true, between-from, in_group-on, in_order-parts}
 
@@ -233,7 +233,7 @@ module _ (o : KeptBlocks) (genome : Sequences) (rows : List RecordValue) (g : Gr
     step now next start stop left s past is x =
         ap (λ (b : KeptBlocks). look g b.entries x) is
         ∙ look-put now.entries g start _ x
-        ∙ ap₂ (λ (options : Options) (l : List RecordValue). if x == start then Some (kept_block (sequence_name genome g.rank) (listed options.summaries) (stop, l)) else look g now.entries x)
+        ∙ ap₂ (λ (options : BlockOptions) (l : List RecordValue). if x == start then Some (kept_block (sequence_name genome g.rank) (listed options.summaries) (stop, l)) else look g now.entries x)
         s.options (sym (own now start stop left s past))
 
     step_others : (now next : KeptBlocks) (start stop : ℕ) (left : List RecordValue) → IsSweeping now start stop left → next ≡ with_block now genome rows g start stop

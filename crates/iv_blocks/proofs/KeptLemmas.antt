@@ -12,12 +12,12 @@ use Rattle.iv_text.specs.RecordValue.{RecordValue}
 use Rattle.iv_cover.specs.Blocks.{block_at, blocks_below}
 use Rattle.iv_cover.specs.TrackBlocks.{start_of, stop_of}
 use Rattle.iv_cover.proofs.Cover.{no_start-test, block_at-none}
-use Rattle.iv_cover.proofs.Merging.{blocks-none}
+use Rattle.iv_cover.proofs.WalkLemmas.{blocks-none}
 use Rattle.iv_cover.proofs.Positions.{values-agree}
 use Rattle.iv_text.proofs.ListLemmas.{Mem, mem-filter, all-mem, filter-none}
 use Rattle.iv_blocks.specs.Groups.{is_in_group, is_on_side, group, sides, listed}
 use Rattle.iv_blocks.specs.KeptBlocks.{Key, Kept, Entries, AreBlocksOf, kept_at, kept_block, name_of}
-use Rattle.iv_blocks.specs.declared.options.Options.{Options}
+use Rattle.iv_blocks.specs.declared.options.BlockOptions.{BlockOptions}
 use Rattle.iv_blocks.proofs.EntryLemmas.{side_entries, rank_entries, entries-all}
 
 -- ---- lists
@@ -51,11 +51,11 @@ pub name_is : (g : Sequences) (rank : ℕ) → name_of (names_of g) rank ≡ seq
 name_is g rank = ap (λ o. unwrap_or o []) (slice_get-map (λ (s : List ℕ × ℕ). s.0) g rank)
 
 -- the blocks of one side of a sequence
-abbrev pub side_blocks : Options → Sequences → List RecordValue → ℕ → Bool → List (ℕ × (ℕ × List RecordValue))
+abbrev pub side_blocks : BlockOptions → Sequences → List RecordValue → ℕ → Bool → List (ℕ × (ℕ × List RecordValue))
 side_blocks o g rows s t = blocks_below start_of stop_of o.distance (group o.stranded s t rows) (sequence_length g s)
 
 -- the entry of a block
-abbrev pub entry_of : Options → Sequences → ℕ → Bool → ℕ × (ℕ × List RecordValue) → Key × Kept
+abbrev pub entry_of : BlockOptions → Sequences → ℕ → Bool → ℕ × (ℕ × List RecordValue) → Key × Kept
 entry_of o g s t b = ((s, t, b.0), kept_block (sequence_name g s) (listed o.summaries) b.1)
 
 option_map-map : {A B C : Type 0} (h : B → C) (f : A → B) (o : Option A) → option_map h (option_map f o) ≡ option_map (λ a. h (f a)) o
@@ -63,7 +63,7 @@ option_map-map h f None = refl
 option_map-map h f (Some a) = refl
 
 -- the entries of a side are those of its blocks
-pub side-is : (o : Options) (g : Sequences) (rows : List RecordValue) (s : ℕ) (t : Bool) (n : ℕ)
+pub side-is : (o : BlockOptions) (g : Sequences) (rows : List RecordValue) (s : ℕ) (t : Bool) (n : ℕ)
     → side_entries (kept_at o (names_of g) rows) s t n ≡ map (entry_of o g s t) (blocks_below start_of stop_of o.distance (group o.stranded s t rows) n)
 side-is o g rows s t n =
     let at : ℕ → Option (ℕ × List RecordValue) = λ p. block_at start_of stop_of o.distance (group o.stranded s t rows) p in
@@ -74,7 +74,7 @@ side-is o g rows s t n =
     ∙ sym (option_map-map (entry_of o g s t) (λ b. (p, b)) (at p)))
     ∙ sym (map-filter_map (entry_of o g s t) (λ p. option_map (λ b. (p, b)) (at p)) (range_with_len 0 n))
 
-pub side-other : (o : Options) (g : Sequences) (rows : List RecordValue) (s : ℕ) (n : ℕ) → o.stranded ≡ false
+pub side-other : (o : BlockOptions) (g : Sequences) (rows : List RecordValue) (s : ℕ) (n : ℕ) → o.stranded ≡ false
     → side_entries (kept_at o (names_of g) rows) s true n ≡ []
 side-other o g rows s n together =
     let none : group o.stranded s true rows ≡ [] = ap (λ b. group b s true rows) together ∙ group-other s rows in
@@ -83,7 +83,7 @@ side-other o g rows s n together =
     ∙ ap (map (entry_of o g s true)) (blocks-none o.distance n)
 
 -- the entries of both sides are those of the sides that are printed
-pub sides-are : (o : Options) (g : Sequences) (rows : List RecordValue) (s : ℕ)
+pub sides-are : (o : BlockOptions) (g : Sequences) (rows : List RecordValue) (s : ℕ)
     → rank_entries (kept_at o (names_of g) rows) (sequence_length g) s ≡ flat_map (λ t. map (entry_of o g s t) (side_blocks o g rows s t)) (sides o.stranded)
 sides-are o g rows s = go o.stranded refl
   where
@@ -102,7 +102,7 @@ sides-are o g rows s = go o.stranded refl
         ap (λ (l : Entries). l ++ side_entries (kept_at o (names_of g) rows) s true (sequence_length g s)) (side-is o g rows s false (sequence_length g s))
         ∙ ap (λ (l : Entries). first ++ l) (side-other o g rows s (sequence_length g s) is)
 
-module _ (o : Options) (g : Sequences) (width : ℕ) (rows : List RecordValue) (fit : All (Fits g width) rows) where
+module _ (o : BlockOptions) (g : Sequences) (width : ℕ) (rows : List RecordValue) (fit : All (Fits g width) rows) where
   no_block : (s : ℕ) (t : Bool) (p : ℕ) → ((q : RecordValue) → Mem q rows → q.seq ≡ s → q.start ≡ p → ⊥) → kept_at o (names_of g) rows (s, t, p) ≡ None
   no_block s t p none =
       ap (option_map (kept_block (name_of (names_of g) s) (listed o.summaries)))

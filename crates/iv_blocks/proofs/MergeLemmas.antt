@@ -11,7 +11,7 @@ use Rattle.iv_text.specs.RecordValue.{RecordValue}
 use Rattle.iv_blocks.specs.Groups.{sides}
 use Rattle.iv_blocks.specs.KeptBlocks.{Key, Kept, Entries, AreBlocksOf}
 use Rattle.iv_blocks.specs.MergeRows.{side_rows, merge_text, all_blocks}
-use Rattle.iv_blocks.specs.declared.options.Options.{Options}
+use Rattle.iv_blocks.specs.declared.options.BlockOptions.{BlockOptions}
 use Rattle.iv_blocks.proofs.KeptLemmas.{entries-are, entry_of, side_blocks, flat_map-agree, flat_map-flat_map}
 
 -- the row of an entry
@@ -28,7 +28,7 @@ length-same f h [] same = refl
 length-same f h (x ∷ xs) same =
     omega (arith, length-append (f x) (flat_map f xs), length-append (h x) (flat_map h xs), same x, length-same f h xs same)
 
-module _ (o : Options) (g : Sequences) (width : ℕ) (rows : List RecordValue) (entries : Entries) (right : AreBlocksOf o (names_of g) rows entries) (fit : All (Fits g width) rows) where
+module _ (o : BlockOptions) (g : Sequences) (width : ℕ) (rows : List RecordValue) (entries : Entries) (right : AreBlocksOf o (names_of g) rows entries) (fit : All (Fits g width) rows) where
   pub rows-are : flat_map (entry_row g) entries ≡ merge_text o g rows
   rows-are =
       let ranks : List ℕ = range_with_len 0 (seq_count g) in

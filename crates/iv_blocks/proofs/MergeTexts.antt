@@ -7,17 +7,17 @@ use Rattle.iv_text.specs.Genome.{Sequences, seq_count, sequence_name, sequence_l
 use Rattle.iv_text.specs.RecordValue.{RecordValue}
 use Rattle.iv_cover.specs.Blocks.{blocks_below}
 use Rattle.iv_cover.specs.TrackBlocks.{start_of, stop_of, block_on, blocks_on, blocks_of}
-use Rattle.iv_text.specs.Covering.{on}
+use Rattle.iv_text.specs.CoveredPositions.{on}
 use Rattle.iv_cover.specs.declared.column.ColumnSummary.{ColumnSummary}
 use Rattle.iv_blocks.specs.Groups.{group, sides, listed}
 use Rattle.iv_blocks.specs.MergeRows.{block_row, side_rows, merge_text}
-use Rattle.iv_blocks.specs.declared.options.Options.{Options}
+use Rattle.iv_blocks.specs.declared.options.BlockOptions.{BlockOptions}
 use Rattle.iv_blocks.proofs.ClusterLemmas.{on-is}
 use Rattle.iv_blocks.proofs.KeptLemmas.{flat_map-agree, flat_map-flat_map}
-use Rattle.iv_blocks.specs.PlainOptions.{IsPlain}
+use Rattle.iv_blocks.specs.IntervalOptions.{IsByIntervals}
 use Rattle.iv_blocks.specs.Inside.BlockSweeps.{interval_of, interval_row}
 
-module _ (d : ℕ) (g : Sequences) (rows : List RecordValue) (o : Options) (plain : IsPlain d o) where
+module _ (d : ℕ) (g : Sequences) (rows : List RecordValue) (o : BlockOptions) (plain : IsByIntervals d o) where
   -- the row of a block without summaries
   plain-row : (s : ℕ) (b : ℕ × (ℕ × List RecordValue)) → interval_row g (interval_of (block_on s b)) ≡ block_row (sequence_name g s) [] b
   plain-row s b = ap (λ (l : List ℕ). l ++ codes "\n") (sym (append-nil (sequence_name g s ++ codes "\t" ++ decimal b.0 ++ codes "\t" ++ decimal b.1.0)))

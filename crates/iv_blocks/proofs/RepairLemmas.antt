@@ -12,7 +12,7 @@ use Rattle.iv_cover.specs.declared.column.ColumnSummary.{ColumnSummary}
 use Rattle.iv_blocks.specs.KeptBlocks.{Kept, kept_block, within_block}
 use Rattle.iv_blocks.specs.Inside.Lookups.{IsLastBlock}
 use Rattle.iv_blocks.specs.Inside.Repairs.{JoinsOne, JoinsNone, JoinsBefore, JoinsAfter, count_from}
-use Rattle.iv_blocks.proofs.Joining.{none-some, some-same, count-records}
+use Rattle.iv_blocks.proofs.JoinLemmas.{none-some, some-same, count-records}
 
 or-none : {A : Type 0} (o : Option A) → option_or o None ≡ o
 or-none None = refl

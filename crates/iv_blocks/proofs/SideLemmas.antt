@@ -8,7 +8,7 @@ use Rattle.iv_blocks.specs.Inside.Groups.{is_on}
 use Rattle.iv_blocks.specs.declared.group.Side.TheVariants.{Both}
 use Rattle.iv_cover.specs.declared.block.Block.{Block}
 use Rattle.iv_cover.specs.TrackBlocks.{Group, with_members}
-use Rattle.iv_cover.specs.Inside.Coming.{is_joined, coming}
+use Rattle.iv_cover.specs.Inside.RemainingBlocks.{is_joined, coming}
 use Rattle.iv_cover.proofs.Comings.{coming-joined, coming-split_up}
 use Rattle.iv_text.proofs.ListLemmas.{filter-weaker, filter-all}
 use Rattle.iv_blocks.proofs.ComingLemmas.{drop-next}

@@ -7,16 +7,16 @@ use Rattle.iv_text.specs.Ordered.{AreInOrder}
 use Rattle.iv_text.specs.Read.{IsOnGenome}
 use Rattle.iv_text.specs.RecordValue.{RecordValue, record_cmp}
 use Rattle.iv_cover.specs.Blocks.{blocks_below}
-use Rattle.iv_cover.specs.Inside.Coming.{coming}
+use Rattle.iv_cover.specs.Inside.RemainingBlocks.{coming}
 use Rattle.iv_cover.specs.TrackBlocks.{Group, start_of, stop_of, block_on, blocks_on}
-use Rattle.iv_text.specs.Covering.{on}
+use Rattle.iv_text.specs.CoveredPositions.{on}
 use Rattle.iv_text.proofs.InOrderLemmas.{in_order-filter}
-use Rattle.iv_cover.proofs.Merging.{gathered-more, gathered-none_from, merge-all, on-none, blocks-none}
+use Rattle.iv_cover.proofs.WalkLemmas.{gathered-more, gathered-none_from, merge-all, on-none, blocks-none}
 use Rattle.iv_text.proofs.ListLemmas.{all-mem, mem-all, filter-filter, filter-all}
 use Rattle.iv_blocks.specs.Groups.{group, is_in_group, is_on_side, listed, sides}
 use Rattle.iv_blocks.specs.Inside.Groups.{is_on}
 use Rattle.iv_blocks.specs.MergeRows.{side_rows}
-use Rattle.iv_blocks.specs.declared.options.Options.{Options}
+use Rattle.iv_blocks.specs.declared.options.BlockOptions.{BlockOptions}
 use Rattle.iv_blocks.proofs.KeptLemmas.{flat_map-agree, group-in}
 use Rattle.iv_blocks.specs.Inside.MergeSweeps.{group_row, group_rows, sequence_rows}
 use Rattle.iv_blocks.specs.declared.group.Side.TheVariants.{Plus, Minus}
@@ -29,7 +29,7 @@ ranks-next f rank count low =
 
 -- ---- strands apart
 
-pub apart : (o : Options) (name : List ℕ) (rows : List RecordValue) → o.stranded ≡ true
+pub apart : (o : BlockOptions) (name : List ℕ) (rows : List RecordValue) → o.stranded ≡ true
     → sequence_rows o name rows ≡ group_rows o name (filter (is_on Plus) rows) ++ group_rows o name (filter (is_on Minus) rows)
 apart o name rows is =
     ap (λ (b : Bool). flat_map (λ minus. group_rows o name (filter (is_on_side b minus) rows)) (sides b)) is
@@ -37,7 +37,7 @@ apart o name rows is =
 
 -- ---- the rows of one sequence
 
-module _ (o : Options) (g : Sequences) (rows : List RecordValue) (order : AreInOrder rows) (lie : All (IsOnGenome g) rows) where
+module _ (o : BlockOptions) (g : Sequences) (rows : List RecordValue) (order : AreInOrder rows) (lie : All (IsOnGenome g) rows) where
   -- the rows of the sequence of this rank
   abbrev pub rank_rows : ℕ → List ℕ
   rank_rows rank = flat_map (side_rows o g rows rank) (sides o.stranded)
@@ -81,7 +81,7 @@ module _ (o : Options) (g : Sequences) (rows : List RecordValue) (order : AreInO
       (λ minus. side-is rank minus low)
 
   -- the rows of the first of the sequences that are left, as they are put, and those of the sequences after it
-  pub rows-next : (p : Options) (name : List ℕ) (here : List RecordValue) (rank : ℕ) → rank < seq_count g → p ≡ o → name ≡ sequence_name g rank → here ≡ on rank rows
+  pub rows-next : (p : BlockOptions) (name : List ℕ) (here : List RecordValue) (rank : ℕ) → rank < seq_count g → p ≡ o → name ≡ sequence_name g rank → here ≡ on rank rows
       → flat_map rank_rows (range_with_len rank (seq_count g - rank)) ≡ sequence_rows p name here ++ flat_map rank_rows (range_with_len (rank + 1) (seq_count g - (rank + 1)))
   rows-next p name here rank low options named is =
       let rest : List ℕ = flat_map rank_rows (range_with_len (rank + 1) (seq_count g - (rank + 1))) in
@@ -89,4 +89,4 @@ module _ (o : Options) (g : Sequences) (rows : List RecordValue) (order : AreInO
       ∙ ap (λ (l : List ℕ). l ++ rest) (sym (rank-is rank low))
       ∙ ap (λ (l : List RecordValue). sequence_rows o (sequence_name g rank) l ++ rest) (sym is)
       ∙ ap (λ (n : List ℕ). sequence_rows o n here ++ rest) (sym named)
-      ∙ ap (λ (q : Options). sequence_rows q name here ++ rest) (sym options)
+      ∙ ap (λ (q : BlockOptions). sequence_rows q name here ++ rest) (sym options)

@@ -10,18 +10,18 @@ use Rattle.iv_text.specs.Read.{Fits, IsOnGenome}
 use Rattle.iv_text.specs.RecordValue.{RecordValue}
 use Rattle.iv_cover.specs.Blocks.{blocks_below}
 use Rattle.iv_cover.specs.TrackBlocks.{Group, start_of, stop_of, block_on, blocks_on, blocks_of, with_members}
-use Rattle.iv_text.specs.Covering.{on}
+use Rattle.iv_text.specs.CoveredPositions.{on}
 use Rattle.iv_text.proofs.ListLemmas.{filter-agree}
 use Rattle.iv_track.specs.Entries.{IsLedger, value_at}
 use Rattle.iv_track.proofs.CountedLemmas.{given-items}
-use Rattle.iv_cover.specs.Inside.Coming.{coming, is_joined}
+use Rattle.iv_cover.specs.Inside.RemainingBlocks.{coming, is_joined}
 use Rattle.iv_cover.specs.declared.block.Block.{Block}
 use Rattle.iv_cover.specs.declared.column.ColumnSummary.{ColumnSummary}
 use Rattle.iv_cover.proofs.Comings.{coming-begun, coming-joined, coming-split_up}
 use Rattle.iv_blocks.specs.Groups.{is_in_group, group, sides, listed}
 use Rattle.iv_blocks.specs.KeptBlocks.{Key, Entries, key_cmp, kept_at}
-use Rattle.iv_blocks.specs.Inside.Plain.{kept_entry, entries_with, plain_entry, GivesKept}
-use Rattle.iv_blocks.specs.declared.options.Options.{Options}
+use Rattle.iv_blocks.specs.Inside.UnstrandedBlocks.{kept_entry, entries_with, plain_entry, GivesKept}
+use Rattle.iv_blocks.specs.declared.options.BlockOptions.{BlockOptions}
 use Rattle.iv_blocks.proofs.EntryLemmas.{rank_entries, all_entries}
 use Rattle.iv_blocks.proofs.InOrderLemmas.{all-ordered, all-look}
 use Rattle.iv_blocks.proofs.KeptLemmas.{flat_map-agree, side_blocks, entry_of, sides-are, none-past, none-later}
@@ -42,7 +42,7 @@ map-flat_map h f (x ∷ xs) = map-both (f x) (flat_map f xs) ∙ ap (λ l. map h
 pub drained : (bs : List Group) (es : Entries) → Drains GivesKept bs es → es ≡ map plain_entry bs
 drained bs es run = given-items bs es (map plain_entry bs) run (YieldsList-from_shown GivesKept (λ e. e) (map plain_entry) (λ s t h. ap length h.0) (λ s x t h. h) bs)
 
-module _ (o : Options) (g : Sequences) (width : ℕ) (rows : List RecordValue) (fit : All (Fits g width) rows) (together : o.stranded ≡ false) where
+module _ (o : BlockOptions) (g : Sequences) (width : ℕ) (rows : List RecordValue) (fit : All (Fits g width) rows) (together : o.stranded ≡ false) where
   -- the records of a sequence are its one group
   group-on : (s : ℕ) → group o.stranded s false rows ≡ on s rows
   group-on s = ap (λ b. group b s false rows) together

@@ -5,7 +5,7 @@ use Rattle.iv_text.specs.Genome.{Sequences, sequence_length}
 use Rattle.iv_text.specs.RecordText.{record_text}
 use Rattle.iv_text.specs.RecordValue.{RecordValue}
 use Rattle.iv_cover.specs.Blocks.{blocks_below}
-use Rattle.iv_text.specs.Covering.{on}
+use Rattle.iv_text.specs.CoveredPositions.{on}
 use Rattle.iv_cover.specs.TrackBlocks.{start_of, stop_of}
 
 -- how many blocks start below a position of the sequence of this rank

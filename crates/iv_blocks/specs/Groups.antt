@@ -5,7 +5,7 @@ use Rattle.iv_text.specs.declared.record_ref.Strand.{Strand}
 use Rattle.iv_cover.specs.declared.column.Column.TheVariants.{Sequence}
 use Rattle.iv_cover.specs.declared.column.ColumnSummary.{ColumnSummary}
 use Rattle.iv_cover.specs.declared.op.Op.TheVariants.{Count}
-use Rattle.iv_blocks.specs.declared.options.Options.{Options}
+use Rattle.iv_blocks.specs.declared.options.BlockOptions.{BlockOptions}
 use Rattle.iv_blocks.specs.declared.options.Summaries.{Summaries}
 use Rattle.iv_text.specs.declared.record_ref.Strand.TheVariants.{Plus, Minus, Dot}
 
@@ -46,5 +46,5 @@ abbrev pub filled : List ColumnSummary → Summaries
 filled summaries = record { summaries = summaries ++ replicate (16 - length summaries) unused; count = length summaries }
 
 -- records of both strands are joined at this distance, and there are no summaries
-abbrev pub joined : ℕ → Options
+abbrev pub joined : ℕ → BlockOptions
 joined distance = record { distance = distance; stranded = false; summaries = filled [] }

@@ -1,6 +1,6 @@
 -- Definitions that only lemmas and private functions cite. No public contract reaches one.
 pub mod Groups
-pub mod Plain
+pub mod UnstrandedBlocks
 pub mod MembersLeft
 pub mod BlockStorage
 pub mod Insertion

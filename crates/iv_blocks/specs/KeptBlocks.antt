@@ -10,7 +10,7 @@ use Rattle.iv_cover.specs.TrackBlocks.{start_of, stop_of}
 use Rattle.iv_cover.specs.Columns.{results_over}
 use Rattle.iv_cover.specs.declared.column.ColumnSummary.{ColumnSummary}
 use Rattle.iv_blocks.specs.Groups.{is_on_side, group, listed}
-use Rattle.iv_blocks.specs.declared.options.Options.{Options}
+use Rattle.iv_blocks.specs.declared.options.BlockOptions.{BlockOptions}
 
 -- where a block is kept: the rank of its sequence, whether it is on the other side, and its start
 abbrev pub Key : Type 0
@@ -38,21 +38,21 @@ abbrev pub kept_block : List ℕ → List ColumnSummary → ℕ × List RecordVa
 kept_block name summaries b = record { stop = b.0; results = results_over name summaries b.1 }
 
 -- the block of a group that starts at a position, if there is one
-abbrev pub block_of : Options → List RecordValue → Key → Option (ℕ × List RecordValue)
+abbrev pub block_of : BlockOptions → List RecordValue → Key → Option (ℕ × List RecordValue)
 block_of o rows k = block_at start_of stop_of o.distance (group o.stranded k.0 k.1 rows) k.2
 
 -- what is to be kept at a key
-abbrev pub kept_at : Options → List (List ℕ) → List RecordValue → Key → Option Kept
+abbrev pub kept_at : BlockOptions → List (List ℕ) → List RecordValue → Key → Option Kept
 kept_at o names rows k = option_map (kept_block (name_of names k.0) (listed o.summaries)) (block_of o rows k)
 
 -- the entries are the blocks of the records: at each key is the block that starts there, if there is one
-pub record AreBlocksOf (o : Options) (names : List (List ℕ)) (rows : List RecordValue) (entries : Entries) : Type 0 where
+pub record AreBlocksOf (o : BlockOptions) (names : List (List ℕ)) (rows : List RecordValue) (entries : Entries) : Type 0 where
   pub ordered : IsLedger key_cmp entries
   pub blocks : (k : Key) → value_at key_cmp entries k ≡ kept_at o names rows k
 
 -- what is kept: for which options, and the blocks
 pub record KeptBlocks : Type 0 where
-  pub options : Options
+  pub options : BlockOptions
   pub entries : Entries
 
 -- how many records, of any strand, start within the block of these that r belongs to
@@ -63,12 +63,12 @@ within_block d own rows r =
     length (filter (λ q. (q.seq == r.seq) && (nat_le x q.start && nat_lt q.start stop)) rows)
 
 -- how many records there are around r: those on its sequence that start within its block; none if r is in no block
-abbrev pub around : Options → List RecordValue → RecordValue → ℕ
+abbrev pub around : BlockOptions → List RecordValue → RecordValue → ℕ
 around o rows r =
     if is_on_side o.stranded false r then within_block o.distance (group o.stranded r.seq false rows) rows r
     else if is_on_side o.stranded true r then within_block o.distance (group o.stranded r.seq true rows) rows r
     else 0
 
 -- how many steps a repair takes at most
-abbrev pub block_steps : Options → List RecordValue → RecordValue → ℕ
+abbrev pub block_steps : BlockOptions → List RecordValue → RecordValue → ℕ
 block_steps o rows r = 16 + 8 * around o rows r

@@ -3,5 +3,5 @@ pub mod KeptBlocks
 pub mod MergeRows
 pub mod ClusterRows
 pub mod ComplementRows
-pub mod PlainOptions
+pub mod IntervalOptions
 pub mod Inside

@@ -8,7 +8,7 @@ use Rattle.iv_cover.specs.TrackBlocks.{start_of, stop_of}
 use Rattle.iv_cover.specs.Columns.{results_over}
 use Rattle.iv_cover.specs.declared.column.ColumnSummary.{ColumnSummary}
 use Rattle.iv_blocks.specs.Groups.{group, sides, listed}
-use Rattle.iv_blocks.specs.declared.options.Options.{Options}
+use Rattle.iv_blocks.specs.declared.options.BlockOptions.{BlockOptions}
 
 -- the row of a block that starts at b.0, stops at b.1.0 and has the records b.1.1: the sequence's name, start and stop between
 -- tabs, the results, and a line feed
@@ -17,17 +17,17 @@ block_row name summaries b =
     name ++ codes "\t" ++ decimal b.0 ++ codes "\t" ++ decimal b.1.0 ++ results_over name summaries b.1.1 ++ codes "\n"
 
 -- the rows of one side of a sequence: one for each block, by start
-abbrev pub side_rows : Options → Sequences → List RecordValue → ℕ → Bool → List ℕ
+abbrev pub side_rows : BlockOptions → Sequences → List RecordValue → ℕ → Bool → List ℕ
 side_rows o g rows rank minus =
     flat_map (block_row (sequence_name g rank) (listed o.summaries))
     (blocks_below start_of stop_of o.distance (group o.stranded rank minus rows) (sequence_length g rank))
 
 -- all rows: those of each sequence by rank, and within it of each side
-abbrev pub merge_text : Options → Sequences → List RecordValue → List ℕ
+abbrev pub merge_text : BlockOptions → Sequences → List RecordValue → List ℕ
 merge_text o g rows = flat_map (λ rank. flat_map (side_rows o g rows rank) (sides o.stranded)) (range_with_len 0 (seq_count g))
 
 -- all blocks: those of each sequence by rank, and within it of each side
-abbrev pub all_blocks : Options → Sequences → List RecordValue → List (ℕ × (ℕ × List RecordValue))
+abbrev pub all_blocks : BlockOptions → Sequences → List RecordValue → List (ℕ × (ℕ × List RecordValue))
 all_blocks o g rows =
     flat_map (λ rank. flat_map (λ minus. blocks_below start_of stop_of o.distance (group o.stranded rank minus rows) (sequence_length g rank)) (sides o.stranded))
     (range_with_len 0 (seq_count g))

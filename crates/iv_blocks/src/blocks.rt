@@ -2,10 +2,10 @@
 ghost use Rattle.std.specs.Prelude.{◌≡◌};
 ghost use Rattle.iv_blocks.specs.KeptBlocks.{AreBlocksOf, block_steps};
 
-use crate::entries::{PlainBlocks, entries_of};
+use crate::entries::{UnstrandedBlocks, entries_of};
 use crate::group::{Group, Key};
 use crate::kept_block::KeptBlock;
-use crate::options::Options;
+use crate::options::BlockOptions;
 use iv_cover::{BlockWalk, Kept};
 use iv_text::{Genome, RecordRef};
 use iv_track::{Ledger, Meter, Track};
@@ -17,7 +17,7 @@ use std::marker::Model;
 /// It is one ledger, beside the options, and knows no length of a sequence.
 #[derive(Drop)]
 pub struct Blocks<A: Allocator + Copy = Global> {
-    pub(crate) options: Options,
+    pub(crate) options: BlockOptions,
     pub(crate) alloc: A,
     pub(crate) ledger: Ledger<Key, KeptBlock<A>, A>,
 }
@@ -31,7 +31,7 @@ impl<A: Allocator + Copy> Model for Blocks<A> {
 }
 
 impl<A: Allocator + Copy> Kept<A> for Blocks<A> {
-    type Settings = Options;
+    type Settings = BlockOptions;
 
     ghost built_for = { λ kept. kept.options };
 
@@ -43,17 +43,17 @@ impl<A: Allocator + Copy> Kept<A> for Blocks<A> {
     /// If strands are together, the ledger is built at once from one walk over the track; else the blocks are inserted one by one.
     fn build(
         alloc: A,
-        options: Options,
+        options: BlockOptions,
         track: &Track<A>,
         genome: &Genome<A>,
         meter: &mut Meter,
     ) -> Result<Blocks<A>, AllocError> {
-        if options.is_plain() {
+        if options.is_by_intervals() {
             let sweep = BlockWalk::of(track.walk(0, 0, meter), options.distance);
             return Ok(Blocks {
                 options,
                 alloc,
-                ledger: Ledger::from_entries(alloc, PlainBlocks::of(sweep, meter))?,
+                ledger: Ledger::from_entries(alloc, UnstrandedBlocks::of(sweep, meter))?,
             });
         }
         if !options.stranded {

@@ -2,14 +2,14 @@
 ghost use Rattle.std.specs.Prelude.{◌≡◌, ◌++◌, ◌∷◌, [], None, false, map, IfOk, OnOk};
 ghost use Rattle.std.specs.Iterator.{item_count};
 ghost use Rattle.iv_text.specs.Ordered.{AreInOrder};
-ghost use Rattle.iv_cover.specs.Inside.Coming.{coming};
+ghost use Rattle.iv_cover.specs.Inside.RemainingBlocks.{coming};
 ghost use Rattle.iv_cover.specs.TrackBlocks.{with_members};
 ghost use Rattle.iv_blocks.specs.Groups.{listed};
-ghost use Rattle.iv_blocks.specs.Inside.Plain.{kept_entry, GivesKept};
+ghost use Rattle.iv_blocks.specs.Inside.UnstrandedBlocks.{kept_entry, GivesKept};
 
 use crate::group::Key;
 use crate::kept_block::KeptBlock;
-use crate::options::Options;
+use crate::options::BlockOptions;
 use iv_cover::{Block, BlockWalk, results_in};
 use iv_text::{Batches, Genome, Record};
 use iv_track::{Meter, Track};
@@ -22,7 +22,7 @@ const MOST_IN_BATCH: usize = 2_048;
 /// The blocks of all records, strands together, each as it is kept, by key.
 pub(crate) fn entries_of<A: Allocator + Copy>(
     alloc: A,
-    options: &Options,
+    options: &BlockOptions,
     track: &Track<A>,
     genome: &Genome<A>,
     meter: &mut Meter,
@@ -76,7 +76,7 @@ pub(crate) fn entries_of<A: Allocator + Copy>(
 /// text that is no longer needed, and copied from there. That memory is the answer.
 fn push_entry<A: Allocator + Copy>(
     alloc: A,
-    options: &Options,
+    options: &BlockOptions,
     genome: &Genome<A>,
     block: Block,
     members: &[&Record<A>],
@@ -103,20 +103,20 @@ fn key_of(block: Block) -> Key
 ///
 /// Its model is the list of the blocks that are left, each with its records.
 #[derive(Drop)]
-pub(crate) struct PlainBlocks<'a, 'm, A: Allocator + Copy> {
+pub(crate) struct UnstrandedBlocks<'a, 'm, A: Allocator + Copy> {
     sweep: BlockWalk<'a, A>,
     meter: &'m mut Meter,
 }
 
-impl<'a, 'm, A: Allocator + Copy> PlainBlocks<'a, 'm, A> {
+impl<'a, 'm, A: Allocator + Copy> UnstrandedBlocks<'a, 'm, A> {
     pub(crate) fn of(sweep: BlockWalk<'a, A>, meter: &'m mut Meter) -> Self
         ensures { result ≡ sweep.entry }
     {
-        PlainBlocks { sweep, meter }
+        UnstrandedBlocks { sweep, meter }
     }
 }
 
-impl<'a, 'm, A: Allocator + Copy> Model for PlainBlocks<'a, 'm, A> {
+impl<'a, 'm, A: Allocator + Copy> Model for UnstrandedBlocks<'a, 'm, A> {
     ghost use Rattle.std.specs.Prelude.{List};
     ghost use Rattle.iv_cover.specs.TrackBlocks.{Group};
 
@@ -125,7 +125,7 @@ impl<'a, 'm, A: Allocator + Copy> Model for PlainBlocks<'a, 'm, A> {
     ghost view = { λ b. b.sweep };
 }
 
-impl<'a, 'm, A: Allocator + Copy> Iterator for PlainBlocks<'a, 'm, A> {
+impl<'a, 'm, A: Allocator + Copy> Iterator for UnstrandedBlocks<'a, 'm, A> {
     type Item = (Key, KeptBlock<A>);
 
     ghost next_gives = { GivesKept };

@@ -10,7 +10,7 @@ ghost use Rattle.iv_blocks.specs.Inside.Insertion.{key_of};
 
 use iv_index::TextRecord;
 use iv_text::{Record, RecordRef, Strand};
-use iv_track::{Meter, Rows, Track};
+use iv_track::{Meter, Track, TrackRecords};
 use std::alloc::Allocator;
 use std::marker::Model;
 
@@ -116,7 +116,7 @@ impl Group {
 /// Its model is the list of those that are left, with how many records it goes past for them.
 #[derive(Drop)]
 pub(crate) struct Members<'a, A: Allocator + Copy> {
-    rows: Rows<'a, A>,
+    rows: TrackRecords<'a, A>,
     group: Group,
     to: u32,
 }

@@ -3,10 +3,10 @@ ghost use Rattle.std.specs.Prelude.{◌≡◌, ◌↔◌, ◌<◌, ◌≤◌, �
 ghost use Rattle.iv_text.specs.Genome.{Sequences};
 ghost use Rattle.iv_text.specs.Read.{IsOnGenome};
 ghost use Rattle.iv_text.specs.RecordValue.{RecordValue};
-ghost use Rattle.iv_cover.specs.BlockLaws.{BelongsTo};
+ghost use Rattle.iv_cover.specs.BlockTerms.{BelongsTo};
 ghost use Rattle.iv_cover.specs.Depth.{depth};
 ghost use Rattle.iv_cover.specs.Runs.{Run, empty_runs};
-ghost use Rattle.iv_text.specs.Covering.{on};
+ghost use Rattle.iv_text.specs.CoveredPositions.{on};
 ghost use Rattle.iv_blocks.specs.ClusterRows.{block_number};
 
 /// The gaps of a sequence are exactly the maximal intervals on which the records' depth is 0.

@@ -20,5 +20,5 @@ mod sweeps;
 pub use blocks::Blocks;
 pub use lemmas::{gaps_are_maximal, numbers_are_of_blocks};
 pub use merge_sweep::MergeSweep;
-pub use options::{Options, Summaries};
+pub use options::{BlockOptions, Summaries};
 pub use sweeps::{put_cluster, put_complement, put_merge};

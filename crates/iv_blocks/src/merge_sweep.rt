@@ -10,7 +10,7 @@ ghost use Rattle.iv_blocks.specs.MergeRows.{merge_text};
 ghost use Rattle.iv_blocks.specs.Inside.MergeSweeps.{group_row, group_rows, sequence_rows};
 
 use crate::group::Side;
-use crate::options::Options;
+use crate::options::BlockOptions;
 use crate::side_blocks::{SideBlock, SideBlocks};
 use iv_bytes::{Sink, WriteFault, put_all};
 use iv_cover::{ColumnSummary, Value, asks_distinct, put_results};
@@ -22,7 +22,7 @@ use std::marker::Model;
 /// The options of a merge, the records of a text, and if a summary is `distinct`, room for a value of each.
 #[derive(Drop)]
 pub struct MergeSweep<'t, A: Allocator = Global> {
-    options: Options,
+    options: BlockOptions,
     records: TextRecords<'t>,
     // The values of one block, while its row is printed.
     values: Vec<Value<'t>, A>,
@@ -32,10 +32,10 @@ impl<'t, A: Allocator> Model for MergeSweep<'t, A> {
     ghost use Rattle.std.specs.Prelude.{List, length, vec_capacity};
     ghost use Rattle.iv_text.specs.RecordValue.{RecordValue};
     ghost use Rattle.iv_blocks.specs.Groups.{listed};
-    ghost use Rattle.iv_blocks.specs.declared.options.Options.{Options};
+    ghost use Rattle.iv_blocks.specs.declared.options.BlockOptions.{BlockOptions};
     ghost use Rattle.iv_cover.specs.Results.{HasRoom};
 
-    ghost Value = { Options × List RecordValue };
+    ghost Value = { BlockOptions × List RecordValue };
 
     ghost view = { λ s. (s.options, s.records) };
 
@@ -44,7 +44,11 @@ impl<'t, A: Allocator> Model for MergeSweep<'t, A> {
 
 impl<'t, A: Allocator + Copy> MergeSweep<'t, A> {
     /// A sweep over the records. It takes all the memory that it needs: none if no summary is `distinct`.
-    pub fn new(alloc: A, options: Options, records: TextRecords<'t>) -> Result<Self, AllocError>
+    pub fn new(
+        alloc: A,
+        options: BlockOptions,
+        records: TextRecords<'t>,
+    ) -> Result<Self, AllocError>
         ensures { IfOk result (λ s. s ≡ (options, records.entry)) }
     {
         let room = if asks_distinct(options.summaries.as_slice()) {
@@ -84,7 +88,7 @@ impl<'t, A: Allocator + Copy> MergeSweep<'t, A> {
 
 /// Puts the rows of the blocks of records of one sequence, side by side.
 pub(crate) fn put_sequence<'t, A: Allocator, S: Sink>(
-    options: &Options,
+    options: &BlockOptions,
     name: &'t [u8],
     records: &TextRecords<'t>,
     values: &mut Vec<Value<'t>, A>,
@@ -103,7 +107,7 @@ pub(crate) fn put_sequence<'t, A: Allocator, S: Sink>(
 
 /// Puts the rows of the blocks of those of the records that are on a side.
 fn put_side<'t, A: Allocator, S: Sink>(
-    options: &Options,
+    options: &BlockOptions,
     name: &'t [u8],
     side: Side,
     records: &TextRecords<'t>,

@@ -2,7 +2,7 @@
 ghost use Rattle.std.specs.Prelude.{◌≡◌, ◌↔◌, [], nat_lt, IsTrue, IsFalse};
 ghost use Rattle.iv_blocks.specs.Groups.{listed, filled, joined as only_joined};
 ghost use Rattle.iv_blocks.specs.Inside.Groups.{pushed};
-ghost use Rattle.iv_blocks.specs.PlainOptions.{IsPlain};
+ghost use Rattle.iv_blocks.specs.IntervalOptions.{IsByIntervals};
 
 use iv_cover::{Column, ColumnSummary, Op};
 
@@ -53,7 +53,7 @@ impl Summaries {
 
 /// Which records are joined into one block, and which summaries of them are printed.
 #[derive(Clone, Copy, Debug, PartialEq, Eq, Drop)]
-pub struct Options {
+pub struct BlockOptions {
     /// Records at most this many bases apart are joined.
     pub distance: u32,
     /// Whether only records of one strand are joined.
@@ -62,12 +62,12 @@ pub struct Options {
     pub summaries: Summaries,
 }
 
-impl Options {
+impl BlockOptions {
     /// Records of both strands are joined, at most this many bases apart, and there are no summaries.
-    pub fn unstranded(distance: u32) -> Options
+    pub fn unstranded(distance: u32) -> BlockOptions
         ensures { result ≡ only_joined distance }
     {
-        Options {
+        BlockOptions {
             distance,
             stranded: false,
             summaries: Summaries::none(),
@@ -75,8 +75,8 @@ impl Options {
     }
 
     /// Whether records of both strands are joined, and there are no summaries.
-    pub fn is_plain(&self) -> bool
-        ensures { IsTrue result ↔ IsPlain self.now.distance self.now }
+    pub fn is_by_intervals(&self) -> bool
+        ensures { IsTrue result ↔ IsByIntervals self.now.distance self.now }
     {
         !self.stranded && self.summaries.as_slice().is_empty()
     }

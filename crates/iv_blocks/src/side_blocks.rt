@@ -6,7 +6,7 @@ ghost use Rattle.iv_text.specs.Ordered.{AreInOrder};
 ghost use Rattle.iv_text.specs.Read.{IsOnGenome};
 ghost use Rattle.iv_text.specs.RecordValue.{RecordValue};
 ghost use Rattle.iv_cover.specs.Columns.{column_value};
-ghost use Rattle.iv_cover.specs.Inside.Coming.{coming};
+ghost use Rattle.iv_cover.specs.Inside.RemainingBlocks.{coming};
 ghost use Rattle.iv_cover.specs.TrackBlocks.{blocks_of, with_members};
 ghost use Rattle.iv_blocks.specs.Inside.Groups.{is_on};
 
@@ -44,7 +44,7 @@ pub(crate) struct SideBlocks<'t> {
 
 impl<'t> Model for SideBlocks<'t> {
     ghost use Rattle.std.specs.Prelude.{List, None, filter};
-    ghost use Rattle.iv_cover.specs.Inside.Coming.{coming};
+    ghost use Rattle.iv_cover.specs.Inside.RemainingBlocks.{coming};
     ghost use Rattle.iv_cover.specs.TrackBlocks.{Group};
     ghost use Rattle.iv_blocks.specs.Inside.Groups.{is_on};
 

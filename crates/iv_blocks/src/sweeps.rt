@@ -6,15 +6,15 @@ ghost use Rattle.iv_bytes.specs.Sinks.{Puts};
 ghost use Rattle.iv_text.specs.Genome.{Sequences};
 ghost use Rattle.iv_text.specs.Ordered.{AreInOrder};
 ghost use Rattle.iv_text.specs.Read.{IsOnGenome};
-ghost use Rattle.iv_index.specs.Inside.Spans.{row_of_span, span_rows};
-ghost use Rattle.iv_cover.specs.Inside.Coming.{coming};
+ghost use Rattle.iv_index.specs.Inside.Spans.{record_of_span, span_records};
+ghost use Rattle.iv_cover.specs.Inside.RemainingBlocks.{coming};
 ghost use Rattle.iv_cover.specs.TrackBlocks.{GivesFirst, blocks_of};
 ghost use Rattle.iv_blocks.specs.Inside.BlockSweeps.{interval_of, interval_row, next_start, numbered_row};
 ghost use Rattle.iv_blocks.specs.ClusterRows.{cluster_text};
 ghost use Rattle.iv_blocks.specs.ComplementRows.{complement_text};
 ghost use Rattle.iv_blocks.specs.MergeRows.{merge_text};
-ghost use Rattle.iv_blocks.specs.PlainOptions.{IsPlain};
-ghost use Rattle.iv_blocks.specs.declared.options.Options.{Options};
+ghost use Rattle.iv_blocks.specs.IntervalOptions.{IsByIntervals};
+ghost use Rattle.iv_blocks.specs.declared.options.BlockOptions.{BlockOptions};
 
 use crate::block_cursor::BlocksAhead;
 use crate::complement::put_gaps;
@@ -36,9 +36,9 @@ pub fn put_merge<A: Allocator + Copy, S: Sink>(
     genome: &Genome<A>,
     sink: &mut S,
 ) -> Result<(), WriteFault>
-    requires order { AreInOrder (span_rows spans.now) }
-    requires on_genome { All (IsOnGenome genome.now) (span_rows spans.now) }
-    ensures { (o : Options) → IsPlain distance o → Puts (S.state sink.old) (S.state sink.new) result (merge_text o genome.now (span_rows spans.now)) }
+    requires order { AreInOrder (span_records spans.now) }
+    requires on_genome { All (IsOnGenome genome.now) (span_records spans.now) }
+    ensures { (o : BlockOptions) → IsByIntervals distance o → Puts (S.state sink.old) (S.state sink.new) result (merge_text o genome.now (span_records spans.now)) }
 {
     for block in SpanBlocks::of(spans, distance) {
         put_block(block, genome, sink)?;
@@ -107,9 +107,9 @@ pub fn put_complement<A: Allocator + Copy, S: Sink>(
     genome: &Genome<A>,
     sink: &mut S,
 ) -> Result<(), WriteFault>
-    requires order { AreInOrder (span_rows spans.now) }
-    requires on_genome { All (IsOnGenome genome.now) (span_rows spans.now) }
-    ensures { Puts (S.state sink.old) (S.state sink.new) result (complement_text limited genome.now (span_rows spans.now)) }
+    requires order { AreInOrder (span_records spans.now) }
+    requires on_genome { All (IsOnGenome genome.now) (span_records spans.now) }
+    ensures { Puts (S.state sink.old) (S.state sink.new) result (complement_text limited genome.now (span_records spans.now)) }
 {
     let mut blocks = SpanBlocks::of(spans, 0);
     put_gaps(limited, genome, &mut blocks, &mut (), sink)
@@ -127,14 +127,14 @@ pub(crate) struct SpanBlocks<'s> {
 
 impl<'s> Model for SpanBlocks<'s> {
     ghost use Rattle.std.specs.Prelude.{List, None, map};
-    ghost use Rattle.iv_cover.specs.Inside.Coming.{coming};
+    ghost use Rattle.iv_cover.specs.Inside.RemainingBlocks.{coming};
     ghost use Rattle.iv_cover.specs.declared.block.Block.{Block};
-    ghost use Rattle.iv_index.specs.Inside.Spans.{span_rows};
+    ghost use Rattle.iv_index.specs.Inside.Spans.{span_records};
     ghost use Rattle.iv_blocks.specs.Inside.BlockSweeps.{interval_of};
 
     ghost Value = { List Block };
 
-    ghost view = { λ b. map interval_of (coming b.distance None (span_rows b.rest.now)) };
+    ghost view = { λ b. map interval_of (coming b.distance None (span_records b.rest.now)) };
 }
 
 impl<'s> SpanBlocks<'s> {
@@ -142,8 +142,8 @@ impl<'s> SpanBlocks<'s> {
     ///
     /// They are the blocks of the definition for every genome that the intervals are on.
     pub(crate) fn of(spans: &'s [Span], distance: u32) -> Self
-        requires { AreInOrder (span_rows spans.now) }
-        ensures { (g : Sequences) → All (IsOnGenome g) (span_rows spans.now) → result ≡ map interval_of (blocks_of distance g (span_rows spans.now)) }
+        requires { AreInOrder (span_records spans.now) }
+        ensures { (g : Sequences) → All (IsOnGenome g) (span_records spans.now) → result ≡ map interval_of (blocks_of distance g (span_records spans.now)) }
     {
         SpanBlocks {
             rest: spans,
@@ -206,7 +206,7 @@ fn block_of(span: Span) -> Block
 
 /// The block that an interval begins, with those of the others that join it, and the intervals after it.
 fn block_from(first: Span, others: &[Span], distance: u32) -> (Block, &[Span])
-    ensures { GivesFirst (coming distance None (row_of_span first ∷ span_rows others.now)) (Some result.0) (coming distance None (span_rows result.1.now)) }
+    ensures { GivesFirst (coming distance None (record_of_span first ∷ span_records others.now)) (Some result.0) (coming distance None (span_records result.1.now)) }
 {
     let mut block = block_of(first);
     let mut rest = others;

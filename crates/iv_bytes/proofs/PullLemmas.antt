@@ -7,7 +7,7 @@ use borrow.Rule.Slice.PartMut.{put_mid}
 use lib.Seq.{take_at}
 use Rattle.std.proofs.KnownBytes.{Consumes-nil, Consumes-trans}
 use Rattle.iv_bytes.specs.Sources.{SourceState, Gives, Reads}
-use Rattle.iv_bytes.proofs.Putting.{tail_is}
+use Rattle.iv_bytes.proofs.PutLemmas.{tail_is}
 
 -- a piece of the bytes in memory was copied to the front of a buffer
 pub copied_piece : (bytes into copied : List ℕ) (at n : ℕ) → n ≤ length bytes - at → length copied ≡ n

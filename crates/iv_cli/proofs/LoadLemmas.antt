@@ -12,7 +12,7 @@ use Rattle.iv_workspace.specs.States.{State, begun}
 use Rattle.iv_run.specs.declared.fault.CliFault.{CliFault}
 use Rattle.iv_run.specs.declared.fault.CliFault.TheVariants.{Memory}
 use Rattle.iv_run.specs.Loading.{IsReport, Parsed, parsed}
-use Rattle.iv_run.specs.SoFar.{AreProjected, ReportsProjected, kept_files}
+use Rattle.iv_run.specs.SoFar.{AreProjected, ReportsProjected, projected_files}
 use Rattle.iv_cli.specs.Loading.{loaded, session_of}
 
 -- what is held of whole records is the records
@@ -27,7 +27,7 @@ same-beside : (o : Option Bed) → option_map (projected_bed (λ r. r)) o ≡ o
 same-beside None = refl
 same-beside (Some b) = ap Some (same-bed b)
 
-same-files : (files : Parsed) → kept_files (λ r. r) files ≡ files
+same-files : (files : Parsed) → projected_files (λ r. r) files ≡ files
 same-files files = λ i. record files { first = same-bed files.first i; second = same-beside files.second i }
 
 -- records that fit a genome

@@ -1,2 +1,2 @@
-pub mod Endings
+pub mod ExitReasons
 pub mod Loading

@@ -1,7 +1,7 @@
 //! How a run ends: its exit status, and its line on standard error.
 ghost use Rattle.std.specs.Prelude.{◌≡◌, true};
 ghost use Rattle.iv_bytes.specs.Sinks.{Puts};
-ghost use Rattle.iv_cli.specs.Endings.{status_of, ending_of, ending_of_run, ending_after, words_text as text_of_words, name_meant, said, said_of, said_of_line, line_of, is_through};
+ghost use Rattle.iv_cli.specs.ExitReasons.{status_of, ending_of, ending_of_run, ending_after, words_text as text_of_words, name_meant, said, said_of, said_of_line, line_of, is_through};
 
 use itoa::Buffer;
 use iv_args::{Plan, Slot};
@@ -14,7 +14,7 @@ use std::io::{self, ErrorKind};
 
 /// How a run ends.
 #[derive(Clone, Copy, Debug, PartialEq, Eq)]
-pub enum Ending {
+pub enum ExitReason {
     /// All was done.
     Done,
     /// Lines of the script were refused, and all else was done. The messages name each.
@@ -37,110 +37,110 @@ pub enum Ending {
     Memory,
 }
 
-impl From<AllocError> for Ending {
+impl From<AllocError> for ExitReason {
     ghost use Rattle.std.specs.Prelude.{◌≡◌};
-    ghost use Rattle.iv_cli.specs.declared.ending.Ending.TheVariants.{Memory};
+    ghost use Rattle.iv_cli.specs.declared.exit_reason.ExitReason.TheVariants.{Memory};
 
-    ghost from_gives = { λ _ ending. ending ≡ Memory };
+    ghost from_gives = { λ _ exit_reason. exit_reason ≡ Memory };
 
-    fn from(_: AllocError) -> Ending {
-        Ending::Memory
+    fn from(_: AllocError) -> ExitReason {
+        ExitReason::Memory
     }
 }
 
 /// The ending if the system does not give the arguments: they are no text, or an allocation failed.
-impl From<io::Error> for Ending {
+impl From<io::Error> for ExitReason {
     ghost use Rattle.std.specs.Prelude.{◌≡◌};
     ghost use Rattle.std.specs.IoError.{error_kind};
-    ghost use Rattle.iv_cli.specs.Endings.{ending_of_kind};
+    ghost use Rattle.iv_cli.specs.ExitReasons.{ending_of_kind};
 
-    ghost from_gives = { λ error ending. ending ≡ ending_of_kind (error_kind error) };
+    ghost from_gives = { λ error exit_reason. exit_reason ≡ ending_of_kind (error_kind error) };
 
-    fn from(error: io::Error) -> Ending {
+    fn from(error: io::Error) -> ExitReason {
         match error.kind() {
-            ErrorKind::OutOfMemory => Ending::Memory,
-            _ => Ending::Words(16),
+            ErrorKind::OutOfMemory => ExitReason::Memory,
+            _ => ExitReason::Words(16),
         }
     }
 }
 
 /// The ending if the arguments are no plan, or an allocation failed.
-impl From<Fault> for Ending {
+impl From<Fault> for ExitReason {
     ghost use Rattle.std.specs.Prelude.{◌≡◌};
-    ghost use Rattle.iv_cli.specs.Endings.{ending_of_words};
+    ghost use Rattle.iv_cli.specs.ExitReasons.{ending_of_words};
 
-    ghost from_gives = { λ fault ending. ending ≡ ending_of_words fault };
+    ghost from_gives = { λ fault exit_reason. exit_reason ≡ ending_of_words fault };
 
-    fn from(fault: Fault) -> Ending {
-        Ending::from(CliFault::from(fault))
+    fn from(fault: Fault) -> ExitReason {
+        ExitReason::from(CliFault::from(fault))
     }
 }
 
-impl From<CliFault> for Ending {
+impl From<CliFault> for ExitReason {
     ghost use Rattle.std.specs.Prelude.{◌≡◌};
-    ghost use Rattle.iv_cli.specs.Endings.{ending_of};
+    ghost use Rattle.iv_cli.specs.ExitReasons.{ending_of};
 
-    ghost from_gives = { λ fault ending. ending ≡ ending_of fault };
+    ghost from_gives = { λ fault exit_reason. exit_reason ≡ ending_of fault };
 
-    fn from(fault: CliFault) -> Ending {
+    fn from(fault: CliFault) -> ExitReason {
         match fault {
-            CliFault::Words(code) => Ending::Words(code),
-            CliFault::Damaged(slot, damage) => Ending::Damaged(slot, damage),
-            CliFault::Output => Ending::Output,
-            CliFault::Memory => Ending::Memory,
+            CliFault::Words(code) => ExitReason::Words(code),
+            CliFault::Damaged(slot, damage) => ExitReason::Damaged(slot, damage),
+            CliFault::Output => ExitReason::Output,
+            CliFault::Memory => ExitReason::Memory,
         }
     }
 }
 
-impl From<(Slot, FileFault)> for Ending {
+impl From<(Slot, FileFault)> for ExitReason {
     ghost use Rattle.std.specs.Prelude.{◌≡◌};
-    ghost use Rattle.iv_cli.specs.Endings.{ending_of_file};
+    ghost use Rattle.iv_cli.specs.ExitReasons.{ending_of_file};
 
-    ghost from_gives = { λ why ending. ending ≡ ending_of_file why.0 why.1 };
+    ghost from_gives = { λ why exit_reason. exit_reason ≡ ending_of_file why.0 why.1 };
 
-    fn from((slot, fault): (Slot, FileFault)) -> Ending {
+    fn from((slot, fault): (Slot, FileFault)) -> ExitReason {
         match fault {
-            FileFault::Input => Ending::Unreadable(slot),
-            FileFault::TooLong => Ending::TooLong(slot),
-            FileFault::Memory => Ending::Memory,
+            FileFault::Input => ExitReason::Unreadable(slot),
+            FileFault::TooLong => ExitReason::TooLong(slot),
+            FileFault::Memory => ExitReason::Memory,
         }
     }
 }
 
-impl From<RunCause> for Ending {
+impl From<RunCause> for ExitReason {
     ghost use Rattle.std.specs.Prelude.{◌≡◌};
-    ghost use Rattle.iv_cli.specs.Endings.{ending_of_cause};
+    ghost use Rattle.iv_cli.specs.ExitReasons.{ending_of_cause};
 
-    ghost from_gives = { λ cause ending. ending ≡ ending_of_cause cause };
+    ghost from_gives = { λ cause exit_reason. exit_reason ≡ ending_of_cause cause };
 
-    fn from(cause: RunCause) -> Ending {
+    fn from(cause: RunCause) -> ExitReason {
         match cause {
-            RunCause::Input => Ending::InputUnreadable,
-            RunCause::TooLong => Ending::InputTooLong,
-            RunCause::Output | RunCause::Messages => Ending::Output,
-            RunCause::Memory => Ending::Memory,
+            RunCause::Input => ExitReason::InputUnreadable,
+            RunCause::TooLong => ExitReason::InputTooLong,
+            RunCause::Output | RunCause::Messages => ExitReason::Output,
+            RunCause::Memory => ExitReason::Memory,
         }
     }
 }
 
-impl Ending {
+impl ExitReason {
     /// The ending of a run of a script.
-    pub fn of_run(done: &Result<Summary, RunFault>) -> Ending
+    pub fn of_run(done: &Result<Summary, RunFault>) -> ExitReason
         ensures { result ≡ ending_of_run done.now }
     {
         match done {
-            Ok(summary) if summary.refused == 0 => Ending::Done,
-            Ok(_) => Ending::Refused,
-            Err(fault) => Ending::from(fault.cause),
+            Ok(summary) if summary.refused == 0 => ExitReason::Done,
+            Ok(_) => ExitReason::Refused,
+            Err(fault) => ExitReason::from(fault.cause),
         }
     }
 
     /// The ending, once standard output was flushed, or could not be. A fault before that stays the one that is reported.
-    pub fn after_flush(self, flushed: bool) -> Ending
+    pub fn after_flush(self, flushed: bool) -> ExitReason
         ensures { result ≡ ending_after flushed self }
     {
         match self {
-            Ending::Done | Ending::Refused if !flushed => Ending::Output,
+            ExitReason::Done | ExitReason::Refused if !flushed => ExitReason::Output,
             _ => self,
         }
     }
@@ -151,13 +151,13 @@ impl Ending {
         ensures { result ≡ status_of self }
     {
         match self {
-            Ending::Done => 0,
-            Ending::Refused => 1,
-            Ending::Words(_) => 2,
-            Ending::Damaged(_, _) => 3,
-            Ending::Unreadable(_) | Ending::TooLong(_) => 4,
-            Ending::InputUnreadable | Ending::InputTooLong | Ending::Output => 4,
-            Ending::Memory => 5,
+            ExitReason::Done => 0,
+            ExitReason::Refused => 1,
+            ExitReason::Words(_) => 2,
+            ExitReason::Damaged(_, _) => 3,
+            ExitReason::Unreadable(_) | ExitReason::TooLong(_) => 4,
+            ExitReason::InputUnreadable | ExitReason::InputTooLong | ExitReason::Output => 4,
+            ExitReason::Memory => 5,
         }
     }
 
@@ -168,17 +168,17 @@ impl Ending {
         ensures quiet { is_through self ≡ true → sink.new ≡ sink.old }
     {
         match self {
-            Ending::Done | Ending::Refused => Ok(()),
-            Ending::Words(code) => put_said(words_text(code), sink),
-            Ending::Damaged(_, damage) => {
+            ExitReason::Done | ExitReason::Refused => Ok(()),
+            ExitReason::Words(code) => put_said(words_text(code), sink),
+            ExitReason::Damaged(_, damage) => {
                 put_damage(name, damage.line, load_text(&damage.cause), sink)
             }
-            Ending::Unreadable(_) => put_said_of(name, b"cannot be read", sink),
-            Ending::TooLong(_) => put_said_of(name, b"too long", sink),
-            Ending::InputUnreadable => put_said(b"input cannot be read", sink),
-            Ending::InputTooLong => put_said(b"input too long", sink),
-            Ending::Output => put_said(b"output cannot be written", sink),
-            Ending::Memory => put_said(b"no memory", sink),
+            ExitReason::Unreadable(_) => put_said_of(name, b"cannot be read", sink),
+            ExitReason::TooLong(_) => put_said_of(name, b"too long", sink),
+            ExitReason::InputUnreadable => put_said(b"input cannot be read", sink),
+            ExitReason::InputTooLong => put_said(b"input too long", sink),
+            ExitReason::Output => put_said(b"output cannot be written", sink),
+            ExitReason::Memory => put_said(b"no memory", sink),
         }
     }
 
@@ -187,9 +187,9 @@ impl Ending {
         ensures { result.now ≡ name_meant plan.now self }
     {
         match self {
-            Ending::Damaged(slot, _) | Ending::Unreadable(slot) | Ending::TooLong(slot) => {
-                plan.file(slot).unwrap_or(b"")
-            }
+            ExitReason::Damaged(slot, _)
+            | ExitReason::Unreadable(slot)
+            | ExitReason::TooLong(slot) => { plan.file(slot).unwrap_or(b"") }
             _ => b"",
         }
     }
@@ -249,7 +249,7 @@ fn put_damage<S: Sink>(
 pub fn status(fault: &CliFault) -> u8
     ensures { result ≡ status_of (ending_of fault.now) }
 {
-    Ending::from(*fault).status()
+    ExitReason::from(*fault).status()
 }
 
 /// The exit status of a run of a script.
@@ -257,5 +257,5 @@ pub fn status(fault: &CliFault) -> u8
 pub fn run_status(done: &Result<Summary, RunFault>) -> u8
     ensures { result ≡ status_of (ending_of_run done.now) }
 {
-    Ending::of_run(done).status()
+    ExitReason::of_run(done).status()
 }

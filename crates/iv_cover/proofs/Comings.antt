@@ -4,7 +4,7 @@ use Rattle.std.proofs.lemmas.Bool.{cond-true, cond-false}
 use Rattle.iv_text.specs.RecordValue.{RecordValue}
 use Rattle.iv_cover.specs.declared.block.Block.{Block}
 use Rattle.iv_cover.specs.TrackBlocks.{Group, with_members}
-use Rattle.iv_cover.specs.Inside.Coming.{is_joined, block_of, joined, coming}
+use Rattle.iv_cover.specs.Inside.RemainingBlocks.{is_joined, block_of, joined, coming}
 
 -- the first record opens a block
 pub coming-begun : (d : ℕ) (r : RecordValue) (rs : List RecordValue) (b : Block) → b ≡ record { sequence = r.seq; start = r.start; stop = r.stop }

@@ -1,7 +1,7 @@
 -- A first piece of a text, and what remains after it.
 use Rattle.std.proofs.Common.{◌≡◌, ℕ, List, ◌++◌, sym, subst}
 use Rattle.iv_bytes.specs.Sinks.{SinkState, Takes, FailsIn}
-use Rattle.iv_bytes.proofs.Putting.{Underway, FailsIn-front, Underway-more, Underway-fails}
+use Rattle.iv_bytes.proofs.PutLemmas.{Underway, FailsIn-front, Underway-more, Underway-fails}
 
 pub Underway-first : (start now : SinkState) (piece to_come whole : List ℕ) → whole ≡ piece ++ to_come → Takes start now piece → Underway start now to_come whole
 Underway-first start now piece to_come whole is took = record { done = piece; took = took; all = is }

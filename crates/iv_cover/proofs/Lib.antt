@@ -4,7 +4,7 @@ pub mod Groups
 pub mod Cover
 pub mod Positions
 pub mod Swept
-pub mod Merging
+pub mod WalkLemmas
 pub mod Comings
 pub mod Meanings
 pub mod DepthLemmas

@@ -1,5 +1,5 @@
 -- Definitions that only lemmas and private functions cite. No public contract reaches one.
-pub mod Coming
+pub mod RemainingBlocks
 pub mod NumberFolds
 pub mod Values
 pub mod Results

@@ -1,6 +1,6 @@
 pub mod Blocks
 pub mod TrackBlocks
-pub mod BlockLaws
+pub mod BlockTerms
 pub mod Runs
 pub mod Depth
 pub mod Kept

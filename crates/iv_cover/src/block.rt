@@ -7,7 +7,7 @@ ghost use Rattle.iv_text.specs.RecordValue.{IsPlaced};
 ghost use Rattle.iv_cover.specs.TrackBlocks.{blocks_of, GivesFirst};
 
 use iv_text::{BedRecord, Record};
-use iv_track::{Meter, Rows};
+use iv_track::{Meter, TrackRecords};
 use std::alloc::{Allocator, Global};
 use std::marker::Model;
 
@@ -59,7 +59,7 @@ impl Block {
 /// each with the records that are in it.
 #[derive(Drop)]
 pub struct BlockWalk<'a, A: Allocator + Copy = Global> {
-    rows: Rows<'a, A>,
+    rows: TrackRecords<'a, A>,
     // The record that closed the block before.
     ahead: Option<&'a Record<A>>,
     distance: u32,
@@ -67,7 +67,7 @@ pub struct BlockWalk<'a, A: Allocator + Copy = Global> {
 
 impl<'a, A: Allocator + Copy> Model for BlockWalk<'a, A> {
     ghost use Rattle.std.specs.Prelude.{List, None};
-    ghost use Rattle.iv_cover.specs.Inside.Coming.{coming, left};
+    ghost use Rattle.iv_cover.specs.Inside.RemainingBlocks.{coming, left};
     ghost use Rattle.iv_cover.specs.TrackBlocks.{Group};
 
     ghost Value = { List Group };
@@ -79,7 +79,7 @@ impl<'a, A: Allocator + Copy> BlockWalk<'a, A> {
     /// The blocks of the records that a walk has left, which are in the order of a track.
     ///
     /// They are the blocks of the definition for every genome that the records are on.
-    pub fn of(rows: Rows<'a, A>, distance: u32) -> Self
+    pub fn of(rows: TrackRecords<'a, A>, distance: u32) -> Self
         requires { AreInOrder rows }
         ensures { (g : Sequences) → All (IsOnGenome g) rows.entry → result ≡ blocks_of distance g rows.entry }
     {

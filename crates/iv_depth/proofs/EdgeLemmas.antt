@@ -11,14 +11,14 @@ use Rattle.iv_text.specs.Ordered.{AreInOrder}
 use Rattle.iv_text.specs.Read.{IsOnGenome}
 use Rattle.iv_text.specs.RecordValue.{RecordValue, record_cmp}
 use Rattle.iv_cover.specs.Depth.{depth}
-use Rattle.iv_text.specs.Covering.{on}
+use Rattle.iv_text.specs.CoveredPositions.{on}
 use Rattle.iv_cover.specs.TrackBlocks.{start_of, stop_of}
 use Rattle.iv_cover.proofs.DepthLemmas.{depth-cons}
 use Rattle.iv_text.proofs.InOrderLemmas.{all-recursion}
 use Rattle.iv_text.proofs.PrecedesLemmas.{Precedes, precedes-from}
 use Rattle.iv_text.proofs.ListLemmas.{Mem}
 use Rattle.iv_index.proofs.SequenceLemmas.{is_from, from-here}
-use Rattle.iv_index.specs.Inside.Spans.{row_of_span, span_rows}
+use Rattle.iv_index.specs.Inside.Spans.{record_of_span, span_records}
 use Rattle.iv_index.specs.declared.span.Span.{Span}
 use Rattle.std.specs.Prelude.{ℤ, pos, ◌+ℤ◌}
 use Rattle.iv_depth.specs.Inside.DepthChanges.{IsChange}
@@ -209,11 +209,11 @@ module _ (f : ℕ → ℕ) (from limit depth : ℕ) (starts stops : List ℕ) (a
 -- ---- the records of one sequence
 
 -- intervals start and stop where their records do
-starts-are : (places : List Span) (rows : List RecordValue) → span_rows places ≡ rows → starts_of places ≡ map start_of rows
-starts-are places rows same = sym (map-map start_of row_of_span places) ∙ ap (map start_of) same
+starts-are : (places : List Span) (rows : List RecordValue) → span_records places ≡ rows → starts_of places ≡ map start_of rows
+starts-are places rows same = sym (map-map start_of record_of_span places) ∙ ap (map start_of) same
 
-stops-are : (places : List Span) (rows : List RecordValue) → span_rows places ≡ rows → stops_of places ≡ map stop_of rows
-stops-are places rows same = sym (map-map stop_of row_of_span places) ∙ ap (map stop_of) same
+stops-are : (places : List Span) (rows : List RecordValue) → span_records places ≡ rows → stops_of places ≡ map stop_of rows
+stops-are places rows same = sym (map-map stop_of record_of_span places) ∙ ap (map stop_of) same
 
 module _ (g : Sequences) (rank : ℕ) where
   -- as many records cover p as start up to it, less those that stop up to it
@@ -265,12 +265,12 @@ module _ (g : Sequences) (rank : ℕ) where
       after q at on_it (inr same) = same.1
 
   module _ (rows left here : List RecordValue) (places : List Span) (left_is : left ≡ filter (is_from rank) rows) (here_is : here ≡ on rank left)
-      (same : span_rows places ≡ here) where
+      (same : span_records places ≡ here) where
     pub places-few : length places ≤ length rows
     places-few =
         omega (
           arith,
-          length-map places row_of_span,
+          length-map places record_of_span,
           ap (λ (l : List RecordValue). length l) same,
           ap (λ (l : List RecordValue). length l) here_is,
           length-filter (λ (r : RecordValue). r.seq == rank) left,

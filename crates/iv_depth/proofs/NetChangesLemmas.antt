@@ -20,22 +20,22 @@ use Rattle.std.proofs.lemmas.Map.{lookup-none}
 use Rattle.std.proofs.lemmas.Map.Entries.{lookup_head, lookup_tail, none_below_head, none_past_head}
 use Rattle.std.proofs.lemmas.Map.Keys.{IsDistinct-from_sorted, sorted_tail}
 use Rattle.iv_text.specs.RecordValue.{RecordValue, IsPlaced}
-use Rattle.iv_text.specs.Covering.{covers}
+use Rattle.iv_text.specs.CoveredPositions.{covers}
 use Rattle.iv_cover.specs.Depth.{depth}
 use Rattle.iv_track.proofs.NumberOrder.{pair_total, pair_exact}
 use Rattle.iv_track.specs.Entries.{IsLedger, value_at, pair_cmp}
 use Rattle.iv_depth.specs.Changes.{ChangeKey, Entries, total, reaches, AreChangesOf}
 use Rattle.iv_depth.specs.Inside.Edges.{Rise, BeginsElse, PassesEdge}
-use Rattle.iv_depth.specs.Inside.NetChanges.{key_of, place_of, reached, AreEdgesOf, Keys, RiseFrom, net, IsLeast, SkipsKeys, TakesChange, GivesChange}
+use Rattle.iv_depth.specs.Inside.NetChanges.{key_of, change_key_of, reached, AreEdgesOf, Keys, RiseFrom, net, IsLeast, SkipsKeys, TakesChange, GivesChange}
 use Rattle.iv_depth.proofs.OrderLemmas.{rise-sorted}
 
 -- ---- keys
 
 -- keys ascend as ranks and positions do
-key-order : (a b : ℕ) → a < b → pair_cmp (place_of a) (place_of b) ≡ Less
+key-order : (a b : ℕ) → a < b → pair_cmp (change_key_of a) (change_key_of b) ≡ Less
 key-order a b h = go (nat_cmp (a / 2 ^ 32) (b / 2 ^ 32)) refl
   where
-    go : (o : Ordering) → o ≡ nat_cmp (a / 2 ^ 32) (b / 2 ^ 32) → pair_cmp (place_of a) (place_of b) ≡ Less
+    go : (o : Ordering) → o ≡ nat_cmp (a / 2 ^ 32) (b / 2 ^ 32) → pair_cmp (change_key_of a) (change_key_of b) ≡ Less
     go Less is = subst (λ (o : Ordering). ordering_then o (nat_cmp (a % 2 ^ 32) (b % 2 ^ 32)) ≡ Less) is refl
     go Equal is =
         let same : a / 2 ^ 32 ≡ b / 2 ^ 32 = ranked (a / 2 ^ 32) (b / 2 ^ 32) Equal is in
@@ -45,7 +45,7 @@ key-order a b h = go (nat_cmp (a / 2 ^ 32) (b / 2 ^ 32)) refl
         let more : b / 2 ^ 32 < a / 2 ^ 32 = ranked (a / 2 ^ 32) (b / 2 ^ 32) Greater is in
         absurd (omega (arith, h, more))
 
-place-key : (rank p : ℕ) → p < 2 ^ 32 → place_of (key_of rank p) ≡ (rank, p)
+place-key : (rank p : ℕ) → p < 2 ^ 32 → change_key_of (key_of rank p) ≡ (rank, p)
 place-key rank p low =
     let first : key_of rank p / 2 ^ 32 ≡ rank = omega (arith, low) in
     let second : key_of rank p % 2 ^ 32 ≡ p = omega (arith, low) in
@@ -82,15 +82,15 @@ gathered-next rows left after r starts stops more_starts more_stops start stop p
   done = g.done ++ r ∷ [];
   all = g.all ∙ ap (λ (l : List RecordValue). g.done ++ l) is ∙ sym (append_assoc g.done (r ∷ []) after);
   depths = λ rank p.
-      let one : ℕ → ℕ = λ key. cond {A = ℕ} (reaches rank p (place_of key)) 1 0 in
+      let one : ℕ → ℕ = λ key. cond {A = ℕ} (reaches rank p (change_key_of key)) 1 0 in
       let records : depth (g.done ++ r ∷ []) rank p ≡ depth g.done rank p + cond {A = ℕ} (covers rank p r) 1 0
       = sum_by_push (λ x. cond {A = ℕ} (covers rank p x) 1 0) g.done r in
       let begun : reached rank p more_starts ≡ reached rank p starts + cond {A = ℕ} (reaches rank p (r.seq, r.start)) 1 0
       = ap (λ (l : List ℕ). reached rank p l) starts_are ∙ sum_by_push one starts start
-      ∙ ap (λ (k : ChangeKey). reached rank p starts + cond {A = ℕ} (reaches rank p k) 1 0) (ap place_of start_is ∙ place-key r.seq r.start (omega (arith, placed.some, placed.stop))) in
+      ∙ ap (λ (k : ChangeKey). reached rank p starts + cond {A = ℕ} (reaches rank p k) 1 0) (ap change_key_of start_is ∙ place-key r.seq r.start (omega (arith, placed.some, placed.stop))) in
       let ended : reached rank p more_stops ≡ reached rank p stops + cond {A = ℕ} (reaches rank p (r.seq, r.stop)) 1 0
       = ap (λ (l : List ℕ). reached rank p l) stops_are ∙ sum_by_push one stops stop
-      ∙ ap (λ (k : ChangeKey). reached rank p stops + cond {A = ℕ} (reaches rank p k) 1 0) (ap place_of stop_is ∙ place-key r.seq r.stop placed.stop) in
+      ∙ ap (λ (k : ChangeKey). reached rank p stops + cond {A = ℕ} (reaches rank p k) 1 0) (ap change_key_of stop_is ∙ place-key r.seq r.stop placed.stop) in
       sum _ _ _ _ _ _ _ _ _ (g.depths rank p) records begun ended (record-reaches r rank p placed.some);
 }
   where
@@ -106,7 +106,7 @@ gathered-all rows left some_starts some_stops starts stops none g starts_moved s
   depths = λ rank p.
       let all : rows ≡ g.done = g.all ∙ ap (λ (l : List RecordValue). g.done ++ l) none ∙ append-nil g.done in
       let records : depth rows rank p ≡ depth g.done rank p = ap (λ (l : List RecordValue). depth l rank p) all in
-      let one : ℕ → ℕ = λ key. cond {A = ℕ} (reaches rank p (place_of key)) 1 0 in
+      let one : ℕ → ℕ = λ key. cond {A = ℕ} (reaches rank p (change_key_of key)) 1 0 in
       let begun : reached rank p starts ≡ reached rank p some_starts = sum_by-IsPermutation one some_starts starts starts_moved in
       let ended : reached rank p stops ≡ reached rank p some_stops = sum_by-IsPermutation one some_stops stops stops_moved in
       sum _ _ _ _ _ _ (g.depths rank p) records begun ended;
@@ -150,7 +150,7 @@ module _ (from key begun ended : ℕ) (old : Keys) (starts stops starts_after st
       go true a b c d e f = omega (arith, ints, sum, e, f)
       go false a b c d e f = omega (arith, ints, e, f)
 
-  pub takes-change : (place : ChangeKey) (z : ℤ) → place ≡ place_of key → pos ended +ℤ z ≡ pos begun → begun ≢ ended
+  pub takes-change : (place : ChangeKey) (z : ℤ) → place ≡ change_key_of key → pos ended +ℤ z ≡ pos begun → begun ≢ ended
       → TakesChange from old place z (record { starts = starts_after; stops = stops_after })
   takes-change place z place_is sum other = record {
     key = key;
@@ -198,11 +198,11 @@ nothing-left from old starts stops no_starts no_stops skips passes =
 
 -- they are past a key that is below
 given-past : (keys : Keys) (from k : ℕ) (es : Entries) (last : Keys) → k < from → RiseFrom from keys → Yields GivesChange keys es last
-    → AllByRecursion (λ y. pair_cmp (place_of k) y ≡ Less) (keys_of es)
+    → AllByRecursion (λ y. pair_cmp (change_key_of k) y ≡ Less) (keys_of es)
 given-past keys from k [] last low rise y = tt
 given-past keys from k (e ∷ es) last low rise y =
     let t : TakesChange from keys e.0 e.1 y.0 = y.1 from rise in (
-      subst (λ (p : ChangeKey). pair_cmp (place_of k) p ≡ Less) (sym t.is) (key-order k t.key (omega (arith, low, t.low))),
+      subst (λ (p : ChangeKey). pair_cmp (change_key_of k) p ≡ Less) (sym t.is) (key-order k t.key (omega (arith, low, t.low))),
       given-past y.0 (t.key + 1) k es last (omega (arith, low, t.low)) t.later y.2,
     )
 
@@ -223,7 +223,7 @@ given-others keys from (e ∷ es) last rise y =
 
 module _ (passes : ChangeKey → Bool) where
   abbrev at_key : ℕ → Bool
-  at_key key = passes (place_of key)
+  at_key key = passes (change_key_of key)
 
   given-sums : (keys : Keys) (from : ℕ) (es : Entries) (last : Keys) → RiseFrom from keys → Yields GivesChange keys es last
       → ((low : ℕ) → RiseFrom low last → net at_key last ≡ pos 0) → total passes es ≡ net at_key keys
@@ -285,7 +285,7 @@ edges-changes rows starts stops es entries h run ordered same =
       ordered = up;
       changes = All-from_recursion (λ z. z ≢ pos 0) (values_of es) (given-others keys 0 es run.1.0 rise run.1.1);
       depths = λ rank p.
-          given-sums (reaches rank p) keys 0 es run.1.0 rise run.1.1 (λ low past. run.1.2 low past (λ key. reaches rank p (place_of key)))
+          given-sums (reaches rank p) keys 0 es run.1.0 rise run.1.1 (λ low past. run.1.2 low past (λ key. reaches rank p (change_key_of key)))
           ∙ difference _ _ _ (h.depths rank p);
     })
   where

@@ -3,7 +3,7 @@ ghost use Rattle.std.specs.Prelude.{◌≡◌, ◌≤◌, All, IfOk, length};
 ghost use Rattle.iv_bytes.specs.Sinks.{Puts};
 ghost use Rattle.iv_text.specs.Ordered.{AreInOrder};
 ghost use Rattle.iv_text.specs.Read.{IsOnGenome};
-ghost use Rattle.iv_index.specs.Inside.Spans.{span_rows};
+ghost use Rattle.iv_index.specs.Inside.Spans.{span_records};
 ghost use Rattle.iv_depth.specs.DepthRows.{depth_text};
 ghost use Rattle.iv_depth.specs.Inside.Edges.{AreStopsOf};
 
@@ -26,11 +26,11 @@ pub struct DepthSweep<'s, A: Allocator = Global> {
 impl<'s, A: Allocator> Model for DepthSweep<'s, A> {
     ghost use Rattle.std.specs.Prelude.{List, ◌≡◌, length};
     ghost use Rattle.iv_text.specs.RecordValue.{RecordValue};
-    ghost use Rattle.iv_index.specs.Inside.Spans.{span_rows};
+    ghost use Rattle.iv_index.specs.Inside.Spans.{span_records};
 
     ghost Value = { List RecordValue };
 
-    ghost view = { λ s. span_rows s.spans.now };
+    ghost view = { λ s. span_records s.spans.now };
 
     ghost invariant = { λ s. length s.stops.items ≡ length s.spans.now };
 }
@@ -38,7 +38,7 @@ impl<'s, A: Allocator> Model for DepthSweep<'s, A> {
 impl<'s, A: Allocator + Copy> DepthSweep<'s, A> {
     /// A sweep over intervals. It takes all the memory that it needs: 4 bytes for each.
     pub fn new(alloc: A, spans: &'s [Span]) -> Result<Self, AllocError>
-        ensures { IfOk result (λ s. s ≡ span_rows spans.now) }
+        ensures { IfOk result (λ s. s ≡ span_records spans.now) }
     {
         let mut stops = Vec::new(alloc);
         stops.resize(spans.len(), 0)?;
@@ -72,10 +72,10 @@ fn put_genome<A: Allocator + Copy, S: Sink>(
     stops: &mut [u32],
     sink: &mut S,
 ) -> Result<(), WriteFault>
-    requires order { AreInOrder (span_rows spans.now) }
-    requires on_genome { All (IsOnGenome genome.now) (span_rows spans.now) }
+    requires order { AreInOrder (span_records spans.now) }
+    requires on_genome { All (IsOnGenome genome.now) (span_records spans.now) }
     requires room { length spans.now ≤ length stops.old }
-    ensures text { Puts (S.state sink.old) (S.state sink.new) result (depth_text shown genome.now (span_rows spans.now)) }
+    ensures text { Puts (S.state sink.old) (S.state sink.new) result (depth_text shown genome.now (span_records spans.now)) }
     ensures room { length stops.new ≡ length stops.old }
 {
     let mut left = spans;

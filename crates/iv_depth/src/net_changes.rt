@@ -1,7 +1,7 @@
 //! Net changes of depth, from where the records of a track start and stop.
 ghost use Rattle.std.specs.Prelude.{◌≡◌, [], IfOk, MatchOption};
 ghost use Rattle.std.specs.Iterator.{at_most};
-ghost use Rattle.iv_depth.specs.Inside.NetChanges.{AreEdgesOf, GivesChange, IsLeast, key_of, place_of};
+ghost use Rattle.iv_depth.specs.Inside.NetChanges.{AreEdgesOf, GivesChange, IsLeast, key_of, change_key_of};
 
 use crate::edges::pass;
 use iv_index::order_neighbors;
@@ -47,7 +47,7 @@ fn packed(rank: u32, position: u32) -> u64
 
 /// The rank and the position of a key.
 fn unpacked(key: u64) -> (u32, u32)
-    ensures { result ≡ place_of key }
+    ensures { result ≡ change_key_of key }
 {
     ((key / POSITIONS) as u32, (key % POSITIONS) as u32)
 }

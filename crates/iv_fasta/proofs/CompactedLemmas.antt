@@ -10,11 +10,11 @@ use Rattle.iv_text.proofs.NamedLemmas.{there-is}
 use Rattle.iv_text.specs.Lines.{lines}
 use Rattle.iv_text.specs.Read.{length_of}
 use Rattle.std.specs.Str.{bytes_eq}
-use Rattle.iv_text.specs.Named.{names_of, place_of}
+use Rattle.iv_text.specs.Named.{names_of, name_index}
 use Rattle.iv_text.specs.Genome.{Sequences, rank_of}
 use Rattle.iv_text.specs.GenomeFile.{begins_with, bad_name}
 use Rattle.iv_fasta.specs.Fasta.{Stretch, Found, header_sign, is_no_base, header_name, with_header, with_bases, with_base_line, after_fasta_line, after_fasta_lines, Bases, has_wrong_length, by_rank, with_lengths, fasta_of}
-use Rattle.iv_fasta.specs.Inside.Drafts.{Draft, headed, with_compacted_line, after_kept_line, after_compacted_lines}
+use Rattle.iv_fasta.specs.Inside.Drafts.{Draft, headed, with_compacted_line, after_compacted_line, after_compacted_lines}
 use Rattle.iv_text.specs.declared.fault.LoadCause.{LoadCause}
 use Rattle.iv_text.specs.declared.fault.LoadCause.TheVariants as cause
 use Rattle.iv_text.specs.declared.fault.LoadFault.{LoadFault}
@@ -53,7 +53,7 @@ module _ (g : Sequences) where
   names-compacted [] = refl
   names-compacted (s ∷ found) = ap (λ (l : List (List ℕ)). s.0 ∷ l) (names-compacted found)
 
-  place-compacted : (found : Found) (name : List ℕ) → place_of (kept_all found) name ≡ place_of found name
+  place-compacted : (found : Found) (name : List ℕ) → name_index (kept_all found) name ≡ name_index found name
   place-compacted found name = ap (position (bytes_eq name)) (names-compacted found)
 
   empty-either : (b : Bool) → cond {A = List ℕ} b [] [] ≡ []
@@ -76,11 +76,11 @@ module _ (g : Sequences) where
   header-along n found name =
       headed-cond name (bad_name name) _ _
       ∙ ap (λ (r : Result Draft LoadCause). cond (bad_name name) (Err cause.Name) r)
-      (headed-cond name (is_some (place_of (kept_all found) name)) _ _
+      (headed-cond name (is_some (name_index (kept_all found) name)) _ _
       ∙ ap (λ (o : Option ℕ). cond {A = Result Draft LoadCause} (is_some o) (Err cause.Repeated) (Ok (record { found = kept_all found ++ (name, record { line = n; bases = [] }) ∷ []; named = named name }))) (place-compacted found name)
-      ∙ ap (λ (r : Result Draft LoadCause). cond (is_some (place_of found name)) (Err cause.Repeated) r)
+      ∙ ap (λ (r : Result Draft LoadCause). cond (is_some (name_index found name)) (Err cause.Repeated) r)
       (pair-up _ _ _ _ (sym (compacted-push found name n)) (sym (last-push found name (record { line = n; bases = [] }))))
-      ∙ sym (along-cond (is_some (place_of found name)) _ _))
+      ∙ sym (along-cond (is_some (name_index found name)) _ _))
       ∙ sym (along-cond (bad_name name) _ _)
 
   both-compacted : (b : Bool) (old line : List ℕ) → cond b old [] ++ cond b line [] ≡ cond b (old ++ line) []
@@ -107,8 +107,8 @@ module _ (g : Sequences) where
       ∙ ap (λ (r : Result Draft LoadCause). cond (length found == 0) (Err cause.BasesFirst) r) (sym (along-cond (list_any is_no_base line) _ _))
       ∙ sym (along-cond (length found == 0) _ _)
 
-  pub line-along : (n : ℕ) (found : Found) (line : List ℕ) → after_kept_line g n (compacted found) line ≡ along (after_fasta_line n found line)
-  unfolding after_kept_line after_fasta_line
+  pub line-along : (n : ℕ) (found : Found) (line : List ℕ) → after_compacted_line g n (compacted found) line ≡ along (after_fasta_line n found line)
+  unfolding after_compacted_line after_fasta_line
   line-along n found line =
       ap (λ (r : Result Draft LoadCause). cond (length line == 0) (Ok (compacted found)) (cond (begins_with header_sign line) r (with_compacted_line (compacted found) line))) (header-along n found (header_name line))
       ∙ ap (λ (r : Result Draft LoadCause). cond (length line == 0) (Ok (compacted found)) (cond (begins_with header_sign line) (along (with_header n found (header_name line))) r)) (bases-along found line)

@@ -2,17 +2,17 @@
 use Rattle.std.proofs.Common.{◌≡◌, ◌↔◌, ◌⊎◌, inl, inr, ℕ, ◌+◌, ◌++◌, ◌==◌, ◌&&◌, Bool, true, false, not, cond, List, [], ◌∷◌, Option, None, Some, Result, Ok, Err, length, find, is_some, append_assoc, append-nil, refl, sym, ◌∙◌, ap, ap₂, subst, arith}
 use Rattle.std.specs.List.{list_any, concat}
 use Rattle.std.proofs.lemmas.Bool.{cond-true, cond-false, eqb-true}
-use Rattle.iv_text.specs.FileLaws.{HaveNoCause, IsFirstFault}
+use Rattle.iv_text.specs.FileMeaning.{HaveNoCause, IsFirstFault}
 use Rattle.iv_text.specs.Genome.{Sequences}
 use Rattle.iv_text.specs.GenomeFile.{bad_name}
 use Rattle.iv_text.specs.Lines.{lines}
-use Rattle.iv_text.specs.Named.{place_of}
+use Rattle.iv_text.specs.Named.{name_index}
 use Rattle.iv_text.specs.declared.fault.LoadCause.{LoadCause}
 use Rattle.iv_text.specs.declared.fault.LoadCause.TheVariants as cause
 use Rattle.iv_text.specs.declared.fault.LoadFault.{LoadFault}
-use Rattle.iv_text.proofs.FileLawLemmas.{IsRun, run-value, run-fault}
+use Rattle.iv_text.proofs.FileMeaningLemmas.{IsRun, run-value, run-fault}
 use Rattle.iv_fasta.specs.Fasta.{Found, Stretch, Bases, header_name, is_no_base, has_wrong_length, by_rank, with_bases, with_lengths, after_fasta_line, after_fasta_lines, fasta_of}
-use Rattle.iv_fasta.specs.Inside.FastaLaws.{is_header, before_header, sequences_from, sequences_said, line_cause, HaveRightLengths, IsFirstWrongLength}
+use Rattle.iv_fasta.specs.Inside.FastaMeaning.{is_header, before_header, sequences_from, sequences_said, line_cause, HaveRightLengths, IsFirstWrongLength}
 
 -- ---- the lines before the next header
 
@@ -148,7 +148,7 @@ empty-more before (b ∷ line) is = let same : length (b ∷ line) ≡ 0 = eqb-t
 
 line-acts : (n : ℕ) (found : Found) (line : List ℕ)
     → after_fasta_line n found line
-    ≡ acts (length line == 0) (is_header line) (bad_name (header_name line)) (is_some (place_of found (header_name line))) (length found == 0) (list_any is_no_base line)
+    ≡ acts (length line == 0) (is_header line) (bad_name (header_name line)) (is_some (name_index found (header_name line))) (length found == 0) (list_any is_no_base line)
     found (found ++ (header_name line, record { line = n; bases = [] }) ∷ []) (with_bases found line)
 unfolding after_fasta_line
 line-acts n found line = refl

@@ -9,4 +9,4 @@ pub mod JoinLemmas
 pub mod OppositeLemmas
 pub mod RowLemmas
 pub mod Examples
-pub mod FastaLawLemmas
+pub mod FastaMeaningLemmas

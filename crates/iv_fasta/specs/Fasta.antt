@@ -6,7 +6,7 @@ use Rattle.std.specs.Option.{is_some, option_map, unwrap_or}
 use Rattle.std.specs.Str.{bytes_eq}
 use Rattle.iv_text.specs.Bytes.{tab, space}
 use Rattle.iv_text.specs.Lines.{lines}
-use Rattle.iv_text.specs.Named.{place_of}
+use Rattle.iv_text.specs.Named.{name_index}
 use Rattle.iv_text.specs.Genome.{Sequences, rank_of, length_at}
 use Rattle.iv_text.specs.Read.{length_of}
 use Rattle.iv_text.specs.GenomeFile.{begins_with, bad_name}
@@ -43,7 +43,7 @@ is_no_base b = nat_lt b 33 || nat_lt 126 b
 abbrev pub with_header : ℕ → Found → List ℕ → Result Found LoadCause
 with_header n found name =
     cond (bad_name name) (Err cause.Name)
-    (cond (is_some (place_of found name)) (Err cause.Repeated)
+    (cond (is_some (name_index found name)) (Err cause.Repeated)
     (Ok (found ++ (name, record { line = n; bases = [] }) ∷ [])))
 
 -- the sequences with these bases at the end of the last one

@@ -3,4 +3,4 @@ pub mod Fasta
 pub mod BaseRanges
 pub mod Drafts
 pub mod FastaRows
-pub mod FastaLaws
+pub mod FastaMeaning

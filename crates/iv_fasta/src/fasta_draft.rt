@@ -7,7 +7,7 @@ ghost use Rattle.std.specs.Option.{option_map};
 ghost use Rattle.std.specs.Str.{bytes_eq};
 ghost use Rattle.iv_text.specs.GenomeFile.{begins_with};
 ghost use Rattle.iv_text.specs.Lines.{lines};
-ghost use Rattle.iv_text.specs.Named.{place_of};
+ghost use Rattle.iv_text.specs.Named.{name_index};
 ghost use Rattle.iv_text.specs.declared.name_map.NameHasher.TheVariants as hasher;
 ghost use Rattle.iv_text.specs.declared.fault.LoadCause.TheVariants as cause;
 ghost use Rattle.iv_fasta.specs.Fasta.{header_sign, is_blank, is_no_base, Stretch, header_name, has_wrong_length, differs as differs_in, with_header, with_lengths, by_rank, bases_of};
@@ -164,7 +164,7 @@ fn push_header<A: Allocator + Copy>(
     header: Header,
     text: &[u8],
 ) -> Result<(), AllocError>
-    requires fresh { place_of headers.old name.now ≡ None }
+    requires fresh { name_index headers.old name.now ≡ None }
     ensures ok { OnOk result (headers.new ≡ headers.old ++ (name.now, header) ∷ []) }
     ensures err { OnErr result (headers.new ≡ headers.old) }
 {

@@ -7,7 +7,7 @@ use crate::records::{count_columns, first_record};
 use crate::words::put_words;
 use itoa::Buffer;
 use iv_args::{Plan, Slot};
-use iv_cli::Ending;
+use iv_cli::ExitReason;
 use iv_text::{LoadCause, LoadFault};
 use std::alloc::{AllocError, Global};
 
@@ -20,25 +20,25 @@ use std::alloc::{AllocError, Global};
 pub fn hint_of<F: HintFiles>(
     alloc: Global,
     words: &[&[u8]],
-    ending: Ending,
+    exit_reason: ExitReason,
     line: u64,
     files: &mut F,
 ) -> Result<Hint, AllocError> {
     let mut hint = Hint::new(alloc);
-    match (ending, Plan::read(alloc, words)) {
-        (Ending::Refused, _) => {}
-        (Ending::Words(16), _) => put_words(alloc, words, &mut hint)?,
-        (Ending::InputUnreadable, _) => {
+    match (exit_reason, Plan::read(alloc, words)) {
+        (ExitReason::Refused, _) => {}
+        (ExitReason::Words(16), _) => put_words(alloc, words, &mut hint)?,
+        (ExitReason::InputUnreadable, _) => {
             put_script_line(line, b": the input failed there", &mut hint)?;
         }
-        (Ending::InputTooLong, _) => put_script_line(
+        (ExitReason::InputTooLong, _) => put_script_line(
             line,
             b": a script has at most 4000000 lines of at most 1048576 bytes",
             &mut hint,
         )?,
-        (Ending::Output, _) => put_output(line, &mut hint)?,
-        (Ending::Memory, _) => hint.line(&[IN_PARTS])?,
-        (_, Ok(plan)) => put_of_plan(alloc, &plan, ending, files, &mut hint)?,
+        (ExitReason::Output, _) => put_output(line, &mut hint)?,
+        (ExitReason::Memory, _) => hint.line(&[IN_PARTS])?,
+        (_, Ok(plan)) => put_of_plan(alloc, &plan, exit_reason, files, &mut hint)?,
         (_, Err(_)) => {}
     }
     Ok(hint)
@@ -49,9 +49,9 @@ pub fn hint_of<F: HintFiles>(
 /// # Errors
 ///
 /// An allocation failed.
-pub fn hint_of_no_words(alloc: Global, ending: Ending) -> Result<Hint, AllocError> {
+pub fn hint_of_no_words(alloc: Global, exit_reason: ExitReason) -> Result<Hint, AllocError> {
     let mut hint = Hint::new(alloc);
-    if matches!(ending, Ending::Words(_)) {
+    if matches!(exit_reason, ExitReason::Words(_)) {
         hint.line(&[b"a word of the command line isn't UTF-8 text: give the file another name"])?;
     }
     Ok(hint)
@@ -97,20 +97,20 @@ fn put_output(line: u64, hint: &mut Hint) -> Result<(), AllocError> {
 fn put_of_plan<F: HintFiles>(
     alloc: Global,
     plan: &Plan<'_>,
-    ending: Ending,
+    exit_reason: ExitReason,
     files: &mut F,
     hint: &mut Hint,
 ) -> Result<(), AllocError> {
-    let name = ending.file_meant(plan);
-    match ending {
-        Ending::Done => put_loss(alloc, plan, files, hint),
-        Ending::Damaged(slot, fault) if fault.cause == LoadCause::TooMany => {
+    let name = exit_reason.file_meant(plan);
+    match exit_reason {
+        ExitReason::Done => put_loss(alloc, plan, files, hint),
+        ExitReason::Damaged(slot, fault) if fault.cause == LoadCause::TooMany => {
             put_too_many(slot, hint)
         }
-        Ending::Damaged(slot, fault) => put_damage(alloc, plan, slot, fault, files, hint),
-        Ending::Unreadable(_) if matches!(name, b"-" | b"stdin") => put_stdin(plan, hint),
-        Ending::Unreadable(_) => put_unreadable(name, files, hint),
-        Ending::TooLong(_) => {
+        ExitReason::Damaged(slot, fault) => put_damage(alloc, plan, slot, fault, files, hint),
+        ExitReason::Unreadable(_) if matches!(name, b"-" | b"stdin") => put_stdin(plan, hint),
+        ExitReason::Unreadable(_) => put_unreadable(name, files, hint),
+        ExitReason::TooLong(_) => {
             hint.line(&[b"a file has at most 4294967295 bytes"])?;
             hint.line(&[IN_PARTS])
         }

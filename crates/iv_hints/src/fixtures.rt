@@ -1,8 +1,8 @@
 //! Files in memory, and hints over them.
-use crate::ending::hint_of;
+use crate::exit_reason::hint_of;
 use crate::files::{HintFiles, NoFile};
 use iv_bytes::MemSource;
-use iv_cli::Ending;
+use iv_cli::ExitReason;
 use std::alloc::{AllocError, Global};
 
 /// A file in memory.
@@ -35,11 +35,11 @@ impl<'a> HintFiles for MemHintFiles<'a> {
 pub(crate) fn hints(
     alloc: Global,
     words: &[&[u8]],
-    ending: Ending,
+    exit_reason: ExitReason,
     files: &[Named<'_>],
     expected: &[u8],
 ) -> Result<bool, AllocError> {
-    let hint = hint_of(alloc, words, ending, 7, &mut MemHintFiles { files })?;
+    let hint = hint_of(alloc, words, exit_reason, 7, &mut MemHintFiles { files })?;
     let is_plain = hint
         .bytes()
         .iter()

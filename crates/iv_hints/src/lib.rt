@@ -4,7 +4,7 @@
 #![tactic(auto)]
 
 mod damage;
-mod ending;
+mod exit_reason;
 mod file_kinds;
 mod files;
 #[cfg(test)]
@@ -19,6 +19,6 @@ mod tests;
 mod vocabulary;
 mod words;
 
-pub use ending::{hint_of, hint_of_no_words, hint_of_session};
+pub use exit_reason::{hint_of, hint_of_no_words, hint_of_session};
 pub use files::{HintFiles, NoFile};
 pub use hint::Hint;

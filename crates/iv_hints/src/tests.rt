@@ -1,7 +1,7 @@
 //! Hints, each beside what it is a hint on.
 use crate::fixtures::{Named, hints, words_of};
 use iv_args::Slot;
-use iv_cli::Ending;
+use iv_cli::ExitReason;
 use iv_text::{Fault, LoadCause, LoadFault};
 use std::alloc::{AllocError, Global};
 use std::test::Fail;
@@ -127,7 +127,7 @@ fn are_hints_on_words(rt: &HostRuntime, table: &[(&[u8], &[u8])]) -> Result<bool
         if !hints(
             rt.alloc(),
             words.as_slice(),
-            Ending::Words(16),
+            ExitReason::Words(16),
             &[],
             hint.as_slice(),
         )? {
@@ -266,7 +266,7 @@ fn are_hints_on_damage(
             },
             Named { name: b"a", bytes },
         ];
-        let ending = Ending::Damaged(
+        let exit_reason = ExitReason::Damaged(
             Slot::First,
             LoadFault {
                 line: *line,
@@ -277,7 +277,7 @@ fn are_hints_on_damage(
         if !hints(
             rt.alloc(),
             words.as_slice(),
-            ending,
+            exit_reason,
             &files,
             hint.as_slice(),
         )? {
@@ -294,55 +294,55 @@ fn hints_on_damaged_files(rt: HostRuntime) -> Result<(), Fail> {
 }
 
 /// Words, how their run ended, and the hint on it, over the files below.
-const OTHERS: &[(&[u8], Ending, &[u8])] = &[
+const OTHERS: &[(&[u8], ExitReason, &[u8])] = &[
     (
         b"merge -g g -i -",
-        Ending::Unreadable(Slot::First),
+        ExitReason::Unreadable(Slot::First),
         b"standard input as a file is /dev/stdin",
     ),
     (
         b"session -g g -i -",
-        Ending::Unreadable(Slot::First),
+        ExitReason::Unreadable(Slot::First),
         b"standard input is the script: <(..) of bash is a file too",
     ),
     (
         b"merge -g g -i none",
-        Ending::Unreadable(Slot::First),
+        ExitReason::Unreadable(Slot::First),
         b"there is no such file",
     ),
     (
         b"merge -g folder -i a",
-        Ending::Unreadable(Slot::Sizes),
+        ExitReason::Unreadable(Slot::Sizes),
         b"it is a directory, and no file",
     ),
     (
         b"merge -g g -i secret",
-        Ending::Unreadable(Slot::First),
+        ExitReason::Unreadable(Slot::First),
         b"the system doesn't allow to read it: ls -l shows whose it is",
     ),
     (
         b"merge -g g -i a -c 6",
-        Ending::Words(17),
+        ExitReason::Words(17),
         b"the records of a have so many columns: 5; -c counts from 1, and -s needs six",
     ),
     (
         b"session -g g -i a",
-        Ending::InputTooLong,
+        ExitReason::InputTooLong,
         b"line 7 of the script: a script has at most 4000000 lines of at most 1048576 bytes",
     ),
     (
         b"merge -g zero -i a",
-        Ending::Done,
+        ExitReason::Done,
         b"all lengths of the genome file are 0; it looks like a BED file: cut -f1,3 makes a genome file of it",
     ),
     (
         b"merge -g g -i a -c 4,5 -o count,sum",
-        Ending::Done,
+        ExitReason::Done,
         b"column 5 has 2.5: sum reads whole numbers alone, and prints . for a block with another value",
     ),
     (
         b"getfasta -g g -bed a -fi bare",
-        Ending::Done,
+        ExitReason::Done,
         b"the FASTA file has no chr1 (its first sequence is 1), and getfasta prints nothing for it\n  names have to be the same: sed 's/^>/>chr/' or sed 's/^>chr/>/'",
     ),
 ];
@@ -372,14 +372,14 @@ const FILES: &[Named<'static>] = &[
 ];
 
 /// Whether the hints on other endings are these.
-fn are_hints(rt: &HostRuntime, table: &[(&[u8], Ending, &[u8])]) -> Result<bool, Fail> {
-    for (text, ending, expected) in table {
+fn are_hints(rt: &HostRuntime, table: &[(&[u8], ExitReason, &[u8])]) -> Result<bool, Fail> {
+    for (text, exit_reason, expected) in table {
         let words = words_of(rt.alloc(), text)?;
         let hint = hint_text(rt.alloc(), expected)?;
         if !hints(
             rt.alloc(),
             words.as_slice(),
-            *ending,
+            *exit_reason,
             FILES,
             hint.as_slice(),
         )? {
@@ -408,7 +408,7 @@ const SOUND: &[&[u8]] = &[
 fn are_quiet(rt: &HostRuntime, table: &[&[u8]]) -> Result<bool, Fail> {
     for text in table {
         let words = words_of(rt.alloc(), text)?;
-        if !hints(rt.alloc(), words.as_slice(), Ending::Done, FILES, b"")? {
+        if !hints(rt.alloc(), words.as_slice(), ExitReason::Done, FILES, b"")? {
             return Ok(false);
         }
     }

@@ -14,15 +14,15 @@ use Rattle.iv_text.specs.Read.{IsOnGenome}
 use Rattle.iv_text.specs.RecordValue.{RecordValue, beside_cmp, record_cmp}
 use Rattle.iv_text.proofs.OrderedLemmas.{ordered-in_order, rows-alone}
 use Rattle.iv_index.specs.Locators.{bare}
-use Rattle.iv_index.specs.Inside.Locators.{row_at, rows_at}
+use Rattle.iv_index.specs.Inside.Locators.{record_at, records_at}
 use Rattle.iv_index.specs.declared.locator.Locator.{Locator}
 
 -- ---- records of locators
 
 -- at width 3 the records of locators are bare
-pub rows-bare : (w : ℕ) (text : List ℕ) (places : List Locator) → rows_at 3 text places ≡ map bare (rows_at w text places)
+pub rows-bare : (w : ℕ) (text : List ℕ) (locators : List Locator) → records_at 3 text locators ≡ map bare (records_at w text locators)
 rows-bare w text [] = refl
-rows-bare w text (p ∷ places) = ap (λ (l : List RecordValue). row_at 3 text p ∷ l) (rows-bare w text places)
+rows-bare w text (p ∷ locators) = ap (λ (l : List RecordValue). record_at 3 text p ∷ l) (rows-bare w text locators)
 
 -- ---- on the genome
 

@@ -6,7 +6,7 @@ use Rattle.iv_index.specs.declared.locator.Locator.{Locator}
 
 -- a call on a locator and the last one that stays: it answers whether they touch, leaves the first, and joins it to the last if they do
 abbrev pub Joins : Locator → Locator → Bool → Locator → Locator → Type 0
-Joins place last answer place' last' = (answer ≡ touches last place) × (place' ≡ place) × (last' ≡ cond (touches last place) (grown last place) last)
+Joins locator last answer locator' last' = (answer ≡ touches last locator) × (locator' ≡ locator) × (last' ≡ cond (touches last locator) (grown last locator) last)
 
 module _ {S : Type 0} (R : S → Locator → Locator → Bool → S → Locator → Locator → Type 0) (calls : (s : S) (x k : Locator) (b : Bool) (t : S) (x' k' : Locator) → R s x k b t x' k' → Joins x k b x' k') where
   -- what is left of the locators after x, by what the call gave

@@ -15,12 +15,12 @@ use Rattle.iv_index.specs.Cover.{is_covered}
 use Rattle.iv_index.specs.Inside.Cover.{AreApart}
 use Rattle.iv_index.specs.Inside.Joins.{touches, grown, joined, joined_from}
 use Rattle.iv_index.specs.Locators.{bare}
-use Rattle.iv_index.specs.Inside.Locators.{HasBase, row_at, rows_at}
+use Rattle.iv_index.specs.Inside.Locators.{HasBase, record_at, records_at}
 use Rattle.iv_index.specs.declared.locator.Locator.{Locator}
 
 -- the locator covers position p of the sequence of this rank
 abbrev on : ℕ → ℕ → Locator → Bool
-on seq p place = (place.span.seq == seq) && (nat_le place.span.start p && nat_lt p place.span.stop)
+on seq p locator = (locator.span.seq == seq) && (nat_le locator.span.start p && nat_lt p locator.span.stop)
 
 -- b doesn't start before a
 abbrev Before : Locator → Locator → Type 0
@@ -64,7 +64,7 @@ cover-joined : (seq p : ℕ) (xs : List Locator) → InTurn Before xs → list_a
 cover-joined seq p [] turn = refl
 cover-joined seq p (x ∷ xs) turn = cover_from seq p x xs turn
 
-cover-rows : (w : ℕ) (text : List ℕ) (seq p : ℕ) (xs : List Locator) → is_covered (rows_at w text xs) seq p ≡ list_any (on seq p) xs
+cover-rows : (w : ℕ) (text : List ℕ) (seq p : ℕ) (xs : List Locator) → is_covered (records_at w text xs) seq p ≡ list_any (on seq p) xs
 cover-rows w text seq p [] = refl
 cover-rows w text seq p (x ∷ xs) = ap (λ b. on seq p x || b) (cover-rows w text seq p xs)
 
@@ -134,11 +134,11 @@ before a b h = elim (precedes-from a b h) [
   | inr same ↦ (omega (arith, same.0), λ e. same.1)
 ]
 
-each-before : (w : ℕ) (text : List ℕ) (x : Locator) (xs : List Locator) → AllByRecursion (λ y. is_le (record_cmp (row_at w text x) y) ≡ true) (rows_at w text xs) → AllByRecursion (Before x) xs
+each-before : (w : ℕ) (text : List ℕ) (x : Locator) (xs : List Locator) → AllByRecursion (λ y. is_le (record_cmp (record_at w text x) y) ≡ true) (records_at w text xs) → AllByRecursion (Before x) xs
 each-before w text x [] all = tt
-each-before w text x (y ∷ ys) all = (before (row_at w text x) (row_at w text y) all.0, each-before w text x ys all.1)
+each-before w text x (y ∷ ys) all = (before (record_at w text x) (record_at w text y) all.0, each-before w text x ys all.1)
 
-in-turn : (w : ℕ) (text : List ℕ) (xs : List Locator) → AreInOrder (rows_at w text xs) → InTurn Before xs
+in-turn : (w : ℕ) (text : List ℕ) (xs : List Locator) → AreInOrder (records_at w text xs) → InTurn Before xs
 in-turn w text [] order = tt
 in-turn w text (x ∷ xs) order = (each-before w text x xs order.0, in-turn w text xs order.1)
 
@@ -151,37 +151,37 @@ row-le a b low starts = elim (cases_lt a.seq b.seq) [
       rw (tied, lt-ltb a.start b.start (starts same)) refl
 ]
 
-each-after : (w : ℕ) (text : List ℕ) (x : Locator) (xs : List Locator) → HasBase x → AllByRecursion (Past x) xs → AllByRecursion (λ y. is_le (record_cmp (row_at w text x) y) ≡ true) (rows_at w text xs)
+each-after : (w : ℕ) (text : List ℕ) (x : Locator) (xs : List Locator) → HasBase x → AllByRecursion (Past x) xs → AllByRecursion (λ y. is_le (record_cmp (record_at w text x) y) ≡ true) (records_at w text xs)
 each-after w text x [] some all = tt
 each-after w text x (y ∷ ys) some all = (
-  row-le (row_at w text x) (row_at w text y) all.0.0 (λ same. let far : x.span.stop < y.span.start = all.0.1 same in omega arith),
+  row-le (record_at w text x) (record_at w text y) all.0.0 (λ same. let far : x.span.stop < y.span.start = all.0.1 same in omega arith),
   each-after w text x ys some all.1,
 )
 
-order-apart : (w : ℕ) (text : List ℕ) (xs : List Locator) → AllByRecursion HasBase xs → InTurn Past xs → AreInOrder (rows_at w text xs)
+order-apart : (w : ℕ) (text : List ℕ) (xs : List Locator) → AllByRecursion HasBase xs → InTurn Past xs → AreInOrder (records_at w text xs)
 order-apart w text [] some turn = tt
 order-apart w text (x ∷ xs) some turn = (each-after w text x xs some.0 turn.0, order-apart w text xs some.1 turn.1)
 
-each-apart : (w : ℕ) (text : List ℕ) (x : Locator) (xs : List Locator) → AllByRecursion (Past x) xs → AllByRecursion (λ (y : RecordValue). x.span.seq ≡ y.seq → x.span.stop < y.start) (rows_at w text xs)
+each-apart : (w : ℕ) (text : List ℕ) (x : Locator) (xs : List Locator) → AllByRecursion (Past x) xs → AllByRecursion (λ (y : RecordValue). x.span.seq ≡ y.seq → x.span.stop < y.start) (records_at w text xs)
 each-apart w text x [] all = tt
 each-apart w text x (y ∷ ys) all = (all.0.1, each-apart w text x ys all.1)
 
-rows-apart : (w : ℕ) (text : List ℕ) (xs : List Locator) → InTurn Past xs → AreApart (rows_at w text xs)
+rows-apart : (w : ℕ) (text : List ℕ) (xs : List Locator) → InTurn Past xs → AreApart (records_at w text xs)
 rows-apart w text [] turn = λ i j d low high. absurd (omega arith)
 rows-apart w text (x ∷ xs) turn =
-    AllPairs-cons (λ (a b : RecordValue). a.seq ≡ b.seq → a.stop < b.start) (row_at w text x) (rows_at w text xs)
-    (All-from_recursion (λ (y : RecordValue). x.span.seq ≡ y.seq → x.span.stop < y.start) (rows_at w text xs) (each-apart w text x xs turn.0)) (rows-apart w text xs turn.1)
+    AllPairs-cons (λ (a b : RecordValue). a.seq ≡ b.seq → a.stop < b.start) (record_at w text x) (records_at w text xs)
+    (All-from_recursion (λ (y : RecordValue). x.span.seq ≡ y.seq → x.span.stop < y.start) (records_at w text xs) (each-apart w text x xs turn.0)) (rows-apart w text xs turn.1)
 
 -- the records of joined locators cover what those of the locators do
-pub covered-joined : (w v : ℕ) (text : List ℕ) (xs : List Locator) → AreInOrder (rows_at w text xs) → (seq p : ℕ) → is_covered (rows_at v text (joined xs)) seq p ≡ is_covered (rows_at w text xs) seq p
+pub covered-joined : (w v : ℕ) (text : List ℕ) (xs : List Locator) → AreInOrder (records_at w text xs) → (seq p : ℕ) → is_covered (records_at v text (joined xs)) seq p ≡ is_covered (records_at w text xs) seq p
 covered-joined w v text xs order seq p = cover-rows v text seq p (joined xs) ∙ cover-joined seq p xs (in-turn w text xs order) ∙ sym (cover-rows w text seq p xs)
 
 -- they are apart
-pub rows-joined_apart : (w v : ℕ) (text : List ℕ) (xs : List Locator) → AreInOrder (rows_at w text xs) → AreApart (rows_at v text (joined xs))
+pub rows-joined_apart : (w v : ℕ) (text : List ℕ) (xs : List Locator) → AreInOrder (records_at w text xs) → AreApart (records_at v text (joined xs))
 rows-joined_apart w v text xs order = rows-apart v text (joined xs) (apart-joined xs (in-turn w text xs order))
 
 -- they are in order
-pub rows-joined_order : (w v : ℕ) (text : List ℕ) (xs : List Locator) → All HasBase xs → AreInOrder (rows_at w text xs) → AreInOrder (rows_at v text (joined xs))
+pub rows-joined_order : (w v : ℕ) (text : List ℕ) (xs : List Locator) → All HasBase xs → AreInOrder (records_at w text xs) → AreInOrder (records_at v text (joined xs))
 rows-joined_order w v text xs some order = order-apart v text (joined xs) (bases xs (recursion_from_All HasBase xs some)) (apart-joined xs (in-turn w text xs order))
 
 -- records in three columns are what they are in three columns

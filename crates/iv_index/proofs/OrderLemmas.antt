@@ -18,7 +18,7 @@ use Rattle.std.specs.Cmp.Lexicographic.{slice_cmp}
 use Rattle.std.specs.Option.{option_cmp}
 use Rattle.iv_text.proofs.OrderedLemmas.{ordered-sorted}
 use Rattle.iv_text.specs.Ordered.{ordered}
-use Rattle.iv_text.specs.RecordValue.{RecordValue, beside_cmp, record_cmp, rows_total, strand_cmp}
+use Rattle.iv_text.specs.RecordValue.{RecordValue, beside_cmp, record_cmp, records_total, strand_cmp}
 use Rattle.iv_text.specs.declared.record_ref.Strand.{Strand}
 
 pub then_equal : (o : Ordering) → ordering_then o Equal ≡ o
@@ -77,7 +77,7 @@ pub sorted-by-rows : {X F : Type 0} {g : Mut F (Bor X × (Bor X × Unit {0})) Or
     → ((a : Bor X × (Bor X × Unit {0})) (r : Ordering) (f' : F) → Called g f a r f' → (r ≡ record_cmp (row a.0.now) (row a.1.0.now)) × (f' ≡ f))
     → IsSortedBy (λ x y. is_lt (record_cmp (row x) (row y))) ps
 sorted-by-rows {g = g} {f = f} row ps up h =
-    up (λ x y. is_lt (record_cmp (row x) (row y))) (ranks_by rows_total row)
+    up (λ x y. is_lt (record_cmp (row x) (row y))) (ranks_by records_total row)
     (always_returns_same g (λ a r. is_lt r ≡ is_lt (record_cmp (row a.0.now) (row a.1.0.now))) f (λ a r f' k. (ap is_lt (h a r f' k).0, (h a r f' k).1)))
 
 -- what `is_sorted_by` says of its closure, if each call answers whether the second doesn't belong in front of the first

@@ -18,7 +18,7 @@ use Rattle.iv_text.specs.declared.fault.Fault.{Fault}
 use Rattle.iv_text.specs.declared.fault.Fault.TheVariants as fault
 use Rattle.iv_text.specs.declared.fault.LoadFault.{LoadFault}
 use Rattle.iv_index.proofs.LocatorLemmas.{line-is}
-use Rattle.iv_index.specs.Inside.Locators.{HasBase, line_at, locator_at, row_of, row_at, rows_at}
+use Rattle.iv_index.specs.Inside.Locators.{HasBase, line_at, locator_at, row_of, record_at, records_at}
 use Rattle.iv_index.specs.Inside.Drafts.{AreLocators}
 use Rattle.iv_index.specs.declared.locator.Locator.{Locator}
 
@@ -57,8 +57,8 @@ wanted {X} k w x d beyond = by (nat_le k w) refl
     by false e = sym (beyond (grind (arith, nat_tests, e)))
 
 -- the record of a line is that of its locator
-pub place-row : (g : Sequences) (w : ℕ) (line : List ℕ) (r : RecordValue) (p : Locator) → read g w line ≡ Ok r → p.span.seq ≡ r.seq → p.span.start ≡ r.start → p.span.stop ≡ r.stop → r ≡ row_of w line p
-place-row g w line r p says rank start stop =
+pub locator-row : (g : Sequences) (w : ℕ) (line : List ℕ) (r : RecordValue) (p : Locator) → read g w line ≡ Ok r → p.span.seq ≡ r.seq → p.span.start ≡ r.start → p.span.stop ≡ r.stop → r ≡ row_of w line p
+locator-row g w line r p says rank start stop =
     let cs = columns line in
     let is : row g w cs ≡ r = row-is g w line r says in
     let count : length cs ≡ w = count-is g w line r says in
@@ -86,29 +86,29 @@ line-within text at line others are = by (nat_le (length text) at) refl
     by false e = grind (arith, nat_tests, e)
 
 -- records that fit have a base
-fits-base : (g : Sequences) (w v : ℕ) (text : List ℕ) (ps : List Locator) → All (Fits g w) (rows_at v text ps) → All HasBase ps
+fits-base : (g : Sequences) (w v : ℕ) (text : List ℕ) (ps : List Locator) → All (Fits g w) (records_at v text ps) → All HasBase ps
 fits-base g w v text [] fit = All-nil HasBase
 fits-base g w v text (p ∷ ps) fit =
-    All-cons HasBase p ps (All-head (Fits g w) (row_at v text p) (rows_at v text ps) fit).is_placed.some (fits-base g w v text ps (All-tail (Fits g w) (row_at v text p) (rows_at v text ps) fit))
+    All-cons HasBase p ps (All-head (Fits g w) (record_at v text p) (records_at v text ps) fit).is_placed.some (fits-base g w v text ps (All-tail (Fits g w) (record_at v text p) (records_at v text ps) fit))
 
 -- records of one width are those of that width
-rows-in : (g : Sequences) (w : ℕ) (text : List ℕ) (ps : List Locator) → All (Fits g w) (map (row_in text) ps) → map (row_in text) ps ≡ rows_at w text ps
+rows-in : (g : Sequences) (w : ℕ) (text : List ℕ) (ps : List Locator) → All (Fits g w) (map (row_in text) ps) → map (row_in text) ps ≡ records_at w text ps
 rows-in g w text [] fit = refl
 rows-in g w text (p ∷ ps) fit =
     let wide : length (columns (line_at text p.line)) ≡ w = (All-head (Fits g w) (row_in text p) (map (row_in text) ps) fit).width_is in
     λ i. row_of (wide i) (line_at text p.line) p ∷ rows-in g w text ps (All-tail (Fits g w) (row_in text p) (map (row_in text) ps) fit) i
 
 -- the locators are those of the records of the text
-pub record AreRead (g : Sequences) (limit empty : ℕ) (text : List ℕ) (w : ℕ) (places : List Locator) : Type 0 where
-  pub says : bed_of g empty limit text ≡ Ok (record { width = w; rows = rows_at w text places })
-  pub fit : All (Fits g w) (rows_at w text places)
-  pub few : length (rows_at w text places) ≤ limit
-  pub places_are : AreLocators w places
+pub record AreRead (g : Sequences) (limit empty : ℕ) (text : List ℕ) (w : ℕ) (locators : List Locator) : Type 0 where
+  pub says : bed_of g empty limit text ≡ Ok (record { width = w; rows = records_at w text locators })
+  pub fit : All (Fits g w) (records_at w text locators)
+  pub few : length (records_at w text locators) ≤ limit
+  pub places_are : AreLocators w locators
 
 module _ (g : Sequences) (limit empty : ℕ) (text : List ℕ) (small : length text < 2 ^ 32) where
   -- a locator that is held shows the record of its line
-  shows-places : Shows locator_at g (λ r. r) (row_in text) 0 text
-  shows-places = record {
+  shows-locators : Shows locator_at g (λ r. r) (row_in text) 0 text
+  shows-locators = record {
     again = λ r. refl;
     shows = λ skipped w line others r are reads.
         let p : Locator = locator_at r (byte_after 0 skipped) in
@@ -117,7 +117,7 @@ module _ (g : Sequences) (limit empty : ℕ) (text : List ℕ) (small : length t
         let line_is : line_at text p.line ≡ line = ap (line_at text) at ∙ line-is text skipped line others are in
         ap (λ (l : List ℕ). row_of (length (columns l)) l p) line_is
         ∙ ap (λ (n : ℕ). row_of n line p) (count-is g w line r reads)
-        ∙ sym (place-row g w line r p reads refl refl refl);
+        ∙ sym (locator-row g w line r p reads refl refl refl);
   }
 
   -- the BED file of the text is what is known once its lines were read
@@ -131,7 +131,7 @@ module _ (g : Sequences) (limit empty : ℕ) (text : List ℕ) (small : length t
   pub text-refused : (old : Held Locator) (f : LoadFault) → old ≡ none_held → RefusesLines locator_at g limit old text f → bed_of g empty limit text ≡ Err f
   text-refused old f none refuses =
       let begun_refuses : RefusesLines locator_at g limit none_held text f = subst (λ (h : Held Locator). RefusesLines locator_at g limit h text f) none refuses in
-      says (Err f) (begun_refuses (λ r. r) (row_in text) shows-places [])
+      says (Err f) (begun_refuses (λ r. r) (row_in text) shows-locators [])
 
   pub text-read : (old now : Held Locator) → old ≡ none_held → TakesLines locator_at g limit old now text → 3 ≤ empty → empty ≤ 6
       → AreRead g limit empty text (unwrap_or now.width empty) now.kept
@@ -139,12 +139,12 @@ module _ (g : Sequences) (limit empty : ℕ) (text : List ℕ) (small : length t
       let w : ℕ = unwrap_or now.width empty in
       let rows : List RecordValue = map (row_in text) now.kept in
       let begun_takes : TakesLines locator_at g limit none_held now text = subst (λ (h : Held Locator). TakesLines locator_at g limit h now text) none takes in
-      let taken = begun_takes (λ r. r) (row_in text) shows-places in
+      let taken = begun_takes (λ r. r) (row_in text) shows-locators in
       let sound : AreSound (λ r. r) g limit (shown (row_in text) now) = taken.0 (begun-sound (λ r. r) g limit) in
       let wide = sound-kept (λ r. r) g limit (shown (row_in text) now) empty sound low high in
       let fit : All (Fits g w) rows = fit-all g w rows wide.2 in
-      let same : rows ≡ rows_at w text now.kept = rows-in g w text now.kept fit in
-      let fit_at : All (Fits g w) (rows_at w text now.kept) = subst (All (Fits g w)) same fit in
+      let same : rows ≡ records_at w text now.kept = rows-in g w text now.kept fit in
+      let fit_at : All (Fits g w) (records_at w text now.kept) = subst (All (Fits g w)) same fit in
       record {
         says =
             says (Ok (record { width = now.width; rows = map (λ r. r) rows })) (taken.1 [])

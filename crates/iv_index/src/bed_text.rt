@@ -18,23 +18,23 @@ use std::alloc::{AllocError, Allocator, Global};
 use std::marker::Model;
 
 /// Joins a locator to one that doesn't start past it, if the two overlap or are book-ended, and answers whether they do.
-fn take_in(last: &mut Locator, place: &Locator) -> bool
-    ensures touches { result ≡ touches last.old place.now }
-    ensures new { last.new ≡ cond (touches last.old place.now) (grown last.old place.now) last.old }
+fn take_in(last: &mut Locator, locator: &Locator) -> bool
+    ensures touches { result ≡ touches last.old locator.now }
+    ensures new { last.new ≡ cond (touches last.old locator.now) (grown last.old locator.now) last.old }
 {
-    if last.span.seq != place.span.seq || last.span.stop < place.span.start {
+    if last.span.seq != locator.span.seq || last.span.stop < locator.span.start {
         return false;
     }
-    last.span.stop = last.span.stop.max(place.span.stop);
+    last.span.stop = last.span.stop.max(locator.span.stop);
     true
 }
 
 /// Joins locators that are in order, each to the one before it if the two overlap or are book-ended. It is one pass,
 /// and takes no memory.
-pub(crate) fn join_locators<A: Allocator>(places: &mut Vec<Locator, A>)
-    ensures { places.new.items ≡ joined places.old.items }
+pub(crate) fn join_locators<A: Allocator>(locators: &mut Vec<Locator, A>)
+    ensures { locators.new.items ≡ joined locators.old.items }
 {
-    places.dedup_by(|place, last| take_in(last, place));
+    locators.dedup_by(|locator, last| take_in(last, locator));
 }
 
 /// The records of a BED file, in the order of the file or of a track, all of one width.
@@ -44,20 +44,20 @@ pub(crate) fn join_locators<A: Allocator>(places: &mut Vec<Locator, A>)
 #[derive(Drop)]
 pub struct BedText<'t, A: Allocator = Global> {
     text: &'t [u8],
-    places: Vec<Locator, A>,
+    locators: Vec<Locator, A>,
     width: u8,
 }
 
 impl<'t, A: Allocator> Model for BedText<'t, A> {
     ghost use Rattle.iv_text.specs.BedFile.{Bed};
     ghost use Rattle.iv_index.specs.Inside.Drafts.{AreLocators};
-    ghost use Rattle.iv_index.specs.Inside.Locators.{rows_at};
+    ghost use Rattle.iv_index.specs.Inside.Locators.{records_at};
 
     ghost Value = { Bed };
 
-    ghost view = { λ b. record { width = b.width; rows = rows_at b.width b.text.now b.places.items } };
+    ghost view = { λ b. record { width = b.width; rows = records_at b.width b.text.now b.locators.items } };
 
-    ghost invariant = { λ b. AreLocators b.width b.places.items };
+    ghost invariant = { λ b. AreLocators b.width b.locators.items };
 }
 
 impl<'t, A: Allocator + Copy> BedText<'t, A> {
@@ -83,11 +83,11 @@ impl<'t, A: Allocator + Copy> BedText<'t, A> {
     {
         let mut lines: BedLines<Locator, A> = BedLines::new(alloc);
         lines.take_lines(alloc, genome, limit, text)?;
-        let (width, places) = lines.finish();
-        let places = places.into_vec()?;
+        let (width, locators) = lines.finish();
+        let locators = locators.into_vec()?;
         Ok(BedText {
             text,
-            places,
+            locators,
             width: width.unwrap_or(empty_width),
         })
     }
@@ -104,7 +104,7 @@ impl<'t, A: Allocator + Copy> BedText<'t, A> {
     pub fn records(&self) -> TextRecords<'_>
         ensures { result ≡ self.now.rows }
     {
-        TextRecords::of_locators(self.text, self.places.as_slice(), self.width)
+        TextRecords::of_locators(self.text, self.locators.as_slice(), self.width)
     }
 
     /// Drops the columns after the third: only the interval of each record remains.
@@ -125,11 +125,11 @@ impl<'t, A: Allocator + Copy> BedText<'t, A> {
     {
         let text = self.text;
         let width = self.width;
-        if are_in_order(text, width, &self.places) {
+        if are_in_order(text, width, &self.locators) {
             return Ok(());
         }
-        order_locators(alloc, text, width, &mut self.places)?;
-        self.places
+        order_locators(alloc, text, width, &mut self.locators)?;
+        self.locators
             .sort_unstable_by(|first, second| compare(text, width, first, second));
         Ok(())
     }
@@ -146,7 +146,7 @@ impl<'t, A: Allocator + Copy> BedText<'t, A> {
         ensures covered { (seq p : ℕ) → is_covered self.new.rows seq p ≡ is_covered self.old.rows seq p }
         ensures apart { AreApart self.new.rows }
     {
-        join_locators(&mut self.places);
+        join_locators(&mut self.locators);
         self.drop_columns();
     }
 

@@ -4,7 +4,7 @@ ghost use Rattle.iv_text.specs.Fields.{columns as columns_of};
 ghost use Rattle.iv_text.specs.Read.{column};
 ghost use Rattle.iv_text.specs.RecordValue.{strand_of};
 ghost use Rattle.iv_index.specs.Locators.{bare};
-ghost use Rattle.iv_index.specs.Inside.Locators.{locator_at, row_of, line_at, row_at};
+ghost use Rattle.iv_index.specs.Inside.Locators.{locator_at, row_of, line_at, record_at};
 
 use crate::span::Span;
 use iv_text::{FastLine, Fields, FromRecord, RecordRef, Strand, columns, read_strand, split_line};
@@ -91,10 +91,10 @@ fn optional_columns_in(line: &[u8], width: u8) -> OptionalColumns<'_>
 }
 
 /// Name, score and strand of the record of a locator. At width 3 its line isn't looked at.
-pub(crate) fn optional_columns_of(text: &[u8], place: Locator, width: u8) -> OptionalColumns<'_>
-    ensures name { result.name.now ≡ (row_at width text.now place).name }
-    ensures score { result.score.now ≡ (row_at width text.now place).score }
-    ensures strand { result.strand ≡ (row_at width text.now place).strand }
+pub(crate) fn optional_columns_of(text: &[u8], locator: Locator, width: u8) -> OptionalColumns<'_>
+    ensures name { result.name.now ≡ (record_at width text.now locator).name }
+    ensures score { result.score.now ≡ (record_at width text.now locator).score }
+    ensures strand { result.strand ≡ (record_at width text.now locator).strand }
 {
     if width < 4 {
         return OptionalColumns {
@@ -103,7 +103,7 @@ pub(crate) fn optional_columns_of(text: &[u8], place: Locator, width: u8) -> Opt
             strand: None,
         };
     }
-    optional_columns_in(line_from(text, place.line), width)
+    optional_columns_in(line_from(text, locator.line), width)
 }
 
 /// The line that begins at a byte of a text, empty past the end.

@@ -5,8 +5,8 @@ ghost use Rattle.std.specs.Cmp.Lexicographic.{slice_cmp};
 ghost use Rattle.std.specs.Option.{option_cmp};
 ghost use Rattle.std.specs.Ordering.{nat_cmp, ordering_then};
 ghost use Rattle.iv_text.specs.RecordValue.{beside_cmp, record_cmp, strand_cmp};
-ghost use Rattle.iv_index.specs.Inside.Drafts.{AreInOrder, place_of};
-ghost use Rattle.iv_index.specs.Inside.Locators.{row_at};
+ghost use Rattle.iv_index.specs.Inside.Drafts.{AreInOrder, locator_of};
+ghost use Rattle.iv_index.specs.Inside.Locators.{record_at};
 
 use crate::locator::{Locator, OptionalColumns, optional_columns_of};
 use crate::span::compare_spans;
@@ -24,7 +24,7 @@ fn compare_columns(first: &OptionalColumns<'_>, second: &OptionalColumns<'_>) ->
 
 /// Compares the records of two locators by their columns after the third. At width 3 no line is looked at.
 fn compare_beside(text: &[u8], width: u8, first: &Locator, second: &Locator) -> Ordering
-    ensures { result ≡ beside_cmp (row_at width text.now first.now) (row_at width text.now second.now) }
+    ensures { result ≡ beside_cmp (record_at width text.now first.now) (record_at width text.now second.now) }
 {
     if width < 4 {
         return Ordering::Equal;
@@ -37,7 +37,7 @@ fn compare_beside(text: &[u8], width: u8, first: &Locator, second: &Locator) -> 
 
 /// Compares the records of two locators in the order of a track.
 pub(crate) fn compare(text: &[u8], width: u8, first: &Locator, second: &Locator) -> Ordering
-    ensures { result ≡ record_cmp (row_at width text.now first.now) (row_at width text.now second.now) }
+    ensures { result ≡ record_cmp (record_at width text.now first.now) (record_at width text.now second.now) }
 {
     let spans = compare_spans(&first.span, &second.span);
     if spans.is_ne() {
@@ -47,10 +47,10 @@ pub(crate) fn compare(text: &[u8], width: u8, first: &Locator, second: &Locator)
 }
 
 /// Whether locators are in the order of a track.
-pub(crate) fn are_in_order(text: &[u8], width: u8, places: &[Locator]) -> bool
-    ensures { IsTrue result ↔ AreInOrder width text.now places.now }
+pub(crate) fn are_in_order(text: &[u8], width: u8, locators: &[Locator]) -> bool
+    ensures { IsTrue result ↔ AreInOrder width text.now locators.now }
 {
-    places.is_sorted_by(|first, second| !compare(text, width, second, first).is_lt())
+    locators.is_sorted_by(|first, second| !compare(text, width, second, first).is_lt())
 }
 
 /// Brings locators into the order of a track, or near to it: a sort after it mostly only sees that they are in order.
@@ -61,29 +61,29 @@ pub(crate) fn order_locators<A: Allocator + Copy>(
     alloc: A,
     text: &[u8],
     width: u8,
-    places: &mut Vec<Locator, A>,
+    locators: &mut Vec<Locator, A>,
 ) -> Result<(), AllocError>
-    ensures { IsPermutation places.old.items places.new.items }
+    ensures { IsPermutation locators.old.items locators.new.items }
 {
-    order_ties(text, width, places);
-    if are_in_order(text, width, places) {
+    order_ties(text, width, locators);
+    if are_in_order(text, width, locators) {
         return Ok(());
     }
-    places.sort_unstable_by(|first, second| compare_spans(&first.span, &second.span));
-    if order_ties(text, width, places) {
+    locators.sort_unstable_by(|first, second| compare_spans(&first.span, &second.span));
+    if order_ties(text, width, locators) {
         return Ok(());
     }
-    sort_by_prefix_keys(alloc, text, width, places)
+    sort_by_prefix_keys(alloc, text, width, locators)
 }
 
 /// Moves each locator past a few others of its start that belong after it. So files that are in order except for records of
 /// one start, as most tools leave them, are then in the order of a track. It stops if there are more than a few, and answers
 /// whether it came to the end.
-fn order_ties<A: Allocator>(text: &[u8], width: u8, places: &mut Vec<Locator, A>) -> bool
-    ensures { IsPermutation places.old.items places.new.items }
+fn order_ties<A: Allocator>(text: &[u8], width: u8, locators: &mut Vec<Locator, A>) -> bool
+    ensures { IsPermutation locators.old.items locators.new.items }
 {
     order_nearly(
-        places.as_mut_slice(),
+        locators.as_mut_slice(),
         |before: &Locator, here: &Locator| -> bool {
             before.span.seq == here.span.seq
                 && before.span.start == here.span.start
@@ -96,7 +96,7 @@ fn order_ties<A: Allocator>(text: &[u8], width: u8, places: &mut Vec<Locator, A>
 #[derive(Clone, Copy)]
 pub(crate) struct PrefixKeyed {
     head: u64,
-    place: Locator,
+    locator: Locator,
 }
 
 /// Sorts locators by interval, and then by a few bytes of their names, so that hardly any comparison looks at two lines.
@@ -110,13 +110,13 @@ pub(crate) fn sort_by_prefix_keys<A: Allocator + Copy>(
     alloc: A,
     text: &[u8],
     width: u8,
-    places: &mut Vec<Locator, A>,
+    locators: &mut Vec<Locator, A>,
 ) -> Result<(), AllocError>
-    ensures { IsPermutation places.old.items places.new.items }
+    ensures { IsPermutation locators.old.items locators.new.items }
 {
-    let mut headed = with_prefix_keys(alloc, text, width, places)?;
-    headed.sort_unstable_by(|first, second| compare_headed(text, width, first, second));
-    write_locators(places, &headed);
+    let mut keyed = with_prefix_keys(alloc, text, width, locators)?;
+    keyed.sort_unstable_by(|first, second| compare_keyed(text, width, first, second));
+    write_locators(locators, &keyed);
     Ok(())
 }
 
@@ -125,30 +125,34 @@ fn with_prefix_keys<A: Allocator + Copy>(
     alloc: A,
     text: &[u8],
     width: u8,
-    places: &[Locator],
+    locators: &[Locator],
 ) -> Result<Vec<PrefixKeyed, A>, AllocError>
-    ensures { IfOk result (λ headed. map place_of headed.items ≡ places.now) }
+    ensures { IfOk result (λ keyed. map locator_of keyed.items ≡ locators.now) }
 {
-    let shared = shared_by_all(text, width, places);
-    let mut headed = Vec::with_capacity(alloc, places.len())?;
-    for place in places {
-        headed.push(PrefixKeyed {
-            head: head_of(optional_columns_of(text, *place, width).name, shared),
-            place: *place,
+    let shared = shared_by_all(text, width, locators);
+    let mut keyed = Vec::with_capacity(alloc, locators.len())?;
+    for locator in locators {
+        keyed.push(PrefixKeyed {
+            head: key_of(optional_columns_of(text, *locator, width).name, shared),
+            locator: *locator,
         })?;
     }
-    Ok(headed)
+    Ok(keyed)
 }
 
 /// How many bytes all names have in common at the front.
-fn shared_by_all(text: &[u8], width: u8, places: &[Locator]) -> usize {
-    let Some((first, others)) = places.split_first() else {
+fn shared_by_all(text: &[u8], width: u8, locators: &[Locator]) -> usize {
+    let Some((first, others)) = locators.split_first() else {
         return 0;
     };
     let first = optional_columns_of(text, *first, width).name;
     let mut shared = first.len();
-    for place in others {
-        shared = shared_by_two(first, optional_columns_of(text, *place, width).name, shared);
+    for locator in others {
+        shared = shared_by_two(
+            first,
+            optional_columns_of(text, *locator, width).name,
+            shared,
+        );
     }
     shared
 }
@@ -165,7 +169,7 @@ fn shared_by_two(first: &[u8], second: &[u8], most: usize) -> usize {
 }
 
 /// Eight bytes of a name from one on, as a number; those past its end are 0.
-fn head_of(name: &[u8], from: usize) -> u64 {
+fn key_of(name: &[u8], from: usize) -> u64 {
     let mut head = 0;
     let mut bytes = name.iter().skip(from);
     for _ in 0..8 {
@@ -175,19 +179,19 @@ fn head_of(name: &[u8], from: usize) -> u64 {
 }
 
 /// Compares by interval, then by prefix key, then by all columns.
-fn compare_headed(text: &[u8], width: u8, first: &PrefixKeyed, second: &PrefixKeyed) -> Ordering {
-    compare_spans(&first.place.span, &second.place.span)
+fn compare_keyed(text: &[u8], width: u8, first: &PrefixKeyed, second: &PrefixKeyed) -> Ordering {
+    compare_spans(&first.locator.span, &second.locator.span)
         .then(first.head.cmp(&second.head))
-        .then_with(|| compare(text, width, &first.place, &second.place))
+        .then_with(|| compare(text, width, &first.locator, &second.locator))
 }
 
 /// Writes the locators of these over as many others.
-fn write_locators<A: Allocator>(places: &mut Vec<Locator, A>, headed: &[PrefixKeyed])
-    requires { length places.old.items ≡ length headed.now }
-    ensures { places.new.items ≡ map place_of headed.now }
+fn write_locators<A: Allocator>(locators: &mut Vec<Locator, A>, keyed: &[PrefixKeyed])
+    requires { length locators.old.items ≡ length keyed.now }
+    ensures { locators.new.items ≡ map locator_of keyed.now }
 {
-    for index in 0..headed.len() {
-        places[index] = headed[index].place;
+    for index in 0..keyed.len() {
+        locators[index] = keyed[index].locator;
     }
 }
 

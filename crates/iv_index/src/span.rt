@@ -1,12 +1,12 @@
 //! The intervals of records, and the order of a track among them.
 ghost use Rattle.std.specs.Prelude.{◌≡◌, ◌↔◌, ◌≤◌, nat_lt, All, IsTrue, filter, refl};
 ghost use Rattle.std.specs.List.Sorted.{IsSortedBy};
-ghost use Rattle.iv_text.specs.Covering.{on};
+ghost use Rattle.iv_text.specs.CoveredPositions.{on};
 ghost use Rattle.iv_text.specs.Ordered.{AreInOrder, ordered};
 ghost use Rattle.iv_text.specs.RecordValue.{record_cmp};
 ghost use Rattle.iv_index.specs.Locators.{bare};
 ghost use Rattle.iv_index.specs.Inside.Locators.{span_of};
-ghost use Rattle.iv_index.specs.Inside.Spans.{row_of_span, span_lt, span_rows};
+ghost use Rattle.iv_index.specs.Inside.Spans.{record_of_span, span_lt, span_records};
 
 use crate::order::order_neighbors;
 use iv_text::{FastLine, FromRecord, RecordRef};
@@ -27,7 +27,7 @@ pub struct Span {
 impl<A: Allocator + Copy> FromRecord<A> for Span {
     ghost projected = { bare };
 
-    ghost as_record = { row_of_span };
+    ghost as_record = { record_of_span };
 
     ghost held_of = { λ r at. span_of r };
 
@@ -63,7 +63,7 @@ impl<A: Allocator + Copy> FromRecord<A> for Span {
 
 /// Compares two intervals in the order of a track.
 pub(crate) fn compare_spans(first: &Span, second: &Span) -> Ordering
-    ensures { result ≡ record_cmp (row_of_span first.now) (row_of_span second.now) }
+    ensures { result ≡ record_cmp (record_of_span first.now) (record_of_span second.now) }
 {
     if first.seq != second.seq {
         return first.seq.cmp(&second.seq);
@@ -84,7 +84,7 @@ fn are_in_order(spans: &[Span]) -> bool
 /// Sorts intervals in the order of a track: in one pass if they are sorted, or in few if only records of one start are out of
 /// order. It takes no memory.
 pub fn sort_spans<A: Allocator>(spans: &mut Vec<Span, A>)
-    ensures { span_rows spans.new.items ≡ ordered (span_rows spans.old.items) }
+    ensures { span_records spans.new.items ≡ ordered (span_records spans.old.items) }
 {
     if are_in_order(spans) {
         return;
@@ -95,10 +95,10 @@ pub fn sort_spans<A: Allocator>(spans: &mut Vec<Span, A>)
 
 /// The intervals on the sequence of this rank, and those on later ones.
 pub fn split_sequence(spans: &[Span], rank: u32) -> (&[Span], &[Span])
-    requires order { AreInOrder (span_rows spans.now) }
-    requires from { All (λ r. rank ≤ r.seq) (span_rows spans.now) }
-    ensures here { span_rows result.0.now ≡ on rank (span_rows spans.now) }
-    ensures later { span_rows result.1.now ≡ filter (λ r. nat_lt rank r.seq) (span_rows spans.now) }
+    requires order { AreInOrder (span_records spans.now) }
+    requires from { All (λ r. rank ≤ r.seq) (span_records spans.now) }
+    ensures here { span_records result.0.now ≡ on rank (span_records spans.now) }
+    ensures later { span_records result.1.now ≡ filter (λ r. nat_lt rank r.seq) (span_records spans.now) }
 {
     spans.split_at(spans.partition_point(|span| span.seq <= rank))
 }

@@ -3,8 +3,8 @@ ghost use Rattle.std.specs.Prelude.{◌≡◌, ◌<◌, ◌≤◌, ◌==◌, nat
 ghost use Rattle.std.specs.Iterator.{YieldsFirst, item_count};
 ghost use Rattle.iv_text.specs.RecordValue.{IsPlaced};
 ghost use Rattle.iv_text.specs.Ordered.{AreInOrder};
-ghost use Rattle.iv_text.specs.Covering.{on};
-ghost use Rattle.iv_index.specs.Inside.Locators.{HasBase, row_at, rows_at, span_in, span_of};
+ghost use Rattle.iv_text.specs.CoveredPositions.{on};
+ghost use Rattle.iv_index.specs.Inside.Locators.{HasBase, record_at, records_at, span_in, span_of};
 
 use crate::locator::{Locator, OptionalColumns, optional_columns_of};
 use crate::span::Span;
@@ -18,28 +18,32 @@ use std::marker::Model;
 #[derive(Debug, Drop)]
 pub struct TextRecord<'t> {
     text: &'t [u8],
-    place: Locator,
+    locator: Locator,
     width: u8,
 }
 
 impl<'t> Model for TextRecord<'t> {
     ghost use Rattle.iv_text.specs.RecordValue.{RecordValue};
-    ghost use Rattle.iv_index.specs.Inside.Locators.{HasBase, row_at};
+    ghost use Rattle.iv_index.specs.Inside.Locators.{HasBase, record_at};
 
     ghost Value = { RecordValue };
 
-    ghost view = { λ r. row_at r.width r.text.now r.place };
+    ghost view = { λ r. record_at r.width r.text.now r.locator };
 
-    ghost invariant = { λ r. HasBase r.place };
+    ghost invariant = { λ r. HasBase r.locator };
 }
 
 impl<'t> TextRecord<'t> {
     /// The record of a locator into a text.
-    pub(crate) fn of_locator(text: &'t [u8], place: Locator, width: u8) -> TextRecord<'t>
-        requires { HasBase place }
-        ensures { result ≡ row_at width text.now place }
+    pub(crate) fn of_locator(text: &'t [u8], locator: Locator, width: u8) -> TextRecord<'t>
+        requires { HasBase locator }
+        ensures { result ≡ record_at width text.now locator }
     {
-        TextRecord { text, place, width }
+        TextRecord {
+            text,
+            locator,
+            width,
+        }
     }
 
     /// The same record once more.
@@ -48,7 +52,7 @@ impl<'t> TextRecord<'t> {
     {
         TextRecord {
             text: self.text,
-            place: self.place,
+            locator: self.locator,
             width: self.width,
         }
     }
@@ -59,8 +63,8 @@ impl<'t> TextRecord<'t> {
         ensures { IsPlaced self.now }
     {
         // After this read the type's bounds are known.
-        let _seq = self.place.span.seq;
-        let _stop = self.place.span.stop;
+        let _seq = self.locator.span.seq;
+        let _stop = self.locator.span.stop;
     }
 
     /// Its columns after the third.
@@ -69,7 +73,7 @@ impl<'t> TextRecord<'t> {
         ensures score { result.score.now ≡ self.now.score }
         ensures strand { result.strand ≡ self.now.strand }
     {
-        optional_columns_of(self.text, self.place, self.width)
+        optional_columns_of(self.text, self.locator, self.width)
     }
 
     /// The strand, `None` below width 6.
@@ -84,7 +88,7 @@ impl<'t> TextRecord<'t> {
         ensures { result ≡ self.now }
     {
         let beside = self.optional_columns();
-        let Span { seq, start, stop } = self.place.span;
+        let Span { seq, start, stop } = self.locator.span;
         RecordRef::of_columns(
             seq,
             start,
@@ -101,15 +105,15 @@ impl<'t> BedRecord for TextRecord<'t> {
     ghost as_record = { λ r. r };
 
     fn seq(&self) -> u32 {
-        self.place.span.seq
+        self.locator.span.seq
     }
 
     fn start(&self) -> u64 {
-        u64::from(self.place.span.start)
+        u64::from(self.locator.span.start)
     }
 
     fn stop(&self) -> u64 {
-        u64::from(self.place.span.stop)
+        u64::from(self.locator.span.stop)
     }
 
     fn to_ref(&self) -> RecordRef<'_> {
@@ -121,31 +125,31 @@ impl<'t> BedRecord for TextRecord<'t> {
 #[derive(Debug, Drop)]
 pub struct TextRecords<'t> {
     text: &'t [u8],
-    places: &'t [Locator],
+    locators: &'t [Locator],
     width: u8,
 }
 
 impl<'t> Model for TextRecords<'t> {
     ghost use Rattle.std.specs.Prelude.{All, List};
     ghost use Rattle.iv_text.specs.RecordValue.{RecordValue};
-    ghost use Rattle.iv_index.specs.Inside.Locators.{HasBase, rows_at};
+    ghost use Rattle.iv_index.specs.Inside.Locators.{HasBase, records_at};
 
     ghost Value = { List RecordValue };
 
-    ghost view = { λ r. rows_at r.width r.text.now r.places.now };
+    ghost view = { λ r. records_at r.width r.text.now r.locators.now };
 
-    ghost invariant = { λ r. All HasBase r.places.now };
+    ghost invariant = { λ r. All HasBase r.locators.now };
 }
 
 impl<'t> TextRecords<'t> {
     /// The records of locators into a text.
-    pub(crate) fn of_locators(text: &'t [u8], places: &'t [Locator], width: u8) -> TextRecords<'t>
-        requires { All HasBase places.now }
-        ensures { result ≡ rows_at width text.now places.now }
+    pub(crate) fn of_locators(text: &'t [u8], locators: &'t [Locator], width: u8) -> TextRecords<'t>
+        requires { All HasBase locators.now }
+        ensures { result ≡ records_at width text.now locators.now }
     {
         TextRecords {
             text,
-            places,
+            locators,
             width,
         }
     }
@@ -156,7 +160,7 @@ impl<'t> TextRecords<'t> {
     {
         TextRecords {
             text: self.text,
-            places: self.places,
+            locators: self.locators,
             width: self.width,
         }
     }
@@ -165,22 +169,22 @@ impl<'t> TextRecords<'t> {
     pub fn len(&self) -> usize
         ensures { result ≡ length self.now }
     {
-        self.places.len()
+        self.locators.len()
     }
 
     /// Whether there is none.
     pub fn is_empty(&self) -> bool
         ensures { result ≡ (length self.now == 0) }
     {
-        self.places.is_empty()
+        self.locators.is_empty()
     }
 
     /// The record at an index from 0, `None` past the last.
     pub fn get(&self, index: usize) -> Option<TextRecord<'t>>
         ensures { result ≡ slice_get self.now index }
     {
-        let place = *self.places.get(index)?;
-        Some(TextRecord::of_locator(self.text, place, self.width))
+        let locator = *self.locators.get(index)?;
+        Some(TextRecord::of_locator(self.text, locator, self.width))
     }
 
     /// The first record, if there is one.
@@ -194,9 +198,9 @@ impl<'t> TextRecords<'t> {
     pub fn split_first(&self) -> Option<(TextRecord<'t>, TextRecords<'t>)>
         ensures { MatchOption result (self.now ≡ []) (λ p. self.now ≡ p.0 ∷ p.1) }
     {
-        let (place, rest) = self.places.split_first()?;
+        let (locator, rest) = self.locators.split_first()?;
         Some((
-            TextRecord::of_locator(self.text, *place, self.width),
+            TextRecord::of_locator(self.text, *locator, self.width),
             TextRecords::of_locators(self.text, rest, self.width),
         ))
     }
@@ -207,7 +211,7 @@ impl<'t> TextRecords<'t> {
         ensures front { result.0 ≡ take count self.now }
         ensures back { result.1 ≡ drop count self.now }
     {
-        let (front, back) = self.places.split_at(count);
+        let (front, back) = self.locators.split_at(count);
         (
             TextRecords::of_locators(self.text, front, self.width),
             TextRecords::of_locators(self.text, back, self.width),
@@ -221,7 +225,10 @@ impl<'t> TextRecords<'t> {
         ensures here { result.0 ≡ on rank self.now }
         ensures later { result.1 ≡ filter (λ r. nat_lt rank r.seq) self.now }
     {
-        self.split_at(self.places.partition_point(|place| place.span.seq <= rank))
+        self.split_at(
+            self.locators
+                .partition_point(|locator| locator.span.seq <= rank),
+        )
     }
 
     /// The locators of the records, in their order.
@@ -229,7 +236,7 @@ impl<'t> TextRecords<'t> {
         ensures spots { map span_in result.now ≡ map span_of self.now }
         ensures some { All HasBase result.now }
     {
-        self.places
+        self.locators
     }
 }
 
@@ -242,8 +249,8 @@ impl<'t> Iterator for TextRecords<'t> {
 
     /// The first record that is left.
     fn next(&mut self) -> Option<TextRecord<'t>> {
-        let (place, others) = self.places.split_first()?;
-        self.places = others;
-        Some(TextRecord::of_locator(self.text, *place, self.width))
+        let (locator, others) = self.locators.split_first()?;
+        self.locators = others;
+        Some(TextRecord::of_locator(self.text, *locator, self.width))
     }
 }

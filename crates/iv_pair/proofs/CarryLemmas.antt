@@ -8,7 +8,7 @@ use Rattle.iv_text.specs.RecordValue.{RecordValue, record_cmp}
 use Rattle.iv_text.specs.Ordered.{AreInOrder}
 use Rattle.iv_text.proofs.InOrderLemmas.{in_order-filter}
 use Rattle.iv_track.specs.Tracked.{is_from}
-use Rattle.iv_text.specs.Covering.{covers}
+use Rattle.iv_text.specs.CoveredPositions.{covers}
 use Rattle.iv_text.proofs.ListLemmas.{all-mem, filter-all}
 use Rattle.iv_pair.specs.Hits.{overlaps, hits}
 use Rattle.iv_pair.specs.Inside.Lengths.{AreUpTo}

@@ -5,7 +5,7 @@ use Rattle.std.proofs.lemmas.Bool.{false≢true, ne_eqb}
 use Rattle.std.proofs.lemmas.List.Elements.{All-head, All-tail}
 use Rattle.iv_text.specs.Genome.{Sequences}
 use Rattle.iv_text.specs.RecordValue.{RecordValue, part}
-use Rattle.iv_text.specs.Covering.{covers}
+use Rattle.iv_text.specs.CoveredPositions.{covers}
 use Rattle.iv_cover.specs.Depth.{depth}
 use Rattle.iv_cover.specs.Runs.{Run}
 use Rattle.iv_cover.proofs.DepthLemmas.{depth-cons}

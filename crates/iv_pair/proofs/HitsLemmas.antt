@@ -7,11 +7,11 @@ use Rattle.std.proofs.lemmas.Map.Views.{exact_unsigned_eq}
 use Rattle.iv_text.specs.Ordered.{AreInOrder}
 use Rattle.iv_text.specs.RecordValue.{RecordValue}
 use Rattle.iv_track.specs.Tracked.{is_from}
-use Rattle.iv_text.specs.Covering.{covers}
+use Rattle.iv_text.specs.CoveredPositions.{covers}
 use Rattle.iv_text.proofs.ListLemmas.{Mem, all-mem}
 use Rattle.iv_pair.specs.Hits.{overlaps, hits, hits_of}
 use Rattle.iv_pair.specs.Inside.Lengths.{AreUpTo}
-use Rattle.iv_pair.specs.Inside.Putting.{AllOverlap}
+use Rattle.iv_pair.specs.Inside.HitLines.{AllOverlap}
 use Rattle.iv_pair.proofs.PlaceLemmas.{le_pair, pair_le, filter-implied, from_all, from_whole}
 
 pub overlaps_parts : (seq start stop : ℕ) (q : RecordValue) → overlaps seq start stop q ≡ true → (q.seq ≡ seq) × (q.start < stop) × (start < q.stop)

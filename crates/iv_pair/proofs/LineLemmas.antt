@@ -3,12 +3,12 @@ use Rattle.std.proofs.Common.{◌≡◌, ◌⊎◌, inl, inr, List, [], ◌∷�
 use Rattle.std.specs.Iterator.{AlwaysYields}
 use Rattle.std.specs.List.{flat_map}
 use Rattle.iv_bytes.specs.Sinks.{SinkState, FailsIn, Puts, Takes}
-use Rattle.iv_bytes.proofs.Putting.{Underway, Underway-begin, Underway-fails, Underway-more}
+use Rattle.iv_bytes.proofs.PutLemmas.{Underway, Underway-begin, Underway-fails, Underway-more}
 use Rattle.iv_text.specs.Genome.{Sequences}
 use Rattle.iv_text.specs.RecordValue.{RecordValue}
 use Rattle.iv_pair.specs.Hits.{hits_of}
 use Rattle.iv_pair.specs.IntersectRows.{intersect_rows}
-use Rattle.iv_pair.specs.Inside.Putting.{AllOverlap, Overlaps, hit_line}
+use Rattle.iv_pair.specs.Inside.HitLines.{AllOverlap, Overlaps, hit_line}
 use Rattle.iv_pair.specs.declared.intersect.IntersectRows.{IntersectRows}
 use Rattle.iv_pair.specs.declared.intersect.IntersectRows.TheVariants.{Shared, SharedAndHit, Whole, WholeAndHit}
 use Rattle.iv_pair.proofs.HitsLemmas.{hits-overlap}

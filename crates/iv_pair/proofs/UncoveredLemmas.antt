@@ -6,10 +6,10 @@ use Rattle.std.specs.Ordering.{is_le}
 use Rattle.std.proofs.lemmas.Bool.{cases_lt, lt-ltb, le-ltb}
 use Rattle.std.proofs.lemmas.List.Concat.{flat_map-append}
 use Rattle.iv_bytes.specs.Sinks.{SinkState, Takes, FailsIn}
-use Rattle.iv_bytes.proofs.Putting.{Underway, Underway-begin, Underway-ends, Underway-fails, Underway-more}
+use Rattle.iv_bytes.proofs.PutLemmas.{Underway, Underway-begin, Underway-ends, Underway-fails, Underway-more}
 use Rattle.iv_text.specs.Ordered.{AreInOrder}
 use Rattle.iv_text.specs.RecordValue.{RecordValue, record_cmp}
-use Rattle.iv_text.specs.Covering.{covers}
+use Rattle.iv_text.specs.CoveredPositions.{covers}
 use Rattle.iv_cover.specs.Depth.{depth}
 use Rattle.iv_cover.specs.Runs.{Run, empty_runs}
 use Rattle.iv_cover.proofs.DepthLemmas.{depth-cons}

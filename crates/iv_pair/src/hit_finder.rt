@@ -1,6 +1,6 @@
 //! The hits of one interval after another.
 ghost use Rattle.std.specs.Prelude.{◌≡◌, ◌+◌, ◌-◌, ◌<◌, ◌≤◌, ◌^◌, ◌++◌, ◌∷◌, [], length, filter, true, false};
-ghost use Rattle.iv_text.specs.Covering.{covers};
+ghost use Rattle.iv_text.specs.CoveredPositions.{covers};
 ghost use Rattle.iv_text.specs.Ordered.{AreInOrder};
 ghost use Rattle.iv_pair.specs.Inside.HitFinder.{AllCover, HitAlike, IsOnward, held, keeps};
 ghost use Rattle.iv_pair.specs.Hits.{hits};
@@ -10,7 +10,7 @@ use crate::hits::{Hits, is_from};
 use crate::second::{Second, first_start};
 use arrayvec::ArrayVec;
 use iv_text::{BedRecord, Record};
-use iv_track::{Meter, Rows};
+use iv_track::{Meter, TrackRecords};
 use std::alloc::Allocator;
 use std::marker::Model;
 
@@ -27,7 +27,7 @@ const MOST_CARRIED: usize = 64;
 pub(crate) struct HitFinder<'a, A: Allocator + Copy> {
     second: &'a Second<A>,
     carried: Carried<'a, A>,
-    rows: Rows<'a, A>,
+    rows: TrackRecords<'a, A>,
     // The interval that was sought last.
     seq: u32,
     start: u64,
@@ -140,7 +140,7 @@ fn is_onward(seq: u32, at: u64, to_seq: u32, to: u64) -> bool
 
 /// Whether the first of the records is from a start on. If it does, to begin at the root would lead no further.
 fn begins_from<A: Allocator + Copy>(
-    rows: &Rows<'_, A>,
+    rows: &TrackRecords<'_, A>,
     seq: u32,
     from: u64,
     meter: &mut Meter,
@@ -155,7 +155,7 @@ fn begins_from<A: Allocator + Copy>(
 /// at one of them if there is no room.
 fn take_begun<'a, A: Allocator + Copy>(
     carried: &mut Carried<'a, A>,
-    rows: &mut Rows<'a, A>,
+    rows: &mut TrackRecords<'a, A>,
     seq: u32,
     start: u64,
     most: u32,

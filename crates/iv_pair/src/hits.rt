@@ -7,7 +7,7 @@ ghost use Rattle.iv_pair.specs.Inside.HitFinder.{held};
 ghost use Rattle.iv_pair.specs.Hits.{overlaps, hits};
 
 use iv_text::{BedRecord, Record};
-use iv_track::{Meter, Rows};
+use iv_track::{Meter, TrackRecords};
 use std::alloc::{Allocator, Global};
 use std::marker::Model;
 
@@ -18,7 +18,7 @@ use std::marker::Model;
 pub struct Hits<'a, A: Allocator + Copy = Global> {
     // Hits that are before those of the walk.
     carried: &'a [Option<&'a Record<A>>],
-    rows: Rows<'a, A>,
+    rows: TrackRecords<'a, A>,
     meter: Meter,
     seq: u32,
     start: u64,
@@ -43,7 +43,7 @@ impl<'a, A: Allocator + Copy> Hits<'a, A> {
     /// The hits that are carried, and after them those among the records of a walk.
     pub(crate) fn of(
         carried: &'a [Option<&'a Record<A>>],
-        rows: Rows<'a, A>,
+        rows: TrackRecords<'a, A>,
         seq: u32,
         start: u64,
         stop: u64,

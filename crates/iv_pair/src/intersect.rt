@@ -7,7 +7,7 @@ ghost use Rattle.iv_bytes.specs.Sinks.{Puts};
 ghost use Rattle.iv_text.specs.RecordValue.{RecordValue};
 ghost use Rattle.iv_pair.specs.Hits.{hits_of};
 ghost use Rattle.iv_pair.specs.IntersectRows.{shared, record_line, pair_line, any_line, none_line, intersect_rows};
-ghost use Rattle.iv_pair.specs.Inside.Putting.{Overlaps, AllOverlap, hit_line};
+ghost use Rattle.iv_pair.specs.Inside.HitLines.{Overlaps, AllOverlap, hit_line};
 ghost use Rattle.iv_pair.specs.declared.intersect.IntersectRows.TheVariants.{Count};
 
 use iv_bytes::{Sink, WriteFault, put_all};

@@ -10,7 +10,7 @@ ghost use Rattle.iv_pair.specs.Inside.Lengths.{AreLengths, AreUpTo};
 use crate::hits::Hits;
 use crate::lengths::{Lengths, length_of, lengths_of, longest, lower, raise};
 use iv_text::{Batches, Record};
-use iv_track::{EditFault, Meter, Rows, Track};
+use iv_track::{EditFault, Meter, Track, TrackRecords};
 use std::alloc::{AllocError, Allocator, Global};
 use std::marker::Model;
 
@@ -187,7 +187,7 @@ impl<A: Allocator + Copy> Second<A> {
     }
 
     /// The records on the sequence of this rank from this start on, and on later sequences.
-    pub(crate) fn walk(&self, seq: u32, start: u64, meter: &mut Meter) -> Rows<'_, A>
+    pub(crate) fn walk(&self, seq: u32, start: u64, meter: &mut Meter) -> TrackRecords<'_, A>
         requires { start < 2 ^ 32 - 1 }
         ensures rows { result ≡ filter (is_from seq start) self.now.rows }
         ensures ordered { AreInOrder self.now.rows }

@@ -5,7 +5,7 @@ ghost use Rattle.iv_bytes.specs.Sinks.{Puts};
 ghost use Rattle.iv_text.specs.Ordered.{AreInOrder};
 ghost use Rattle.iv_text.specs.RecordValue.{RecordValue};
 ghost use Rattle.iv_pair.specs.Hits.{hits_of};
-ghost use Rattle.iv_pair.specs.Inside.Putting.{part_line};
+ghost use Rattle.iv_pair.specs.Inside.HitLines.{part_line};
 ghost use Rattle.iv_pair.specs.SubtractRows.{subtract_rows, uncovered_rows};
 
 use crate::intersect::put_if;

@@ -1,24 +1,24 @@
 -- A run that gives the status 0.
 use Rattle.std.proofs.Common.{◌≡◌, inl, inr, ℕ, Bool, true, false, List, [], ◌∷◌, append-nil, Option, None, Some, Result, Ok, Err, ◌==◌, if◌then◌else◌, refl, sym, ap, ◌∙◌, subst, eqb-true, arith}
-use Rattle.iv_bytes.proofs.Putting.{Takes-append}
+use Rattle.iv_bytes.proofs.PutLemmas.{Takes-append}
 use Rattle.iv_bytes.specs.Sinks.{SinkState, Takes}
 use Rattle.iv_workspace.specs.States.{State}
 use Rattle.iv_session.specs.Endings.{Ran}
-use Rattle.iv_session.specs.Running.{Runs as LineRuns}
+use Rattle.iv_session.specs.ScriptLines.{Runs as LineRuns}
 use Rattle.iv_session.specs.Scripts.{Done}
 use Rattle.iv_session.specs.Streams.{Streams}
 use Rattle.iv_session.specs.declared.script.RunCause.{RunCause}
 use Rattle.iv_session.specs.declared.script.RunCause.TheVariants as cause
 use Rattle.iv_session.specs.declared.script.RunFault.{RunFault}
 use Rattle.iv_session.specs.declared.script.Summary.{Summary}
-use Rattle.iv_args.specs.Notices.{notice_of}
+use Rattle.iv_args.specs.InfoRequests.{notice_of}
 use Rattle.iv_args.specs.Texts.{notice_text}
 use Rattle.iv_args.specs.Words.{RunPlan, IsPlan, is_session, run_of}
 use Rattle.iv_args.specs.declared.subcommand.Subcommand.{Subcommand}
 use Rattle.std.specs.Option.{option_to_list}
 use Rattle.iv_text.specs.declared.fault.Fault.{Fault}
 use Rattle.iv_text.specs.declared.fault.Fault.TheVariants as refused
-use Rattle.iv_args.specs.declared.notice.Notice.{Notice}
+use Rattle.iv_args.specs.declared.info_request.InfoRequest.{InfoRequest}
 use Rattle.iv_args.specs.declared.plan.Slot.{Slot}
 use Rattle.iv_run.specs.Loading.{IsReport, fault_of_words}
 use Rattle.iv_cli.specs.Loading.{loaded}
@@ -27,9 +27,9 @@ use Rattle.iv_run.specs.declared.fault.CliFault.{CliFault}
 use Rattle.iv_run.specs.declared.fault.CliFault.TheVariants as fault
 use Rattle.iv_run.specs.declared.fault.FileFault.{FileFault}
 use Rattle.iv_run.specs.declared.fault.FileFault.TheVariants as file
-use Rattle.iv_cli.specs.Endings.{ending_after, ending_of, ending_of_cause, ending_of_file, ending_of_run, ending_of_words, status_of}
-use Rattle.iv_cli.specs.declared.ending.Ending.{Ending}
-use Rattle.iv_cli.specs.declared.ending.Ending.TheVariants as ending
+use Rattle.iv_cli.specs.ExitReasons.{ending_after, ending_of, ending_of_cause, ending_of_file, ending_of_run, ending_of_words, status_of}
+use Rattle.iv_cli.specs.declared.exit_reason.ExitReason.{ExitReason}
+use Rattle.iv_cli.specs.declared.exit_reason.ExitReason.TheVariants as exit_reason
 use Rattle.iv_program.specs.Limits.{most_records, most_lines, most_line_bytes}
 use Rattle.iv_program.specs.Outcomes.{DoesAll, DoesAllWith, RunsAll}
 use Rattle.iv_program.specs.Program.{Asked, Shown, Planned, Wrong, Ask, Flushes, Gives, Runs, Serves}
@@ -38,56 +38,56 @@ use Rattle.iv_program.specs.Texts.{Texts}
 use Rattle.iv_program.specs.declared.program.Ended.{Ended}
 
 -- only a run that is done has the status 0
-done-status : (e : Ending) → 0 ≡ status_of e → e ≡ ending.Done
-done-status ending.Done is = refl
-done-status ending.Refused is = absurd (omega arith)
-done-status (ending.Words code) is = absurd (omega arith)
-done-status (ending.Damaged slot damage) is = absurd (omega arith)
-done-status (ending.Unreadable slot) is = absurd (omega arith)
-done-status (ending.TooLong slot) is = absurd (omega arith)
-done-status ending.InputUnreadable is = absurd (omega arith)
-done-status ending.InputTooLong is = absurd (omega arith)
-done-status ending.Output is = absurd (omega arith)
-done-status ending.Memory is = absurd (omega arith)
+done-status : (e : ExitReason) → 0 ≡ status_of e → e ≡ exit_reason.Done
+done-status exit_reason.Done is = refl
+done-status exit_reason.Refused is = absurd (omega arith)
+done-status (exit_reason.Words code) is = absurd (omega arith)
+done-status (exit_reason.Damaged slot damage) is = absurd (omega arith)
+done-status (exit_reason.Unreadable slot) is = absurd (omega arith)
+done-status (exit_reason.TooLong slot) is = absurd (omega arith)
+done-status exit_reason.InputUnreadable is = absurd (omega arith)
+done-status exit_reason.InputTooLong is = absurd (omega arith)
+done-status exit_reason.Output is = absurd (omega arith)
+done-status exit_reason.Memory is = absurd (omega arith)
 
 -- and only one that was done, and whose output was flushed
-done-flushed : (flushed : Bool) (e : Ending) → ending_after flushed e ≡ ending.Done → (flushed ≡ true) × (e ≡ ending.Done)
-done-flushed true ending.Done is = (refl, refl)
-done-flushed false ending.Done is = absurd (cc is)
-done-flushed true ending.Refused is = absurd (cc is)
-done-flushed false ending.Refused is = absurd (cc is)
-done-flushed flushed (ending.Words code) is = absurd (cc is)
-done-flushed flushed (ending.Damaged slot damage) is = absurd (cc is)
-done-flushed flushed (ending.Unreadable slot) is = absurd (cc is)
-done-flushed flushed (ending.TooLong slot) is = absurd (cc is)
-done-flushed flushed ending.InputUnreadable is = absurd (cc is)
-done-flushed flushed ending.InputTooLong is = absurd (cc is)
-done-flushed flushed ending.Output is = absurd (cc is)
-done-flushed flushed ending.Memory is = absurd (cc is)
+done-flushed : (flushed : Bool) (e : ExitReason) → ending_after flushed e ≡ exit_reason.Done → (flushed ≡ true) × (e ≡ exit_reason.Done)
+done-flushed true exit_reason.Done is = (refl, refl)
+done-flushed false exit_reason.Done is = absurd (cc is)
+done-flushed true exit_reason.Refused is = absurd (cc is)
+done-flushed false exit_reason.Refused is = absurd (cc is)
+done-flushed flushed (exit_reason.Words code) is = absurd (cc is)
+done-flushed flushed (exit_reason.Damaged slot damage) is = absurd (cc is)
+done-flushed flushed (exit_reason.Unreadable slot) is = absurd (cc is)
+done-flushed flushed (exit_reason.TooLong slot) is = absurd (cc is)
+done-flushed flushed exit_reason.InputUnreadable is = absurd (cc is)
+done-flushed flushed exit_reason.InputTooLong is = absurd (cc is)
+done-flushed flushed exit_reason.Output is = absurd (cc is)
+done-flushed flushed exit_reason.Memory is = absurd (cc is)
 
 -- no fault is done
-no-fault : (k : CliFault) → ending.Done ≡ ending_of k → ⊥
+no-fault : (k : CliFault) → exit_reason.Done ≡ ending_of k → ⊥
 no-fault (fault.Words code) e = cc e
 no-fault (fault.Damaged slot damage) e = cc e
 no-fault fault.Output e = cc e
 no-fault fault.Memory e = cc e
 
-no-file-fault : (slot : Slot) (why : FileFault) → ending.Done ≡ ending_of_file slot why → ⊥
+no-file-fault : (slot : Slot) (why : FileFault) → exit_reason.Done ≡ ending_of_file slot why → ⊥
 no-file-fault slot file.Input e = cc e
 no-file-fault slot file.TooLong e = cc e
 no-file-fault slot file.Memory e = cc e
 
-no-cause : (why : RunCause) → ending.Done ≡ ending_of_cause why → ⊥
+no-cause : (why : RunCause) → exit_reason.Done ≡ ending_of_cause why → ⊥
 no-cause cause.Input e = cc e
 no-cause cause.TooLong e = cc e
 no-cause cause.Output e = cc e
 no-cause cause.Messages e = cc e
 no-cause cause.Memory e = cc e
 
-no-word-fault : (why : Fault) → ending.Done ≡ ending_of_words why → ⊥
+no-word-fault : (why : Fault) → exit_reason.Done ≡ ending_of_words why → ⊥
 no-word-fault why e = no-fault (fault_of_words why) e
 
-none-refused : (n : ℕ) (b : Bool) → (n == 0) ≡ b → ending.Done ≡ (if b then ending.Done else ending.Refused) → n ≡ 0
+none-refused : (n : ℕ) (b : Bool) → (n == 0) ≡ b → exit_reason.Done ≡ (if b then exit_reason.Done else exit_reason.Refused) → n ≡ 0
 none-refused n true t e = eqb-true n 0 t
 none-refused n false t e = absurd (cc e)
 
@@ -96,23 +96,23 @@ pub then-flushed : (o0 o1 o2 : SinkState) (text : List ℕ) → Takes o0 o1 text
 then-flushed o0 o1 o2 text took flushed = subst (λ (l : List ℕ). Takes o0 o2 l) (append-nil text) (Takes-append o0 o1 o2 text [] took flushed)
 
 -- a view that is done was printed whole
-view-done : (plan : RunPlan) (texts : Texts) (o0 o1 : SinkState) (ended : Ending) → PrintsView plan texts o0 o1 ended → ended ≡ ending.Done
+view-done : (plan : RunPlan) (texts : Texts) (o0 o1 : SinkState) (ended : ExitReason) → PrintsView plan texts o0 o1 ended → ended ≡ exit_reason.Done
     → (text : List ℕ) × (shown plan texts.sizes texts.first texts.other texts.bases most_records ≡ Ok text) × Takes o0 o1 text
 view-done plan texts o0 o1 ended prints is = by prints.0 prints.1 (sym is ∙ prints.2)
   where
     by : (done : Result (Unit {0}) CliFault) → Shows o0 o1 done (shown plan texts.sizes texts.first texts.other texts.bases most_records)
-        → ending.Done ≡ ending_of_shot done
+        → exit_reason.Done ≡ ending_of_shot done
         → (text : List ℕ) × (shown plan texts.sizes texts.first texts.other texts.bases most_records ≡ Ok text) × Takes o0 o1 text
     by (Ok done) shows e = shows
     by (Err k) shows e = absurd (no-fault k e)
 
 -- a script that is done was run to its end, and no line refused
-script-done : (plan : RunPlan) (texts : Texts) (before reached after : Streams) (ended : Ending) (line : ℕ) → RunsScript plan texts before reached ended line
-    → ended ≡ ending.Done → Takes reached.output after.output [] → RunsAll plan texts before after
+script-done : (plan : RunPlan) (texts : Texts) (before reached after : Streams) (ended : ExitReason) (line : ℕ) → RunsScript plan texts before reached ended line
+    → ended ≡ exit_reason.Done → Takes reached.output after.output [] → RunsAll plan texts before after
 script-done plan texts before reached after ended line runs is flushed = by runs.0 runs.1 runs.2
   where
     over : (s new : State) (run : Result Summary RunFault) → loaded plan.width texts.sizes texts.first texts.other texts.bases most_records ≡ Ok s
-        → Ran s new before reached most_lines most_line_bytes run → ending.Done ≡ ending_of_run run → RunsAll plan texts before after
+        → Ran s new before reached most_lines most_line_bytes run → exit_reason.Done ≡ ending_of_run run → RunsAll plan texts before after
     over s new (Err stopped) begins ran e = absurd (no-cause stopped.cause e)
     over s new (Ok summary) begins ran e = record {
       old = s;
@@ -131,14 +131,14 @@ script-done plan texts before reached after ended line runs is flushed = by runs
     by (Ok s) report ran = over s ran.0 ran.1 report ran.2 (sym is ∙ ran.3)
 
 -- what is done with the texts of a plan is done whole
-does-done : (session : Bool) (plan : RunPlan) (texts : Texts) (before reached after : Streams) (ended : Ending) (line : ℕ) → DoesWith session plan texts before reached ended line
-    → ended ≡ ending.Done → Takes reached.output after.output [] → DoesAllWith session plan texts before after
+does-done : (session : Bool) (plan : RunPlan) (texts : Texts) (before reached after : Streams) (ended : ExitReason) (line : ℕ) → DoesWith session plan texts before reached ended line
+    → ended ≡ exit_reason.Done → Takes reached.output after.output [] → DoesAllWith session plan texts before after
 does-done true plan texts before reached after ended line does is flushed = script-done plan texts before reached after ended line does is flushed
 does-done false plan texts before reached after ended line does is flushed =
     let printed = view-done plan texts before.output reached.output ended does.0 is in
     (printed.0, printed.1, then-flushed before.output reached.output after.output printed.0 printed.2 flushed)
 
-plan-done : (plan : RunPlan) (before reached after : World) (ended : Ending) (line : ℕ) → RunsPlan plan before reached ended line → ended ≡ ending.Done
+plan-done : (plan : RunPlan) (before reached after : World) (ended : ExitReason) (line : ℕ) → RunsPlan plan before reached ended line → ended ≡ exit_reason.Done
     → Takes reached.streams.output after.streams.output [] → DoesAll plan before after
 plan-done plan before reached after ended line (inl read) is flushed = record {
   texts = read.texts;
@@ -148,28 +148,28 @@ plan-done plan before reached after ended line (inl read) is flushed = record {
 plan-done plan before reached after ended line (inr stopped) is flushed = absurd (no-file-fault stopped.slot stopped.fault (sym is ∙ stopped.ended_is))
 
 -- the output of a run with the status 0 was flushed, and what was asked for was done
-finished : (words : List (List ℕ)) (before after : World) (answer : Ended) (ran : Runs words before after answer) → status_of answer.ending ≡ 0
-    → (ran.ended ≡ ending.Done) × Takes ran.reached.streams.output after.streams.output []
+finished : (words : List (List ℕ)) (before after : World) (answer : Ended) (ran : Runs words before after answer) → status_of answer.exit_reason ≡ 0
+    → (ran.ended ≡ exit_reason.Done) × Takes ran.reached.streams.output after.streams.output []
 finished words before after answer ran none =
-    let ends = done-flushed ran.finishes.flushed ran.ended (sym ran.finishes.reported_is ∙ done-status answer.ending (sym none)) in
+    let ends = done-flushed ran.finishes.flushed ran.ended (sym ran.finishes.reported_is ∙ done-status answer.exit_reason (sym none)) in
     (ends.1, subst (λ (b : Bool). Flushes b ran.reached.streams.output after.streams.output) ends.0 ran.finishes.flush)
 
-pub notice-done : (words : List (List ℕ)) (before after : World) (notice : Notice) (answer : Ended) → notice_of words ≡ Some notice → Runs words before after answer
-    → status_of answer.ending ≡ 0 → Takes before.streams.output after.streams.output (notice_text notice)
-notice-done words before after notice answer is ran zero = by ran.asked ran.ask ran.serves
+pub info_request-done : (words : List (List ℕ)) (before after : World) (info_request : InfoRequest) (answer : Ended) → notice_of words ≡ Some info_request → Runs words before after answer
+    → status_of answer.exit_reason ≡ 0 → Takes before.streams.output after.streams.output (notice_text info_request)
+info_request-done words before after info_request answer is ran zero = by ran.asked ran.ask ran.serves
   where
-    ends : (ran.ended ≡ ending.Done) × Takes ran.reached.streams.output after.streams.output []
+    ends : (ran.ended ≡ exit_reason.Done) × Takes ran.reached.streams.output after.streams.output []
     ends = finished words before after answer ran zero
 
-    by : (asked : Asked) → Ask words asked → Serves asked before ran.reached ran.ended answer.line → Takes before.streams.output after.streams.output (notice_text notice)
+    by : (asked : Asked) → Ask words asked → Serves asked before ran.reached ran.ended answer.line → Takes before.streams.output after.streams.output (notice_text info_request)
     by (Shown said) ask serves =
-        let same : said ≡ notice = cc (sym ask ∙ is) in
+        let same : said ≡ info_request = cc (sym ask ∙ is) in
         given said same serves.0
       where
-        given : (said : Notice) → said ≡ notice → Gives before.streams.output ran.reached.streams.output (notice_text said) ran.ended
-            → Takes before.streams.output after.streams.output (notice_text notice)
+        given : (said : InfoRequest) → said ≡ info_request → Gives before.streams.output ran.reached.streams.output (notice_text said) ran.ended
+            → Takes before.streams.output after.streams.output (notice_text info_request)
         given said same (inl took) =
-            subst (λ (n : Notice). Takes before.streams.output after.streams.output (notice_text n)) same
+            subst (λ (n : InfoRequest). Takes before.streams.output after.streams.output (notice_text n)) same
             (then-flushed before.streams.output ran.reached.streams.output after.streams.output (notice_text said) took.1 ends.1)
         given said same (inr lost) = absurd (cc (sym lost.0 ∙ ends.0))
     by (Planned plan) ask serves = absurd (cc (sym ask.0 ∙ is))
@@ -212,10 +212,10 @@ one-plan words p q a b =
     same
 
 pub plan-all-done : (words : List (List ℕ)) (before after : World) (plan : RunPlan) (answer : Ended) → notice_of words ≡ None → IsPlan words plan → Runs words before after answer
-    → status_of answer.ending ≡ 0 → DoesAll plan before after
+    → status_of answer.exit_reason ≡ 0 → DoesAll plan before after
 plan-all-done words before after plan answer none is ran zero = by ran.asked ran.ask ran.serves
   where
-    ends : (ran.ended ≡ ending.Done) × Takes ran.reached.streams.output after.streams.output []
+    ends : (ran.ended ≡ exit_reason.Done) × Takes ran.reached.streams.output after.streams.output []
     ends = finished words before after answer ran zero
 
     by : (asked : Asked) → Ask words asked → Serves asked before ran.reached ran.ended answer.line → DoesAll plan before after

@@ -6,16 +6,16 @@ use Rattle.iv_text.specs.declared.fault.Fault.{Fault}
 use Rattle.iv_text.specs.declared.fault.Fault.TheVariants as refused
 use Rattle.iv_workspace.specs.States.{State}
 use Rattle.iv_session.specs.Endings.{Ran}
-use Rattle.iv_session.specs.Running.{Runs as LineRuns, RunsLast}
+use Rattle.iv_session.specs.ScriptLines.{Runs as LineRuns, RunsLast}
 use Rattle.iv_session.specs.Scripts.{Done}
 use Rattle.iv_session.specs.Stops.{Stopped}
 use Rattle.iv_session.specs.Streams.{Streams}
 use Rattle.iv_session.specs.declared.script.RunFault.{RunFault}
 use Rattle.iv_session.specs.declared.script.Summary.{Summary}
-use Rattle.iv_args.specs.Notices.{notice_of}
+use Rattle.iv_args.specs.InfoRequests.{notice_of}
 use Rattle.iv_args.specs.Texts.{notice_text}
 use Rattle.iv_args.specs.Words.{RunPlan, IsPlan}
-use Rattle.iv_args.specs.declared.notice.Notice.{Notice}
+use Rattle.iv_args.specs.declared.info_request.InfoRequest.{InfoRequest}
 use Rattle.iv_args.specs.declared.plan.Slot.{Slot}
 use Rattle.iv_args.specs.declared.plan.Slot.TheVariants.{Sizes, First, Other, Bases}
 use Rattle.iv_run.specs.Loading.{IsReport}
@@ -23,8 +23,8 @@ use Rattle.iv_cli.specs.Loading.{loaded}
 use Rattle.iv_run.specs.SoFar.{SaysSecond, SoFar}
 use Rattle.iv_run.specs.declared.fault.CliFault.{CliFault}
 use Rattle.iv_run.specs.declared.fault.FileFault.{FileFault}
-use Rattle.iv_cli.specs.Endings.{ending_of_words, name_meant}
-use Rattle.iv_cli.specs.declared.ending.Ending.{Ending}
+use Rattle.iv_cli.specs.ExitReasons.{ending_of_words, name_meant}
+use Rattle.iv_cli.specs.declared.exit_reason.ExitReason.{ExitReason}
 use Rattle.iv_program.specs.Files.{FilesState, IsText, StopsFile}
 use Rattle.iv_program.specs.Limits.{most_file_bytes, most_records}
 use Rattle.iv_program.specs.Program.{Shown, Planned, Wrong, Ask, Finishes, Gives, Runs, world}
@@ -133,11 +133,11 @@ ran-of old new before after lines most (Err why) done stopped = stopped
 -- ---- the program
 
 module _ (words : List (List ℕ)) (answer : Ended) where
-  pub gave-notice : (notice : Notice) (files : FilesState) (input : SourceState) (o0 o1 o2 s0 s1 : SinkState) (ended : Ending) → notice_of words ≡ Some notice
-      → Gives o0 o1 (notice_text notice) ended → Finishes ended [] o1 o2 s0 s1 answer.ending → answer.line ≡ 0
+  pub gave-info_request : (info_request : InfoRequest) (files : FilesState) (input : SourceState) (o0 o1 o2 s0 s1 : SinkState) (ended : ExitReason) → notice_of words ≡ Some info_request
+      → Gives o0 o1 (notice_text info_request) ended → Finishes ended [] o1 o2 s0 s1 answer.exit_reason → answer.line ≡ 0
       → Runs words (world files input o0 s0) (world files input o2 s1) answer
-  gave-notice notice files input o0 o1 o2 s0 s1 ended is gives finishes no_line = record {
-    asked = Shown notice;
+  gave-info_request info_request files input o0 o1 o2 s0 s1 ended is gives finishes no_line = record {
+    asked = Shown info_request;
     ask = is;
     reached = world files input o1 s0;
     ended = ended;
@@ -147,9 +147,9 @@ module _ (words : List (List ℕ)) (answer : Ended) where
     input = refl;
   }
 
-  pub ran-plan : (plan : RunPlan) (f0 f1 : FilesState) (i0 i1 : SourceState) (o0 o1 o2 s0 s1 s2 : SinkState) (ended : Ending) (line : ℕ) (name : List ℕ) → notice_of words ≡ None
+  pub ran-plan : (plan : RunPlan) (f0 f1 : FilesState) (i0 i1 : SourceState) (o0 o1 o2 s0 s1 s2 : SinkState) (ended : ExitReason) (line : ℕ) (name : List ℕ) → notice_of words ≡ None
       → IsPlan words plan → RunsPlan plan (world f0 i0 o0 s0) (world f1 i1 o1 s1) ended line → name ≡ name_meant plan ended
-      → Finishes ended name o1 o2 s1 s2 answer.ending → answer.line ≡ line
+      → Finishes ended name o1 o2 s1 s2 answer.exit_reason → answer.line ≡ line
       → Runs words (world f0 i0 o0 s0) (world f1 i1 o2 s2) answer
   ran-plan plan f0 f1 i0 i1 o0 o1 o2 s0 s1 s2 ended line name none is runs named finishes same_line = record {
     asked = Planned plan;
@@ -157,14 +157,14 @@ module _ (words : List (List ℕ)) (answer : Ended) where
     reached = world f1 i1 o1 s1;
     ended = ended;
     serves = subst (λ (n : ℕ). RunsPlan plan (world f0 i0 o0 s0) (world f1 i1 o1 s1) ended n) (sym same_line) runs;
-    finishes = subst (λ (n : List ℕ). Finishes ended n o1 o2 s1 s2 answer.ending) named finishes;
+    finishes = subst (λ (n : List ℕ). Finishes ended n o1 o2 s1 s2 answer.exit_reason) named finishes;
     files = refl;
     input = refl;
   }
 
-  pub had-no-plan : (why : Fault) (files : FilesState) (input : SourceState) (o0 o1 s0 s1 : SinkState) (ended : Ending) → notice_of words ≡ None
+  pub had-no-plan : (why : Fault) (files : FilesState) (input : SourceState) (o0 o1 s0 s1 : SinkState) (ended : ExitReason) → notice_of words ≡ None
       → (why ≡ refused.NoMemory) ⊎ ((why ≡ refused.Words) × ((plan : RunPlan) → ¬ IsPlan words plan)) → ended ≡ ending_of_words why
-      → Finishes ended [] o0 o1 s0 s1 answer.ending → answer.line ≡ 0 → Runs words (world files input o0 s0) (world files input o1 s1) answer
+      → Finishes ended [] o0 o1 s0 s1 answer.exit_reason → answer.line ≡ 0 → Runs words (world files input o0 s0) (world files input o1 s1) answer
   had-no-plan why files input o0 o1 s0 s1 ended none is ended_is finishes no_line = record {
     asked = Wrong why;
     ask = by why is;

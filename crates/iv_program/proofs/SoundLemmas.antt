@@ -3,7 +3,7 @@ use Rattle.std.proofs.Common.{◌≡◌, ◌<◌, inl, inr, ℕ, Bool, true, fal
 use Rattle.iv_bytes.specs.Sinks.{SinkState, Takes}
 use Rattle.iv_text.specs.declared.fault.Fault.TheVariants as refused
 use Rattle.iv_session.specs.Streams.{Streams}
-use Rattle.iv_args.specs.Notices.{notice_of}
+use Rattle.iv_args.specs.InfoRequests.{notice_of}
 use Rattle.iv_args.specs.Words.{RunPlan, IsPlan, file_of, is_session}
 use Rattle.iv_args.specs.declared.plan.Slot.{Slot}
 use Rattle.iv_args.specs.declared.plan.Slot.TheVariants.{Sizes, First, Other, Bases}
@@ -12,13 +12,13 @@ use Rattle.iv_run.specs.declared.fault.CliFault.{CliFault}
 use Rattle.iv_run.specs.declared.fault.CliFault.TheVariants as fault
 use Rattle.iv_run.specs.declared.fault.FileFault.{FileFault}
 use Rattle.iv_run.specs.declared.fault.FileFault.TheVariants as file
-use Rattle.iv_cli.specs.Endings.{ending_after, ending_of, ending_of_file, is_through, line_of, name_meant, status_of}
-use Rattle.iv_cli.specs.declared.ending.Ending.{Ending}
-use Rattle.iv_cli.specs.declared.ending.Ending.TheVariants as ending
+use Rattle.iv_cli.specs.ExitReasons.{ending_after, ending_of, ending_of_file, is_through, line_of, name_meant, status_of}
+use Rattle.iv_cli.specs.declared.exit_reason.ExitReason.{ExitReason}
+use Rattle.iv_cli.specs.declared.exit_reason.ExitReason.TheVariants as exit_reason
 use Rattle.iv_program.specs.Files.{FilesState, StopsFile}
 use Rattle.iv_program.specs.Limits.{most_file_bytes, most_records}
 use Rattle.iv_program.specs.Outcomes.{AreSound, HasBytes, Hold, PrintsJust}
-use Rattle.iv_program.specs.Program.{Asked, Shown, Planned, Wrong, Ask, Finishes, Flushes, Runs, Serves, Tells, name_told}
+use Rattle.iv_program.specs.Program.{Asked, Shown, Planned, Wrong, Ask, Finishes, Flushes, Runs, Serves, Tells, name_reported}
 use Rattle.iv_program.specs.Runs.{DoesWith, RunsPlan, World, ending_of_shot}
 use Rattle.iv_program.specs.Texts.{Texts, AreTexts, IsTextIfNamed}
 use Rattle.iv_program.specs.declared.program.Ended.{Ended}
@@ -63,7 +63,7 @@ not-long files name bytes has long =
 sound-failed : (b : Bool) → b ≡ true → b ≡ false → ⊥
 sound-failed b t f = true≢false (sym t ∙ f)
 
-module _ (ended : Ending) (name : List ℕ) (out0 out1 said0 said1 : SinkState) (reported : Ending) (finishes : Finishes ended name out0 out1 said0 said1 reported)
+module _ (ended : ExitReason) (name : List ℕ) (out0 out1 said0 said1 : SinkState) (reported : ExitReason) (finishes : Finishes ended name out0 out1 said0 said1 reported)
     (sound : out1.failed ≡ false) (heard : said1.failed ≡ false) where
   flushed-true : finishes.flushed ≡ true
   flushed-true = by finishes.flushed finishes.flush
@@ -76,39 +76,39 @@ module _ (ended : Ending) (name : List ℕ) (out0 out1 said0 said1 : SinkState) 
   flushed : Takes out0 out1 []
   flushed = subst (λ (b : Bool). Flushes b out0 out1) flushed-true finishes.flush
 
-  same-ending : (e : Ending) → ending_after true e ≡ e
-  same-ending ending.Done = refl
-  same-ending ending.Refused = refl
-  same-ending (ending.Words code) = refl
-  same-ending (ending.Damaged slot damage) = refl
-  same-ending (ending.Unreadable slot) = refl
-  same-ending (ending.TooLong slot) = refl
-  same-ending ending.InputUnreadable = refl
-  same-ending ending.InputTooLong = refl
-  same-ending ending.Output = refl
-  same-ending ending.Memory = refl
+  same-exit_reason : (e : ExitReason) → ending_after true e ≡ e
+  same-exit_reason exit_reason.Done = refl
+  same-exit_reason exit_reason.Refused = refl
+  same-exit_reason (exit_reason.Words code) = refl
+  same-exit_reason (exit_reason.Damaged slot damage) = refl
+  same-exit_reason (exit_reason.Unreadable slot) = refl
+  same-exit_reason (exit_reason.TooLong slot) = refl
+  same-exit_reason exit_reason.InputUnreadable = refl
+  same-exit_reason exit_reason.InputTooLong = refl
+  same-exit_reason exit_reason.Output = refl
+  same-exit_reason exit_reason.Memory = refl
 
-  ending-is : reported ≡ ended
-  ending-is = finishes.reported_is ∙ ap (λ (b : Bool). ending_after b ended) flushed-true ∙ same-ending ended
+  exit_reason-is : reported ≡ ended
+  exit_reason-is = finishes.reported_is ∙ ap (λ (b : Bool). ending_after b ended) flushed-true ∙ same-exit_reason ended
 
   status-of : status_of reported ≡ status_of ended
-  status-of = ap status_of ending-is
+  status-of = ap status_of exit_reason-is
 
   -- its line was put
   told : Takes said0 said1 (line_of name ended)
-  told = subst (λ (e : Ending). Takes said0 said1 (line_of name e)) ending-is (by finishes.told)
+  told = subst (λ (e : ExitReason). Takes said0 said1 (line_of name e)) exit_reason-is (by finishes.told)
     where
       by : Tells said0 said1 (line_of name reported) → Takes said0 said1 (line_of name reported)
       by (inl took) = took
       by (inr failed) = absurd (sound-failed said1.failed failed.failed heard)
 
   -- there is none if all was done
-  quiet : ended ≡ ending.Done → said1 ≡ said0
-  quiet is = finishes.quiet (ap (λ (e : Ending). is_through e) (ending-is ∙ is))
+  quiet : ended ≡ exit_reason.Done → said1 ≡ said0
+  quiet is = finishes.quiet (ap (λ (e : ExitReason). is_through e) (exit_reason-is ∙ is))
 
 -- ---- a view
 
-module _ (plan : RunPlan) (before reached after : Streams) (reported : Ending) (ended : Ending)
+module _ (plan : RunPlan) (before reached after : Streams) (reported : ExitReason) (ended : ExitReason)
     (finishes : Finishes ended (name_meant plan ended) reached.output after.output reached.messages after.messages reported)
     (sound : after.output.failed ≡ false) (heard : after.messages.failed ≡ false) (had_memory : status_of reported ≡ 5 → ⊥)
     (only : reached ≡ record before { output = reached.output }) where
@@ -125,14 +125,14 @@ module _ (plan : RunPlan) (before reached after : Streams) (reported : Ending) (
   is-status : status_of reported ≡ status_of ended
   is-status = status-of ended (name_meant plan ended) reached.output after.output reached.messages after.messages reported finishes sound heard
 
-  is-quiet : ended ≡ ending.Done → after.messages ≡ before.messages
+  is-quiet : ended ≡ exit_reason.Done → after.messages ≡ before.messages
   is-quiet is = quiet ended (name_meant plan ended) reached.output after.output reached.messages after.messages reported finishes sound heard is ∙ same-messages
 
   -- the fault of files or of words is reported, and nothing was printed
   tells : (k : CliFault) → ended ≡ ending_of k → reached.output ≡ before.output → (said : Result (List ℕ) CliFault) → said ≡ Err k → PrintsJust plan said before after (status_of reported)
   tells k is same said e = subst (λ (r : Result (List ℕ) CliFault). PrintsJust plan r before after (status_of reported)) (sym e) (
     subst (λ (o : SinkState). Takes o after.output []) same out,
-    subst (λ (e : Ending). Takes before.messages after.messages (line_of (name_meant plan e) e)) is line-told,
+    subst (λ (e : ExitReason). Takes before.messages after.messages (line_of (name_meant plan e) e)) is line-told,
     is-status ∙ ap status_of is,
   )
 
@@ -151,22 +151,22 @@ module _ (plan : RunPlan) (before reached after : Streams) (reported : Ending) (
 -- ---- the program
 
 pub prints-just : (words : List (List ℕ)) (before after : World) (plan : RunPlan) (texts : Texts) (answer : Ended) → notice_of words ≡ None → IsPlan words plan
-    → is_session plan.run ≡ false → Hold before.files plan texts → Runs words before after answer → AreSound after → (status_of answer.ending ≡ 5 → ⊥)
-    → PrintsJust plan (shown plan texts.sizes texts.first texts.other texts.bases most_records) before.streams after.streams (status_of answer.ending)
+    → is_session plan.run ≡ false → Hold before.files plan texts → Runs words before after answer → AreSound after → (status_of answer.exit_reason ≡ 5 → ⊥)
+    → PrintsJust plan (shown plan texts.sizes texts.first texts.other texts.bases most_records) before.streams after.streams (status_of answer.exit_reason)
 prints-just words before after plan texts answer none is view hold ran sound had_memory = by ran.asked ran.ask ran.serves ran.finishes
   where
     Goal : Type 0
-    Goal = PrintsJust plan (shown plan texts.sizes texts.first texts.other texts.bases most_records) before.streams after.streams (status_of answer.ending)
+    Goal = PrintsJust plan (shown plan texts.sizes texts.first texts.other texts.bases most_records) before.streams after.streams (status_of answer.exit_reason)
 
     of_plan : (name : List ℕ) → name ≡ name_meant plan ran.ended → RunsPlan plan before ran.reached ran.ended answer.line
-        → Finishes ran.ended name ran.reached.streams.output after.streams.output ran.reached.streams.messages after.streams.messages answer.ending → Goal
+        → Finishes ran.ended name ran.reached.streams.output after.streams.output ran.reached.streams.messages after.streams.messages answer.exit_reason → Goal
     of_plan name named (inl read) finishes =
         let same : read.texts ≡ texts = texts-known before.files plan read.texts texts read.are hold in
         let does : DoesWith false plan read.texts before.streams ran.reached.streams ran.ended answer.line =
         subst (λ (b : Bool). DoesWith b plan read.texts before.streams ran.reached.streams ran.ended answer.line) view read.does in
-        subst (λ (t : Texts). PrintsJust plan (shown plan t.sizes t.first t.other t.bases most_records) before.streams after.streams (status_of answer.ending)) same
-        (shows-just plan before.streams ran.reached.streams after.streams answer.ending ran.ended
-        (subst (λ (n : List ℕ). Finishes ran.ended n ran.reached.streams.output after.streams.output ran.reached.streams.messages after.streams.messages answer.ending) named finishes)
+        subst (λ (t : Texts). PrintsJust plan (shown plan t.sizes t.first t.other t.bases most_records) before.streams after.streams (status_of answer.exit_reason)) same
+        (shows-just plan before.streams ran.reached.streams after.streams answer.exit_reason ran.ended
+        (subst (λ (n : List ℕ). Finishes ran.ended n ran.reached.streams.output after.streams.output ran.reached.streams.messages after.streams.messages answer.exit_reason) named finishes)
         sound.output sound.messages had_memory does.1 does.0.0
         (shown plan read.texts.sizes read.texts.first read.texts.other read.texts.bases most_records) does.0.1 does.0.2)
     of_plan name named (inr stopped) finishes = absurd (never stopped.fault stopped.stops.stops stopped.ended_is)
@@ -178,15 +178,15 @@ prints-just words before after plan texts answer none is view hold ran sound had
             let has = slot-known before.files plan texts stopped.slot stopped.stops.name hold stopped.stops.named in
             not-long before.files stopped.stops.name has.0 has.1 stops.0
         never file.Memory stops e = had_memory
-            (status-of ran.ended name ran.reached.streams.output after.streams.output ran.reached.streams.messages after.streams.messages answer.ending finishes sound.output sound.messages ∙ ap status_of e)
+            (status-of ran.ended name ran.reached.streams.output after.streams.output ran.reached.streams.messages after.streams.messages answer.exit_reason finishes sound.output sound.messages ∙ ap status_of e)
 
     by : (asked : Asked) → Ask words asked → Serves asked before ran.reached ran.ended answer.line
-        → Finishes ran.ended (name_told asked ran.ended) ran.reached.streams.output after.streams.output ran.reached.streams.messages after.streams.messages answer.ending → Goal
-    by (Shown notice) ask serves finishes = absurd (cc (sym none ∙ ask))
+        → Finishes ran.ended (name_reported asked ran.ended) ran.reached.streams.output after.streams.output ran.reached.streams.messages after.streams.messages answer.exit_reason → Goal
+    by (Shown info_request) ask serves finishes = absurd (cc (sym none ∙ ask))
     by (Planned other) ask serves finishes =
         let same : other ≡ plan = one-plan words other plan ask.1 is in
         of_plan (name_meant other ran.ended) (ap (λ (p : RunPlan). name_meant p ran.ended) same) (subst (λ (p : RunPlan). RunsPlan p before ran.reached ran.ended answer.line) same serves) finishes
     by (Wrong refused.Words) ask serves finishes = absurd (ask.1 plan is)
     by (Wrong refused.NoMemory) ask serves finishes = absurd (had_memory
-        (status-of ran.ended [] ran.reached.streams.output after.streams.output ran.reached.streams.messages after.streams.messages answer.ending finishes sound.output sound.messages ∙ ap status_of serves.1))
+        (status-of ran.ended [] ran.reached.streams.output after.streams.output ran.reached.streams.messages after.streams.messages answer.exit_reason finishes sound.output sound.messages ∙ ap status_of serves.1))
     by (Wrong why) ask serves finishes = absurd ask

@@ -2,14 +2,14 @@
 use Rattle.std.specs.Prelude.{◌≡◌, ◌≤◌, ℕ, List, [], Bool, true, false, Option, None, Some, Result, Ok, Err, length}
 use Rattle.iv_bytes.specs.Sinks.{Takes}
 use Rattle.iv_workspace.specs.States.{State}
-use Rattle.iv_session.specs.Running.{Runs as LineRuns}
+use Rattle.iv_session.specs.ScriptLines.{Runs as LineRuns}
 use Rattle.iv_session.specs.Scripts.{Done}
 use Rattle.iv_session.specs.Streams.{Streams}
 use Rattle.iv_args.specs.Words.{RunPlan, is_session}
 use Rattle.iv_cli.specs.Loading.{loaded}
 use Rattle.iv_run.specs.Shots.{shown}
 use Rattle.iv_run.specs.declared.fault.CliFault.{CliFault}
-use Rattle.iv_cli.specs.Endings.{ending_of, line_of, name_meant, status_of}
+use Rattle.iv_cli.specs.ExitReasons.{ending_of, line_of, name_meant, status_of}
 use Rattle.iv_program.specs.Files.{FilesState}
 use Rattle.iv_program.specs.Limits.{most_file_bytes, most_records, most_lines, most_line_bytes}
 use Rattle.iv_program.specs.Runs.{World}

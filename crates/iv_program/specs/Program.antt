@@ -5,13 +5,13 @@ use Rattle.iv_bytes.specs.Sources.{SourceState}
 use Rattle.iv_text.specs.declared.fault.Fault.{Fault}
 use Rattle.iv_text.specs.declared.fault.Fault.TheVariants as refused
 use Rattle.iv_session.specs.Streams.{streams}
-use Rattle.iv_args.specs.Notices.{notice_of}
+use Rattle.iv_args.specs.InfoRequests.{notice_of}
 use Rattle.iv_args.specs.Texts.{notice_text}
 use Rattle.iv_args.specs.Words.{RunPlan, IsPlan}
-use Rattle.iv_args.specs.declared.notice.Notice.{Notice}
-use Rattle.iv_cli.specs.Endings.{ending_after, ending_of_words, is_through, line_of, name_meant}
-use Rattle.iv_cli.specs.declared.ending.Ending.{Ending}
-use Rattle.iv_cli.specs.declared.ending.Ending.TheVariants as ending
+use Rattle.iv_args.specs.declared.info_request.InfoRequest.{InfoRequest}
+use Rattle.iv_cli.specs.ExitReasons.{ending_after, ending_of_words, is_through, line_of, name_meant}
+use Rattle.iv_cli.specs.declared.exit_reason.ExitReason.{ExitReason}
+use Rattle.iv_cli.specs.declared.exit_reason.ExitReason.TheVariants as exit_reason
 use Rattle.iv_program.specs.Files.{FilesState}
 use Rattle.iv_program.specs.Runs.{World, RunsPlan}
 use Rattle.iv_program.specs.declared.program.Ended.{Ended}
@@ -21,36 +21,36 @@ world files input output messages = record { files = files; streams = streams in
 
 -- what words ask for: a notice; a run of a plan; or neither, for bad options or out of memory
 pub data Asked : Type 0 where
-  Shown : Notice → Asked
+  Shown : InfoRequest → Asked
   Planned : RunPlan → Asked
   Wrong : Fault → Asked
 
 -- these words ask for it: words that ask for a notice ask for no plan
 abbrev pub Ask : List (List ℕ) → Asked → Type 0
-Ask words (Shown notice) = notice_of words ≡ Some notice
+Ask words (Shown info_request) = notice_of words ≡ Some info_request
 Ask words (Planned plan) = (notice_of words ≡ None) × IsPlan words plan
 Ask words (Wrong refused.Words) = (notice_of words ≡ None) × ((plan : RunPlan) → ¬ IsPlan words plan)
 Ask words (Wrong refused.NoMemory) = notice_of words ≡ None
 Ask words (Wrong other) = ⊥
 
 -- a text was put, or the output failed in it
-abbrev pub Gives : SinkState → SinkState → List ℕ → Ending → Type 0
-Gives old new text ended = ((ended ≡ ending.Done) × Takes old new text) ⊎ ((ended ≡ ending.Output) × FailsIn old new text)
+abbrev pub Gives : SinkState → SinkState → List ℕ → ExitReason → Type 0
+Gives old new text ended = ((ended ≡ exit_reason.Done) × Takes old new text) ⊎ ((ended ≡ exit_reason.Output) × FailsIn old new text)
 
 -- what was asked for was done, and ended so, at this line of its script if it ended early at one
-abbrev pub Serves : Asked → World → World → Ending → ℕ → Type 0
-Serves (Shown notice) before after ended line =
-    Gives before.streams.output after.streams.output (notice_text notice) ended
+abbrev pub Serves : Asked → World → World → ExitReason → ℕ → Type 0
+Serves (Shown info_request) before after ended line =
+    Gives before.streams.output after.streams.output (notice_text info_request) ended
     × (after ≡ record before { streams = record before.streams { output = after.streams.output } })
     × (line ≡ 0)
 Serves (Planned plan) before after ended line = RunsPlan plan before after ended line
 Serves (Wrong fault) before after ended line = (after ≡ before) × (ended ≡ ending_of_words fault) × (line ≡ 0)
 
 -- the name of the file that an ending speaks of
-abbrev pub name_told : Asked → Ending → List ℕ
-name_told (Shown notice) ended = []
-name_told (Planned plan) ended = name_meant plan ended
-name_told (Wrong fault) ended = []
+abbrev pub name_reported : Asked → ExitReason → List ℕ
+name_reported (Shown info_request) ended = []
+name_reported (Planned plan) ended = name_meant plan ended
+name_reported (Wrong fault) ended = []
 
 -- whether what was held could be handed on
 abbrev pub Flushes : Bool → SinkState → SinkState → Type 0
@@ -62,7 +62,7 @@ abbrev pub Tells : SinkState → SinkState → List ℕ → Type 0
 Tells old new text = Takes old new text ⊎ FailsIn old new text
 
 -- the end of a run: the output is flushed, and the messages get the line of the ending that this leads to
-pub record Finishes (ended : Ending) (name : List ℕ) (out0 out1 said0 said1 : SinkState) (reported : Ending) : Type 0 where
+pub record Finishes (ended : ExitReason) (name : List ℕ) (out0 out1 said0 said1 : SinkState) (reported : ExitReason) : Type 0 where
   pub flushed : Bool
   pub flush : Flushes flushed out0 out1
   pub reported_is : reported ≡ ending_after flushed ended
@@ -74,9 +74,9 @@ pub record Runs (words : List (List ℕ)) (before after : World) (answer : Ended
   pub asked : Asked
   pub ask : Ask words asked
   pub reached : World
-  pub ended : Ending
+  pub ended : ExitReason
   pub serves : Serves asked before reached ended answer.line
-  pub finishes : Finishes ended (name_told asked ended) reached.streams.output after.streams.output
-      reached.streams.messages after.streams.messages answer.ending
+  pub finishes : Finishes ended (name_reported asked ended) reached.streams.output after.streams.output
+      reached.streams.messages after.streams.messages answer.exit_reason
   pub files : after.files ≡ reached.files
   pub input : after.streams.input ≡ reached.streams.input

@@ -3,14 +3,14 @@ ghost use Rattle.std.specs.Prelude.{◌≡◌, ◌≢◌, ◌<◌, ◌^◌, ℕ,
 ghost use Rattle.std.specs.Option.{option_map};
 ghost use Rattle.iv_bytes.specs.Sinks.{Takes};
 ghost use Rattle.iv_index.specs.Locators.{bare};
-ghost use Rattle.iv_args.specs.Notices.{notice_of};
+ghost use Rattle.iv_args.specs.InfoRequests.{notice_of};
 ghost use Rattle.iv_args.specs.Texts.{notice_text};
 ghost use Rattle.iv_args.specs.Words.{RunPlan, IsPlan, is_session};
-ghost use Rattle.iv_args.specs.declared.notice.Notice.{Notice};
+ghost use Rattle.iv_args.specs.declared.info_request.InfoRequest.{InfoRequest};
 ghost use Rattle.iv_run.specs.IntervalsViews.{AskForIntervals};
 ghost use Rattle.iv_run.specs.Inside.IntervalsViews.{AskForColumns};
 ghost use Rattle.iv_run.specs.Shots.{shown};
-ghost use Rattle.iv_cli.specs.Endings.{is_through, line_of, status_of};
+ghost use Rattle.iv_cli.specs.ExitReasons.{is_through, line_of, status_of};
 ghost use Rattle.iv_program.specs.Limits.{most_records};
 ghost use Rattle.iv_program.specs.Outcomes.{AreSound, DoesAll, Hold, PrintsJust};
 ghost use Rattle.iv_program.specs.Program.{Finishes, Gives, Runs, Tells, world};
@@ -21,63 +21,66 @@ ghost use Rattle.iv_program.specs.declared.program.Ended.{Ended};
 
 use crate::files::{FileTexts, InputFiles, MOST_RECORDS, ReadFiles, SlotFault};
 use crate::script_run::run_session;
-use iv_args::{Notice, Plan};
+use iv_args::{InfoRequest, Plan};
 use iv_bytes::{Flush, Sink, Source, put_all};
-use iv_cli::Ending;
+use iv_cli::ExitReason;
 use iv_index::Span;
-use iv_run::{CliFault, IntervalsView, print_columns};
+use iv_run::{CliFault, IntervalsView, shot_of_columns};
 use std::alloc::Allocator;
 
 /// How a run has ended, its output flushed.
 #[derive(Clone, Copy, Debug, PartialEq, Eq)]
 pub struct Ended {
-    pub ending: Ending,
+    pub exit_reason: ExitReason,
     /// The line of its script at which it ended early, counted from 1; 0 if there is none.
     pub line: u64,
 }
 
 impl Ended {
     /// A run that has not ended early at a line of a script.
-    pub(crate) fn at_no_line(ending: Ending) -> Ended
-        ensures { (result.ending ≡ ending) × (result.line ≡ 0) }
+    pub(crate) fn at_no_line(exit_reason: ExitReason) -> Ended
+        ensures { (result.exit_reason ≡ exit_reason) × (result.line ≡ 0) }
     {
-        Ended { ending, line: 0 }
+        Ended {
+            exit_reason,
+            line: 0,
+        }
     }
 
     /// The exit status.
     pub fn status(self) -> u8
-        ensures { result ≡ status_of self.ending }
+        ensures { result ≡ status_of self.exit_reason }
     {
-        self.ending.status()
+        self.exit_reason.status()
     }
 }
 
 /// Prints a notice.
-fn print_notice<W: Sink>(notice: Notice, output: &mut W) -> Ending
-    ensures { Gives (W.state output.old) (W.state output.new) (notice_text notice) result }
+fn print_notice<W: Sink>(info_request: InfoRequest, output: &mut W) -> ExitReason
+    ensures { Gives (W.state output.old) (W.state output.new) (notice_text info_request) result }
 {
-    match put_all(output, notice.text()) {
-        Ok(()) => Ending::Done,
-        Err(_) => Ending::Output,
+    match put_all(output, info_request.text()) {
+        Ok(()) => ExitReason::Done,
+        Err(_) => ExitReason::Output,
     }
 }
 
 /// How a run of one subcommand ends that has read its files.
-fn ending_of(done: Result<(), CliFault>) -> Ending
+fn ending_of(done: Result<(), CliFault>) -> ExitReason
     ensures { result ≡ ending_of_shot done }
 {
     match done {
-        Ok(()) => Ending::Done,
-        Err(fault) => Ending::from(fault),
+        Ok(()) => ExitReason::Done,
+        Err(fault) => ExitReason::from(fault),
     }
 }
 
 /// Prints a view whose rows depend on nothing of a record except its interval, of the files that were read.
-fn print_intervals<A: Allocator + Copy, W: Sink>(
+fn shot_of_intervals<A: Allocator + Copy, W: Sink>(
     view: IntervalsView,
     read: ReadFiles<Span, A>,
     output: &mut W,
-) -> Ending
+) -> ExitReason
     ensures { (plan : RunPlan) (texts : Texts) → AskForIntervals plan.view view → Says bare plan texts read.loading (option_map (λ bytes. bytes.items) read.bases)
         → PrintsView plan texts (W.state output.old) (W.state output.new) result }
 {
@@ -91,14 +94,14 @@ fn print_texts<A: Allocator + Copy, W: Sink>(
     plan: &Plan<'_, A>,
     texts: FileTexts<A>,
     output: &mut W,
-) -> Ending
+) -> ExitReason
     requires columns { AskForColumns plan.now.view }
     requires first { length texts.first < 2 ^ 32 }
     requires other { IfSome texts.other (λ text. length text < 2 ^ 32) }
     ensures { PrintsView plan.now texts (W.state output.old) (W.state output.new) result }
 {
     let FileTexts { lent, bases } = texts;
-    ending_of(print_columns(alloc, plan, &lent.inputs(), bases, MOST_RECORDS, output))
+    ending_of(shot_of_columns(alloc, plan, &lent.inputs(), bases, MOST_RECORDS, output))
 }
 
 /// Prints the view of a plan.
@@ -107,7 +110,7 @@ fn print_view<A: Allocator + Copy, F: InputFiles, W: Sink>(
     files: &mut F,
     plan: &Plan<'_, A>,
     output: &mut W,
-) -> Result<Ending, SlotFault>
+) -> Result<ExitReason, SlotFault>
     ensures ok { IfOk result (λ ended. (texts : Texts) × AreTexts (F.state files.old) plan.now texts
         × PrintsView plan.now texts (W.state output.old) (W.state output.new) ended) }
     ensures same { OnOk result (F.state files.new ≡ F.state files.old) }
@@ -116,7 +119,7 @@ fn print_view<A: Allocator + Copy, F: InputFiles, W: Sink>(
 {
     if let Some(view) = IntervalsView::of_plan(plan) {
         let read = ReadFiles::read(alloc, files, plan)?;
-        return Ok(print_intervals(view, read, output));
+        return Ok(shot_of_intervals(view, read, output));
     }
     let texts = FileTexts::read(alloc, files, plan)?;
     Ok(print_texts(alloc, plan, texts, output))
@@ -133,41 +136,41 @@ fn run_plan<A: Allocator + Copy, F: InputFiles, R: Source, W: Sink, E: Sink>(
 ) -> Ended
     ensures { RunsPlan plan.now
         (world (F.state files.old) (R.state input.old) (W.state output.old) (E.state messages.old))
-        (world (F.state files.new) (R.state input.new) (W.state output.new) (E.state messages.new)) result.ending result.line }
+        (world (F.state files.new) (R.state input.new) (W.state output.new) (E.state messages.new)) result.exit_reason result.line }
 {
     if plan.is_script() {
         return match run_session(alloc, files, plan, input, output, messages) {
             Ok(ended) => ended,
-            Err(why) => Ended::at_no_line(Ending::from(why)),
+            Err(why) => Ended::at_no_line(ExitReason::from(why)),
         };
     }
     match print_view(alloc, files, plan, output) {
-        Ok(ending) => Ended::at_no_line(ending),
-        Err(why) => Ended::at_no_line(Ending::from(why)),
+        Ok(exit_reason) => Ended::at_no_line(exit_reason),
+        Err(why) => Ended::at_no_line(ExitReason::from(why)),
     }
 }
 
 /// Reports an ending, with the name of the file that is meant, and gives its status.
-pub fn tell<E: Sink>(ending: Ending, name: &[u8], messages: &mut E) -> u8
-    ensures told { Tells (E.state messages.old) (E.state messages.new) (line_of name.now ending) }
-    ensures quiet { is_through ending ≡ true → messages.new ≡ messages.old }
-    ensures status { result ≡ status_of ending }
+pub fn tell<E: Sink>(exit_reason: ExitReason, name: &[u8], messages: &mut E) -> u8
+    ensures told { Tells (E.state messages.old) (E.state messages.new) (line_of name.now exit_reason) }
+    ensures quiet { is_through exit_reason ≡ true → messages.new ≡ messages.old }
+    ensures status { result ≡ status_of exit_reason }
 {
     // If the messages take no more, only the status reports it.
-    let _ = ending.put_line(name, messages);
-    ending.status()
+    let _ = exit_reason.put_line(name, messages);
+    exit_reason.status()
 }
 
 /// Ends a run: the output hands on what it holds, and the ending is reported.
 fn finish<W: Flush, E: Sink>(ended: Ended, name: &[u8], output: &mut W, messages: &mut E) -> Ended
-    ensures ending { Finishes ended.ending name.now (W.state output.old) (W.state output.new) (E.state messages.old) (E.state messages.new) result.ending }
+    ensures exit_reason { Finishes ended.exit_reason name.now (W.state output.old) (W.state output.new) (E.state messages.old) (E.state messages.new) result.exit_reason }
     ensures line { result.line ≡ ended.line }
 {
     let flushed = output.flush().is_ok();
-    let ending = ended.ending.after_flush(flushed);
-    tell(ending, name, messages);
+    let exit_reason = ended.exit_reason.after_flush(flushed);
+    tell(exit_reason, name, messages);
     Ended {
-        ending,
+        exit_reason,
         line: ended.line,
     }
 }
@@ -186,17 +189,17 @@ pub fn run_program<A: Allocator + Copy, F: InputFiles, R: Source, W: Flush, E: S
         (world (F.state files.old) (R.state input.old) (W.state output.old) (E.state messages.old))
         (world (F.state files.new) (R.state input.new) (W.state output.new) (E.state messages.new)) result }
 {
-    if let Some(notice) = Notice::of(words) {
-        let ended = Ended::at_no_line(print_notice(notice, output));
+    if let Some(info_request) = InfoRequest::of(words) {
+        let ended = Ended::at_no_line(print_notice(info_request, output));
         return finish(ended, b"", output, messages);
     }
     match Plan::read(alloc, words) {
         Ok(plan) => {
             let ended = run_plan(alloc, &plan, files, input, output, messages);
-            finish(ended, ended.ending.file_meant(&plan), output, messages)
+            finish(ended, ended.exit_reason.file_meant(&plan), output, messages)
         }
         Err(fault) => {
-            let ended = Ended::at_no_line(Ending::from(fault));
+            let ended = Ended::at_no_line(ExitReason::from(fault));
             finish(ended, b"", output, messages)
         }
     }
@@ -205,8 +208,8 @@ pub fn run_program<A: Allocator + Copy, F: InputFiles, R: Source, W: Flush, E: S
 /// A run that gives the status 0 has done all that its arguments ask for: the output has taken the whole text of the notice or of the
 /// view for the files' bytes, or every line of the script was run and none refused.
 pub fn done_is_all()
-    ensures notice { (words : List (List ℕ)) (before after : World) (notice : Notice) (ended : Ended) → notice_of words ≡ Some notice → Runs words before after ended → status_of ended.ending ≡ 0 → Takes before.streams.output after.streams.output (notice_text notice) }
-    ensures plan { (words : List (List ℕ)) (before after : World) (plan : RunPlan) (ended : Ended) → notice_of words ≡ None → IsPlan words plan → Runs words before after ended → status_of ended.ending ≡ 0 → DoesAll plan before after }
+    ensures info_request { (words : List (List ℕ)) (before after : World) (info_request : InfoRequest) (ended : Ended) → notice_of words ≡ Some info_request → Runs words before after ended → status_of ended.exit_reason ≡ 0 → Takes before.streams.output after.streams.output (notice_text info_request) }
+    ensures plan { (words : List (List ℕ)) (before after : World) (plan : RunPlan) (ended : Ended) → notice_of words ≡ None → IsPlan words plan → Runs words before after ended → status_of ended.exit_reason ≡ 0 → DoesAll plan before after }
 {}
 
 /// Arguments have at most one plan: they decide all of it.
@@ -218,6 +221,6 @@ pub fn one_plan_at_most()
 /// files alone, if no device fails, no file is too long and memory suffices: it is what the view's definition gives for these bytes.
 pub fn views_depend_on_bytes_alone()
     ensures { (words : List (List ℕ)) (before after : World) (plan : RunPlan) (texts : Texts) (ended : Ended) → notice_of words ≡ None → IsPlan words plan → is_session plan.run ≡ false
-        → Hold before.files plan texts → Runs words before after ended → AreSound after → status_of ended.ending ≢ 5
-        → PrintsJust plan (shown plan texts.sizes texts.first texts.other texts.bases most_records) before.streams after.streams (status_of ended.ending) }
+        → Hold before.files plan texts → Runs words before after ended → AreSound after → status_of ended.exit_reason ≢ 5
+        → PrintsJust plan (shown plan texts.sizes texts.first texts.other texts.bases most_records) before.streams after.streams (status_of ended.exit_reason) }
 {}

@@ -12,7 +12,7 @@ use crate::files::{InputFiles, ReadFiles, SlotFault};
 use crate::program::Ended;
 use iv_args::Plan;
 use iv_bytes::{Sink, Source};
-use iv_cli::{Ending, begin_session};
+use iv_cli::{ExitReason, begin_session};
 use iv_session::{RunFault, ScriptLimits, Summary, run_script};
 use iv_text::Record;
 use std::alloc::Allocator;
@@ -46,18 +46,18 @@ fn run_over<A: Allocator + Copy, R: Source, W: Sink, E: Sink>(
     ensures { (plan : RunPlan) (texts : Texts) → Says (λ r. r) plan texts read.loading (option_map (λ bytes. bytes.items) read.bases)
         → RunsScript plan texts
         (streams (R.state input.old) (W.state output.old) (E.state messages.old))
-        (streams (R.state input.new) (W.state output.new) (E.state messages.new)) result.ending result.line }
+        (streams (R.state input.new) (W.state output.new) (E.state messages.new)) result.exit_reason result.line }
 {
     let ReadFiles { loading, bases } = read;
     let mut session = match begin_session(loading, bases) {
         Ok(session) => session,
-        Err(fault) => return Ended::at_no_line(Ending::from(fault)),
+        Err(fault) => return Ended::at_no_line(ExitReason::from(fault)),
     };
     let done = run_script(alloc, &mut session, &SCRIPT_LIMITS, input, output, messages);
     // The process ends soon, and the system takes its memory at once. A drop would free record by record.
     mem::forget(session);
     Ended {
-        ending: Ending::of_run(&done),
+        exit_reason: ExitReason::of_run(&done),
         line: line_of_stop(&done),
     }
 }
@@ -74,7 +74,7 @@ pub(crate) fn run_session<A: Allocator + Copy, F: InputFiles, R: Source, W: Sink
     ensures ok { IfOk result (λ ended. (texts : Texts) × AreTexts (F.state files.old) plan.now texts
         × RunsScript plan.now texts
         (streams (R.state input.old) (W.state output.old) (E.state messages.old))
-        (streams (R.state input.new) (W.state output.new) (E.state messages.new)) ended.ending ended.line) }
+        (streams (R.state input.new) (W.state output.new) (E.state messages.new)) ended.exit_reason ended.line) }
     ensures same { OnOk result (F.state files.new ≡ F.state files.old) }
     ensures err { IfErr result (λ why. StopsAt plan.now (F.state files.old) (F.state files.new) why.0 why.1) }
     ensures nothing { OnErr result (streams (R.state input.new) (W.state output.new) (E.state messages.new)

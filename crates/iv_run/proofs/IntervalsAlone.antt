@@ -6,7 +6,7 @@ use Rattle.std.specs.Option.{option_map}
 use Rattle.iv_text.specs.Genome.{Sequences, seq_count, sequence_length, sequence_name}
 use Rattle.iv_text.specs.RecordValue.{RecordValue}
 use Rattle.iv_cover.specs.Blocks.{block_at, block_stop, blocks_below, greatest, is_block_start, last_passing, members, reaches}
-use Rattle.iv_text.specs.Covering.{covers}
+use Rattle.iv_text.specs.CoveredPositions.{covers}
 use Rattle.iv_cover.specs.Depth.{depth}
 use Rattle.iv_cover.specs.Runs.{empty_runs}
 use Rattle.iv_cover.specs.TrackBlocks.{start_of, stop_of}
@@ -14,12 +14,12 @@ use Rattle.iv_cover.specs.declared.column.ColumnSummary.{ColumnSummary}
 use Rattle.iv_blocks.specs.ComplementRows.{complement_text, gap_row}
 use Rattle.iv_blocks.specs.Groups.{group, is_in_group, sides}
 use Rattle.iv_blocks.specs.MergeRows.{block_row, merge_text}
-use Rattle.iv_blocks.specs.declared.options.Options.{Options}
+use Rattle.iv_blocks.specs.declared.options.BlockOptions.{BlockOptions}
 use Rattle.iv_depth.specs.DepthRows.{depth_text, text_by}
 use Rattle.iv_depth.specs.declared.depth_rows.DepthRows.{DepthRows}
 use Rattle.iv_index.specs.Locators.{bare}
 use Rattle.iv_index.proofs.BareLemmas.{count-bare}
-use Rattle.iv_blocks.specs.PlainOptions.{IsPlain}
+use Rattle.iv_blocks.specs.IntervalOptions.{IsByIntervals}
 
 -- ---- tests of bare records
 
@@ -122,7 +122,7 @@ text_with d stranded summaries g rows = flat_map
     (range_with_len 0 (seq_count g))
 
 -- of a merge that joins both strands and asks nothing of a block
-pub merge-bare : (distance : ℕ) (o : Options) (g : Sequences) (rows : List RecordValue) → IsPlain distance o → merge_text o g (map bare rows) ≡ merge_text o g rows
+pub merge-bare : (distance : ℕ) (o : BlockOptions) (g : Sequences) (rows : List RecordValue) → IsByIntervals distance o → merge_text o g (map bare rows) ≡ merge_text o g rows
 merge-bare distance o g rows plain = as_joined (map bare rows) ∙ both ∙ sym (as_joined rows)
   where
     as_joined : (rows : List RecordValue) → merge_text o g rows ≡ text_with o.distance false [] g rows

@@ -10,15 +10,15 @@ use Rattle.iv_text.specs.declared.fault.Fault.TheVariants as refused
 use Rattle.iv_index.proofs.BareLemmas.{ordered-bare}
 use Rattle.iv_index.specs.Locators.{bare}
 use Rattle.iv_blocks.specs.Groups.{listed}
-use Rattle.iv_blocks.specs.PlainOptions.{IsPlain}
-use Rattle.iv_blocks.specs.declared.options.Options.{Options}
-use Rattle.iv_view.specs.Narrowing.{narrowed, has_columns}
+use Rattle.iv_blocks.specs.IntervalOptions.{IsByIntervals}
+use Rattle.iv_blocks.specs.declared.options.BlockOptions.{BlockOptions}
+use Rattle.iv_view.specs.NarrowedViews.{narrowed, has_columns}
 use Rattle.iv_view.specs.Views.{as_merge, beside_second, kept_text, read_words}
 use Rattle.iv_view.proofs.NarrowingLemmas.{fault-narrowed, view-narrowed}
 use Rattle.iv_view.specs.declared.view.View.{View}
 use Rattle.iv_view.specs.declared.view.View.TheVariants as view
 use Rattle.iv_view.specs.declared.view.KeptView.{KeptView}
-use Rattle.iv_view.specs.declared.view.KeptView.TheVariants as kept
+use Rattle.iv_view.specs.declared.view.KeptView.TheVariants as projected
 use Rattle.iv_view.specs.declared.written_view.WrittenView.TheVariants as written
 use Rattle.iv_depth.specs.declared.depth_rows.DepthRows.{DepthRows}
 use Rattle.iv_pair.specs.declared.pair_rows.PairRows.{PairRows}
@@ -40,23 +40,23 @@ use Rattle.iv_run.proofs.ShotLemmas.{shows-text}
 -- ---- views
 
 -- what holds of each view that a view of intervals can be holds of the one that it is
-pub of-merge : (distance : ℕ) (P : KeptView → Type 0) → ((o : Options) → IsPlain distance o → P (kept.Merge o)) → (asked : KeptView) → IsViewOf (places.Merge distance) asked → P asked
-of-merge distance P each (kept.Merge options) is = each options is
-of-merge distance P each (kept.Cluster d) is = absurd is
-of-merge distance P each (kept.Complement limited) is = absurd is
-of-merge distance P each (kept.Genomecov rows) is = absurd is
+pub of-merge : (distance : ℕ) (P : KeptView → Type 0) → ((o : BlockOptions) → IsByIntervals distance o → P (projected.Merge o)) → (asked : KeptView) → IsViewOf (places.Merge distance) asked → P asked
+of-merge distance P each (projected.Merge options) is = each options is
+of-merge distance P each (projected.Cluster d) is = absurd is
+of-merge distance P each (projected.Complement limited) is = absurd is
+of-merge distance P each (projected.Genomecov rows) is = absurd is
 
-pub of-complement : (limited : Bool) (P : KeptView → Type 0) → P (kept.Complement limited) → (asked : KeptView) → IsViewOf (places.Complement limited) asked → P asked
-of-complement limited P one (kept.Merge options) is = absurd is
-of-complement limited P one (kept.Cluster d) is = absurd is
-of-complement limited P one (kept.Complement asked) is = subst (λ (b : Bool). P (kept.Complement b)) (sym is) one
-of-complement limited P one (kept.Genomecov rows) is = absurd is
+pub of-complement : (limited : Bool) (P : KeptView → Type 0) → P (projected.Complement limited) → (asked : KeptView) → IsViewOf (places.Complement limited) asked → P asked
+of-complement limited P one (projected.Merge options) is = absurd is
+of-complement limited P one (projected.Cluster d) is = absurd is
+of-complement limited P one (projected.Complement asked) is = subst (λ (b : Bool). P (projected.Complement b)) (sym is) one
+of-complement limited P one (projected.Genomecov rows) is = absurd is
 
-pub of-genomecov : (rows : DepthRows) (P : KeptView → Type 0) → P (kept.Genomecov rows) → (asked : KeptView) → IsViewOf (places.Genomecov rows) asked → P asked
-of-genomecov rows P one (kept.Merge options) is = absurd is
-of-genomecov rows P one (kept.Cluster d) is = absurd is
-of-genomecov rows P one (kept.Complement limited) is = absurd is
-of-genomecov rows P one (kept.Genomecov asked) is = subst (λ (d : DepthRows). P (kept.Genomecov d)) (sym is) one
+pub of-genomecov : (rows : DepthRows) (P : KeptView → Type 0) → P (projected.Genomecov rows) → (asked : KeptView) → IsViewOf (places.Genomecov rows) asked → P asked
+of-genomecov rows P one (projected.Merge options) is = absurd is
+of-genomecov rows P one (projected.Cluster d) is = absurd is
+of-genomecov rows P one (projected.Complement limited) is = absurd is
+of-genomecov rows P one (projected.Genomecov asked) is = subst (λ (d : DepthRows). P (projected.Genomecov d)) (sym is) one
 
 -- nothing except the intervals of records counts
 needs-places : (v : IntervalsView) (asked : KeptView) → IsViewOf v asked → NeedsIntervalsAlone asked
@@ -65,15 +65,15 @@ needs-places (places.Complement limited) = of-complement limited NeedsIntervalsA
 needs-places (places.Genomecov asked) = of-genomecov asked NeedsIntervalsAlone (λ g rows. genomecov-bare asked g rows)
 
 -- a merge is a view of intervals if it is plain
-module _ (b : Bool) (o : Options) (plain : (b ≡ true) ↔ IsPlain o.distance o) where
-  pub merge-places : IfSome (then_some b (places.Merge o.distance)) (λ v. IsViewOf v (kept.Merge o))
+module _ (b : Bool) (o : BlockOptions) (plain : (b ≡ true) ↔ IsByIntervals o.distance o) where
+  pub merge-places : IfSome (then_some b (places.Merge o.distance)) (λ v. IsViewOf v (projected.Merge o))
   merge-places = by b plain.0
     where
-      by : (b : Bool) → (b ≡ true → IsPlain o.distance o) → IfSome (then_some b (places.Merge o.distance)) (λ v. IsViewOf v (kept.Merge o))
+      by : (b : Bool) → (b ≡ true → IsByIntervals o.distance o) → IfSome (then_some b (places.Merge o.distance)) (λ v. IsViewOf v (projected.Merge o))
       by true is = is refl
       by false is = tt
 
-  pub merge-columns : then_some b (places.Merge o.distance) ≡ None → NeedsColumns (kept.Merge o)
+  pub merge-columns : then_some b (places.Merge o.distance) ≡ None → NeedsColumns (projected.Merge o)
   merge-columns none (places.Merge distance) is = by b (plain.1 (record { far = refl; together = is.together; nothing = is.nothing })) none
     where
       by : (b : Bool) → b ≡ true → then_some b (places.Merge o.distance) ≡ None → ⊥
@@ -83,7 +83,7 @@ module _ (b : Bool) (o : Options) (plain : (b ≡ true) ↔ IsPlain o.distance o
   merge-columns none (places.Genomecov rows) is = is
 
 -- a cluster is none
-pub cluster-columns : (distance : ℕ) → NeedsColumns (kept.Cluster distance)
+pub cluster-columns : (distance : ℕ) → NeedsColumns (projected.Cluster distance)
 cluster-columns distance (places.Merge d) is = is
 cluster-columns distance (places.Complement limited) is = is
 cluster-columns distance (places.Genomecov rows) is = is
@@ -97,7 +97,7 @@ narrowed-same width b c (places.Merge distance) = of-merge distance (λ (k : Kep
 narrowed-same width b c (places.Complement limited) = of-complement limited (λ (k : KeptView). narrowed width b c (view.Kept k) ≡ Ok (view.Kept k)) refl
 narrowed-same width b c (places.Genomecov rows) = of-genomecov rows (λ (k : KeptView). narrowed width b c (view.Kept k) ≡ Ok (view.Kept k)) refl
 
-merge-kept : (t u : Bool) (o : Options) (asked : KeptView) → as_merge (if t then Err refused.Column else if u then Err refused.NoStrand else Ok o) ≡ Ok (view.Kept asked) → view.Kept (kept.Merge o) ≡ view.Kept asked
+merge-kept : (t u : Bool) (o : BlockOptions) (asked : KeptView) → as_merge (if t then Err refused.Column else if u then Err refused.NoStrand else Ok o) ≡ Ok (view.Kept asked) → view.Kept (projected.Merge o) ≡ view.Kept asked
 merge-kept true u o asked is = cc
 merge-kept false true o asked is = cc
 merge-kept false false o asked is = cc
@@ -114,10 +114,10 @@ fasta-never false false rows asked is = cc
 
 -- a kept view is what it was on six columns and beside both files
 narrowed-kept : (width : ℕ) (b c : Bool) (v : View) (asked : KeptView) → narrowed width b c v ≡ Ok (view.Kept asked) → v ≡ view.Kept asked
-narrowed-kept width b c (view.Kept (kept.Merge o)) asked is = merge-kept (not (has_columns width (listed o.summaries))) (o.stranded && nat_lt width 6) o asked is
-narrowed-kept width b c (view.Kept (kept.Cluster distance)) asked is = cc
-narrowed-kept width b c (view.Kept (kept.Complement limited)) asked is = cc
-narrowed-kept width b c (view.Kept (kept.Genomecov rows)) asked is = cc
+narrowed-kept width b c (view.Kept (projected.Merge o)) asked is = merge-kept (not (has_columns width (listed o.summaries))) (o.stranded && nat_lt width 6) o asked is
+narrowed-kept width b c (view.Kept (projected.Cluster distance)) asked is = cc
+narrowed-kept width b c (view.Kept (projected.Complement limited)) asked is = cc
+narrowed-kept width b c (view.Kept (projected.Genomecov rows)) asked is = cc
 narrowed-kept width b c (view.Written (written.Paired rows)) asked is = absurd (second-never b rows asked is)
 narrowed-kept width b c (view.Written (written.Getfasta rows)) asked is = absurd (fasta-never (rows.stranded && nat_lt width 6) c rows asked is)
 

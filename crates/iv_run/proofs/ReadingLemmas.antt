@@ -53,9 +53,9 @@ StopsReading-piece a b c limit front piece fault before after why =
   where
     cause_of : (f : FileFault) (old new : SourceState) (most count sum : ℕ) → new.failed ≡ old.failed → count ≡ sum
         → IsPieceFault f most sum → IsFaultOf f old new most count
-    cause_of Input old new most count sum kept same why = absurd why
-    cause_of TooLong old new most count sum kept same why = (kept, subst (λ (n : ℕ). most < n) (sym same) why)
-    cause_of Memory old new most count sum kept same why = (kept, subst (λ (n : ℕ). n ≤ most) (sym same) why)
+    cause_of Input old new most count sum projected same why = absurd why
+    cause_of TooLong old new most count sum projected same why = (projected, subst (λ (n : ℕ). most < n) (sym same) why)
+    cause_of Memory old new most count sum projected same why = (projected, subst (λ (n : ℕ). n ≤ most) (sym same) why)
 
 -- a front of the text has no more bytes than the text
 front-few : (old new : Option (List ℕ)) (front text : List ℕ) → old ≡ Some text → Consumes old new front → length front ≤ length text

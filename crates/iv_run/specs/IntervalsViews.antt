@@ -1,18 +1,18 @@
 -- Views whose rows depend on nothing of a record except its interval.
 use Rattle.std.specs.Prelude.{◌≡◌, ℕ, Bool, List, Ok}
-use Rattle.iv_blocks.specs.PlainOptions.{IsPlain}
+use Rattle.iv_blocks.specs.IntervalOptions.{IsByIntervals}
 use Rattle.iv_view.specs.Views.{read_words}
 use Rattle.iv_view.specs.declared.view.KeptView.{KeptView}
 use Rattle.iv_run.specs.declared.intervals_view.IntervalsView.{IntervalsView}
 use Rattle.iv_view.specs.declared.view.View.TheVariants as view
-use Rattle.iv_view.specs.declared.view.KeptView.TheVariants as kept
+use Rattle.iv_view.specs.declared.view.KeptView.TheVariants as projected
 use Rattle.iv_run.specs.declared.intervals_view.IntervalsView.TheVariants as places
 
 -- this is the view
 abbrev pub IsViewOf : IntervalsView → KeptView → Type 0
-IsViewOf (places.Merge distance) (kept.Merge options) = IsPlain distance options
-IsViewOf (places.Complement limited) (kept.Complement asked) = asked ≡ limited
-IsViewOf (places.Genomecov shown) (kept.Genomecov asked) = asked ≡ shown
+IsViewOf (places.Merge distance) (projected.Merge options) = IsByIntervals distance options
+IsViewOf (places.Complement limited) (projected.Complement asked) = asked ≡ limited
+IsViewOf (places.Genomecov shown) (projected.Genomecov asked) = asked ≡ shown
 IsViewOf _ _ = ⊥
 
 -- these words ask for this view of intervals, at each width and beside any files

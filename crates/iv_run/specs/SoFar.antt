@@ -23,8 +23,8 @@ pub record SoFar : Type 0 where
   pub second : Option Bed
 
 -- the records are projections of records of the file's width on the genome, and they are not more than the limit
-pub record AreProjected (kept : RecordValue → RecordValue) (g : Sequences) (limit : ℕ) (file : Bed) : Type 0 where
-  pub kept_all : All (IsProjected kept g file.width) file.rows
+pub record AreProjected (projected : RecordValue → RecordValue) (g : Sequences) (limit : ℕ) (file : Bed) : Type 0 where
+  pub kept_all : All (IsProjected projected g file.width) file.rows
   pub few : length file.rows ≤ limit
 
 -- the limits of a run stay
@@ -39,7 +39,7 @@ noted (Some before) fault = Some before
 -- a call answers with the BED file of these bytes, given what is known, with its records projected; or with its first fault, or out of
 -- memory
 abbrev pub IsSaid : (RecordValue → RecordValue) → SoFar → List ℕ → Result Bed LoadFault → Type 0
-IsSaid kept known text said = IsAnswer said (projected_bed_of kept known.genome known.width known.limit text)
+IsSaid projected known text said = IsAnswer said (projected_bed_of projected known.genome known.width known.limit text)
 
 -- once the first file is read
 abbrev pub taken_first : SoFar → Result Bed LoadFault → SoFar
@@ -62,34 +62,34 @@ abbrev pub SaysSizes : List ℕ → SoFar → Type 0
 SaysSizes sizes known = SaysSizesBy sizes known known.damage
 
 -- both the genome file and the first file are sound
-pub record IsFirst (kept : RecordValue → RecordValue) (sizes text : List ℕ) (known : SoFar) : Type 0 where
+pub record IsFirst (projected : RecordValue → RecordValue) (sizes text : List ℕ) (known : SoFar) : Type 0 where
   pub genome_is : genome_of sizes ≡ Ok known.genome
   pub bed : Bed
   pub bed_is : bed_of known.genome known.width known.limit text ≡ Ok bed
-  pub kept_is : known.first ≡ projected_bed kept bed
+  pub kept_is : known.first ≡ projected_bed projected bed
 
 -- so is the second file, if there is one
-pub record AreBoth (kept : RecordValue → RecordValue) (sizes text : List ℕ) (other : Option (List ℕ)) (known : SoFar) : Type 0 where
-  pub first : IsFirst kept sizes text known
+pub record AreBoth (projected : RecordValue → RecordValue) (sizes text : List ℕ) (other : Option (List ℕ)) (known : SoFar) : Type 0 where
+  pub first : IsFirst projected sizes text known
   pub beside : Option Bed
   pub beside_is : second_of known.genome known.width known.limit other ≡ Ok beside
-  pub kept_is : known.second ≡ option_map (projected_bed kept) beside
+  pub kept_is : known.second ≡ option_map (projected_bed projected) beside
 
 -- the files of these bytes are sound; or this is the report of all files, whatever the FASTA file is
 abbrev pub SaysSecondBy : (RecordValue → RecordValue) → List ℕ → List ℕ → Option (List ℕ) → SoFar → Option CliFault → Type 0
-SaysSecondBy kept sizes text other known None = AreBoth kept sizes text other known
-SaysSecondBy kept sizes text other known (Some k) =
+SaysSecondBy projected sizes text other known None = AreBoth projected sizes text other known
+SaysSecondBy projected sizes text other known (Some k) =
     (k ≡ Memory) ⊎ ((bases : Option (List ℕ)) → parsed known.width sizes text other bases known.limit ≡ Err k)
 
 -- what is known is the value of the genome file and the BED files of these bytes
 abbrev pub SaysSecond : (RecordValue → RecordValue) → List ℕ → List ℕ → Option (List ℕ) → SoFar → Type 0
-SaysSecond kept sizes text other known = SaysSecondBy kept sizes text other known known.damage
+SaysSecond projected sizes text other known = SaysSecondBy projected sizes text other known known.damage
 
 -- files with their records projected
-abbrev pub kept_files : (RecordValue → RecordValue) → Parsed → Parsed
-kept_files kept files = record files { first = projected_bed kept files.first; second = option_map (projected_bed kept) files.second }
+abbrev pub projected_files : (RecordValue → RecordValue) → Parsed → Parsed
+projected_files projected files = record files { first = projected_bed projected files.first; second = option_map (projected_bed projected) files.second }
 
 -- a call answers with files, with their records projected; or it reports the fault of the first damaged one, or out of memory
 abbrev pub ReportsProjected : (RecordValue → RecordValue) → Result Parsed CliFault → Result Parsed CliFault → Type 0
-ReportsProjected kept (Ok files) said = (whole : Parsed) × (said ≡ Ok whole) × (files ≡ kept_files kept whole)
-ReportsProjected kept (Err k) said = (k ≡ Memory) ⊎ (said ≡ Err k)
+ReportsProjected projected (Ok files) said = (whole : Parsed) × (said ≡ Ok whole) × (files ≡ projected_files projected whole)
+ReportsProjected projected (Err k) said = (k ≡ Memory) ⊎ (said ≡ Err k)

@@ -5,7 +5,7 @@ ghost use Rattle.iv_bytes.specs.Sources.{SourceState};
 ghost use Rattle.iv_text.specs.declared.fault.LoadCause.TheVariants as cause;
 ghost use Rattle.iv_text.specs.declared.fault.LoadFault.{LoadFault};
 ghost use Rattle.iv_text.specs.BedReading.{AreSound, projected_bed_of, size_of};
-ghost use Rattle.iv_index.specs.Inside.Spans.{span_rows};
+ghost use Rattle.iv_index.specs.Inside.Spans.{span_records};
 ghost use Rattle.iv_run.specs.Files.{ReadsWhole, StopsReading};
 ghost use Rattle.iv_run.specs.Inside.Files.{EndsReading, HadMemory, IsPieceFault, IsTooLong};
 ghost use Rattle.iv_run.specs.Loading.{IsAnswer, bases_said, damage_of};
@@ -117,7 +117,7 @@ impl<A: Allocator + Copy> ParsedFile<Span, A> {
     ///
     /// An allocation failed.
     pub(crate) fn into_spans(self) -> Result<Vec<Span, A>, AllocError>
-        ensures { IfOk result (λ spans. span_rows spans.items ≡ self.rows) }
+        ensures { IfOk result (λ spans. span_records spans.items ≡ self.rows) }
     {
         self.kept.into_vec()
     }

@@ -4,7 +4,7 @@ ghost use Rattle.std.specs.Option.{option_map};
 ghost use Rattle.iv_text.specs.Ordered.{AreInOrder, ordered};
 ghost use Rattle.iv_text.specs.Read.{IsOnGenome};
 ghost use Rattle.iv_index.specs.Locators.{bare};
-ghost use Rattle.iv_index.specs.Inside.Spans.{span_rows};
+ghost use Rattle.iv_index.specs.Inside.Spans.{span_records};
 ghost use Rattle.iv_args.specs.Words.{RunPlan};
 ghost use Rattle.iv_run.specs.IntervalsViews.{AskForIntervals, IsViewOf};
 ghost use Rattle.iv_run.specs.Inside.IntervalsViews.{AskForColumns, NeedsColumns};
@@ -56,7 +56,7 @@ impl IntervalsView {
         match view {
             KeptView::Merge(options) => {
                 let merge = IntervalsView::Merge(options.distance);
-                options.is_plain().then_some(merge)
+                options.is_by_intervals().then_some(merge)
             }
             KeptView::Cluster(_) => None,
             KeptView::Complement { limited } => Some(IntervalsView::Complement {
@@ -80,9 +80,9 @@ impl IntervalsView {
         genome: &Genome<A>,
         sink: &mut S,
     ) -> Result<(), CliFault>
-        requires order { AreInOrder (span_rows spans.now) }
-        requires on_genome { All (IsOnGenome genome.now) (span_rows spans.now) }
-        ensures { (view : KeptView) → IsViewOf self view → Prints (S.state sink.old) (S.state sink.new) result (kept_text view genome.now (span_rows spans.now)) }
+        requires order { AreInOrder (span_records spans.now) }
+        requires on_genome { All (IsOnGenome genome.now) (span_records spans.now) }
+        ensures { (view : KeptView) → IsViewOf self view → Prints (S.state sink.old) (S.state sink.new) result (kept_text view genome.now (span_records spans.now)) }
     {
         let mut buffer = Buffered::new(sink);
         self.put(alloc, spans, genome, &mut buffer)?;
@@ -98,9 +98,9 @@ impl IntervalsView {
         genome: &Genome<A>,
         sink: &mut S,
     ) -> Result<(), CliFault>
-        requires order { AreInOrder (span_rows spans.now) }
-        requires on_genome { All (IsOnGenome genome.now) (span_rows spans.now) }
-        ensures text { (view : KeptView) → IsViewOf self view → Prints (S.state sink.old) (S.state sink.new) result (kept_text view genome.now (span_rows spans.now)) }
+        requires order { AreInOrder (span_records spans.now) }
+        requires on_genome { All (IsOnGenome genome.now) (span_records spans.now) }
+        ensures text { (view : KeptView) → IsViewOf self view → Prints (S.state sink.old) (S.state sink.new) result (kept_text view genome.now (span_records spans.now)) }
         ensures alone { result ≡ Err CliFault.Memory → sink.new ≡ sink.old }
     {
         match self {

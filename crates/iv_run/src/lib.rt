@@ -11,4 +11,4 @@ pub use fault::{CliFault, FileFault};
 pub use input_files::{ParsedFile, read_all, too_long_above_the_limit};
 pub use intervals_view::IntervalsView;
 pub use loading::{Inputs, LoadedFiles, Loading};
-pub use one_shot::{print_columns, shot};
+pub use one_shot::{shot, shot_of_columns};

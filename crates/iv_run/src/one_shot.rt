@@ -308,7 +308,7 @@ fn put_each<A: Allocator + Copy, S: Sink>(
 /// # Errors
 ///
 /// As of [`shot`].
-pub fn print_columns<A: Allocator + Copy, S: Sink>(
+pub fn shot_of_columns<A: Allocator + Copy, S: Sink>(
     alloc: A,
     plan: &Plan<'_, A>,
     inputs: &Inputs<'_>,
@@ -357,5 +357,5 @@ pub fn shot<A: Allocator + Copy, S: Sink>(
         let loading: Loading<Span, A> = Loading::of_inputs(alloc, plan, inputs, limit);
         return loading.print(view, bases, sink);
     }
-    print_columns(alloc, plan, inputs, bases, limit, sink)
+    shot_of_columns(alloc, plan, inputs, bases, limit, sink)
 }

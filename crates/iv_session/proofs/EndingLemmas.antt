@@ -3,7 +3,7 @@ use Rattle.std.proofs.Common.{◌≡◌, ◌≢◌, ℕ, ◌+◌, ◌≤◌, ◌
 use Rattle.iv_bytes.specs.Sources.{SourceState, IsInput}
 use Rattle.iv_session.specs.Endings.{Ran, AreSound, HadMemory, IsTooLongAt}
 use Rattle.iv_session.specs.Limits.{line_sizes, Keeps, first_over}
-use Rattle.iv_session.specs.Running.{Runs, RunsLast}
+use Rattle.iv_session.specs.ScriptLines.{Runs, RunsLast}
 use Rattle.iv_session.specs.Stops.{Stopped}
 use Rattle.iv_session.specs.Streams.{Streams}
 use Rattle.iv_session.specs.declared.script.RunCause.{RunCause}

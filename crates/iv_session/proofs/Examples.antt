@@ -6,7 +6,7 @@ use Rattle.iv_text.specs.Fields.{words}
 use Rattle.iv_text.specs.RecordValue.{RecordValue}
 use Rattle.iv_text.specs.declared.fault.Fault.TheVariants as fault
 use Rattle.iv_session.specs.Requests.{asked}
-use Rattle.iv_session.specs.Running.{Runs}
+use Rattle.iv_session.specs.ScriptLines.{Runs}
 use Rattle.iv_session.specs.Scripts.{Steps}
 use Rattle.iv_workspace.specs.OpenViews.{Shown}
 use Rattle.iv_track.specs.Edits.{with_record}

@@ -3,7 +3,7 @@ use Rattle.std.proofs.Common.{◌≡◌, ◌⊎◌, ℕ, List, [], Option, Some,
 use Rattle.std.specs.Prelude.{IsSome, MatchOption, MatchResult, find}
 use Rattle.std.specs.Option.{is_some}
 use Rattle.iv_bytes.specs.Sinks.{SinkState, Takes, FailsIn}
-use Rattle.iv_bytes.proofs.Putting.{Takes-nothing}
+use Rattle.iv_bytes.proofs.PutLemmas.{Takes-nothing}
 use Rattle.iv_text.specs.Fault.{code_of}
 use Rattle.iv_text.specs.Fields.{words}
 use Rattle.iv_text.specs.declared.fault.Fault.{Fault}
@@ -17,8 +17,8 @@ use Rattle.iv_workspace.specs.declared.fault.PrintFault.{PrintFault}
 use Rattle.iv_workspace.specs.declared.fault.PrintFault.TheVariants as printing
 use Rattle.iv_session.specs.Requests.{asked}
 use Rattle.iv_session.specs.Written.{Written, printed, refused_by, refusal_count, message_if}
-use Rattle.iv_session.specs.Running.{AsksToPrint, Ends, Runs, RunsLast, DoesAsked, RefusesAsked, Leaves}
-use Rattle.iv_session.specs.Inside.Running.{Writes, WritesFault}
+use Rattle.iv_session.specs.ScriptLines.{AsksToPrint, Ends, Runs, RunsLast, DoesAsked, RefusesAsked, Leaves}
+use Rattle.iv_session.specs.Inside.ScriptLines.{Writes, WritesFault}
 use Rattle.iv_session.specs.Inside.Scripts.{RanLine, FailedLine, Tells, refusals_of}
 use Rattle.iv_session.specs.declared.request.Request.{Request}
 use Rattle.iv_session.specs.declared.request.Request.TheVariants as request

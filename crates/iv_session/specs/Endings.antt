@@ -1,7 +1,7 @@
 -- How a run of a script ends, as its contract has it.
 use Rattle.std.specs.Prelude.{◌≡◌, ◌≢◌, ℕ, ⊤, false, Result, Ok, Err}
 use Rattle.iv_workspace.specs.States.{State}
-use Rattle.iv_session.specs.Running.{Runs, RunsLast}
+use Rattle.iv_session.specs.ScriptLines.{Runs, RunsLast}
 use Rattle.iv_session.specs.Scripts.{Done}
 use Rattle.iv_session.specs.Stops.{Stopped}
 use Rattle.iv_session.specs.Streams.{Streams}

@@ -1,5 +1,5 @@
 -- Definitions that only lemmas and private functions cite. No public contract reaches one.
 pub mod Requests
-pub mod Running
-pub mod Reading
+pub mod ScriptLines
+pub mod PulledLines
 pub mod Scripts

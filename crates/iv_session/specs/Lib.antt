@@ -3,7 +3,7 @@ pub mod Written
 pub mod EditLines
 pub mod Requests
 pub mod Limits
-pub mod Running
+pub mod ScriptLines
 pub mod Scripts
 pub mod Stops
 pub mod Endings

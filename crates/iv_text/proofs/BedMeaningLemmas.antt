@@ -10,14 +10,14 @@ use Rattle.iv_text.specs.Lines.{lines}
 use Rattle.iv_text.specs.Genome.{Sequences}
 use Rattle.iv_text.specs.Read.{has_fault, faults, row, or_fault}
 use Rattle.iv_text.specs.RecordValue.{RecordValue}
-use Rattle.iv_text.specs.BedFile.{is_unread, is_width, with_row, Bed, Draft, drafted, width_at, after_row, after_rows, finished, bed_of}
-use Rattle.iv_text.specs.FileLaws.{HaveNoCause, IsFirstFault, record_lines, first_width, rows_of, bed_from, width_after, has_row_cause, row_causes, row_cause}
+use Rattle.iv_text.specs.BedFile.{is_unread, is_width, with_row, Bed, Draft, drafted, width_at, after_record, after_records, finished, bed_of}
+use Rattle.iv_text.specs.FileMeaning.{HaveNoCause, IsFirstFault, record_lines, first_width, records_of, bed_from, width_after, has_row_cause, row_causes, record_cause}
 use Rattle.iv_text.specs.declared.fault.Fault.{Fault}
 use Rattle.iv_text.specs.declared.fault.LoadCause.{LoadCause}
 use Rattle.iv_text.specs.declared.fault.LoadCause.TheVariants as cause
 use Rattle.iv_text.specs.declared.fault.LoadFault.{LoadFault}
 use Rattle.iv_text.proofs.BedLemmas.{row-unread}
-use Rattle.iv_text.proofs.FileLawLemmas.{same-ok, same-err, ok-err, IsRun, run-value, run-fault, kept, kept-not}
+use Rattle.iv_text.proofs.FileMeaningLemmas.{same-ok, same-err, ok-err, IsRun, run-value, run-fault, kept, kept-not}
 
 -- ---- what is known after lines
 
@@ -29,7 +29,7 @@ draft_of g said = record {
 }
 
 abbrev draft : Sequences → List (List ℕ) → Draft
-draft g before = record { width = first_width before; rows = rows_of g before }
+draft g before = record { width = first_width before; rows = records_of g before }
 
 -- with the record of one more line
 abbrev with_line : Sequences → Draft → List ℕ → Draft
@@ -64,16 +64,16 @@ find-map p (f ∷ fs) = by (p (cause.Record f)) (find-map p fs)
 abbrev cause_by : Bool → Option Fault → Bool → Option LoadCause
 cause_by fits f full = cond (not fits) (Some cause.Columns) (option_or (option_map cause.Record f) (cond full (Some cause.TooMany) None))
 
-cause-unread : (g : Sequences) (limit : ℕ) (before : List (List ℕ)) (line : List ℕ) → is_unread line ≡ true → row_cause g limit before line ≡ None
+cause-unread : (g : Sequences) (limit : ℕ) (before : List (List ℕ)) (line : List ℕ) → is_unread line ≡ true → record_cause g limit before line ≡ None
 cause-unread g limit before line unread = cond-true (is_unread line) None (find (has_row_cause g limit before line) row_causes) unread
 
 cause-read : (g : Sequences) (limit : ℕ) (before : List (List ℕ)) (line : List ℕ) → is_unread line ≡ false
-    → row_cause g limit before line ≡ cause_by (is_width (width_after before line)) (find (has_fault g (width_after before line) (columns line)) faults) (nat_le limit (length (rows_of g before)))
+    → record_cause g limit before line ≡ cause_by (is_width (width_after before line)) (find (has_fault g (width_after before line) (columns line)) faults) (nat_le limit (length (records_of g before)))
 cause-read g limit before line read =
     cond-false (is_unread line) None (find (has_row_cause g limit before line) row_causes) read
     ∙ ap (λ (o : Option LoadCause). cond (not (is_width (width_after before line))) (Some cause.Columns) o)
     (find-append (has_row_cause g limit before line) (map cause.Record faults) (cause.TooMany ∷ [])
-    ∙ ap (λ (o : Option LoadCause). option_or o (cond (nat_le limit (length (rows_of g before))) (Some cause.TooMany) None)) (find-map (has_row_cause g limit before line) faults))
+    ∙ ap (λ (o : Option LoadCause). option_or o (cond (nat_le limit (length (records_of g before))) (Some cause.TooMany) None)) (find-map (has_row_cause g limit before line) faults))
 
 -- ---- one more line
 
@@ -92,42 +92,42 @@ row-by limit w rows r true None = by (nat_le limit (length rows))
     by false = refl
 
 row-outcome : (g : Sequences) (limit : ℕ) (before : List (List ℕ)) (line : List ℕ) → is_unread line ≡ false
-    → after_row g limit (draft g before) line ≡ outcome (with_line g (draft g before) line) (row_cause g limit before line)
-unfolding after_row
+    → after_record g limit (draft g before) line ≡ outcome (with_line g (draft g before) line) (record_cause g limit before line)
+unfolding after_record
 row-outcome g limit before line read =
     cond-false _ _ _ read
-    ∙ row-by limit (width_after before line) (rows_of g before) (row g (width_after before line) (columns line))
+    ∙ row-by limit (width_after before line) (records_of g before) (row g (width_after before line) (columns line))
     (is_width (width_after before line)) (find (has_fault g (width_after before line) (columns line)) faults)
     ∙ ap (outcome (with_line g (draft g before) line)) (sym (cause-read g limit before line read))
 
-row-goes : (g : Sequences) (limit : ℕ) (before : List (List ℕ)) (line : List ℕ) → row_cause g limit before line ≡ None
-    → after_row g limit (draft g before) line ≡ Ok (draft g (before ++ line ∷ []))
+row-goes : (g : Sequences) (limit : ℕ) (before : List (List ℕ)) (line : List ℕ) → record_cause g limit before line ≡ None
+    → after_record g limit (draft g before) line ≡ Ok (draft g (before ++ line ∷ []))
 row-goes g limit before line none = by (is_unread line) refl
   where
-    by : (t : Bool) → is_unread line ≡ t → after_row g limit (draft g before) line ≡ Ok (draft g (before ++ line ∷ []))
+    by : (t : Bool) → is_unread line ≡ t → after_record g limit (draft g before) line ≡ Ok (draft g (before ++ line ∷ []))
     by true unread = row-unread g limit (draft g before) line unread ∙ ap Ok (sym (draft-unread g before line unread))
     by false read =
         row-outcome g limit before line read
         ∙ ap (outcome (with_line g (draft g before) line)) none
         ∙ ap Ok (sym (draft-read g before line read))
 
-row-stops : (g : Sequences) (limit : ℕ) (before : List (List ℕ)) (line : List ℕ) (c : LoadCause) → row_cause g limit before line ≡ Some c
-    → after_row g limit (draft g before) line ≡ Err c
+row-stops : (g : Sequences) (limit : ℕ) (before : List (List ℕ)) (line : List ℕ) (c : LoadCause) → record_cause g limit before line ≡ Some c
+    → after_record g limit (draft g before) line ≡ Err c
 row-stops g limit before line c is = by (is_unread line) refl
   where
-    by : (t : Bool) → is_unread line ≡ t → after_row g limit (draft g before) line ≡ Err c
+    by : (t : Bool) → is_unread line ≡ t → after_record g limit (draft g before) line ≡ Err c
     by true unread = absurd (none-some c (sym (cause-unread g limit before line unread) ∙ is))
     by false read = row-outcome g limit before line read ∙ ap (outcome (with_line g (draft g before) line)) is
 
 -- ---- all lines
 
 -- the loop's next step, from what one more line gives
-rows-step : (g : Sequences) (limit n : ℕ) (d : Draft) (line : List ℕ) (lines : List (List ℕ)) (r : Result Draft LoadCause) → after_row g limit d line ≡ r
-    → after_rows g limit n d (line ∷ lines) ≡ elim r as (λ _. Result Draft LoadFault) [ Ok more ↦ after_rows g limit (n + 1) more lines | Err c ↦ Err (record { line = n; cause = c }) ]
+rows-step : (g : Sequences) (limit n : ℕ) (d : Draft) (line : List ℕ) (lines : List (List ℕ)) (r : Result Draft LoadCause) → after_record g limit d line ≡ r
+    → after_records g limit n d (line ∷ lines) ≡ elim r as (λ _. Result Draft LoadFault) [ Ok more ↦ after_records g limit (n + 1) more lines | Err c ↦ Err (record { line = n; cause = c }) ]
 rows-step g limit n d line lines r is =
-    ap (λ (o : Result Draft LoadCause). elim o as (λ _. Result Draft LoadFault) [ Ok more ↦ after_rows g limit (n + 1) more lines | Err c ↦ Err (record { line = n; cause = c }) ]) is
+    ap (λ (o : Result Draft LoadCause). elim o as (λ _. Result Draft LoadFault) [ Ok more ↦ after_records g limit (n + 1) more lines | Err c ↦ Err (record { line = n; cause = c }) ]) is
 
-bed-run : (g : Sequences) (limit : ℕ) → IsRun (row_cause g limit) (draft g) (after_rows g limit)
+bed-run : (g : Sequences) (limit : ℕ) → IsRun (record_cause g limit) (draft g) (after_records g limit)
 bed-run g limit = record {
   ends = λ n d. refl;
   goes = λ n before line lines none. rows-step g limit n (draft g before) line lines (Ok (draft g (before ++ line ∷ []))) (row-goes g limit before line none);
@@ -138,18 +138,18 @@ abbrev bed_at : ℕ → Draft → Bed
 bed_at empty d = record { width = unwrap_or d.width empty; rows = d.rows }
 
 pub bed-value : (g : Sequences) (empty limit : ℕ) (text : List ℕ) (b : Bed)
-    → (bed_of g empty limit text ≡ Ok b) ↔ (HaveNoCause (row_cause g limit) (lines text) × (b ≡ bed_from g empty (lines text)))
-bed-value g empty limit text b = (forth (after_rows g limit 1 (draft g []) (lines text)) refl, back)
+    → (bed_of g empty limit text ≡ Ok b) ↔ (HaveNoCause (record_cause g limit) (lines text) × (b ≡ bed_from g empty (lines text)))
+bed-value g empty limit text b = (forth (after_records g limit 1 (draft g []) (lines text)) refl, back)
   where
-    forth : (r : Result Draft LoadFault) → after_rows g limit 1 (draft g []) (lines text) ≡ r → finished empty r ≡ Ok b → HaveNoCause (row_cause g limit) (lines text) × (b ≡ bed_from g empty (lines text))
+    forth : (r : Result Draft LoadFault) → after_records g limit 1 (draft g []) (lines text) ≡ r → finished empty r ≡ Ok b → HaveNoCause (record_cause g limit) (lines text) × (b ≡ bed_from g empty (lines text))
     forth (Ok d) was is =
-        let h = (run-value (row_cause g limit) (draft g) (after_rows g limit) (bed-run g limit) (lines text) d).0 was in
+        let h = (run-value (record_cause g limit) (draft g) (after_records g limit) (bed-run g limit) (lines text) d).0 was in
         (h.0, sym (same-ok (bed_at empty d) b is) ∙ ap (bed_at empty) h.1)
     forth (Err f) was is = absurd (ok-err b f (sym is))
 
-    back : HaveNoCause (row_cause g limit) (lines text) × (b ≡ bed_from g empty (lines text)) → bed_of g empty limit text ≡ Ok b
+    back : HaveNoCause (record_cause g limit) (lines text) × (b ≡ bed_from g empty (lines text)) → bed_of g empty limit text ≡ Ok b
     back h =
-        ap (finished empty) ((run-value (row_cause g limit) (draft g) (after_rows g limit) (bed-run g limit) (lines text) (draft g (lines text))).1 (h.0, refl))
+        ap (finished empty) ((run-value (record_cause g limit) (draft g) (after_records g limit) (bed-run g limit) (lines text) (draft g (lines text))).1 (h.0, refl))
         ∙ ap Ok (sym h.1)
 
 -- a fault of a file is one of its lines
@@ -157,8 +157,8 @@ unfinished : (empty : ℕ) (r : Result Draft LoadFault) (f : LoadFault) → fini
 unfinished empty (Ok d) f is = absurd (ok-err (bed_at empty d) f is)
 unfinished empty (Err e) f is = ap Err (same-err {X = Bed} e f is)
 
-pub bed-fault : (g : Sequences) (empty limit : ℕ) (text : List ℕ) (f : LoadFault) → (bed_of g empty limit text ≡ Err f) ↔ IsFirstFault (row_cause g limit) (lines text) f
-bed-fault g empty limit text f = (λ is. both.0 (unfinished empty (after_rows g limit 1 (draft g []) (lines text)) f is), λ w. ap (finished empty) (both.1 w))
+pub bed-fault : (g : Sequences) (empty limit : ℕ) (text : List ℕ) (f : LoadFault) → (bed_of g empty limit text ≡ Err f) ↔ IsFirstFault (record_cause g limit) (lines text) f
+bed-fault g empty limit text f = (λ is. both.0 (unfinished empty (after_records g limit 1 (draft g []) (lines text)) f is), λ w. ap (finished empty) (both.1 w))
   where
-    both : (after_rows g limit 1 (draft g []) (lines text) ≡ Err f) ↔ IsFirstFault (row_cause g limit) (lines text) f
-    both = run-fault (row_cause g limit) (draft g) (after_rows g limit) (bed-run g limit) (lines text) f
+    both : (after_records g limit 1 (draft g []) (lines text) ≡ Err f) ↔ IsFirstFault (record_cause g limit) (lines text) f
+    both = run-fault (record_cause g limit) (draft g) (after_records g limit) (bed-run g limit) (lines text) f

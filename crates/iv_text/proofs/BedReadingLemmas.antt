@@ -8,7 +8,7 @@ use Rattle.std.proofs.lemmas.Bool.Decides.{nat_tests}
 use Rattle.std.proofs.Math.Nat.{mod-add-mod, mod-eq_of_lt}
 use Rattle.std.proofs.lemmas.List.{length-map, map-append, drop_all, take_more, drop-drop}
 use Rattle.std.proofs.lemmas.List.Elements.{All-nil, All-cons, All-append, All-head, All-tail}
-use Rattle.iv_text.specs.BedFile.{Bed, Draft, drafted, width_at, with_row, is_unread, is_width, after_row, after_rows, finished}
+use Rattle.iv_text.specs.BedFile.{Bed, Draft, drafted, width_at, with_row, is_unread, is_width, after_record, after_records, finished}
 use Rattle.iv_text.specs.Fields.{columns}
 use Rattle.iv_text.specs.Genome.{Sequences}
 use Rattle.iv_text.specs.Lines.{begins_with_feed, lines}
@@ -18,7 +18,7 @@ use Rattle.iv_text.specs.declared.fault.Fault.{Fault}
 use Rattle.iv_text.specs.declared.fault.LoadCause.{LoadCause}
 use Rattle.iv_text.specs.declared.fault.LoadCause.TheVariants as cause
 use Rattle.iv_text.specs.declared.fault.LoadFault.{LoadFault}
-use Rattle.iv_text.specs.FastLine.{IsShortLine}
+use Rattle.iv_text.specs.FastLine.{IsFastLine}
 use Rattle.iv_text.specs.declared.record_reader.FastLine.{FastLine}
 use Rattle.iv_text.specs.BedReading.{LinesRead, known, projected_draft, after, IsReadAt, IsProjected, AreSound, Held, shown, byte_after, BeginsAfter, Shows, TakesLines, RefusesLines, Reading, begun, coming, projected_or_fault, projected_bed_of}
 use Rattle.iv_text.specs.Inside.BedReading.{Takes, Refuses, TakesLine, RefusesLine, EndsAtFeed, IsEnded}
@@ -83,7 +83,7 @@ fed-after front bytes ends = (front ++ ends.0, ap (λ (t : List ℕ). front ++ t
 -- ---- one more line
 
 abbrev pub turned : Sequences → ℕ → ℕ → List (List ℕ) → Result Draft LoadCause → Result Draft LoadFault
-turned g limit n rest (Ok more) = after_rows g limit (n + 1) more rest
+turned g limit n rest (Ok more) = after_records g limit (n + 1) more rest
 turned g limit n rest (Err c) = Err (record { line = n; cause = c })
 
 pub full-row : (limit : ℕ) (rows : List RecordValue) (r : RecordValue) → limit ≤ length rows → with_row limit rows (Ok r) ≡ Err cause.TooMany
@@ -98,115 +98,115 @@ free-row limit rows r free = by (nat_le limit (length rows)) refl
 
 -- ---- what is known with records projected
 
-module _ (kept : RecordValue → RecordValue) where
+module _ (projected : RecordValue → RecordValue) where
   -- both are known, and the same with records projected; or both are the same fault
   abbrev AreAlike : Result Draft LoadCause → Result Draft LoadCause → Type 0
-  AreAlike (Ok d) (Ok e) = (d.width ≡ e.width) × (map kept d.rows ≡ map kept e.rows)
+  AreAlike (Ok d) (Ok e) = (d.width ≡ e.width) × (map projected d.rows ≡ map projected e.rows)
   AreAlike (Ok d) (Err c) = ⊥
   AreAlike (Err c) (Ok d) = ⊥
   AreAlike (Err c) (Err f) = c ≡ f
 
-  kept-more : (xs ys : List RecordValue) (r : RecordValue) → map kept xs ≡ map kept ys → map kept (xs ++ r ∷ []) ≡ map kept (ys ++ r ∷ [])
-  kept-more xs ys r same = map-append kept xs (r ∷ []) ∙ ap (λ (l : List RecordValue). l ++ kept r ∷ []) same ∙ sym (map-append kept ys (r ∷ []))
+  kept-more : (xs ys : List RecordValue) (r : RecordValue) → map projected xs ≡ map projected ys → map projected (xs ++ r ∷ []) ≡ map projected (ys ++ r ∷ [])
+  kept-more xs ys r same = map-append projected xs (r ∷ []) ∙ ap (λ (l : List RecordValue). l ++ projected r ∷ []) same ∙ sym (map-append projected ys (r ∷ []))
 
-module _ (kept : RecordValue → RecordValue) (g : Sequences) (limit : ℕ) where
-  alike-drafted : (w : ℕ) (xs ys : List RecordValue) (r : Result RecordValue Fault) → map kept xs ≡ map kept ys → AreAlike kept (drafted w (with_row limit xs r)) (drafted w (with_row limit ys r))
+module _ (projected : RecordValue → RecordValue) (g : Sequences) (limit : ℕ) where
+  alike-drafted : (w : ℕ) (xs ys : List RecordValue) (r : Result RecordValue Fault) → map projected xs ≡ map projected ys → AreAlike projected (drafted w (with_row limit xs r)) (drafted w (with_row limit ys r))
   alike-drafted w xs ys (Err f) same = refl
   alike-drafted w xs ys (Ok r) same = by (nat_le limit (length xs)) (nat_le limit (length ys)) (ap (nat_le limit) long)
     where
       long : length xs ≡ length ys
-      long = omega (arith, length-map xs kept, length-map ys kept, ap (λ (l : List RecordValue). length l) same)
+      long = omega (arith, length-map xs projected, length-map ys projected, ap (λ (l : List RecordValue). length l) same)
 
-      by : (s t : Bool) → s ≡ t → AreAlike kept (drafted w (cond s (Err cause.TooMany) (Ok (xs ++ r ∷ [])))) (drafted w (cond t (Err cause.TooMany) (Ok (ys ++ r ∷ []))))
+      by : (s t : Bool) → s ≡ t → AreAlike projected (drafted w (cond s (Err cause.TooMany) (Ok (xs ++ r ∷ [])))) (drafted w (cond t (Err cause.TooMany) (Ok (ys ++ r ∷ []))))
       by true true e = refl
-      by false false e = (refl, kept-more kept xs ys r same)
+      by false false e = (refl, kept-more projected xs ys r same)
       by true false e = cc
       by false true e = cc
 
-  alike-cases : (w : Option ℕ) (xs ys : List RecordValue) (t u : Bool) (a b : Result Draft LoadCause) → map kept xs ≡ map kept ys → AreAlike kept a b
-      → AreAlike kept (cond t (Ok (record { width = w; rows = xs })) (cond u a (Err cause.Columns))) (cond t (Ok (record { width = w; rows = ys })) (cond u b (Err cause.Columns)))
+  alike-cases : (w : Option ℕ) (xs ys : List RecordValue) (t u : Bool) (a b : Result Draft LoadCause) → map projected xs ≡ map projected ys → AreAlike projected a b
+      → AreAlike projected (cond t (Ok (record { width = w; rows = xs })) (cond u a (Err cause.Columns))) (cond t (Ok (record { width = w; rows = ys })) (cond u b (Err cause.Columns)))
   alike-cases w xs ys true u a b same h = (refl, same)
   alike-cases w xs ys false true a b same h = h
   alike-cases w xs ys false false a b same h = refl
 
-  alike-row : (w : Option ℕ) (xs ys : List RecordValue) (line : List ℕ) → map kept xs ≡ map kept ys
-      → AreAlike kept (after_row g limit (record { width = w; rows = xs }) line) (after_row g limit (record { width = w; rows = ys }) line)
-  unfolding after_row
+  alike-row : (w : Option ℕ) (xs ys : List RecordValue) (line : List ℕ) → map projected xs ≡ map projected ys
+      → AreAlike projected (after_record g limit (record { width = w; rows = xs }) line) (after_record g limit (record { width = w; rows = ys }) line)
+  unfolding after_record
   alike-row w xs ys line same =
       let n : ℕ = unwrap_or w (length (columns line)) in
       alike-cases w xs ys (is_unread line) (is_width n) (drafted n (with_row limit xs (read g n line))) (drafted n (with_row limit ys (read g n line))) same
       (alike-drafted n xs ys (read g n line) same)
 
   alike-turned : (n : ℕ) (ls : List (List ℕ))
-      → ((w : Option ℕ) (xs ys : List RecordValue) → map kept xs ≡ map kept ys
-      → projected_draft kept (after_rows g limit (n + 1) (record { width = w; rows = xs }) ls) ≡ projected_draft kept (after_rows g limit (n + 1) (record { width = w; rows = ys }) ls))
-      → (r s : Result Draft LoadCause) → AreAlike kept r s → projected_draft kept (turned g limit n ls r) ≡ projected_draft kept (turned g limit n ls s)
+      → ((w : Option ℕ) (xs ys : List RecordValue) → map projected xs ≡ map projected ys
+      → projected_draft projected (after_records g limit (n + 1) (record { width = w; rows = xs }) ls) ≡ projected_draft projected (after_records g limit (n + 1) (record { width = w; rows = ys }) ls))
+      → (r s : Result Draft LoadCause) → AreAlike projected r s → projected_draft projected (turned g limit n ls r) ≡ projected_draft projected (turned g limit n ls s)
   alike-turned n ls rest (Ok d) (Ok e) h =
-      rest d.width d.rows e.rows h.1 ∙ ap (λ (o : Option ℕ). projected_draft kept (after_rows g limit (n + 1) (record { width = o; rows = e.rows }) ls)) h.0
+      rest d.width d.rows e.rows h.1 ∙ ap (λ (o : Option ℕ). projected_draft projected (after_records g limit (n + 1) (record { width = o; rows = e.rows }) ls)) h.0
   alike-turned n ls rest (Ok d) (Err c) h = absurd h
   alike-turned n ls rest (Err c) (Ok d) h = absurd h
   alike-turned n ls rest (Err c) (Err f) h = ap (λ (k : LoadCause). Err (record { line = n; cause = k })) h
 
   -- of the records that are known before lines only what is held of them counts
-  alike-rows : (ls : List (List ℕ)) (n : ℕ) (w : Option ℕ) (xs ys : List RecordValue) → map kept xs ≡ map kept ys
-      → projected_draft kept (after_rows g limit n (record { width = w; rows = xs }) ls) ≡ projected_draft kept (after_rows g limit n (record { width = w; rows = ys }) ls)
+  alike-rows : (ls : List (List ℕ)) (n : ℕ) (w : Option ℕ) (xs ys : List RecordValue) → map projected xs ≡ map projected ys
+      → projected_draft projected (after_records g limit n (record { width = w; rows = xs }) ls) ≡ projected_draft projected (after_records g limit n (record { width = w; rows = ys }) ls)
   alike-rows [] n w xs ys same = ap (λ (l : List RecordValue). Ok (record { width = w; rows = l })) same
   alike-rows (line ∷ ls) n w xs ys same =
-      alike-turned n ls (λ v us vs e. alike-rows ls (n + 1) v us vs e) (after_row g limit (record { width = w; rows = xs }) line) (after_row g limit (record { width = w; rows = ys }) line)
+      alike-turned n ls (λ v us vs e. alike-rows ls (n + 1) v us vs e) (after_record g limit (record { width = w; rows = xs }) line) (after_record g limit (record { width = w; rows = ys }) line)
       (alike-row w xs ys line same)
 
   -- ---- one more line
 
-  pub line-taken : (old new : LinesRead) (all left : List (List ℕ)) (line : List ℕ) (next : Draft) → all ≡ line ∷ left → after_row g limit (known old) line ≡ Ok next
-      → next.width ≡ new.width → map kept next.rows ≡ map kept new.rows → Takes kept g limit old new all left
+  pub line-taken : (old new : LinesRead) (all left : List (List ℕ)) (line : List ℕ) (next : Draft) → all ≡ line ∷ left → after_record g limit (known old) line ≡ Ok next
+      → next.width ≡ new.width → map projected next.rows ≡ map projected new.rows → Takes projected g limit old new all left
   line-taken old new all left line next is says wide rows = λ n rest.
-      ap (λ (ls : List (List ℕ)). projected_draft kept (after_rows g limit n (known old) (ls ++ rest))) is
-      ∙ ap (λ (r : Result Draft LoadCause). projected_draft kept (turned g limit n (left ++ rest) r)) says
+      ap (λ (ls : List (List ℕ)). projected_draft projected (after_records g limit n (known old) (ls ++ rest))) is
+      ∙ ap (λ (r : Result Draft LoadCause). projected_draft projected (turned g limit n (left ++ rest) r)) says
       ∙ alike-rows (left ++ rest) (n + 1) next.width next.rows new.rows rows
-      ∙ ap (λ (o : Option ℕ). projected_draft kept (after_rows g limit (n + 1) (record { width = o; rows = new.rows }) (left ++ rest))) wide
+      ∙ ap (λ (o : Option ℕ). projected_draft projected (after_records g limit (n + 1) (record { width = o; rows = new.rows }) (left ++ rest))) wide
 
-  pub line-refused : (old : LinesRead) (all left : List (List ℕ)) (line : List ℕ) (c : LoadCause) → all ≡ line ∷ left → after_row g limit (known old) line ≡ Err c
-      → Refuses kept g limit old all c
+  pub line-refused : (old : LinesRead) (all left : List (List ℕ)) (line : List ℕ) (c : LoadCause) → all ≡ line ∷ left → after_record g limit (known old) line ≡ Err c
+      → Refuses projected g limit old all c
   line-refused old all left line c is says = λ n rest.
-      ap (λ (ls : List (List ℕ)). projected_draft kept (after_rows g limit n (known old) (ls ++ rest))) is
-      ∙ ap (λ (r : Result Draft LoadCause). projected_draft kept (turned g limit n (left ++ rest) r)) says
+      ap (λ (ls : List (List ℕ)). projected_draft projected (after_records g limit n (known old) (ls ++ rest))) is
+      ∙ ap (λ (r : Result Draft LoadCause). projected_draft projected (turned g limit n (left ++ rest) r)) says
 
-  pub unread-taken : (old : LinesRead) (all left : List (List ℕ)) (line : List ℕ) → all ≡ line ∷ left → is_unread line ≡ true → Takes kept g limit old old all left
+  pub unread-taken : (old : LinesRead) (all left : List (List ℕ)) (line : List ℕ) → all ≡ line ∷ left → is_unread line ≡ true → Takes projected g limit old old all left
   unread-taken old all left line is unread = line-taken old old all left line (known old) is (row-unread g limit (known old) line unread) refl refl
 
   pub columns-refused : (old : LinesRead) (all left : List (List ℕ)) (line : List ℕ) → all ≡ line ∷ left → is_unread line ≡ false
-      → is_width (width_at (known old) line) ≡ false → Refuses kept g limit old all cause.Columns
+      → is_width (width_at (known old) line) ≡ false → Refuses projected g limit old all cause.Columns
   columns-refused old all left line is unread wrong = line-refused old all left line cause.Columns is (row-columns g limit (known old) line unread wrong)
 
   pub record-refused : (old : LinesRead) (all left : List (List ℕ)) (line : List ℕ) (w : ℕ) (f : Fault) → all ≡ line ∷ left → is_unread line ≡ false
-      → w ≡ unwrap_or old.width (length (columns line)) → 3 ≤ w → w ≤ 6 → read g w line ≡ Err f → Refuses kept g limit old all (cause.Record f)
+      → w ≡ unwrap_or old.width (length (columns line)) → 3 ≤ w → w ≤ 6 → read g w line ≡ Err f → Refuses projected g limit old all (cause.Record f)
   record-refused old all left line w f is unread wide low high says =
       line-refused old all left line (cause.Record f) is
       (row-taken g limit (known old) line w (Err (cause.Record f)) unread wide low high (ap (with_row limit old.rows) says))
 
   pub full-refused : (old : LinesRead) (all left : List (List ℕ)) (line : List ℕ) (w : ℕ) (r : RecordValue) → all ≡ line ∷ left → is_unread line ≡ false
-      → w ≡ unwrap_or old.width (length (columns line)) → 3 ≤ w → w ≤ 6 → read g w line ≡ Ok r → limit ≤ length old.rows → Refuses kept g limit old all cause.TooMany
+      → w ≡ unwrap_or old.width (length (columns line)) → 3 ≤ w → w ≤ 6 → read g w line ≡ Ok r → limit ≤ length old.rows → Refuses projected g limit old all cause.TooMany
   full-refused old all left line w r is unread wide low high says full =
       line-refused old all left line cause.TooMany is
       (row-taken g limit (known old) line w (Err cause.TooMany) unread wide low high (ap (with_row limit old.rows) says ∙ full-row limit old.rows r full))
 
   -- what is held of the records before, at the width that is found
-  rows-before : (old : LinesRead) (w other : ℕ) → AreSound kept g limit old → w ≡ unwrap_or old.width other → All (IsProjected kept g w) old.rows
+  rows-before : (old : LinesRead) (w other : ℕ) → AreSound projected g limit old → w ≡ unwrap_or old.width other → All (IsProjected projected g w) old.rows
   rows-before old w other sound is = by old.width sound.fit is
     where
-      by : (o : Option ℕ) → MatchOption o (old.rows ≡ []) (λ k. (3 ≤ k) × (k ≤ 6) × All (IsProjected kept g k) old.rows) → w ≡ unwrap_or o other → All (IsProjected kept g w) old.rows
-      by None none same = subst (λ (l : List RecordValue). All (IsProjected kept g w) l) (sym none) (All-nil (IsProjected kept g w))
-      by (Some k) some same = subst (λ (n : ℕ). All (IsProjected kept g n) old.rows) (sym same) some.2
+      by : (o : Option ℕ) → MatchOption o (old.rows ≡ []) (λ k. (3 ≤ k) × (k ≤ 6) × All (IsProjected projected g k) old.rows) → w ≡ unwrap_or o other → All (IsProjected projected g w) old.rows
+      by None none same = subst (λ (l : List RecordValue). All (IsProjected projected g w) l) (sym none) (All-nil (IsProjected projected g w))
+      by (Some k) some same = subst (λ (n : ℕ). All (IsProjected projected g n) old.rows) (sym same) some.2
 
   -- a record was taken: what was read is sound
-  pub record-sound : (old new : LinesRead) (line : List ℕ) (w : ℕ) (r k : RecordValue) → AreSound kept g limit old → w ≡ unwrap_or old.width (length (columns line)) → 3 ≤ w → w ≤ 6
-      → Fits g w r → k ≡ kept r → length old.rows < limit → new.rows ≡ old.rows ++ k ∷ [] → new.width ≡ Some w → AreSound kept g limit new
+  pub record-sound : (old new : LinesRead) (line : List ℕ) (w : ℕ) (r k : RecordValue) → AreSound projected g limit old → w ≡ unwrap_or old.width (length (columns line)) → 3 ≤ w → w ≤ 6
+      → Fits g w r → k ≡ projected r → length old.rows < limit → new.rows ≡ old.rows ++ k ∷ [] → new.width ≡ Some w → AreSound projected g limit new
   record-sound old new line w r k sound wide low high fits kept_is free grown width =
-      let one : All (IsProjected kept g w) (k ∷ []) = All-cons (IsProjected kept g w) k [] (r, fits, kept_is) (All-nil (IsProjected kept g w)) in
-      let before : All (IsProjected kept g w) old.rows = rows-before old w (length (columns line)) sound wide in
-      let fit : All (IsProjected kept g w) new.rows = subst (λ (l : List RecordValue). All (IsProjected kept g w) l) (sym grown) (All-append (IsProjected kept g w) old.rows (k ∷ []) before one) in
+      let one : All (IsProjected projected g w) (k ∷ []) = All-cons (IsProjected projected g w) k [] (r, fits, kept_is) (All-nil (IsProjected projected g w)) in
+      let before : All (IsProjected projected g w) old.rows = rows-before old w (length (columns line)) sound wide in
+      let fit : All (IsProjected projected g w) new.rows = subst (λ (l : List RecordValue). All (IsProjected projected g w) l) (sym grown) (All-append (IsProjected projected g w) old.rows (k ∷ []) before one) in
       record {
-        fit = subst (λ (o : Option ℕ). MatchOption o (new.rows ≡ []) (λ n. (3 ≤ n) × (n ≤ 6) × All (IsProjected kept g n) new.rows)) (sym width) (low, high, fit);
+        fit = subst (λ (o : Option ℕ). MatchOption o (new.rows ≡ []) (λ n. (3 ≤ n) × (n ≤ 6) × All (IsProjected projected g n) new.rows)) (sym width) (low, high, fit);
         few = omega (arith, free, ap (λ (l : List RecordValue). length l) grown, long old.rows k);
       }
     where
@@ -215,20 +215,20 @@ module _ (kept : RecordValue → RecordValue) (g : Sequences) (limit : ℕ) wher
       long (y ∷ xs) x = omega (arith, long xs x)
 
   -- and its line is the first of those that were left
-  pub record-taken : ((r : RecordValue) → kept (kept r) ≡ kept r) → (old new : LinesRead) (all left : List (List ℕ)) (line : List ℕ) (w : ℕ) (r k : RecordValue)
+  pub record-taken : ((r : RecordValue) → projected (projected r) ≡ projected r) → (old new : LinesRead) (all left : List (List ℕ)) (line : List ℕ) (w : ℕ) (r k : RecordValue)
       → all ≡ line ∷ left → is_unread line ≡ false → w ≡ unwrap_or old.width (length (columns line)) → 3 ≤ w → w ≤ 6
-      → read g w line ≡ Ok r → k ≡ kept r → length old.rows < limit → new.rows ≡ old.rows ++ k ∷ [] → new.width ≡ Some w → Takes kept g limit old new all left
+      → read g w line ≡ Ok r → k ≡ projected r → length old.rows < limit → new.rows ≡ old.rows ++ k ∷ [] → new.width ≡ Some w → Takes projected g limit old new all left
   record-taken again old new all left line w r k is unread wide low high says kept_is free grown width =
       let gives : with_row limit old.rows (read g w line) ≡ Ok (old.rows ++ r ∷ []) = ap (with_row limit old.rows) says ∙ free-row limit old.rows r free in
-      let same : kept r ≡ kept k = sym (ap kept kept_is ∙ again r) in
-      let rows : map kept (old.rows ++ r ∷ []) ≡ map kept new.rows =
-      map-append kept old.rows (r ∷ []) ∙ ap (λ (b : RecordValue). map kept old.rows ++ b ∷ []) same ∙ sym (map-append kept old.rows (k ∷ [])) ∙ ap (map kept) (sym grown) in
+      let same : projected r ≡ projected k = sym (ap projected kept_is ∙ again r) in
+      let rows : map projected (old.rows ++ r ∷ []) ≡ map projected new.rows =
+      map-append projected old.rows (r ∷ []) ∙ ap (λ (b : RecordValue). map projected old.rows ++ b ∷ []) same ∙ sym (map-append projected old.rows (k ∷ [])) ∙ ap (map projected) (sym grown) in
       line-taken old new all left line (record { width = Some w; rows = old.rows ++ r ∷ [] }) is (row-taken g limit (known old) line w (Ok (old.rows ++ r ∷ [])) unread wide low high gives) (sym width) rows
 
   -- a width that is known is one of 3 to 6
-  pub known-wide : (old : LinesRead) (w : ℕ) → AreSound kept g limit old → old.width ≡ Some w → (3 ≤ w) × (w ≤ 6)
+  pub known-wide : (old : LinesRead) (w : ℕ) → AreSound projected g limit old → old.width ≡ Some w → (3 ≤ w) × (w ≤ 6)
   known-wide old w sound is =
-      let fit : (3 ≤ w) × (w ≤ 6) × All (IsProjected kept g w) old.rows = subst (λ (o : Option ℕ). MatchOption o (old.rows ≡ []) (λ n. (3 ≤ n) × (n ≤ 6) × All (IsProjected kept g n) old.rows)) is sound.fit in
+      let fit : (3 ≤ w) × (w ≤ 6) × All (IsProjected projected g w) old.rows = subst (λ (o : Option ℕ). MatchOption o (old.rows ≡ []) (λ n. (3 ≤ n) × (n ≤ 6) × All (IsProjected projected g n) old.rows)) is sound.fit in
       (fit.0, fit.1)
 
   -- ---- pieces
@@ -243,43 +243,43 @@ module _ (kept : RecordValue → RecordValue) (g : Sequences) (limit : ℕ) wher
 
   -- the lines of a piece, once no line is carried on
   pub piece-lines : (old on : Reading) (piece all left back : List ℕ) → piece ≡ all ++ back
-      → ((m : List ℕ) → coming kept g limit old (all ++ m) ≡ coming kept g limit on (left ++ m)) → on.tail ≡ [] → IsEnded left
-      → (more : List ℕ) → coming kept g limit old (piece ++ more) ≡ after kept g limit on.read (lines left ++ lines (back ++ more))
+      → ((m : List ℕ) → coming projected g limit old (all ++ m) ≡ coming projected g limit on (left ++ m)) → on.tail ≡ [] → IsEnded left
+      → (more : List ℕ) → coming projected g limit old (piece ++ more) ≡ after projected g limit on.read (lines left ++ lines (back ++ more))
   piece-lines old on piece all left back is carried none ended more =
-      ap (λ (t : List ℕ). coming kept g limit old (t ++ more)) is
-      ∙ ap (coming kept g limit old) (append_assoc all back more)
+      ap (λ (t : List ℕ). coming projected g limit old (t ++ more)) is
+      ∙ ap (coming projected g limit old) (append_assoc all back more)
       ∙ carried (back ++ more)
-      ∙ ap (λ (t : List ℕ). after kept g limit on.read (lines (t ++ (left ++ (back ++ more))))) none
-      ∙ ap (after kept g limit on.read) (lines-ended left (back ++ more) ended)
+      ∙ ap (λ (t : List ℕ). after projected g limit on.read (lines (t ++ (left ++ (back ++ more))))) none
+      ∙ ap (after projected g limit on.read) (lines-ended left (back ++ more) ended)
 
   -- ---- the whole file
 
-  pub begun-sound : AreSound kept g limit begun.read
+  pub begun-sound : AreSound projected g limit begun.read
   begun-sound = record { fit = refl; few = omega arith }
 
   -- what is known of a file before its first byte, if its text remains, is what is known of the text
-  pub whole-file : (empty : ℕ) (text : List ℕ) → finished empty (coming kept g limit begun text) ≡ projected_bed_of kept g empty limit text
-  whole-file empty text = by (after_rows g limit 1 (record { width = None; rows = [] }) (lines text))
+  pub whole-file : (empty : ℕ) (text : List ℕ) → finished empty (coming projected g limit begun text) ≡ projected_bed_of projected g empty limit text
+  whole-file empty text = by (after_records g limit 1 (record { width = None; rows = [] }) (lines text))
     where
-      by : (r : Result Draft LoadFault) → finished empty (projected_draft kept r) ≡ projected_or_fault kept (finished empty r)
+      by : (r : Result Draft LoadFault) → finished empty (projected_draft projected r) ≡ projected_or_fault projected (finished empty r)
       by (Ok d) = refl
       by (Err f) = refl
 
   -- what is projected stays so
-  pub kept-again : ((r : RecordValue) → kept (kept r) ≡ kept r) → (w : ℕ) (rows : List RecordValue) → All (IsProjected kept g w) rows → map kept rows ≡ rows
-  kept-again again w [] all = refl
-  kept-again again w (k ∷ rows) all =
-      let first : IsProjected kept g w k = All-head (IsProjected kept g w) k rows all in
-      (λ i. (ap kept first.2 ∙ again first.0 ∙ sym first.2) i ∷ kept-again again w rows (All-tail (IsProjected kept g w) k rows all) i)
+  pub projected-again : ((r : RecordValue) → projected (projected r) ≡ projected r) → (w : ℕ) (rows : List RecordValue) → All (IsProjected projected g w) rows → map projected rows ≡ rows
+  projected-again again w [] all = refl
+  projected-again again w (k ∷ rows) all =
+      let first : IsProjected projected g w k = All-head (IsProjected projected g w) k rows all in
+      (λ i. (ap projected first.2 ∙ again first.0 ∙ sym first.2) i ∷ projected-again again w rows (All-tail (IsProjected projected g w) k rows all) i)
 
   -- the width of a file that was read, and what is held of its records
-  pub sound-kept : (l : LinesRead) (empty : ℕ) → AreSound kept g limit l → 3 ≤ empty → empty ≤ 6
-      → (3 ≤ unwrap_or l.width empty) × (unwrap_or l.width empty ≤ 6) × All (IsProjected kept g (unwrap_or l.width empty)) l.rows
+  pub sound-kept : (l : LinesRead) (empty : ℕ) → AreSound projected g limit l → 3 ≤ empty → empty ≤ 6
+      → (3 ≤ unwrap_or l.width empty) × (unwrap_or l.width empty ≤ 6) × All (IsProjected projected g (unwrap_or l.width empty)) l.rows
   sound-kept l empty sound low high = by l.width sound.fit
     where
-      by : (o : Option ℕ) → MatchOption o (l.rows ≡ []) (λ k. (3 ≤ k) × (k ≤ 6) × All (IsProjected kept g k) l.rows)
-          → (3 ≤ unwrap_or o empty) × (unwrap_or o empty ≤ 6) × All (IsProjected kept g (unwrap_or o empty)) l.rows
-      by None none = (low, high, subst (λ (rows : List RecordValue). All (IsProjected kept g empty) rows) (sym none) (All-nil (IsProjected kept g empty)))
+      by : (o : Option ℕ) → MatchOption o (l.rows ≡ []) (λ k. (3 ≤ k) × (k ≤ 6) × All (IsProjected projected g k) l.rows)
+          → (3 ≤ unwrap_or o empty) × (unwrap_or o empty ≤ 6) × All (IsProjected projected g (unwrap_or o empty)) l.rows
+      by None none = (low, high, subst (λ (rows : List RecordValue). All (IsProjected projected g empty) rows) (sym none) (All-nil (IsProjected projected g empty)))
       by (Some k) some = some
 
 -- ---- lines, and what is held of them
@@ -305,13 +305,13 @@ known-at : (width : Option ℕ) (w : ℕ) (line : List ℕ) → width ≡ Some w
 known-at width w line is = sym (ap (λ (o : Option ℕ). unwrap_or o (length (columns line))) is)
 
 -- the record of a line in one pass has the line's interval
-pub short-read : (g : Sequences) (w : ℕ) (text : List ℕ) (l : FastLine) (short : IsShortLine g w text l) → IsReadAt w l short.row
+pub short-read : (g : Sequences) (w : ℕ) (text : List ℕ) (l : FastLine) (short : IsFastLine g w text l) → IsReadAt w l short.row
 short-read g w text l short = record { genome = g; line = short.line; reads = short.reads; seq_is = short.seq_is; start_is = short.start_is; stop_is = short.stop_is }
 
 module _ {K : Type 0} (held_of : RecordValue → ℕ → K) (g : Sequences) (limit : ℕ) where
   -- what is left of a text is shown as the text is
-  pub shows-left : (kept : RecordValue → RecordValue) (row_of : K → RecordValue) (at : ℕ) (text : List ℕ) (size : ℕ) → Shows held_of g kept row_of at text → Shows held_of g kept row_of (byte_after at size) (drop size text)
-  shows-left kept row_of at text size s = record {
+  pub shows-left : (projected : RecordValue → RecordValue) (row_of : K → RecordValue) (at : ℕ) (text : List ℕ) (size : ℕ) → Shows held_of g projected row_of at text → Shows held_of g projected row_of (byte_after at size) (drop size text)
+  shows-left projected row_of at text size s = record {
     again = s.again;
     shows = λ skipped w line others r are reads.
         ap (λ (n : ℕ). row_of (held_of r n)) (byte-further at size skipped)
@@ -320,39 +320,39 @@ module _ {K : Type 0} (held_of : RecordValue → ℕ → K) (g : Sequences) (lim
 
   -- a line without a record
   pub held-unread : (h : Held K) (text line : List ℕ) (size : ℕ) → lines text ≡ line ∷ lines (drop size text) → is_unread line ≡ true → TakesLine held_of g limit h h text size
-  held-unread h text line size are unread = λ kept row_of s.
-      (λ sound. sound, unread-taken kept g limit (shown row_of h) (lines text) (lines (drop size text)) line are unread)
+  held-unread h text line size are unread = λ projected row_of s.
+      (λ sound. sound, unread-taken projected g limit (shown row_of h) (lines text) (lines (drop size text)) line are unread)
 
   -- a record was taken
   pub held-taken : (old new : Held K) (text line : List ℕ) (size w : ℕ) (r : RecordValue) (one : K)
       → lines text ≡ line ∷ lines (drop size text) → is_unread line ≡ false → w ≡ unwrap_or old.width (length (columns line)) → 3 ≤ w → w ≤ 6
       → read g w line ≡ Ok r → Fits g w r → one ≡ held_of r old.at → old.at < 2 ^ 32 → length old.kept < limit
       → new ≡ record old { width = Some w; kept = old.kept ++ one ∷ [] } → TakesLine held_of g limit old new text size
-  held-taken old new text line size w r one are unread wide low high says fits one_is small free new_is = λ kept row_of s.
+  held-taken old new text line size w r one are unread wide low high says fits one_is small free new_is = λ projected row_of s.
       let left = lines (drop size text) in
-      let is : row_of one ≡ kept r = ap row_of one_is ∙ ap (λ (n : ℕ). row_of (held_of r n)) (sym (byte-here old.at small)) ∙ s.shows 0 w line left r are says in
+      let is : row_of one ≡ projected r = ap row_of one_is ∙ ap (λ (n : ℕ). row_of (held_of r n)) (sym (byte-here old.at small)) ∙ s.shows 0 w line left r are says in
       let rows : map row_of new.kept ≡ map row_of old.kept ++ row_of one ∷ [] = ap (λ (h : Held K). map row_of h.kept) new_is ∙ map-append row_of old.kept (one ∷ []) in
       let width : new.width ≡ Some w = ap (λ (h : Held K). h.width) new_is in
       let few : length (map row_of old.kept) < limit = omega (arith, free, length-map old.kept row_of) in (
-        λ sound. record-sound kept g limit (shown row_of old) (shown row_of new) line w r (row_of one) sound wide low high fits is few rows width,
-        record-taken kept g limit s.again (shown row_of old) (shown row_of new) (lines text) left line w r (row_of one) are unread wide low high says is few rows width,
+        λ sound. record-sound projected g limit (shown row_of old) (shown row_of new) line w r (row_of one) sound wide low high fits is few rows width,
+        record-taken projected g limit s.again (shown row_of old) (shown row_of new) (lines text) left line w r (row_of one) are unread wide low high says is few rows width,
       )
 
   -- a record is one too many
   pub held-full : (old : Held K) (text line : List ℕ) (size w : ℕ) (r : RecordValue) → lines text ≡ line ∷ lines (drop size text) → is_unread line ≡ false
       → w ≡ unwrap_or old.width (length (columns line)) → 3 ≤ w → w ≤ 6 → read g w line ≡ Ok r → limit ≤ length old.kept → RefusesLine held_of g limit old text cause.TooMany
-  held-full old text line size w r are unread wide low high says full = λ kept row_of.
-      full-refused kept g limit (shown row_of old) (lines text) (lines (drop size text)) line w r are unread wide low high says (omega (arith, full, length-map old.kept row_of))
+  held-full old text line size w r are unread wide low high says full = λ projected row_of.
+      full-refused projected g limit (shown row_of old) (lines text) (lines (drop size text)) line w r are unread wide low high says (omega (arith, full, length-map old.kept row_of))
 
   -- the record of a line that is read in one pass was taken, and the width is as it was
-  pub short-taken : (old new : Held K) (w : ℕ) (text : List ℕ) (l : FastLine) (one : K) (short : IsShortLine g w text l) → (3 ≤ w) × (w ≤ 6) → old.width ≡ Some w
+  pub short-taken : (old new : Held K) (w : ℕ) (text : List ℕ) (l : FastLine) (one : K) (short : IsFastLine g w text l) → (3 ≤ w) × (w ≤ 6) → old.width ≡ Some w
       → one ≡ held_of short.row old.at → old.at < 2 ^ 32 → length old.kept < limit → new ≡ record old { width = Some w; kept = old.kept ++ one ∷ [] }
       → TakesLine held_of g limit old new text l.size
   short-taken old new w text l one short wide is one_is small free new_is =
       held-taken old new text short.line l.size w short.row one short.lines_are short.unread (known-at old.width w short.line is) wide.0 wide.1 short.reads short.fits one_is small free new_is
 
   -- it is one too many
-  pub short-full : (old : Held K) (w : ℕ) (text : List ℕ) (l : FastLine) → IsShortLine g w text l → (3 ≤ w) × (w ≤ 6) → old.width ≡ Some w → limit ≤ length old.kept
+  pub short-full : (old : Held K) (w : ℕ) (text : List ℕ) (l : FastLine) → IsFastLine g w text l → (3 ≤ w) × (w ≤ 6) → old.width ≡ Some w → limit ≤ length old.kept
       → RefusesLine held_of g limit old text cause.TooMany
   short-full old w text l short wide is full =
       held-full old text short.line l.size w short.row short.lines_are short.unread (known-at old.width w short.line is) wide.0 wide.1 short.reads full
@@ -361,58 +361,58 @@ module _ {K : Type 0} (held_of : RecordValue → ℕ → K) (g : Sequences) (lim
 
   -- lines of a text were read, and that is left of it
   abbrev pub TakesUpTo : Held K → Held K → List ℕ → List ℕ → Type 0
-  TakesUpTo old now text left = (kept : RecordValue → RecordValue) (row_of : K → RecordValue) → Shows held_of g kept row_of old.at text
-      → Shows held_of g kept row_of now.at left
-      × (AreSound kept g limit (shown row_of old) → AreSound kept g limit (shown row_of now))
-      × ((rest : List (List ℕ)) → after kept g limit (shown row_of old) (lines text ++ rest) ≡ after kept g limit (shown row_of now) (lines left ++ rest))
+  TakesUpTo old now text left = (projected : RecordValue → RecordValue) (row_of : K → RecordValue) → Shows held_of g projected row_of old.at text
+      → Shows held_of g projected row_of now.at left
+      × (AreSound projected g limit (shown row_of old) → AreSound projected g limit (shown row_of now))
+      × ((rest : List (List ℕ)) → after projected g limit (shown row_of old) (lines text ++ rest) ≡ after projected g limit (shown row_of now) (lines left ++ rest))
 
   pub takes-none : (h : Held K) (text : List ℕ) → TakesUpTo h h text text
-  takes-none h text = λ kept row_of s. (s, λ sound. sound, λ rest. refl)
+  takes-none h text = λ projected row_of s. (s, λ sound. sound, λ rest. refl)
 
   pub takes-more : (old now read next : Held K) (text left rest : List ℕ) (size : ℕ) → TakesUpTo old now text left → TakesLine held_of g limit now read left size
       → read.number ≡ now.number → read.at ≡ now.at → next ≡ record read { number = read.number + 1; at = byte_after read.at size } → rest ≡ drop size left
       → TakesUpTo old next text rest
-  takes-more old now read next text left rest size before takes number at next_is rest_is = λ kept row_of s.
-      let so_far = before kept row_of s in
-      let one = takes kept row_of so_far.0 in
+  takes-more old now read next text left rest size before takes number at next_is rest_is = λ projected row_of s.
+      let so_far = before projected row_of s in
+      let one = takes projected row_of so_far.0 in
       let at_is : next.at ≡ byte_after now.at size = ap (λ (h : Held K). h.at) next_is ∙ ap (λ (n : ℕ). byte_after n size) at in
-      let there : Shows held_of g kept row_of next.at (drop size left) =
-      subst (λ (n : ℕ). Shows held_of g kept row_of n (drop size left)) (sym at_is) (shows-left kept row_of now.at left size so_far.0) in (
-        subst (λ (t : List ℕ). Shows held_of g kept row_of next.at t) (sym rest_is) there,
+      let there : Shows held_of g projected row_of next.at (drop size left) =
+      subst (λ (n : ℕ). Shows held_of g projected row_of n (drop size left)) (sym at_is) (shows-left projected row_of now.at left size so_far.0) in (
+        subst (λ (t : List ℕ). Shows held_of g projected row_of next.at t) (sym rest_is) there,
         λ sound.
-            let more : AreSound kept g limit (shown row_of read) = one.0 (so_far.1 sound) in
-            subst (λ (h : Held K). AreSound kept g limit (shown row_of h)) (sym next_is) (record { fit = more.fit; few = more.few }),
+            let more : AreSound projected g limit (shown row_of read) = one.0 (so_far.1 sound) in
+            subst (λ (h : Held K). AreSound projected g limit (shown row_of h)) (sym next_is) (record { fit = more.fit; few = more.few }),
         λ others.
             so_far.2 others
             ∙ one.1 now.number others
-            ∙ ap (λ (n : ℕ). projected_draft kept (after_rows g limit (n + 1) (known (shown row_of read)) (lines (drop size left) ++ others))) (sym number)
-            ∙ ap (λ (h : Held K). after kept g limit (shown row_of h) (lines (drop size left) ++ others)) (sym next_is)
-            ∙ ap (λ (t : List ℕ). after kept g limit (shown row_of next) (lines t ++ others)) (sym rest_is),
+            ∙ ap (λ (n : ℕ). projected_draft projected (after_records g limit (n + 1) (known (shown row_of read)) (lines (drop size left) ++ others))) (sym number)
+            ∙ ap (λ (h : Held K). after projected g limit (shown row_of h) (lines (drop size left) ++ others)) (sym next_is)
+            ∙ ap (λ (t : List ℕ). after projected g limit (shown row_of next) (lines t ++ others)) (sym rest_is),
       )
 
   pub takes-all : (old now : Held K) (text left : List ℕ) → TakesUpTo old now text left → left ≡ [] → TakesLines held_of g limit old now text
-  takes-all old now text left takes none = λ kept row_of s.
-      let so_far = takes kept row_of s in
-      (so_far.1, λ rest. so_far.2 rest ∙ ap (λ (t : List ℕ). after kept g limit (shown row_of now) (lines t ++ rest)) none)
+  takes-all old now text left takes none = λ projected row_of s.
+      let so_far = takes projected row_of s in
+      (so_far.1, λ rest. so_far.2 rest ∙ ap (λ (t : List ℕ). after projected g limit (shown row_of now) (lines t ++ rest)) none)
 
   pub takes-refused : (old now : Held K) (text left : List ℕ) (n : ℕ) (c : LoadCause) → TakesUpTo old now text left → RefusesLine held_of g limit now left c → n ≡ now.number
       → RefusesLines held_of g limit old text (record { line = n; cause = c })
-  takes-refused old now text left n c takes refuses is = λ kept row_of s rest.
-      (takes kept row_of s).2 rest ∙ refuses kept row_of now.number rest ∙ ap (λ (m : ℕ). Err (record { line = m; cause = c })) (sym is)
+  takes-refused old now text left n c takes refuses is = λ projected row_of s rest.
+      (takes projected row_of s).2 rest ∙ refuses projected row_of now.number rest ∙ ap (λ (m : ℕ). Err (record { line = m; cause = c })) (sym is)
 
   -- ---- items shown as the records that they represent
 
-  module _ (kept : RecordValue → RecordValue) (as_record : K → RecordValue) (again : (r : RecordValue) → kept (kept r) ≡ kept r) (stands : (r : RecordValue) (at : ℕ) → as_record (held_of r at) ≡ kept r) where
-    pub stands-so : (at : ℕ) (text : List ℕ) → Shows held_of g kept as_record at text
+  module _ (projected : RecordValue → RecordValue) (as_record : K → RecordValue) (again : (r : RecordValue) → projected (projected r) ≡ projected r) (stands : (r : RecordValue) (at : ℕ) → as_record (held_of r at) ≡ projected r) where
+    pub stands-so : (at : ℕ) (text : List ℕ) → Shows held_of g projected as_record at text
     stands-so at text = record { again = again; shows = λ skipped w line others r are reads. stands r (byte_after at skipped) }
 
     pub taken-so : (old new : Held K) (text : List ℕ) → TakesLines held_of g limit old new text
-        → (rest : List (List ℕ)) → after kept g limit (shown as_record old) (lines text ++ rest) ≡ after kept g limit (shown as_record new) rest
-    taken-so old new text takes = (takes kept as_record (stands-so old.at text)).1
+        → (rest : List (List ℕ)) → after projected g limit (shown as_record old) (lines text ++ rest) ≡ after projected g limit (shown as_record new) rest
+    taken-so old new text takes = (takes projected as_record (stands-so old.at text)).1
 
     pub refused-so : (old : Held K) (text : List ℕ) (f : LoadFault) → RefusesLines held_of g limit old text f
-        → (rest : List (List ℕ)) → after kept g limit (shown as_record old) (lines text ++ rest) ≡ Err f
-    refused-so old text f refuses = refuses kept as_record (stands-so old.at text)
+        → (rest : List (List ℕ)) → after projected g limit (shown as_record old) (lines text ++ rest) ≡ Err f
+    refused-so old text f refuses = refuses projected as_record (stands-so old.at text)
 
 -- if all columns are held, records are as they were
 pub rows-all : (rows : List RecordValue) → map (λ r. r) rows ≡ rows

@@ -19,11 +19,11 @@ use Rattle.iv_text.specs.Fields.{is_separator}
 use Rattle.iv_text.specs.Inside.Fields.{HasNoTab}
 use Rattle.iv_text.specs.Genome.{Sequences, length_at}
 use Rattle.iv_text.specs.Lines.{lines, HasNoFeed}
-use Rattle.iv_text.specs.Inside.OnePass.{AreBehind, BeginsWithPlace, BeginsWithCell, BeginsWithCells, IsCell, ends_cell, laid}
+use Rattle.iv_text.specs.Inside.OnePass.{ArePassed, BeginsWithInterval, BeginsWithCell, BeginsWithCells, IsCell, ends_cell, laid}
 use Rattle.iv_text.specs.GenomeFile.{begins_with}
 use Rattle.iv_text.specs.Read.{column, bad_text, is_line_byte}
 use Rattle.iv_text.specs.RecordValue.{strand_of}
-use Rattle.iv_text.specs.FastLine.{IsShortLine}
+use Rattle.iv_text.specs.FastLine.{IsFastLine}
 use Rattle.iv_text.specs.declared.record_reader.FastLine.{FastLine}
 
 -- ---- bytes that are no end of a line
@@ -183,7 +183,7 @@ laid-without z (cell ∷ cells) ends other plain =
     All-cons (λ b. b ≢ z) 9 (cell ++ laid cells) other
     (All-append (λ b. b ≢ z) cell (laid cells) (cell-without z cell ends (All-head IsCell cell cells plain)) (laid-without z cells ends other (All-tail IsCell cell cells plain)))
 
-laid-after : (cells : List (List ℕ)) → All IsCell cells → AreBehind (laid cells) cells
+laid-after : (cells : List (List ℕ)) → All IsCell cells → ArePassed (laid cells) cells
 laid-after [] plain = column-last
 laid-after (cell ∷ cells) plain = λ column p.
     column-more column (cell ++ laid cells) p
@@ -256,8 +256,8 @@ first-byte text some = grind (arith, common_steps)
 
 -- ---- a line of a record
 
-pub short-line : (g : Sequences) (w : ℕ) (text next : List ℕ) (l : FastLine) (rest end : List ℕ) → BeginsWithPlace g text l.seq l.start l.stop rest → BeginsWithCells w rest end
-    → (end ≡ 10 ∷ next) ⊎ (end ≡ 13 ∷ 10 ∷ next) → l.size ≡ length text - length next → IsShortLine g w text l
+pub short-line : (g : Sequences) (w : ℕ) (text next : List ℕ) (l : FastLine) (rest end : List ℕ) → BeginsWithInterval g text l.seq l.start l.stop rest → BeginsWithCells w rest end
+    → (end ≡ 10 ∷ next) ⊎ (end ≡ 13 ∷ 10 ∷ next) → l.size ≡ length text - length next → IsFastLine g w text l
 short-line g w text next l rest end place after feed size_is =
     let cells : List (List ℕ) = after.cells in
     let tail : List ℕ = place.stops ++ laid cells in
@@ -271,7 +271,7 @@ short-line g w text next l rest end place after feed size_is =
     place.text_is ∙ ap (λ t. place_line place.name place.starts (place.stops ++ t)) after.text_is
     ∙ ap (place_line place.name place.starts) (sym (append_assoc place.stops (laid cells) end)) ∙ place-parts place.name place.starts tail end in
     let sized = append-size ends.0 next l.size (size_is ∙ ap (λ (t : List ℕ). length t - length next) (text_is ∙ ends.2)) in
-    let alone : BeginsWithPlace g line l.seq l.start l.stop (laid cells) =
+    let alone : BeginsWithInterval g line l.seq l.start l.stop (laid cells) =
     record {
       name = place.name;
       starts = place.starts;

@@ -9,7 +9,7 @@ use Rattle.iv_text.specs.Lines.{lines}
 use Rattle.iv_text.specs.Genome.{Sequences}
 use Rattle.iv_text.specs.Read.{column, number_in}
 use Rattle.iv_text.specs.GenomeFile.{is_skipped, has_cause, causes, sequence, after_line, after_lines, genome_of}
-use Rattle.iv_text.specs.FileLaws.{HaveNoCause, IsFirstFault, sequences_of, sequence_cause}
+use Rattle.iv_text.specs.FileMeaning.{HaveNoCause, IsFirstFault, sequences_of, sequence_cause}
 use Rattle.iv_text.specs.declared.fault.LoadCause.{LoadCause}
 use Rattle.iv_text.specs.declared.fault.LoadFault.{LoadFault}
 use Rattle.iv_text.proofs.FileLemmas.{line-skipped, line-refused, line-taken}

@@ -5,7 +5,7 @@ pub mod NamedLemmas
 pub mod LengthLemmas
 pub mod ReadLemmas
 pub mod FileLemmas
-pub mod FileLawLemmas
+pub mod FileMeaningLemmas
 pub mod DigitLemmas
 pub mod CellLemmas
 pub mod OnePassLemmas
@@ -13,7 +13,7 @@ pub mod FastLineLemmas
 pub mod BedLemmas
 pub mod BedReadingLemmas
 pub mod BatchLemmas
-pub mod BedLawLemmas
+pub mod BedMeaningLemmas
 pub mod RecordLemmas
 pub mod OrderedLemmas
 pub mod ListLemmas

@@ -11,7 +11,7 @@ use Rattle.std.specs.Str.{all_ascii_digits}
 use Rattle.iv_text.specs.Fields.{columns, is_separator}
 use Rattle.iv_text.specs.Number.{number, decimal_from}
 use Rattle.iv_text.specs.Inside.Fields.{HasNoTab}
-use Rattle.iv_text.specs.Inside.OnePass.{AreBehind, BeginsWithNumber, BeginsWithPlace, IsNamed}
+use Rattle.iv_text.specs.Inside.OnePass.{ArePassed, BeginsWithNumber, BeginsWithInterval, IsNamed}
 use Rattle.iv_text.specs.declared.record_ref.Strand.{Strand}
 use Rattle.std.specs.Borrow.{Bor}
 use Rattle.std.specs.Prelude.{MatchOption, IfSome, IsSome}
@@ -110,7 +110,7 @@ named-rest line name None h = tt
 named-rest line name (Some x) h =
     sym (take-append-drop (length name) line) ∙ ap (λ t. t ++ drop (length name) line) (same_text (take (length name) line) name (sym h.0)) ∙ ap (λ t. name ++ t) (sym h.1)
 
-place-columns : (line name d1 d2 rest : List ℕ) (others : List (List ℕ)) → line ≡ name ++ 9 ∷ (d1 ++ 9 ∷ (d2 ++ rest)) → HasNoTab name → HasNoTab d1 → HasNoTab d2 → AreBehind rest others
+place-columns : (line name d1 d2 rest : List ℕ) (others : List (List ℕ)) → line ≡ name ++ 9 ∷ (d1 ++ 9 ∷ (d2 ++ rest)) → HasNoTab name → HasNoTab d1 → HasNoTab d2 → ArePassed rest others
     → columns line ≡ name ∷ d1 ∷ d2 ∷ others
 place-columns line name d1 d2 rest others whole p0 p1 p2 after =
     ap columns whole ∙ column-more name (d1 ++ 9 ∷ (d2 ++ rest)) p0
@@ -120,7 +120,7 @@ place-columns line name d1 d2 rest others whole p0 p1 p2 after =
 -- columns that were cut from the front of a text
 pub place-begins : (g : Sequences) (text name r0 r1 r2 r3 rest : List ℕ) (rank from to len : ℕ)
     → text ≡ name ++ r0 → r0 ≡ 9 ∷ r1 → BeginsWithNumber r1 from r2 → r2 ≡ 9 ∷ r3 → BeginsWithNumber r3 to rest → IsNamed g name rank len → from < to → to ≤ len
-    → BeginsWithPlace g text rank from to rest
+    → BeginsWithInterval g text rank from to rest
 place-begins g text name r0 r1 r2 r3 rest rank from to len e0 e1 starts e2 stops named some within = record {
   name = name;
   starts = starts.0;
@@ -202,7 +202,7 @@ row-of w cs seq start stop name score sixth rank from to strand cols strand_is s
 
 -- a line that was cut from its front
 pub line-read : (g : Sequences) (w : ℕ) (line rest name score sixth : List ℕ) (others : List (List ℕ)) (rank from to : ℕ) (strand : Option Strand)
-    → BeginsWithPlace g line rank from to rest → AreBehind rest others → ((a b c : List ℕ) → AreColumns w (a ∷ b ∷ c ∷ others) a b c name score sixth)
+    → BeginsWithInterval g line rank from to rest → ArePassed rest others → ((a b c : List ℕ) → AreColumns w (a ∷ b ∷ c ∷ others) a b c name score sixth)
     → strand ≡ strand_of sixth → AreSound w name score strand
     → read g w line ≡ Ok (record_of rank from to name score strand w)
 line-read g w line rest name score sixth others rank from to strand place after are strand_is sound =

@@ -1,6 +1,6 @@
 -- A BED file that is read in pieces: what is held of its records, and what is known of it after some of its bytes.
 use Rattle.std.specs.Prelude.{◌≡◌, ◌≤◌, ℕ, ◌+◌, ◌%◌, ◌^◌, ◌++◌, All, MatchOption, List, [], ◌∷◌, Option, None, Result, Ok, Err, length, map, drop}
-use Rattle.iv_text.specs.BedFile.{Bed, Draft, after_rows, bed_of}
+use Rattle.iv_text.specs.BedFile.{Bed, Draft, after_records, bed_of}
 use Rattle.iv_text.specs.Genome.{Sequences}
 use Rattle.iv_text.specs.Lines.{lines}
 use Rattle.iv_text.specs.Read.{read, Fits}
@@ -19,16 +19,16 @@ pub record IsReadAt (width : ℕ) (l : FastLine) (r : RecordValue) : Type 0 wher
 
 -- a file with its records projected
 abbrev pub projected_bed : (RecordValue → RecordValue) → Bed → Bed
-projected_bed kept b = record { width = b.width; rows = map kept b.rows }
+projected_bed projected b = record { width = b.width; rows = map projected b.rows }
 
 -- or the file's fault
 abbrev pub projected_or_fault : (RecordValue → RecordValue) → Result Bed LoadFault → Result Bed LoadFault
-projected_or_fault kept (Ok b) = Ok (projected_bed kept b)
-projected_or_fault kept (Err f) = Err f
+projected_or_fault projected (Ok b) = Ok (projected_bed projected b)
+projected_or_fault projected (Err f) = Err f
 
 -- the BED file of a text, with its records projected, or its first fault
 abbrev pub projected_bed_of : (RecordValue → RecordValue) → Sequences → ℕ → ℕ → List ℕ → Result Bed LoadFault
-projected_bed_of kept g empty limit text = projected_or_fault kept (bed_of g empty limit text)
+projected_bed_of projected g empty limit text = projected_or_fault projected (bed_of g empty limit text)
 
 -- lines that were read: the number of the next one, their width, once there is a record, and their records projected
 pub record LinesRead : Type 0 where
@@ -42,21 +42,21 @@ known l = record { width = l.width; rows = l.rows }
 
 -- what is known of a file, with its records projected, or its first fault
 abbrev pub projected_draft : (RecordValue → RecordValue) → Result Draft LoadFault → Result Draft LoadFault
-projected_draft kept (Ok d) = Ok (record { width = d.width; rows = map kept d.rows })
-projected_draft kept (Err f) = Err f
+projected_draft projected (Ok d) = Ok (record { width = d.width; rows = map projected d.rows })
+projected_draft projected (Err f) = Err f
 
 -- what is known after these lines too, with records projected, or the first fault
 abbrev pub after : (RecordValue → RecordValue) → Sequences → ℕ → LinesRead → List (List ℕ) → Result Draft LoadFault
-after kept g limit l rest = projected_draft kept (after_rows g limit l.number (known l) rest)
+after projected g limit l rest = projected_draft projected (after_records g limit l.number (known l) rest)
 
 -- what is held of a record of this width on the genome
 abbrev pub IsProjected : (RecordValue → RecordValue) → Sequences → ℕ → RecordValue → Type 0
-IsProjected kept g width k = (r : RecordValue) × Fits g width r × (k ≡ kept r)
+IsProjected projected g width k = (r : RecordValue) × Fits g width r × (k ≡ projected r)
 
 -- what was read is sound: its width is 3 to 6, once there is a record; its records are projections of records of that width on the
 -- genome; and they aren't more than the limit
-pub record AreSound (kept : RecordValue → RecordValue) (g : Sequences) (limit : ℕ) (l : LinesRead) : Type 0 where
-  pub fit : MatchOption l.width (l.rows ≡ []) (λ w. (3 ≤ w) × (w ≤ 6) × All (IsProjected kept g w) l.rows)
+pub record AreSound (projected : RecordValue → RecordValue) (g : Sequences) (limit : ℕ) (l : LinesRead) : Type 0 where
+  pub fit : MatchOption l.width (l.rows ≡ []) (λ w. (3 ≤ w) × (w ≤ 6) × All (IsProjected projected g w) l.rows)
   pub few : length l.rows ≤ limit
 
 -- the byte at which a line begins, so many bytes after another, counted with 32 bits
@@ -85,21 +85,21 @@ shown row_of h = record { number = h.number; width = h.width; rows = map row_of 
 
 module _ {K : Type 0} (held_of : RecordValue → ℕ → K) (g : Sequences) where
   -- a way to show items as records: the item of a record in this text, whose first line begins at this byte, shows as its projection
-  pub record Shows (kept : RecordValue → RecordValue) (row_of : K → RecordValue) (at : ℕ) (text : List ℕ) : Type 0 where
-    pub again : (r : RecordValue) → kept (kept r) ≡ kept r
+  pub record Shows (projected : RecordValue → RecordValue) (row_of : K → RecordValue) (at : ℕ) (text : List ℕ) : Type 0 where
+    pub again : (r : RecordValue) → projected (projected r) ≡ projected r
     pub shows : (skipped w : ℕ) (line : List ℕ) (others : List (List ℕ)) (r : RecordValue) → lines (drop skipped text) ≡ line ∷ others → read g w line ≡ Ok r
-        → row_of (held_of r (byte_after at skipped)) ≡ kept r
+        → row_of (held_of r (byte_after at skipped)) ≡ projected r
 
   -- all lines of a text were read, whatever lines come after them, and however items are shown
   abbrev pub TakesLines : ℕ → Held K → Held K → List ℕ → Type 0
-  TakesLines limit old new text = (kept : RecordValue → RecordValue) (row_of : K → RecordValue) → Shows kept row_of old.at text
-      → (AreSound kept g limit (shown row_of old) → AreSound kept g limit (shown row_of new))
-      × ((rest : List (List ℕ)) → after kept g limit (shown row_of old) (lines text ++ rest) ≡ after kept g limit (shown row_of new) rest)
+  TakesLines limit old new text = (projected : RecordValue → RecordValue) (row_of : K → RecordValue) → Shows projected row_of old.at text
+      → (AreSound projected g limit (shown row_of old) → AreSound projected g limit (shown row_of new))
+      × ((rest : List (List ℕ)) → after projected g limit (shown row_of old) (lines text ++ rest) ≡ after projected g limit (shown row_of new) rest)
 
   -- the lines of a text have a fault, and this is the first, whatever comes after them
   abbrev pub RefusesLines : ℕ → Held K → List ℕ → LoadFault → Type 0
-  RefusesLines limit old text f = (kept : RecordValue → RecordValue) (row_of : K → RecordValue) → Shows kept row_of old.at text
-      → (rest : List (List ℕ)) → after kept g limit (shown row_of old) (lines text ++ rest) ≡ Err f
+  RefusesLines limit old text f = (projected : RecordValue → RecordValue) (row_of : K → RecordValue) → Shows projected row_of old.at text
+      → (rest : List (List ℕ)) → after projected g limit (shown row_of old) (lines text ++ rest) ≡ Err f
 
 -- a file of which some bytes were read: its lines, and the bytes of a line that hasn't ended
 pub record Reading : Type 0 where
@@ -112,7 +112,7 @@ begun = record { read = record { number = 1; width = None; rows = [] }; tail = [
 
 -- what is known of the file once these remaining bytes are read, with its records projected, or its first fault
 abbrev pub coming : (RecordValue → RecordValue) → Sequences → ℕ → Reading → List ℕ → Result Draft LoadFault
-coming kept g limit r more = after kept g limit r.read (lines (r.tail ++ more))
+coming projected g limit r more = after projected g limit r.read (lines (r.tail ++ more))
 
 -- more than the number of lines that were read, and at most one more than the number of bytes
 abbrev pub size_of : Reading → ℕ

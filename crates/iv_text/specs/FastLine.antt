@@ -8,7 +8,7 @@ use Rattle.iv_text.specs.RecordValue.{RecordValue}
 use Rattle.iv_text.specs.declared.record_reader.FastLine.{FastLine}
 
 -- the first line of the text has a record of this width with this interval, and the next line begins so many bytes further on
-pub record IsShortLine (g : Sequences) (width : ℕ) (text : List ℕ) (l : FastLine) : Type 0 where
+pub record IsFastLine (g : Sequences) (width : ℕ) (text : List ℕ) (l : FastLine) : Type 0 where
   pub line : List ℕ
   pub row : RecordValue
   pub lines_are : lines text ≡ line ∷ lines (drop l.size text)

@@ -41,12 +41,12 @@ abbrev pub first_width : List (List ℕ) → Option ℕ
 first_width lines = option_map (λ line. length (columns line)) (slice_get (record_lines lines) 0)
 
 -- the records of lines, all of that width
-abbrev pub rows_of : Sequences → List (List ℕ) → List RecordValue
-rows_of g lines = map (λ line. row g (unwrap_or (first_width lines) 0) (columns line)) (record_lines lines)
+abbrev pub records_of : Sequences → List (List ℕ) → List RecordValue
+records_of g lines = map (λ line. row g (unwrap_or (first_width lines) 0) (columns line)) (record_lines lines)
 
 -- the BED file of lines; if none has a record, its width is the one handed in
 abbrev pub bed_from : Sequences → ℕ → List (List ℕ) → Bed
-bed_from g empty lines = record { width = unwrap_or (first_width lines) empty; rows = rows_of g lines }
+bed_from g empty lines = record { width = unwrap_or (first_width lines) empty; rows = records_of g lines }
 
 -- the width for a line after these lines: theirs, or the number of its own columns if none of them has a record
 abbrev pub width_after : List (List ℕ) → List ℕ → ℕ
@@ -56,7 +56,7 @@ width_after before line = unwrap_or (first_width before) (length (columns line))
 abbrev pub has_row_cause : Sequences → ℕ → List (List ℕ) → List ℕ → LoadCause → Bool
 has_row_cause g limit before line cause.Columns = not (is_width (width_after before line))
 has_row_cause g limit before line (cause.Record f) = has_fault g (width_after before line) (columns line) f
-has_row_cause g limit before line cause.TooMany = nat_le limit (length (rows_of g before))
+has_row_cause g limit before line cause.TooMany = nat_le limit (length (records_of g before))
 has_row_cause g limit before line other = false
 
 -- these causes, in the order in which they are reported
@@ -64,5 +64,5 @@ abbrev pub row_causes : List LoadCause
 row_causes = cause.Columns ∷ (map cause.Record faults ++ cause.TooMany ∷ [])
 
 -- the first cause of a line after these lines, unless it has no record
-abbrev pub row_cause : Sequences → ℕ → List (List ℕ) → List ℕ → Option LoadCause
-row_cause g limit before line = cond (is_unread line) None (find (has_row_cause g limit before line) row_causes)
+abbrev pub record_cause : Sequences → ℕ → List (List ℕ) → List ℕ → Option LoadCause
+record_cause g limit before line = cond (is_unread line) None (find (has_row_cause g limit before line) row_causes)

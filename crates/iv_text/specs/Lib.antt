@@ -11,11 +11,11 @@ pub mod Fault
 pub mod GenomeFile
 pub mod Widths
 pub mod BedFile
-pub mod FileLaws
+pub mod FileMeaning
 pub mod FastLine
 pub mod BedReading
 pub mod Ordered
-pub mod Covering
+pub mod CoveredPositions
 pub mod RecordText
 pub mod NameHash
 pub mod Inside

@@ -23,9 +23,9 @@ abbrev pub interval_text : List ℕ → ℕ → ℕ → List ℕ
 interval_text name start stop = name ++ codes "\t" ++ decimal start ++ codes "\t" ++ decimal stop
 
 -- the first three columns of a record on this genome
-abbrev pub place_text : Sequences → RecordValue → List ℕ
-place_text g r = interval_text (sequence_name g r.seq) r.start r.stop
+abbrev pub interval_columns : Sequences → RecordValue → List ℕ
+interval_columns g r = interval_text (sequence_name g r.seq) r.start r.stop
 
 -- the columns of a record on this genome, with a TAB between two of them
 abbrev pub record_text : Sequences → RecordValue → List ℕ
-record_text g r = place_text g r ++ rest_text r
+record_text g r = interval_columns g r ++ rest_text r

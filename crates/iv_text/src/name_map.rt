@@ -4,7 +4,7 @@ ghost use Rattle.std.specs.Map.{lookup, remove_entry, values_of};
 ghost use Rattle.std.specs.Option.{option_map};
 ghost use Rattle.std.specs.Str.{bytes_eq};
 ghost use Rattle.iv_text.specs.NameHash.{IsAfter, finished, written};
-ghost use Rattle.iv_text.specs.Named.{place_of, AreApart};
+ghost use Rattle.iv_text.specs.Named.{name_index, AreApart};
 
 use indexmap::IndexMap;
 use std::alloc::{AllocError, Allocator, Global};
@@ -56,7 +56,7 @@ impl<V: Drop, A: Allocator + Copy> NameMap<V, A> {
     ///
     /// An allocation failed. Nothing changes.
     pub fn push(&mut self, alloc: A, name: &[u8], value: V) -> Result<(), AllocError>
-        requires fresh { place_of self.old name.now ≡ None }
+        requires fresh { name_index self.old name.now ≡ None }
         ensures ok { OnOk result (self.new ≡ self.old ++ (name.now, value) ∷ []) }
         ensures err { OnErr result (self.new ≡ self.old) }
     {
@@ -78,7 +78,7 @@ impl<V: Drop, A: Allocator + Copy> NameMap<V, A> {
 
     /// The index of a name, byte for byte, from 0.
     pub fn index_of(&self, name: &[u8]) -> Option<usize>
-        ensures value { result ≡ place_of self.now name.now }
+        ensures value { result ≡ name_index self.now name.now }
         ensures within { IfSome result (λ place. place < length self.now) }
     {
         self.named.get_index_of(name)
@@ -86,7 +86,7 @@ impl<V: Drop, A: Allocator + Copy> NameMap<V, A> {
 
     /// The index of a name, with the value under it.
     pub fn find(&self, name: &[u8]) -> Option<(usize, &V)>
-        ensures place { option_map (λ p. p.0) result ≡ place_of self.now name.now }
+        ensures place { option_map (λ p. p.0) result ≡ name_index self.now name.now }
         ensures value { option_map (λ p. p.1.now) result ≡ lookup (bytes_eq name.now) self.now }
         ensures at { IfSome result (λ p. slice_get (values_of self.now) p.0 ≡ Some p.1.now) }
     {

@@ -1,12 +1,12 @@
 //! Records read line after line.
 ghost use Rattle.std.specs.Prelude.{◌≡◌, ◌≤◌, false, [], ◌∷◌, IfSome, IsSome, length, take, ℕ, ◌+◌, ◌/◌, ◌%◌, ◌^◌, ◌<◌, ◌++◌, None, Some, Ok, IfOk, slice_index};
 ghost use Rattle.std.specs.Option.{is_some};
-ghost use Rattle.iv_text.specs.Inside.OnePass.{ends_cell, BeginsWithCell, BeginsWithCells, IsCell, IsNamed, BeginsWithPlace};
+ghost use Rattle.iv_text.specs.Inside.OnePass.{ends_cell, BeginsWithCell, BeginsWithCells, IsCell, IsNamed, BeginsWithInterval};
 ghost use Rattle.iv_text.specs.Read.{bad_text, read, column, Fits};
 ghost use Rattle.iv_text.specs.RecordValue.{strand_of};
 ghost use Rattle.iv_text.specs.Fields.{columns as columns_of};
 ghost use Rattle.iv_text.specs.Genome.{rank_of};
-ghost use Rattle.iv_text.specs.FastLine.{IsShortLine};
+ghost use Rattle.iv_text.specs.FastLine.{IsFastLine};
 ghost use Rattle.iv_text.specs.Widths.{IsWidth};
 
 use crate::fault::RecordFault;
@@ -226,8 +226,8 @@ impl<'g, 't, A: Allocator + Copy> RecordReader<'g, 't, A> {
     ///
     /// `None` leaves it open.
     #[inline(always)]
-    fn split_place<'a>(&self, text: &'a [u8]) -> Option<Front<'a>>
-        ensures { IfSome result (λ f. BeginsWithPlace self.now text.now f.rank f.start f.stop f.rest.now) }
+    fn split_interval<'a>(&self, text: &'a [u8]) -> Option<Front<'a>>
+        ensures { IfSome result (λ f. BeginsWithInterval self.now text.now f.rank f.start f.stop f.rest.now) }
     {
         let before = self.before?;
         let rest = after_name(text, before.name)?;
@@ -253,9 +253,9 @@ impl<'g, 't, A: Allocator + Copy> RecordReader<'g, 't, A> {
     #[inline(always)]
     pub fn read_fast(&self, width: u8, text: &[u8]) -> Option<FastLine>
         requires { IsWidth width }
-        ensures { IfSome result (λ l. IsShortLine self.now width text.now l) }
+        ensures { IfSome result (λ l. IsFastLine self.now width text.now l) }
     {
-        let front = self.split_place(text)?;
+        let front = self.split_interval(text)?;
         let end = after_cells(width, front.rest)?;
         let next = after_line_end(end)?;
         Some(FastLine {
@@ -274,7 +274,7 @@ impl<'g, 't, A: Allocator + Copy> RecordReader<'g, 't, A> {
         ensures value { IfSome result (λ r. read self.now width line.now ≡ Ok r) }
         ensures fits { IfSome result (λ r. Fits self.now width r) }
     {
-        let front = self.split_place(line)?;
+        let front = self.split_interval(line)?;
         let columns = columns_after(front.rest)?;
         let others = optional_columns_of(columns, width)?;
         let strand = read_strand(others.strand);

@@ -1,7 +1,7 @@
 //! Records as they are printed.
 ghost use Rattle.std.specs.Prelude.{◌≡◌, ◌+◌, ◌≤◌, ◌++◌, length, codes, decimal};
 ghost use Rattle.iv_bytes.specs.Sinks.{Puts};
-ghost use Rattle.iv_text.specs.RecordText.{place_text, strand_text, rest_text, record_text};
+ghost use Rattle.iv_text.specs.RecordText.{interval_columns, strand_text, rest_text, record_text};
 
 use crate::genome::Genome;
 use crate::record_ref::{RecordRef, Strand};
@@ -22,12 +22,12 @@ pub fn strand_bytes<'t>(strand: Option<Strand>) -> &'t [u8]
 }
 
 /// Puts a record's first three columns, with a TAB between two of them.
-fn put_place<S: Sink, A: Allocator + Copy>(
+fn put_interval_of<S: Sink, A: Allocator + Copy>(
     sink: &mut S,
     genome: &Genome<A>,
     row: &RecordRef<'_>,
 ) -> Result<(), WriteFault>
-    ensures { Puts (S.state sink.old) (S.state sink.new) result (place_text genome.now row.now) }
+    ensures { Puts (S.state sink.old) (S.state sink.new) result (interval_columns genome.now row.now) }
 {
     let name = genome.name_of(row.seq());
     RowBuffer::new().put_after_numbers(name, row.start(), row.stop(), sink)
@@ -56,7 +56,7 @@ fn put_columns<S: Sink, A: Allocator + Copy>(
 ) -> Result<(), WriteFault>
     ensures { Puts (S.state sink.old) (S.state sink.new) result (record_text genome.now row.now) }
 {
-    put_place(sink, genome, row)?;
+    put_interval_of(sink, genome, row)?;
     put_rest(sink, row)
 }
 

@@ -8,7 +8,7 @@ use Rattle.std.specs.Map.{keys_of, values_of}
 use Rattle.std.proofs.lemmas.List.Elements.{All-head, All-tail, All-from_recursion, recursion_from_All}
 use Rattle.std.proofs.lemmas.Map.Keys.{IsDistinct-from_sorted}
 use Rattle.std.proofs.lemmas.Map.Views.{All-values_from_lookup, IfSome-lookup_from_All}
-use Rattle.iv_text.specs.RecordValue.{RecordValue, IsPlaced, record_cmp, rows_total}
+use Rattle.iv_text.specs.RecordValue.{RecordValue, IsPlaced, record_cmp, records_total}
 use Rattle.iv_text.proofs.RecordLemmas.{rows_exact}
 use Rattle.iv_text.proofs.OrderedLemmas.{one_list}
 use Rattle.iv_track.specs.Inside.Copies.{expanded}
@@ -39,13 +39,13 @@ module _ {K : Type 0} (P : K → Type 0) where
 module _ (es gs : List (RecordValue × ℕ)) (rows : List RecordValue) (c : AreCounted es rows) (s : IsLedger record_cmp gs) (same : (k : RecordValue) → value_at record_cmp gs k ≡ value_at record_cmp es k) where
   pub built_rows : expanded gs ≡ rows
   built_rows =
-      one_list record_cmp rows_total rows_exact (expanded gs) (expanded es) (in_order-expanded record_cmp rows_total gs s) (in_order-expanded record_cmp rows_total es c.ordered)
-      (λ k. copies-expanded record_cmp rows_total gs k s ∙ ap (λ o. unwrap_or o 0) (same k) ∙ sym (copies-expanded record_cmp rows_total es k c.ordered))
+      one_list record_cmp records_total rows_exact (expanded gs) (expanded es) (in_order-expanded record_cmp records_total gs s) (in_order-expanded record_cmp records_total es c.ordered)
+      (λ k. copies-expanded record_cmp records_total gs k s ∙ ap (λ o. unwrap_or o 0) (same k) ∙ sym (copies-expanded record_cmp records_total es k c.ordered))
       ∙ c.rows_are
 
   built_present : All (λ n. 0 < n) (values_of gs)
   built_present =
-      All-values_from_lookup (eq_by_cmp_equiv rows_total) (λ n. 0 < n) gs (IsDistinct-from_sorted record_cmp (keys_of gs) s)
+      All-values_from_lookup (eq_by_cmp_equiv records_total) (λ n. 0 < n) gs (IsDistinct-from_sorted record_cmp (keys_of gs) s)
       (λ q. subst (λ o. IfSome o (λ n. 0 < n)) (sym (same q)) (IfSome-lookup_from_All (λ n. 0 < n) (is_at (record_cmp q)) es c.present))
 
   pub built_track : (len width limit : ℕ) → len ≡ length rows → All (λ (q : RecordValue). q.width ≡ width) rows → len ≤ limit → limit ≤ most_records → IsTrack gs len width limit

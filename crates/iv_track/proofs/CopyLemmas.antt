@@ -6,7 +6,7 @@ use Rattle.std.specs.Cmp.{tied_itself, Equal-is}
 use Rattle.std.proofs.lemmas.Bool.{cases_lt}
 use Rattle.std.proofs.lemmas.List.Sums.{sum_by-cons}
 use Rattle.iv_text.specs.Ordered.{copies_by, copies, added}
-use Rattle.iv_text.specs.RecordValue.{RecordValue, record_cmp, rows_total}
+use Rattle.iv_text.specs.RecordValue.{RecordValue, record_cmp, records_total}
 use Rattle.iv_text.proofs.RecordLemmas.{rows_exact}
 use Rattle.iv_text.proofs.OrderedLemmas.{copies-added}
 use Rattle.iv_track.specs.Copies.{removed_by}
@@ -28,7 +28,7 @@ module _ {K : Type 0} (cmp : K → K → Ordering) where
 
 -- a record is a copy of itself
 own : (r : RecordValue) → cond {A = ℕ} (is_eq (record_cmp r r)) 1 0 ≡ 1
-own r = ap {B = ℕ} (λ (o : Ordering). cond (is_eq o) 1 0) (tied_itself rows_total r)
+own r = ap {B = ℕ} (λ (o : Ordering). cond (is_eq o) 1 0) (tied_itself records_total r)
 
 -- and of no other
 other : (q r : RecordValue) → q ≢ r → cond {A = ℕ} (is_eq (record_cmp q r)) 1 0 ≡ 0
@@ -45,10 +45,10 @@ pub added-others : (rows : List RecordValue) (r q : RecordValue) → q ≢ r →
 added-others rows r q ne = omega (arith, copies-added record_cmp rows r q, other q r ne)
 
 pub removed-itself : (rows : List RecordValue) (r : RecordValue) → 0 < copies rows r → copies (removed rows r) r + 1 ≡ copies rows r
-removed-itself rows r there = omega (arith, copies-removed record_cmp rows_total rows r r there, own r)
+removed-itself rows r there = omega (arith, copies-removed record_cmp records_total rows r r there, own r)
 
 pub removed-others : (rows : List RecordValue) (r q : RecordValue) → q ≢ r → copies (removed rows r) q ≡ copies rows q
 removed-others rows r q ne = elim (cases_lt 0 (copies rows r)) [
-  | inl there ↦ omega (arith, copies-removed record_cmp rows_total rows r q there, other q r ne)
+  | inl there ↦ omega (arith, copies-removed record_cmp records_total rows r q there, other q r ne)
   | inr none ↦ ap (λ (l : List RecordValue). copies l q) (removed-absent record_cmp rows r (omega arith))
 ]

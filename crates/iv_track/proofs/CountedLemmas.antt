@@ -14,7 +14,7 @@ use Rattle.std.proofs.lemmas.Iterator.{YieldsList, items_from_drains}
 use Rattle.std.proofs.lemmas.Iterator.Consumers.{YieldsList-from_shown}
 use Rattle.std.proofs.lemmas.List.Elements.{All-from_recursion}
 use Rattle.iv_text.specs.Ordered.{AreInOrder}
-use Rattle.iv_text.specs.RecordValue.{RecordValue, IsPlaced, record_cmp, rows_total}
+use Rattle.iv_text.specs.RecordValue.{RecordValue, IsPlaced, record_cmp, records_total}
 use Rattle.iv_text.proofs.RecordLemmas.{rows_exact}
 use Rattle.iv_track.specs.Inside.Copies.{expanded}
 use Rattle.iv_track.specs.Inside.Counted.{grouped_from, grouped, GivesEntry}
@@ -50,7 +50,7 @@ same-row : (q r : RecordValue) → is_eq (record_cmp q r) ≡ true → q ≡ r
 same-row q r e = rows_exact q r ((Equal-is (record_cmp q r)).0 e)
 
 later-row : (q r : RecordValue) → is_le (record_cmp r q) ≡ true → is_eq (record_cmp q r) ≡ false → record_cmp r q ≡ Less
-later-row q r le apart = le_apart (record_cmp r q) (record_cmp q r) (rows_total.antisymm q r) le apart
+later-row q r le apart = le_apart (record_cmp r q) (record_cmp q r) (records_total.antisymm q r) le apart
 
 -- the entries mean the list
 from-expanded : (r : RecordValue) (n : ℕ) (xs : List RecordValue) → expanded (grouped_from record_cmp r n xs) ≡ replicate n r ++ xs
@@ -74,7 +74,7 @@ from-below p r n [] less order = (less, tt)
 from-below p r n (q ∷ qs) less order =
     either_way (λ (es : List (RecordValue × ℕ)). AllByRecursion (λ k. record_cmp p k ≡ Less) (keys_of es)) (is_eq (record_cmp q r)) (grouped_from record_cmp r (n + 1) qs) ((r, n) ∷ grouped_from record_cmp q 1 qs)
     (λ _. from-below p r (n + 1) qs less (order.0.1, order.1.1))
-    (λ apart. (less, from-below p q 1 qs (rows_total.trans p r q less (later-row q r order.0.0 apart)) order.1))
+    (λ apart. (less, from-below p q 1 qs (records_total.trans p r q less (later-row q r order.0.0 apart)) order.1))
 
 -- they ascend
 from-ordered : (r : RecordValue) (n : ℕ) (xs : List RecordValue) → AreInOrder (r ∷ xs) → IsLedger record_cmp (grouped_from record_cmp r n xs)

@@ -3,7 +3,7 @@ use Rattle.std.proofs.Common.{◌≡◌, ◌<◌, List, arith}
 use Rattle.std.specs.Prelude.{All}
 use Rattle.std.proofs.lemmas.List.Elements.{All-from_recursion, recursion_from_All}
 use Rattle.iv_text.specs.Ordered.{copies, added, AreInOrder}
-use Rattle.iv_text.specs.RecordValue.{RecordValue, record_cmp, rows_total}
+use Rattle.iv_text.specs.RecordValue.{RecordValue, record_cmp, records_total}
 use Rattle.iv_text.proofs.OrderedLemmas.{all-added, in_order-added, copies-added, rows-alone}
 use Rattle.iv_track.specs.Edits.{RefusesRemove}
 use Rattle.iv_track.specs.Tracked.{Tracked, removed}
@@ -22,8 +22,8 @@ All-removed P rows r all = All-from_recursion P (removed rows r) (all-removed re
 -- a record that was taken out and is put in again
 pub added-removed : (rows : List RecordValue) (r : RecordValue) → AreInOrder rows → 0 < copies rows r → rows ≡ added (removed rows r) r
 added-removed rows r order there =
-    rows-alone rows (added (removed rows r) r) order (in_order-added record_cmp rows_total (removed rows r) r (in_order-removed record_cmp rows r order))
-    (λ q. omega (arith, copies-added record_cmp (removed rows r) r q, copies-removed record_cmp rows_total rows r q there))
+    rows-alone rows (added (removed rows r) r) order (in_order-added record_cmp records_total (removed rows r) r (in_order-removed record_cmp rows r order))
+    (λ q. omega (arith, copies-added record_cmp (removed rows r) r q, copies-removed record_cmp records_total rows r q there))
 
 -- whatever the fault of a removal is, the record is not there
 pub refused-absent : (t : Tracked) (r : RecordValue) (f : Fault) → RefusesRemove t r f → copies t.rows r ≡ 0

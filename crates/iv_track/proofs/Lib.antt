@@ -2,7 +2,7 @@ pub mod CountedLemmas
 pub mod BuiltLemmas
 pub mod ChunkLemmas
 pub mod Counts
-mod EditLaws
+mod CopyLemmas
 pub mod Edits
 pub mod FindLemmas
 pub mod MapLemmas

@@ -8,7 +8,7 @@ use Rattle.std.proofs.lemmas.Map.Views.{All-keys-insert_entry, All-values-insert
 use Rattle.std.proofs.lemmas.Map.Steps.{lookup-le-sum}
 use Rattle.iv_track.specs.Entries.{IsLedger, value_at}
 use Rattle.iv_text.specs.RecordValue.{RecordValue, IsPlaced, record_cmp}
-use Rattle.iv_text.specs.RecordValue.{rows_total}
+use Rattle.iv_text.specs.RecordValue.{records_total}
 use Rattle.iv_text.proofs.RecordLemmas.{rows_exact}
 use Rattle.iv_track.specs.Inside.Copies.{expanded}
 use Rattle.iv_text.specs.Ordered.{copies, added}
@@ -19,7 +19,7 @@ use Rattle.iv_track.proofs.Counts.{find-expanded, copies-found, copies-expanded,
 
 -- the number of copies in the map
 pub count_here : (es : List (RecordValue × ℕ)) (len width limit : ℕ) (r : RecordValue) → IsTrack es len width limit → copies (expanded es) r ≡ unwrap_or (value_at record_cmp es r) 0
-count_here es len width limit r t = copies-expanded record_cmp rows_total es r t.ordered
+count_here es len width limit r t = copies-expanded record_cmp records_total es r t.ordered
 
 -- no count is above the number of records
 pub count-le-len : (es : List (RecordValue × ℕ)) (len width limit : ℕ) (r : RecordValue) → IsTrack es len width limit → unwrap_or (value_at record_cmp es r) 0 ≤ len
@@ -42,7 +42,7 @@ module _ (es fs : List (RecordValue × ℕ)) (len width limit : ℕ) (r : Record
     pub staged_rows : expanded fs ≡ added (expanded es) r
     staged_rows =
         ap expanded (put ∙ ap (λ m. insert_entry record_cmp es r (m + 1)) count)
-        ∙ expanded-insert record_cmp rows_total rows_exact es r t.ordered t.present
+        ∙ expanded-insert record_cmp records_total rows_exact es r t.ordered t.present
 
     pub staged_track : IsLedger record_cmp fs → r.width ≡ width → IsPlaced r → len ≤ limit → IsTrack fs (len + 1) width limit
     staged_track ordered fits place room = record {
@@ -111,5 +111,5 @@ next-entry p es len width limit t =
     ap (with_copies (expanded es)) (find-expanded record_cmp p es t.present)
     ∙ (elim (find (λ e. p e.0) es) as (λ o. find (λ e. p e.0) es ≡ o → with_copies (expanded es) (option_map (λ e. e.0) o) ≡ o) [
       | None ↦ λ h. refl
-      | Some e ↦ λ h. ap (λ n. Some (e.0, n)) (copies-found record_cmp rows_total (λ f. p f.0) es e.0 e.1 t.ordered h)
+      | Some e ↦ λ h. ap (λ n. Some (e.0, n)) (copies-found record_cmp records_total (λ f. p f.0) es e.0 e.1 t.ordered h)
     ] refl)

@@ -6,13 +6,13 @@ mod entry_index;
 mod ledger;
 mod lemmas;
 mod meter;
-mod rows;
 mod starts;
 mod track;
+mod track_records;
 
 pub use ledger::{Ledger, Walk};
 pub use lemmas::{one_record_added, one_record_removed};
 pub use meter::Meter;
-pub use rows::Rows;
 pub use starts::Abbreviated;
 pub use track::{EditFault, Track};
+pub use track_records::TrackRecords;

@@ -13,7 +13,7 @@ ghost use Rattle.iv_track.specs.Inside.Tracked.{BeginsFrom};
 use crate::counted::Counted;
 use crate::ledger::Ledger;
 use crate::meter::Meter;
-use crate::rows::Rows;
+use crate::track_records::TrackRecords;
 use iv_text::{Batches, Fault, Record};
 use std::alloc::{AllocError, Allocator, Global};
 use std::marker::Model;
@@ -216,14 +216,14 @@ impl<A: Allocator + Copy> Track<A> {
     ///
     /// The start is below 2^32 - 1, which a caller tests. To begin is one step, and each call of the walk's `next` at
     /// most another.
-    pub fn walk(&self, seq: u32, start: u64, meter: &mut Meter) -> Rows<'_, A>
+    pub fn walk(&self, seq: u32, start: u64, meter: &mut Meter) -> TrackRecords<'_, A>
         requires { start < 2 ^ 32 - 1 }
         ensures rows { result ≡ filter (is_from seq start) self.now.rows }
         ensures ordered { AreInOrder self.now.rows }
         ensures steps { TakesUpTo meter.old meter.new 1 }
     {
         let least = Record::least_at(self.alloc, seq, start as u32);
-        Rows {
+        TrackRecords {
             entries: self.ledger.walk(&least, meter),
             held: None,
         }

@@ -13,12 +13,12 @@ use std::marker::Model;
 ///
 /// A record comes once for each of its copies. Its model is the list of the records that are left.
 #[derive(Drop)]
-pub struct Rows<'a, A: Allocator + Copy = Global> {
+pub struct TrackRecords<'a, A: Allocator + Copy = Global> {
     pub(crate) entries: Walk<'a, Record<A>, u32, A>,
     pub(crate) held: Option<(&'a Record<A>, u32)>,
 }
 
-impl<'a, A: Allocator + Copy> Model for Rows<'a, A> {
+impl<'a, A: Allocator + Copy> Model for TrackRecords<'a, A> {
     ghost use Rattle.std.specs.Prelude.{List, ◌++◌, ◌<◌, All};
     ghost use Rattle.std.specs.Map.{values_of};
     ghost use Rattle.iv_text.specs.RecordValue.{RecordValue};
@@ -32,7 +32,7 @@ impl<'a, A: Allocator + Copy> Model for Rows<'a, A> {
     ghost invariant = { λ w. All (λ n. 0 < n) (values_of w.entries) };
 }
 
-impl<'a, A: Allocator + Copy> Rows<'a, A> {
+impl<'a, A: Allocator + Copy> TrackRecords<'a, A> {
     /// The next record, `None` after the last. A call is at most one step.
     pub fn next(&mut self, meter: &mut Meter) -> Option<&'a Record<A>>
         ensures row { YieldsFirstRef (λ rows. rows) self.old result self.new }
@@ -50,10 +50,10 @@ impl<'a, A: Allocator + Copy> Rows<'a, A> {
     }
 
     /// The same walk once more, from where it is now. It is no step, and takes no memory.
-    pub fn again(&self) -> Rows<'a, A>
+    pub fn again(&self) -> TrackRecords<'a, A>
         ensures { result ≡ self.now }
     {
-        Rows {
+        TrackRecords {
             entries: self.entries.again(),
             held: self.held,
         }

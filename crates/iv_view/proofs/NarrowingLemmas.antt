@@ -12,7 +12,7 @@ use Rattle.iv_cover.specs.declared.column.Column.{Column}
 use Rattle.iv_cover.specs.declared.column.ColumnSummary.{ColumnSummary}
 use Rattle.iv_cover.specs.declared.op.Op.{Op}
 use Rattle.iv_blocks.specs.Groups.{filled, listed, unused}
-use Rattle.iv_blocks.specs.declared.options.Options.{Options}
+use Rattle.iv_blocks.specs.declared.options.BlockOptions.{BlockOptions}
 use Rattle.iv_depth.specs.declared.depth_rows.DepthRows.{DepthRows}
 use Rattle.iv_fasta.specs.declared.rows.FastaRows.{FastaRows}
 use Rattle.iv_pair.specs.declared.pair_rows.PairRows.{PairRows}
@@ -23,7 +23,7 @@ use Rattle.iv_view.specs.Getfasta.{fasta_rows_said}
 use Rattle.iv_view.specs.Intersect.{intersect_rows_said}
 use Rattle.iv_view.specs.Lists.{all_some}
 use Rattle.iv_view.specs.Merge.{MergeArgs, said_by, nothing_said, distance_of, lists_of, pairs_of, column_within, summary_within, filled_or_fault, asked_summaries, options_within, options_with, merge_options, cluster_distance}
-use Rattle.iv_view.specs.Narrowing.{number_of, has_columns, narrowed_options, narrowed}
+use Rattle.iv_view.specs.NarrowedViews.{number_of, has_columns, narrowed_options, narrowed}
 use Rattle.iv_view.specs.Views.{read_words, or_bad_words, as_merge, beside_second, beside_fasta}
 use Rattle.iv_view.specs.declared.view.View.{View}
 use Rattle.iv_view.specs.declared.view.View.TheVariants as view
@@ -141,16 +141,16 @@ listed-filled summaries =
 -- ---- the options of a merge
 
 -- the options that were read, narrowed, or their fault
-abbrev options_from : ℕ → Result Options Fault → Result Options Fault
+abbrev options_from : ℕ → Result BlockOptions Fault → Result BlockOptions Fault
 options_from width (Err why) = Err why
 options_from width (Ok options) = narrowed_options width options
 
 module _ (width : ℕ) (stranded : Bool) (distance : ℕ) where
-  abbrev with_summaries : List ColumnSummary → Options
+  abbrev with_summaries : List ColumnSummary → BlockOptions
   with_summaries summaries = record { distance = distance; stranded = stranded; summaries = filled summaries }
 
   -- the options, if each column is there or one isn't
-  abbrev if_there : Bool → List ColumnSummary → Result Options Fault
+  abbrev if_there : Bool → List ColumnSummary → Result BlockOptions Fault
   if_there there summaries =
       if not there then Err fault.Column
       else if stranded && nat_lt width 6 then Err fault.NoStrand
@@ -201,7 +201,7 @@ module _ (width : ℕ) (has_second has_bases : Bool) where
   narrowed-merge : (said : Option MergeArgs) → as_merge (merge_options width said) ≡ here (as_merge (merge_options 6 said))
   narrowed-merge said = ap as_merge (said-narrowed width said) ∙ by (merge_options 6 said)
     where
-      by : (r : Result Options Fault) → as_merge (options_from width r) ≡ here (as_merge r)
+      by : (r : Result BlockOptions Fault) → as_merge (options_from width r) ≡ here (as_merge r)
       by (Err why) = refl
       by (Ok options) = refl
 

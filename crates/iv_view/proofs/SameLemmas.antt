@@ -5,7 +5,7 @@ use Rattle.std.proofs.lemmas.Bool.{and_parts}
 use Rattle.iv_cover.specs.declared.column.Column.{Column}
 use Rattle.iv_cover.specs.declared.op.Op.{Op}
 use Rattle.iv_cover.specs.declared.column.ColumnSummary.{ColumnSummary}
-use Rattle.iv_blocks.specs.declared.options.Options.{Options}
+use Rattle.iv_blocks.specs.declared.options.BlockOptions.{BlockOptions}
 use Rattle.iv_blocks.specs.declared.options.Summaries.{Summaries}
 use Rattle.iv_view.specs.declared.kept_state.StateKey.{StateKey}
 use Rattle.iv_view.specs.declared.kept_state.StateKey.TheVariants as keep
@@ -53,7 +53,7 @@ bool-same false false e = refl
 bool-same true false e = sym e
 bool-same false true e = e
 
-options-same : (a b : Options) → options.eq-value.it a b ≡ true → a ≡ b
+options-same : (a b : BlockOptions) → options.eq-value.it a b ≡ true → a ≡ b
 options-same a b e =
     let parts = and_parts _ _ e in
     let more = and_parts _ _ parts.1 in

@@ -13,7 +13,7 @@ use Rattle.iv_view.specs.Intersect as intersect
 use Rattle.iv_view.specs.declared.merge.ValuedOption.{ValuedOption}
 use Rattle.iv_view.specs.declared.merge.ValuedOption.TheVariants as option
 use Rattle.iv_view.specs.Views.{read_words, or_bad_words, as_merge, beside_second, beside_fasta, needs_second}
-use Rattle.iv_blocks.specs.declared.options.Options.{Options}
+use Rattle.iv_blocks.specs.declared.options.BlockOptions.{BlockOptions}
 use Rattle.iv_fasta.specs.declared.rows.FastaRows.{FastaRows}
 use Rattle.iv_pair.specs.declared.pair_rows.PairRows.{PairRows}
 use Rattle.iv_view.specs.declared.view.View.{View}
@@ -137,7 +137,7 @@ module _ (has_second has_bases : Bool) where
   served-either true first second one two = one
   served-either false first second one two = two
 
-  served-merge : (said : Result Options Fault) → IsServed (as_merge said)
+  served-merge : (said : Result BlockOptions Fault) → IsServed (as_merge said)
   served-merge (Err why) = tt
   served-merge (Ok options) = (λ needs. absurd (cc needs), λ needs. absurd (cc needs))
 

@@ -5,6 +5,6 @@ pub mod Genomecov
 pub mod Intersect
 pub mod Getfasta
 pub mod Views
-pub mod Narrowing
+pub mod NarrowedViews
 pub mod KeptStates
 pub mod Inside

@@ -12,7 +12,7 @@ use Rattle.iv_cover.specs.declared.column.ColumnSummary.{ColumnSummary}
 use Rattle.iv_cover.specs.declared.op.Op.{Op}
 use Rattle.iv_cover.specs.declared.op.Op.TheVariants.{Sum}
 use Rattle.iv_blocks.specs.Groups.{filled}
-use Rattle.iv_blocks.specs.declared.options.Options.{Options}
+use Rattle.iv_blocks.specs.declared.options.BlockOptions.{BlockOptions}
 use Rattle.iv_blocks.specs.declared.options.Summaries.{Summaries}
 use Rattle.iv_view.specs.Lists.{all_some, items_in, pairs}
 use Rattle.iv_view.specs.declared.merge.ValuedOption.{ValuedOption}
@@ -97,7 +97,7 @@ asked_summaries width None = Err fault.Words
 asked_summaries width (Some asked) = filled_or_fault (all_some (map (summary_within width) asked))
 
 -- the options with these summaries on a track of this width; a fault if there are no strands to keep apart
-abbrev pub options_within : ℕ → Bool → ℕ → Result Summaries Fault → Result Options Fault
+abbrev pub options_within : ℕ → Bool → ℕ → Result Summaries Fault → Result BlockOptions Fault
 options_within width stranded distance (Err why) = Err why
 options_within width stranded distance (Ok summaries) =
     if stranded && nat_lt width 6
@@ -105,7 +105,7 @@ options_within width stranded distance (Ok summaries) =
     else Ok (record { distance = distance; stranded = stranded; summaries = summaries })
 
 -- the same, if the distance may be missing
-abbrev pub options_with : ℕ → Bool → Option ℕ → Result Summaries Fault → Result Options Fault
+abbrev pub options_with : ℕ → Bool → Option ℕ → Result Summaries Fault → Result BlockOptions Fault
 options_with width stranded None summaries = Err fault.Words
 options_with width stranded (Some distance) summaries = options_within width stranded distance summaries
 
@@ -115,7 +115,7 @@ pairs_of None = None
 pairs_of (Some lists) = pairs lists.0 lists.1
 
 -- the options of a merge on a track of this width that words after `merge` mean, or their first fault
-abbrev pub merge_options : ℕ → Option MergeArgs → Result Options Fault
+abbrev pub merge_options : ℕ → Option MergeArgs → Result BlockOptions Fault
 merge_options width None = Err fault.Words
 merge_options width (Some said) =
     options_with width said.stranded (distance_of said.distance) (asked_summaries width (pairs_of (lists_of said.columns said.ops)))

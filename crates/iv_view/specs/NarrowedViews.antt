@@ -7,7 +7,7 @@ use Rattle.iv_cover.specs.declared.column.Column.{Column}
 use Rattle.iv_cover.specs.declared.column.Column.TheVariants.{Sequence, Start, Stop, Name, Score, Strand}
 use Rattle.iv_cover.specs.declared.column.ColumnSummary.{ColumnSummary}
 use Rattle.iv_blocks.specs.Groups.{listed}
-use Rattle.iv_blocks.specs.declared.options.Options.{Options}
+use Rattle.iv_blocks.specs.declared.options.BlockOptions.{BlockOptions}
 use Rattle.iv_view.specs.Views.{as_merge, beside_second, beside_fasta}
 use Rattle.iv_view.specs.declared.view.View.{View}
 use Rattle.iv_view.specs.declared.view.View.TheVariants as view
@@ -29,7 +29,7 @@ has_columns width summaries = list_all (λ asked. nat_le (number_of asked.column
 
 -- the options of a merge of records of this width; a fault if they lack a column that is asked for, and then if there are no
 -- strands to keep apart
-abbrev pub narrowed_options : ℕ → Options → Result Options Fault
+abbrev pub narrowed_options : ℕ → BlockOptions → Result BlockOptions Fault
 narrowed_options width options =
     if not (has_columns width (listed options.summaries)) then Err fault.Column
     else if options.stranded && nat_lt width 6 then Err fault.NoStrand

@@ -9,7 +9,7 @@ use Rattle.iv_text.specs.declared.fault.Fault.TheVariants as fault
 use Rattle.iv_blocks.specs.ClusterRows.{cluster_text}
 use Rattle.iv_blocks.specs.ComplementRows.{complement_text}
 use Rattle.iv_blocks.specs.MergeRows.{merge_text}
-use Rattle.iv_blocks.specs.declared.options.Options.{Options}
+use Rattle.iv_blocks.specs.declared.options.BlockOptions.{BlockOptions}
 use Rattle.iv_depth.specs.DepthRows.{depth_text}
 use Rattle.iv_fasta.specs.Fasta.{Bases}
 use Rattle.iv_fasta.specs.FastaRows.{fasta_text}
@@ -41,7 +41,7 @@ abbrev pub or_bad_words : Option KeptView → Result View Fault
 or_bad_words asked = ok_or (option_map view.Kept asked) fault.Words
 
 -- the view of a merge with these options
-abbrev pub as_merge : Result Options Fault → Result View Fault
+abbrev pub as_merge : Result BlockOptions Fault → Result View Fault
 as_merge (Err why) = Err why
 as_merge (Ok options) = Ok (view.Kept (kept.Merge options))
 
@@ -85,9 +85,9 @@ written_text (written.Paired shown) g rows second bases = pair_text shown g rows
 written_text (written.Getfasta shown) g rows second bases = fasta_text shown g bases rows
 
 -- the records of a second file: none without one
-abbrev pub second_rows : Option Tracked → List RecordValue
-second_rows None = []
-second_rows (Some second) = second.rows
+abbrev pub second_records : Option Tracked → List RecordValue
+second_records None = []
+second_records (Some second) = second.rows
 
 -- the text that a view means, on this genome for these records, beside the records of the second file and the bases of the
 -- FASTA file, of each none if there is no such file

@@ -7,7 +7,7 @@ ghost use Rattle.iv_view.specs.KeptStates.{built_for as what_is_kept, state_key 
 ghost use Rattle.iv_view.specs.Views.{kept_text};
 
 use crate::view::{KeptView, View};
-use iv_blocks::{Blocks, Options};
+use iv_blocks::{BlockOptions, Blocks};
 use iv_bytes::{Sink, WriteFault};
 use iv_cover::Kept;
 use iv_depth::Depth;
@@ -19,7 +19,7 @@ use std::alloc::{AllocError, Allocator, Global};
 #[derive(Clone, Copy, Debug, PartialEq, Eq)]
 pub enum StateKey {
     /// The blocks of these options.
-    Blocks(Options),
+    Blocks(BlockOptions),
     /// The depth.
     Depth,
 }
@@ -40,8 +40,8 @@ impl KeptView {
     {
         match self {
             KeptView::Merge(options) => StateKey::Blocks(options),
-            KeptView::Cluster(distance) => StateKey::Blocks(Options::unstranded(distance)),
-            KeptView::Complement { .. } => StateKey::Blocks(Options::unstranded(0)),
+            KeptView::Cluster(distance) => StateKey::Blocks(BlockOptions::unstranded(distance)),
+            KeptView::Complement { .. } => StateKey::Blocks(BlockOptions::unstranded(0)),
             KeptView::Genomecov(_) => StateKey::Depth,
         }
     }

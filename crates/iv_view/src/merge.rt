@@ -7,11 +7,11 @@ ghost use Rattle.iv_cover.specs.Summaries.{op_named};
 ghost use Rattle.iv_blocks.specs.Groups.{filled};
 ghost use Rattle.iv_view.specs.Lists.{all_some, items_in, of_length, pairs};
 ghost use Rattle.iv_view.specs.Merge.{said_by, nothing_said, with_value, option_of, merge_options, cluster_distance, asked_summaries, distance_of, lists_of, summary_within};
-ghost use Rattle.iv_view.specs.Narrowing.{number_of as number_of_column, has_columns as columns_are_there, narrowed_options};
+ghost use Rattle.iv_view.specs.NarrowedViews.{number_of as number_of_column, has_columns as columns_are_there, narrowed_options};
 
 use crate::view::ViewFault;
 use arrayvec::ArrayVec;
-use iv_blocks::{Options, Summaries};
+use iv_blocks::{BlockOptions, Summaries};
 use iv_cover::{Column, ColumnSummary, Op};
 use iv_text::{Fields, read_number};
 use std::marker::Model;
@@ -23,14 +23,14 @@ const MOST_DISTANCE: u64 = 1_000_000_000;
 const MOST_ITEMS: usize = 16;
 
 /// The options that the words after `merge` mean, for records of six columns.
-pub(crate) fn read_merge(words: &[&[u8]]) -> Result<Options, ViewFault>
+pub(crate) fn read_merge(words: &[&[u8]]) -> Result<BlockOptions, ViewFault>
     ensures { result ≡ merge_options 6 (said_by (map (λ word. word.now) words.now) nothing_said) }
 {
     let said = MergeArgs::read(words).ok_or(ViewFault::Words)?;
     let distance = read_distance(said.distance).ok_or(ViewFault::Words)?;
     let lists = read_lists(said.columns, said.ops).ok_or(ViewFault::Words)?;
     let summaries = read_summaries(lists.columns.as_slice(), lists.ops.as_slice())?;
-    Ok(Options {
+    Ok(BlockOptions {
         distance,
         stranded: said.stranded,
         summaries,
@@ -229,7 +229,7 @@ fn summaries_of(columns: &[u64], ops: &[Op]) -> Option<Summaries>
 }
 
 /// The options for records of this width, if they were read for records of six columns.
-pub(crate) fn narrow_merge(width: u8, options: Options) -> Result<Options, ViewFault>
+pub(crate) fn narrow_merge(width: u8, options: BlockOptions) -> Result<BlockOptions, ViewFault>
     ensures { result ≡ narrowed_options width options }
 {
     if !has_columns(width, options.summaries.as_slice()) {

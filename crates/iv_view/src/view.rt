@@ -1,12 +1,12 @@
 //! The kinds of view.
 ghost use Rattle.std.specs.Prelude.{◌≡◌, true, map};
 ghost use Rattle.iv_view.specs.Views.{read_words, or_bad_words as kept_or_bad_words, beside_second as beside_a_second, beside_fasta as beside_a_fasta};
-ghost use Rattle.iv_view.specs.Narrowing.{narrowed as narrowed_view};
+ghost use Rattle.iv_view.specs.NarrowedViews.{narrowed as narrowed_view};
 
 use crate::flags::{read_complement, read_genomecov, read_getfasta, read_intersect, read_subtract};
 use crate::merge::{narrow_merge, read_cluster, read_merge};
 use crate::written_view::WrittenView;
-use iv_blocks::Options;
+use iv_blocks::BlockOptions;
 use iv_depth::DepthRows;
 use iv_fasta::FastaRows;
 use iv_pair::PairRows;
@@ -45,7 +45,7 @@ pub enum View {
 #[derive(Clone, Copy, Debug, PartialEq, Eq)]
 pub enum KeptView {
     /// `merge`: the blocks of records that are near one another, and summaries of their columns.
-    Merge(Options),
+    Merge(BlockOptions),
     /// `cluster`: every record with the number of its block. Records at most this many bases apart are in one block.
     Cluster(u32),
     /// `complement`: what no record covers; if `limited`, only on sequences with a record.

@@ -2,7 +2,7 @@
 ghost use Rattle.std.specs.Prelude.{[], IsTrue, IsSome};
 ghost use Rattle.std.specs.Option.{option_copied, unwrap_or};
 ghost use Rattle.iv_bytes.specs.Sinks.{Puts};
-ghost use Rattle.iv_view.specs.Views.{needs_second, second_rows, written_text};
+ghost use Rattle.iv_view.specs.Views.{needs_second, second_records, written_text};
 ghost use Rattle.iv_view.specs.declared.view.View.TheVariants.{Written};
 
 use iv_bytes::{Sink, WriteFault};
@@ -36,7 +36,7 @@ impl WrittenView {
     ) -> Result<(), WriteFault>
         requires { IsTrue (needs_second (Written self)) → IsSome (option_copied second) }
         ensures { Puts (S.state sink.old) (S.state sink.new) result
-            (written_text self genome.now track.now.rows (second_rows (option_copied second.entry)) (unwrap_or (option_copied fasta.entry) [])) }
+            (written_text self genome.now track.now.rows (second_records (option_copied second.entry)) (unwrap_or (option_copied fasta.entry) [])) }
     {
         match self {
             WrittenView::Paired(rows) => match second {

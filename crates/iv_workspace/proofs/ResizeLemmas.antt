@@ -19,7 +19,7 @@ use Rattle.iv_text.specs.declared.fault.Fault.TheVariants as fault
 use Rattle.iv_fasta.specs.Fasta.{Bases, bases_of, HasLengthsOf}
 use Rattle.iv_pair.specs.Hits.{overlaps}
 use Rattle.iv_pair.proofs.PlaceLemmas.{le_pair, pair_le, from_all}
-use Rattle.iv_view.specs.Views.{second_rows}
+use Rattle.iv_view.specs.Views.{second_records}
 use Rattle.iv_workspace.specs.OpenViews.{Shown}
 use Rattle.iv_workspace.specs.Resizes.{reaches_past, has_record_past, has_other_bases, is_other, with_sequence_length, resized_if, resized}
 use Rattle.iv_workspace.specs.States.{State}
@@ -144,7 +144,7 @@ module _ (g : Sequences) (t : Tracked) (is : IsTrackOn g t) where
       absurd (omega (arith, past, top, low))))
 
 pub second-none_past : (g : Sequences) (second : Option Tracked) → IfSome second (IsTrackOn g) → (seq n end : ℕ) → end ≡ unwrap_or (length_at g seq) 0 → end ≤ n
-    → list_any (reaches_past seq n) (second_rows second) ≡ false
+    → list_any (reaches_past seq n) (second_records second) ≡ false
 second-none_past g None is seq n end at low = refl
 second-none_past g (Some t) is seq n end at low = none-past g t is seq n end at low
 
@@ -158,15 +158,15 @@ no_record-past inside s views seq n end same is at low =
 -- a record of the track is past it
 pub track-past : (inside s : State) (seq n : ℕ) → inside ≡ s → list_any (reaches_past seq n) inside.track.rows ≡ true → true ≡ has_record_past s seq n
 track-past inside s seq n same past =
-    sym (or_left (list_any (reaches_past seq n) inside.track.rows) (list_any (reaches_past seq n) (second_rows inside.second)) past)
+    sym (or_left (list_any (reaches_past seq n) inside.track.rows) (list_any (reaches_past seq n) (second_records inside.second)) past)
     ∙ ap (λ (t : State). has_record_past t seq n) same
 
 -- none is, and so the second file is looked at
 pub second-past : (inside s : State) (second : Option Tracked) (seq n : ℕ) (answer : Bool) → inside ≡ s → list_any (reaches_past seq n) inside.track.rows ≡ false → inside.second ≡ second
-    → answer ≡ list_any (reaches_past seq n) (second_rows second) → answer ≡ has_record_past s seq n
+    → answer ≡ list_any (reaches_past seq n) (second_records second) → answer ≡ has_record_past s seq n
 second-past inside s second seq n answer same none is answered =
-    answered ∙ ap (λ (o : Option Tracked). list_any (reaches_past seq n) (second_rows o)) (sym is)
-    ∙ sym (ap (λ b. b || list_any (reaches_past seq n) (second_rows inside.second)) none)
+    answered ∙ ap (λ (o : Option Tracked). list_any (reaches_past seq n) (second_records o)) (sym is)
+    ∙ sym (ap (λ b. b || list_any (reaches_past seq n) (second_records inside.second)) none)
     ∙ ap (λ (t : State). has_record_past t seq n) same
 
 -- the second file of a session
@@ -204,7 +204,7 @@ track-resized g t seq n is none = record {
   few = is.few;
 }
 
-second-resized : (g : Sequences) (second : Option Tracked) (seq n : ℕ) → IfSome second (IsTrackOn g) → list_any (reaches_past seq n) (second_rows second) ≡ false
+second-resized : (g : Sequences) (second : Option Tracked) (seq n : ℕ) → IfSome second (IsTrackOn g) → list_any (reaches_past seq n) (second_records second) ≡ false
     → IfSome second (IsTrackOn (with_length g seq n))
 second-resized g None seq n is none = tt
 second-resized g (Some t) seq n is none = track-resized g t seq n is none
@@ -213,7 +213,7 @@ second-resized g (Some t) seq n is none = track-resized g t seq n is none
 pub session-resized : (inside s : State) (g : Sequences) (views : List (List ℕ × Shown)) (seq n : ℕ) → inside ≡ s → IsSession inside.genome inside.track inside.second views
     → g ≡ with_length inside.genome seq n → has_record_past s seq n ≡ false → IsSession g inside.track inside.second views
 session-resized inside s g views seq n same is new none =
-    let clear = or_parts (list_any (reaches_past seq n) inside.track.rows) (list_any (reaches_past seq n) (second_rows inside.second))
+    let clear = or_parts (list_any (reaches_past seq n) inside.track.rows) (list_any (reaches_past seq n) (second_records inside.second))
     (ap (λ (t : State). has_record_past t seq n) same ∙ none) in
     subst (λ (h : Sequences). IsSession h inside.track inside.second views) (sym new) (record {
       track_is = track-resized inside.genome inside.track seq n is.track_is clear.0;

@@ -7,7 +7,7 @@ use Rattle.iv_text.specs.Genome.{Sequences}
 use Rattle.iv_text.specs.BedFile.{Bed}
 use Rattle.iv_text.specs.Ordered.{copies, added, ordered, AreInOrder}
 use Rattle.iv_text.specs.Read.{Fits}
-use Rattle.iv_text.specs.RecordValue.{RecordValue, record_cmp, rows_total}
+use Rattle.iv_text.specs.RecordValue.{RecordValue, record_cmp, records_total}
 use Rattle.iv_text.proofs.RecordLemmas.{rows_exact}
 use Rattle.iv_pair.proofs.LengthLemmas.{few-ordered}
 use Rattle.iv_text.proofs.OrderedLemmas.{all-all_added, length-added, in_order-added, copies-added}
@@ -85,10 +85,10 @@ replaced g old mid new r q session order there fits first second =
     let one : Tracked = record old { rows = added old.rows q } in
     let two : Tracked = record one { rows = removed one.rows r } in
     let last : new ≡ two = second ∙ ap (λ (t : Tracked). record t { rows = removed t.rows r }) first in
-    let swap : two.rows ≡ added (removed old.rows r) q = removed-added record_cmp rows_total rows_exact old.rows q r order there in
+    let swap : two.rows ≡ added (removed old.rows r) q = removed-added record_cmp records_total rows_exact old.rows q r order there in
     let whole : Replaced g old one two r q = record {
       fit = fit-added g old q session fits;
-      again = added-removed one.rows r (in_order-added record_cmp rows_total old.rows q order) (staged-there old one r q there refl);
+      again = added-removed one.rows r (in_order-added record_cmp records_total old.rows q order) (staged-there old one r q there refl);
       track_is = subst (λ (l : List RecordValue). IsTrackOn g (record old { rows = l })) (sym swap) (track-replaced g old r q session there fits);
       width = refl;
       is = ap (λ (l : List RecordValue). record old { rows = l }) swap;

@@ -9,7 +9,7 @@ use Rattle.std.specs.Str.{bytes_eq}
 use Rattle.std.proofs.lemmas.List.{map-append}
 use Rattle.std.proofs.lemmas.List.Quantifiers.{position-Some}
 use Rattle.iv_text.proofs.NamedLemmas.{set_value_at, unnamed}
-use Rattle.iv_text.specs.Named.{place_of}
+use Rattle.iv_text.specs.Named.{name_index}
 use Rattle.iv_text.specs.RecordValue.{RecordValue}
 use Rattle.iv_view.specs.KeptStates.{built_for, state_key_of, IsRight}
 use Rattle.iv_view.specs.declared.kept_state.KeptState.{KeptState}
@@ -576,7 +576,7 @@ module _ {A : Type 0} (name : List ℕ) where
   IsFirst (e ∷ es) zero = bytes_eq name e.0 ≡ true
   IsFirst (e ∷ es) (suc place) = (bytes_eq name e.0 ≡ false) × IsFirst es place
 
-  first-of : (es : List (List ℕ × OpenView A)) (place : ℕ) → place_of es name ≡ Some place → IsFirst es place
+  first-of : (es : List (List ℕ × OpenView A)) (place : ℕ) → name_index es name ≡ Some place → IsFirst es place
   first-of [] place is = absurd (cc (is))
   first-of (e ∷ es) place is =
       let p = position-Some (bytes_eq name) (keys_of (e ∷ es)) place e.0 is in
@@ -587,7 +587,7 @@ module _ {A : Type 0} (name : List ℕ) where
       by (x ∷ xs) zero within here before = here
       by (x ∷ xs) (suc i) within here before = (before 0 (omega arith), by xs i (omega (arith, within)) here (λ k low. before (suc k) (omega (arith, low))))
 
-  pub placed-current : (es : List (List ℕ × OpenView A)) (place : ℕ) → place_of es name ≡ Some place
+  pub placed-current : (es : List (List ℕ × OpenView A)) (place : ℕ) → name_index es name ≡ Some place
       → current_at place (all_seen es) ≡ with_current (all_seen es) name
   placed-current es place is = by es place (first-of es place is)
     where
@@ -600,7 +600,7 @@ module _ {A : Type 0} (name : List ℕ) where
           ∙ sym (ap (λ (b : Bool). if b then (e.0, current (seen e.1)) ∷ all_seen es else (e.0, seen e.1) ∷ with_current (all_seen es) name) first.0)
 
   -- the view of the name is the one at the index
-  pub placed-stale : (es : List (List ℕ × OpenView A)) (place : ℕ) → place_of es name ≡ Some place
+  pub placed-stale : (es : List (List ℕ × OpenView A)) (place : ℕ) → name_index es name ≡ Some place
       → IfSome (slice_get (all_seen es) place) (λ v. v.1.stale ≡ true) → IfSome (lookup (bytes_eq name) (all_seen es)) (λ v. v.stale ≡ true)
   placed-stale es place is = by es place (first-of es place is)
     where
@@ -613,7 +613,7 @@ module _ {A : Type 0} (name : List ℕ) where
           subst (λ (b : Bool). IfSome (if b then Some (seen e.1) else lookup (bytes_eq name) (all_seen es)) (λ v. v.stale ≡ true)) (sym first.0) (by es place first.1 stale)
 
   -- if no view has the name, none is made current
-  pub unplaced : (es : List (List ℕ × OpenView A)) → place_of es name ≡ None → all_seen es ≡ with_current (all_seen es) name
+  pub unplaced : (es : List (List ℕ × OpenView A)) → name_index es name ≡ None → all_seen es ≡ with_current (all_seen es) name
   unplaced es is = by es (unnamed es name is)
     where
       by : (es : List (List ℕ × OpenView A)) → lookup (bytes_eq name) es ≡ None → all_seen es ≡ with_current (all_seen es) name
@@ -627,10 +627,10 @@ module _ {A : Type 0} (name : List ℕ) where
           head false none more = ap (λ (l : List (List ℕ × Shown)). (e.0, seen e.1) ∷ l) (more none)
 
 -- if the view of a name was found at an index, then it is the one at the index
-pub stale-named : {A : Type 0} (name : List ℕ) (inside views : List (List ℕ × OpenView A)) (place : ℕ) (v : OpenView A) → inside ≡ views → Some place ≡ place_of inside name
+pub stale-named : {A : Type 0} (name : List ℕ) (inside views : List (List ℕ × OpenView A)) (place : ℕ) (v : OpenView A) → inside ≡ views → Some place ≡ name_index inside name
     → Some v ≡ lookup (bytes_eq name) inside → IfSome (slice_get (all_seen views) place) (λ v. v.1.stale ≡ true) → IsSomeAnd (lookup (bytes_eq name) (all_seen views)) (λ v. v.stale ≡ true)
 stale-named name inside views place v same at found stale =
-    let is = placed-stale name views place (ap (λ l. place_of l name) (sym same) ∙ sym at) stale in
+    let is = placed-stale name views place (ap (λ l. name_index l name) (sym same) ∙ sym at) stale in
     let some = ap (option_map seen) (found ∙ ap (lookup (bytes_eq name)) same) ∙ sym (seen-lookup name views) in
     subst (λ o. IfSome o (λ v. v.stale ≡ true) → IsSomeAnd o (λ v. v.stale ≡ true)) some (λ is. is) is
 

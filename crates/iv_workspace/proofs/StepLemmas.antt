@@ -4,7 +4,7 @@ use Rattle.std.proofs.Common.{◌+◌, ◌<◌, ◌≡◌, ◌⊎◌, ◌∙◌,
 use Rattle.std.specs.Prelude.{IfSome, IsSomeAnd}
 use Rattle.std.specs.Map.{lookup}
 use Rattle.std.specs.Str.{bytes_eq}
-use Rattle.iv_text.specs.Named.{place_of}
+use Rattle.iv_text.specs.Named.{name_index}
 use Rattle.iv_text.specs.Genome.{Sequences}
 use Rattle.iv_text.specs.RecordValue.{RecordValue}
 use Rattle.iv_view.specs.declared.view.View.{View}
@@ -98,7 +98,7 @@ printed-within inside s more old mid new same are steps within fresh =
 -- ---- building again
 
 -- the view of a name was looked at: a step was taken only if it is stale
-pub named-stale : {A : Type 0} (before after : ℕ) (name : List ℕ) (inside views : List (List ℕ × OpenView A)) (place : ℕ) (v : OpenView A) → inside ≡ views → Some place ≡ place_of inside name
+pub named-stale : {A : Type 0} (before after : ℕ) (name : List ℕ) (inside views : List (List ℕ × OpenView A)) (place : ℕ) (v : OpenView A) → inside ≡ views → Some place ≡ name_index inside name
     → Some v ≡ lookup (bytes_eq name) inside → (after ≡ before) ⊎ IfSome (slice_get (all_seen views) place) (λ v. v.1.stale ≡ true)
     → (after ≡ before) ⊎ IsSomeAnd (lookup (bytes_eq name) (all_seen views)) (λ v. v.stale ≡ true)
 named-stale before after name inside views place v same at found (inl none) = inl none

@@ -7,7 +7,7 @@ use Rattle.iv_text.specs.RecordValue.{RecordValue}
 use Rattle.iv_text.specs.declared.fault.Fault.{Fault}
 use Rattle.iv_text.specs.declared.fault.Fault.TheVariants as fault
 use Rattle.iv_fasta.specs.Fasta.{Bases, bases_of}
-use Rattle.iv_view.specs.Views.{second_rows}
+use Rattle.iv_view.specs.Views.{second_records}
 use Rattle.iv_workspace.specs.States.{State}
 
 -- the record is on the sequence of this rank, and its stop is above a length
@@ -16,7 +16,7 @@ reaches_past seq n r = (r.seq == seq) && nat_lt n r.stop
 
 -- there is such a record in the track or in the second file
 abbrev pub has_record_past : State → ℕ → ℕ → Bool
-has_record_past s seq n = list_any (reaches_past seq n) s.track.rows || list_any (reaches_past seq n) (second_rows s.second)
+has_record_past s seq n = list_any (reaches_past seq n) s.track.rows || list_any (reaches_past seq n) (second_records s.second)
 
 -- there is a count, and it is another
 abbrev pub is_other : Option ℕ → ℕ → Bool

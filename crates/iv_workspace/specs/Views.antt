@@ -7,7 +7,7 @@ use Rattle.std.specs.Str.{bytes_eq}
 use Rattle.iv_text.specs.Fault.{code_of}
 use Rattle.iv_text.specs.declared.fault.Fault.{Fault}
 use Rattle.iv_text.specs.declared.fault.Fault.TheVariants as fault
-use Rattle.iv_view.specs.Views.{read_words, second_rows, view_text}
+use Rattle.iv_view.specs.Views.{read_words, second_records, view_text}
 use Rattle.iv_view.specs.declared.view.View.{View}
 use Rattle.iv_workspace.specs.OpenViews.{Shown}
 use Rattle.iv_workspace.specs.States.{State, with_view}
@@ -64,7 +64,7 @@ RefusesOpen s name words f = (opened s name words ≡ Err f) ⊎ ((f ≡ fault.N
 
 -- what a view prints: its text for the records as they are, beside the second file's records and the bases, if there are any
 abbrev pub text_in : State → View → List ℕ
-text_in s v = view_text v s.genome s.track.rows (second_rows s.second) (unwrap_or s.bases [])
+text_in s v = view_text v s.genome s.track.rows (second_records s.second) (unwrap_or s.bases [])
 
 -- the line above a view's text, if all views are printed
 abbrev pub heading : List ℕ → List ℕ

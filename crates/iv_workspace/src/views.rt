@@ -8,7 +8,7 @@ ghost use Rattle.iv_bytes.specs.Sinks.{Puts};
 ghost use Rattle.iv_text.specs.Named.{names_of};
 ghost use Rattle.iv_text.specs.Read.{Fits};
 ghost use Rattle.iv_text.specs.RecordValue.{RecordValue};
-ghost use Rattle.iv_view.specs.Views.{second_rows, view_text};
+ghost use Rattle.iv_view.specs.Views.{second_records, view_text};
 ghost use Rattle.iv_workspace.specs.OpenViews.{Freshens, all_current, stale_count, with_current};
 ghost use Rattle.iv_workspace.specs.Prints.{ViewPrintsWithin};
 ghost use Rattle.iv_workspace.specs.Inside.States.{IsServed};
@@ -247,7 +247,7 @@ impl<A: Allocator + Copy> Views<A> {
         requires right { AreRight self.now (names_of genome.now) track.now.rows }
         requires fit { All (Fits genome.now track.now.width) track.now.rows }
         ensures text { Puts (S.state sink.old) (S.state sink.new) result
-            (view_text view genome.now track.now.rows (second_rows (option_copied second.entry)) (unwrap_or (option_copied fasta.entry) [])) }
+            (view_text view genome.now track.now.rows (second_records (option_copied second.entry)) (unwrap_or (option_copied fasta.entry) [])) }
         ensures steps { ViewPrintsWithin view genome.now track.now.rows meter.old meter.new }
     {
         match view {

@@ -1,6 +1,6 @@
 //! The exit status of each ending.
 use iv_args::Slot;
-use iv_cli::{Ending, run_status, status};
+use iv_cli::{ExitReason, run_status, status};
 use iv_run::CliFault;
 use iv_session::{RunCause, RunFault, Summary};
 use iv_text::{Fault, LoadCause, LoadFault};
@@ -38,7 +38,7 @@ fn statuses_of_faults(rt: HostRuntime) {
 
 #[test]
 fn status_of_wrong_words(rt: HostRuntime) {
-    assert!(rt; Ending::from(Fault::Words).status() == 2);
+    assert!(rt; ExitReason::from(Fault::Words).status() == 2);
 }
 
 /// The status of a script of which so many lines are refused.

@@ -3,7 +3,7 @@ use Rattle.std.specs.Prelude.{ℕ, ◌++◌, false, List, [], map, Option, Some}
 use Rattle.std.specs.Iterator.{YieldsFirst}
 use Rattle.iv_text.specs.Genome.{Sequences, sequence_name}
 use Rattle.iv_text.specs.RecordValue.{RecordValue}
-use Rattle.iv_cover.specs.Inside.Coming.{coming}
+use Rattle.iv_cover.specs.Inside.RemainingBlocks.{coming}
 use Rattle.iv_cover.specs.TrackBlocks.{Group, with_members}
 use Rattle.iv_cover.specs.declared.block.Block.{Block}
 use Rattle.iv_cover.specs.declared.column.ColumnSummary.{ColumnSummary}

@@ -3,7 +3,7 @@ use Rattle.std.specs.Prelude.{◌≡◌, ◌≢◌, ℕ, ◌<◌, ◌^◌, Bool,
 use Rattle.std.specs.Map.{values_of}
 use Rattle.iv_text.specs.RecordValue.{RecordValue}
 use Rattle.iv_track.specs.Entries.{IsLedger, pair_cmp}
-use Rattle.iv_text.specs.Covering.{covers}
+use Rattle.iv_text.specs.CoveredPositions.{covers}
 use Rattle.iv_depth.specs.Changes.{AreChangesOf, ChangeKey, Entries, reaches, total}
 
 -- these are the net changes of the depth of some records, which are few

@@ -11,12 +11,12 @@ abbrev pub key_of : ℕ → ℕ → ℕ
 key_of rank position = rank * 2 ^ 32 + position
 
 -- the rank and the position of a key
-abbrev pub place_of : ℕ → ChangeKey
-place_of key = (key / 2 ^ 32, key % 2 ^ 32)
+abbrev pub change_key_of : ℕ → ChangeKey
+change_key_of key = (key / 2 ^ 32, key % 2 ^ 32)
 
 -- how many of the keys are on the sequence of this rank, at p or before
 abbrev pub reached : ℕ → ℕ → List ℕ → ℕ
-reached rank p keys = count_by (λ key. reaches rank p (place_of key)) keys
+reached rank p keys = count_by (λ key. reaches rank p (change_key_of key)) keys
 
 -- at these keys the records start and stop, and there are no others; both rise
 pub record AreEdgesOf (rows : List RecordValue) (starts stops : List ℕ) : Type 0 where
@@ -53,7 +53,7 @@ pub record SkipsKeys (from : ℕ) (old new : Keys) : Type 0 where
 -- the first of the old keys with a change that is not 0 is this one, and the new keys are those after it
 pub record TakesChange (from : ℕ) (old : Keys) (place : ChangeKey) (change : ℤ) (new : Keys) : Type 0 where
   pub key : ℕ
-  pub is : place ≡ place_of key
+  pub is : place ≡ change_key_of key
   pub low : from ≤ key
   pub other : change ≢ pos 0
   pub sums : (passes : ℕ → Bool) → net passes old ≡ (if passes key then change else pos 0) +ℤ net passes new

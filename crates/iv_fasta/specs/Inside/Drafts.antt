@@ -19,11 +19,11 @@ pub record Halves : Type 0 where
   pub coming : List ℕ
 
 -- headers, each under its name, in the order of the file
-abbrev pub PrefixKeyed : Type 0
-PrefixKeyed = List (List ℕ × Header)
+abbrev pub NamedHeaders : Type 0
+NamedHeaders = List (List ℕ × Header)
 
 -- where the bases of the sequence before these headers end, of so many bases in all
-abbrev pub end_before : PrefixKeyed → ℕ → ℕ
+abbrev pub end_before : NamedHeaders → ℕ → ℕ
 end_before [] total = total
 end_before (h ∷ headers) total = h.1.start
 
@@ -33,7 +33,7 @@ end_at None total = total
 end_at (Some h) total = h.1.start
 
 -- the sequences of these headers: each has the bases from its start to the next one's
-abbrev pub cut : PrefixKeyed → List ℕ → Found
+abbrev pub cut : NamedHeaders → List ℕ → Found
 cut [] bases = []
 cut (h ∷ headers) bases = (h.0, record { line = h.1.line; bases = slice_range bases h.1.start (end_before headers (length bases)) }) ∷ cut headers bases
 
@@ -42,11 +42,11 @@ abbrev pub sequence_at : List ℕ → ℕ → BaseRange → Stretch
 sequence_at bases line place = record { line = line; bases = bases_at bases place }
 
 -- the headers start in order, from `low` on, and none of them past the bases
-abbrev pub StartInOrder : ℕ → PrefixKeyed → ℕ → Type 0
+abbrev pub StartInOrder : ℕ → NamedHeaders → ℕ → Type 0
 StartInOrder low [] total = low ≤ total
 StartInOrder low (h ∷ headers) total = (low ≤ h.1.start) × StartInOrder h.1.start headers total
 
-pub StartInOrder-prop : (low : ℕ) (headers : PrefixKeyed) (total : ℕ) → IsProp (StartInOrder low headers total)
+pub StartInOrder-prop : (low : ℕ) (headers : NamedHeaders) (total : ℕ) → IsProp (StartInOrder low headers total)
 StartInOrder-prop low [] total = le_prop
 StartInOrder-prop low (h ∷ headers) total = ×_prop le_prop (StartInOrder-prop h.1.start headers total)
 
@@ -56,7 +56,7 @@ pub record Draft : Type 0 where
   pub named : Bool
 
 -- the sequences of these headers and bases
-abbrev pub drafted : PrefixKeyed → List ℕ → Bool → Draft
+abbrev pub drafted : NamedHeaders → List ℕ → Bool → Draft
 drafted headers bases named = record { found = cut headers bases; named = named }
 
 -- what is held after a header, or its fault
@@ -72,12 +72,12 @@ with_compacted_line d line =
     (Ok (record { found = with_bases d.found (cond d.named line []); named = d.named })))
 
 -- what is held after one more line, or its first fault
-unfoldable pub after_kept_line : Sequences → ℕ → Draft → List ℕ → Result Draft LoadCause
-after_kept_line g n d line =
+unfoldable pub after_compacted_line : Sequences → ℕ → Draft → List ℕ → Result Draft LoadCause
+after_compacted_line g n d line =
     cond (length line == 0) (Ok d)
     (cond (begins_with header_sign line) (headed g (header_name line) (with_header n d.found (header_name line))) (with_compacted_line d line))
 
 -- what is held after lines of which the first has the number n, or the first fault
 abbrev pub after_compacted_lines : Sequences → ℕ → Draft → List (List ℕ) → Result Draft LoadFault
 after_compacted_lines g n d [] = Ok d
-after_compacted_lines g n d (line ∷ lines) = elim (after_kept_line g n d line) [ Ok more ↦ after_compacted_lines g (n + 1) more lines | Err c ↦ Err (record { line = n; cause = c }) ]
+after_compacted_lines g n d (line ∷ lines) = elim (after_compacted_line g n d line) [ Ok more ↦ after_compacted_lines g (n + 1) more lines | Err c ↦ Err (record { line = n; cause = c }) ]

@@ -1,7 +1,7 @@
 -- A header and the lines of bases after it.
 use Rattle.std.specs.Prelude.{◌≡◌, ℕ, ◌+◌, ◌++◌, true, false, List, [], ◌∷◌, None}
 use Rattle.std.specs.List.{list_any, concat}
-use Rattle.iv_text.specs.Named.{place_of}
+use Rattle.iv_text.specs.Named.{name_index}
 use Rattle.iv_text.specs.GenomeFile.{begins_with, bad_name}
 use Rattle.iv_fasta.specs.Fasta.{Found, header_name, header_sign, is_no_base}
 
@@ -9,7 +9,7 @@ use Rattle.iv_fasta.specs.Fasta.{Found, header_name, header_sign, is_no_base}
 pub record IsNewHeader (found : Found) (line : List ℕ) : Type 0 where
   pub begins : begins_with header_sign line ≡ true
   pub good : bad_name (header_name line) ≡ false
-  pub new : place_of found (header_name line) ≡ None
+  pub new : name_index found (header_name line) ≡ None
 
 -- the line is empty or all bases, and no header
 pub record IsBaseLine (line : List ℕ) : Type 0 where

@@ -4,7 +4,7 @@ use Rattle.std.specs.List.{list_any, concat}
 use Rattle.std.specs.Option.{is_some}
 use Rattle.iv_text.specs.Genome.{Sequences}
 use Rattle.iv_text.specs.GenomeFile.{begins_with, bad_name}
-use Rattle.iv_text.specs.Named.{place_of}
+use Rattle.iv_text.specs.Named.{name_index}
 use Rattle.iv_text.specs.declared.fault.LoadCause.{LoadCause}
 use Rattle.iv_text.specs.declared.fault.LoadCause.TheVariants as cause
 use Rattle.iv_text.specs.declared.fault.LoadFault.{LoadFault}
@@ -36,7 +36,7 @@ sequences_said lines = sequences_from 1 lines
 -- byte is no base
 abbrev pub has_line_cause : List (List ℕ) → List ℕ → LoadCause → Bool
 has_line_cause before line cause.Name = is_header line && bad_name (header_name line)
-has_line_cause before line cause.Repeated = is_header line && is_some (place_of (sequences_said before) (header_name line))
+has_line_cause before line cause.Repeated = is_header line && is_some (name_index (sequences_said before) (header_name line))
 has_line_cause before line cause.BasesFirst = not (is_header line) && (length (sequences_said before) == 0)
 has_line_cause before line cause.Base = not (is_header line) && list_any is_no_base line
 has_line_cause before line other = false

@@ -3,20 +3,20 @@ use Rattle.std.specs.Prelude.{◌≤◌, ℕ, All, List}
 use Rattle.std.specs.Ordering.{is_lt}
 use Rattle.std.specs.List.Sorted.{IsSortedBy}
 use Rattle.iv_text.specs.RecordValue.{record_cmp}
-use Rattle.iv_index.specs.Inside.Locators.{HasBase, row_at}
+use Rattle.iv_index.specs.Inside.Locators.{HasBase, record_at}
 use Rattle.iv_index.specs.declared.order.PrefixKeyed.{PrefixKeyed}
 use Rattle.iv_index.specs.declared.locator.Locator.{Locator}
 
 -- the locators are those of records that have a base, and the width is one of a record
-pub record AreLocators (width : ℕ) (places : List Locator) : Type 0 where
+pub record AreLocators (width : ℕ) (locators : List Locator) : Type 0 where
   pub low : 3 ≤ width
   pub high : width ≤ 6
-  pub some : All HasBase places
+  pub some : All HasBase locators
 
 -- the locators are in the order of a track: no record belongs in front of the one before it
 abbrev pub AreInOrder : ℕ → List ℕ → List Locator → Type 0
-AreInOrder width text places = IsSortedBy (λ x y. is_lt (record_cmp (row_at width text x) (row_at width text y))) places
+AreInOrder width text locators = IsSortedBy (λ x y. is_lt (record_cmp (record_at width text x) (record_at width text y))) locators
 
 -- the locator of one with its prefix key
-abbrev pub place_of : PrefixKeyed → Locator
-place_of headed = headed.place
+abbrev pub locator_of : PrefixKeyed → Locator
+locator_of keyed = keyed.locator

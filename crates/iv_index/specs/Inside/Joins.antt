@@ -4,18 +4,18 @@ use Rattle.iv_index.specs.declared.locator.Locator.{Locator}
 
 -- a locator is on the sequence of one that doesn't start past it, and starts at its stop or before
 abbrev pub touches : Locator → Locator → Bool
-touches last place = (last.span.seq == place.span.seq) && nat_le place.span.start last.span.stop
+touches last locator = (last.span.seq == locator.span.seq) && nat_le locator.span.start last.span.stop
 
 -- the two as one locator, with the line of the first
 abbrev pub grown : Locator → Locator → Locator
-grown last place = record last { span = record last.span { stop = max last.span.stop place.span.stop } }
+grown last locator = record last { span = record last.span { stop = max last.span.stop locator.span.stop } }
 
 -- the first of locators in order, and those after it, each joined to the one before it if they touch
 abbrev pub joined_from : Locator → List Locator → List Locator
 joined_from last [] = last ∷ []
-joined_from last (place ∷ places) = cond (touches last place) (joined_from (grown last place) places) (last ∷ joined_from place places)
+joined_from last (locator ∷ locators) = cond (touches last locator) (joined_from (grown last locator) locators) (last ∷ joined_from locator locators)
 
 -- locators in order, each joined to the one before it if they touch
 abbrev pub joined : List Locator → List Locator
 joined [] = []
-joined (place ∷ places) = joined_from place places
+joined (locator ∷ locators) = joined_from locator locators

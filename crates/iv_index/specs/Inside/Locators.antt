@@ -25,12 +25,12 @@ row_of width line p = record {
 }
 
 -- the record of a locator into a text
-abbrev pub row_at : ℕ → List ℕ → Locator → RecordValue
-row_at width text p = row_of width (line_at text p.line) p
+abbrev pub record_at : ℕ → List ℕ → Locator → RecordValue
+record_at width text p = row_of width (line_at text p.line) p
 
 -- the records of locators into a text
-abbrev pub rows_at : ℕ → List ℕ → List Locator → List RecordValue
-rows_at width text places = map (row_at width text) places
+abbrev pub records_at : ℕ → List ℕ → List Locator → List RecordValue
+records_at width text locators = map (record_at width text) locators
 
 -- the interval of a record
 abbrev pub span_of : RecordValue → Span

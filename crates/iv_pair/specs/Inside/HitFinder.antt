@@ -3,7 +3,7 @@ use denote.Ref.{Bor}
 use Rattle.std.specs.Prelude.{◌≡◌, ℕ, ◌<◌, ◌≤◌, ◌^◌, ◌++◌, Bool, true, false, List, [], ◌∷◌, Option, Some, None, All, length}
 use Rattle.iv_text.specs.Ordered.{AreInOrder}
 use Rattle.iv_text.specs.RecordValue.{RecordValue}
-use Rattle.iv_text.specs.Covering.{covers}
+use Rattle.iv_text.specs.CoveredPositions.{covers}
 use Rattle.iv_pair.specs.Hits.{hits}
 use Rattle.iv_pair.specs.Inside.Lengths.{AreUpTo}
 

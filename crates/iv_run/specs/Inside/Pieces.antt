@@ -9,6 +9,6 @@ use Rattle.iv_text.specs.declared.fault.LoadFault.{LoadFault}
 -- what is known of a file once these bytes of it are read: what is held of them and the remaining bytes, whatever these are, give the
 -- whole file; or the fault is out of memory, or that of the file, whatever remains
 abbrev pub SaysSoFar : (RecordValue → RecordValue) → Sequences → ℕ → List ℕ → Result Reading LoadFault → Type 0
-SaysSoFar kept g limit front (Ok r) =
-    AreSound kept g limit r.read × (size_of r ≤ 1 + length front) × ((more : List ℕ) → coming kept g limit begun (front ++ more) ≡ coming kept g limit r more)
-SaysSoFar kept g limit front (Err f) = (f ≡ record { line = 0; cause = cause.Memory }) ⊎ ((more : List ℕ) → coming kept g limit begun (front ++ more) ≡ Err f)
+SaysSoFar projected g limit front (Ok r) =
+    AreSound projected g limit r.read × (size_of r ≤ 1 + length front) × ((more : List ℕ) → coming projected g limit begun (front ++ more) ≡ coming projected g limit r more)
+SaysSoFar projected g limit front (Err f) = (f ≡ record { line = 0; cause = cause.Memory }) ⊎ ((more : List ℕ) → coming projected g limit begun (front ++ more) ≡ Err f)

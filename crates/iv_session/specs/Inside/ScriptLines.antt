@@ -8,7 +8,7 @@ use Rattle.iv_workspace.specs.Views.{print_code}
 use Rattle.iv_session.specs.Written.{Written}
 use Rattle.iv_workspace.specs.declared.fault.PrintFault.{PrintFault}
 use Rattle.iv_session.specs.declared.request.Request.{Request}
-use Rattle.iv_session.specs.Running.{AsksToPrint, Ends}
+use Rattle.iv_session.specs.ScriptLines.{AsksToPrint, Ends}
 
 -- what is written of a line that was not done, by the number of its fault: with one it is refused, and without one
 -- the output failed at its text

@@ -1,7 +1,7 @@
 -- One line of a BED file that is read in pieces, and bytes that end with their line.
 use Rattle.std.specs.Prelude.{◌≡◌, ◌⊎◌, ℕ, ◌+◌, ◌++◌, List, [], ◌∷◌, Err, drop}
 use Rattle.iv_text.specs.Bytes.{line_feed}
-use Rattle.iv_text.specs.BedFile.{after_rows}
+use Rattle.iv_text.specs.BedFile.{after_records}
 use Rattle.iv_text.specs.Genome.{Sequences}
 use Rattle.iv_text.specs.Lines.{lines}
 use Rattle.iv_text.specs.RecordValue.{RecordValue}
@@ -10,23 +10,23 @@ use Rattle.iv_text.specs.BedReading.{AreSound, Held, LinesRead, Shows, known, pr
 
 -- the first of these lines was read, and those others are left: whatever comes after them, and whatever the line's number is
 abbrev pub Takes : (RecordValue → RecordValue) → Sequences → ℕ → LinesRead → LinesRead → List (List ℕ) → List (List ℕ) → Type 0
-Takes kept g limit old new all left =
-    (n : ℕ) (rest : List (List ℕ)) → projected_draft kept (after_rows g limit n (known old) (all ++ rest)) ≡ projected_draft kept (after_rows g limit (n + 1) (known new) (left ++ rest))
+Takes projected g limit old new all left =
+    (n : ℕ) (rest : List (List ℕ)) → projected_draft projected (after_records g limit n (known old) (all ++ rest)) ≡ projected_draft projected (after_records g limit (n + 1) (known new) (left ++ rest))
 
 -- the first of these lines is the first faulty one, and this is its cause
 abbrev pub Refuses : (RecordValue → RecordValue) → Sequences → ℕ → LinesRead → List (List ℕ) → LoadCause → Type 0
-Refuses kept g limit old all c = (n : ℕ) (rest : List (List ℕ)) → projected_draft kept (after_rows g limit n (known old) (all ++ rest)) ≡ Err (record { line = n; cause = c })
+Refuses projected g limit old all c = (n : ℕ) (rest : List (List ℕ)) → projected_draft projected (after_records g limit n (known old) (all ++ rest)) ≡ Err (record { line = n; cause = c })
 
 module _ {K : Type 0} (held_of : RecordValue → ℕ → K) (g : Sequences) where
   -- the first line of a text, which has so many bytes, was read, however items are shown
   abbrev pub TakesLine : ℕ → Held K → Held K → List ℕ → ℕ → Type 0
-  TakesLine limit old new text size = (kept : RecordValue → RecordValue) (row_of : K → RecordValue) → Shows held_of g kept row_of old.at text
-      → (AreSound kept g limit (shown row_of old) → AreSound kept g limit (shown row_of new))
-      × Takes kept g limit (shown row_of old) (shown row_of new) (lines text) (lines (drop size text))
+  TakesLine limit old new text size = (projected : RecordValue → RecordValue) (row_of : K → RecordValue) → Shows held_of g projected row_of old.at text
+      → (AreSound projected g limit (shown row_of old) → AreSound projected g limit (shown row_of new))
+      × Takes projected g limit (shown row_of old) (shown row_of new) (lines text) (lines (drop size text))
 
   -- the first line of a text is the first faulty one, and this is its cause
   abbrev pub RefusesLine : ℕ → Held K → List ℕ → LoadCause → Type 0
-  RefusesLine limit old text c = (kept : RecordValue → RecordValue) (row_of : K → RecordValue) → Refuses kept g limit (shown row_of old) (lines text) c
+  RefusesLine limit old text c = (projected : RecordValue → RecordValue) (row_of : K → RecordValue) → Refuses projected g limit (shown row_of old) (lines text) c
 
 -- the bytes end at a line feed
 abbrev pub EndsAtFeed : List ℕ → Type 0

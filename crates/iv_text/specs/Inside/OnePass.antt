@@ -23,11 +23,11 @@ abbrev pub BeginsWithNumber : List ℕ → ℕ → List ℕ → Type 0
 BeginsWithNumber text n rest = (digits : List ℕ) × (text ≡ digits ++ rest) × (number digits ≡ Some n)
 
 -- the columns after a column that ends at the rest of its line
-abbrev pub AreBehind : List ℕ → List (List ℕ) → Type 0
-AreBehind rest others = (column : List ℕ) → HasNoTab column → columns (column ++ rest) ≡ column ∷ others
+abbrev pub ArePassed : List ℕ → List (List ℕ) → Type 0
+ArePassed rest others = (column : List ℕ) → HasNoTab column → columns (column ++ rest) ≡ column ∷ others
 
 -- the text begins with the columns of an interval on the genome: a name, a start and a stop; the rest is after them
-pub record BeginsWithPlace (g : Sequences) (text : List ℕ) (rank start stop : ℕ) (rest : List ℕ) : Type 0 where
+pub record BeginsWithInterval (g : Sequences) (text : List ℕ) (rank start stop : ℕ) (rest : List ℕ) : Type 0 where
   pub name : List ℕ
   pub starts : List ℕ
   pub stops : List ℕ

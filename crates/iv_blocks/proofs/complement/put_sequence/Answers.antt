@@ -1,5 +1,5 @@
 use Rattle.std.proofs.Common.{◌∙◌, refl}
-use Rattle.iv_bytes.proofs.Putting.{Underway-begin, Underway-more, Underway-fails, Underway-last, Puts-err}
+use Rattle.iv_bytes.proofs.PutLemmas.{Underway-begin, Underway-more, Underway-fails, Underway-last, Puts-err}
 use Rattle.iv_blocks.specs.Inside.BlockCursor.{starts_until}
 use Rattle.iv_blocks.proofs.BlockCursorLemmas.{TakesForEach-begin, TakesForEach-next, take-first, drop-first, take-none}
 use Rattle.iv_blocks.proofs.ComplementLemmas.{gaps-next, gaps-last}

@@ -1,6 +1,6 @@
 use Rattle.std.proofs.Common.{◌≡◌, length}
 use Rattle.std.specs.List.{flat_map, take_while}
-use Rattle.iv_bytes.proofs.Putting.{Underway}
+use Rattle.iv_bytes.proofs.PutLemmas.{Underway}
 use Rattle.iv_blocks.specs.Inside.BlockCursor.{gaps_between, starts_until, drop_while, TakesForEach}
 use Rattle.iv_blocks.specs.ComplementRows.{gap_row}
 use Rattle.iv_blocks.proofs.complement.put_sequence.Given as goal

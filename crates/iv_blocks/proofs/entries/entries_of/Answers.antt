@@ -1,12 +1,12 @@
 use Rattle.std.proofs.Common.{◌≡◌, ◌∙◌, ◌++◌, ◌∷◌, [], List, None, Bor, map, sym, ap}
 use Rattle.std.proofs.lemmas.List.{map-append}
 use Rattle.iv_text.specs.RecordValue.{RecordValue}
-use Rattle.iv_cover.specs.Inside.Coming.{coming}
+use Rattle.iv_cover.specs.Inside.RemainingBlocks.{coming}
 use Rattle.iv_cover.specs.TrackBlocks.{with_members}
 use Rattle.iv_track.proofs.WalkLemmas.{filter-from_first}
 use Rattle.iv_blocks.specs.Groups.{listed}
-use Rattle.iv_blocks.specs.Inside.Plain.{kept_entry, entries_with}
-use Rattle.iv_blocks.proofs.PlainLemmas.{entries-alike, entries-begun, entries-joined, entries-split_up}
+use Rattle.iv_blocks.specs.Inside.UnstrandedBlocks.{kept_entry, entries_with}
+use Rattle.iv_blocks.proofs.UnstrandedLemmas.{entries-alike, entries-begun, entries-joined, entries-split_up}
 use Rattle.iv_blocks.proofs.entries.entries_of.Goals.{then-is_joined_by, else-is_joined_by+in_ok-memory}
 use Rattle.iv_blocks.proofs.entries.entries_of.Goals as goal
 

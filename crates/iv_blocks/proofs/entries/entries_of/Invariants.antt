@@ -1,7 +1,7 @@
 use Rattle.std.proofs.Common.{◌≡◌, map, length, None}
-use Rattle.iv_cover.specs.Inside.Coming.{coming}
+use Rattle.iv_cover.specs.Inside.RemainingBlocks.{coming}
 use Rattle.iv_blocks.specs.Groups.{listed}
-use Rattle.iv_blocks.specs.Inside.Plain.{kept_entry, entries_with}
+use Rattle.iv_blocks.specs.Inside.UnstrandedBlocks.{kept_entry, entries_with}
 use Rattle.iv_blocks.proofs.entries.entries_of.Given as goal
 
 -- the entries that are made, with those of the open block and of the records that are left

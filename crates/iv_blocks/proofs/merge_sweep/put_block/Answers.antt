@@ -1,5 +1,5 @@
 use Rattle.std.proofs.Common.{append-nil}
-use Rattle.iv_bytes.proofs.Putting.{FailsIn-front, FailsIn-back, Takes-append, Puts-err, Puts-back}
+use Rattle.iv_bytes.proofs.PutLemmas.{FailsIn-front, FailsIn-back, Takes-append, Puts-err, Puts-back}
 use Rattle.iv_blocks.proofs.merge_sweep.put_block.Goals as goal
 
 pub returns-in_err-put_after_numbers-clause-text : goal.returns-in_err-put_after_numbers-clause-text

@@ -1,4 +1,4 @@
-use Rattle.iv_bytes.proofs.Putting.{FailsIn-front, Puts-err, Puts-back}
+use Rattle.iv_bytes.proofs.PutLemmas.{FailsIn-front, Puts-err, Puts-back}
 use Rattle.iv_blocks.proofs.TextLemmas.{apart}
 use Rattle.iv_blocks.proofs.merge_sweep.put_sequence.Goals as goal
 

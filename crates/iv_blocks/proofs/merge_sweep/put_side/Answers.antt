@@ -1,8 +1,8 @@
 use Rattle.std.proofs.Common.{◌≡◌, ◌≤◌, ◌∙◌, None, List, filter, length, vec_capacity, ap, sym, subst, length-append, arith}
 use Rattle.std.specs.List.{flat_map}
-use Rattle.iv_bytes.proofs.Putting.{Underway-begin, Puts-err}
+use Rattle.iv_bytes.proofs.PutLemmas.{Underway-begin, Puts-err}
 use Rattle.iv_text.specs.RecordValue.{RecordValue}
-use Rattle.iv_cover.specs.Inside.Coming.{coming}
+use Rattle.iv_cover.specs.Inside.RemainingBlocks.{coming}
 use Rattle.iv_cover.specs.TrackBlocks.{Group}
 use Rattle.iv_cover.specs.declared.column.ColumnSummary.{ColumnSummary}
 use Rattle.iv_blocks.specs.Groups.{listed}

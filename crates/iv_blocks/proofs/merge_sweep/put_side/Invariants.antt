@@ -1,6 +1,6 @@
 use Rattle.std.proofs.Common.{◌≤◌, filter, length, vec_capacity}
 use Rattle.std.specs.List.{flat_map}
-use Rattle.iv_bytes.proofs.Putting.{Underway}
+use Rattle.iv_bytes.proofs.PutLemmas.{Underway}
 use Rattle.iv_blocks.specs.Groups.{listed}
 use Rattle.iv_blocks.specs.Inside.Groups.{is_on}
 use Rattle.iv_blocks.specs.Inside.MergeSweeps.{group_row, group_rows}

@@ -1,7 +1,7 @@
 use Rattle.std.proofs.Common.{◌∙◌, ◌∷◌, ap, sym, arith, List, length}
-use Rattle.iv_bytes.proofs.Putting.{Underway-begin, Underway-more, Underway-fails, Underway-ends, Puts-err}
+use Rattle.iv_bytes.proofs.PutLemmas.{Underway-begin, Underway-more, Underway-fails, Underway-ends, Puts-err}
 use Rattle.iv_cover.specs.TrackBlocks.{Group}
-use Rattle.iv_cover.proofs.Merging.{merge-all}
+use Rattle.iv_cover.proofs.WalkLemmas.{merge-all}
 use Rattle.iv_blocks.proofs.ClusterTexts.{cluster-rows, coming-few}
 use Rattle.iv_blocks.proofs.sweeps.put_cluster.Goals as goal
 

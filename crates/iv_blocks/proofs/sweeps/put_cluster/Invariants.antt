@@ -1,5 +1,5 @@
 use Rattle.std.proofs.Common.{◌+◌, ◌≤◌, length}
-use Rattle.iv_bytes.proofs.Putting.{Underway}
+use Rattle.iv_bytes.proofs.PutLemmas.{Underway}
 use Rattle.iv_cover.specs.TrackBlocks.{blocks_of}
 use Rattle.iv_blocks.specs.Inside.BlockSweeps.{numbered_rows}
 use Rattle.iv_blocks.proofs.sweeps.put_cluster.Given as goal

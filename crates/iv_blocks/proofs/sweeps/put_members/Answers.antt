@@ -1,4 +1,4 @@
-use Rattle.iv_bytes.proofs.Putting.{Underway-begin, Underway-more, Underway-fails, Underway-ends, Puts-err}
+use Rattle.iv_bytes.proofs.PutLemmas.{Underway-begin, Underway-more, Underway-fails, Underway-ends, Puts-err}
 use Rattle.iv_blocks.proofs.sweeps.put_members.Goals as goal
 
 pub loop-member-init : goal.loop-member-init

@@ -1,5 +1,5 @@
 use Rattle.std.specs.List.{flat_map}
-use Rattle.iv_bytes.proofs.Putting.{Underway}
+use Rattle.iv_bytes.proofs.PutLemmas.{Underway}
 use Rattle.iv_blocks.specs.Inside.BlockSweeps.{numbered_row}
 use Rattle.iv_blocks.proofs.sweeps.put_members.Given as goal
 

@@ -1,22 +1,22 @@
 use Rattle.std.proofs.Common.{◌≡◌, ◌∙◌, ℕ, List, map}
 use Rattle.std.specs.List.{flat_map}
 use Rattle.std.proofs.lemmas.List.Folds.{flat_map-map}
-use Rattle.iv_bytes.proofs.Putting.{Underway-begin, Underway-more, Underway-fails, Underway-ends, Puts-err}
+use Rattle.iv_bytes.proofs.PutLemmas.{Underway-begin, Underway-more, Underway-fails, Underway-ends, Puts-err}
 use Rattle.iv_text.specs.Genome.{Sequences}
-use Rattle.iv_index.specs.Inside.Spans.{span_rows}
+use Rattle.iv_index.specs.Inside.Spans.{span_records}
 use Rattle.iv_index.specs.declared.span.Span.{Span}
 use Rattle.iv_cover.specs.TrackBlocks.{blocks_of}
 use Rattle.iv_blocks.specs.Inside.BlockSweeps.{interval_of, interval_row}
 use Rattle.iv_blocks.specs.MergeRows.{merge_text}
-use Rattle.iv_blocks.specs.PlainOptions.{IsPlain}
-use Rattle.iv_blocks.specs.declared.options.Options.{Options}
+use Rattle.iv_blocks.specs.IntervalOptions.{IsByIntervals}
+use Rattle.iv_blocks.specs.declared.options.BlockOptions.{BlockOptions}
 use Rattle.iv_blocks.proofs.MergeTexts.{text-blocks}
 use Rattle.iv_blocks.proofs.sweeps.put_merge.Goals as goal
 
 -- the rows of all blocks are the text
-text-is : (d : ℕ) (g : Sequences) (spans : List Span) (o : Options) → IsPlain d o
-    → flat_map (interval_row g) (map interval_of (blocks_of d g (span_rows spans))) ≡ merge_text o g (span_rows spans)
-text-is d g spans o plain = flat_map-map (interval_row g) interval_of (blocks_of d g (span_rows spans)) ∙ text-blocks d g (span_rows spans) o plain
+text-is : (d : ℕ) (g : Sequences) (spans : List Span) (o : BlockOptions) → IsByIntervals d o
+    → flat_map (interval_row g) (map interval_of (blocks_of d g (span_records spans))) ≡ merge_text o g (span_records spans)
+text-is d g spans o plain = flat_map-map (interval_row g) interval_of (blocks_of d g (span_records spans)) ∙ text-blocks d g (span_records spans) o plain
 
 pub loop-block-init : goal.loop-block-init
 loop-block-init g c = rw (c.into_iter-block-iterator.ensures.into_iter_gives ∙ c.of-block-items.ensures c.args.genome.now c.requires.on_genome) (Underway-begin _ _)

@@ -1,5 +1,5 @@
 use Rattle.std.proofs.Common.{ℕ, [], ◌∙◌, ap, arith, length, get_or}
-use Rattle.iv_bytes.proofs.Putting.{laid-more, laid-length}
+use Rattle.iv_bytes.proofs.PutLemmas.{laid-more, laid-length}
 use Rattle.iv_bytes.proofs.sink.lay.Goals as goal
 
 pub loop-piece-preserved : goal.loop-piece-preserved

@@ -1,4 +1,4 @@
-use Rattle.iv_bytes.proofs.Putting.{Underway-stops, Underway-pushed, Puts-err}
+use Rattle.iv_bytes.proofs.PutLemmas.{Underway-stops, Underway-pushed, Puts-err}
 use Rattle.iv_bytes.proofs.sink.put_all.Goals as goal
 
 pub returns-in_err-n : goal.returns-in_err-n

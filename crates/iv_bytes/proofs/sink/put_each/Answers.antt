@@ -1,4 +1,4 @@
-use Rattle.iv_bytes.proofs.Putting.{Underway-fails, Underway-more, Puts-err, flat_map-drop}
+use Rattle.iv_bytes.proofs.PutLemmas.{Underway-fails, Underway-more, Puts-err, flat_map-drop}
 use Rattle.iv_bytes.proofs.sink.put_each.Goals as goal
 
 pub returns-in_err-put_all : goal.returns-in_err-put_all

@@ -1,7 +1,7 @@
 use Rattle.std.proofs.Common.{◌≡◌, ◌+◌, ◌++◌, List, ℕ, drop, get_or, arith}
 use Rattle.std.specs.List.{flat_map}
 use Rattle.std.specs.Prelude.{codes}
-use Rattle.iv_bytes.proofs.Putting.{Underway-more, Underway-fails, Puts-err, flat_map-drop}
+use Rattle.iv_bytes.proofs.PutLemmas.{Underway-more, Underway-fails, Puts-err, flat_map-drop}
 use Rattle.iv_cover.specs.Summaries.{summary_of}
 use Rattle.iv_cover.specs.declared.column.Column.TheVariants.{Sequence}
 use Rattle.iv_cover.specs.declared.column.ColumnSummary.{ColumnSummary}

@@ -1,5 +1,5 @@
 use Rattle.std.proofs.Common.{◌≤◌, drop, vec_capacity}
-use Rattle.iv_bytes.proofs.Putting.{Underway}
+use Rattle.iv_bytes.proofs.PutLemmas.{Underway}
 use Rattle.iv_cover.specs.Results.{results_of}
 use Rattle.iv_cover.proofs.summaries.put_results.Given as goal
 

@@ -2,7 +2,7 @@ use Rattle.std.proofs.Common.{◌≡◌, ◌∙◌, ◌++◌, ◌∷◌, ◌+◌
 use Rattle.std.specs.Cmp.Lexicographic.{slice_cmp}
 use Rattle.std.specs.List.{join_with_byte}
 use Rattle.std.specs.Ordering.{nat_cmp}
-use Rattle.iv_bytes.proofs.Putting.{Puts-err}
+use Rattle.iv_bytes.proofs.PutLemmas.{Puts-err}
 use Rattle.iv_text.specs.Bytes.{comma}
 use Rattle.iv_text.specs.Ordered.{InOrder}
 use Rattle.iv_cover.specs.Summaries.{different}

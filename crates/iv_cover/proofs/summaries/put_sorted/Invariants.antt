@@ -2,7 +2,7 @@ use Rattle.std.proofs.Common.{◌∷◌, drop}
 use Rattle.std.specs.Cmp.Lexicographic.{slice_cmp}
 use Rattle.std.specs.Ordering.{nat_cmp}
 use Rattle.std.specs.List.{join_with_byte}
-use Rattle.iv_bytes.proofs.Putting.{Underway}
+use Rattle.iv_bytes.proofs.PutLemmas.{Underway}
 use Rattle.iv_text.specs.Bytes.{comma}
 use Rattle.iv_text.specs.Ordered.{InOrder}
 use Rattle.iv_cover.specs.Summaries.{different}

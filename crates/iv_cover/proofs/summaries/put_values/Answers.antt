@@ -1,6 +1,6 @@
 use Rattle.std.proofs.Common.{◌∙◌, ap, sym}
 use Rattle.std.specs.List.{join_with_byte}
-use Rattle.iv_bytes.proofs.Putting.{Puts-err}
+use Rattle.iv_bytes.proofs.PutLemmas.{Puts-err}
 use Rattle.iv_text.specs.Bytes.{comma}
 use Rattle.iv_cover.specs.Inside.Results.{after_commas}
 use Rattle.iv_cover.proofs.DistinctLemmas.{joined-is}

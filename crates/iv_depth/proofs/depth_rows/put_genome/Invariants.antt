@@ -1,5 +1,5 @@
 use Rattle.std.proofs.Common.{◌+◌, ◌≤◌, length}
-use Rattle.iv_bytes.proofs.Putting.{Underway}
+use Rattle.iv_bytes.proofs.PutLemmas.{Underway}
 use Rattle.iv_depth.specs.DepthRows.{text_by}
 use Rattle.iv_depth.specs.Inside.Walks.{AreAhead, depth_by}
 use Rattle.iv_depth.proofs.Genomes.{texts_from}

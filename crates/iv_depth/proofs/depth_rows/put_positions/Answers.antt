@@ -1,5 +1,5 @@
 use Rattle.std.proofs.Common.{arith}
-use Rattle.iv_bytes.proofs.Putting.{Underway-begin, Underway-more, Underway-fails, Underway-ends, Puts-err}
+use Rattle.iv_bytes.proofs.PutLemmas.{Underway-begin, Underway-more, Underway-fails, Underway-ends, Puts-err}
 use Rattle.iv_depth.specs.DepthRows.{position_row}
 use Rattle.iv_depth.proofs.Stretches.{each-next, each-none}
 use Rattle.iv_depth.proofs.depth_rows.put_positions.Goals as goal

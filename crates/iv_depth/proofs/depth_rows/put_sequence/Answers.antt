@@ -1,7 +1,7 @@
 use Rattle.std.proofs.Common.{◌≡◌, ℕ, ◌∙◌, ap, refl, arith, rules, w64, SFits}
 use Rattle.std.proofs.lemmas.Int.{ints}
 use lib.IntN.{nat_abs}
-use Rattle.iv_bytes.proofs.Putting.{Underway-begin, Underway-more, Underway-fails, Underway-last, Puts-err}
+use Rattle.iv_bytes.proofs.PutLemmas.{Underway-begin, Underway-more, Underway-fails, Underway-last, Puts-err}
 use Rattle.iv_track.proofs.StepLemmas.{each_none, each_more}
 use Rattle.iv_depth.specs.DepthRows.{rows_between, sequence_text}
 use Rattle.iv_depth.proofs.Stretches.{rows-next, rows-end}

@@ -1,5 +1,5 @@
 use Rattle.std.proofs.Common.{◌≡◌, ℕ, pos}
-use Rattle.iv_bytes.proofs.Putting.{Underway}
+use Rattle.iv_bytes.proofs.PutLemmas.{Underway}
 use Rattle.iv_track.specs.Inside.Steps.{TakesForEach}
 use Rattle.iv_depth.specs.DepthRows.{rows_between}
 use Rattle.iv_depth.proofs.depth_rows.put_sequence.Given as goal

@@ -1,4 +1,4 @@
-use Rattle.iv_bytes.proofs.Putting.{Takes-nothing}
+use Rattle.iv_bytes.proofs.PutLemmas.{Takes-nothing}
 use Rattle.iv_depth.proofs.Stretches.{rows-none, rows-bare, rows-covered, rows-one}
 use Rattle.iv_depth.proofs.depth_rows.put_stretch.Goals as goal
 

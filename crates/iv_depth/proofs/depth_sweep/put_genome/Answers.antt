@@ -1,10 +1,10 @@
 use Rattle.std.proofs.Common.{◌≤◌, ◌<◌, ◌∙◌, nat_lt, List, All, filter, length, refl, ap, sym, subst, arith, rules}
-use Rattle.iv_bytes.proofs.Putting.{Underway-begin, Underway-more, Underway-fails, Puts-err}
+use Rattle.iv_bytes.proofs.PutLemmas.{Underway-begin, Underway-more, Underway-fails, Puts-err}
 use Rattle.iv_text.specs.Genome.{seq_count}
 use Rattle.iv_text.specs.Ordered.{AreInOrder}
 use Rattle.iv_text.specs.RecordValue.{RecordValue}
 use Rattle.iv_cover.specs.Depth.{depth}
-use Rattle.iv_index.specs.Inside.Spans.{row_of_span, span_rows}
+use Rattle.iv_index.specs.Inside.Spans.{record_of_span, span_records}
 use Rattle.std.proofs.lemmas.List.{length-map}
 use Rattle.iv_index.proofs.SequenceLemmas.{all-from, from-in, from-order, from-later}
 use Rattle.iv_depth.proofs.EdgeLemmas.{places-few, IsAhead-begin}
@@ -13,52 +13,52 @@ use Rattle.iv_depth.proofs.depth_sweep.put_genome.Goals as goal
 
 pub loop-rank-init : goal.loop-rank-init
 loop-rank-init g c = record {
-  put = rw (texts-all c.args.shown c.args.genome.now (depth (span_rows c.args.spans.now))) (Underway-begin _ _);
-  left_is = sym (all-from (span_rows c.args.spans.now));
+  put = rw (texts-all c.args.shown c.args.genome.now (depth (span_records c.args.spans.now))) (Underway-begin _ _);
+  left_is = sym (all-from (span_records c.args.spans.now));
   len = refl;
 }
 
 pub split_sequence-requires-clause-order : goal.split_sequence-requires-clause-order
 split_sequence-requires-clause-order g c =
-    subst AreInOrder (sym c.loop-rank.invariant.left_is) (from-order c.loop-rank.rank (span_rows c.args.spans.now) c.requires.order)
+    subst AreInOrder (sym c.loop-rank.invariant.left_is) (from-order c.loop-rank.rank (span_records c.args.spans.now) c.requires.order)
 
 pub split_sequence-requires-clause-from : goal.split_sequence-requires-clause-from
 split_sequence-requires-clause-from g c =
-    subst (λ (l : List RecordValue). All (λ r. c.loop-rank.rank ≤ r.seq) l) (sym c.loop-rank.invariant.left_is) (from-in c.loop-rank.rank (span_rows c.args.spans.now))
+    subst (λ (l : List RecordValue). All (λ r. c.loop-rank.rank ≤ r.seq) l) (sym c.loop-rank.invariant.left_is) (from-in c.loop-rank.rank (span_records c.args.spans.now))
 
 pub slice_bounds-room-end : goal.slice_bounds-room-end
 slice_bounds-room-end g c =
     let i = c.loop-rank.invariant in
-    let few = places-few c.args.genome.now c.loop-rank.rank (span_rows c.args.spans.now) _ _ _ i.left_is c.split_sequence.ensures.here refl in
-    omega (arith, few, i.len, c.requires.room, length-map c.args.spans.now row_of_span)
+    let few = places-few c.args.genome.now c.loop-rank.rank (span_records c.args.spans.now) _ _ _ i.left_is c.split_sequence.ensures.here refl in
+    omega (arith, few, i.len, c.requires.room, length-map c.args.spans.now record_of_span)
 
 pub slice_bounds-room-end-in-loop-rank : goal.slice_bounds-room-end-in-loop-rank
 slice_bounds-room-end-in-loop-rank g c =
     let i = c.loop-rank.invariant in
-    let few = places-few c.args.genome.now c.loop-rank.rank (span_rows c.args.spans.now) _ _ _ i.left_is c.split_sequence.ensures.here refl in
-    let within : length c.split_sequence.result.0.now ≤ length c.loop-rank.stops = omega (arith, few, i.len, c.requires.room, length-map c.args.spans.now row_of_span) in
+    let few = places-few c.args.genome.now c.loop-rank.rank (span_records c.args.spans.now) _ _ _ i.left_is c.split_sequence.ensures.here refl in
+    let within : length c.split_sequence.result.0.now ≤ length c.loop-rank.stops = omega (arith, few, i.len, c.requires.room, length-map c.args.spans.now record_of_span) in
     search rules
 
 pub write_stops-requires : goal.write_stops-requires
 write_stops-requires g c =
     let i = c.loop-rank.invariant in
-    let few = places-few c.args.genome.now c.loop-rank.rank (span_rows c.args.spans.now) _ _ _ i.left_is c.split_sequence.ensures.here refl in
-    let within : length c.split_sequence.result.0.now ≤ length c.loop-rank.stops = omega (arith, few, i.len, c.requires.room, length-map c.args.spans.now row_of_span) in
+    let few = places-few c.args.genome.now c.loop-rank.rank (span_records c.args.spans.now) _ _ _ i.left_is c.split_sequence.ensures.here refl in
+    let within : length c.split_sequence.result.0.now ≤ length c.loop-rank.stops = omega (arith, few, i.len, c.requires.room, length-map c.args.spans.now record_of_span) in
     search rules
 
 pub put_sequence-requires : goal.put_sequence-requires
 put_sequence-requires g c = (
-  depth (span_rows c.args.spans.now),
-  IsAhead-begin c.args.genome.now c.loop-rank.rank (span_rows c.args.spans.now) _ _ _ c.loop-rank.invariant.left_is c.split_sequence.ensures.here refl
+  depth (span_records c.args.spans.now),
+  IsAhead-begin c.args.genome.now c.loop-rank.rank (span_records c.args.spans.now) _ _ _ c.loop-rank.invariant.left_is c.split_sequence.ensures.here refl
       _ c.requires.order c.requires.on_genome c.write_stops.ensures.stops,
 )
 
 pub returns-in_err-put_sequence-clause-text : goal.returns-in_err-put_sequence-clause-text
 returns-in_err-put_sequence-clause-text g c =
     let i = c.loop-rank.invariant in
-    let by = depth (span_rows c.args.spans.now) in
+    let by = depth (span_records c.args.spans.now) in
     let low : c.loop-rank.rank < seq_count c.args.genome.now = omega (arith, c.loop-rank-test.true, c.count-rank-end.ensures.value) in
-    let ahead = IsAhead-begin c.args.genome.now c.loop-rank.rank (span_rows c.args.spans.now) _ _ _ i.left_is c.split_sequence.ensures.here refl
+    let ahead = IsAhead-begin c.args.genome.now c.loop-rank.rank (span_records c.args.spans.now) _ _ _ i.left_is c.split_sequence.ensures.here refl
     _ c.requires.order c.requires.on_genome c.write_stops.ensures.stops in
     Puts-err _ _ c.from_residual.result _ c.from_residual.ensures.0
     (Underway-fails _ _ _ _ _ _ (rw (texts-next c.args.shown c.args.genome.now by c.loop-rank.rank low) at i.put) (c.in_err-put_sequence.ensures.text by ahead))
@@ -66,12 +66,12 @@ returns-in_err-put_sequence-clause-text g c =
 pub loop-rank-preserved : goal.loop-rank-preserved
 loop-rank-preserved g c =
     let i = c.loop-rank.invariant in
-    let by = depth (span_rows c.args.spans.now) in
+    let by = depth (span_records c.args.spans.now) in
     let low : c.loop-rank.rank < seq_count c.args.genome.now = omega (arith, c.loop-rank-test.true, c.count-rank-end.ensures.value) in
-    let ahead = IsAhead-begin c.args.genome.now c.loop-rank.rank (span_rows c.args.spans.now) _ _ _ i.left_is c.split_sequence.ensures.here refl
+    let ahead = IsAhead-begin c.args.genome.now c.loop-rank.rank (span_records c.args.spans.now) _ _ _ i.left_is c.split_sequence.ensures.here refl
     _ c.requires.order c.requires.on_genome c.write_stops.ensures.stops in
     record {
       put = Underway-more _ _ _ _ _ _ (rw (texts-next c.args.shown c.args.genome.now by c.loop-rank.rank low) at i.put) (c.in_ok-put_sequence.ensures.text by ahead);
-      left_is = c.split_sequence.ensures.later ∙ ap (filter (λ r. nat_lt c.loop-rank.rank r.seq)) i.left_is ∙ from-later c.loop-rank.rank (span_rows c.args.spans.now);
+      left_is = c.split_sequence.ensures.later ∙ ap (filter (λ r. nat_lt c.loop-rank.rank r.seq)) i.left_is ∙ from-later c.loop-rank.rank (span_records c.args.spans.now);
       len = search rules;
     }

@@ -1,4 +1,4 @@
-use Rattle.iv_fasta.proofs.FastaLawLemmas.{fasta-value, fasta-fault}
+use Rattle.iv_fasta.proofs.FastaMeaningLemmas.{fasta-value, fasta-fault}
 use Rattle.iv_fasta.proofs.lemmas.fasta_or_first_fault.Goals as goal
 
 pub returns-clause-value : goal.returns-clause-value

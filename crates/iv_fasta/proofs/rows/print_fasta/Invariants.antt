@@ -1,6 +1,6 @@
 use Rattle.std.proofs.Common.{length}
 use Rattle.std.specs.List.{flat_map}
-use Rattle.iv_bytes.proofs.Putting.{Underway}
+use Rattle.iv_bytes.proofs.PutLemmas.{Underway}
 use Rattle.iv_fasta.specs.FastaRows.{fasta_rows, fasta_text}
 use Rattle.iv_fasta.proofs.rows.print_fasta.Given as goal
 

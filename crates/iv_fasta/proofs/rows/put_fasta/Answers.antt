@@ -1,4 +1,4 @@
-use Rattle.iv_bytes.proofs.Putting.{FailsIn-front, FailsIn-back, Puts-back, Puts-err}
+use Rattle.iv_bytes.proofs.PutLemmas.{FailsIn-front, FailsIn-back, Puts-back, Puts-err}
 use Rattle.iv_fasta.proofs.RowLemmas.{row-is}
 use Rattle.iv_fasta.proofs.rows.put_fasta.Goals as goal
 

@@ -1,7 +1,7 @@
 use Rattle.std.proofs.Common.{◌∙◌, ap, length, List, ℕ, subst, arith}
 use Rattle.std.proofs.lemmas.List.{take_at}
 use Rattle.iv_bytes.specs.Sinks.{Takes, FailsIn}
-use Rattle.iv_bytes.proofs.Putting.{Underway-fails, Underway-more, Puts-err}
+use Rattle.iv_bytes.proofs.PutLemmas.{Underway-fails, Underway-more, Puts-err}
 use Rattle.iv_fasta.proofs.OppositeLemmas.{length-opposite, opposite-parts}
 use Rattle.iv_fasta.proofs.rows.put_opposite.Goals as goal
 

@@ -1,5 +1,5 @@
 use Rattle.std.proofs.Common.{length}
-use Rattle.iv_bytes.proofs.Putting.{Underway}
+use Rattle.iv_bytes.proofs.PutLemmas.{Underway}
 use Rattle.iv_fasta.specs.FastaRows.{opposite}
 use Rattle.iv_fasta.proofs.rows.put_opposite.Given as goal
 

@@ -1,5 +1,5 @@
 use Rattle.std.proofs.Common.{◌∙◌, refl}
-use Rattle.iv_index.specs.Inside.Locators.{row_at}
+use Rattle.iv_index.specs.Inside.Locators.{record_at}
 use Rattle.iv_index.proofs.OrderLemmas.{columns-cmp}
 use Rattle.iv_index.proofs.order.compare_beside.Goals as goal
 
@@ -7,5 +7,5 @@ pub returns : goal.returns
 returns c =
     let w = c.args.width in
     c.compare_columns.ensures
-    ∙ columns-cmp (row_at w c.args.text.now c.args.first.now) (row_at w c.args.text.now c.args.second.now) _ _ _ _ _ _ refl
+    ∙ columns-cmp (record_at w c.args.text.now c.args.first.now) (record_at w c.args.text.now c.args.second.now) _ _ _ _ _ _ refl
     c.optional_columns_of.ensures.name c.optional_columns_of.ensures.score c.optional_columns_of.ensures.strand c.optional_columns_of-2.ensures.name c.optional_columns_of-2.ensures.score c.optional_columns_of-2.ensures.strand

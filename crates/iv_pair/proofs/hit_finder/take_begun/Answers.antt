@@ -2,7 +2,7 @@ use Rattle.std.proofs.Common.{◌≡◌, ◌≤◌, ◌++◌, [], ◌∷◌, Lis
 use Rattle.std.proofs.lemmas.List.Elements.{All-push}
 use Rattle.iv_text.specs.Ordered.{AreInOrder}
 use Rattle.iv_text.specs.RecordValue.{RecordValue}
-use Rattle.iv_text.specs.Covering.{covers}
+use Rattle.iv_text.specs.CoveredPositions.{covers}
 use Rattle.iv_pair.specs.Inside.HitFinder.{AllCover, HitAlike, IsOnward}
 use Rattle.iv_pair.proofs.CarryLemmas.{alike-pushed, alike-passed, begun-not_from}
 use Rattle.iv_pair.proofs.hit_finder.take_begun.Goals.{then-covers+else-not-push, else-covers}

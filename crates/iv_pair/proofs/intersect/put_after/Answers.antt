@@ -1,4 +1,4 @@
-use Rattle.iv_bytes.proofs.Putting.{Puts-back, Puts-err, FailsIn-front}
+use Rattle.iv_bytes.proofs.PutLemmas.{Puts-back, Puts-err, FailsIn-front}
 use Rattle.iv_pair.proofs.intersect.put_after.Goals as goal
 
 pub returns-in_err-put_all : goal.returns-in_err-put_all

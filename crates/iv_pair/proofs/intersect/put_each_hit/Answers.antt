@@ -1,4 +1,4 @@
-use Rattle.iv_bytes.proofs.Putting.{Underway-ends, Puts-err}
+use Rattle.iv_bytes.proofs.PutLemmas.{Underway-ends, Puts-err}
 use Rattle.iv_pair.proofs.LineLemmas.{LinesLeft-begin, LinesLeft-ends, LinesLeft-fails, LinesLeft-next, LinesLeft-overlaps}
 use Rattle.iv_pair.proofs.intersect.put_each_hit.Goals as goal
 

@@ -1,6 +1,6 @@
 use Rattle.std.proofs.Common.{◌≡◌, length}
 use Rattle.std.specs.List.{flat_map}
-use Rattle.iv_bytes.proofs.Putting.{Underway}
+use Rattle.iv_bytes.proofs.PutLemmas.{Underway}
 use Rattle.iv_pair.proofs.pair_rows.print_pairs.Given as goal
 use Rattle.iv_pair.specs.PairRows.{pair_rows, pair_text}
 

@@ -1,5 +1,5 @@
 use Rattle.std.proofs.Common.{◌≡◌, ◌<◌, ◌≤◌, max, arith, refl}
-use Rattle.iv_bytes.proofs.Putting.{Underway-last, Puts-err}
+use Rattle.iv_bytes.proofs.PutLemmas.{Underway-last, Puts-err}
 use Rattle.iv_pair.proofs.UncoveredLemmas.{Remains-begin, Remains-next, Remains-fails, Remains-last, Remains-covered, within}
 use Rattle.iv_pair.proofs.YieldLemmas.{ended, went}
 use Rattle.iv_pair.proofs.subtract.put_uncovered.Goals as goal

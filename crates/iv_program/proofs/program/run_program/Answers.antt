@@ -1,16 +1,16 @@
 use Rattle.std.proofs.Common.{[], map, subst, sym, ◌∙◌}
-use Rattle.iv_cli.specs.declared.ending.Ending.{Ending}
+use Rattle.iv_cli.specs.declared.exit_reason.ExitReason.{ExitReason}
 use Rattle.iv_program.specs.Program.{Finishes}
-use Rattle.iv_program.proofs.RunLemmas.{gave-notice, had-no-plan, ran-plan}
+use Rattle.iv_program.proofs.RunLemmas.{gave-info_request, had-no-plan, ran-plan}
 use Rattle.iv_program.proofs.program.run_program.Goals as goal
 
 pub returns-in-Some : goal.returns-in-Some
 returns-in-Some g c =
-    gave-notice (map (λ word. word.now) c.args.words.now) c.finish.result c.in-Some.notice (g.F.InputFiles.state c.args.files.now) (g.R.Source.state c.args.input.now)
+    gave-info_request (map (λ word. word.now) c.args.words.now) c.finish.result c.in-Some.info_request (g.F.InputFiles.state c.args.files.now) (g.R.Source.state c.args.input.now)
     (g.W.Sink.state c.args.output.now) (g.W.Sink.state c.print_notice.new.output) (g.W.Sink.state c.finish.new.output)
     (g.E.Sink.state c.args.messages.now) (g.E.Sink.state c.finish.new.messages) c.print_notice.result (sym c.in-Some.ensures) c.print_notice.ensures
-    (subst (λ (e : Ending). Finishes e [] (g.W.Sink.state c.print_notice.new.output) (g.W.Sink.state c.finish.new.output) (g.E.Sink.state c.args.messages.now) (g.E.Sink.state c.finish.new.messages) c.finish.result.ending)
-    c.at_no_line-ended.ensures.0 c.finish.ensures.ending) (c.finish.ensures.line ∙ c.at_no_line-ended.ensures.1)
+    (subst (λ (e : ExitReason). Finishes e [] (g.W.Sink.state c.print_notice.new.output) (g.W.Sink.state c.finish.new.output) (g.E.Sink.state c.args.messages.now) (g.E.Sink.state c.finish.new.messages) c.finish.result.exit_reason)
+    c.at_no_line-ended.ensures.0 c.finish.ensures.exit_reason) (c.finish.ensures.line ∙ c.at_no_line-ended.ensures.1)
 
 pub returns-in-Ok : goal.returns-in-Ok
 returns-in-Ok g c =
@@ -18,13 +18,13 @@ returns-in-Ok g c =
     (g.R.Source.state c.args.input.now) (g.R.Source.state c.run_plan-ended.new.input)
     (g.W.Sink.state c.args.output.now) (g.W.Sink.state c.run_plan-ended.new.output) (g.W.Sink.state c.finish-in-Ok.new.output)
     (g.E.Sink.state c.args.messages.now) (g.E.Sink.state c.run_plan-ended.new.messages) (g.E.Sink.state c.finish-in-Ok.new.messages)
-    c.run_plan-ended.result.ending c.run_plan-ended.result.line c.file_meant.result.now (sym c.of.ensures ∙ c.in_default.is) c.in-Ok.ensures.ok c.run_plan-ended.ensures c.file_meant.ensures
-    c.finish-in-Ok.ensures.ending c.finish-in-Ok.ensures.line
+    c.run_plan-ended.result.exit_reason c.run_plan-ended.result.line c.file_meant.result.now (sym c.of.ensures ∙ c.in_default.is) c.in-Ok.ensures.ok c.run_plan-ended.ensures c.file_meant.ensures
+    c.finish-in-Ok.ensures.exit_reason c.finish-in-Ok.ensures.line
 
 pub returns-in-Err : goal.returns-in-Err
 returns-in-Err g c =
     had-no-plan (map (λ word. word.now) c.args.words.now) c.finish-in-Err.result c.in-Err.fault (g.F.InputFiles.state c.args.files.now) (g.R.Source.state c.args.input.now)
     (g.W.Sink.state c.args.output.now) (g.W.Sink.state c.finish-in-Err.new.output) (g.E.Sink.state c.args.messages.now) (g.E.Sink.state c.finish-in-Err.new.messages)
     c.from.result (sym c.of.ensures ∙ c.in_default.is) c.in-Err.ensures.err c.from.ensures
-    (subst (λ (e : Ending). Finishes e [] (g.W.Sink.state c.args.output.now) (g.W.Sink.state c.finish-in-Err.new.output) (g.E.Sink.state c.args.messages.now) (g.E.Sink.state c.finish-in-Err.new.messages) c.finish-in-Err.result.ending)
-    c.at_no_line-ended-in-Err.ensures.0 c.finish-in-Err.ensures.ending) (c.finish-in-Err.ensures.line ∙ c.at_no_line-ended-in-Err.ensures.1)
+    (subst (λ (e : ExitReason). Finishes e [] (g.W.Sink.state c.args.output.now) (g.W.Sink.state c.finish-in-Err.new.output) (g.E.Sink.state c.args.messages.now) (g.E.Sink.state c.finish-in-Err.new.messages) c.finish-in-Err.result.exit_reason)
+    c.at_no_line-ended-in-Err.ensures.0 c.finish-in-Err.ensures.exit_reason) (c.finish-in-Err.ensures.line ∙ c.at_no_line-ended-in-Err.ensures.1)

@@ -1,5 +1,5 @@
 use Rattle.std.specs.List.{flat_map}
-use Rattle.iv_bytes.proofs.Putting.{Underway}
+use Rattle.iv_bytes.proofs.PutLemmas.{Underway}
 use Rattle.iv_fasta.specs.FastaRows.{fasta_rows, fasta_text}
 use Rattle.iv_run.proofs.one_shot.put_each.Given as goal
 

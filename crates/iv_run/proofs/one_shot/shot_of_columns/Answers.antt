@@ -1,9 +1,9 @@
 use Rattle.std.proofs.Common.{◌≡◌, Ok, Err, sym, ◌∙◌}
 use Rattle.std.proofs.lemmas.Result.{err_from_is_err_and}
-use Rattle.iv_bytes.proofs.Putting.{Takes-finished, FailsIn-finished}
+use Rattle.iv_bytes.proofs.PutLemmas.{Takes-finished, FailsIn-finished}
 use Rattle.iv_run.specs.declared.fault.CliFault.TheVariants.{Output}
 use Rattle.iv_run.proofs.ShotLemmas.{shows-text}
-use Rattle.iv_run.proofs.one_shot.print_columns.Goals as goal
+use Rattle.iv_run.proofs.one_shot.shot_of_columns.Goals as goal
 
 pub put-requires : goal.put-requires
 put-requires g c = (c.args.plan.now.view, c.requires.columns, sym c.in_ok-view.ensures)

@@ -1,5 +1,5 @@
 use Rattle.std.proofs.Common.{◌≡◌, sym, ◌∙◌}
-use Rattle.iv_bytes.proofs.Putting.{Puts-finished}
+use Rattle.iv_bytes.proofs.PutLemmas.{Puts-finished}
 use Rattle.iv_session.proofs.line.put_message.Goals as goal
 
 pub returns : goal.returns

@@ -1,6 +1,6 @@
 use Rattle.std.proofs.Common.{◌≡◌, ◌+◌, ◌-◌, ◌≤◌, ap, arith, refl}
 use Rattle.std.proofs.lemmas.Result.{err_from_is_err_and}
-use Rattle.iv_session.specs.Running.{RunsLast}
+use Rattle.iv_session.specs.ScriptLines.{RunsLast}
 use Rattle.iv_session.specs.declared.script.Summary.{Summary}
 use Rattle.iv_session.proofs.ScriptLemmas.{Going-begin, Going-more, Done-end, Done-last}
 use Rattle.iv_session.proofs.StopLemmas.{Stopped-line, Stopped-sink}

@@ -1,5 +1,5 @@
 use Rattle.std.proofs.Common.{◌-◌, ◌≤◌}
-use Rattle.iv_session.specs.Running.{Runs}
+use Rattle.iv_session.specs.ScriptLines.{Runs}
 use Rattle.iv_session.specs.Streams.{streams}
 use Rattle.iv_session.proofs.ScriptLemmas.{Going}
 use Rattle.iv_session.proofs.script.run_lines.Given as goal

@@ -1,4 +1,4 @@
-use Rattle.iv_text.proofs.BedLawLemmas.{bed-value, bed-fault}
+use Rattle.iv_text.proofs.BedMeaningLemmas.{bed-value, bed-fault}
 use Rattle.iv_text.proofs.lemmas.bed_or_first_fault.Goals as goal
 
 pub returns-clause-value : goal.returns-clause-value

@@ -1,4 +1,4 @@
-use Rattle.iv_text.proofs.FileLawLemmas.{genome-value, genome-fault}
+use Rattle.iv_text.proofs.FileMeaningLemmas.{genome-value, genome-fault}
 use Rattle.iv_text.proofs.lemmas.genome_or_first_fault.Goals as goal
 
 pub returns-clause-value : goal.returns-clause-value

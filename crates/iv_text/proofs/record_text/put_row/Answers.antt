@@ -1,4 +1,4 @@
-use Rattle.iv_bytes.proofs.Putting.{Puts-back, Puts-err, FailsIn-front}
+use Rattle.iv_bytes.proofs.PutLemmas.{Puts-back, Puts-err, FailsIn-front}
 use Rattle.iv_text.proofs.record_text.put_row.Goals as goal
 
 pub returns-in_err-put_columns : goal.returns-in_err-put_columns

@@ -1,10 +1,10 @@
-use Rattle.iv_text.specs.RecordValue.{record_cmp, rows_total}
+use Rattle.iv_text.specs.RecordValue.{record_cmp, records_total}
 use Rattle.iv_text.proofs.OrderedLemmas.{in_order-added}
-use Rattle.iv_track.proofs.EditLaws.{added-itself, added-others}
+use Rattle.iv_track.proofs.CopyLemmas.{added-itself, added-others}
 use Rattle.iv_track.proofs.lemmas.one_record_added.Goals as goal
 
 pub returns-clause-in_order : goal.returns-clause-in_order
-returns-clause-in_order c = in_order-added record_cmp rows_total
+returns-clause-in_order c = in_order-added record_cmp records_total
 
 pub returns-clause-one_more : goal.returns-clause-one_more
 returns-clause-one_more c = added-itself

@@ -1,6 +1,6 @@
 use Rattle.iv_text.specs.RecordValue.{record_cmp}
 use Rattle.iv_track.proofs.Counts.{in_order-removed}
-use Rattle.iv_track.proofs.EditLaws.{removed-absent, removed-itself, removed-others}
+use Rattle.iv_track.proofs.CopyLemmas.{removed-absent, removed-itself, removed-others}
 use Rattle.iv_track.proofs.lemmas.one_record_removed.Goals as goal
 
 pub returns-clause-in_order : goal.returns-clause-in_order

@@ -3,7 +3,7 @@ use Rattle.std.specs.Prelude.{nat_le}
 use Rattle.std.proofs.lemmas.Iterator.{YieldsList-from_slice}
 use Rattle.std.proofs.lemmas.Iterator.Search.{all_from_yields_List}
 use Rattle.iv_cover.specs.declared.column.ColumnSummary.{ColumnSummary}
-use Rattle.iv_view.specs.Narrowing.{number_of}
+use Rattle.iv_view.specs.NarrowedViews.{number_of}
 use Rattle.iv_view.proofs.merge.has_columns.Goals as goal
 
 pub returns : goal.returns

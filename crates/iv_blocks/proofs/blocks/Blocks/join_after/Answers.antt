@@ -1,9 +1,9 @@
 use Rattle.std.proofs.Common.{◌≡◌, ◌+◌, ◌-◌, ℕ, length, None, if◌then◌else◌, ◌==◌, refl, ap, ◌∙◌, arith}
 use Rattle.iv_blocks.specs.KeptBlocks.{KeptBlocks}
-use Rattle.iv_blocks.specs.declared.options.Options.{Options}
+use Rattle.iv_blocks.specs.declared.options.BlockOptions.{BlockOptions}
 use Rattle.iv_blocks.specs.Inside.Lookups.{kept_in}
 use Rattle.iv_blocks.proofs.TakeLemmas.{keeps-all, keeps-taken, without-here, without-fewer}
-use Rattle.iv_blocks.proofs.Joining.{joining-begun, joining-more, joining-done, joining-count}
+use Rattle.iv_blocks.proofs.JoinLemmas.{joining-begun, joining-more, joining-done, joining-count}
 use Rattle.iv_blocks.proofs.blocks.Blocks.join_after.Goals as goal
 
 pub gather-init : goal.gather-init
@@ -22,7 +22,7 @@ gather-preserved g c =
     let b = c.gather.invariant in
     let here : (x : ℕ) → kept_in c.take.new.self.entries a.group x ≡ (if x == c.in-Some.start then None else kept_in c.gather.self.entries a.group x) =
     λ x. ap (λ (l : KeptBlocks). kept_in l.entries a.group x) c.take.ensures.taken ∙ without-here c.gather.self.entries a.group c.in-Some.start b.kept.ordered x in
-    let distance : c.gather.self.options.distance ≡ a.self.now.options.distance = ap (λ (o : Options). o.distance) b.kept.options in
+    let distance : c.gather.self.options.distance ≡ a.self.now.options.distance = ap (λ (o : BlockOptions). o.distance) b.kept.options in
     rw c.max-high.ensures (record {
       kept = keeps-taken a.group a.self.now c.gather.self c.take.new.self c.in-Some.start b.kept c.take.ensures.taken c.take.ensures.ordered;
       taken = b.taken + 1;
@@ -41,7 +41,7 @@ pub returns-then-from-reach : goal.returns-then-from-reach
 returns-then-from-reach g c =
     let a = c.args in
     let b = c.gather.invariant in
-    let distance : c.gather.self.options.distance ≡ a.self.now.options.distance = ap (λ (o : Options). o.distance) b.kept.options in
+    let distance : c.gather.self.options.distance ≡ a.self.now.options.distance = ap (λ (o : BlockOptions). o.distance) b.kept.options in
     let count = joining-count a.self.now.options.distance (kept_in a.self.now.entries a.group) (kept_in c.gather.self.entries a.group) a.from a.high c.gather.high b.taken b.state
     (c.gather.high + a.self.now.options.distance + 1 - a.from) refl in
     record {

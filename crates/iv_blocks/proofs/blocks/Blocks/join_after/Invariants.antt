@@ -2,7 +2,7 @@ use Rattle.std.proofs.Common.{ℕ, ◌*◌, length}
 use Rattle.iv_track.specs.Steps.{TakesUpTo}
 use Rattle.iv_blocks.specs.Inside.Lookups.{kept_in}
 use Rattle.iv_blocks.specs.Inside.Repairs.{KeepsOthers}
-use Rattle.iv_blocks.proofs.Joining.{IsJoining}
+use Rattle.iv_blocks.proofs.JoinLemmas.{IsJoining}
 use Rattle.iv_blocks.proofs.blocks.Blocks.join_after.Given as goal
 
 abbrev pub invariant-gather : goal.invariant-gather

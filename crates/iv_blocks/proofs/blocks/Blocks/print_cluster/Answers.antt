@@ -1,7 +1,7 @@
 use Rattle.std.proofs.Common.{◌≡◌, ◌+◌, ◌∙◌, refl, sym, ap, subst, arith, length, List, ◌∷◌}
 use Rattle.std.specs.List.{take_while}
 use Rattle.std.proofs.lemmas.List.{length-map}
-use Rattle.iv_bytes.proofs.Putting.{Underway-begin, Underway-more, Underway-fails, Puts-err}
+use Rattle.iv_bytes.proofs.PutLemmas.{Underway-begin, Underway-more, Underway-fails, Puts-err}
 use Rattle.iv_text.specs.Ordered.{AreInOrder}
 use Rattle.iv_text.specs.RecordValue.{RecordValue}
 use Rattle.iv_cover.specs.declared.block.Block.{Block}
@@ -9,7 +9,7 @@ use Rattle.iv_track.proofs.WalkLemmas.{filter-from_first}
 use Rattle.iv_blocks.specs.Inside.BlockCursor.{interval_of, starts_until, drop_while}
 use Rattle.iv_blocks.specs.KeptBlocks.{KeptBlocks, Entries}
 use Rattle.iv_blocks.proofs.ClusterLemmas.{IsPassed-begin, IsPassed-next, IsPassed-few, number-is, rows-next}
-use Rattle.iv_blocks.specs.declared.options.Options.{Options}
+use Rattle.iv_blocks.specs.declared.options.BlockOptions.{BlockOptions}
 use Rattle.iv_blocks.proofs.MergeLemmas.{count-is}
 use Rattle.iv_blocks.proofs.blocks.Blocks.print_cluster.Goals as goal
 
@@ -48,7 +48,7 @@ loop-row-preserved g c =
     let counted : c.count_until-number.result ≡ length (take_while (starts_until r.seq r.start) c.loop-row.ahead) = rw (← c.seq.ensures, ← c.start.ensures) c.count_until-number.ensures.count in
     let past : c.count_until-number.new.ahead ≡ drop_while (starts_until r.seq r.start) c.loop-row.ahead = rw (← c.seq.ensures, ← c.start.ensures) c.count_until-number.ensures.past in
     let number = number-is c.loop-row.number c.count_until-number.result _ c.loop-row.ahead c.count_until-number.new.ahead c.loop-row.rows c.next.new.self r i.passed first counted past in
-    let next = rows-next c.args.self.now.options c.args.genome.now c.args.track.now.width c.args.track.now.rows c.args.self.now.entries c.requires.right c.requires.fit (ap (λ (o : Options). o.stranded) c.requires.joined)
+    let next = rows-next c.args.self.now.options c.args.genome.now c.args.track.now.width c.args.track.now.rows c.args.self.now.entries c.requires.right c.requires.fit (ap (λ (o : BlockOptions). o.stranded) c.requires.joined)
     c.loop-row.rows c.next.new.self r (c.loop-row.number + c.count_until-number.result) first number in
     let row : c.as_ref.result ≡ r = c.as_ref.ensures in
     let sorted : AreInOrder (r ∷ c.next.new.self) = subst (λ (l : List RecordValue). AreInOrder l) first i.ordered in
@@ -68,7 +68,7 @@ returns-in_err-put_numbered-clause-text g c =
     let counted : c.count_until-number.result ≡ length (take_while (starts_until r.seq r.start) c.loop-row.ahead) = rw (← c.seq.ensures, ← c.start.ensures) c.count_until-number.ensures.count in
     let past : c.count_until-number.new.ahead ≡ drop_while (starts_until r.seq r.start) c.loop-row.ahead = rw (← c.seq.ensures, ← c.start.ensures) c.count_until-number.ensures.past in
     let number = number-is c.loop-row.number c.count_until-number.result _ c.loop-row.ahead c.count_until-number.new.ahead c.loop-row.rows c.next.new.self r i.passed first counted past in
-    let next = rows-next c.args.self.now.options c.args.genome.now c.args.track.now.width c.args.track.now.rows c.args.self.now.entries c.requires.right c.requires.fit (ap (λ (o : Options). o.stranded) c.requires.joined)
+    let next = rows-next c.args.self.now.options c.args.genome.now c.args.track.now.width c.args.track.now.rows c.args.self.now.entries c.requires.right c.requires.fit (ap (λ (o : BlockOptions). o.stranded) c.requires.joined)
     c.loop-row.rows c.next.new.self r (c.loop-row.number + c.count_until-number.result) first number in
     let row : c.as_ref.result ≡ r = c.as_ref.ensures in
     Puts-err _ _ c.from_residual.result _ c.from_residual.ensures.0

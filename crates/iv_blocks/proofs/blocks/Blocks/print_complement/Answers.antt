@@ -3,7 +3,7 @@ use Rattle.std.proofs.lemmas.List.{length-map}
 use Rattle.iv_text.specs.Genome.{seq_count}
 use Rattle.iv_cover.specs.declared.block.Block.{Block}
 use Rattle.iv_blocks.specs.Inside.BlockCursor.{interval_of, texts}
-use Rattle.iv_blocks.specs.declared.options.Options.{Options}
+use Rattle.iv_blocks.specs.declared.options.BlockOptions.{BlockOptions}
 use Rattle.iv_blocks.proofs.ComplementLemmas.{gaps-are}
 use Rattle.iv_blocks.proofs.MergeLemmas.{count-is}
 use Rattle.iv_blocks.proofs.blocks.Blocks.print_complement.Goals as goal
@@ -13,7 +13,7 @@ returns-clause-text g c =
     let a = c.args in
     let text = ap (texts (not a.limited) a.genome.now 0 (seq_count a.genome.now)) c.of-ahead.ensures.all
     ∙ gaps-are a.self.now.options a.genome.now a.track.now.width a.track.now.rows a.self.now.entries c.requires.right c.requires.fit
-    (ap (λ (o : Options). o.distance) c.requires.joined) (ap (λ (o : Options). o.stranded) c.requires.joined) a.limited in
+    (ap (λ (o : BlockOptions). o.distance) c.requires.joined) (ap (λ (o : BlockOptions). o.stranded) c.requires.joined) a.limited in
     rw text at c.put_gaps.ensures.text
 
 pub returns-clause-steps : goal.returns-clause-steps

@@ -1,5 +1,5 @@
 use Rattle.std.proofs.Common.{◌≡◌, ◌∙◌, ap, arith, ◌∷◌, length, false}
-use Rattle.iv_bytes.proofs.Putting.{Underway-begin, Underway-more, Underway-fails, Underway-ends, Puts-err}
+use Rattle.iv_bytes.proofs.PutLemmas.{Underway-begin, Underway-more, Underway-fails, Underway-ends, Puts-err}
 use Rattle.iv_track.proofs.StepLemmas.{takes_none, takes_one_more}
 use Rattle.iv_blocks.specs.KeptBlocks.{KeptBlocks, Entries}
 use Rattle.iv_blocks.proofs.EntryLemmas.{from, from-first}

@@ -1,6 +1,6 @@
 use Rattle.std.proofs.Common.{length, ◌+◌, ◌≤◌}
 use Rattle.std.specs.List.{flat_map}
-use Rattle.iv_bytes.proofs.Putting.{Underway}
+use Rattle.iv_bytes.proofs.PutLemmas.{Underway}
 use Rattle.iv_blocks.proofs.MergeLemmas.{entry_row}
 use Rattle.iv_blocks.proofs.blocks.Blocks.print_merge.Given as goal
 

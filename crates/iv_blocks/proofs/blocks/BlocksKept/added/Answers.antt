@@ -5,7 +5,7 @@ use Rattle.iv_blocks.specs.KeptBlocks.{AreBlocksOf, key_cmp, KeptBlocks}
 use Rattle.iv_blocks.specs.Inside.Lookups.{kept_in}
 use Rattle.iv_blocks.specs.Inside.Insertion.{with_block}
 use Rattle.iv_blocks.specs.Inside.Repairs.{JoinsBefore, JoinsAfter}
-use Rattle.iv_blocks.specs.declared.options.Options.{Options}
+use Rattle.iv_blocks.specs.declared.options.BlockOptions.{BlockOptions}
 use Rattle.iv_blocks.proofs.GroupRepairLemmas.{IsEdit, edit-added, beside-added, added-all, added-takes, on-both}
 use Rattle.iv_blocks.proofs.blocks.BlocksKept.added.Given.{Over}
 use Rattle.iv_blocks.proofs.blocks.BlocksKept.added.Goals as goal
@@ -40,7 +40,7 @@ after g c =
     let old = kept_in first.new.self.entries c.in-Some.group in
     let new = kept_in second.new.self.entries c.in-Some.group in
     subst (λ (p : ℕ × ℕ). JoinsAfter c.args.self.now.options.distance old new p.0 first.result.1 second.result) c.bounds_of-start.ensures
-    (subst (λ (p : Options). JoinsAfter p.distance old new c.bounds_of-start.result.0 first.result.1 second.result) first.ensures.kept.options second.ensures.joined)
+    (subst (λ (p : BlockOptions). JoinsAfter p.distance old new c.bounds_of-start.result.0 first.result.1 second.result) first.ensures.kept.options second.ensures.joined)
 
 pub returns-clause-right : goal.returns-clause-right
 returns-clause-right g c =
@@ -52,7 +52,7 @@ returns-clause-right g c =
     on-both c.insert_block.result (all ≡ done) (IsLedger key_cmp all.entries) _
     (λ put sorted.
     let same : all.options ≡ a.self.now.options = ap (λ (b : KeptBlocks). b.options) {x = all} {y = done} put ∙ second.ensures.kept.options ∙ first.ensures.kept.options in
-    subst (λ (o : Options). AreBlocksOf o (names_of a.genome.now) a.track.now.rows all.entries) (sym same)
+    subst (λ (o : BlockOptions). AreBlocksOf o (names_of a.genome.now) a.track.now.rows all.entries) (sym same)
     (added-all a.self.now.options (names_of a.genome.now) c.in-Some.group a.row.now c.requires.right.others a.track.now.rows (edit g c)
     a.self.now first.new.self second.new.self first.result second.result c.requires.right.right (joined g c) (after g c)
     all a.genome.now refl first.ensures.kept second.ensures.kept first.ensures.kept.options put sorted))
@@ -66,5 +66,5 @@ returns-clause-steps g c =
     added-takes a.self.now.options (names_of a.genome.now) c.in-Some.group a.row.now c.requires.right.others a.track.now.rows (edit g c)
     a.self.now first.new.self second.new.self first.result second.result c.requires.right.right (joined g c) (after g c)
     c.bounds_of-start.result.0 first.new.self.options.distance a.meter.now first.new.meter second.new.meter c.insert_block.new.meter
-    (ap (λ (p : ℕ × ℕ). p.0) c.bounds_of-start.ensures) (ap (λ (p : Options). p.distance) first.ensures.kept.options)
+    (ap (λ (p : ℕ × ℕ). p.0) c.bounds_of-start.ensures) (ap (λ (p : BlockOptions). p.distance) first.ensures.kept.options)
     first.ensures.steps second.ensures.steps c.insert_block.ensures.steps

@@ -5,16 +5,16 @@ use Rattle.iv_text.specs.Ordered.{AreInOrder}
 use Rattle.iv_text.specs.Read.{IsOnGenome}
 use Rattle.iv_text.specs.RecordValue.{RecordValue}
 use Rattle.iv_cover.specs.TrackBlocks.{blocks_of}
-use Rattle.iv_cover.proofs.Merging.{merge-all}
+use Rattle.iv_cover.proofs.WalkLemmas.{merge-all}
 use Rattle.iv_track.specs.Entries.{IsLedger, value_at}
 use Rattle.iv_track.proofs.WalkLemmas.{filter-from_first}
 use Rattle.iv_blocks.specs.KeptBlocks.{AreBlocksOf, Entries, key_cmp}
 use Rattle.iv_blocks.specs.Groups.{listed}
-use Rattle.iv_blocks.specs.Inside.Plain.{kept_entry, plain_entry}
-use Rattle.iv_blocks.specs.PlainOptions.{IsPlain}
-use Rattle.iv_blocks.specs.declared.options.Options.{Options}
+use Rattle.iv_blocks.specs.Inside.UnstrandedBlocks.{kept_entry, plain_entry}
+use Rattle.iv_blocks.specs.IntervalOptions.{IsByIntervals}
+use Rattle.iv_blocks.specs.declared.options.BlockOptions.{BlockOptions}
 use Rattle.iv_blocks.proofs.Builds.{built-none, built-next, built-all}
-use Rattle.iv_blocks.proofs.PlainLemmas.{all-lie, drained, drained-items, kept-ordered, kept-found, plain-ordered, plain-found}
+use Rattle.iv_blocks.proofs.UnstrandedLemmas.{all-lie, drained, drained-items, kept-ordered, kept-found, plain-ordered, plain-found}
 use Rattle.iv_blocks.proofs.blocks.BlocksKept.build.Goals as goal
 
 -- ---- if the options are plain
@@ -25,7 +25,7 @@ of-sweep-requires g c =
 
 pub from_entries-requires-clause-ascend : goal.from_entries-requires-clause-ascend
 from_entries-requires-clause-ascend g c es run =
-    let plain : IsPlain c.args.options.distance c.args.options = c.is_plain.ensures.0 c.if-is_plain.true in
+    let plain : IsByIntervals c.args.options.distance c.args.options = c.is_by_intervals.ensures.0 c.if-is_by_intervals.true in
     let s = c.args.genome.now in
     let rows = c.args.track.now.rows in
     let all = c.walk.ensures.rows ∙ filter-from_first rows in
@@ -34,9 +34,9 @@ from_entries-requires-clause-ascend g c es run =
     subst (IsLedger key_cmp) (sym (drained c.of.result es run ∙ ap (map plain_entry) left))
     (plain-ordered c.args.options s c.args.track.now.width rows c.requires.fit plain.together plain.nothing)
 
-pub returns-then-is_plain-clause-right : goal.returns-then-is_plain-clause-right
-returns-then-is_plain-clause-right g c =
-    let plain : IsPlain c.args.options.distance c.args.options = c.is_plain.ensures.0 c.if-is_plain.true in
+pub returns-then-is_by_intervals-clause-right : goal.returns-then-is_by_intervals-clause-right
+returns-then-is_by_intervals-clause-right g c =
+    let plain : IsByIntervals c.args.options.distance c.args.options = c.is_by_intervals.ensures.0 c.if-is_by_intervals.true in
     let s = c.args.genome.now in
     let rows = c.args.track.now.rows in
     let e = c.in_ok-from_entries.ensures in
@@ -85,7 +85,7 @@ pub loop-rank-init : goal.loop-rank-init
 loop-rank-init g c = built-none c.args.genome.now c.args.track.now.rows (record { options = c.args.options; entries = c.new.result }) c.new.ensures
 
 pub insert_sequence-requires-clause-apart : goal.insert_sequence-requires-clause-apart
-insert_sequence-requires-clause-apart g c = ap (λ (o : Options). o.stranded) c.loop-rank.invariant.for_options ∙ c.if-not-options.false
+insert_sequence-requires-clause-apart g c = ap (λ (o : BlockOptions). o.stranded) c.loop-rank.invariant.for_options ∙ c.if-not-options.false
 
 pub loop-rank-preserved : goal.loop-rank-preserved
 loop-rank-preserved g c =
@@ -95,7 +95,7 @@ loop-rank-preserved g c =
 pub returns-clause-right : goal.returns-clause-right
 returns-clause-right g c =
     let a = c.args in
-    subst (λ (o : Options). AreBlocksOf o (names_of a.genome.now) a.track.now.rows c.loop-rank.blocks.entries) (sym c.loop-rank.invariant.for_options)
+    subst (λ (o : BlockOptions). AreBlocksOf o (names_of a.genome.now) a.track.now.rows c.loop-rank.blocks.entries) (sym c.loop-rank.invariant.for_options)
     (built-all a.genome.now a.track.now.width a.track.now.rows c.requires.fit a.options c.loop-rank.rank c.loop-rank.blocks c.loop-rank.invariant (omega (arith, c.count-rank-end.ensures.value, c.loop-rank-test.false)))
 
 pub returns-clause-built_for : goal.returns-clause-built_for

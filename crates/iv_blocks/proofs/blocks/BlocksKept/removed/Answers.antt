@@ -7,7 +7,7 @@ use Rattle.iv_blocks.specs.Inside.Groups.{between}
 use Rattle.iv_blocks.specs.Inside.Lookups.{kept_in, IsLastBlock}
 use Rattle.iv_blocks.specs.Inside.Insertion.{AreInserted}
 use Rattle.iv_blocks.specs.Inside.Repairs.{without_block}
-use Rattle.iv_blocks.specs.declared.options.Options.{Options}
+use Rattle.iv_blocks.specs.declared.options.BlockOptions.{BlockOptions}
 use Rattle.iv_blocks.proofs.GroupRepairLemmas.{IsEdit, edit-removed, beside-removed, removed-found, removed-stops, removed-takes, removed-all}
 use Rattle.iv_blocks.proofs.blocks.BlocksKept.removed.Given.{Over}
 use Rattle.iv_blocks.proofs.blocks.BlocksKept.removed.Goals as goal
@@ -53,7 +53,7 @@ returns-clause-right g c =
     let a = c.args in
     on_ok_weaker c.insert_blocks.result
     (λ (put : AreInserted c.in-Some.group (names_of a.genome.now) (between c.in-Some-before.start c.in-Some-before.stop a.track.now.rows) (without_block a.self.now c.in-Some.group c.in-Some-before.start) c.insert_blocks.new.self).
-    subst (λ (o : Options). AreBlocksOf o (names_of a.genome.now) a.track.now.rows c.insert_blocks.new.self.entries) (sym put.options)
+    subst (λ (o : BlockOptions). AreBlocksOf o (names_of a.genome.now) a.track.now.rows c.insert_blocks.new.self.entries) (sym put.options)
     (removed-all a.self.now.options (names_of a.genome.now) c.in-Some.group a.row.now a.track.now.rows (added a.track.now.rows a.row.now) (edit g c.before) a.self.now c.requires.right
     (c.in-Some-before.start, c.in-Some-before.stop) (last g c.before) c.insert_blocks.new.self refl put))
     (rw c.take.ensures.taken at c.insert_blocks.ensures.ok)

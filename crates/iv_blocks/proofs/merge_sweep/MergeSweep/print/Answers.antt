@@ -1,11 +1,11 @@
 use Rattle.std.proofs.Common.{◌≡◌, ◌≤◌, ◌<◌, ◌-◌, ◌==◌, ◌∙◌, nat_lt, filter, List, ℕ, All, length, vec_capacity, ap, sym, subst, arith}
-use Rattle.iv_bytes.proofs.Putting.{Underway-begin, Puts-err}
+use Rattle.iv_bytes.proofs.PutLemmas.{Underway-begin, Puts-err}
 use Rattle.iv_text.specs.Genome.{seq_count}
 use Rattle.iv_text.specs.Ordered.{AreInOrder}
 use Rattle.iv_text.specs.RecordValue.{RecordValue}
-use Rattle.iv_text.specs.Covering.{on}
+use Rattle.iv_text.specs.CoveredPositions.{on}
 use Rattle.iv_blocks.specs.Groups.{listed}
-use Rattle.iv_blocks.specs.declared.options.Options.{Options}
+use Rattle.iv_blocks.specs.declared.options.BlockOptions.{BlockOptions}
 use Rattle.iv_cover.specs.Results.{HasRoom}
 use Rattle.iv_cover.proofs.FirstLemmas.{Underway-step, Underway-failed}
 use Rattle.iv_index.proofs.SequenceLemmas.{all-from, from-in, from-order, from-here, from-later}
@@ -17,13 +17,13 @@ use Rattle.iv_blocks.proofs.merge_sweep.MergeSweep.print.Goals as goal
 pub loop-rank-init : goal.loop-rank-init
 loop-rank-init g c =
     let n : seq_count c.args.genome.now - 0 ≡ seq_count c.args.genome.now = omega arith in
-    let records : c.self.inside.records ≡ c.args.self.now.1 = ap (λ (p : Options × List RecordValue). p.1) c.self.view_is in
+    let records : c.self.inside.records ≡ c.args.self.now.1 = ap (λ (p : BlockOptions × List RecordValue). p.1) c.self.view_is in
     record {
       put = rw n (Underway-begin _ _);
       left_is = c.again-left.ensures ∙ records ∙ sym (all-from c.args.self.now.1);
-      options_are = ap (λ (p : Options × List RecordValue). p.0) c.self.view_is;
+      options_are = ap (λ (p : BlockOptions × List RecordValue). p.0) c.self.view_is;
       records_are = records;
-      room = subst (λ (p : Options × List RecordValue). HasRoom (vec_capacity c.self.inside.values) (length p.1) (listed p.0.summaries)) c.self.view_is c.self.invariant;
+      room = subst (λ (p : BlockOptions × List RecordValue). HasRoom (vec_capacity c.self.inside.values) (length p.1) (listed p.0.summaries)) c.self.view_is c.self.invariant;
     }
 
 pub split_sequence-here-requires-clause-order : goal.split_sequence-here-requires-clause-order
@@ -44,7 +44,7 @@ put_sequence-requires g c =
     let fewer : length c.split_sequence-here.result.0 ≤ length rows = omega (arith, ap (λ (l : List RecordValue). length l) here, few (λ (r : RecordValue). r.seq == rank) rows) in
     record {
       room = room-more room room (length rows) (length c.split_sequence-here.result.0) (listed c.loop-rank.self-inside.options.summaries) (omega arith) fewer
-          (subst (λ (o : Options). HasRoom room (length rows) (listed o.summaries)) (sym i.options_are) i.room);
+          (subst (λ (o : BlockOptions). HasRoom room (length rows) (listed o.summaries)) (sym i.options_are) i.room);
     }
 
 pub returns-in_err-put_sequence-clause-text : goal.returns-in_err-put_sequence-clause-text

@@ -1,6 +1,6 @@
 use Rattle.std.proofs.Common.{None, ap, ◌∙◌}
-use Rattle.iv_cover.proofs.Merging.{merge-all}
-use Rattle.iv_cover.specs.Inside.Coming.{coming}
+use Rattle.iv_cover.proofs.WalkLemmas.{merge-all}
+use Rattle.iv_cover.specs.Inside.RemainingBlocks.{coming}
 use Rattle.iv_blocks.proofs.SideLemmas.{on-both}
 use Rattle.iv_blocks.proofs.side_blocks.SideBlocks.of_all.Goals as goal
 

@@ -1,6 +1,6 @@
 use Rattle.std.proofs.Common.{◌≡◌, ◌+◌, ◌≤◌, List, ◌++◌, length, slice_range, ap, ◌∙◌, sym, arith}
 use Rattle.std.proofs.lemmas.List.{length-take-le}
-use Rattle.iv_bytes.proofs.Pulling.{held_added, empty_range}
+use Rattle.iv_bytes.proofs.PullLemmas.{held_added, empty_range}
 use Rattle.iv_bytes.proofs.byte_queue.ByteQueue.add.Goals as goal
 use Rattle.iv_bytes.proofs.byte_queue.ByteQueue.add.Goals.{then-self, else-self}
 

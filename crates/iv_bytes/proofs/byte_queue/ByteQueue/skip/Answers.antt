@@ -1,5 +1,5 @@
 use Rattle.std.proofs.Common.{◌+◌, ◌≤◌, drop, length, length-take, length-drop, slice_range, ap, ◌∙◌, arith}
-use Rattle.iv_bytes.proofs.Pulling.{held_skip}
+use Rattle.iv_bytes.proofs.PullLemmas.{held_skip}
 use Rattle.iv_bytes.proofs.byte_queue.ByteQueue.skip.Goals as goal
 
 pub returns : goal.returns

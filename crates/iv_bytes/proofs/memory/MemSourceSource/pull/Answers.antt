@@ -1,6 +1,6 @@
 use Rattle.std.proofs.Common.{refl, arith, ◌∙◌}
 use Rattle.std.proofs.lemmas.List.{length-take-le}
-use Rattle.iv_bytes.proofs.Pulling.{copied_piece}
+use Rattle.iv_bytes.proofs.PullLemmas.{copied_piece}
 use Rattle.iv_bytes.proofs.memory.MemSourceSource.pull.Goals as goal
 
 pub returns-clause-ok : goal.returns-clause-ok

@@ -1,5 +1,5 @@
 use Rattle.std.proofs.Common.{[]}
-use Rattle.iv_bytes.proofs.Putting.{Takes-sent, FailsIn-back, FailsIn-sent, OnErr-all}
+use Rattle.iv_bytes.proofs.PutLemmas.{Takes-sent, FailsIn-back, FailsIn-sent, OnErr-all}
 use Rattle.iv_bytes.proofs.sink.Buffered.flush.Goals as goal
 
 pub returns-in_err-n-clause-err : goal.returns-in_err-n-clause-err

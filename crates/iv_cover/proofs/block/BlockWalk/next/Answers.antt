@@ -1,6 +1,6 @@
 use Rattle.std.proofs.Common.{◌+◌, ◌==◌, ◌&&◌, nat_le, max, ◌∙◌, List, [], ◌∷◌, ◌++◌, Some, None, length, sym, ap, arith}
 use Rattle.iv_cover.specs.declared.block.Block.{Block}
-use Rattle.iv_cover.specs.Inside.Coming.{coming, left}
+use Rattle.iv_cover.specs.Inside.RemainingBlocks.{coming, left}
 use Rattle.iv_cover.specs.TrackBlocks.{Group, with_members}
 use Rattle.iv_cover.proofs.Comings.{coming-begun, coming-joined, coming-split_up}
 use Rattle.iv_cover.proofs.block.BlockWalk.next.Goals.{in-Some, in-None+in_ok-first-in-None}

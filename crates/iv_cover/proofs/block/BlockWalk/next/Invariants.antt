@@ -1,7 +1,7 @@
 use Rattle.std.proofs.Common.{◌≡◌, List, length, Some, None}
 use Rattle.iv_text.specs.RecordValue.{RecordValue}
 use Rattle.iv_cover.specs.TrackBlocks.{with_members}
-use Rattle.iv_cover.specs.Inside.Coming.{coming}
+use Rattle.iv_cover.specs.Inside.RemainingBlocks.{coming}
 use Rattle.iv_cover.proofs.block.BlockWalk.next.Given as goal
 
 -- the block that is open, with some members, and the records that are left

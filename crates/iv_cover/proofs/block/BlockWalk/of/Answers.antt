@@ -1,4 +1,4 @@
-use Rattle.iv_cover.proofs.Merging.{merge-all}
+use Rattle.iv_cover.proofs.WalkLemmas.{merge-all}
 use Rattle.iv_cover.proofs.block.BlockWalk.of.Goals as goal
 
 pub returns : goal.returns

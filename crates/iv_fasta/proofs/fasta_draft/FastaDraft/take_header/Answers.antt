@@ -3,7 +3,7 @@ use Rattle.std.specs.List.{before_first}
 use Rattle.std.specs.Option.{is_some}
 use Rattle.iv_text.specs.declared.fault.LoadCause.TheVariants as cause
 use Rattle.iv_fasta.specs.Fasta.{is_blank, with_header}
-use Rattle.iv_fasta.specs.Inside.Drafts.{PrefixKeyed, StartInOrder, cut, drafted, headed}
+use Rattle.iv_fasta.specs.Inside.Drafts.{NamedHeaders, StartInOrder, cut, drafted, headed}
 use Rattle.iv_fasta.proofs.CutLemmas.{place-cut, starts-push}
 use Rattle.iv_fasta.proofs.LineLemmas.{name-within, header-repeated, headed-taken}
 use Rattle.iv_fasta.proofs.fasta_draft.FastaDraft.take_header.Goals as goal
@@ -21,7 +21,7 @@ pub invariant_of-self-2 : goal.invariant_of-self-2
 invariant_of-self-2 g c =
     let self = c.args.self.now in
     record {
-      in_order = subst (λ (hs : PrefixKeyed). StartInOrder 0 hs (length self.text.compacted)) (sym c.in_ok-push_header.ensures.ok)
+      in_order = subst (λ (hs : NamedHeaders). StartInOrder 0 hs (length self.text.compacted)) (sym c.in_ok-push_header.ensures.ok)
           (starts-push 0 self.headers c.before_blank-name.result.now _ (length self.text.compacted) c.count-start.ensures self.in_order);
     }
 

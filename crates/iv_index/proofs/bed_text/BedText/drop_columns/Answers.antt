@@ -9,4 +9,4 @@ pub returns : goal.returns
 returns g c =
     let with_rows : List RecordValue → Bed = λ rows. record { width = 3; rows = rows } in
     let dropped : Bed → Bed = λ b. record { width = 3; rows = map bare b.rows } in
-    ap with_rows (rows-bare c.self.inside.width c.self.inside.text.now c.self.inside.places.items) ∙ ap dropped c.self.view_is
+    ap with_rows (rows-bare c.self.inside.width c.self.inside.text.now c.self.inside.locators.items) ∙ ap dropped c.self.view_is

@@ -6,7 +6,7 @@ use Rattle.iv_index.specs.Cover.{is_covered}
 use Rattle.iv_index.specs.Inside.Cover.{AreApart}
 use Rattle.iv_index.specs.Inside.Joins.{joined}
 use Rattle.iv_index.specs.Locators.{bare}
-use Rattle.iv_index.specs.Inside.Locators.{HasBase, rows_at}
+use Rattle.iv_index.specs.Inside.Locators.{HasBase, records_at}
 use Rattle.iv_index.specs.declared.locator.Locator.{Locator}
 use Rattle.iv_index.proofs.BareLemmas.{rows-bare}
 use Rattle.iv_index.proofs.JoinLemmas.{bases-joined, covered-joined, rows-joined_apart, rows-joined_order, all-bare}
@@ -16,22 +16,22 @@ pub invariant_of-self : goal.invariant_of-self
 invariant_of-self g c = record {
   low = c.self.invariant.low;
   high = c.self.invariant.high;
-  some = subst (All HasBase) (sym c.join_locators.ensures) (bases-joined c.self.inside.places.items c.self.invariant.some);
+  some = subst (All HasBase) (sym c.join_locators.ensures) (bases-joined c.self.inside.locators.items c.self.invariant.some);
 }
 
 pub returns : goal.returns
 returns g c =
     let b = c.self.inside in
-    let old = b.places.items in
+    let old = b.locators.items in
     let text = b.text.now in
-    let new = c.join_locators.new.places.items in
-    let order : AreInOrder (rows_at b.width text old) = subst (λ (bed : Bed). AreInOrder bed.rows) (sym c.self.view_is) c.requires in
-    let left : c.drop_columns.new.self.rows ≡ map bare (rows_at b.width text new) = ap (λ (bed : Bed). bed.rows) c.drop_columns.ensures in
-    let is : c.drop_columns.new.self.rows ≡ rows_at 3 text (joined old) =
-    left ∙ sym (rows-bare b.width text new) ∙ ap (λ (ps : List Locator). rows_at 3 text ps) c.join_locators.ensures in
+    let new = c.join_locators.new.locators.items in
+    let order : AreInOrder (records_at b.width text old) = subst (λ (bed : Bed). AreInOrder bed.rows) (sym c.self.view_is) c.requires in
+    let left : c.drop_columns.new.self.rows ≡ map bare (records_at b.width text new) = ap (λ (bed : Bed). bed.rows) c.drop_columns.ensures in
+    let is : c.drop_columns.new.self.rows ≡ records_at 3 text (joined old) =
+    left ∙ sym (rows-bare b.width text new) ∙ ap (λ (ps : List Locator). records_at 3 text ps) c.join_locators.ensures in
     record {
       width = ap (λ (bed : Bed). bed.width) c.drop_columns.ensures;
-      bare = subst (λ (rows : List RecordValue). All (λ (r : RecordValue). r ≡ bare r) rows) (sym left) (all-bare (rows_at b.width text new));
+      bare = subst (λ (rows : List RecordValue). All (λ (r : RecordValue). r ≡ bare r) rows) (sym left) (all-bare (records_at b.width text new));
       order = subst AreInOrder (sym is) (rows-joined_order b.width 3 text old c.self.invariant.some order);
       covered = λ seq p.
           ap (λ (rows : List RecordValue). is_covered rows seq p) is

@@ -13,7 +13,7 @@ returns-in_err-take_lines-clause-err g c =
       | inr refused ↦ inr (text-refused c.args.genome.now c.args.limit c.args.empty_width c.args.text.now c.requires.small c.new-lines.result _ c.new-lines.ensures refused)
     ])
 
-are_read : (g : Over) (c : goal.After-unwrap_or g) → AreRead c.args.genome.now c.args.limit c.args.empty_width c.args.text.now c.unwrap_or.result c.in_ok-places.places.items
+are_read : (g : Over) (c : goal.After-unwrap_or g) → AreRead c.args.genome.now c.args.limit c.args.empty_width c.args.text.now c.unwrap_or.result c.in_ok-locators.locators.items
 are_read g c =
     let genome = c.args.genome.now in
     let limit = c.args.limit in
@@ -21,8 +21,8 @@ are_read g c =
     let text : List ℕ = c.args.text.now in
     let now = c.take_lines.new.self in
     let width : c.unwrap_or.result ≡ unwrap_or now.width empty = c.unwrap_or.ensures ∙ ap (λ o. unwrap_or o empty) c.finish-width.ensures.width in
-    let items : c.in_ok-places.places.items ≡ now.kept = c.in_ok-places.ensures ∙ c.finish-width.ensures.kept in
-    subst (λ (w : ℕ). AreRead genome limit empty text w c.in_ok-places.places.items) (sym width)
+    let items : c.in_ok-locators.locators.items ≡ now.kept = c.in_ok-locators.ensures ∙ c.finish-width.ensures.kept in
+    subst (λ (w : ℕ). AreRead genome limit empty text w c.in_ok-locators.locators.items) (sym width)
     (subst (λ (ps : List Locator). AreRead genome limit empty text (unwrap_or now.width empty) ps) (sym items)
     (text-read genome limit empty text c.requires.small c.new-lines.result now c.new-lines.ensures c.in_ok-take_lines.ensures.ok c.requires.width.0 c.requires.width.1))
 

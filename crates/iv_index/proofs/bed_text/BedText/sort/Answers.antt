@@ -4,7 +4,7 @@ use Rattle.iv_text.specs.RecordValue.{RecordValue}
 use Rattle.iv_text.specs.Ordered.{ordered}
 use Rattle.iv_text.specs.BedFile.{Bed}
 use Rattle.iv_index.specs.Inside.Drafts.{AreInOrder}
-use Rattle.iv_index.specs.Inside.Locators.{HasBase, row_at}
+use Rattle.iv_index.specs.Inside.Locators.{HasBase, record_at}
 use Rattle.iv_index.specs.declared.locator.Locator.{Locator}
 use Rattle.iv_index.proofs.OrderLemmas.{sorted-rows, sorted-by-rows}
 use Rattle.iv_index.proofs.bed_text.BedText.sort.Goals as goal
@@ -18,36 +18,36 @@ invariant_of-self g c =
     record {
       low = s.low;
       high = s.high;
-      some = All-permutation HasBase c.self.inside.places.items c.order_locators.new.places.items c.order_locators.ensures s.some;
+      some = All-permutation HasBase c.self.inside.locators.items c.order_locators.new.locators.items c.order_locators.ensures s.some;
     }
 
 pub invariant_of-self-2 : goal.invariant_of-self-2
 invariant_of-self-2 g c =
     let s = c.self.invariant in
-    let moved = IsPermutation-trans c.self.inside.places.items c.order_locators.new.places.items c.sort_unstable_by.new.self.items c.order_locators.ensures c.sort_unstable_by.ensures.permutation in
+    let moved = IsPermutation-trans c.self.inside.locators.items c.order_locators.new.locators.items c.sort_unstable_by.new.self.items c.order_locators.ensures c.sort_unstable_by.ensures.permutation in
     record {
       low = s.low;
       high = s.high;
-      some = All-permutation HasBase c.self.inside.places.items c.sort_unstable_by.new.self.items moved s.some;
+      some = All-permutation HasBase c.self.inside.locators.items c.sort_unstable_by.new.self.items moved s.some;
     }
 
 pub returns-then-are_in_order : goal.returns-then-are_in_order
 returns-then-are_in_order g c =
     let w = c.self.inside.width in
     let text = c.self.inside.text.now in
-    let places = c.self.inside.places.items in
-    let up : AreInOrder w text places = subst (AreInOrder w text) c.deref.ensures.value (c.are_in_order.ensures.0 c.if-are_in_order.true) in
+    let locators = c.self.inside.locators.items in
+    let up : AreInOrder w text locators = subst (AreInOrder w text) c.deref.ensures.value (c.are_in_order.ensures.0 c.if-are_in_order.true) in
     let with_rows : List RecordValue → Bed = λ rows. record { width = w; rows = rows } in
     let in_order : Bed → Bed = λ b. record { width = b.width; rows = ordered b.rows } in
-    sym c.self.view_is ∙ ap with_rows (sorted-rows (row_at w text) none places places (IsPermutation-refl places) up) ∙ ap in_order c.self.view_is
+    sym c.self.view_is ∙ ap with_rows (sorted-rows (record_at w text) none locators locators (IsPermutation-refl locators) up) ∙ ap in_order c.self.view_is
 
 pub returns : goal.returns
 returns g c =
     let w = c.self.inside.width in
     let text = c.self.inside.text.now in
-    let moved = IsPermutation-trans c.self.inside.places.items c.order_locators.new.places.items c.sort_unstable_by.new.self.items c.order_locators.ensures c.sort_unstable_by.ensures.permutation in
+    let moved = IsPermutation-trans c.self.inside.locators.items c.order_locators.new.locators.items c.sort_unstable_by.new.self.items c.order_locators.ensures c.sort_unstable_by.ensures.permutation in
     let with_rows : List RecordValue → Bed = λ rows. record { width = w; rows = rows } in
     let in_order : Bed → Bed = λ b. record { width = b.width; rows = ordered b.rows } in
-    ap with_rows (sorted-rows (row_at w text) none c.self.inside.places.items c.sort_unstable_by.new.self.items moved
-    (sorted-by-rows (row_at w text) c.sort_unstable_by.new.self.items c.sort_unstable_by.ensures.sorted (λ a r f' k. search rules)))
+    ap with_rows (sorted-rows (record_at w text) none c.self.inside.locators.items c.sort_unstable_by.new.self.items moved
+    (sorted-by-rows (record_at w text) c.sort_unstable_by.new.self.items c.sort_unstable_by.ensures.sorted (λ a r f' k. search rules)))
     ∙ ap in_order c.self.view_is

@@ -6,4 +6,4 @@ use Rattle.iv_index.proofs.text_records.TextRecords.split_first.Goals as goal
 
 pub of_locators-requires : goal.of_locators-requires
 of_locators-requires c =
-    All-tail HasBase c.in_ok-place.place.now c.in_ok-place.rest.now (subst (λ (ps : List Locator). All HasBase ps) c.in_ok-place.ensures.cases.0 c.self.invariant)
+    All-tail HasBase c.in_ok-locator.locator.now c.in_ok-locator.rest.now (subst (λ (ps : List Locator). All HasBase ps) c.in_ok-locator.ensures.cases.0 c.self.invariant)

@@ -6,4 +6,4 @@ use Rattle.iv_index.proofs.text_records.TextRecordsIterator.next.Goals as goal
 
 pub invariant_of-self : goal.invariant_of-self
 invariant_of-self c =
-    All-tail HasBase c.in_ok-place.place.now c.in_ok-place.others.now (subst (λ (ps : List Locator). All HasBase ps) c.in_ok-place.ensures.cases.0 c.self.invariant)
+    All-tail HasBase c.in_ok-locator.locator.now c.in_ok-locator.others.now (subst (λ (ps : List Locator). All HasBase ps) c.in_ok-locator.ensures.cases.0 c.self.invariant)

@@ -1,6 +1,6 @@
 use Rattle.std.proofs.Common.{◌≤◌, All, count_by}
 use Rattle.std.specs.List.{flat_map}
-use Rattle.iv_bytes.proofs.Putting.{Underway}
+use Rattle.iv_bytes.proofs.PutLemmas.{Underway}
 use Rattle.iv_text.specs.Ordered.{AreInOrder}
 use Rattle.iv_pair.specs.PairRows.{pair_rows, pair_text}
 use Rattle.iv_pair.specs.declared.intersect.IntersectRows.TheVariants.{Count}

@@ -45,11 +45,11 @@ returns-clause-ok g c =
     let first = c.in_ok-first.ensures.ok in
     let second = c.in_ok-read_second.ensures.ok in
     let texts : Texts = record { sizes = c.in_ok-sizes.sizes.items; first = first.0; other = second.0; bases = bases } in
-    let kept = g.K.FromRecord.projected in
+    let projected = g.K.FromRecord.projected in
     let sizes_said = subst (λ (l : List ℕ). SaysSizes l c.begin-loading.result) c.as_slice.ensures.value c.begin-loading.ensures.says in
-    let first_said = subst (SaysFirst kept texts.sizes first.0) (sym c.take_first.ensures.taken)
-    (says-first kept texts.sizes first.0 c.begin-loading.result c.in_ok-first.first sizes_said first.2) in
-    let says : Says kept c.args.plan.now texts c.read_second.new.loading bases = record {
+    let first_said = subst (SaysFirst projected texts.sizes first.0) (sym c.take_first.ensures.taken)
+    (says-first projected texts.sizes first.0 c.begin-loading.result c.in_ok-first.first sizes_said first.2) in
+    let says : Says projected c.args.plan.now texts c.read_second.new.loading bases = record {
       width_is = c.in_ok-read_second.ensures.run.0 ∙ c.take_first.ensures.same.0 ∙ c.begin-loading.ensures.width;
       limit_is = c.in_ok-read_second.ensures.run.1 ∙ c.take_first.ensures.same.1 ∙ c.begin-loading.ensures.limit;
       known_is = second.2 texts.sizes first.0 first_said (c.take_first.ensures.beside ∙ c.begin-loading.ensures.alone);

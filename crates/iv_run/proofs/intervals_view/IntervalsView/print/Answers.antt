@@ -1,6 +1,6 @@
 use Rattle.std.proofs.Common.{◌≡◌, sym, ◌∙◌}
 use Rattle.std.proofs.lemmas.Result.{err_from_is_err_and}
-use Rattle.iv_bytes.proofs.Putting.{Takes-finished, FailsIn-finished}
+use Rattle.iv_bytes.proofs.PutLemmas.{Takes-finished, FailsIn-finished}
 use Rattle.iv_run.proofs.intervals_view.IntervalsView.print.Goals as goal
 
 pub returns-in_err-finish : goal.returns-in_err-finish

@@ -4,7 +4,7 @@ use Rattle.iv_text.specs.Lines.{lines}
 use Rattle.iv_text.specs.RecordValue.{RecordValue}
 use Rattle.iv_text.specs.declared.fault.LoadFault.{LoadFault}
 use Rattle.iv_text.specs.BedReading.{IsProjected, Reading, after, coming, shown}
-use Rattle.iv_text.proofs.BedReadingLemmas.{handed-on, kept-again, refused-so, sound-kept, taken-so}
+use Rattle.iv_text.proofs.BedReadingLemmas.{handed-on, projected-again, refused-so, sound-kept, taken-so}
 use Rattle.iv_text.proofs.bed_reader.BedReader.finish.Goals as goal
 
 pub returns-in_err-take_lines-clause-err : goal.returns-in_err-take_lines-clause-err
@@ -43,7 +43,7 @@ returns-clause-ok g c =
     ∙ ap (λ (t : List ℕ). after k.projected genome limit (shown k.as_record read) (lines t)) (append-nil c.self.inside.tail.items ∙ sym c.as_slice.ensures.value)
     ∙ ap (after k.projected genome limit (shown k.as_record read)) (sym (append-nil (lines line)))
     ∙ taken-so k.held_of genome limit k.projected k.as_record law.again law.stands read new line c.in_ok-take_lines.ensures.ok [])
-    ∙ ap (done (unwrap_or new.width empty)) (kept-again k.projected genome limit law.again _ rows wide.2)
+    ∙ ap (done (unwrap_or new.width empty)) (projected-again k.projected genome limit law.again _ rows wide.2)
     ∙ ap (λ w. done w rows) (ap (λ o. unwrap_or o empty) (sym c.finish-width.ensures.width) ∙ sym c.unwrap_or.ensures)
     ∙ ap (λ items. done c.unwrap_or.result (map k.as_record items)) (sym c.finish-width.ensures.kept)
 

@@ -1,6 +1,6 @@
 use Rattle.std.proofs.Common.{◌∙◌, ap, ◌≡◌, ◌++◌, ◌∷◌, [], map}
 use Rattle.std.specs.Str.{bytes_eq}
-use Rattle.iv_text.specs.Named.{place_of}
+use Rattle.iv_text.specs.Named.{name_index}
 use Rattle.iv_text.proofs.NamedLemmas.{push-is}
 use Rattle.iv_text.proofs.name_map.NameMap.push.Goals as goal
 
@@ -11,5 +11,5 @@ returns-clause-ok g c =
     ap (map _) c.in_ok-insert.ensures.entries
     ∙ push-is (λ v. v.items) _ c.self.inside.named c.extend_from_slice.new.self c.args.value c.args.name.now
     (λ x. ap (λ t. bytes_eq t x.items) key) key
-    (ap (λ s. place_of s c.args.name.now) c.self.view_is ∙ c.requires.fresh)
+    (ap (λ s. name_index s c.args.name.now) c.self.view_is ∙ c.requires.fresh)
     ∙ ap (λ s. s ++ (c.args.name.now, c.args.value) ∷ []) c.self.view_is

@@ -1,6 +1,6 @@
 use Rattle.std.proofs.Common.{arith}
 use Rattle.iv_text.proofs.OnePassLemmas.{place-begins}
-use Rattle.iv_text.proofs.record_reader.RecordReader.split_place.Goals as goal
+use Rattle.iv_text.proofs.record_reader.RecordReader.split_interval.Goals as goal
 
 pub returns : goal.returns
 returns g c =

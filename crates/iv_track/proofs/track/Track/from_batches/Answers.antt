@@ -1,7 +1,7 @@
 use Rattle.std.proofs.Common.{◌≡◌, ◌∙◌, ℕ, List, subst, ap, arith}
 use Rattle.std.specs.Iterator.{Drains}
 use Rattle.std.proofs.lemmas.List.Sorted.{All-permutation, length_permutation}
-use Rattle.iv_text.specs.RecordValue.{RecordValue, record_cmp, rows_total}
+use Rattle.iv_text.specs.RecordValue.{RecordValue, record_cmp, records_total}
 use Rattle.iv_text.proofs.OrderedLemmas.{in_order-sorted, ordered-sorted}
 use Rattle.iv_track.specs.Inside.Counted.{GivesEntry}
 use Rattle.iv_track.specs.Tracked.{Tracked}
@@ -15,14 +15,14 @@ of-requires g c = omega (arith, c.requires.few, c.requires.limit, length_permuta
 pub from_entries-requires-clause-ascend : goal.from_entries-requires-clause-ascend
 from_entries-requires-clause-ascend g c = λ es run.
     let sorted = c.in_ok-sorted.sorted in
-    given-ordered sorted es (in_order-sorted record_cmp rows_total sorted c.in_ok-sorted.ensures.sorted)
+    given-ordered sorted es (in_order-sorted record_cmp records_total sorted c.in_ok-sorted.ensures.sorted)
     (subst (λ (left : List (RecordValue × ℕ)). Drains GivesEntry left es) c.of.ensures run)
 
 pub invariant_of-result : goal.invariant_of-result
 invariant_of-result g c =
     let sorted = c.in_ok-sorted.sorted in
     let e = c.in_ok-from_entries.ensures in
-    let counted = given-counted sorted e.values.0 (in_order-sorted record_cmp rows_total sorted c.in_ok-sorted.ensures.sorted)
+    let counted = given-counted sorted e.values.0 (in_order-sorted record_cmp records_total sorted c.in_ok-sorted.ensures.sorted)
     (subst (λ (left : List (RecordValue × ℕ)). Drains GivesEntry left e.values.0) c.of.ensures e.values.1) in
     built_track e.values.0 c.in_ok-from_entries.field-0 sorted counted e.ordered e.values.2 c.len-len.result c.args.width c.args.limit
     (omega (arith, c.len-len.ensures, length_permutation c.args.rows c.in_ok-sorted.sorted c.in_ok-sorted.ensures.same))
@@ -34,7 +34,7 @@ pub returns : goal.returns
 returns g c =
     let sorted = c.in_ok-sorted.sorted in
     let e = c.in_ok-from_entries.ensures in
-    let counted = given-counted sorted e.values.0 (in_order-sorted record_cmp rows_total sorted c.in_ok-sorted.ensures.sorted)
+    let counted = given-counted sorted e.values.0 (in_order-sorted record_cmp records_total sorted c.in_ok-sorted.ensures.sorted)
     (subst (λ (left : List (RecordValue × ℕ)). Drains GivesEntry left e.values.0) c.of.ensures e.values.1) in
     let with_rows : List RecordValue → Tracked = λ rows. record { rows = rows; width = c.args.width; limit = c.args.limit } in
     ap with_rows (

@@ -2,7 +2,7 @@ use Rattle.std.proofs.Common.{◌∙◌, sym, ap, subst, length}
 use Rattle.iv_text.specs.Ordered.{AreInOrder}
 use Rattle.iv_track.specs.Tracked.{Tracked}
 use Rattle.iv_track.proofs.Counts.{length-expanded, in_order-expanded}
-use Rattle.iv_text.specs.RecordValue.{record_cmp, rows_total}
+use Rattle.iv_text.specs.RecordValue.{record_cmp, records_total}
 use Rattle.iv_track.proofs.track.Track.len.Goals as goal
 
 pub returns-clause-len : goal.returns-clause-len
@@ -11,4 +11,4 @@ returns-clause-len g c =
 
 pub returns-clause-ordered : goal.returns-clause-ordered
 returns-clause-ordered g c =
-    subst (λ (t : Tracked). AreInOrder t.rows) c.self.view_is (in_order-expanded record_cmp rows_total c.self.inside.ledger c.self.invariant.ordered)
+    subst (λ (t : Tracked). AreInOrder t.rows) c.self.view_is (in_order-expanded record_cmp records_total c.self.inside.ledger c.self.invariant.ordered)

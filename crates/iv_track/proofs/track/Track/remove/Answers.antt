@@ -1,6 +1,6 @@
 use Rattle.std.proofs.Common.{◌≡◌, ℕ, ◌<◌, ◌-◌, ◌∙◌, sym, ap, arith, List, Some, subst}
 use Rattle.std.specs.Prelude.{unwrap_or}
-use Rattle.iv_text.specs.RecordValue.{RecordValue, record_cmp, rows_total}
+use Rattle.iv_text.specs.RecordValue.{RecordValue, record_cmp, records_total}
 use Rattle.iv_track.specs.Entries.{value_at}
 use Rattle.iv_text.specs.Ordered.{AreInOrder, copies}
 use Rattle.iv_track.specs.Tracked.{Tracked, removed}
@@ -83,8 +83,8 @@ returns-clause-there g c =
 
 pub returns-in_default-clause-was_ordered : goal.returns-in_default-clause-was_ordered
 returns-in_default-clause-was_ordered g c =
-    subst (λ (t : Tracked). AreInOrder t.rows) c.self.view_is (in_order-expanded record_cmp rows_total c.self.inside.ledger c.self.invariant.ordered)
+    subst (λ (t : Tracked). AreInOrder t.rows) c.self.view_is (in_order-expanded record_cmp records_total c.self.inside.ledger c.self.invariant.ordered)
 
 pub returns-clause-was_ordered : goal.returns-clause-was_ordered
 returns-clause-was_ordered g c =
-    subst (λ (t : Tracked). AreInOrder t.rows) c.self.view_is (in_order-expanded record_cmp rows_total c.self.inside.ledger c.self.invariant.ordered)
+    subst (λ (t : Tracked). AreInOrder t.rows) c.self.view_is (in_order-expanded record_cmp records_total c.self.inside.ledger c.self.invariant.ordered)

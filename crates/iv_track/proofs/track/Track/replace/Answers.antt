@@ -1,5 +1,5 @@
 use Rattle.std.proofs.Common.{◌≡◌, ◌∙◌, ◌<◌, sym, ap, arith, List}
-use Rattle.iv_text.specs.RecordValue.{RecordValue, record_cmp, rows_total}
+use Rattle.iv_text.specs.RecordValue.{RecordValue, record_cmp, records_total}
 use Rattle.iv_text.specs.Ordered.{copies, added}
 use Rattle.iv_track.specs.Tracked.{Tracked, removed}
 use Rattle.iv_text.proofs.OrderedLemmas.{copies-added}
@@ -21,4 +21,4 @@ returns-clause-ok g c =
     let with_rows : List RecordValue → Tracked = λ rows. record { rows = rows; width = t.width; limit = t.limit } in
     c.in-Ok.ensures.ok
     ∙ ap (λ (s : Tracked). record s { rows = removed s.rows c.args.old.now }) c.in_ok-stage.ensures.ok
-    ∙ ap with_rows (removed-added record_cmp rows_total rows_exact t.rows c.args.new c.args.old.now c.copies.ensures.ordered some)
+    ∙ ap with_rows (removed-added record_cmp records_total rows_exact t.rows c.args.new c.args.old.now c.copies.ensures.ordered some)

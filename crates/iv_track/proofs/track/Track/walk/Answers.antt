@@ -1,7 +1,7 @@
 use Rattle.std.proofs.Common.{◌∙◌, ap, subst}
 use Rattle.std.specs.Prelude.{filter}
 use Rattle.std.specs.Ordering.{is_le}
-use Rattle.iv_text.specs.RecordValue.{record_cmp, rows_total}
+use Rattle.iv_text.specs.RecordValue.{record_cmp, records_total}
 use Rattle.iv_track.specs.Inside.Copies.{expanded}
 use Rattle.iv_text.specs.Ordered.{AreInOrder}
 use Rattle.iv_track.specs.Tracked.{Tracked, is_from}
@@ -22,4 +22,4 @@ returns-clause-rows g c =
 
 pub returns-clause-ordered : goal.returns-clause-ordered
 returns-clause-ordered g c =
-    subst (λ (t : Tracked). AreInOrder t.rows) c.self.view_is (in_order-expanded record_cmp rows_total c.self.inside.ledger c.self.invariant.ordered)
+    subst (λ (t : Tracked). AreInOrder t.rows) c.self.view_is (in_order-expanded record_cmp records_total c.self.inside.ledger c.self.invariant.ordered)

@@ -1,4 +1,4 @@
-use Rattle.iv_bytes.proofs.Putting.{Takes-nothing}
+use Rattle.iv_bytes.proofs.PutLemmas.{Takes-nothing}
 use Rattle.iv_view.proofs.RowLemmas.{no-bases}
 use Rattle.iv_view.proofs.written_view.WrittenView.print.Goals as goal
 

@@ -1,6 +1,6 @@
 use Rattle.std.proofs.Common.{◌≡◌, ◌∙◌, ◌<◌, refl, ap, sym, subst, arith}
 use Rattle.std.proofs.lemmas.Result.{err_from_is_err_and}
-use Rattle.iv_bytes.proofs.Putting.{Puts-finished, FailsIn-given_up}
+use Rattle.iv_bytes.proofs.PutLemmas.{Puts-finished, FailsIn-given_up}
 use Rattle.iv_workspace.specs.Inside.ViewStates.{all_seen}
 use Rattle.iv_workspace.specs.OpenViews.{Freshens, all_current, stale_count}
 use Rattle.iv_workspace.specs.States.{State}

@@ -1,7 +1,7 @@
 use Rattle.std.proofs.Common.{◌≡◌, ◌∙◌, false, true, refl, ap, sym, subst}
 use Rattle.std.specs.Prelude.{IfNone, Option}
 use Rattle.std.proofs.lemmas.Result.{err_from_is_err_and}
-use Rattle.iv_bytes.proofs.Putting.{Puts-finished}
+use Rattle.iv_bytes.proofs.PutLemmas.{Puts-finished}
 use Rattle.iv_view.specs.declared.view.View.{View}
 use Rattle.iv_workspace.specs.Inside.ViewStates.{IsKept, all_owned, all_seen}
 use Rattle.iv_workspace.specs.OpenViews.{current, with_current}

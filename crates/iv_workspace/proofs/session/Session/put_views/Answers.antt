@@ -1,5 +1,5 @@
 use Rattle.std.proofs.Common.{◌≡◌, ◌∙◌, ◌+◌, drop, false, slice_get, sym, ap, arith}
-use Rattle.iv_bytes.proofs.Putting.{Underway-begin, Underway-fails, Underway-more, Puts-err}
+use Rattle.iv_bytes.proofs.PutLemmas.{Underway-begin, Underway-fails, Underway-more, Puts-err}
 use Rattle.iv_workspace.specs.Inside.ViewStates.{IsKept, all_owned, all_seen, seen}
 use Rattle.iv_workspace.specs.States.{State}
 use Rattle.iv_workspace.specs.Inside.States.{IsServed}

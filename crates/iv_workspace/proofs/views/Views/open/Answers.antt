@@ -1,6 +1,6 @@
 use Rattle.std.proofs.Common.{◌∙◌, ◌++◌, ◌∷◌, [], ap, sym, subst}
 use Rattle.std.proofs.lemmas.Result.{on_ok_weaker}
-use Rattle.iv_text.specs.Named.{names_of, place_of}
+use Rattle.iv_text.specs.Named.{names_of, name_index}
 use Rattle.iv_text.proofs.NamedLemmas.{unplaced}
 use Rattle.iv_workspace.specs.Inside.ViewStates.{AreRight, all_seen}
 use Rattle.iv_workspace.proofs.OpenViewLemmas.{seen-append}
@@ -8,7 +8,7 @@ use Rattle.iv_workspace.proofs.StateLemmas.{opened-right, renewed}
 use Rattle.iv_workspace.proofs.views.Views.open.Goals as goal
 
 pub push-requires : goal.push-requires
-push-requires g c = record { fresh = ap (λ l. place_of l c.args.name.now) c.self.view_is ∙ unplaced c.args.self.now c.args.name.now c.requires.fresh }
+push-requires g c = record { fresh = ap (λ l. name_index l c.args.name.now) c.self.view_is ∙ unplaced c.args.self.now c.args.name.now c.requires.fresh }
 
 pub returns-clause-right : goal.returns-clause-right
 returns-clause-right g c =

@@ -2,7 +2,7 @@ use Rattle.std.proofs.Common.{◌≡◌, ◌∙◌, inl, refl, ap, sym, subst}
 use Rattle.std.specs.Map.{lookup}
 use Rattle.std.specs.Option.{option_map}
 use Rattle.std.specs.Str.{bytes_eq}
-use Rattle.iv_bytes.proofs.Putting.{OnErr-all}
+use Rattle.iv_bytes.proofs.PutLemmas.{OnErr-all}
 use Rattle.iv_workspace.specs.Inside.ViewStates.{all_seen, current_at}
 use Rattle.iv_workspace.specs.OpenViews.{with_current}
 use Rattle.iv_workspace.proofs.OpenViewLemmas.{seen-view}

@@ -1,6 +1,6 @@
 use Rattle.std.proofs.Common.{◌≡◌, ◌∙◌, inl, refl, true, add-one, ap, slice_get, subst, sym, length, arith}
 use Rattle.std.specs.Prelude.{IfSome}
-use Rattle.iv_bytes.proofs.Putting.{OnErr-all}
+use Rattle.iv_bytes.proofs.PutLemmas.{OnErr-all}
 use Rattle.iv_workspace.specs.Inside.ViewStates.{all_seen, current_at}
 use Rattle.iv_workspace.specs.OpenViews.{Freshens}
 use Rattle.iv_workspace.proofs.StateLemmas.{current_to, current-none, current-next, current-length, current-all, current-freshens, seen-length, stale-among}
