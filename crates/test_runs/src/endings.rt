@@ -1,9 +1,12 @@
-//! The exit status of each ending.
+//! The exit status of each ending, and its line.
+use crate::piece_fixtures::plan_of;
 use iv_args::Slot;
+use iv_bytes::MemSink;
 use iv_cli::{Ending, run_status, status};
 use iv_run::CliFault;
 use iv_session::{RunCause, RunFault, Summary};
 use iv_text::{Fault, LoadCause, LoadFault};
+use std::test::Fail;
 
 /// The status of damage of a file.
 fn status_of_damage(slot: Slot) -> u8 {
@@ -67,4 +70,45 @@ fn statuses_of_scripts_that_end_early(rt: HostRuntime) {
     ] {
         assert!(rt; status_of_end(cause) == want);
     }
+}
+
+/// Whether this is the line of an ending of a run without a FASTA file.
+fn reports(rt: &HostRuntime, ending: Ending, want: &[u8]) -> Result<bool, Fail> {
+    let plan = plan_of(rt, b"intersect -g g -a a -b b")?;
+    let mut sink = MemSink::new(rt.alloc(), 100, 3)?;
+    ending.put_line(ending.file_meant(&plan), &mut sink)?;
+    Ok(sink.bytes() == want)
+}
+
+#[test]
+fn lines_of_endings(rt: HostRuntime) -> Result<(), Fail> {
+    let damage = LoadFault {
+        line: 7,
+        cause: LoadCause::Name,
+    };
+    for (ending, want) in [
+        (Ending::Done, b"".as_slice()),
+        (Ending::Refused, b""),
+        (Ending::Words(16), b"bedkeep: bad options\n"),
+        (
+            Ending::Damaged(Slot::Sizes, damage),
+            b"bedkeep: g: line 7: bad name\n",
+        ),
+        (
+            Ending::Unreadable(Slot::First),
+            b"bedkeep: a: cannot be read\n",
+        ),
+        (Ending::TooLong(Slot::Other), b"bedkeep: b: too long\n"),
+        (
+            Ending::Unreadable(Slot::Bases),
+            b"bedkeep: : cannot be read\n",
+        ),
+        (Ending::InputUnreadable, b"bedkeep: input cannot be read\n"),
+        (Ending::InputTooLong, b"bedkeep: input too long\n"),
+        (Ending::Output, b"bedkeep: output cannot be written\n"),
+        (Ending::Memory, b"bedkeep: no memory\n"),
+    ] {
+        assert!(rt; reports(&rt, ending, want)?);
+    }
+    Ok(())
 }
