@@ -9,9 +9,11 @@ file is sound, or its fault is one that only its end can show: one of its last l
 sequence, reported with the line of that sequence's header.
 
 A BED file is read in each way that the program has: its places alone (merge), its records in their text (cluster), and the records
-of a session. Status 1 if a run prints anything else.
+of a session. Whole files and one in so many cuts come through pipes too, three bytes at each read. Status 1 if a run prints
+anything else.
 """
 import concurrent.futures
+import contextlib
 import functools
 import itertools
 import os
@@ -19,9 +21,13 @@ import re
 import subprocess
 import sys
 import tempfile
+import threading
 from pathlib import Path
 
 SECONDS = 60
+PIECE = 3
+# One in so many cuts comes in pieces. It is no multiple of their size, so a file's cuts end everywhere in a piece.
+EVERY = 7
 SIZES = "chr1\t100\nchr2\t50\nchr3\t0\ns\t10\nu\t5\nbig\t1000000\n"
 RANKS = {line.split("\t")[0]: rank for rank, line in enumerate(SIZES.splitlines())}
 
@@ -88,19 +94,53 @@ FASTA_BY_HAND = ">u 5\r\nTTT\r\nTA\r\n>ux\nAC\n>z\n>s\nACGTNacgtR\n", [
 ]
 
 
-class Runs:
-    """Runs of the program in folders of their own."""
+def write_pieces(pipe, text):
+    """Writes a text into a pipe that keeps pieces apart, and closes it."""
+    with contextlib.suppress(BrokenPipeError), open(pipe, "wb", buffering=0) as file:
+        for at in range(0, len(text), PIECE):
+            file.write(text[at : at + PIECE])
 
-    def __init__(self, program, top):
-        self.program, self.top, self.numbers = program, top, itertools.count()
+
+@contextlib.contextmanager
+def in_pieces(text):
+    """A pipe whose reader gets a text in pieces, one at each read."""
+    reader, writer = os.pipe2(os.O_DIRECT | os.O_CLOEXEC)
+    thread = threading.Thread(target=write_pieces, args=(writer, text))
+    thread.start()
+    try:
+        yield reader
+    finally:
+        os.close(reader)
+        thread.join()
+
+
+def first_read(text):
+    """What the first read of a text in pieces gives."""
+    with in_pieces(text) as pipe:
+        return os.read(pipe, len(text))
+
+
+class Runs:
+    """Runs of the program in folders of their own, whose files are files, or pipes that give them in pieces."""
+
+    def __init__(self, program, top, pieces):
+        self.program, self.pieces, self.numbers = program, pieces, itertools.count()
+        self.top = Path(top, "pipes" if pieces else "files")
 
     def run(self, words, files, script=b""):
         """The rows of a run, and the fault that it reports of a file, if any."""
         folder = Path(self.top, str(next(self.numbers)))
-        folder.mkdir()
-        for name, text in files.items():
-            Path(folder, name).write_bytes(text.encode())
-        done = subprocess.run([self.program, *words.split()], cwd=folder, input=script, capture_output=True, timeout=SECONDS)
+        folder.mkdir(parents=True)
+        with contextlib.ExitStack() as stack:
+            pipes = []
+            for name, text in files.items():
+                if self.pieces:
+                    pipes.append(stack.enter_context(in_pieces(text.encode())))
+                    Path(folder, name).symlink_to(f"/dev/fd/{pipes[-1]}")
+                else:
+                    Path(folder, name).write_bytes(text.encode())
+            done = subprocess.run([self.program, *words.split()], cwd=folder, input=script, capture_output=True, timeout=SECONDS,
+                                  pass_fds=pipes)
         fault = re.fullmatch(rb"bedkeep: \w: (line [0-9]+: .*)\n", done.stderr)
         if (done.returncode, bool(fault), bool(done.stderr)) not in ((0, False, False), (3, True, True)):
             raise ValueError(f"status {done.returncode}, {done.stderr}")
@@ -205,19 +245,19 @@ def cuts_by_hand(text, wanted):
         raise ValueError("the cuts of a file end before it does")
 
 
-def checks():
-    """Texts, and what is to be so of each."""
+def checks(every):
+    """Whole texts and one in so many cuts of each, and what is to be so of them."""
     beds = [(places_rows, merged), (text_rows, clustered), (session_rows, clustered)]
     for texts, ways in (GENOMES, [(genome_rows, rows_of)]), (BEDS, beds):
         for (text, marks), (read, rows) in itertools.product(texts, ways):
             yield text, functools.partial(is_whole, read=read, rows=rows, marks=marks)
-            for size in range(len(text) + 1):
+            for size in range(len(text), -1, -every):
                 yield text[:size], functools.partial(is_cut, read=read, rows=rows, marks=marks)
     for text in FASTAS:
-        for size in range(len(text) + 1):
+        for size in range(len(text), -1, -every):
             yield text[:size], is_fasta_cut
     for ways, hand in ([genome_rows], GENOME_BY_HAND), ([places_rows, text_rows, session_rows], BED_BY_HAND), ([bases_rows], FASTA_BY_HAND):
-        for read, (cut, fault) in itertools.product(ways, list(cuts_by_hand(*hand))):
+        for read, (cut, fault) in itertools.product(ways, list(cuts_by_hand(*hand))[::-every]):
             yield cut, functools.partial(has_fault, read=read, fault=fault)
 
 
@@ -225,17 +265,20 @@ def main():
     if len(sys.argv) != 2:
         sys.exit("usage: scripts/test/cuts.py PROGRAM")
     program = Path(sys.argv[1]).resolve()
+    if first_read(b"abcd") != b"abc":
+        sys.exit("pipes don't keep pieces apart here")
     wrong = 0
     with tempfile.TemporaryDirectory() as top, concurrent.futures.ThreadPoolExecutor(os.cpu_count()) as pool:
-        runs = Runs(program, top)
-        results = [(text, pool.submit(check, runs, text)) for text, check in checks()]
-        for text, result in results:
+        whole, pieces = Runs(program, top, False), Runs(program, top, True)
+        results = [(text, "", pool.submit(check, whole, text)) for text, check in checks(1)]
+        results += [(text, " in pieces", pool.submit(check, pieces, text)) for text, check in checks(EVERY)]
+        for text, how, result in results:
             try:
                 why = None if result.result() else "other rows or another fault"
             except ValueError as error:
                 why = error
             if why:
-                print(f"{text!r}: {why}", file=sys.stderr)
+                print(f"{text!r}{how}: {why}", file=sys.stderr)
                 wrong += 1
     if wrong:
         sys.exit(f"{wrong} of {len(results)} files that are cut are read otherwise")

@@ -1,14 +1,19 @@
 #!/usr/bin/env python3
 """Runs the built program over files of real sizes, long lines, long names and long rows: a body that gives up above some size is
 seen here. What it is to print is made beside the files, never by the program. Prints of more than 16 KiB also go into files that
-have room for a part of them, around the sizes of the program's buffer. It takes seconds.
+have room for a part of them, around the sizes of the program's buffer, and into an output that takes a part of a write. It takes
+seconds.
 
     scripts/test/sizes.py build/bedkeep
 
 Status 1 if a run prints anything else, or has another message or status.
 """
+import os
 import random
 import resource
+import select
+import signal
+import socket
 import subprocess
 import sys
 import tempfile
@@ -17,6 +22,8 @@ from pathlib import Path
 SECONDS = 120
 ROOMS = [0, 1, 8_190, 8_191, 8_192, 8_193, 8_194, 16_383, 16_384, 16_385]
 NO_ROOM = b"bedkeep: output cannot be written\n"
+# A program whose status says whether its write was cut short.
+IS_SHORT = "import os, sys; sys.exit(os.write(1, bytes(8192)) < 8192)"
 COMPLEMENT = str.maketrans("ACGTNacgtR", "TGCANtgcaY")
 
 
@@ -186,20 +193,46 @@ def run_in(program, folder, words, script, room=None):
     return done.returncode, done.stderr, output.read_bytes()
 
 
+def run_in_parts(command, folder, script):
+    """The same of a run whose writes are cut short: once the output holds a part of one, a stop ends it, and the part is read."""
+    near, far = socket.socketpair()
+    # The system takes this for the least that it has, about 4 KiB.
+    far.setsockopt(socket.SOL_SOCKET, socket.SO_SNDBUF, 1)
+    parts = [b""]
+    with near, tempfile.TemporaryFile() as file:
+        file.write((script or "").encode())
+        file.seek(0)
+        with subprocess.Popen(command, cwd=folder, stdin=file, stdout=far, stderr=subprocess.PIPE) as done:
+            far.close()
+            while len(parts) == 1 or parts[-1]:
+                if not select.select([near], [], [], SECONDS)[0]:
+                    done.kill()
+                os.kill(done.pid, signal.SIGSTOP)
+                os.waitid(os.P_PID, done.pid, os.WSTOPPED | os.WEXITED | os.WNOWAIT)
+                parts.append(near.recv(1 << 20))
+                os.kill(done.pid, signal.SIGCONT)
+            messages = done.stderr.read()
+    return done.returncode, messages, b"".join(parts)
+
+
 def is_right(program, name, words, files, script, wanted, rooms=()):
-    """Whether a run prints what it is to, and into each room what fits; says so if it doesn't."""
+    """Whether a run prints what it is to, into each room what fits, and with rooms in parts too; says so if it doesn't."""
     wanted = wanted.encode()
     with tempfile.TemporaryDirectory() as folder:
         for file, text in files.items():
             Path(folder, file).write_text(text)
         whole = run_in(program, folder, words, script)
-        wrong = [] if whole == (0, b"", wanted) else [("all", whole)]
+        wrong = [] if whole == (0, b"", wanted) else [("whole", whole)]
         for room in rooms:
             cut = run_in(program, folder, words, script, room)
             if cut != (4, NO_ROOM, wanted[:room]):
-                wrong.append((room, cut))
-    for room, (status, messages, output) in wrong:
-        print(f"{name}, room {room}: status {status}, {len(output)} bytes of {len(wanted)}, {messages[:200]}", file=sys.stderr)
+                wrong.append((f"room {room}", cut))
+        if rooms:
+            parts = run_in_parts([program, *words.split()], folder, script)
+            if parts != (0, b"", wanted):
+                wrong.append(("in parts", parts))
+    for how, (status, messages, output) in wrong:
+        print(f"{name}, {how}: status {status}, {len(output)} bytes of {len(wanted)}, {messages[:200]}", file=sys.stderr)
     return not wrong
 
 
@@ -207,6 +240,8 @@ def main():
     if len(sys.argv) != 2:
         sys.exit("usage: scripts/test/sizes.py PROGRAM")
     program = Path(sys.argv[1]).resolve()
+    if run_in_parts([sys.executable, "-c", IS_SHORT], "/", None)[0] != 1:
+        sys.exit("no write is cut short here")
     whole = [records_at_one_place, many_sequences, reversed_records, long_lines, long_names, long_bases, many_short_bases, long_headers,
              long_rows, pairs]
     results = [is_right(program, *run) for kind in whole for run in kind()]

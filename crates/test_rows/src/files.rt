@@ -54,6 +54,24 @@ fn sequences_of_a_genome(rt: HostRuntime) -> Result<(), Fail> {
     Ok(())
 }
 
+/// Whether the second sequence of the genome may be given the greatest length, and the others keep theirs.
+fn is_corrected(genome: &mut Genome) -> bool {
+    if genome.count() != 3 {
+        return false;
+    }
+    genome.set_length(1, 4_000_000_000);
+    sequence_of(genome, 0) == Some((0, b"chr1", 100))
+        && sequence_of(genome, 1) == Some((1, b"chr2", 4_000_000_000))
+        && sequence_of(genome, 2) == Some((2, b"chr3", 0))
+}
+
+#[test]
+fn length_that_is_corrected(rt: HostRuntime) -> Result<(), Fail> {
+    let mut genome = genome(&rt)?;
+    assert!(rt; is_corrected(&mut genome));
+    Ok(())
+}
+
 /// What a BED file has: its width, how many records it has and where the last one is, or the fault.
 fn file_of(
     rt: &HostRuntime,

@@ -1,9 +1,12 @@
-//! The exit status of each ending.
+//! The exit status of each ending, and its line.
+use crate::piece_fixtures::plan_of;
 use iv_args::Slot;
+use iv_bytes::MemSink;
 use iv_cli::{ExitReason, run_status, status};
 use iv_run::CliFault;
 use iv_session::{RunCause, RunFault, Summary};
 use iv_text::{Fault, LoadCause, LoadFault};
+use std::test::Fail;
 
 /// The status of damage of a file.
 fn status_of_damage(slot: Slot) -> u8 {
@@ -67,4 +70,48 @@ fn statuses_of_scripts_that_end_early(rt: HostRuntime) {
     ] {
         assert!(rt; status_of_end(cause) == want);
     }
+}
+
+/// Whether this is the line of an ending of a run without a FASTA file.
+fn reports(rt: &HostRuntime, reason: ExitReason, want: &[u8]) -> Result<bool, Fail> {
+    let plan = plan_of(rt, b"intersect -g g -a a -b b")?;
+    let mut sink = MemSink::new(rt.alloc(), 100, 3)?;
+    reason.put_line(reason.file_meant(&plan), &mut sink)?;
+    Ok(sink.bytes() == want)
+}
+
+#[test]
+fn lines_of_endings(rt: HostRuntime) -> Result<(), Fail> {
+    let damage = LoadFault {
+        line: 7,
+        cause: LoadCause::Name,
+    };
+    for (reason, want) in [
+        (ExitReason::Done, b"".as_slice()),
+        (ExitReason::Refused, b""),
+        (ExitReason::Words(16), b"bedkeep: bad options\n"),
+        (
+            ExitReason::Damaged(Slot::Sizes, damage),
+            b"bedkeep: g: line 7: bad name\n",
+        ),
+        (
+            ExitReason::Unreadable(Slot::First),
+            b"bedkeep: a: cannot be read\n",
+        ),
+        (ExitReason::TooLong(Slot::Other), b"bedkeep: b: too long\n"),
+        (
+            ExitReason::Unreadable(Slot::Bases),
+            b"bedkeep: : cannot be read\n",
+        ),
+        (
+            ExitReason::InputUnreadable,
+            b"bedkeep: input cannot be read\n",
+        ),
+        (ExitReason::InputTooLong, b"bedkeep: input too long\n"),
+        (ExitReason::Output, b"bedkeep: output cannot be written\n"),
+        (ExitReason::Memory, b"bedkeep: no memory\n"),
+    ] {
+        assert!(rt; reports(&rt, reason, want)?);
+    }
+    Ok(())
 }

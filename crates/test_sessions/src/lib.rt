@@ -8,6 +8,8 @@ mod around;
 #[cfg(test)]
 mod bases;
 #[cfg(test)]
+mod built;
+#[cfg(test)]
 mod fixtures;
 #[cfg(test)]
 mod kept_kinds;

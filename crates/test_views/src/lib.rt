@@ -20,6 +20,8 @@ mod fasta_rows;
 #[cfg(test)]
 mod hits;
 #[cfg(test)]
+mod one_record;
+#[cfg(test)]
 mod opposites;
 #[cfg(test)]
 mod refused_edits;
