@@ -13,7 +13,7 @@ use Rattle.iv_cover.specs.contracts.column.ColumnPartialEq.TheImpl as column
 use Rattle.iv_cover.specs.contracts.column.ColumnSummaryPartialEq.TheImpl as summary
 use Rattle.iv_cover.specs.contracts.op.OpPartialEq.TheImpl as op
 use Rattle.iv_blocks.specs.contracts.options.SummariesPartialEq.TheImpl as summaries
-use Rattle.iv_blocks.specs.contracts.options.OptionsPartialEq.TheImpl as options
+use Rattle.iv_blocks.specs.contracts.options.BlockOptionsPartialEq.TheImpl as options
 use Rattle.iv_view.specs.contracts.kept_state.StateKeyPartialEq.TheImpl as state_key
 use lib.Pointwise.{pointwise}
 
