@@ -48,13 +48,9 @@ class Mutant:
 
     @staticmethod
     def function(crate, file, old):
-        """The module and the name of the function whose body the text is in, if it is in one."""
+        """The name of the function whose body the text is in, if it is in one."""
         text = (crate / file).read_text()
-        module = "::".join([crate.name, *(part for part in Path(file).with_suffix("").parts[1:] if part not in ("lib", "main"))])
-        for found in BODY.finditer(text):
-            if found.start() < text.find(old) < found.end():
-                return module, found[2]
-        return None
+        return next((found[2] for found in BODY.finditer(text) if found.start() < text.find(old) < found.end()), None)
 
     def plant(self, texts):
         """The texts of files with the changes, or None if an old text isn't there once."""
@@ -79,7 +75,7 @@ def check(crate, texts, was):
 
 
 def batches(mutants, texts):
-    """Mutants that can be planted together, with the texts that they make: of each function one."""
+    """Mutants that can be planted together, with the texts that they make: one of all functions of a name."""
     while mutants:
         batch, rest, made = [], [], texts
         for mutant in mutants:
@@ -94,10 +90,8 @@ def batches(mutants, texts):
 
 
 def is_refused(mutant, said):
-    """Whether a run says that the mutant's own function isn't proved, for a reason of its own."""
-    module, name = mutant.of
-    found = [why for path, why in FUNCTION.findall(said) if path.startswith(module + "::") and path.endswith("::" + name)]
-    return any(not WAITS.fullmatch(why) for why in found)
+    """Whether a run says that the mutant's own function isn't proved, for a reason of its own. No other one of its name has a mutant."""
+    return any(not WAITS.fullmatch(why) for path, why in FUNCTION.findall(said) if path.split("::")[-1] == mutant.of)
 
 
 def try_crate(crate):
