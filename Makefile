@@ -82,6 +82,7 @@ test:
 	python3 scripts/test/lint.py
 	python3 scripts/test/words.py
 	python3 scripts/prove/reached.py --check
+	python3 scripts/prove/mutants.py --applies
 	RT=$(RT) scripts/prove/check.sh
 	mkdir -p build && cp crates/bedkeep/out/bedkeep $(PROGRAM)
 	scripts/test/interactive.sh $(PROGRAM)

@@ -3,6 +3,7 @@
 
     scripts/prove/mutants.py              those of all crates
     scripts/prove/mutants.py iv_text ..   those of these crates
+    scripts/prove/mutants.py --applies    tries none, and looks only whether the texts that they change are there, each once
 
 A function is proved from the contracts of what it calls, whatever their bodies do. So mutants of different functions are planted
 together, and each is refused if its own function isn't proved. One that such a run doesn't decide is tried alone, and is refused if
@@ -49,7 +50,7 @@ class Mutant:
     @staticmethod
     def function(crate, file, old):
         """The name of the function whose body the text is in, if it is in one."""
-        text = (crate / file).read_text()
+        text = (crate / file).read_text() if (crate / file).is_file() else ""
         return next((found[2] for found in BODY.finditer(text) if found.start() < text.find(old) < found.end()), None)
 
     def plant(self, texts):
@@ -94,15 +95,19 @@ def is_refused(mutant, said):
     return any(not WAITS.fullmatch(why) for path, why in FUNCTION.findall(said) if path.split("::")[-1] == mutant.of)
 
 
+def mutants_of(crate):
+    """The mutants of a crate, with the texts of its sources, and what is wrong with those that can't be planted."""
+    texts = {path.relative_to(crate).as_posix(): path.read_text() for path in crate.glob("src/**/*.rt")}
+    mutants = [Mutant(path, crate) for path in sorted((TOP / "crates" / crate.name / "wrong-bodies").glob("*.edit"))]
+    return mutants, texts, [f"{mutant.name}: an old text isn't there once" for mutant in mutants if not mutant.plant(texts)]
+
+
 def try_crate(crate):
     """How many mutants of a crate there are, and what is wrong with those that aren't refused."""
-    paths = sorted((TOP / "crates" / crate.name / "wrong-bodies").glob("*.edit"))
-    texts = {path.relative_to(crate).as_posix(): path.read_text() for path in crate.glob("src/**/*.rt")}
+    mutants, texts, wrong = mutants_of(crate)
     said, proved = check(crate, texts, texts)
     if not proved:
-        return len(paths), [f"it isn't proved as it is: {said[-300:]}"]
-    mutants = [Mutant(path, crate) for path in paths]
-    wrong = [f"{mutant.name}: an old text isn't there once" for mutant in mutants if not mutant.plant(texts)]
+        return len(mutants), [f"it isn't proved as it is: {said[-300:]}"]
     sound = [mutant for mutant in mutants if mutant.plant(texts)]
     alone = [mutant for mutant in sound if not mutant.of]
     for batch, made in batches([mutant for mutant in sound if mutant.of], texts):
@@ -114,14 +119,16 @@ def try_crate(crate):
             wrong.append(f"{mutant.name}: NOT REFUSED")
         elif all(WAITS.fullmatch(why) for _, why in FUNCTION.findall(said)):
             wrong.append(f"{mutant.name}: no function was tried: {said[-300:]}")
-    return len(paths), wrong
+    return len(mutants), wrong
 
 
 def main():
+    everywhere = sorted(path.parent.name for path in TOP.glob("crates/*/wrong-bodies"))
+    if sys.argv[1:] == ["--applies"]:
+        sys.exit("\n".join(f"{name}/{line}" for name in everywhere for line in mutants_of(TOP / "crates" / name)[2]) or 0)
     if not RT:
         sys.exit("the command of the Rattle toolchain is not there")
-    chosen = sys.argv[1:] or sorted(path.parent.name for path in TOP.glob("crates/*/wrong-bodies"))
-    count, wrong = 0, []
+    chosen, count, wrong = sys.argv[1:] or everywhere, 0, []
     with tempfile.TemporaryDirectory() as top:
         subprocess.run([TOP / "scripts/prove/copy_crates.sh", top, *chosen], check=True)
         uses = dict(line.split(":") for line in Path(top, "crates.txt").read_text().splitlines())
