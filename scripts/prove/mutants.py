@@ -21,12 +21,13 @@ from pathlib import Path
 
 TOP = Path(__file__).resolve().parent.parent.parent
 RT = shutil.which(os.environ.get("RT", "rt"))
-# What the prover says of each function, and what it says of one that is only waiting for a function that it calls.
+# What the prover says of each function, and what it says of one of which that shows nothing: it is proved, it only waits for a
+# function that it calls, or the borrow checker gives up on it.
 FUNCTION = re.compile(r"^fn (\S+): (.*)$", re.M)
-WAITS = re.compile(r"proved|no proof: it calls [^;]*")
+UNDECIDED = re.compile(r"proved|no proof: it calls [^;]*|.*the borrow checker does not cover.*")
 # A function in the layout of `rt fmt`: its name, and all up to the brace that ends it.
 BODY = re.compile(r"^( *)(?:pub(?:\([^)]*\))? )?(?:const )?fn (\w+)(?:.*\n)+?\1\}$", re.M)
-# As many functions may be open in one run; each takes it some time.
+# How many mutants are planted together at most.
 MOST = 40
 
 
@@ -92,7 +93,7 @@ def batches(mutants, texts):
 
 def is_refused(mutant, said):
     """Whether a run says that the mutant's own function isn't proved, for a reason of its own. No other one of its name has a mutant."""
-    return any(not WAITS.fullmatch(why) for path, why in FUNCTION.findall(said) if path.split("::")[-1] == mutant.of)
+    return any(not UNDECIDED.fullmatch(why) for path, why in FUNCTION.findall(said) if path.split("::")[-1] == mutant.of)
 
 
 def mutants_of(crate):
@@ -117,8 +118,8 @@ def try_crate(crate):
         said, proved = check(crate, mutant.plant(texts), texts)
         if proved:
             wrong.append(f"{mutant.name}: NOT REFUSED")
-        elif all(WAITS.fullmatch(why) for _, why in FUNCTION.findall(said)):
-            wrong.append(f"{mutant.name}: no function was tried: {said[-300:]}")
+        elif all(UNDECIDED.fullmatch(why) for _, why in FUNCTION.findall(said)):
+            wrong.append(f"{mutant.name}: no goal refuses it: {said[-300:]}")
     return len(mutants), wrong
 
 
