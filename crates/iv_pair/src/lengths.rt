@@ -2,8 +2,7 @@
 ghost use Rattle.std.specs.Prelude.{◌≡◌, ℕ, ◌+◌, ◌-◌, ◌<◌, ◌≤◌, ◌^◌, length, OnOk, OnErr, IfOk};
 ghost use Rattle.iv_text.specs.Ordered.{added_by, copies_by};
 ghost use Rattle.iv_text.specs.RecordValue.{RecordValue};
-ghost use Rattle.iv_track.specs.Copies.{removed_by};
-ghost use Rattle.iv_track.specs.Inside.Copies.{expanded};
+ghost use Rattle.iv_track.specs.Copies.{removed_by, expanded};
 ghost use Rattle.iv_track.specs.Steps.{TakesUpTo};
 ghost use Rattle.iv_track.specs.Entries.{pair_cmp};
 ghost use Rattle.iv_pair.specs.Inside.Lengths.{AreLengths, IsTally, length_of};

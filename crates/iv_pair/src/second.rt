@@ -37,7 +37,7 @@ impl<A: Allocator + Copy> Model for Second<A> {
 impl<A: Allocator + Copy> Second<A> {
     /// The second file of these records.
     ///
-    /// The limit is at most 4,000,000 records. There are no more records than the limit, and each has the width, 3 to 6.
+    /// The limit is at most 100,000,000 records. There are no more records than the limit, and each has the width, 3 to 6.
     pub fn new(
         alloc: A,
         width: u8,
@@ -88,7 +88,7 @@ impl<A: Allocator + Copy> Second<A> {
         self.track.width()
     }
 
-    /// How many records there may be, at most 4,000,000.
+    /// How many records there may be, at most 100,000,000.
     pub fn limit(&self) -> u32
         ensures { result ≡ self.now.limit }
     {

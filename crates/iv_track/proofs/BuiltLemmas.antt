@@ -11,7 +11,7 @@ use Rattle.std.proofs.lemmas.Map.Views.{All-values_from_lookup, IfSome-lookup_fr
 use Rattle.iv_text.specs.RecordValue.{RecordValue, IsPlaced, record_cmp, records_total}
 use Rattle.iv_text.proofs.RecordLemmas.{rows_exact}
 use Rattle.iv_text.proofs.OrderedLemmas.{one_list}
-use Rattle.iv_track.specs.Inside.Copies.{expanded}
+use Rattle.iv_track.specs.Copies.{expanded}
 use Rattle.iv_track.specs.Entries.{IsLedger, value_at}
 use Rattle.iv_track.specs.Tracked.{most_records}
 use Rattle.iv_track.specs.Inside.Tracked.{IsTrack}

@@ -16,7 +16,7 @@ use Rattle.std.proofs.lemmas.List.Elements.{All-from_recursion}
 use Rattle.iv_text.specs.Ordered.{AreInOrder}
 use Rattle.iv_text.specs.RecordValue.{RecordValue, IsPlaced, record_cmp, records_total}
 use Rattle.iv_text.proofs.RecordLemmas.{rows_exact}
-use Rattle.iv_track.specs.Inside.Copies.{expanded}
+use Rattle.iv_track.specs.Copies.{expanded}
 use Rattle.iv_track.specs.Inside.Counted.{grouped_from, grouped, GivesEntry}
 use Rattle.iv_track.specs.Entries.{IsLedger}
 

@@ -2,6 +2,7 @@ pub mod CountedLemmas
 pub mod BuiltLemmas
 pub mod ChunkLemmas
 pub mod Counts
+pub mod DifferentLemmas
 mod CopyLemmas
 pub mod Edits
 pub mod FindLemmas

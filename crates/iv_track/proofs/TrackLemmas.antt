@@ -10,7 +10,7 @@ use Rattle.iv_track.specs.Entries.{IsLedger, value_at}
 use Rattle.iv_text.specs.RecordValue.{RecordValue, IsPlaced, record_cmp}
 use Rattle.iv_text.specs.RecordValue.{records_total}
 use Rattle.iv_text.proofs.RecordLemmas.{rows_exact}
-use Rattle.iv_track.specs.Inside.Copies.{expanded}
+use Rattle.iv_track.specs.Copies.{expanded}
 use Rattle.iv_text.specs.Ordered.{copies, added}
 use Rattle.iv_text.proofs.OrderedLemmas.{length-added}
 use Rattle.iv_track.specs.Tracked.{with_copies, removed}

@@ -1,6 +1,6 @@
--- A list in order from which a copy is taken, and copies of one key.
+-- Copies of one key in a list, and lists in order as different keys with their copies.
 use denote.Ref.{Bor}
-use Rattle.std.specs.Prelude.{ℕ, cond, List, [], ◌∷◌, replicate, Option, Some, None}
+use Rattle.std.specs.Prelude.{ℕ, ◌+◌, cond, List, [], ◌∷◌, ◌++◌, replicate, Option, Some, None}
 use Rattle.std.specs.declared.cmp.Ordering.{Ordering}
 use Rattle.std.specs.Ordering.{is_eq}
 
@@ -10,7 +10,18 @@ module _ {K : Type 0} (cmp : K → K → Ordering) where
   removed_by [] x = []
   removed_by (q ∷ xs) x = cond (is_eq (cmp x q)) xs (q ∷ removed_by xs x)
 
+  -- how many different ones a list in order has: one for each that isn't the next one too
+  abbrev pub different_by : List K → ℕ
+  different_by [] = 0
+  different_by (x ∷ []) = 1
+  different_by (x ∷ q ∷ xs) = cond (is_eq (cmp x q)) 0 1 + different_by (q ∷ xs)
+
 -- the copies that are held
 abbrev pub again : {K : Type 0} → Option (Bor K × ℕ) → List K
 again None = []
 again (Some p) = replicate p.1 p.0.now
+
+-- the list that a map from keys to numbers of copies means
+abbrev pub expanded : {K : Type 0} → List (K × ℕ) → List K
+expanded [] = []
+expanded (e ∷ es) = replicate e.1 e.0 ++ expanded es

@@ -1,5 +1,4 @@
 -- Definitions that only lemmas and private functions cite. No public contract reaches one.
-pub mod Copies
 pub mod Chunks
 pub mod Counted
 pub mod Steps

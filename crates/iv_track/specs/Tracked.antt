@@ -3,11 +3,11 @@ use Rattle.std.specs.Prelude.{ℕ, Bool, List, Option, Some, None, find}
 use Rattle.std.specs.Ordering.{is_lt, is_le, nat_cmp, ordering_then}
 use Rattle.iv_text.specs.RecordValue.{RecordValue, record_cmp}
 use Rattle.iv_text.specs.Ordered.{copies}
-use Rattle.iv_track.specs.Copies.{removed_by}
+use Rattle.iv_track.specs.Copies.{removed_by, different_by}
 
 -- the greatest limit that a track may have
 abbrev pub most_records : ℕ
-most_records = 4000000
+most_records = 100000000
 
 -- what a track is: its records in track order, the width of each and the limit
 pub record Tracked : Type 0 where
@@ -18,6 +18,10 @@ pub record Tracked : Type 0 where
 -- the records with one copy of r fewer
 abbrev pub removed : List RecordValue → RecordValue → List RecordValue
 removed = removed_by record_cmp
+
+-- how many different records there are among these, which are in order
+abbrev pub different_records : List RecordValue → ℕ
+different_records = different_by record_cmp
 
 -- a record and its number of copies
 abbrev pub with_copies : List RecordValue → Option RecordValue → Option (RecordValue × ℕ)

@@ -8,6 +8,7 @@ mod lemmas;
 mod meter;
 mod starts;
 mod track;
+mod track_entries;
 mod track_records;
 
 pub use ledger::{Ledger, Walk};
@@ -15,4 +16,5 @@ pub use lemmas::{one_record_added, one_record_removed};
 pub use meter::Meter;
 pub use starts::Abbreviated;
 pub use track::{EditFault, Track};
+pub use track_entries::TrackEntries;
 pub use track_records::TrackRecords;

@@ -6,13 +6,15 @@ ghost use Rattle.std.specs.List.Sorted.{IsPermutation, IsSorted};
 ghost use Rattle.iv_text.specs.RecordValue.{RecordValue, record_cmp};
 ghost use Rattle.iv_text.specs.Ordered.{AreInOrder, copies, ordered};
 ghost use Rattle.iv_track.specs.Edits.{RefusesAdd, RefusesRemove, RefusesReplace, with_record, without_record, with_replaced};
-ghost use Rattle.iv_track.specs.Steps.{TakesUpTo};
-ghost use Rattle.iv_track.specs.Tracked.{most_records};
+ghost use Rattle.iv_track.specs.Steps.{TakesUpTo, ticked};
+ghost use Rattle.iv_track.specs.Copies.{expanded};
+ghost use Rattle.iv_track.specs.Tracked.{different_records, most_records};
 ghost use Rattle.iv_track.specs.Inside.Tracked.{BeginsFrom};
 
 use crate::counted::Counted;
 use crate::ledger::Ledger;
 use crate::meter::Meter;
+use crate::track_entries::TrackEntries;
 use crate::track_records::TrackRecords;
 use iv_text::{Batches, Fault, Record};
 use std::alloc::{AllocError, Allocator, Global};
@@ -34,7 +36,7 @@ pub struct Track<A: Allocator + Copy = Global> {
 }
 
 impl<A: Allocator + Copy> Model for Track<A> {
-    ghost use Rattle.iv_track.specs.Inside.Copies.{expanded};
+    ghost use Rattle.iv_track.specs.Copies.{expanded};
     ghost use Rattle.iv_track.specs.Tracked.{Tracked};
     ghost use Rattle.iv_track.specs.Inside.Tracked.{IsTrack};
 
@@ -50,7 +52,7 @@ impl<A: Allocator + Copy> Track<A> {
 
     /// A track without a record; nothing is allocated. It keeps the allocator for its records.
     ///
-    /// Each later record has this width, 3 to 6. The limit is at most 4,000,000 records.
+    /// Each later record has this width, 3 to 6. The limit is at most 100,000,000 records.
     pub fn new(alloc: A, width: u8, limit: u32) -> Self
         requires { limit ≤ most_records }
         ensures { result ≡ record { rows = []; width = width; limit = limit } }
@@ -67,7 +69,7 @@ impl<A: Allocator + Copy> Track<A> {
     /// The track of these records: they are sorted, unless they are in order, and the map is built from them at once.
     /// It is for callers outside this repository.
     ///
-    /// The limit is at most 4,000,000 records. There are no more records than the limit, and each has the width.
+    /// The limit is at most 100,000,000 records. There are no more records than the limit, and each has the width.
     pub fn from_records(
         alloc: A,
         width: u8,
@@ -85,7 +87,7 @@ impl<A: Allocator + Copy> Track<A> {
     /// The track of these records, as [`Track::from_records`] makes it. If they are in order, each of their vectors is freed as
     /// soon as its records are in the map.
     ///
-    /// The limit is at most 4,000,000 records. There are no more records than the limit, and each has the width.
+    /// The limit is at most 100,000,000 records. There are no more records than the limit, and each has the width.
     pub fn from_batches(
         alloc: A,
         width: u8,
@@ -120,7 +122,7 @@ impl<A: Allocator + Copy> Track<A> {
         self.len
     }
 
-    /// How many records `add` lets in, at most 4,000,000.
+    /// How many records `add` lets in, at most 100,000,000.
     pub fn limit(&self) -> u32
         ensures { result ≡ self.now.limit }
     {
@@ -226,6 +228,21 @@ impl<A: Allocator + Copy> Track<A> {
         TrackRecords {
             entries: self.ledger.walk(&least, meter),
             held: None,
+        }
+    }
+
+    /// The different records on this sequence from this start on, and on later sequences, each with the number of its copies.
+    ///
+    /// The start is below 2^32 - 1, which a caller tests. To begin is one step, and each call of the walk's `next` another.
+    pub fn entries(&self, seq: u32, start: u64, meter: &mut Meter) -> TrackEntries<'_, A>
+        requires { start < 2 ^ 32 - 1 }
+        ensures rows { expanded result ≡ filter (is_from seq start) self.now.rows }
+        ensures each { length result ≡ different_records (filter (is_from seq start) self.now.rows) }
+        ensures step { meter.new ≡ ticked meter.old }
+    {
+        let least = Record::least_at(self.alloc, seq, start as u32);
+        TrackEntries {
+            entries: self.ledger.walk(&least, meter),
         }
     }
 

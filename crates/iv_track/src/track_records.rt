@@ -22,8 +22,7 @@ impl<'a, A: Allocator + Copy> Model for TrackRecords<'a, A> {
     ghost use Rattle.std.specs.Prelude.{List, ◌++◌, ◌<◌, All};
     ghost use Rattle.std.specs.Map.{values_of};
     ghost use Rattle.iv_text.specs.RecordValue.{RecordValue};
-    ghost use Rattle.iv_track.specs.Copies.{again};
-    ghost use Rattle.iv_track.specs.Inside.Copies.{expanded};
+    ghost use Rattle.iv_track.specs.Copies.{again, expanded};
 
     ghost Value = { List RecordValue };
 

@@ -4,7 +4,7 @@ use Rattle.std.specs.Ordering.{is_eq}
 use Rattle.std.specs.Map.{keys_of, values_of}
 use Rattle.iv_text.specs.Ordered.{copies_by}
 use Rattle.iv_text.specs.RecordValue.{RecordValue}
-use Rattle.iv_track.specs.Inside.Copies.{expanded}
+use Rattle.iv_track.specs.Copies.{expanded}
 use Rattle.iv_track.specs.Entries.{IsLedger, pair_cmp}
 use Rattle.iv_track.specs.Tracked.{Tracked}
 

@@ -1,7 +1,7 @@
 use Rattle.std.proofs.Common.{◌∙◌, List, sym, ap, subst, arith}
 use Rattle.iv_text.specs.Ordered.{added_by}
 use Rattle.iv_text.specs.RecordValue.{RecordValue}
-use Rattle.iv_track.specs.Inside.Copies.{expanded}
+use Rattle.iv_track.specs.Copies.{expanded}
 use Rattle.iv_track.specs.Entries.{pair_cmp}
 use Rattle.iv_track.proofs.WalkLemmas.{filter-from_first}
 use Rattle.iv_pair.proofs.LengthLemmas.{IsCounted, IsCounted-begin, IsCounted-next, IsCounted-room, IsCounted-all}

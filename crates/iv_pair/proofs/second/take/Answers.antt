@@ -1,7 +1,6 @@
 use Rattle.std.proofs.Common.{◌∙◌, ℕ, ◌<◌, sym, ap, subst}
 use Rattle.iv_text.specs.Ordered.{copies_by}
-use Rattle.iv_track.specs.Copies.{removed_by}
-use Rattle.iv_track.specs.Inside.Copies.{expanded}
+use Rattle.iv_track.specs.Copies.{removed_by, expanded}
 use Rattle.iv_track.specs.Tracked.{Tracked}
 use Rattle.iv_pair.specs.Inside.Lengths.{AreLengths}
 use Rattle.iv_pair.proofs.LengthLemmas.{AreLengths-removed, counted-there}

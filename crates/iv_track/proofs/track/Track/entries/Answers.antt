@@ -1,0 +1,41 @@
+use Rattle.std.proofs.Common.{◌≡◌, ◌∙◌, length, sym, ap, subst}
+use Rattle.std.specs.Prelude.{filter}
+use Rattle.std.specs.Ordering.{is_le}
+use Rattle.std.proofs.lemmas.List.Kept.{IsStrictlySortedBy-filter}
+use Rattle.iv_text.specs.RecordValue.{record_cmp, records_total}
+use Rattle.std.specs.List.Sorted.{IsStrictlySortedBy}
+use Rattle.std.specs.Map.{keys_of}
+use Rattle.iv_track.specs.Copies.{expanded}
+use Rattle.iv_track.specs.Tracked.{Tracked, different_records, is_from}
+use Rattle.iv_track.proofs.DifferentLemmas.{different-expanded, keys-filter}
+use Rattle.iv_track.proofs.EntryIndexLemmas.{filter-least}
+use Rattle.iv_track.proofs.WalkLemmas.{expanded-filter, present-filter}
+use Rattle.iv_track.proofs.track.Track.entries.Given as given
+use Rattle.iv_track.proofs.track.Track.entries.Goals as goal
+
+-- the entries of the walk are those of the map from there on
+passed : (g : given.Over) (c : goal.Joined-least g) → c.walk.result ≡ filter (λ e. is_from c.args.seq c.args.start e.0) c.self.inside.ledger
+passed g c =
+    let i = c.self.inside in
+    c.walk.ensures.entries
+    ∙ ap (λ k. filter (λ e. is_le (record_cmp k e.0)) i.ledger) c.least_at-least.ensures
+    ∙ filter-least c.args.seq c.args.start i.ledger c.self.invariant.placed
+
+-- and their records those of the track
+meant : (g : given.Over) (c : goal.Joined-least g)
+    → expanded (filter (λ e. is_from c.args.seq c.args.start e.0) c.self.inside.ledger) ≡ filter (is_from c.args.seq c.args.start) c.args.self.now.rows
+meant g c =
+    expanded-filter (is_from c.args.seq c.args.start) c.self.inside.ledger
+    ∙ ap (λ (t : Tracked). filter (is_from c.args.seq c.args.start) t.rows) c.self.view_is
+
+pub returns-clause-rows : goal.returns-clause-rows
+returns-clause-rows g c = ap expanded (passed g c) ∙ meant g c
+
+pub returns-clause-each : goal.returns-clause-each
+returns-clause-each g c =
+    let i = c.self.inside in
+    let test = is_from c.args.seq c.args.start in
+    let sorted = subst (IsStrictlySortedBy record_cmp) (sym (keys-filter test i.ledger)) (IsStrictlySortedBy-filter record_cmp test (keys_of i.ledger) c.self.invariant.ordered) in
+    ap length (passed g c)
+    ∙ sym (different-expanded record_cmp records_total (filter (λ e. test e.0) i.ledger) sorted (present-filter (λ e. test e.0) i.ledger c.self.invariant.present))
+    ∙ ap different_records (meant g c)
