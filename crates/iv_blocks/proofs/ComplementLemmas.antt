@@ -119,11 +119,11 @@ value-mem {Y} f (suc n) x y low is = go (λ before. value-mem f n x y before is)
 depth-counts : (rows : List RecordValue) (s p : ℕ) → depth rows s p ≡ length (filter (covers s p) rows)
 depth-counts rows s p = sym (length-filter (covers s p) rows)
 
-in-group : (s : ℕ) (rows : List RecordValue) (q : RecordValue) → Mem q rows → q.seq ≡ s → Mem q (group false s false rows)
+pub in-group : (s : ℕ) (rows : List RecordValue) (q : RecordValue) → Mem q rows → q.seq ≡ s → Mem q (group false s false rows)
 in-group s rows q m rank = mem-filter_from (is_in_group false s false) rows q m (and_from _ _ (eq-eqb q.seq s rank) refl)
 
 -- a covered position has a depth
-depth-some : (rows : List RecordValue) (s p : ℕ) → Covered start_of stop_of 0 (group false s false rows) (suc p) → depth rows s p ≢ 0
+pub depth-some : (rows : List RecordValue) (s p : ℕ) → Covered start_of stop_of 0 (group false s false rows) (suc p) → depth rows s p ≢ 0
 depth-some rows s p c none =
     let both = group-in false s false rows c.0 c.1 in
     let covers_it : covers s p c.0 ≡ true = and_from _ _ (eq-eqb c.0.seq s both.1) (and_from _ _ (le-leb c.0.start p (omega (arith, c.2))) (lt-ltb p c.0.stop (omega (arith, c.3)))) in
@@ -131,7 +131,7 @@ depth-some rows s p c none =
     omega (arith, depth-counts rows s p, none, at.1)
 
 -- and a free one has none
-depth-none : (rows : List RecordValue) (s p : ℕ) → Free start_of stop_of 0 (group false s false rows) (suc p) → depth rows s p ≡ 0
+pub depth-none : (rows : List RecordValue) (s p : ℕ) → Free start_of stop_of 0 (group false s false rows) (suc p) → depth rows s p ≡ 0
 depth-none rows s p free =
     depth-counts rows s p
     ∙ ap (λ (l : List RecordValue). length l) (filter-none (covers s p) rows (λ q m. false_from_ne_true _ (λ e.
@@ -175,7 +175,7 @@ module _ (g : Sequences) (rows : List RecordValue) (lie : All (IsOnGenome g) row
       (is_placed.0, omega (arith, is_placed.1, found.1))
 
   -- the records of a sequence end on it
-  within : (s : ℕ) (q : RecordValue) → Mem q (group false s false rows) → (q.start < q.stop) × (q.stop ≤ sequence_length g s)
+  pub within : (s : ℕ) (q : RecordValue) → Mem q (group false s false rows) → (q.start < q.stop) × (q.stop ≤ sequence_length g s)
   within s q m =
       let both = group-in false s false rows q m in
       let is_placed = all-mem (IsOnGenome g) rows lie q both.0 in

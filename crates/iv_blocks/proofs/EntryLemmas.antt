@@ -110,7 +110,7 @@ entry-found (x ∷ entries) e (inr m) none = go (λ missed. entry-found entries 
     go rest false is = rest (sym (cond-false (is_at (key_cmp e.0) x.0) _ _ is) ∙ none)
 
 -- each later key is after the first
-later-keys : (k : Key) (entries : Entries) → AllByRecursion (λ y. key_cmp k y ≡ Less) (keys_of entries) → (e : Key × Kept) → Mem e entries → key_cmp k e.0 ≡ Less
+pub later-keys : (k : Key) (entries : Entries) → AllByRecursion (λ y. key_cmp k y ≡ Less) (keys_of entries) → (e : Key × Kept) → Mem e entries → key_cmp k e.0 ≡ Less
 later-keys k [] all e m = absurd m
 later-keys k (x ∷ entries) all e (inl at) = ap (λ (y : Key × Kept). key_cmp k y.0) (sym at) ∙ all.0
 later-keys k (x ∷ entries) all e (inr m) = later-keys k entries all.1 e m
@@ -186,7 +186,7 @@ module _ (look : Key → Option Kept) (long : ℕ → ℕ) (entries : Entries) (
           (sym (values-some (λ q. option_map (λ v. ((s, t, q), v)) (look (s, t, q))) p ((s, t, p), v) (ap (option_map (λ v. ((s, t, p), v))) is)))
 
   -- no entry is past the end of a side
-  none-past : (s : ℕ) (t : Bool) (e : Key × Kept) → Mem e entries → e.0.0 ≡ s → e.0.1 ≡ t → long s ≤ e.0.2 → ⊥
+  pub none-past : (s : ℕ) (t : Bool) (e : Key × Kept) → Mem e entries → e.0.0 ≡ s → e.0.1 ≡ t → long s ≤ e.0.2 → ⊥
   none-past s t e m rank side high =
       let key : e.0 ≡ (s, t, e.0.2) = rw (rank, side) refl in
       entry-found entries e m (found e.0 ∙ ap look key ∙ past s t e.0.2 high)

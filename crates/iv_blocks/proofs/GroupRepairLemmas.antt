@@ -23,13 +23,15 @@ use Rattle.iv_blocks.specs.Inside.Groups.{between, between_on, members_between, 
 use Rattle.iv_blocks.specs.KeptBlocks.{Key, key_cmp, Kept, Entries, KeptBlocks, AreBlocksOf, kept_at, kept_block, name_of, around, within_block, block_steps}
 use Rattle.iv_blocks.specs.Inside.Lookups.{kept_in, IsLastBlock}
 use Rattle.iv_blocks.specs.Inside.Insertion.{key_of, IsOfOther, AreInserted, with_block}
-use Rattle.iv_blocks.specs.Inside.Repairs.{without_block, KeepsOthers, JoinsBefore, JoinsAfter, count_from}
+use Rattle.iv_blocks.specs.Inside.Repairs.{StaysCovered, without_block, KeepsOthers, JoinsBefore, JoinsAfter, count_from}
 use Rattle.iv_blocks.specs.declared.group.Group.{Group}
 use Rattle.iv_blocks.specs.declared.options.BlockOptions.{BlockOptions}
+use Rattle.iv_cover.specs.declared.column.ColumnSummary.{ColumnSummary}
+use Rattle.iv_blocks.proofs.GroupSweeps.{count-parts, count-within}
 use Rattle.iv_blocks.proofs.Keys.{key-cases, look-put, look-put_other}
 use Rattle.iv_blocks.proofs.NameLemmas.{name-same}
 use Rattle.iv_blocks.proofs.TakeLemmas.{without-here, without-others}
-use Rattle.iv_blocks.proofs.RepairLemmas.{shown, IsBegun, found-some, found-block, found-ends, removed-right, begun, added-block, added-below, added-above, added-right, added-count, home-count}
+use Rattle.iv_blocks.proofs.RepairLemmas.{shown, IsBegun, found-some, found-block, found-ends, shown-less, removed-right, begun, added-block, added-below, added-above, added-right, added-count, home-count}
 
 -- ---- groups
 
@@ -275,6 +277,30 @@ module _ (o : BlockOptions) (names : List (List ℕ)) (g : Group) (r : RecordVal
     pub removed-found : ((x : ℕ) → x ≤ r.start → kept_in old.entries g x ≡ None) → ⊥
     removed-found none = found-some o.distance (name_of names g.rank) (listed o.summaries) G H r more_g lasting (kept_in old.entries g) (λ x. right.blocks (key_of g x)) none
 
+    -- nothing is changed if another record from its start on reaches as far, and nothing is kept of a block's records
+    pub removed-covered : (start stop : ℕ) → start ≡ r.start → stop ≡ r.stop → StaysCovered o g less start stop → AreBlocksOf o names less old.entries
+    removed-covered start stop at_start at_stop stays = record {
+      ordered = right.ordered;
+      blocks = λ k. elim (key-cases g k) [
+        | inl at ↦ right.blocks k ∙ ap (kept_at o names rows) at ∙ same k.2 ∙ ap (kept_at o names less) (sym at)
+        | inr other ↦ right.blocks k ∙ kept-other k other
+      ];
+    }
+      where
+        q : RecordValue
+        q = stays.first
+
+        here : Mem q G
+        here =
+            let m : Mem q (members_between g start stop less) = subst (λ (l : List RecordValue). Mem q l) (sym stays.members) (inl refl) in
+            let is = mem-filter (λ p. is_in_group (is_apart g.side) g.rank (is_minus g.side) p && starts_between start stop p) less q m in
+            let both = and_parts (is_in_group (is_apart g.side) g.rank (is_minus g.side) q) (starts_between start stop q) is.1 in
+            mem-filter_from (is_in_group o.stranded g.rank (is_minus g.side)) less q is.0 (ap (λ (s : Bool). is_in_group s g.rank (is_minus g.side) q) (sym edit.apart) ∙ both.0)
+
+        same : (x : ℕ) → kept_at o names rows (key_of g x) ≡ kept_at o names less (key_of g x)
+        same x = shown-less o.distance (name_of names g.rank) (listed o.summaries) G H r more_g lasting q here (stays.starts ∙ at_start) (omega (arith, stays.reaches, at_stop))
+            (λ s a b. subst (λ (l : List ColumnSummary). kept_block (name_of names g.rank) l (s, a) ≡ kept_block (name_of names g.rank) l (s, b)) (sym stays.plain) refl) x
+
     module _ (b : ℕ × ℕ) (last : IsLastBlock (kept_in old.entries g) r.start b) where
       block_is : IsBlock start_of stop_of o.distance H b.0 b.1
       block_is = found-block o.distance (name_of names g.rank) (listed o.summaries) G H r more_g lasting (kept_in old.entries g) (λ x. right.blocks (key_of g x)) b last
@@ -291,13 +317,36 @@ module _ (o : BlockOptions) (names : List (List ℕ)) (g : Group) (r : RecordVal
           let range = starts_in-true start_of stop_of o.distance b.0 b.1 q both.1 in
           stops_within start_of stop_of o.distance H b.0 b.1 block_is q here (omega (arith, range.1)))
 
-      pub removed-takes : (m0 m1 m2 m3 : ℕ) → rows ≡ added less r → TakesUpTo m0 m1 1 → TakesUpTo m1 m2 1
-          → TakesUpTo m2 m3 (2 + 5 * length (between_on g.rank b.0 b.1 less)) → TakesUpTo m0 m3 (block_steps o rows r)
-      removed-takes m0 m1 m2 m3 rows_are first second third =
+      -- those that start within r are some of those that start within its block
+      own-within : length (between_on g.rank r.start r.stop less) ≤ length (between_on g.rank b.0 b.1 less)
+      own-within =
+          let long = lasting r more_g.added in
+          omega (
+            arith,
+            count-within g.rank r.start r.stop b.1 less (omega (arith, long)) ends,
+            count-parts g.rank b.0 r.start b.1 less last.within (omega (arith, long, ends)),
+          )
+
+      pub covered-takes : (start stop m0 m1 m2 : ℕ) → start ≡ r.start → stop ≡ r.stop → rows ≡ added less r → TakesUpTo m0 m1 1
+          → TakesUpTo m1 m2 (2 + length (between_on g.rank start stop less)) → TakesUpTo m0 m2 (block_steps o rows r)
+      covered-takes start stop m0 m1 m2 at_start at_stop rows_are first second =
           let all = around-is b.0 b.1 block_is last.within (omega (arith, ends, lasting r more_g.added)) in
           let fewer = added-fewer (λ q. (q.seq == g.rank) && starts_between b.0 b.1 q) less r in
           let same = ap (λ (l : List RecordValue). length (between_on g.rank b.0 b.1 l)) rows_are in
-          record { no_less = omega (arith, first, second, third); at_most = omega (arith, first, second, third, all, fewer, same) }
+          let here : length (between_on g.rank start stop less) ≡ length (between_on g.rank r.start r.stop less) =
+          ap (λ (n : ℕ). length (between_on g.rank n stop less)) at_start ∙ ap (λ (n : ℕ). length (between_on g.rank r.start n less)) at_stop in
+          record { no_less = omega (arith, first, second); at_most = omega (arith, first, second, all, fewer, same, here, own-within) }
+
+      pub removed-takes : (start stop m0 m1 m2 m3 m4 : ℕ) → start ≡ r.start → stop ≡ r.stop → rows ≡ added less r → TakesUpTo m0 m1 1
+          → TakesUpTo m1 m2 (2 + length (between_on g.rank start stop less)) → TakesUpTo m2 m3 1
+          → TakesUpTo m3 m4 (2 + 5 * length (between_on g.rank b.0 b.1 less)) → TakesUpTo m0 m4 (block_steps o rows r)
+      removed-takes start stop m0 m1 m2 m3 m4 at_start at_stop rows_are zeroth look second third =
+          let all = around-is b.0 b.1 block_is last.within (omega (arith, ends, lasting r more_g.added)) in
+          let fewer = added-fewer (λ q. (q.seq == g.rank) && starts_between b.0 b.1 q) less r in
+          let same = ap (λ (l : List RecordValue). length (between_on g.rank b.0 b.1 l)) rows_are in
+          let here : length (between_on g.rank start stop less) ≡ length (between_on g.rank r.start r.stop less) =
+          ap (λ (n : ℕ). length (between_on g.rank n stop less)) at_start ∙ ap (λ (n : ℕ). length (between_on g.rank r.start n less)) at_stop in
+          record { no_less = omega (arith, zeroth, look, second, third); at_most = omega (arith, zeroth, look, second, third, all, fewer, same, here, own-within) }
 
       pub removed-all : (new : KeptBlocks) → old.options ≡ o → AreInserted g names (between b.0 b.1 less) (without_block old g b.0) new → AreBlocksOf o names less new.entries
       removed-all new options put = record {

@@ -27,3 +27,5 @@ pub mod ClusterTexts
 pub mod SideLemmas
 pub mod RoomLemmas
 pub mod TextLemmas
+pub mod RegionLemmas
+pub mod GapRegionLemmas

@@ -22,7 +22,7 @@ same-bool true false e = cc
 same-bool true true e = refl
 
 -- within a group keys compare by their starts
-key_cmp-group : (rank : ℕ) (minus : Bool) (a b : ℕ) → key_cmp (rank, minus, a) (rank, minus, b) ≡ nat_cmp a b
+pub key_cmp-group : (rank : ℕ) (minus : Bool) (a b : ℕ) → key_cmp (rank, minus, a) (rank, minus, b) ≡ nat_cmp a b
 key_cmp-group rank minus a b = rw (tied_itself nat_cmp_total rank, tied_itself bool_cmp_total minus) refl
 
 reverse-bool : (a b : Bool) → bool_cmp a b ≡ Greater → bool_cmp b a ≡ Less
@@ -44,7 +44,7 @@ beside-before rank minus p k x beside e = go (nat_cmp rank x.0) refl (bool_cmp m
         rw before refl
 
 -- and one that comes after some key of this group comes after each
-beside-after : (rank : ℕ) (minus : Bool) (p k : ℕ) (x : Key) → (x.0 ≡ rank → x.1 ≡ minus → ⊥) → is_le (key_cmp (rank, minus, p) x) ≡ true → key_cmp (rank, minus, k) x ≡ Less
+pub beside-after : (rank : ℕ) (minus : Bool) (p k : ℕ) (x : Key) → (x.0 ≡ rank → x.1 ≡ minus → ⊥) → is_le (key_cmp (rank, minus, p) x) ≡ true → key_cmp (rank, minus, k) x ≡ Less
 beside-after rank minus p k x beside e = go (nat_cmp rank x.0) refl (bool_cmp minus x.1) refl
   where
     go : (a : Ordering) → nat_cmp rank x.0 ≡ a → (b : Ordering) → bool_cmp minus x.1 ≡ b → key_cmp (rank, minus, k) x ≡ Less

@@ -1,13 +1,13 @@
 -- What the blocks of a group are after a repair, over plain functions.
-use Rattle.std.proofs.Common.{◌≡◌, ◌⊎◌, inl, inr, ℕ, ◌+◌, ◌-◌, ◌<◌, ◌≤◌, false, if◌then◌else◌, ◌==◌, ◌&&◌, List, length, filter, Option, Some, None, refl, sym, ap, subst, ◌∙◌, arith, eq-eqb, ne_eqb}
+use Rattle.std.proofs.Common.{◌≡◌, ◌⊎◌, inl, inr, ℕ, ◌+◌, suc, ◌-◌, ◌<◌, ◌≤◌, false, if◌then◌else◌, ◌==◌, ◌&&◌, List, length, filter, Option, Some, None, refl, sym, ap, subst, ◌∙◌, arith, eq-eqb, ne_eqb}
 use Rattle.std.specs.Option.{option_map, option_or}
 use Rattle.std.proofs.lemmas.Bool.{cond-true, cond-false, cases_Bool, cases_lt, cases_eq, both_ways}
 use Rattle.iv_text.specs.RecordValue.{RecordValue}
 use Rattle.iv_cover.specs.Blocks.{is_block_start, block_stop, block_at}
 use Rattle.iv_cover.specs.TrackBlocks.{start_of, stop_of}
-use Rattle.iv_text.proofs.ListLemmas.{Mem, mem-filter, filter-weaker}
+use Rattle.iv_text.proofs.ListLemmas.{Mem, mem-filter, filter-weaker, same_tests}
 use Rattle.iv_cover.proofs.Groups.{HasOneMore}
-use Rattle.iv_cover.proofs.Cover.{Lasting, lasting-fewer, IsBlock, IsRun, Free, run-alone, run-first, run-all, covered-more, block_unique, block_at_start, block-test, block-stop, block_at-some, block_at-none, no_start-test, none_within, stops_within, same_outside, removed_within, starts_in, starts_in-true, starts_in-from, home, home-starts, home-le, home-last, home-in, stops, free-past_last, free-none}
+use Rattle.iv_cover.proofs.Cover.{Covered, StartsAt, start_from, start-test, Lasting, lasting-fewer, IsBlock, IsRun, Free, run-alone, run-first, run-all, covered-more, block_unique, block_at_start, block-test, block-stop, block_at-some, block_at-none, no_start-test, none_within, stops_within, same_outside, removed_within, starts_in, starts_in-true, starts_in-from, home, home-starts, home-le, home-last, home-in, stops, free-past_last, free-none}
 use Rattle.iv_cover.specs.declared.column.ColumnSummary.{ColumnSummary}
 use Rattle.iv_blocks.specs.KeptBlocks.{Kept, kept_block, within_block}
 use Rattle.iv_blocks.specs.Inside.Lookups.{IsLastBlock}
@@ -60,6 +60,57 @@ module _ (d : ℕ) (name : List ℕ) (summaries : List ColumnSummary) where
     home-count low to rows block above below =
         ap (λ (h : ℕ). length (filter (λ q. (q.seq == r.seq) && starts_in start_of stop_of d h (block_stop start_of stop_of d H h) q) rows)) (home-in start_of stop_of d H low to block r more.added above below)
         ∙ ap (λ (s : ℕ). length (filter (λ q. (q.seq == r.seq) && starts_in start_of stop_of d low s q) rows)) (block-stop start_of stop_of d H low to lasting block)
+
+    -- ---- r is taken away, and another record from its start on reaches as far
+
+    module _ (q : RecordValue) (m : Mem q G) (at : q.start ≡ r.start) (as_far : r.stop ≤ q.stop) where
+      covered-less : (y : ℕ) → Covered start_of stop_of d H y → Covered start_of stop_of d G y
+      covered-less y covered = elim (more.cases covered.0 covered.1) [
+        | inl is ↦ (q, m, omega (arith, at, covered.2, ap start_of is), omega (arith, as_far, covered.3, ap stop_of is))
+        | inr old ↦ (covered.0, old, covered.2, covered.3)
+      ]
+
+      free-less : (y : ℕ) → Free start_of stop_of d H y → Free start_of stop_of d G y
+      free-less y free p n before = free p (more.old p n) before
+
+      free-more : (y : ℕ) → Free start_of stop_of d G y → Free start_of stop_of d H y
+      free-more y free p n before = elim (more.cases p n) [
+        | inl is ↦ let far = free q m (omega (arith, at, ap start_of is, before)) in omega (arith, far, as_far, ap stop_of is)
+        | inr old ↦ free p old before
+      ]
+
+      starts-less : (x : ℕ) → StartsAt start_of stop_of d H x → StartsAt start_of stop_of d G x
+      starts-less x starts = elim (more.cases starts.0 starts.1) [
+        | inl is ↦ (q, m, at ∙ ap start_of is ∙ starts.2)
+        | inr old ↦ (starts.0, old, starts.2)
+      ]
+
+      block-less : (x s : ℕ) → IsBlock start_of stop_of d H x s → IsBlock start_of stop_of d G x s
+      block-less x s b = record {
+        starts = starts-less x b.starts;
+        free = free-less x b.free;
+        long = b.long;
+        covered = λ y above below. covered-less y (b.covered y above below);
+        ends = free-less (suc (s + d)) b.ends;
+      }
+
+      start-less : (x : ℕ) → is_block_start start_of stop_of d H x ≡ is_block_start start_of stop_of d G x
+      start-less x = same_tests _ _
+          (λ e. let both = start_from start_of stop_of d H x e in start-test start_of stop_of d G x (starts-less x both.0) (free-less x both.1))
+          (λ e. let both = start_from start_of stop_of d G x e in
+          start-test start_of stop_of d H x (both.0.0, more.old both.0.0 both.0.1, both.0.2) (free-more x both.1))
+
+      -- if nothing is kept of a block's records, what is kept stays as it is
+      pub shown-less : ((s : ℕ) (a b : List RecordValue) → kept_block name summaries (s, a) ≡ kept_block name summaries (s, b)) → (x : ℕ) → shown H x ≡ shown G x
+      shown-less plain x = elim (cases_Bool (is_block_start start_of stop_of d H x)) [
+        | inl starts ↦
+            let block = block_at_start start_of stop_of d H x lasting starts in
+            let stop : ℕ = block_stop start_of stop_of d H x in
+            shown-some H x stop lasting block
+            ∙ ap (λ (k : Kept). Some k) (plain stop (filter (starts_in start_of stop_of d x stop) H) (filter (starts_in start_of stop_of d x stop) G))
+            ∙ sym (shown-some G x stop lasting_G (block-less x stop block))
+        | inr none ↦ shown-none H x none ∙ sym (shown-none G x (sym (start-less x) ∙ none))
+      ]
 
     -- ---- r is taken away
 

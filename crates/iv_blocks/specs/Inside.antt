@@ -9,3 +9,5 @@ pub mod Repairs
 pub mod BlockCursor
 pub mod BlockSweeps
 pub mod MergeSweeps
+pub mod RegionRows
+pub mod Regions

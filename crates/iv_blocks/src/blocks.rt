@@ -92,7 +92,8 @@ impl<A: Allocator + Copy> Kept<A> for Blocks<A> {
         self.insert_block(track, genome, group, low, high, meter)
     }
 
-    /// The record's block is taken out, and the others that were in it are inserted as blocks again.
+    /// The record's block is taken out, and the others that were in it are inserted as blocks again. Without summaries, nothing is
+    /// changed if another record from its start on reaches as far.
     fn removed(
         &mut self,
         track: &Track<A>,
@@ -103,12 +104,15 @@ impl<A: Allocator + Copy> Kept<A> for Blocks<A> {
         let Some(group) = Group::of(self.options.stranded, row) else {
             return Ok(());
         };
-        let (start, _) = bounds_of(row);
-        let Some((start, stop)) = self.before(group, start, meter) else {
+        let (start, end) = bounds_of(row);
+        let Some((low, high)) = self.before(group, start, meter) else {
             unreachable!()
         };
-        self.take(group, start, meter);
-        self.insert_blocks(track, genome, group, start, stop, meter)
+        if self.stays_covered(track, group, start, end, meter) {
+            return Ok(());
+        }
+        self.take(group, low, meter);
+        self.insert_blocks(track, genome, group, low, high, meter)
     }
 }
 

@@ -91,7 +91,12 @@ fn put_sequence<B: BlocksAhead, S: Sink>(
 }
 
 /// Puts the row of a gap, as [`put_interval`] does, if it has a position.
-fn put_gap<S: Sink>(name: &[u8], start: u64, stop: u64, sink: &mut S) -> Result<(), WriteFault>
+pub(crate) fn put_gap<S: Sink>(
+    name: &[u8],
+    start: u64,
+    stop: u64,
+    sink: &mut S,
+) -> Result<(), WriteFault>
     ensures { Puts (S.state sink.old) (S.state sink.new) result (flat_map (gap_row name.now) (gap_between start stop)) }
 {
     if start >= stop {

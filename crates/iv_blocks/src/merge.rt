@@ -44,7 +44,7 @@ impl<A: Allocator + Copy> Blocks<A> {
 const MOST_TOGETHER: usize = 149;
 
 /// Puts the row of a block: name, start, stop and results.
-fn put_block<A: Allocator, S: Sink>(
+pub(crate) fn put_block<A: Allocator, S: Sink>(
     name: &[u8],
     start: u32,
     block: &KeptBlock<A>,

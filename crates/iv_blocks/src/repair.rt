@@ -11,7 +11,7 @@ ghost use Rattle.iv_blocks.specs.Inside.Groups.{between, between_on, is_apart, i
 ghost use Rattle.iv_blocks.specs.KeptBlocks.{key_cmp};
 ghost use Rattle.iv_blocks.specs.Inside.Lookups.{kept_in, IsLastBlock, IsFirstBlock};
 ghost use Rattle.iv_blocks.specs.Inside.Insertion.{AreInserted, AreInsertedOn, key_of, with_block};
-ghost use Rattle.iv_blocks.specs.Inside.Repairs.{without_block, KeepsOthers, JoinsBefore, JoinsAfter, count_from};
+ghost use Rattle.iv_blocks.specs.Inside.Repairs.{without_block, StaysCovered, KeepsOthers, JoinsBefore, JoinsAfter, count_from};
 
 use crate::blocks::{Blocks, bounds_of};
 use crate::group::{Group, Key, Members, Side};
@@ -111,6 +111,35 @@ impl<A: Allocator + Copy> Blocks<A> {
         u64::from(stop) + u64::from(distance)
     }
 
+    /// Whether the blocks are the same without one record with these bounds: nothing is kept of the records in them, and the first
+    /// of the group's other records from its start on begins there too, and reaches as far, as a copy does.
+    ///
+    /// At most 2 steps, and one for each other record, of any strand, that starts within these bounds.
+    pub(crate) fn stays_covered(
+        &self,
+        track: &Track<A>,
+        group: Group,
+        start: u32,
+        stop: u32,
+        meter: &mut Meter,
+    ) -> bool
+        ensures covered { result ≡ true → StaysCovered self.now.options group track.now.rows start stop }
+        ensures steps { TakesUpTo meter.old meter.new (2 + length (between_on group.rank start stop track.now.rows)) }
+    {
+        if !self.options.summaries.as_slice().is_empty() {
+            return false;
+        }
+        let mut members = Members::of(track, group, start, stop, meter);
+        let Some(first) = members.next(meter) else {
+            return false;
+        };
+        let (first_start, first_stop) = bounds_of(&first.as_ref());
+        if first_start != start {
+            return false;
+        }
+        first_stop >= stop
+    }
+
     /// Takes out the block of the group that starts here, if there is one. One step.
     pub(crate) fn take(&mut self, group: Group, start: u32, meter: &mut Meter)
         ensures taken { self.new ≡ without_block self.old group start }
@@ -173,7 +202,11 @@ impl<A: Allocator + Copy> Blocks<A> {
             return Ok(());
         };
         let (mut start, mut stop) = bounds_of(&first.as_ref());
-        while let Some(row) = members.next(meter) {
+        // None of them stops past `to`: once the block does there, all others are in it.
+        'row: while stop < to {
+            let Some(row) = members.next(meter) else {
+                break;
+            };
             let (next_start, next_stop) = bounds_of(&row.as_ref());
             if u64::from(next_start) <= u64::from(stop) + distance {
                 stop = stop.max(next_stop);
@@ -237,7 +270,11 @@ impl<A: Allocator + Copy> Blocks<A> {
 }
 
 /// Start and stop of the block that is kept at a key, if it is one of the group.
-fn of_group<A: Allocator>(group: Group, key: Key, block: &KeptBlock<A>) -> Option<(u32, u32)>
+pub(crate) fn of_group<A: Allocator>(
+    group: Group,
+    key: Key,
+    block: &KeptBlock<A>,
+) -> Option<(u32, u32)>
     ensures { MatchOption result (key.0 ≡ group.rank → key.1 ≢ is_minus group.side)
         (λ b. (key ≡ key_of group b.0) × (b.1 ≡ block.now.stop)) }
 {

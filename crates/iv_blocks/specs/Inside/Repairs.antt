@@ -1,5 +1,5 @@
 -- Blocks of one group by position, before and after an edit.
-use Rattle.std.specs.Prelude.{◌≡◌, ◌⊎◌, ℕ, zero, suc, ◌+◌, ◌<◌, ◌≤◌, ◌==◌, max, Option, None, Some, if◌then◌else◌}
+use Rattle.std.specs.Prelude.{◌≡◌, ◌⊎◌, ℕ, zero, suc, ◌+◌, ◌<◌, ◌≤◌, ◌==◌, max, List, [], ◌∷◌, Option, None, Some, if◌then◌else◌}
 use Rattle.std.specs.Option.{is_some}
 use Rattle.std.specs.Map.{remove_entry}
 use Rattle.std.specs.BTreeMap.{is_at}
@@ -8,10 +8,23 @@ use Rattle.iv_blocks.specs.KeptBlocks.{Key, key_cmp, Kept, KeptBlocks}
 use Rattle.iv_blocks.specs.Inside.Lookups.{IsLastBlock}
 use Rattle.iv_blocks.specs.Inside.Insertion.{key_of, IsOfOther}
 use Rattle.iv_blocks.specs.declared.group.Group.{Group}
+use Rattle.iv_blocks.specs.declared.options.BlockOptions.{BlockOptions}
+use Rattle.iv_blocks.specs.Groups.{listed}
+use Rattle.iv_blocks.specs.Inside.Groups.{members_between}
+use Rattle.iv_text.specs.RecordValue.{RecordValue}
 
 -- what is kept, without the group's block that starts at x
 abbrev pub without_block : KeptBlocks → Group → ℕ → KeptBlocks
 without_block kept g x = record kept { entries = remove_entry (is_at (key_cmp (key_of g x))) kept.entries }
+
+-- nothing is kept of the records in a block, and the first of the group's that start within these bounds has all of them
+pub record StaysCovered (o : BlockOptions) (g : Group) (rows : List RecordValue) (start stop : ℕ) : Type 0 where
+  pub plain : listed o.summaries ≡ []
+  pub first : RecordValue
+  pub rest : List RecordValue
+  pub members : members_between g start stop rows ≡ first ∷ rest
+  pub starts : first.start ≡ start
+  pub reaches : stop ≤ first.stop
 
 -- nothing except blocks of this group may have changed
 pub record KeepsOthers (g : Group) (old new : KeptBlocks) : Type 0 where

@@ -1,4 +1,4 @@
-use Rattle.std.proofs.Common.{◌≤◌, ◌∙◌, ℕ, refl, ap, sym, subst}
+use Rattle.std.proofs.Common.{◌≡◌, ◌≤◌, ◌∙◌, ℕ, refl, ap, sym, subst}
 use Rattle.std.proofs.lemmas.Result.{on_ok_weaker}
 use Rattle.iv_text.specs.Named.{names_of}
 use Rattle.iv_text.specs.Ordered.{added}
@@ -8,7 +8,7 @@ use Rattle.iv_blocks.specs.Inside.Lookups.{kept_in, IsLastBlock}
 use Rattle.iv_blocks.specs.Inside.Insertion.{AreInserted}
 use Rattle.iv_blocks.specs.Inside.Repairs.{without_block}
 use Rattle.iv_blocks.specs.declared.options.BlockOptions.{BlockOptions}
-use Rattle.iv_blocks.proofs.GroupRepairLemmas.{IsEdit, edit-removed, beside-removed, removed-found, removed-stops, removed-takes, removed-all}
+use Rattle.iv_blocks.proofs.GroupRepairLemmas.{IsEdit, edit-removed, beside-removed, removed-found, removed-stops, removed-takes, removed-covered, covered-takes, removed-all}
 use Rattle.iv_blocks.proofs.blocks.BlocksKept.removed.Given.{Over}
 use Rattle.iv_blocks.proofs.blocks.BlocksKept.removed.Goals as goal
 
@@ -33,9 +33,9 @@ edit g c =
     edit-removed a.self.now.options c.self.inside.options c.in-Some.group a.row.now a.track.now.rows a.genome.now a.track.now.width
     (ap (λ (b : KeptBlocks). b.options) c.self.view_is) c.in-Some.ensures c.requires.fit c.requires.fits
 
-last : (g : Over) (c : goal.After-insert_blocks-arg-2-1 g) → IsLastBlock (kept_in c.args.self.now.entries c.in-Some.group) c.args.row.now.start (c.in-Some-before.start, c.in-Some-before.stop)
+last : (g : Over) (c : goal.After-insert_blocks-arg-2-1 g) → IsLastBlock (kept_in c.args.self.now.entries c.in-Some.group) c.args.row.now.start (c.in-Some-before.low, c.in-Some-before.high)
 last g c =
-    subst (λ (p : ℕ × ℕ). IsLastBlock (kept_in c.args.self.now.entries c.in-Some.group) p.0 (c.in-Some-before.start, c.in-Some-before.stop)) c.bounds_of-start.ensures c.in-Some-before.ensures.found
+    subst (λ (p : ℕ × ℕ). IsLastBlock (kept_in c.args.self.now.entries c.in-Some.group) p.0 (c.in-Some-before.low, c.in-Some-before.high)) c.bounds_of-start.ensures c.in-Some-before.ensures.found
 
 pub insert_blocks-requires-clause-apart : goal.insert_blocks-requires-clause-apart
 insert_blocks-requires-clause-apart g c =
@@ -46,28 +46,53 @@ pub insert_blocks-requires-clause-stops : goal.insert_blocks-requires-clause-sto
 insert_blocks-requires-clause-stops g c =
     let a = c.args in
     removed-stops a.self.now.options (names_of a.genome.now) c.in-Some.group a.row.now a.track.now.rows (added a.track.now.rows a.row.now) (edit g c) a.self.now c.requires.right
-    (c.in-Some-before.start, c.in-Some-before.stop) (last g c)
+    (c.in-Some-before.low, c.in-Some-before.high) (last g c)
 
 pub returns-clause-right : goal.returns-clause-right
 returns-clause-right g c =
     let a = c.args in
     on_ok_weaker c.insert_blocks.result
-    (λ (put : AreInserted c.in-Some.group (names_of a.genome.now) (between c.in-Some-before.start c.in-Some-before.stop a.track.now.rows) (without_block a.self.now c.in-Some.group c.in-Some-before.start) c.insert_blocks.new.self).
+    (λ (put : AreInserted c.in-Some.group (names_of a.genome.now) (between c.in-Some-before.low c.in-Some-before.high a.track.now.rows) (without_block a.self.now c.in-Some.group c.in-Some-before.low) c.insert_blocks.new.self).
     subst (λ (o : BlockOptions). AreBlocksOf o (names_of a.genome.now) a.track.now.rows c.insert_blocks.new.self.entries) (sym put.options)
     (removed-all a.self.now.options (names_of a.genome.now) c.in-Some.group a.row.now a.track.now.rows (added a.track.now.rows a.row.now) (edit g c.before) a.self.now c.requires.right
-    (c.in-Some-before.start, c.in-Some-before.stop) (last g c.before) c.insert_blocks.new.self refl put))
+    (c.in-Some-before.low, c.in-Some-before.high) (last g c.before) c.insert_blocks.new.self refl put))
     (rw c.take.ensures.taken at c.insert_blocks.ensures.ok)
 
 pub returns-clause-built_for : goal.returns-clause-built_for
 returns-clause-built_for g c =
     on_ok_weaker c.insert_blocks.result
-    (λ (put : AreInserted c.in-Some.group (names_of c.args.genome.now) (between c.in-Some-before.start c.in-Some-before.stop c.args.track.now.rows) (without_block c.args.self.now c.in-Some.group c.in-Some-before.start) c.insert_blocks.new.self).
+    (λ (put : AreInserted c.in-Some.group (names_of c.args.genome.now) (between c.in-Some-before.low c.in-Some-before.high c.args.track.now.rows) (without_block c.args.self.now c.in-Some.group c.in-Some-before.low) c.insert_blocks.new.self).
     put.options)
     (rw c.take.ensures.taken at c.insert_blocks.ensures.ok)
 
 pub returns-clause-steps : goal.returns-clause-steps
 returns-clause-steps g c =
     let a = c.args in
+    let starts = ap (λ (p : ℕ × ℕ). p.0) c.bounds_of-start.ensures in
+    let stops = ap (λ (p : ℕ × ℕ). p.1) c.bounds_of-start.ensures in
     removed-takes a.self.now.options (names_of a.genome.now) c.in-Some.group a.row.now a.track.now.rows (added a.track.now.rows a.row.now) (edit g c.before) a.self.now c.requires.right
-    (c.in-Some-before.start, c.in-Some-before.stop) (last g c.before) a.meter.now c.before-2.new.meter c.take.new.meter c.insert_blocks.new.meter refl
-    c.before-2.ensures.steps c.take.ensures.steps c.insert_blocks.ensures.steps
+    (c.in-Some-before.low, c.in-Some-before.high) (last g c.before) c.bounds_of-start.result.0 c.bounds_of-start.result.1
+    a.meter.now c.before-2.new.meter c.stays_covered.new.meter c.take.new.meter c.insert_blocks.new.meter starts stops refl
+    c.before-2.ensures.steps c.stays_covered.ensures.steps c.take.ensures.steps c.insert_blocks.ensures.steps
+
+pub returns-then-stays_covered-clause-right : goal.returns-then-stays_covered-clause-right
+returns-then-stays_covered-clause-right g c =
+    let a = c.args in
+    let options : c.self.inside.options ≡ a.self.now.options = ap (λ (b : KeptBlocks). b.options) c.self.view_is in
+    let is : IsEdit a.self.now.options c.in-Some.group a.row.now a.track.now.rows (added a.track.now.rows a.row.now) =
+    edit-removed a.self.now.options c.self.inside.options c.in-Some.group a.row.now a.track.now.rows a.genome.now a.track.now.width options c.in-Some.ensures c.requires.fit c.requires.fits in
+    removed-covered a.self.now.options (names_of a.genome.now) c.in-Some.group a.row.now a.track.now.rows (added a.track.now.rows a.row.now) is a.self.now c.requires.right
+    c.bounds_of-start.result.0 c.bounds_of-start.result.1 (ap (λ (p : ℕ × ℕ). p.0) c.bounds_of-start.ensures) (ap (λ (p : ℕ × ℕ). p.1) c.bounds_of-start.ensures)
+    (c.stays_covered.ensures.covered c.if-stays_covered.true)
+
+pub returns-then-stays_covered-clause-steps : goal.returns-then-stays_covered-clause-steps
+returns-then-stays_covered-clause-steps g c =
+    let a = c.args in
+    let options : c.self.inside.options ≡ a.self.now.options = ap (λ (b : KeptBlocks). b.options) c.self.view_is in
+    let is : IsEdit a.self.now.options c.in-Some.group a.row.now a.track.now.rows (added a.track.now.rows a.row.now) =
+    edit-removed a.self.now.options c.self.inside.options c.in-Some.group a.row.now a.track.now.rows a.genome.now a.track.now.width options c.in-Some.ensures c.requires.fit c.requires.fits in
+    covered-takes a.self.now.options (names_of a.genome.now) c.in-Some.group a.row.now a.track.now.rows (added a.track.now.rows a.row.now) is a.self.now c.requires.right
+    (c.in-Some-before.low, c.in-Some-before.high)
+    (subst (λ (p : ℕ × ℕ). IsLastBlock (kept_in a.self.now.entries c.in-Some.group) p.0 (c.in-Some-before.low, c.in-Some-before.high)) c.bounds_of-start.ensures c.in-Some-before.ensures.found)
+    c.bounds_of-start.result.0 c.bounds_of-start.result.1 a.meter.now c.before-2.new.meter c.stays_covered.new.meter
+    (ap (λ (p : ℕ × ℕ). p.0) c.bounds_of-start.ensures) (ap (λ (p : ℕ × ℕ). p.1) c.bounds_of-start.ensures) refl c.before-2.ensures.steps c.stays_covered.ensures.steps

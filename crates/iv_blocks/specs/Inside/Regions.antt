@@ -1,0 +1,37 @@
+-- The blocks of one group that may share a position with a region. This is the state of a print, as seen by its proof.
+use Rattle.std.specs.Prelude.{◌≡◌, ◌⊎◌, ℕ, ◌<◌, ◌≤◌, ◌++◌, nat_lt, Bool, false, List, [], filter, Option, None, Some, codes, decimal, if◌then◌else◌}
+use Rattle.iv_text.specs.Genome.{Sequences, sequence_length}
+use Rattle.iv_text.specs.RecordValue.{RecordValue}
+use Rattle.iv_track.specs.Entries.{value_at}
+use Rattle.iv_cover.specs.Depth.{depth}
+use Rattle.iv_cover.specs.Runs.{Run, empty_runs}
+use Rattle.iv_blocks.specs.ComplementRows.{is_shown}
+use Rattle.iv_blocks.specs.KeptBlocks.{Entries, Kept, key_cmp}
+use Rattle.iv_blocks.specs.Inside.RegionRows.{shares}
+
+-- the blocks before `low` stop at the position or before it, and those after `low` stop past it
+pub record ReachesFrom (look : ℕ → Option Kept) (position low : ℕ) : Type 0 where
+  pub before : (x : ℕ) (b : Kept) → x < low → look x ≡ Some b → b.stop ≤ position
+  pub after : (x : ℕ) (b : Kept) → low < x → look x ≡ Some b → position < b.stop
+
+-- the row of a block that starts at x, if it stops past the position
+abbrev pub row_past : ℕ → List ℕ → ℕ → Kept → List ℕ
+row_past position name x b =
+    if nat_lt position b.stop
+    then name ++ codes "\t" ++ decimal x ++ codes "\t" ++ decimal b.stop ++ b.results ++ codes "\n"
+    else []
+
+-- what is kept of the block of a sequence that starts at x, if there is one and strands are together
+abbrev pub kept_on : Entries → ℕ → ℕ → Option Kept
+kept_on entries rank x = value_at key_cmp entries (rank, false, x)
+
+-- a gap may begin at `low`: a block stops there, or it is the start of the sequence and no block starts there
+abbrev pub BeginsGap : (ℕ → Option Kept) → ℕ → Type 0
+BeginsGap look low = ((low ≡ 0) × (look 0 ≡ None)) ⊎ ((x : ℕ) × (b : Kept) × (look x ≡ Some b) × (low ≡ b.stop))
+
+-- the gaps from `low` on that share a position with the region; none if the sequence isn't shown
+abbrev pub gaps_from : Bool → Sequences → List RecordValue → ℕ → ℕ → ℕ → ℕ → List Run
+gaps_from limited g rows rank start stop low =
+    if is_shown limited rows rank
+    then filter (λ gap. shares start stop gap.start gap.stop) (empty_runs (depth rows rank) low (sequence_length g rank))
+    else []
