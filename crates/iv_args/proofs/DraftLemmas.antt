@@ -86,6 +86,7 @@ said_of said option.First = said.first
 said_of said option.Other = said.other
 said_of said option.Bases = said.bases
 said_of said option.Width = said.width
+said_of said option.Limit = said.limit
 
 -- the same as a list of one value or none
 abbrev pub listed : PartialPlan → RunOption → List (List ℕ)
@@ -109,6 +110,7 @@ set_to option.First value said = record said { first = Some value }
 set_to option.Other value said = record said { other = Some value }
 set_to option.Bases value said = record said { bases = Some value }
 set_to option.Width value said = record said { width = Some value }
+set_to option.Limit value said = record said { limit = Some value }
 
 unless-some : (o : Option (List ℕ)) (said new : PartialPlan) → unless_given o said ≡ Some new → (o ≡ None) × (new ≡ said)
 unless-some None said new h = (refl, cc)
@@ -121,6 +123,7 @@ set-new option.First old new value h = unless-some old.first (record old { first
 set-new option.Other old new value h = unless-some old.other (record old { other = Some value }) new h
 set-new option.Bases old new value h = unless-some old.bases (record old { bases = Some value }) new h
 set-new option.Width old new value h = unless-some old.width (record old { width = Some value }) new h
+set-new option.Limit old new value h = unless-some old.limit (record old { limit = Some value }) new h
 
 -- the value that was not given is given
 given : (old : Option (List ℕ)) (value : List ℕ) → old ≡ None → value ∷ [] ≡ option_to_list old ++ (value ∷ [])
@@ -137,26 +140,37 @@ set-says option.Sizes option.First old value none = kept old.first
 set-says option.Sizes option.Other old value none = kept old.other
 set-says option.Sizes option.Bases old value none = kept old.bases
 set-says option.Sizes option.Width old value none = kept old.width
+set-says option.Sizes option.Limit old value none = kept old.limit
 set-says option.First option.Sizes old value none = kept old.sizes
 set-says option.First option.First old value none = given old.first value none
 set-says option.First option.Other old value none = kept old.other
 set-says option.First option.Bases old value none = kept old.bases
 set-says option.First option.Width old value none = kept old.width
+set-says option.First option.Limit old value none = kept old.limit
 set-says option.Other option.Sizes old value none = kept old.sizes
 set-says option.Other option.First old value none = kept old.first
 set-says option.Other option.Other old value none = given old.other value none
 set-says option.Other option.Bases old value none = kept old.bases
 set-says option.Other option.Width old value none = kept old.width
+set-says option.Other option.Limit old value none = kept old.limit
 set-says option.Bases option.Sizes old value none = kept old.sizes
 set-says option.Bases option.First old value none = kept old.first
 set-says option.Bases option.Other old value none = kept old.other
 set-says option.Bases option.Bases old value none = given old.bases value none
 set-says option.Bases option.Width old value none = kept old.width
+set-says option.Bases option.Limit old value none = kept old.limit
 set-says option.Width option.Sizes old value none = kept old.sizes
 set-says option.Width option.First old value none = kept old.first
 set-says option.Width option.Other old value none = kept old.other
 set-says option.Width option.Bases old value none = kept old.bases
 set-says option.Width option.Width old value none = given old.width value none
+set-says option.Width option.Limit old value none = kept old.limit
+set-says option.Limit option.Sizes old value none = kept old.sizes
+set-says option.Limit option.First old value none = kept old.first
+set-says option.Limit option.Other old value none = kept old.other
+set-says option.Limit option.Bases old value none = kept old.bases
+set-says option.Limit option.Width old value none = kept old.width
+set-says option.Limit option.Limit old value none = given old.limit value none
 
 set-view : (asked : RunOption) (old : PartialPlan) (value : List ℕ) → (set_to asked value old).view ≡ old.view
 set-view option.Sizes old value = refl
@@ -164,6 +178,7 @@ set-view option.First old value = refl
 set-view option.Other old value = refl
 set-view option.Bases old value = refl
 set-view option.Width old value = refl
+set-view option.Limit old value = refl
 
 -- a setting that is taken gives its value and no other
 record IsSet (asked : RunOption) (value : List ℕ) (old new : PartialPlan) : Type 0 where
@@ -192,6 +207,7 @@ viewed-says option.First words old = refl
 viewed-says option.Other words old = refl
 viewed-says option.Bases words old = refl
 viewed-says option.Width words old = refl
+viewed-says option.Limit words old = refl
 
 -- ---- words that can be taken
 
@@ -272,6 +288,7 @@ refused option.First said value h = given_before said.first _ h
 refused option.Other said value h = given_before said.other _ h
 refused option.Bases said value h = given_before said.bases _ h
 refused option.Width said value h = given_before said.width _ h
+refused option.Limit said value h = given_before said.limit _ h
 
 -- a setting is of its own option
 own : (asked : RunOption) (value : List ℕ) (settings : List Setting) → values_of asked ((asked, value) ∷ settings) ≡ value ∷ values_of asked settings
@@ -280,6 +297,7 @@ own option.First value settings = refl
 own option.Other value settings = refl
 own option.Bases value settings = refl
 own option.Width value settings = refl
+own option.Limit value settings = refl
 
 twice : (asked : RunOption) (value : List ℕ) (old : PartialPlan) (settings : List Setting) → with_value asked value old ≡ None
     → length (listed old asked ++ values_of asked ((asked, value) ∷ settings)) ≤ 1 → ⊥

@@ -8,10 +8,10 @@ use Rattle.std.proofs.lemmas.List.Elements.{recursion_from_All}
 use Rattle.iv_args.specs.declared.subcommand.Subcommand.{Subcommand}
 use Rattle.iv_args.specs.declared.subcommand.RunOption.{RunOption}
 use Rattle.iv_args.specs.declared.subcommand.RunOption.TheVariants as option
-use Rattle.iv_args.specs.Words.{RunPlan, IsPlan, Setting, SplitWords, split_words, split_last, split_next, with_setting, with_words, run_of, option_of, takes_value, lead, values_of, is_option, width_said}
+use Rattle.iv_args.specs.Words.{RunPlan, IsPlan, Setting, SplitWords, split_words, split_last, split_next, with_setting, with_words, run_of, option_of, takes_value, lead, values_of, is_option, limit_said, width_said}
 use Rattle.iv_args.specs.Inside.Pieces.{Piece, piece_words, IsPiece}
 use Rattle.iv_args.proofs.DraftLemmas.{none≢some, some-same}
-use Rattle.iv_args.proofs.WordLemmas.{width-once, few-listed}
+use Rattle.iv_args.proofs.WordLemmas.{width-once, limit-once, few-listed}
 
 -- ---- what a piece adds to the parts of the words after it
 
@@ -77,6 +77,7 @@ option-same option.First option.First h = refl
 option-same option.Other option.Other h = refl
 option-same option.Bases option.Bases h = refl
 option-same option.Width option.Width h = refl
+option-same option.Limit option.Limit h = refl
 option-same _ _ h = absurd (false≢true h)
 
 -- the settings of an option
@@ -171,6 +172,7 @@ plan-alike word rest other plan is like = record {
   other = sym (like.2.values option.Other) ∙ is.other;
   bases = sym (like.2.values option.Bases) ∙ is.bases;
   width = ap width_said (sym (like.2.values option.Width)) ∙ is.width;
+  limit = ap limit_said (sym (like.2.values option.Limit)) ∙ is.limit;
   view = is.view ∙ ap (λ (w : List ℕ). lead plan.run w ++ is.parts.view) (head-is is.are) ∙ ap (λ (l : List (List ℕ)). lead plan.run word ++ l) like.2.view;
   has_other = is.has_other;
   has_bases = is.has_bases;
@@ -214,6 +216,7 @@ put-own option.First piece p = omega arith
 put-own option.Other piece p = omega arith
 put-own option.Bases piece p = omega arith
 put-own option.Width piece p = omega arith
+put-own option.Limit piece p = omega arith
 
 put-given : (k : RunOption) (o : Option RunOption) (piece : Piece) (p : SplitWords) → o ≡ Some k → count_of k (put o piece p) ≡ count_of k p + 1
 put-given k o piece p is = subst (λ (r : Option RunOption). count_of k (put r piece p) ≡ count_of k p + 1) (sym is) (put-own k piece p)
@@ -243,6 +246,7 @@ at-most-one words plan is option.First = omega (arith, ap (λ (l : List (List �
 at-most-one words plan is option.Other = omega (arith, ap (λ (l : List (List ℕ)). length l) is.other, few-listed plan.other)
 at-most-one words plan is option.Bases = omega (arith, ap (λ (l : List (List ℕ)). length l) is.bases, few-listed plan.bases)
 at-most-one words plan is option.Width = width-once (values_of option.Width is.parts.settings) plan.width is.width
+at-most-one words plan is option.Limit = limit-once (values_of option.Limit is.parts.settings) plan.limit is.limit
 
 map-some : (f : SplitWords → SplitWords) (o : Option SplitWords) (p : SplitWords) → option_map f o ≡ Some p → (r : SplitWords) × (f r ≡ p)
 map-some f None p is = absurd (none≢some p is)

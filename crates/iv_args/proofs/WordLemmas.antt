@@ -7,7 +7,7 @@ use Rattle.iv_text.specs.declared.fault.Fault.TheVariants as fault
 use Rattle.iv_args.specs.declared.subcommand.Subcommand.{Subcommand}
 use Rattle.iv_args.specs.declared.subcommand.RunOption.{RunOption}
 use Rattle.iv_args.specs.declared.subcommand.RunOption.TheVariants as option
-use Rattle.iv_args.specs.Words.{RunPlan, IsPlan, SplitWords, split_words, run_of, lead, values_of, width_said, needs_other, needs_bases, are_view_words}
+use Rattle.iv_args.specs.Words.{RunPlan, IsPlan, SplitWords, split_words, run_of, lead, values_of, limit_said, width_said, needs_other, needs_bases, are_view_words}
 use Rattle.iv_args.specs.Inside.Drafts.{PartialPlan, begun_by, drafted, Makes}
 use Rattle.iv_args.proofs.DraftLemmas.{none≢some, some-same, listed, Gives, drafted-gives, drafted-never}
 
@@ -18,6 +18,7 @@ begun-says run word option.First = refl
 begun-says run word option.Other = refl
 begun-says run word option.Bases = refl
 begun-says run word option.Width = refl
+begun-says run word option.Limit = refl
 
 -- if a file is needed it is named
 needed-of : (other bases other_needed bases_needed : Bool) → ((other || not other_needed) && (bases || not bases_needed)) ≡ true
@@ -52,6 +53,12 @@ width-once [] width h = omega arith
 width-once (value ∷ []) width h = omega arith
 width-once (value ∷ next ∷ values) width h = absurd (none≢some width h)
 
+-- a limit too
+pub limit-once : (values : List (List ℕ)) (limit : ℕ) → limit_said values ≡ Some limit → length values ≤ 1
+limit-once [] limit h = omega arith
+limit-once (value ∷ []) limit h = omega arith
+limit-once (value ∷ next ∷ values) limit h = absurd (none≢some limit h)
+
 -- a value that may be left out is one at most
 pub few-listed : (o : Option (List ℕ)) → length (option_to_list o) ≤ 1
 few-listed None = omega arith
@@ -80,6 +87,7 @@ module _ (word : List ℕ) (rest : List (List ℕ)) (run : Subcommand) (is_run :
         other = values-said said g option.Other ∙ ap option_to_list made.other;
         bases = values-said said g option.Bases ∙ ap option_to_list made.bases;
         width = ap width_said (values-said said g option.Width) ∙ made.width;
+        limit = ap limit_said (values-said said g option.Limit) ∙ made.limit;
         view = sym made.view ∙ g.view ∙ ap (λ (r : Subcommand). lead r word ++ g.parts.view) (sym made.run_is);
         has_other = λ needs. subst (λ (o : Option (List ℕ)). IsSome o) made.other (needed.0 (subst (λ (r : Subcommand). IsTrue (needs_other r)) made.run_is needs));
         has_bases = λ needs. subst (λ (o : Option (List ℕ)). IsSome o) made.bases (needed.1 (subst (λ (r : Subcommand). IsTrue (needs_bases r)) made.run_is needs));
@@ -122,6 +130,7 @@ module _ (word : List ℕ) (rest : List (List ℕ)) (run : Subcommand) (is_run :
   once plan is option.Other = omega (arith, ap (λ (l : List (List ℕ)). length l) is.other, few-listed plan.other)
   once plan is option.Bases = omega (arith, ap (λ (l : List (List ℕ)). length l) is.bases, few-listed plan.bases)
   once plan is option.Width = width-once (values_of option.Width is.parts.settings) plan.width is.width
+  once plan is option.Limit = limit-once (values_of option.Limit is.parts.settings) plan.limit is.limit
 
   pub refuse-taken : drafted run rest (begun_by run word) ≡ None → (plan : RunPlan) → ¬ IsPlan (word ∷ rest) plan
   refuse-taken h plan is =
@@ -166,6 +175,7 @@ module _ (word : List ℕ) (rest : List (List ℕ)) (run : Subcommand) (is_run :
         other = other;
         bases = bases;
         width = ap width_said (at option.Width) ∙ is.width;
+        limit = ap limit_said (at option.Limit) ∙ is.limit;
         view = view;
         needed = needed-by (is_some said.other) (is_some said.bases) (needs_other run) (needs_bases run)
             (λ needs. subst (λ (o : Option (List ℕ)). IsSome o) (sym other) (is.has_other (subst (λ (r : Subcommand). IsTrue (needs_other r)) (sym of.run_is) needs)))

@@ -1,6 +1,6 @@
 -- What the program says about itself.
 use Rattle.std.specs.Prelude.{ℕ, List}
-use Rattle.iv_args.specs.declared.help.TheConstants.{HELP, SESSION, MERGE, CLUSTER, COMPLEMENT, GENOMECOV, INTERSECT, SUBTRACT, GETFASTA}
+use Rattle.iv_args.specs.declared.help.TheConstants.{HELP, SESSION, MERGE, CLUSTER, COMPLEMENT, GENOMECOV, INTERSECT, SUBTRACT, GETFASTA, RECORDS}
 use Rattle.iv_args.specs.declared.info_request.TheConstants.{VERSION}
 use Rattle.iv_args.specs.declared.info_request.InfoRequest.{InfoRequest}
 use Rattle.iv_args.specs.declared.info_request.InfoRequest.TheVariants.{Help, HelpOf, Version}
@@ -17,6 +17,7 @@ help_text kind.Genomecov = GENOMECOV.now
 help_text kind.Intersect = INTERSECT.now
 help_text kind.Subtract = SUBTRACT.now
 help_text kind.Getfasta = GETFASTA.now
+help_text kind.Records = RECORDS.now
 
 -- the text of a notice
 abbrev pub notice_text : InfoRequest → List ℕ

@@ -1,9 +1,10 @@
 -- The words of a run.
-use Rattle.std.specs.Prelude.{◌≡◌, ◌-◌, ℕ, ◌++◌, ◌&&◌, ◌||◌, nat_le, Bool, true, false, cond, List, [], ◌∷◌, Option, None, Some, Result, Ok, Err, IsTrue, IsSome, map, filter, codes}
-use Rattle.std.specs.Option.{option_map, option_to_list}
+use Rattle.std.specs.Prelude.{◌≡◌, ◌-◌, ℕ, ◌++◌, ◌&&◌, ◌||◌, nat_le, Bool, true, false, cond, if◌then◌else◌, List, [], ◌∷◌, Option, None, Some, Result, Ok, Err, IsTrue, IsSome, map, filter, codes}
+use Rattle.std.specs.Option.{option_and_then, option_map, option_to_list}
 use Rattle.std.specs.Str.{bytes_eq}
 use Rattle.iv_text.specs.declared.fault.Fault.{Fault}
 use Rattle.iv_text.specs.declared.fault.Fault.TheVariants as fault
+use Rattle.iv_text.specs.Number.{number}
 use Rattle.iv_view.specs.Views.{read_words}
 use Rattle.iv_view.specs.declared.view.View.{View}
 use Rattle.iv_args.specs.declared.subcommand.Subcommand.{Subcommand}
@@ -14,7 +15,7 @@ use Rattle.iv_args.specs.declared.plan.Slot.{Slot}
 use Rattle.iv_args.specs.declared.plan.Slot.TheVariants.{Sizes, First, Other, Bases}
 
 -- what the words of a run mean: its kind; the names of its files, the second file's and the FASTA file's if there is one;
--- the width of a BED file without a record; and the words of the view that is printed, the subcommand first, none for a session
+-- the width of a BED file without a record; how many records a file and how many lines a script may have; and the words of the view that is printed, the subcommand first, none for a session
 pub record RunPlan : Type 0 where
   pub run : Subcommand
   pub sizes : List ℕ
@@ -22,6 +23,7 @@ pub record RunPlan : Type 0 where
   pub other : Option (List ℕ)
   pub bases : Option (List ℕ)
   pub width : ℕ
+  pub limit : ℕ
   pub view : List (List ℕ)
 
 -- the name of a file
@@ -42,7 +44,8 @@ run_of word =
     (cond (bytes_eq word (codes "intersect")) (Some kind.Intersect)
     (cond (bytes_eq word (codes "subtract")) (Some kind.Subtract)
     (cond (bytes_eq word (codes "getfasta")) (Some kind.Getfasta)
-    None)))))))
+    (cond (bytes_eq word (codes "records")) (Some kind.Records)
+    None))))))))
 
 -- whether a script is run
 abbrev pub is_session : Subcommand → Bool
@@ -80,7 +83,7 @@ abbrev pub needs_bases : Subcommand → Bool
 needs_bases kind.Getfasta = true
 needs_bases run = false
 
--- the option that a word is: one that names a file of this kind of run, or the one of the width
+-- the option that a word is: one that names a file of this kind of run, or the one of the width or the limit
 abbrev pub option_of : Subcommand → List ℕ → Option RunOption
 option_of run word =
     cond (bytes_eq word (codes "-g")) (Some option.Sizes)
@@ -88,7 +91,8 @@ option_of run word =
     (cond (takes_other run && bytes_eq word (codes "-b")) (Some option.Other)
     (cond (takes_bases run && bytes_eq word (codes "-fi")) (Some option.Bases)
     (cond (bytes_eq word (codes "-width")) (Some option.Width)
-    None))))
+    (cond (bytes_eq word (codes "-limit")) (Some option.Limit)
+    None)))))
 
 -- whether a word of the view has the next word as its value
 abbrev pub takes_value : Subcommand → List ℕ → Bool
@@ -139,6 +143,7 @@ is_option option.First option.First = true
 is_option option.Other option.Other = true
 is_option option.Bases option.Bases = true
 is_option option.Width option.Width = true
+is_option option.Limit option.Limit = true
 is_option asked _ = false
 
 -- the values that an option is given, in order
@@ -156,6 +161,20 @@ abbrev pub width_said : List (List ℕ) → Option ℕ
 width_said [] = Some 3
 width_said (value ∷ []) = width_of value
 width_said (value ∷ next ∷ values) = None
+
+-- the greatest limit
+abbrev pub most_limit : ℕ
+most_limit = 100000000
+
+-- a limit is a number from 1 to the greatest
+abbrev pub limit_of : List ℕ → Option ℕ
+limit_of value = option_and_then (λ n. if nat_le 1 n && nat_le n most_limit then Some n else None) (number value)
+
+-- the limit of the values that are given for it: 4,000,000 if there is none
+abbrev pub limit_said : List (List ℕ) → Option ℕ
+limit_said [] = Some 4000000
+limit_said (value ∷ []) = limit_of value
+limit_said (value ∷ next ∷ values) = None
 
 -- the first word of the view: that of the run; a session has none
 abbrev pub lead : Subcommand → List ℕ → List (List ℕ)
@@ -175,7 +194,7 @@ are_view_words kind.Session (word ∷ words) = false
 are_view_words run words = are_understood (read_words 6 true true words)
 
 -- the words are those of the plan: the first is that of its kind, and the others are separated into settings and the words of its view;
--- `-g` and the file of the records are given once, `-width` once at most, and the second file and the FASTA file once if the kind needs
+-- `-g` and the file of the records are given once, `-width` and `-limit` once at most, and the second file and the FASTA file once if the kind needs
 -- them, and at most once otherwise
 pub record IsPlan (words : List (List ℕ)) (plan : RunPlan) : Type 0 where
   pub word : List ℕ
@@ -189,6 +208,7 @@ pub record IsPlan (words : List (List ℕ)) (plan : RunPlan) : Type 0 where
   pub other : values_of option.Other parts.settings ≡ option_to_list plan.other
   pub bases : values_of option.Bases parts.settings ≡ option_to_list plan.bases
   pub width : width_said (values_of option.Width parts.settings) ≡ Some plan.width
+  pub limit : limit_said (values_of option.Limit parts.settings) ≡ Some plan.limit
   pub view : plan.view ≡ lead plan.run word ++ parts.view
   pub has_other : IsTrue (needs_other plan.run) → IsSome plan.other
   pub has_bases : IsTrue (needs_bases plan.run) → IsSome plan.bases

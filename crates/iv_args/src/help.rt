@@ -7,7 +7,7 @@ use crate::subcommand::Subcommand;
 /// How the program is used.
 pub(crate) const HELP: &[u8] =
     b"bedkeep keeps a track of genome intervals correct while you edit it, and prints
-what bedtools' subcommands of the same names print.
+what bedtools' subcommands of the same names print, and the track itself.
 
 usage: bedkeep session -g GENOME -i BED [-b BED] [-fi FASTA] [-width N]
        bedkeep merge -g GENOME -i BED [-d N] [-s] [-c LIST [-o LIST]] [-width N]
@@ -17,6 +17,7 @@ usage: bedkeep session -g GENOME -i BED [-b BED] [-fi FASTA] [-width N]
        bedkeep intersect -g GENOME -a BED -b BED [-wa] [-wb|-u|-v|-c] [-width N]
        bedkeep subtract -g GENOME -a BED -b BED [-A] [-width N]
        bedkeep getfasta -g GENOME -bed BED -fi FASTA [-s] [-tab] [-width N]
+       bedkeep records -g GENOME -i BED [-width N]
        bedkeep --help [SUBCOMMAND]      (or: bedkeep SUBCOMMAND --help)
        bedkeep --version
 
@@ -30,6 +31,7 @@ not -; <(..) of bash is a file too. No file is changed.
   -b BED      records of a second file, which intersect and subtract look at
   -fi FASTA   bases of the sequences, which getfasta prints
   -width N    columns of a BED without a record, 3 to 6 (default 3)
+  -limit N    most records of a file, and lines of a script (default 4000000)
 
 Lines of a script, their fields separated by one TAB:
   open      NAME  VIEW                open a view under a name
@@ -64,6 +66,7 @@ Views, with the same options in a script and on the command line:
   getfasta          the bases of each record whose sequence the FASTA file has;
                     -s with the strand, and those on - as the opposite strand,
                     -tab on one line
+  records           every record with all its columns
 
 examples:
   bedkeep merge -g chrom.sizes -i genes.bed -d 100
@@ -88,10 +91,12 @@ pub(crate) fn help_of(run: Subcommand) -> &'static [u8]
         Subcommand::Intersect => INTERSECT,
         Subcommand::Subtract => SUBTRACT,
         Subcommand::Getfasta => GETFASTA,
+        Subcommand::Records => RECORDS,
     }
 }
 
 const SESSION: &[u8] = b"usage: bedkeep session -g GENOME -i BED [-b BED] [-fi FASTA] [-width N]
+                       [-limit N]
 
 Keeps the records as a track, and carries out a script on standard input.
   -g GENOME   names and lengths of the sequences, two columns
@@ -99,6 +104,7 @@ Keeps the records as a track, and carries out a script on standard input.
   -b BED      records of a second file, which intersect and subtract look at
   -fi FASTA   bases of the sequences, which getfasta prints
   -width N    columns of a BED without a record, 3 to 6 (default 3)
+  -limit N    most records of a file, and lines of a script (default 4000000)
 
 Lines of a script, their fields separated by one TAB:
   open      NAME  VIEW                open a view under a name
@@ -114,12 +120,12 @@ Lines of a script, their fields separated by one TAB:
   close     NAME                      close a view
 Empty lines and lines that begin with # are skipped. A VIEW is a subcommand with
 its options, separated by spaces: merge, cluster, complement, genomecov,
-intersect, subtract, getfasta. A refused line changes nothing; standard error
-names it with the reason, and the exit status is 1.
+intersect, subtract, getfasta, records. A refused line changes nothing; standard
+error names it with the reason, and the exit status is 1.
 
-No file is changed. The corrected track comes out by cluster without its last
-column, as in the example. Standard input is the script, so no file can be
-/dev/stdin; <(..) of bash is one.
+No file is changed. The corrected track comes out by records, as in the example.
+Standard input is the script, so no file can be /dev/stdin; <(..) of bash is
+one.
 
 python3 -m bedkeep.curate GENOME BED is a prompt for corrections by hand.
 
@@ -130,9 +136,8 @@ example:
   printf 'chr1\\t100\\n' > example.sizes
   printf 'chr1\\t10\\t20\\n' > example.bed
   printf 'add\\tchr1\\t15\\t30\\n' > example.script
-  printf 'open\\tall\\tcluster\\nprint\\tall\\n' >> example.script
-  bedkeep session -g example.sizes -i example.bed < example.script |
-    sed 's/\\t[0-9]*$//'
+  printf 'open\\tall\\trecords\\nprint\\tall\\n' >> example.script
+  bedkeep session -g example.sizes -i example.bed < example.script
 prints:
   chr1\t10\t20
   chr1\t15\t30
@@ -140,6 +145,7 @@ prints:
 
 const MERGE: &[u8] =
     b"usage: bedkeep merge -g GENOME -i BED [-d N] [-s] [-c LIST [-o LIST]] [-width N]
+                     [-limit N]
 
 Prints a row for each block: its sequence, start and end, and its summaries.
 Records that overlap or are book-ended are one block.
@@ -151,6 +157,7 @@ Records that overlap or are book-ended are one block.
   -c LIST     columns by number, separated by commas: a summary of each
   -o LIST     operations: count, sum, min, max, collapse, distinct (default sum)
   -width N    columns of a BED without a record, 3 to 6 (default 3)
+  -limit N    most records of a file, up to 100000000 (default 4000000)
 
 Different from bedtools: the genome file is needed, and rows come in its order;
 records needn't be sorted. With -s the blocks of + come before those of -, and
@@ -166,7 +173,7 @@ prints:
   chr1\t10\t30\ta,b
 ";
 
-const CLUSTER: &[u8] = b"usage: bedkeep cluster -g GENOME -i BED [-d N] [-width N]
+const CLUSTER: &[u8] = b"usage: bedkeep cluster -g GENOME -i BED [-d N] [-width N] [-limit N]
 
 Prints every record with the number of its block, counted from 1. Records that
 overlap or are book-ended are in one block.
@@ -174,6 +181,7 @@ overlap or are book-ended are in one block.
   -i BED      the records, three to six columns, in any order
   -d N        records at most N bases apart are in one block
   -width N    columns of a BED without a record, 3 to 6 (default 3)
+  -limit N    most records of a file, up to 100000000 (default 4000000)
 
 Different from bedtools: the genome file is needed, and rows come in its order;
 records needn't be sorted. There is no -s. Standard input is /dev/stdin.
@@ -188,13 +196,14 @@ prints:
   chr1\t50\t60\t2
 ";
 
-const COMPLEMENT: &[u8] = b"usage: bedkeep complement -g GENOME -i BED [-L] [-width N]
+const COMPLEMENT: &[u8] = b"usage: bedkeep complement -g GENOME -i BED [-L] [-width N] [-limit N]
 
 Prints the intervals that no record covers.
   -g GENOME   names and lengths of the sequences, two columns
   -i BED      the records, three to six columns, in any order
   -L          only on sequences that have a record
   -width N    columns of a BED without a record, 3 to 6 (default 3)
+  -limit N    most records of a file, up to 100000000 (default 4000000)
 
 Different from bedtools: records needn't be sorted. A sequence of length 0 is
 allowed and has no row. Standard input is /dev/stdin.
@@ -208,7 +217,8 @@ prints:
   chr1\t30\t100
 ";
 
-const GENOMECOV: &[u8] = b"usage: bedkeep genomecov -g GENOME -i BED -bg|-bga|-d [-width N]
+const GENOMECOV: &[u8] =
+    b"usage: bedkeep genomecov -g GENOME -i BED -bg|-bga|-d [-width N] [-limit N]
 
 Prints depth: how many records cover a position. Give one of -bg, -bga and -d.
   -g GENOME   names and lengths of the sequences, two columns
@@ -217,6 +227,7 @@ Prints depth: how many records cover a position. Give one of -bg, -bga and -d.
   -bga        the same, also where the depth is 0
   -d          a row for each position, counted from 1
   -width N    columns of a BED without a record, 3 to 6 (default 3)
+  -limit N    most records of a file, up to 100000000 (default 4000000)
 
 Different from bedtools: one of -bg, -bga and -d is needed, since there is no
 histogram. Records needn't be sorted. Sequences without a record come in their
@@ -234,6 +245,7 @@ prints:
 
 const INTERSECT: &[u8] =
     b"usage: bedkeep intersect -g GENOME -a BED -b BED [-wa] [-wb|-u|-v|-c] [-width N]
+                         [-limit N]
 
 Prints each overlap of a record of the first file with one of the second: the
 part that both share.
@@ -246,6 +258,7 @@ part that both share.
   -v          the record once if it has none
   -c          each record with the number of its overlaps
   -width N    columns of a BED without a record, 3 to 6 (default 3)
+  -limit N    most records of a file, up to 100000000 (default 4000000)
 
 Different from bedtools: the genome file is needed, and rows come in its order.
 The overlaps of one record come by start and end of the second file's records.
@@ -262,7 +275,7 @@ prints:
   chr1\t50\t55\tb
 ";
 
-const SUBTRACT: &[u8] = b"usage: bedkeep subtract -g GENOME -a BED -b BED [-A] [-width N]
+const SUBTRACT: &[u8] = b"usage: bedkeep subtract -g GENOME -a BED -b BED [-A] [-width N] [-limit N]
 
 Prints the parts of each record of the first file that the second doesn't cover.
   -g GENOME   names and lengths of the sequences, two columns
@@ -270,6 +283,7 @@ Prints the parts of each record of the first file that the second doesn't cover.
   -b BED      the records of the second file
   -A          only whole records that have no overlap
   -width N    columns of a BED without a record, 3 to 6 (default 3)
+  -limit N    most records of a file, up to 100000000 (default 4000000)
 
 Different from bedtools: the genome file is needed, and rows come in its order.
 Standard input is /dev/stdin.
@@ -286,6 +300,7 @@ prints:
 
 const GETFASTA: &[u8] =
     b"usage: bedkeep getfasta -g GENOME -bed BED -fi FASTA [-s] [-tab] [-width N]
+                        [-limit N]
 
 Prints the bases of each record whose sequence the FASTA file has.
   -g GENOME   names and lengths of the sequences, two columns
@@ -295,6 +310,7 @@ Prints the bases of each record whose sequence the FASTA file has.
               complemented; needs six columns
   -tab        head and bases on one line, separated by a TAB
   -width N    columns of a BED without a record, 3 to 6 (default 3)
+  -limit N    most records of a file, up to 100000000 (default 4000000)
 
 Different from bedtools: the genome file is needed, and rows come in its order.
 No index file is read or made, and lines of the FASTA file may have any lengths.
@@ -309,4 +325,25 @@ example:
 prints:
   >chr1:6-10(-)
   GTAA
+";
+
+const RECORDS: &[u8] = b"usage: bedkeep records -g GENOME -i BED [-width N] [-limit N]
+
+Prints every record with all its columns, in the order of the genome file and
+then by start and end: the track itself. Copies of a record stay.
+  -g GENOME   names and lengths of the sequences, two columns
+  -i BED      the records, three to six columns, in any order
+  -width N    columns of a BED without a record, 3 to 6 (default 3)
+  -limit N    most records of a file, up to 100000000 (default 4000000)
+
+Like bedtools sort -g, except that records of one interval come by name, score
+and strand, and headings aren't printed. Standard input is /dev/stdin.
+
+example:
+  printf 'chr1\\t100\\n' > example.sizes
+  printf 'chr1\\t50\\t60\\tb\\nchr1\\t10\\t20\\ta\\n' > example.bed
+  bedkeep records -g example.sizes -i example.bed
+prints:
+  chr1\t10\t20\ta
+  chr1\t50\t60\tb
 ";

@@ -2,12 +2,12 @@
 ghost use Rattle.std.specs.Prelude.{◌≡◌, ◌≤◌, ◌⊎◌, ◌∷◌, [], true, Some, None, IsSome, IfOk, IfErr, OnOk, map, length, drop};
 ghost use Rattle.std.specs.Option.{option_copied, option_to_list};
 ghost use Rattle.iv_view.specs.Views.{read_words};
-ghost use Rattle.iv_args.specs.Words.{RunPlan, IsPlan, are_view_words, file_of, is_session, width_of, width_said};
+ghost use Rattle.iv_args.specs.Words.{RunPlan, IsPlan, are_view_words, file_of, is_session, limit_of, limit_said, most_limit, width_of, width_said};
 ghost use Rattle.iv_args.specs.Inside.Drafts.{Makes, begun_by, drafted, has_needed_files, viewed, with_value};
 ghost use Rattle.iv_text.specs.Widths.{IsWidth};
 
 use crate::subcommand::{RunOption, Subcommand};
-use iv_text::Fault;
+use iv_text::{Fault, read_number};
 use iv_view::{Beside, View, ViewFault};
 use std::alloc::{AllocError, Allocator, Global};
 use std::marker::Model;
@@ -38,6 +38,23 @@ fn read_width(value: &[u8]) -> Option<u8>
     }
 }
 
+/// How many records a file and how many lines a script may have, if no limit is given.
+const USUAL_LIMIT: u32 = 4_000_000;
+
+/// The greatest limit.
+const MOST_LIMIT: u64 = 100_000_000;
+
+/// The limit that a value means: a number from 1 to 100,000,000.
+fn read_limit(value: &[u8]) -> Option<u32>
+    ensures { result ≡ limit_of value.now }
+{
+    let limit = read_number(value)?;
+    if limit < 1 || limit > MOST_LIMIT {
+        return None;
+    }
+    Some(limit as u32)
+}
+
 /// Gives an option its value, unless it has one.
 fn give<'a>(option: &mut Option<&'a [u8]>, value: &'a [u8]) -> Result<(), Fault>
     ensures ok { OnOk result ((option_copied option.old ≡ None) × (option_copied option.new ≡ Some value.now)) }
@@ -58,6 +75,7 @@ struct PlanDraft<'a, A: Allocator + Copy = Global> {
     other: Option<&'a [u8]>,
     bases: Option<&'a [u8]>,
     width: Option<&'a [u8]>,
+    limit: Option<&'a [u8]>,
     words: Vec<&'a [u8], A>,
 }
 
@@ -68,7 +86,7 @@ impl<'a, A: Allocator + Copy> Model for PlanDraft<'a, A> {
 
     ghost Value = { PartialPlan };
 
-    ghost view = { λ d. record { sizes = option_copied d.sizes; first = option_copied d.first; other = option_copied d.other; bases = option_copied d.bases; width = option_copied d.width; view = map (λ word. word.now) d.words.items } };
+    ghost view = { λ d. record { sizes = option_copied d.sizes; first = option_copied d.first; other = option_copied d.other; bases = option_copied d.bases; width = option_copied d.width; limit = option_copied d.limit; view = map (λ word. word.now) d.words.items } };
 }
 
 impl<'a, A: Allocator + Copy> PlanDraft<'a, A> {
@@ -83,6 +101,7 @@ impl<'a, A: Allocator + Copy> PlanDraft<'a, A> {
             other: None,
             bases: None,
             width: None,
+            limit: None,
             words: Vec::new(alloc),
         };
         if run != Subcommand::Session {
@@ -165,6 +184,7 @@ impl<'a, A: Allocator + Copy> PlanDraft<'a, A> {
             RunOption::Other => give(&mut self.other, value),
             RunOption::Bases => give(&mut self.bases, value),
             RunOption::Width => give(&mut self.width, value),
+            RunOption::Limit => give(&mut self.limit, value),
         }
     }
 
@@ -202,6 +222,17 @@ impl<'a, A: Allocator + Copy> PlanDraft<'a, A> {
             Some(value) => read_width(value),
         }
     }
+
+    /// How many records a file and how many lines a script may have, 4,000,000 if no limit is given, and `None` if what is given
+    /// isn't one.
+    fn limit(&self) -> Option<u32>
+        ensures { result ≡ limit_said (option_to_list self.now.limit) }
+    {
+        match self.limit {
+            None => Some(USUAL_LIMIT),
+            Some(value) => read_limit(value),
+        }
+    }
 }
 
 /// What the arguments after the program's name ask for.
@@ -213,6 +244,7 @@ pub struct Plan<'a, A: Allocator + Copy = Global> {
     other: Option<&'a [u8]>,
     bases: Option<&'a [u8]>,
     width: u8,
+    limit: u32,
     words: Vec<&'a [u8], A>,
     // What the arguments of the view ask for, for records of six columns beside both files.
     view: Result<View, ViewFault>,
@@ -222,13 +254,13 @@ impl<'a, A: Allocator + Copy> Model for Plan<'a, A> {
     ghost use Rattle.std.specs.Prelude.{◌≡◌, ◌≤◌, true, map};
     ghost use Rattle.std.specs.Option.{option_copied};
     ghost use Rattle.iv_view.specs.Views.{read_words};
-    ghost use Rattle.iv_args.specs.Words.{RunPlan};
+    ghost use Rattle.iv_args.specs.Words.{RunPlan, most_limit};
 
     ghost Value = { RunPlan };
 
-    ghost view = { λ p. record { run = p.run; sizes = p.sizes.now; first = p.first.now; other = option_copied p.other; bases = option_copied p.bases; width = p.width; view = map (λ word. word.now) p.words.items } };
+    ghost view = { λ p. record { run = p.run; sizes = p.sizes.now; first = p.first.now; other = option_copied p.other; bases = option_copied p.bases; width = p.width; limit = p.limit; view = map (λ word. word.now) p.words.items } };
 
-    ghost invariant = { λ p. (3 ≤ p.width) × (p.width ≤ 6) × (p.view ≡ read_words 6 true true (map (λ word. word.now) p.words.items)) };
+    ghost invariant = { λ p. (3 ≤ p.width) × (p.width ≤ 6) × (p.limit ≤ most_limit) × (p.view ≡ read_words 6 true true (map (λ word. word.now) p.words.items)) };
 }
 
 /// The plan of what is given, if that makes one.
@@ -243,8 +275,10 @@ fn plan_of<'a, A: Allocator + Copy>(
     if !draft.has_needed(run) || !draft.has_view(run, view) {
         return Err(Fault::Words);
     }
-    let width = draft.width();
-    let (Some(sizes), Some(first), Some(width)) = (draft.sizes, draft.first, width) else {
+    let (Some(sizes), Some(first)) = (draft.sizes, draft.first) else {
+        return Err(Fault::Words);
+    };
+    let (Some(width), Some(limit)) = (draft.width(), draft.limit()) else {
         return Err(Fault::Words);
     };
     Ok(Plan {
@@ -254,6 +288,7 @@ fn plan_of<'a, A: Allocator + Copy>(
         other: draft.other,
         bases: draft.bases,
         width,
+        limit,
         words: draft.words,
         view,
     })
@@ -263,10 +298,10 @@ impl<'a, A: Allocator + Copy> Plan<'a, A> {
     /// What the arguments after the program's name ask for.
     ///
     /// The first is `session` or a subcommand. After it come, in any order and each once, the options that name files,
-    /// `-width N` if it is wanted, and the options of the subcommand: `-g GENOME` for all; `-i RECORDS`, except that
+    /// `-width N` and `-limit N` if they are wanted, and the options of the subcommand: `-g GENOME` for all; `-i RECORDS`, except that
     /// `intersect` and `subtract` have `-a RECORDS -b RECORDS`, and `getfasta` has `-bed RECORDS -fi FASTA`; a session takes
     /// `-b` and `-fi` too if they are wanted. The argument after an option that takes a value is its value, whatever it is;
-    /// `N` is one digit from 3 to 6.
+    /// the `N` of `-width` is one digit from 3 to 6, that of `-limit` a number from 1 to 100,000,000.
     ///
     /// # Errors
     ///
@@ -335,6 +370,14 @@ impl<'a, A: Allocator + Copy> Plan<'a, A> {
         ensures known { IsWidth result }
     {
         self.width
+    }
+
+    /// How many records a file and how many lines a script may have.
+    pub fn limit(&self) -> u32
+        ensures value { result ≡ self.now.limit }
+        ensures known { result ≤ most_limit }
+    {
+        self.limit
     }
 
     /// The arguments of the view that is to be printed: the subcommand and its options, in their order. A session has none.

@@ -15,9 +15,10 @@ pub enum Subcommand {
     Intersect,
     Subtract,
     Getfasta,
+    Records,
 }
 
-/// An option that names a file, or the one of the width.
+/// An option that names a file, or the one of the width or the limit.
 #[derive(Clone, Copy)]
 pub(crate) enum RunOption {
     /// The genome file.
@@ -30,6 +31,8 @@ pub(crate) enum RunOption {
     Bases,
     /// The width of a BED file without a record.
     Width,
+    /// How many records a file and how many lines a script may have.
+    Limit,
 }
 
 impl Subcommand {
@@ -53,6 +56,8 @@ impl Subcommand {
             Some(Subcommand::Subtract)
         } else if word == b"getfasta".as_slice() {
             Some(Subcommand::Getfasta)
+        } else if word == b"records".as_slice() {
+            Some(Subcommand::Records)
         } else {
             None
         }
@@ -69,7 +74,8 @@ impl Subcommand {
             | Subcommand::Merge
             | Subcommand::Cluster
             | Subcommand::Complement
-            | Subcommand::Genomecov => b"-i",
+            | Subcommand::Genomecov
+            | Subcommand::Records => b"-i",
         }
     }
 
@@ -118,6 +124,8 @@ impl Subcommand {
             Some(RunOption::Bases)
         } else if word == b"-width".as_slice() {
             Some(RunOption::Width)
+        } else if word == b"-limit".as_slice() {
+            Some(RunOption::Limit)
         } else {
             None
         }
@@ -137,7 +145,7 @@ impl Subcommand {
     }
 }
 
-/// Options that name files or the width may come in any order, also among the arguments of the view: two pieces next to each other
+/// Options that name files, the width or the limit may come in any order, also among the arguments of the view: two pieces next to each other
 /// may be exchanged, unless both are of the view or both of one option.
 pub fn options_among_view_words()
     ensures { (plan : RunPlan) (word : List ℕ) (front : List Piece) (a b : Piece) (back : List (List ℕ)) → All (IsPiece plan.run) (front ++ a ∷ b ∷ []) → option_of plan.run a.word ≢ option_of plan.run b.word → (IsPlan (word ∷ (piece_words (front ++ a ∷ b ∷ []) ++ back)) plan ↔ IsPlan (word ∷ (piece_words (front ++ b ∷ a ∷ []) ++ back)) plan) }

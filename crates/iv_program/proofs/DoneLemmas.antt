@@ -30,7 +30,7 @@ use Rattle.iv_run.specs.declared.fault.FileFault.TheVariants as file
 use Rattle.iv_cli.specs.ExitReasons.{ending_after, ending_of, ending_of_cause, ending_of_file, ending_of_run, ending_of_words, status_of}
 use Rattle.iv_cli.specs.declared.exit_reason.ExitReason.{ExitReason}
 use Rattle.iv_cli.specs.declared.exit_reason.ExitReason.TheVariants as exit_reason
-use Rattle.iv_program.specs.Limits.{most_records, most_lines, most_line_bytes}
+use Rattle.iv_program.specs.Limits.{most_line_bytes}
 use Rattle.iv_program.specs.Outcomes.{DoesAll, DoesAllWith, RunsAll}
 use Rattle.iv_program.specs.Program.{Asked, Shown, Planned, Wrong, Ask, Flushes, Gives, Runs, Serves}
 use Rattle.iv_program.specs.Runs.{DoesWith, PrintsView, RunsOver, RunsPlan, RunsScript, World, ending_of_shot}
@@ -97,12 +97,12 @@ then-flushed o0 o1 o2 text took flushed = subst (λ (l : List ℕ). Takes o0 o2 
 
 -- a view that is done was printed whole
 view-done : (plan : RunPlan) (texts : Texts) (o0 o1 : SinkState) (ended : ExitReason) → PrintsView plan texts o0 o1 ended → ended ≡ exit_reason.Done
-    → (text : List ℕ) × (shown plan texts.sizes texts.first texts.other texts.bases most_records ≡ Ok text) × Takes o0 o1 text
+    → (text : List ℕ) × (shown plan texts.sizes texts.first texts.other texts.bases plan.limit ≡ Ok text) × Takes o0 o1 text
 view-done plan texts o0 o1 ended prints is = by prints.0 prints.1 (sym is ∙ prints.2)
   where
-    by : (done : Result (Unit {0}) CliFault) → Shows o0 o1 done (shown plan texts.sizes texts.first texts.other texts.bases most_records)
+    by : (done : Result (Unit {0}) CliFault) → Shows o0 o1 done (shown plan texts.sizes texts.first texts.other texts.bases plan.limit)
         → exit_reason.Done ≡ ending_of_shot done
-        → (text : List ℕ) × (shown plan texts.sizes texts.first texts.other texts.bases most_records ≡ Ok text) × Takes o0 o1 text
+        → (text : List ℕ) × (shown plan texts.sizes texts.first texts.other texts.bases plan.limit ≡ Ok text) × Takes o0 o1 text
     by (Ok done) shows e = shows
     by (Err k) shows e = absurd (no-fault k e)
 
@@ -111,8 +111,8 @@ script-done : (plan : RunPlan) (texts : Texts) (before reached after : Streams) 
     → ended ≡ exit_reason.Done → Takes reached.output after.output [] → RunsAll plan texts before after
 script-done plan texts before reached after ended line runs is flushed = by runs.0 runs.1 runs.2
   where
-    over : (s new : State) (run : Result Summary RunFault) → loaded plan.width texts.sizes texts.first texts.other texts.bases most_records ≡ Ok s
-        → Ran s new before reached most_lines most_line_bytes run → exit_reason.Done ≡ ending_of_run run → RunsAll plan texts before after
+    over : (s new : State) (run : Result Summary RunFault) → loaded plan.width texts.sizes texts.first texts.other texts.bases plan.limit ≡ Ok s
+        → Ran s new before reached plan.limit most_line_bytes run → exit_reason.Done ≡ ending_of_run run → RunsAll plan texts before after
     over s new (Err stopped) begins ran e = absurd (no-cause stopped.cause e)
     over s new (Ok summary) begins ran e = record {
       old = s;
@@ -120,13 +120,13 @@ script-done plan texts before reached after ended line runs is flushed = by runs
       begins = begins;
       reached = reached;
       count = summary.lines;
-      runs = subst (λ (n : ℕ). Done LineRuns s new before reached most_lines most_line_bytes summary.lines n)
+      runs = subst (λ (n : ℕ). Done LineRuns s new before reached plan.limit most_line_bytes summary.lines n)
           (none-refused summary.refused (summary.refused == 0) refl e) ran;
       flushed = flushed;
     }
 
-    by : (session : Result State CliFault) → IsReport session (loaded plan.width texts.sizes texts.first texts.other texts.bases most_records)
-        → RunsOver session before reached ended line → RunsAll plan texts before after
+    by : (session : Result State CliFault) → IsReport session (loaded plan.width texts.sizes texts.first texts.other texts.bases plan.limit)
+        → RunsOver plan.limit session before reached ended line → RunsAll plan texts before after
     by (Err k) report none = absurd (no-fault k (sym is ∙ none.1))
     by (Ok s) report ran = over s ran.0 ran.1 report ran.2 (sym is ∙ ran.3)
 
@@ -185,8 +185,8 @@ same-option None (Some y) e = absurd (cc e)
 same-option (Some x) None e = absurd (cc e)
 same-option (Some x) (Some y) e = cc e
 
-plan-with : Subcommand → List ℕ → List ℕ → Option (List ℕ) → Option (List ℕ) → ℕ → List (List ℕ) → RunPlan
-plan-with run sizes first other bases width view = record { run = run; sizes = sizes; first = first; other = other; bases = bases; width = width; view = view }
+plan-with : Subcommand → List ℕ → List ℕ → Option (List ℕ) → Option (List ℕ) → ℕ → ℕ → List (List ℕ) → RunPlan
+plan-with run sizes first other bases width limit view = record { run = run; sizes = sizes; first = first; other = other; bases = bases; width = width; limit = limit; view = view }
 
 pub one-plan : (words : List (List ℕ)) (p q : RunPlan) → IsPlan words p → IsPlan words q → p ≡ q
 unfolding plan-with
@@ -206,9 +206,11 @@ one-plan words p q a b =
     let bases : p.bases ≡ q.bases = same-option p.bases q.bases basess in
     let some_width : Some p.width ≡ Some q.width = cc (a.width, b.width, parts) in
     let width : p.width ≡ q.width = cc some_width in
+    let some_limit : Some p.limit ≡ Some q.limit = cc (a.limit, b.limit, parts) in
+    let limit : p.limit ≡ q.limit = cc some_limit in
     let view : p.view ≡ q.view = cc (a.view, b.view, run, word, parts) in
-    let same : plan-with p.run p.sizes p.first p.other p.bases p.width p.view ≡ plan-with q.run q.sizes q.first q.other q.bases q.width q.view =
-    cc (run, sizes, first, other, bases, width, view) in
+    let same : plan-with p.run p.sizes p.first p.other p.bases p.width p.limit p.view ≡ plan-with q.run q.sizes q.first q.other q.bases q.width q.limit q.view =
+    cc (run, sizes, first, other, bases, width, limit, view) in
     same
 
 pub plan-all-done : (words : List (List ℕ)) (before after : World) (plan : RunPlan) (answer : Ended) → notice_of words ≡ None → IsPlan words plan → Runs words before after answer

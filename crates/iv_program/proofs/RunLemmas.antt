@@ -26,7 +26,7 @@ use Rattle.iv_run.specs.declared.fault.FileFault.{FileFault}
 use Rattle.iv_cli.specs.ExitReasons.{ending_of_words, name_meant}
 use Rattle.iv_cli.specs.declared.exit_reason.ExitReason.{ExitReason}
 use Rattle.iv_program.specs.Files.{FilesState, IsText, StopsFile}
-use Rattle.iv_program.specs.Limits.{most_file_bytes, most_records}
+use Rattle.iv_program.specs.Limits.{most_file_bytes}
 use Rattle.iv_program.specs.Program.{Shown, Planned, Wrong, Ask, Finishes, Gives, Runs, world}
 use Rattle.iv_program.specs.Runs.{RunsPlan}
 use Rattle.iv_program.specs.Inside.Runs.{Says}
@@ -116,9 +116,9 @@ short-other files plan texts are = by plan.other texts.other are.other
 -- the session that the files of a plan begin, once they are read
 pub report-of : (plan : RunPlan) (texts : Texts) (known : SoFar) (bases : Option (List ℕ)) (r : Result State CliFault) → Says (λ r. r) plan texts known bases
     → ((sizes text : List ℕ) (other : Option (List ℕ)) → SaysSecond (λ r. r) sizes text other known → IsReport r (loaded known.width sizes text other bases known.limit))
-    → IsReport r (loaded plan.width texts.sizes texts.first texts.other texts.bases most_records)
+    → IsReport r (loaded plan.width texts.sizes texts.first texts.other texts.bases plan.limit)
 report-of plan texts known bases r says report =
-    subst (λ (b : Option (List ℕ)). IsReport r (loaded plan.width texts.sizes texts.first texts.other b most_records)) says.bases_are
+    subst (λ (b : Option (List ℕ)). IsReport r (loaded plan.width texts.sizes texts.first texts.other b plan.limit)) says.bases_are
     (subst (λ (n : ℕ). IsReport r (loaded plan.width texts.sizes texts.first texts.other bases n)) says.limit_is
     (subst (λ (w : ℕ). IsReport r (loaded w texts.sizes texts.first texts.other bases known.limit)) says.width_is
     (report texts.sizes texts.first texts.other says.known_is)))

@@ -16,7 +16,7 @@ use Rattle.iv_cli.specs.ExitReasons.{ending_after, ending_of, ending_of_file, is
 use Rattle.iv_cli.specs.declared.exit_reason.ExitReason.{ExitReason}
 use Rattle.iv_cli.specs.declared.exit_reason.ExitReason.TheVariants as exit_reason
 use Rattle.iv_program.specs.Files.{FilesState, StopsFile}
-use Rattle.iv_program.specs.Limits.{most_file_bytes, most_records}
+use Rattle.iv_program.specs.Limits.{most_file_bytes}
 use Rattle.iv_program.specs.Outcomes.{AreSound, HasBytes, Hold, PrintsJust}
 use Rattle.iv_program.specs.Program.{Asked, Shown, Planned, Wrong, Ask, Finishes, Flushes, Runs, Serves, Tells, name_reported}
 use Rattle.iv_program.specs.Runs.{DoesWith, RunsPlan, World, ending_of_shot}
@@ -152,11 +152,11 @@ module _ (plan : RunPlan) (before reached after : Streams) (reported : ExitReaso
 
 pub prints-just : (words : List (List ℕ)) (before after : World) (plan : RunPlan) (texts : Texts) (answer : Ended) → notice_of words ≡ None → IsPlan words plan
     → is_session plan.run ≡ false → Hold before.files plan texts → Runs words before after answer → AreSound after → (status_of answer.exit_reason ≡ 5 → ⊥)
-    → PrintsJust plan (shown plan texts.sizes texts.first texts.other texts.bases most_records) before.streams after.streams (status_of answer.exit_reason)
+    → PrintsJust plan (shown plan texts.sizes texts.first texts.other texts.bases plan.limit) before.streams after.streams (status_of answer.exit_reason)
 prints-just words before after plan texts answer none is view hold ran sound had_memory = by ran.asked ran.ask ran.serves ran.finishes
   where
     Goal : Type 0
-    Goal = PrintsJust plan (shown plan texts.sizes texts.first texts.other texts.bases most_records) before.streams after.streams (status_of answer.exit_reason)
+    Goal = PrintsJust plan (shown plan texts.sizes texts.first texts.other texts.bases plan.limit) before.streams after.streams (status_of answer.exit_reason)
 
     of_plan : (name : List ℕ) → name ≡ name_meant plan ran.ended → RunsPlan plan before ran.reached ran.ended answer.line
         → Finishes ran.ended name ran.reached.streams.output after.streams.output ran.reached.streams.messages after.streams.messages answer.exit_reason → Goal
@@ -164,11 +164,11 @@ prints-just words before after plan texts answer none is view hold ran sound had
         let same : read.texts ≡ texts = texts-known before.files plan read.texts texts read.are hold in
         let does : DoesWith false plan read.texts before.streams ran.reached.streams ran.ended answer.line =
         subst (λ (b : Bool). DoesWith b plan read.texts before.streams ran.reached.streams ran.ended answer.line) view read.does in
-        subst (λ (t : Texts). PrintsJust plan (shown plan t.sizes t.first t.other t.bases most_records) before.streams after.streams (status_of answer.exit_reason)) same
+        subst (λ (t : Texts). PrintsJust plan (shown plan t.sizes t.first t.other t.bases plan.limit) before.streams after.streams (status_of answer.exit_reason)) same
         (shows-just plan before.streams ran.reached.streams after.streams answer.exit_reason ran.ended
         (subst (λ (n : List ℕ). Finishes ran.ended n ran.reached.streams.output after.streams.output ran.reached.streams.messages after.streams.messages answer.exit_reason) named finishes)
         sound.output sound.messages had_memory does.1 does.0.0
-        (shown plan read.texts.sizes read.texts.first read.texts.other read.texts.bases most_records) does.0.1 does.0.2)
+        (shown plan read.texts.sizes read.texts.first read.texts.other read.texts.bases plan.limit) does.0.1 does.0.2)
     of_plan name named (inr stopped) finishes = absurd (never stopped.fault stopped.stops.stops stopped.ended_is)
       where
         -- no file failed, none is too long, and there was memory

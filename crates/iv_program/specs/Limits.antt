@@ -5,14 +5,6 @@ use Rattle.std.specs.Prelude.{ℕ}
 abbrev pub most_file_bytes : ℕ
 most_file_bytes = 4294967295
 
--- how many records a track may hold
-abbrev pub most_records : ℕ
-most_records = 4000000
-
--- how many lines a script may have
-abbrev pub most_lines : ℕ
-most_lines = 4000000
-
 -- how many bytes a line of a script may have before its LF, a CR included
 abbrev pub most_line_bytes : ℕ
 most_line_bytes = 1048576

@@ -11,23 +11,23 @@ use Rattle.iv_run.specs.Shots.{shown}
 use Rattle.iv_run.specs.declared.fault.CliFault.{CliFault}
 use Rattle.iv_cli.specs.ExitReasons.{ending_of, line_of, name_meant, status_of}
 use Rattle.iv_program.specs.Files.{FilesState}
-use Rattle.iv_program.specs.Limits.{most_file_bytes, most_records, most_lines, most_line_bytes}
+use Rattle.iv_program.specs.Limits.{most_file_bytes, most_line_bytes}
 use Rattle.iv_program.specs.Runs.{World}
 use Rattle.iv_program.specs.Texts.{Texts, AreTexts}
 
 -- the whole text of the view of a plan was printed
 abbrev pub PrintsAll : RunPlan → Texts → Streams → Streams → Type 0
 PrintsAll plan texts before after =
-    (text : List ℕ) × (shown plan texts.sizes texts.first texts.other texts.bases most_records ≡ Ok text) × Takes before.output after.output text
+    (text : List ℕ) × (shown plan texts.sizes texts.first texts.other texts.bases plan.limit ≡ Ok text) × Takes before.output after.output text
 
 -- every line of the script was run, over the session that the texts begin, and none of them was refused
 pub record RunsAll (plan : RunPlan) (texts : Texts) (before after : Streams) : Type 0 where
   pub old : State
   pub new : State
-  pub begins : loaded plan.width texts.sizes texts.first texts.other texts.bases most_records ≡ Ok old
+  pub begins : loaded plan.width texts.sizes texts.first texts.other texts.bases plan.limit ≡ Ok old
   pub reached : Streams
   pub count : ℕ
-  pub runs : Done LineRuns old new before reached most_lines most_line_bytes count 0
+  pub runs : Done LineRuns old new before reached plan.limit most_line_bytes count 0
   pub flushed : Takes reached.output after.output []
 
 -- all that a plan asks for was done with these texts

@@ -16,7 +16,7 @@ use Rattle.iv_run.specs.declared.fault.FileFault.{FileFault}
 use Rattle.iv_cli.specs.ExitReasons.{ending_of, ending_of_file, ending_of_run}
 use Rattle.iv_cli.specs.declared.exit_reason.ExitReason.{ExitReason}
 use Rattle.iv_program.specs.Files.{FilesState}
-use Rattle.iv_program.specs.Limits.{most_records, most_lines, most_line_bytes}
+use Rattle.iv_program.specs.Limits.{most_line_bytes}
 use Rattle.iv_program.specs.Texts.{Texts, AreTexts, StopsAt}
 use Rattle.iv_cli.specs.declared.exit_reason.ExitReason.TheVariants as exit_reason
 
@@ -35,25 +35,26 @@ abbrev pub stopped_at : Result Summary RunFault → ℕ
 stopped_at (Ok summary) = 0
 stopped_at (Err stopped) = stopped.line
 
--- a script was run over a session, and stopped at this line; or there is none, and nothing was read or written
-abbrev pub RunsOver : Result State CliFault → Streams → Streams → ExitReason → ℕ → Type 0
-RunsOver (Err fault) before after ended line = (after ≡ before) × (ended ≡ ending_of fault) × (line ≡ 0)
-RunsOver (Ok session) before after ended line =
-    (new : State) × (run : Result Summary RunFault) × Ran session new before after most_lines most_line_bytes run × (ended ≡ ending_of_run run) × (line ≡ stopped_at run)
+-- a script of at most so many lines was run over a session, and stopped at this line; or there is none, and nothing was read or
+-- written
+abbrev pub RunsOver : ℕ → Result State CliFault → Streams → Streams → ExitReason → ℕ → Type 0
+RunsOver lines (Err fault) before after ended line = (after ≡ before) × (ended ≡ ending_of fault) × (line ≡ 0)
+RunsOver lines (Ok session) before after ended line =
+    (new : State) × (run : Result Summary RunFault) × Ran session new before after lines most_line_bytes run × (ended ≡ ending_of_run run) × (line ≡ stopped_at run)
 
 -- the script was run over the session that the texts of a plan begin, or the fault of the first damaged file is reported, or out of
 -- memory
 abbrev pub RunsScript : RunPlan → Texts → Streams → Streams → ExitReason → ℕ → Type 0
 RunsScript plan texts before after ended line =
     (session : Result State CliFault)
-    × IsReport session (loaded plan.width texts.sizes texts.first texts.other texts.bases most_records)
-    × RunsOver session before after ended line
+    × IsReport session (loaded plan.width texts.sizes texts.first texts.other texts.bases plan.limit)
+    × RunsOver plan.limit session before after ended line
 
 -- the view of a plan was printed for its texts, or its first fault is reported
 abbrev pub PrintsView : RunPlan → Texts → SinkState → SinkState → ExitReason → Type 0
 PrintsView plan texts old new ended =
     (done : Result (Unit {0}) CliFault)
-    × Shows old new done (shown plan texts.sizes texts.first texts.other texts.bases most_records)
+    × Shows old new done (shown plan texts.sizes texts.first texts.other texts.bases plan.limit)
     × (ended ≡ ending_of_shot done)
 
 -- what is done with the texts of a plan: its script is run, or its view is printed

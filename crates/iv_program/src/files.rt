@@ -18,9 +18,6 @@ use std::marker::Model;
 /// How many bytes a file may have.
 const MOST_FILE_BYTES: u64 = 4_294_967_295;
 
-/// How many records a BED file may have.
-pub(crate) const MOST_RECORDS: u32 = 4_000_000;
-
 /// Files that a program opens by their names, one after another.
 pub trait InputFiles {
     /// A file that is open.
@@ -245,7 +242,7 @@ impl<K: FromRecord<A>, A: Allocator + Copy> ReadFiles<K, A> {
         ensures err { IfErr result (λ why. StopsAt plan.now (F.state files.old) (F.state files.new) why.0 why.1) }
     {
         let sizes = read_named(alloc, files, Slot::Sizes, plan.sizes_file())?;
-        let mut loading = Loading::begin(alloc, plan, sizes.as_slice(), MOST_RECORDS);
+        let mut loading = Loading::begin(alloc, plan, sizes.as_slice(), plan.limit());
         let first = load_named(files, Slot::First, plan.first_file(), &loading)?;
         loading.take_first(first);
         read_second(files, plan, &mut loading)?;

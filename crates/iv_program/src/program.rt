@@ -11,7 +11,6 @@ ghost use Rattle.iv_run.specs.IntervalsViews.{AskForIntervals};
 ghost use Rattle.iv_run.specs.Inside.IntervalsViews.{AskForColumns};
 ghost use Rattle.iv_run.specs.Shots.{shown};
 ghost use Rattle.iv_cli.specs.ExitReasons.{is_through, line_of, status_of};
-ghost use Rattle.iv_program.specs.Limits.{most_records};
 ghost use Rattle.iv_program.specs.Outcomes.{AreSound, DoesAll, Hold, PrintsJust};
 ghost use Rattle.iv_program.specs.Program.{Finishes, Gives, Runs, Tells, world};
 ghost use Rattle.iv_program.specs.Runs.{PrintsView, RunsPlan, World, ending_of_shot};
@@ -19,7 +18,7 @@ ghost use Rattle.iv_program.specs.Inside.Runs.{Says};
 ghost use Rattle.iv_program.specs.Texts.{Texts, AreTexts, StopsAt};
 ghost use Rattle.iv_program.specs.declared.program.Ended.{Ended};
 
-use crate::files::{FileTexts, InputFiles, MOST_RECORDS, ReadFiles, SlotFault};
+use crate::files::{FileTexts, InputFiles, ReadFiles, SlotFault};
 use crate::script_run::run_session;
 use iv_args::{InfoRequest, Plan};
 use iv_bytes::{Flush, Sink, Source, put_all};
@@ -101,7 +100,7 @@ fn print_texts<A: Allocator + Copy, W: Sink>(
     ensures { PrintsView plan.now texts (W.state output.old) (W.state output.new) result }
 {
     let FileTexts { lent, bases } = texts;
-    ending_of(shot_of_columns(alloc, plan, &lent.inputs(), bases, MOST_RECORDS, output))
+    ending_of(shot_of_columns(alloc, plan, &lent.inputs(), bases, plan.limit(), output))
 }
 
 /// Prints the view of a plan.
@@ -222,5 +221,5 @@ pub fn one_plan_at_most()
 pub fn views_depend_on_bytes_alone()
     ensures { (words : List (List ℕ)) (before after : World) (plan : RunPlan) (texts : Texts) (ended : Ended) → notice_of words ≡ None → IsPlan words plan → is_session plan.run ≡ false
         → Hold before.files plan texts → Runs words before after ended → AreSound after → status_of ended.exit_reason ≢ 5
-        → PrintsJust plan (shown plan texts.sizes texts.first texts.other texts.bases most_records) before.streams after.streams (status_of ended.exit_reason) }
+        → PrintsJust plan (shown plan texts.sizes texts.first texts.other texts.bases plan.limit) before.streams after.streams (status_of ended.exit_reason) }
 {}

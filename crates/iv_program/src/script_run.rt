@@ -1,9 +1,8 @@
 //! A run of a script over the session that the files of a plan begin.
-ghost use Rattle.std.specs.Prelude.{◌≡◌, IfOk, IfErr, OnOk, OnErr};
+ghost use Rattle.std.specs.Prelude.{◌≡◌, ◌≤◌, IfOk, IfErr, OnOk, OnErr};
 ghost use Rattle.std.specs.Option.{option_map};
 ghost use Rattle.iv_session.specs.Streams.{streams};
-ghost use Rattle.iv_args.specs.Words.{RunPlan};
-ghost use Rattle.iv_program.specs.Limits.{most_records};
+ghost use Rattle.iv_args.specs.Words.{RunPlan, most_limit};
 ghost use Rattle.iv_program.specs.Runs.{RunsScript, stopped_at};
 ghost use Rattle.iv_program.specs.Inside.Runs.{Says};
 ghost use Rattle.iv_program.specs.Texts.{Texts, AreTexts, StopsAt};
@@ -18,11 +17,8 @@ use iv_text::Record;
 use std::alloc::Allocator;
 use std::mem;
 
-/// How long a script may be.
-const SCRIPT_LIMITS: ScriptLimits = ScriptLimits {
-    lines: 4_000_000,
-    line_bytes: 1_048_576,
-};
+/// How many bytes a line of a script may have before its LF, a CR included.
+const MOST_LINE_BYTES: u32 = 1_048_576;
 
 /// The line at which a script stopped, counted from 1; 0 if it was run to its end.
 fn line_of_stop(done: &Result<Summary, RunFault>) -> u64
@@ -34,15 +30,17 @@ fn line_of_stop(done: &Result<Summary, RunFault>) -> u64
     }
 }
 
-/// Runs the script on the input over the session that the files of a plan begin.
+/// Runs the script on the input, which may have at most `limit` lines, over the session that the files of a plan begin.
 fn run_over<A: Allocator + Copy, R: Source, W: Sink, E: Sink>(
     alloc: A,
     read: ReadFiles<Record<A>, A>,
+    limit: u32,
     input: &mut R,
     output: &mut W,
     messages: &mut E,
 ) -> Ended
-    requires { read.loading.limit ≡ most_records }
+    requires same { read.loading.limit ≡ limit }
+    requires few { limit ≤ most_limit }
     ensures { (plan : RunPlan) (texts : Texts) → Says (λ r. r) plan texts read.loading (option_map (λ bytes. bytes.items) read.bases)
         → RunsScript plan texts
         (streams (R.state input.old) (W.state output.old) (E.state messages.old))
@@ -53,7 +51,11 @@ fn run_over<A: Allocator + Copy, R: Source, W: Sink, E: Sink>(
         Ok(session) => session,
         Err(fault) => return Ended::at_no_line(ExitReason::from(fault)),
     };
-    let done = run_script(alloc, &mut session, &SCRIPT_LIMITS, input, output, messages);
+    let limits = ScriptLimits {
+        lines: limit,
+        line_bytes: MOST_LINE_BYTES,
+    };
+    let done = run_script(alloc, &mut session, &limits, input, output, messages);
     // The process ends soon, and the system takes its memory at once. A drop would free record by record.
     mem::forget(session);
     Ended {
@@ -81,5 +83,5 @@ pub(crate) fn run_session<A: Allocator + Copy, F: InputFiles, R: Source, W: Sink
         ≡ streams (R.state input.old) (W.state output.old) (E.state messages.old)) }
 {
     let read = ReadFiles::read(alloc, files, plan)?;
-    Ok(run_over(alloc, read, input, output, messages))
+    Ok(run_over(alloc, read, plan.limit(), input, output, messages))
 }

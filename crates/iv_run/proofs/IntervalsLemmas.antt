@@ -119,6 +119,7 @@ narrowed-kept width b c (view.Kept (projected.Cluster distance)) asked is = cc
 narrowed-kept width b c (view.Kept (projected.Complement limited)) asked is = cc
 narrowed-kept width b c (view.Kept (projected.Genomecov rows)) asked is = cc
 narrowed-kept width b c (view.Written (written.Paired rows)) asked is = absurd (second-never b rows asked is)
+narrowed-kept width b c (view.Written written.Records) asked is = cc
 narrowed-kept width b c (view.Written (written.Getfasta rows)) asked is = absurd (fasta-never (rows.stranded && nat_lt width 6) c rows asked is)
 
 module _ (words : List (List ℕ)) where

@@ -11,6 +11,7 @@ ghost use Rattle.iv_track.specs.Tracked.{most_records};
 ghost use Rattle.iv_fasta.specs.FastaRows.{fasta_text};
 ghost use Rattle.iv_pair.specs.CoverAlone.{DependsOnCoverAlone, HaveBases};
 ghost use Rattle.iv_pair.specs.PairRows.{pair_text};
+ghost use Rattle.iv_view.specs.RecordRows.{records_text};
 ghost use Rattle.iv_view.specs.Views.{kept_text};
 ghost use Rattle.iv_run.specs.Loading.{parsed, second_of};
 ghost use Rattle.iv_run.specs.Inside.IntervalsViews.{AskForColumns, NeedsColumns};
@@ -28,7 +29,7 @@ use iv_bytes::{Buffered, Sink, WriteFault};
 use iv_fasta::{Fasta, FastaRows, put_fasta};
 use iv_index::{BedText, Span, TextRecords};
 use iv_pair::{CountSweep, IntersectRows, PairRows, PairSweep, needs_cover_alone};
-use iv_text::{Fault, Genome, LoadFault};
+use iv_text::{Fault, Genome, LoadFault, put_line};
 use iv_view::{Beside, KeptView, View, ViewFault, WrittenView};
 use std::alloc::{AllocError, Allocator, Global};
 use std::marker::Model;
@@ -138,6 +139,7 @@ impl<'t, A: Allocator + Copy> TextFiles<'t, A> {
             View::Kept(view) => self.put_kept_view(alloc, view, sink),
             View::Written(WrittenView::Paired(rows)) => self.put_pairs(alloc, rows, sink),
             View::Written(WrittenView::Getfasta(shown)) => self.put_fasta(alloc, shown, sink),
+            View::Written(WrittenView::Records) => self.put_records(alloc, sink),
         }
     }
 
@@ -199,6 +201,23 @@ impl<'t, A: Allocator + Copy> TextFiles<'t, A> {
         };
         records.sort(alloc)?;
         put_each(shown, &records.records(), &fasta, &genome, sink)?;
+        Ok(())
+    }
+
+    /// Puts the records of the first file, in the order of a track.
+    fn put_records<S: Sink>(self, alloc: A, sink: &mut S) -> Result<(), CliFault>
+        ensures text { Prints (S.state sink.old) (S.state sink.new) result (records_text self.entry.genome (ordered self.entry.first.rows)) }
+        ensures alone { result ≡ Err CliFault.Memory → sink.new ≡ sink.old }
+    {
+        let TextFiles {
+            genome,
+            first: mut lines,
+            second: _,
+            fasta: _,
+            limit: _,
+        } = self;
+        lines.sort(alloc)?;
+        put_lines(&lines.records(), &genome, sink)?;
         Ok(())
     }
 }
@@ -299,6 +318,20 @@ fn put_each<A: Allocator + Copy, S: Sink>(
 {
     for row in records.again() {
         put_fasta(shown, genome, &row, fasta, sink)?;
+    }
+    Ok(())
+}
+
+/// Puts the line of each record: all its columns. It takes no memory.
+fn put_lines<A: Allocator + Copy, S: Sink>(
+    records: &TextRecords<'_>,
+    genome: &Genome<A>,
+    sink: &mut S,
+) -> Result<(), WriteFault>
+    ensures { Puts (S.state sink.old) (S.state sink.new) result (records_text genome.now records.now) }
+{
+    for record in records.again() {
+        put_line(sink, genome, &record.to_ref())?;
     }
     Ok(())
 }

@@ -24,7 +24,7 @@ use Rattle.iv_view.specs.Intersect.{intersect_rows_said}
 use Rattle.iv_view.specs.Lists.{all_some}
 use Rattle.iv_view.specs.Merge.{MergeArgs, said_by, nothing_said, distance_of, lists_of, pairs_of, column_within, summary_within, filled_or_fault, asked_summaries, options_within, options_with, merge_options, cluster_distance}
 use Rattle.iv_view.specs.NarrowedViews.{number_of, has_columns, narrowed_options, narrowed}
-use Rattle.iv_view.specs.Views.{read_words, or_bad_words, as_merge, beside_second, beside_fasta}
+use Rattle.iv_view.specs.Views.{read_words, or_bad_words, as_merge, beside_second, beside_fasta, records_said}
 use Rattle.iv_view.specs.declared.view.View.{View}
 use Rattle.iv_view.specs.declared.view.View.TheVariants as view
 use Rattle.iv_view.specs.declared.view.KeptView.TheVariants as kept
@@ -226,6 +226,10 @@ module _ (width : ℕ) (has_second has_bases : Bool) where
   narrowed-fasta (Some shown) =
       sym (ap here (cond-false (shown.stranded && nat_lt 6 6) (Err fault.NoStrand) (Ok (view.Written (written.Getfasta shown))) (and_right shown.stranded (nat_lt 6 6) refl)))
 
+  narrowed-records : (words : List (List ℕ)) → records_said words ≡ here (records_said words)
+  narrowed-records [] = refl
+  narrowed-records (word ∷ words) = refl
+
   words-narrowed : (words : List (List ℕ)) → read_words width has_second has_bases words ≡ here (read_words 6 true true words)
   words-narrowed [] = refl
   words-narrowed (word ∷ words) =
@@ -235,7 +239,8 @@ module _ (width : ℕ) (has_second has_bases : Bool) where
       (either (bytes_eq word (codes "genomecov")) _ _ _ _ (narrowed-genomecov (genomecov_rows words))
       (either (bytes_eq word (codes "intersect")) _ _ _ _ (narrowed-paired (option_map pair.Intersect (intersect_rows_said words)))
       (either (bytes_eq word (codes "subtract")) _ _ _ _ (narrowed-paired (option_map pair.Subtract (only_flag (codes "-A") words)))
-      (either (bytes_eq word (codes "getfasta")) _ _ _ _ (narrowed-fasta (fasta_rows_said words)) refl))))))
+      (either (bytes_eq word (codes "getfasta")) _ _ _ _ (narrowed-fasta (fasta_rows_said words))
+      (either (bytes_eq word (codes "records")) _ _ _ _ (narrowed-records words) refl)))))))
 
   -- what a view that was read is narrowed to
   pub view-narrowed : (words : List (List ℕ)) (v : View) → read_words 6 true true words ≡ Ok v → narrowed width has_second has_bases v ≡ read_words width has_second has_bases words

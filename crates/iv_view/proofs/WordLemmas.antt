@@ -12,7 +12,7 @@ use Rattle.iv_view.specs.Getfasta as getfasta
 use Rattle.iv_view.specs.Intersect as intersect
 use Rattle.iv_view.specs.declared.merge.ValuedOption.{ValuedOption}
 use Rattle.iv_view.specs.declared.merge.ValuedOption.TheVariants as option
-use Rattle.iv_view.specs.Views.{read_words, or_bad_words, as_merge, beside_second, beside_fasta, needs_second}
+use Rattle.iv_view.specs.Views.{read_words, or_bad_words, as_merge, beside_second, beside_fasta, needs_second, records_said}
 use Rattle.iv_blocks.specs.declared.options.BlockOptions.{BlockOptions}
 use Rattle.iv_fasta.specs.declared.rows.FastaRows.{FastaRows}
 use Rattle.iv_pair.specs.declared.pair_rows.PairRows.{PairRows}
@@ -116,17 +116,22 @@ intersect-cut words = flag-cut intersect.is_wa intersect.rows_beside intersect_o
 fasta-cut : (words : List (List ℕ)) → getfasta.fasta_rows_said (take 8 words) ≡ getfasta.fasta_rows_said words
 fasta-cut words = flag-cut getfasta.is_s getfasta.rows_beside getfasta_others words
 
+records-cut : (words : List (List ℕ)) → records_said (take 8 words) ≡ records_said words
+records-cut [] = refl
+records-cut (word ∷ words) = refl
+
 -- words after the ninth change nothing: no view has as many
 pub words-cut : (width : ℕ) (has_second has_bases : Bool) (words : List (List ℕ))
     → read_words width has_second has_bases (take 9 words) ≡ read_words width has_second has_bases words
 words-cut width has_second has_bases [] = refl
-words-cut width has_second has_bases (word ∷ words) = rw (options-cut words, only-cut (codes "-L") words, rows-cut words, intersect-cut words, only-cut (codes "-A") words, fasta-cut words) refl
+words-cut width has_second has_bases (word ∷ words) = rw (options-cut words, only-cut (codes "-L") words, rows-cut words, intersect-cut words, only-cut (codes "-A") words, fasta-cut words, records-cut words) refl
 
 -- the view is written with the bases of a FASTA file
 abbrev needs_bases : View → Bool
 needs_bases (view.Kept v) = false
 needs_bases (view.Written (written.Paired rows)) = false
 needs_bases (view.Written (written.Getfasta shown)) = true
+needs_bases (view.Written written.Records) = false
 
 -- a view that needs a second file or a FASTA file is read only beside one
 module _ (has_second has_bases : Bool) where
@@ -161,6 +166,10 @@ module _ (has_second has_bases : Bool) where
       served-either (shown.stranded && nat_lt width 6) _ _ tt
       (served-beside has_bases _ _ (λ is. (λ needs. absurd (cc needs), λ needs. is)))
 
+  served-records : (words : List (List ℕ)) → IsServed (records_said words)
+  served-records [] = (λ needs. absurd (cc needs), λ needs. absurd (cc needs))
+  served-records (word ∷ words) = tt
+
   served : (width : ℕ) (words : List (List ℕ)) → IsServed (read_words width has_second has_bases words)
   served width [] = tt
   served width (word ∷ words) =
@@ -170,7 +179,8 @@ module _ (has_second has_bases : Bool) where
       (served-either (bytes_eq word (codes "genomecov")) _ _ (served-kept _)
       (served-either (bytes_eq word (codes "intersect")) _ _ (served-paired _)
       (served-either (bytes_eq word (codes "subtract")) _ _ (served-paired _)
-      (served-either (bytes_eq word (codes "getfasta")) _ _ (served-fasta width _) tt))))))
+      (served-either (bytes_eq word (codes "getfasta")) _ _ (served-fasta width _)
+      (served-either (bytes_eq word (codes "records")) _ _ (served-records words) tt)))))))
 
 pub needs-there : (width : ℕ) (has_second has_bases : Bool) (words : List (List ℕ)) (v : View)
     → read_words width has_second has_bases words ≡ Ok v → IsTrue (needs_second v) → IsTrue has_second

@@ -4,6 +4,7 @@ pub mod Merge
 pub mod Genomecov
 pub mod Intersect
 pub mod Getfasta
+pub mod RecordRows
 pub mod Views
 pub mod NarrowedViews
 pub mod KeptStates

@@ -43,3 +43,4 @@ narrowed width has_second has_bases (view.Kept (kept.Complement limited)) = Ok (
 narrowed width has_second has_bases (view.Kept (kept.Genomecov shown)) = Ok (view.Kept (kept.Genomecov shown))
 narrowed width has_second has_bases (view.Written (written.Paired rows)) = beside_second has_second (Some rows)
 narrowed width has_second has_bases (view.Written (written.Getfasta shown)) = beside_fasta width has_bases (Some shown)
+narrowed width has_second has_bases (view.Written written.Records) = Ok (view.Written written.Records)

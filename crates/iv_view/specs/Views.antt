@@ -1,5 +1,5 @@
 -- The views: the words that ask for one, and its text.
-use Rattle.std.specs.Prelude.{ℕ, Bool, true, false, nat_lt, ◌&&◌, if◌then◌else◌, List, [], ◌∷◌, Option, None, Some, Result, Ok, Err, codes}
+use Rattle.std.specs.Prelude.{ℕ, ◌+◌, Bool, true, false, nat_lt, ◌&&◌, if◌then◌else◌, List, [], ◌∷◌, Option, None, Some, Result, Ok, Err, codes}
 use Rattle.std.specs.Option.{ok_or, option_map}
 use Rattle.std.specs.Str.{bytes_eq}
 use Rattle.iv_text.specs.Genome.{Sequences}
@@ -17,12 +17,14 @@ use Rattle.iv_fasta.specs.declared.rows.FastaRows.{FastaRows}
 use Rattle.iv_pair.specs.PairRows.{pair_text}
 use Rattle.iv_pair.specs.declared.pair_rows.PairRows.{PairRows}
 use Rattle.iv_pair.specs.declared.pair_rows.PairRows.TheVariants as pair
-use Rattle.iv_track.specs.Tracked.{Tracked}
+use Rattle.iv_track.specs.Steps.{TakesUpTo}
+use Rattle.iv_track.specs.Tracked.{Tracked, different_records}
 use Rattle.iv_view.specs.Flags.{only_flag}
 use Rattle.iv_view.specs.Genomecov.{genomecov_rows}
 use Rattle.iv_view.specs.Getfasta.{fasta_rows_said}
 use Rattle.iv_view.specs.Intersect.{intersect_rows_said}
 use Rattle.iv_view.specs.Merge.{said_by, nothing_said, merge_options, cluster_distance}
+use Rattle.iv_view.specs.RecordRows.{records_text}
 use Rattle.iv_view.specs.declared.view.View.{View}
 use Rattle.iv_view.specs.declared.view.View.TheVariants as view
 use Rattle.iv_view.specs.declared.view.KeptView.{KeptView}
@@ -35,6 +37,7 @@ abbrev pub needs_second : View → Bool
 needs_second (view.Kept v) = false
 needs_second (view.Written (written.Paired rows)) = true
 needs_second (view.Written (written.Getfasta shown)) = false
+needs_second (view.Written written.Records) = false
 
 -- the view of which a state is kept, or bad words if there is none
 abbrev pub or_bad_words : Option KeptView → Result View Fault
@@ -59,6 +62,11 @@ beside_fasta width has_bases (Some shown) =
     else if has_bases then Ok (view.Written (written.Getfasta shown))
     else Err fault.NoFasta
 
+-- the view of all records, which has no options
+abbrev pub records_said : List (List ℕ) → Result View Fault
+records_said [] = Ok (view.Written written.Records)
+records_said (word ∷ words) = Err fault.Words
+
 -- the view that words ask for on a track of this width, beside a second file and a FASTA file or without, or their first fault
 abbrev pub read_words : ℕ → Bool → Bool → List (List ℕ) → Result View Fault
 read_words width has_second has_bases [] = Err fault.Words
@@ -70,6 +78,7 @@ read_words width has_second has_bases (word ∷ words) =
     else if bytes_eq word (codes "intersect") then beside_second has_second (option_map pair.Intersect (intersect_rows_said words))
     else if bytes_eq word (codes "subtract") then beside_second has_second (option_map pair.Subtract (only_flag (codes "-A") words))
     else if bytes_eq word (codes "getfasta") then beside_fasta width has_bases (fasta_rows_said words)
+    else if bytes_eq word (codes "records") then records_said words
     else Err fault.Words
 
 -- the text of a view of which a state is kept, on this genome for these records
@@ -83,6 +92,14 @@ kept_text (kept.Genomecov shown) g rows = depth_text shown g rows
 abbrev pub written_text : WrittenView → Sequences → List RecordValue → List RecordValue → Bases → List ℕ
 written_text (written.Paired shown) g rows second bases = pair_text shown g rows second
 written_text (written.Getfasta shown) g rows second bases = fasta_text shown g bases rows
+written_text written.Records g rows second bases = records_text g rows
+
+-- how many steps lie between two readings at most while a view is written from these records: of `records` two, and one more for
+-- each different record; the others may take as many as they need
+abbrev pub WritesWithin : WrittenView → List RecordValue → ℕ → ℕ → Type 0
+WritesWithin (written.Paired shown) rows old new = Unit {0}
+WritesWithin (written.Getfasta shown) rows old new = Unit {0}
+WritesWithin written.Records rows old new = TakesUpTo old new (2 + different_records rows)
 
 -- the records of a second file: none without one
 abbrev pub second_records : Option Tracked → List RecordValue

@@ -5,6 +5,7 @@ mod flags;
 mod kept_state;
 mod lemmas;
 mod merge;
+mod records;
 mod view;
 mod words;
 mod written_view;

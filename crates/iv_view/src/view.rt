@@ -1,6 +1,6 @@
 //! The kinds of view.
 ghost use Rattle.std.specs.Prelude.{◌≡◌, true, map};
-ghost use Rattle.iv_view.specs.Views.{read_words, or_bad_words as kept_or_bad_words, beside_second as beside_a_second, beside_fasta as beside_a_fasta};
+ghost use Rattle.iv_view.specs.Views.{read_words, or_bad_words as kept_or_bad_words, beside_second as beside_a_second, beside_fasta as beside_a_fasta, records_said};
 ghost use Rattle.iv_view.specs.NarrowedViews.{narrowed as narrowed_view};
 
 use crate::flags::{read_complement, read_genomecov, read_getfasta, read_intersect, read_subtract};
@@ -101,6 +101,8 @@ impl View {
             beside_second(EVERYTHING, read_subtract(options).map(PairRows::Subtract))
         } else if *word == b"getfasta".as_slice() {
             beside_fasta(EVERYTHING, read_getfasta(options))
+        } else if *word == b"records".as_slice() {
+            read_records(options)
         } else {
             Err(ViewFault::Words)
         }
@@ -123,6 +125,7 @@ impl View {
             ) => Ok(self),
             View::Written(WrittenView::Paired(rows)) => beside_second(beside, Some(rows)),
             View::Written(WrittenView::Getfasta(shown)) => beside_fasta(beside, Some(shown)),
+            View::Written(WrittenView::Records) => Ok(self),
         }
     }
 }
@@ -162,4 +165,15 @@ fn beside_fasta(beside: Beside, asked: Option<FastaRows>) -> Result<View, ViewFa
         return Err(ViewFault::NoFasta);
     }
     Ok(View::Written(WrittenView::Getfasta(shown)))
+}
+
+/// The view of all records, or a fault of the words if there are options, since it has none.
+fn read_records(options: &[&[u8]]) -> Result<View, ViewFault>
+    ensures { result ≡ records_said (map (λ word. word.now) options.now) }
+{
+    if options.is_empty() {
+        Ok(View::Written(WrittenView::Records))
+    } else {
+        Err(ViewFault::Words)
+    }
 }

@@ -10,6 +10,7 @@ use Rattle.iv_text.specs.RecordValue.{RecordValue}
 use Rattle.iv_view.specs.declared.view.View.{View}
 use Rattle.iv_view.specs.declared.view.View.TheVariants as view
 use Rattle.iv_view.specs.declared.view.KeptView.TheVariants as kept
+use Rattle.iv_view.specs.declared.written_view.WrittenView.TheVariants as written
 use Rattle.iv_workspace.specs.declared.views.OpenView.{OpenView}
 use Rattle.iv_workspace.specs.OpenViews.{Shown, all_current, stale_count}
 use Rattle.iv_workspace.specs.Prints.{ViewPrintsWithin, NamedPrintsWithin, AllPrintWithin}
@@ -53,7 +54,9 @@ none-taken (view.Kept (kept.Merge options)) g rows n = record { no_less = omega 
 none-taken (view.Kept (kept.Cluster distance)) g rows n = record { no_less = omega arith; at_most = omega arith }
 none-taken (view.Kept (kept.Complement limited)) g rows n = record { no_less = omega arith; at_most = omega arith }
 none-taken (view.Kept (kept.Genomecov shown)) g rows n = record { no_less = omega arith; at_most = omega arith }
-none-taken (view.Written v) g rows n = tt
+none-taken (view.Written (written.Paired shown)) g rows n = tt
+none-taken (view.Written (written.Getfasta shown)) g rows n = tt
+none-taken (view.Written written.Records) g rows n = record { no_less = omega arith; at_most = omega arith }
 
 -- a print that ends before them takes nothing for these
 pub nothing-taken : (views : List (List ℕ × Shown)) (g : Sequences) (rows : List RecordValue) (n : ℕ) → AllPrintWithin views g rows n n

@@ -5,6 +5,7 @@ use Rattle.iv_text.specs.Genome.{Sequences}
 use Rattle.iv_text.specs.RecordValue.{RecordValue}
 use Rattle.iv_text.specs.declared.fault.Fault.TheVariants as fault
 use Rattle.iv_view.specs.KeptStates.{state_key_of, PrintsWithin}
+use Rattle.iv_view.specs.Views.{WritesWithin}
 use Rattle.iv_view.specs.declared.view.View.{View}
 use Rattle.iv_view.specs.declared.view.View.TheVariants as view
 use Rattle.iv_workspace.specs.OpenViews.{Shown, Freshens, all_current, stale_count, with_current}
@@ -49,10 +50,10 @@ PrintedAll old new out0 out1 (Err (printing.Refused fault.NoMemory)) = (0 < stal
 PrintedAll old new out0 out1 (Err (printing.Refused other)) = ⊥
 
 -- how many steps lie between two readings at most while a view is printed that is current: as many as `KeptView::print` takes for one
--- of which something is kept; one that is written from the records may take as many as it needs
+-- of which something is kept, and as many as `WrittenView::print` for one that is written from the records
 abbrev pub ViewPrintsWithin : View → Sequences → List RecordValue → ℕ → ℕ → Type 0
 ViewPrintsWithin (view.Kept v) g rows old new = PrintsWithin v g rows old new
-ViewPrintsWithin (view.Written v) g rows old new = Unit {0}
+ViewPrintsWithin (view.Written v) g rows old new = WritesWithin v rows old new
 
 -- the same of the view that a name has: no step if no view has it; a stale view is built again first, and may take as many as it needs
 abbrev pub NamedPrintsWithin : Option Shown → Sequences → List RecordValue → ℕ → ℕ → Type 0

@@ -26,7 +26,7 @@ fn ask(rt: &HostRuntime, notices: &[(&[u8], InfoRequest)]) -> Result<bool, Fail>
 }
 
 /// Words, and the notice that they ask for.
-pub(crate) const NOTICES: [(&[u8], InfoRequest); 16] = [
+pub(crate) const NOTICES: [(&[u8], InfoRequest); 17] = [
     (b"--help", InfoRequest::Help),
     (b"-h", InfoRequest::Help),
     (b"help", InfoRequest::Help),
@@ -52,6 +52,7 @@ pub(crate) const NOTICES: [(&[u8], InfoRequest); 16] = [
         b"getfasta --help",
         InfoRequest::HelpOf(Subcommand::Getfasta),
     ),
+    (b"records -h", InfoRequest::HelpOf(Subcommand::Records)),
 ];
 
 #[test]

@@ -35,7 +35,7 @@ const IN_PIECES: [&[u8]; 8] = [
 ];
 
 /// Other runs.
-const AT_ONCE: [&[u8]; 11] = [
+const AT_ONCE: [&[u8]; 12] = [
     b"merge -s -g g -i a",
     b"merge -s -d 3 -g g -i a",
     b"merge -c 1 -o count -g g -i a",
@@ -45,6 +45,7 @@ const AT_ONCE: [&[u8]; 11] = [
     b"intersect -u -g g -a a -b b",
     b"subtract -g g -a a -b b",
     b"getfasta -g g -bed a -fi f",
+    b"records -g g -i a",
     b"session -g g -i a",
     b"session -g g -i a -b b -fi f",
 ];

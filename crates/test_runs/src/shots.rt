@@ -7,7 +7,7 @@ use iv_text::{LoadCause, RecordFault};
 use std::test::Fail;
 
 #[test]
-fn merge_and_cluster(rt: HostRuntime) -> Result<(), Fail> {
+fn merge_cluster_and_records(rt: HostRuntime) -> Result<(), Fail> {
     let three = b"chr1\t10\t20\nchr1\t20\t30\nchr1\t31\t40\n".as_slice();
     let four = b"chr1\t10\t20\nchr1\t20\t30\nchr1\t31\t40\nchr2\t0\t5\n".as_slice();
     for (words, first, rows) in [
@@ -32,6 +32,11 @@ fn merge_and_cluster(rt: HostRuntime) -> Result<(), Fail> {
             b"merge -g g -i a",
             b"chr2\t5\t9\nchr1\t30\t40\nchr1\t10\t35\n",
             b"chr1\t10\t40\nchr2\t5\t9\n",
+        ),
+        (
+            b"records -g g -i a",
+            b"chr2\t5\t9\tb\nchr1\t30\t40\tc\nchr2\t5\t9\ta\nchr1\t30\t40\tc\n",
+            b"chr1\t30\t40\tc\nchr1\t30\t40\tc\nchr2\t5\t9\ta\nchr2\t5\t9\tb\n",
         ),
     ] {
         assert!(rt; prints(&rt, words, &alone(first), rows)?);

@@ -45,3 +45,28 @@ fn words_of_sessions(rt: HostRuntime) -> Result<(), Fail> {
     assert!(rt; are_read(&rt, &SESSIONS)?);
     Ok(())
 }
+
+/// Words, and how many records a file and how many lines a script may have.
+const LIMITS: [(&[u8], u32); 5] = [
+    (b"session -g g -i a", 4_000_000),
+    (b"session -limit 1 -g g -i a", 1),
+    (b"merge -g g -limit 100000000 -i a", 100_000_000),
+    (b"cluster -g g -i a -width 4 -limit 0000000007", 7),
+    (b"intersect -g g -a -limit -b b", 4_000_000),
+];
+
+/// Whether the plans of words have these limits.
+fn have_limits(rt: &HostRuntime, asked: &[(&[u8], u32)]) -> Result<bool, Fail> {
+    for (words, limit) in asked {
+        if plan_of(rt, words)?.limit() != *limit {
+            return Ok(false);
+        }
+    }
+    Ok(true)
+}
+
+#[test]
+fn limits_of_runs(rt: HostRuntime) -> Result<(), Fail> {
+    assert!(rt; have_limits(&rt, &LIMITS)?);
+    Ok(())
+}

@@ -69,7 +69,7 @@ const OPTIONS: &[u8] = b"-i -d none none";
 
 /// Words, their run and its files, and the words of its view. That the records may lack a column or a strand is no fault of the
 /// words.
-const RUNS: [(&[u8], Subcommand, &[u8], &[u8]); 15] = [
+const RUNS: [(&[u8], Subcommand, &[u8], &[u8]); 16] = [
     (b"merge -g g -i a", Subcommand::Merge, ONE, b"merge"),
     (
         b"merge -i a -s -g g -d 5",
@@ -138,6 +138,7 @@ const RUNS: [(&[u8], Subcommand, &[u8], &[u8]); 15] = [
         BASES,
         b"getfasta -tab -s",
     ),
+    (b"records -i a -g g", Subcommand::Records, ONE, b"records"),
     (b"merge -g -i -i -d", Subcommand::Merge, OPTIONS, b"merge"),
     (
         b"genomecov -d -g -i -i -d",

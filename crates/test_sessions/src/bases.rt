@@ -17,7 +17,7 @@ const BASES: &[u8] = b">s test\nACGT\nNacg\ntR\n";
 const FIRST: &[u8] = b"s\t2\t6\tn\t0\t-\ns\t9\t10\tn\t0\t-\nu\t0\t5\tn\t0\t+\n";
 
 /// The views that are open.
-const VIEWS: [Around<'static>; 6] = [
+const VIEWS: [Around<'static>; 7] = [
     (
         b"f",
         &[b"getfasta"],
@@ -53,6 +53,12 @@ const VIEWS: [Around<'static>; 6] = [
         &[b"merge"],
         b"s\t2\t6\ns\t9\t10\nu\t0\t5\n",
         b"s\t0\t6\nu\t0\t5\n",
+    ),
+    (
+        b"r",
+        &[b"records"],
+        FIRST,
+        b"s\t0\t3\tk\t0\t-\ns\t2\t6\tn\t0\t.\nu\t0\t1\tk\t0\t+\nu\t0\t5\tn\t0\t+\n",
     ),
 ];
 

@@ -4,7 +4,7 @@ use Rattle.std.specs.Option.{option_and_then, option_to_list, is_some}
 use Rattle.iv_args.specs.declared.subcommand.Subcommand.{Subcommand}
 use Rattle.iv_args.specs.declared.subcommand.RunOption.{RunOption}
 use Rattle.iv_args.specs.declared.subcommand.RunOption.TheVariants as option
-use Rattle.iv_args.specs.Words.{RunPlan, option_of, takes_value, lead, width_said, needs_other, needs_bases, are_view_words}
+use Rattle.iv_args.specs.Words.{RunPlan, option_of, takes_value, lead, limit_said, width_said, needs_other, needs_bases, are_view_words}
 
 -- what is read of the words so far
 pub record PartialPlan : Type 0 where
@@ -13,11 +13,12 @@ pub record PartialPlan : Type 0 where
   pub other : Option (List ℕ)
   pub bases : Option (List ℕ)
   pub width : Option (List ℕ)
+  pub limit : Option (List ℕ)
   pub view : List (List ℕ)
 
 -- what is read once the first word is
 abbrev pub begun_by : Subcommand → List ℕ → PartialPlan
-begun_by run word = record { sizes = None; first = None; other = None; bases = None; width = None; view = lead run word }
+begun_by run word = record { sizes = None; first = None; other = None; bases = None; width = None; limit = None; view = lead run word }
 
 -- a value, unless one was given before
 abbrev pub unless_given : Option (List ℕ) → PartialPlan → Option PartialPlan
@@ -31,6 +32,7 @@ with_value option.First value said = unless_given said.first (record said { firs
 with_value option.Other value said = unless_given said.other (record said { other = Some value })
 with_value option.Bases value said = unless_given said.bases (record said { bases = Some value })
 with_value option.Width value said = unless_given said.width (record said { width = Some value })
+with_value option.Limit value said = unless_given said.limit (record said { limit = Some value })
 
 -- what is read after more words of the view
 abbrev pub viewed : List (List ℕ) → PartialPlan → PartialPlan
@@ -66,6 +68,7 @@ pub record Makes (run : Subcommand) (said : PartialPlan) (plan : RunPlan) : Type
   pub other : said.other ≡ plan.other
   pub bases : said.bases ≡ plan.bases
   pub width : width_said (option_to_list said.width) ≡ Some plan.width
+  pub limit : limit_said (option_to_list said.limit) ≡ Some plan.limit
   pub view : said.view ≡ plan.view
   pub needed : has_needed_files run said ≡ true
   pub understood : are_view_words run said.view ≡ true

@@ -126,8 +126,9 @@ impl<A: Allocator + Copy> Session<A> {
     /// Prints the view of this name, as [`Session::print_view`] does, and counts the steps.
     ///
     /// A view that is current takes no more than its print from what is kept for it: two steps, and one for each block (`merge`,
-    /// `complement`) or two for each row of a depth above 0 (`genomecov`); `cluster` four, and one for each record and each block. There
-    /// is no bound for a stale view, which is built again, or for one that is written from the records.
+    /// `complement`) or two for each row of a depth above 0 (`genomecov`); `cluster` four, and one for each record and each block.
+    /// `records` takes two, and one for each different record. There is no bound for a stale view, which is built again, or for another
+    /// one that is written from the records.
     ///
     /// # Errors
     ///

@@ -1,7 +1,8 @@
-use Rattle.std.proofs.Common.{Ok, Err, refl, ◌∙◌}
+use Rattle.std.proofs.Common.{ℕ, Ok, Err, refl, sym, subst, ◌∙◌}
 use Rattle.std.specs.Option.{option_map}
 use Rattle.iv_session.specs.Streams.{streams}
-use Rattle.iv_program.specs.Limits.{most_lines, most_line_bytes}
+use Rattle.iv_session.specs.Endings.{Ran}
+use Rattle.iv_program.specs.Limits.{most_line_bytes}
 use Rattle.iv_program.proofs.RunLemmas.{ran-of, report-of}
 use Rattle.iv_program.proofs.script_run.run_over.Goals as goal
 
@@ -19,10 +20,15 @@ returns g c = λ plan texts says. (
   (
     c.run_script-done.new.session,
     c.run_script-done.result,
-    ran-of c.in-Ok.session c.run_script-done.new.session
+    subst (λ (lines : ℕ). Ran c.in-Ok.session c.run_script-done.new.session
         (streams (g.R.Source.state c.args.input.now) (g.W.Sink.state c.args.output.now) (g.E.Sink.state c.args.messages.now))
         (streams (g.R.Source.state c.run_script-done.new.input) (g.W.Sink.state c.run_script-done.new.output) (g.E.Sink.state c.run_script-done.new.messages))
-        most_lines most_line_bytes c.run_script-done.result c.run_script-done.ensures.done c.run_script-done.ensures.stopped,
+        lines most_line_bytes c.run_script-done.result)
+        (sym c.requires.same ∙ says.limit_is)
+        (ran-of c.in-Ok.session c.run_script-done.new.session
+        (streams (g.R.Source.state c.args.input.now) (g.W.Sink.state c.args.output.now) (g.E.Sink.state c.args.messages.now))
+        (streams (g.R.Source.state c.run_script-done.new.input) (g.W.Sink.state c.run_script-done.new.output) (g.E.Sink.state c.run_script-done.new.messages))
+        c.args.limit most_line_bytes c.run_script-done.result c.run_script-done.ensures.done c.run_script-done.ensures.stopped),
     c.of_run.ensures,
     c.line_of_stop.ensures,
   ),

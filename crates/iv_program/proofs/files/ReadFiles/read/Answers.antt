@@ -51,7 +51,7 @@ returns-clause-ok g c =
     (says-first projected texts.sizes first.0 c.begin-loading.result c.in_ok-first.first sizes_said first.2) in
     let says : Says projected c.args.plan.now texts c.read_second.new.loading bases = record {
       width_is = c.in_ok-read_second.ensures.run.0 ∙ c.take_first.ensures.same.0 ∙ c.begin-loading.ensures.width;
-      limit_is = c.in_ok-read_second.ensures.run.1 ∙ c.take_first.ensures.same.1 ∙ c.begin-loading.ensures.limit;
+      limit_is = c.in_ok-read_second.ensures.run.1 ∙ c.take_first.ensures.same.1 ∙ c.begin-loading.ensures.limit ∙ c.limit.ensures.value;
       known_is = second.2 texts.sizes first.0 first_said (c.take_first.ensures.beside ∙ c.begin-loading.ensures.alone);
       bases_are = refl;
     } in (

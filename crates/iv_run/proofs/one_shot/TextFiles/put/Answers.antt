@@ -20,3 +20,8 @@ put_fasta-requires g c =
     let view-is : c.args.view ≡ view.Written (written.Getfasta c.in-Written-Getfasta.shown) = one ∙ ap view.Written two in
     let files = c.args.self in
     bases-there files.first.width (is_some files.second) (is_some files.bases) c.requires.0 c.in-Written-Getfasta.shown (c.requires.2 ∙ ap Ok view-is)
+
+pub put_kept_view-requires : goal.put_kept_view-requires
+put_kept_view-requires g c =
+    let files = c.args.self in
+    c.requires.1 c.in-Kept.view files.first.width (is_some files.second) (is_some files.bases) (c.requires.2 ∙ ap Ok c.in-Kept.is)

@@ -2,7 +2,7 @@ use Rattle.iv_bytes.proofs.PutLemmas.{Takes-nothing}
 use Rattle.iv_view.proofs.RowLemmas.{no-bases}
 use Rattle.iv_view.proofs.written_view.WrittenView.print.Goals as goal
 
-pub returns-in-None-fasta : goal.returns-in-None-fasta
-returns-in-None-fasta g c =
+pub returns-in-None-fasta-clause-text : goal.returns-in-None-fasta-clause-text
+returns-in-None-fasta-clause-text g c =
     rw (c.in-Getfasta.is, c.in-None-fasta.is)
     (rw (no-bases c.in-Getfasta.shown c.args.genome.now c.args.track.now.rows) (Takes-nothing (g.S.Sink.state c.args.sink.now)))
