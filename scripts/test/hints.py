@@ -1,18 +1,22 @@
 #!/usr/bin/env python3
-"""Makes ordinary mistakes with the built program, each through a pipe and at a pseudo-terminal.
+"""Makes the ordinary mistakes of tests/mistakes.tsv with the built program: through a pipe, at a pseudo-terminal, and through a pipe
+with hints always on.
 
     python3 scripts/test/hints.py build/bedkeep
 
-Through a pipe standard error has the fixed line alone. At a terminal a hint of one to three lines follows, which names the word, the
-value or the kind of the file, and what to do.
+Through a pipe standard error has the fixed line alone. At a terminal, and with hints on, one to three lines follow, which name the word,
+the value or the kind of the file, and what to do. If that is a command over a damaged file, it has to mend the file.
 """
+import contextlib
 import gzip
 import os
 import pty
+import re
 import resource
 import subprocess
 import sys
 import tempfile
+import threading
 
 BED6 = b"chr1\t10\t20\ta\t2.5\t+\nchr1\t15\t30\tb\t1.5\t-\n"
 FILES = {
@@ -40,11 +44,11 @@ FILES = {
     "strand": b"chr1\t10\t20\ta\t0\tplus\n",
     "score": b"chr1\t10\t20\ta\t\t+\n",
     "backwards": b"chr1\t20\t10\n",
-    "no_base": b"chr1\t20\t20\n",
+    "no_base": b"chr1\t20\t20\nchr1\t30\t40\n",
     "past": b"chr1\t10\t1001\n",
     "negative": b"chr1\t-1\t10\n",
     "huge": b"chr1\t1\t99999999999\n",
-    "thousands": b"chr1\t1,000\t2,000\n",
+    "thousands": b"chr1\t0,100\t0,200\n",
     "exponent": b"chr1\t1e2\t200\n",
     "mark": b"\xef\xbb\xbfchr1\t10\t20\n",
     "heading": b"chrom\tstart\tend\nchr1\t10\t20\n",
@@ -67,125 +71,43 @@ FILES = {
     "short.fa": b">chr1\nACGT\n",
     "twice.fa": b">chr1\n" + b"A" * 1000 + b"\n>chr1\n" + b"A" * 1000 + b"\n",
     "spaced.fa": b">chr1\nACGT \n",
+    "a.bam": b"\x1f\x8b\x08\x04\0\0\0\0\0\xff\x06\0BC\x02\0\0\0",
+    "blocks.gz": b"\x1f\x8b\x08\x04\0\0\0\0\0\xff\x06\0BC\x02\0\0\0",
+    "a.cram": b"CRAM\x03\x00",
+    "shifted": b"geneA\tchr1\t100\t200\n",
+    "shifted3": b"geneA\tchr1\n",
+    "capital": b"Chr1\t10\t20\n",
+    "upper": b"CHR1\t10\t20\n",
+    "spaced_name": b"chr1 \t10\t20\n",
+    "spaced_start": b"chr1\t10 \t20\n",
+    "spaced_strand": b"chr1\t10\t20\ta\t0\t+ \n",
+    "point": b"chr1\t10.0\t20.0\n",
+    "no_start": b"chr1\t\t20\n",
+    "tracked.bed": b"track name=a\nchr1\t10\t20\n",
     "gz.fa": gzip.compress(b">chr1\nACGT\n", mtime=0),
 }
 
-NOT_DIGITS = "1 to 10 digits"
-# Words, status, the fixed line, and what the hint says.
-WORDS = [
-    ("", 2, "bad options", ["usage: bedkeep SUBCOMMAND", "subcommands: merge", "try: bedkeep --help"]),
-    ("mrege -g sizes -i a.bed", 2, "bad options", ["mrege", "is merge meant"]),
-    ("intersct -g sizes -a a.bed -b a.bed", 2, "bad options", ["is intersect meant"]),
-    ("slop -g sizes -i a.bed", 2, "bad options", ["slop of bedtools", "docs/BEDTOOLS.md"]),
-    ("sort -i a.bed", 2, "bad options", ["sort of bedtools", "docs/BEDTOOLS.md"]),
-    ("a.bed", 2, "bad options", ["a.bed isn't a subcommand", "merge, cluster"]),
-    ("-g sizes -i a.bed", 2, "bad options", ["a subcommand comes before -g"]),
-    ("-v", 2, "bad options", ["--version"]),
-    ("-help", 2, "bad options", ["--help"]),
-    ("help mrege", 2, "bad options", ["is merge meant"]),
-    ("--help slop", 2, "bad options", ["docs/BEDTOOLS.md"]),
-    ("merge", 2, "bad options", ["-g GENOME is missing", "try: bedkeep merge --help"]),
-    ("merge -i a.bed", 2, "bad options", ["-g GENOME is missing"]),
-    ("merge -g sizes", 2, "bad options", ["-i BED is missing"]),
-    ("intersect -g sizes -a a.bed", 2, "bad options", ["-b BED is missing"]),
-    ("getfasta -g sizes -bed a.bed", 2, "bad options", ["-fi FASTA is missing"]),
-    ("merge -g sizes -i a.bed -D 5", 2, "bad options", ["-D isn't an option of merge", "is -d meant"]),
-    ("merge -g sizes -i a.bed -widht 4", 2, "bad options", ["is -width meant"]),
-    ("merge -g sizes -i a.bed -x", 2, "bad options", ["-x isn't an option of merge"]),
-    ("merge -g sizes -i a.bed -d", 2, "bad options", ["-d needs a number"]),
-    ("merge -g sizes -i", 2, "bad options", ["-i needs BED"]),
-    ("merge -g -i a.bed", 2, "bad options", ["-g needs GENOME"]),
-    ("merge -g sizes -i a.bed -d x", 2, "bad options", ["-d needs a number", "not x"]),
-    ("merge -g sizes -i a.bed -d -5", 2, "bad options", ["-d needs a number", "not -5"]),
-    ("merge -g sizes -i a.bed -d=5", 2, "bad options", ["-d=5", "a space, and no ="]),
-    ("merge -g sizes -i a.bed -width 7", 2, "bad options", ["-width needs a number from 3 to 6", "not 7"]),
-    ("merge -g sizes -i a.bed -c 4 -o mean", 2, "bad options", ["-o needs count, sum", "not mean"]),
-    ("merge -g sizes -i a.bed -c name", 2, "bad options", ["-c needs numbers of columns", "not name"]),
-    ("merge -g sizes -i a.bed -o sum", 2, "bad options", ["-o needs -c"]),
-    ("merge -g sizes -i a.bed -c 4,5,6 -o sum,count", 2, "bad options", ["2 operations for 3 columns"]),
-    ("merge -g sizes -i a.bed -d 5 -d 6", 2, "bad options", ["-d is given twice"]),
-    ("merge -g sizes -a a.bed", 2, "bad options", ["-a is for other subcommands", "-i"]),
-    ("intersect -g sizes -i a.bed -b a.bed", 2, "bad options", ["-i is for other subcommands", "-a"]),
-    ("merge -g sizes a.bed", 2, "bad options", ["a.bed is no option", "after -i"]),
-    ("genomecov -g sizes -i a.bed", 2, "bad options", ["one of -bg, -bga and -d"]),
-    ("intersect -g sizes -a a.bed -b a.bed -u -v", 2, "bad options", ["at most one of -u, -v and -c"]),
-    ("intersect -g sizes -a a.bed -b a.bed -f 0.5", 2, "bad options", ["-f of bedtools", "docs/BEDTOOLS.md"]),
-    ("intersect -g sizes -a a.bed -b a.bed -wo", 2, "bad options", ["-wo of bedtools", "docs/BEDTOOLS.md"]),
-    ("intersect -g sizes -a a.bed -b a.bed -sorted", 2, "bad options", ["-sorted of bedtools", "docs/BEDTOOLS.md"]),
-    ("cluster -g sizes -i a.bed -s", 2, "bad options", ["-s of bedtools", "docs/BEDTOOLS.md"]),
-    ("session -g sizes -i a.bed script", 2, "bad options", ["read from standard input: < script"]),
-    ("merge -g sizes -i a.bed -h", 2, "bad options", ["help on merge"]),
-    ("merge -g sizes -i a.bed -c 5", 2, "no such column", ["a.bed", "columns: 3"]),
-    ("merge -g sizes -i a.bed -s", 2, "strand needs six columns", ["a.bed", "columns: 3"]),
-    ("merge -g sizes -i empty.bed -s", 2, "strand needs six columns", ["-width 6"]),
-    ("merge -g sizes -i -", 4, "-: cannot be read", ["/dev/stdin"]),
-    ("session -g sizes -i -", 4, "-: cannot be read", ["the script", "<(..)"]),
-    ("merge -g sizes -i stdin", 4, "stdin: cannot be read", ["/dev/stdin"]),
-    ("merge -g sizes -i none", 4, "none: cannot be read", ["no such file"]),
-    ("merge -g none -i a.bed", 4, "none: cannot be read", ["no such file"]),
-    ("merge -g sizes -i folder", 4, "folder: cannot be read", ["a directory"]),
-    ("merge -g sizes -i secret", 4, "secret: cannot be read", ["doesn't allow"]),
-]
-# A damaged BED file, its fixed line, and what the hint says.
-BEDS = [
-    ("a.bed.gz", "line 1: wrong number of columns", ["gzip", "zcat"]),
-    ("bed12", "line 1: wrong number of columns", ["BED12", "cut -f1-6"]),
-    ("narrow", "line 1: wrong number of columns", ["narrowPeak", "cut -f1-6"]),
-    ("a.gff", "line 2: wrong number of columns", ["GFF", "awk"]),
-    ("a.vcf", "line 3: wrong number of columns", ["VCF", "awk"]),
-    ("spaces", "line 1: wrong number of columns", ["spaces and no TAB", "sed"]),
-    ("commas", "line 1: wrong number of columns", ["commas", "tr"]),
-    ("binary", "line 1: wrong number of columns", ["isn't text"]),
-    ("short", "line 1: wrong number of columns", ["3 to 6", "TABs: 2"]),
-    ("ragged", "line 2: wrong number of columns", ["this line: 4", "first record: 3"]),
-    ("trailing", "line 1: bad name", ["column 4 is empty", "sed"]),
-    ("score", "line 1: bad score", ["column 5 is empty"]),
-    ("strand", "line 1: bad strand", ["not plus"]),
-    ("bare.bed", "line 1: unknown sequence", ["no 1, and has chr1", "sed"]),
-    ("chr3.bed", "line 2: unknown sequence", ["no chr3"]),
-    ("mark", "line 1: unknown sequence", ["byte order mark", "sed"]),
-    ("heading", "line 1: unknown sequence", ["heading", "sed 1d"]),
-    ("quotes", "line 1: unknown sequence", ["quotes", "tr -d"]),
-    ("blank", "line 2: unknown sequence", ["TABs alone", "sed"]),
-    ("sound.fa", "line 1: wrong number of columns", ["FASTA"]),
-    ("backwards", "line 1: start not below end", ["start has to be below"]),
-    ("no_base", "line 1: start not below end", ["awk"]),
-    ("past", "line 1: end past the sequence's end", ["chr1 has 1000 bases"]),
-    ("negative", "line 1: start is not a number", [NOT_DIGITS, "not -1"]),
-    ("huge", "line 1: end is not a number", [NOT_DIGITS, "99999999999"]),
-    ("thousands", "line 1: start is not a number", [NOT_DIGITS, "1,000"]),
-    ("exponent", "line 1: start is not a number", [NOT_DIGITS, "1e2"]),
-    ("returns", "line 1: end is not a number", ["CR alone", "tr"]),
-    ("escape", "line 1: end is not a number", ["\\x1b[31m"]),
-    ("wide", "line 1: end is not a number", ["yy .."]),
-    ("many", "line 4000001: too many", ["at most 4000000", "examples/at_scale"]),
-]
-GENOMES = [
-    ("spaced.sizes", 3, "line 1: wrong number of columns", ["spaces and no TAB"]),
-    ("gz.sizes", 3, "line 1: wrong number of columns", ["gzip"]),
-    ("names.sizes", 3, "line 1: wrong number of columns", ["a name, a TAB and a length"]),
-    ("headed.sizes", 3, "line 1: bad length", ["a length", "not length"]),
-    ("twice.sizes", 3, "line 2: repeated name", ["chr1 came before"]),
-    ("bed.sizes", 3, "line 2: repeated name", ["looks like a BED file"]),
-]
-FASTAS = [
-    ("short.fa", "line 1: length differs from the genome", [".fai"]),
-    ("a.bed", "line 1: bases before a header", ["begins with >"]),
-    ("twice.fa", "line 3: repeated name", ["comes once"]),
-    ("spaced.fa", "line 2: bad base", ["sed"]),
-    ("gz.fa", "line 1: bases before a header", ["gzip"]),
-]
-# Runs that end well and have lost something, and those that haven't.
-WELL = [
-    ("complement -g zero.sizes -i empty.bed", ["all lengths", "BED file"]),
-    ("getfasta -g sizes -bed a.bed -fi bare.fa", ["no chr1", "first sequence is 1"]),
-    ("merge -g sizes -i six.bed -c 5", ["column 5 has 1.5", "sum reads whole numbers"]),
-    ("merge -g sizes -i six.bed -c 4,5 -o count,max", ["max reads whole numbers"]),
-    ("merge -g sizes -i six.bed -c 5 -o collapse", []),
-    ("merge -g sizes -i a.bed", []),
-    ("getfasta -g sizes -bed a.bed -fi sound.fa", []),
-    ("--version", []),
-]
+# Commands of hints, over a file that is called FILE, and those that mend what they are about.
+COMMAND = re.compile(r"(?:(?<=: )|(?<=; )|(?<=  )|(?<=\())((?:awk|sed|tr|cut|zcat)\b.*? FILE)\b")
+MENDED = {
+    "a.bed.gz", "bed12", "narrow", "a.gff", "a.vcf", "spaces", "commas", "trailing", "bare.bed", "mark", "heading", "quotes", "blank", "backwards",
+    "no_base", "negative", "thousands", "exponent", "returns", "ragged", "capital", "upper", "spaced_name", "spaced_start", "spaced_strand",
+    "shifted", "point", "strand",
+}
+
+
+def read_table():
+    """The rows of the table: where, what is typed, the status, the fixed line, the parts of the hint."""
+    top = os.path.dirname(os.path.dirname(os.path.dirname(os.path.abspath(__file__))))
+    with open(os.path.join(top, "tests", "mistakes.tsv"), encoding="utf-8") as table:
+        for line in table:
+            if not line.startswith("#"):
+                where, typed, status, fixed, parts = line.rstrip("\n").split("\t")
+                yield where, typed, int(status), fixed, parts.split(" | ") if parts else []
+
+
+def unescaped(text):
+    return text.encode().decode("unicode_escape").encode("latin-1")
 
 
 def limit_memory():
@@ -204,6 +126,10 @@ class Trial:
         """The status, and standard error through a pipe."""
         done = subprocess.run([self.program, *words], stderr=subprocess.PIPE, check=False, **options)
         return done.returncode, done.stderr.decode()
+
+    def run_with_hints(self, words, **options):
+        """The same with hints always on."""
+        return self.run(words, env={**os.environ, "BEDKEEP_HINTS": "always"}, **options)
 
     def run_at_terminal(self, words, typed=None, **options):
         """The same if standard error is a terminal."""
@@ -230,28 +156,117 @@ class Trial:
         self.count += 1
         options = {"stdin": subprocess.DEVNULL, "stdout": subprocess.DEVNULL, **options}
         piped = self.run(words, **options)
-        shown = self.run_at_terminal(words, **options)
         if piped != (status, line):
             self.wrong.append(f"{words}: through a pipe {piped}, wanted {(status, line)}")
+        shown = self.run_at_terminal(words, **options)
+        self.check_hint(words, shown, status, line, parts)
+        hinted = self.run_with_hints(words, **options)
+        if hinted != shown:
+            self.wrong.append(f"{words}: with hints on {hinted}, at a terminal {shown}")
+        return shown[1].removeprefix(line)
+
+    def check_hint(self, subject, shown, status, line, parts):
+        """Looks whether a hint has these parts. Without parts there is none."""
         hint = shown[1].removeprefix(line)
         lines = hint.splitlines()
         is_hint = all(one.startswith("  ") and one.isprintable() for one in lines) and len(lines) <= 3
         has_parts = all(part in hint for part in parts) and bool(lines) == bool(parts)
         if shown[0] != status or not shown[1].startswith(line) or not is_hint or not has_parts:
-            self.wrong.append(f"{words}: at a terminal {shown}, wanted {(status, line, parts)}")
+            self.wrong.append(f"{subject}: {shown}, wanted {(status, line, parts)}")
 
-    def try_tables(self):
-        for words, status, line, parts in WORDS:
-            if words.split()[-1:] != ["secret"] or os.geteuid() != 0:
-                self.says(words.split(), status, f"bedkeep: {line}\n", parts)
-        for name, line, parts in BEDS:
-            self.says(["merge", "-g", "sizes", "-i", name], 3, f"bedkeep: {name}: {line}\n", parts)
-        for name, status, line, parts in GENOMES:
-            self.says(["merge", "-g", name, "-i", "a.bed"], status, f"bedkeep: {name}: {line}\n", parts)
-        for name, line, parts in FASTAS:
-            self.says(["getfasta", "-g", "sizes", "-bed", "a.bed", "-fi", name], 3, f"bedkeep: {name}: {line}\n", parts)
-        for words, parts in WELL:
-            self.says(words.split(), 0, "", parts)
+    def try_table(self):
+        for where, typed, status, line, parts in read_table():
+            if where == "well":
+                self.says(typed.split(), status, "", parts)
+            elif where == "arguments":
+                if typed.split()[-1:] != ["secret"] or os.geteuid() != 0:
+                    self.says(typed.split(), status, f"bedkeep: {line}\n", parts)
+            elif where in ("bed", "genome", "fasta"):
+                self.try_file(where, typed, status, line, parts)
+            else:
+                self.try_line(where, typed, line, parts)
+
+    def try_file(self, where, name, status, line, parts):
+        """A damaged file. A command that the hint has mends it."""
+        named = f"bedkeep: {line}\n" if ": line" in line else f"bedkeep: {name}: {line}\n"
+        if where == "genome":
+            self.says(["merge", "-g", name, "-i", "a.bed"], status, named, parts)
+        elif where == "fasta":
+            self.says(["getfasta", "-g", "sizes", "-bed", "a.bed", "-fi", name], status, named, parts)
+        else:
+            hint = self.says(["merge", "-g", "sizes", "-i", name], status, named, parts)
+            if name in MENDED:
+                self.try_command(name, hint)
+
+    def try_command(self, name, hint):
+        """The first command of a hint, over the file."""
+        found = COMMAND.search(hint)
+        if not found:
+            self.wrong.append(f"{name}: no command in {hint!r}")
+            return
+        command = found[1].replace("FILE", name)
+        script = f"{command} > mended && {self.program} merge -g sizes -i mended"
+        done = subprocess.run(["bash", "-c", script], capture_output=True, check=False)
+        if done.returncode != 0 or not done.stdout:
+            self.wrong.append(f"{name}: {command}: {done}")
+
+    def try_line(self, name, typed, reason, parts):
+        """A refused line of a script over a file, in the three ways. With hints on the hint is below the message."""
+        self.count += 1
+        words = ["session", "-g", "sizes", "-i", name]
+        message = f"line 1: {reason}\n"
+        with open("typed", "wb") as script:
+            script.write(unescaped(typed) + b"\n")
+        runs = self.run, self.run_at_terminal, self.run_with_hints
+        piped, shown, hinted = [self.over("typed", run, words) for run in runs]
+        if piped != (1, message):
+            self.wrong.append(f"{typed}: through a pipe {piped}, wanted {message!r}")
+        self.check_hint(typed, shown, 1, message, parts)
+        if hinted != (1, shown[1].replace("  line 1: ", "  ", 1)):
+            self.wrong.append(f"{typed}: with hints on {hinted}, at a terminal {shown}")
+
+    def over(self, name, run, words):
+        """A run whose standard input is a file."""
+        with open(name, "rb") as script:
+            return run(words, stdin=script, stdout=subprocess.DEVNULL)
+
+    def try_many_lines(self):
+        """Three lines of a kind have a hint, below their messages or, at a terminal, after all of them. A line `?` has none, and the
+        count begins again after it."""
+        self.count += 1
+        words = ["session", "-g", "sizes", "-i", "a.bed"]
+        message = "line {}: unknown sequence\n".format
+        hint = "  the genome file has no chr9: cut -f1 GENOME prints its names\n"
+        asked = "line {}: no such command or wrong fields\n".format
+        with open("typed", "wb") as script:
+            script.write(b"add\tchr9\t1\t2\n" * 5 + b"?\n" + b"# " + b"x" * 9000 + b"\nadd\tchr9\t1\t2\n")
+        found = self.over("typed", self.run_with_hints, words)
+        wanted = "".join(message(n) + (hint if n < 4 else "") for n in range(1, 6)) + asked(6) + message(8) + hint
+        if found != (1, wanted):
+            self.wrong.append(f"many lines with hints on: {found}")
+        found = self.over("typed", self.run_at_terminal, words)
+        wanted = "".join(map(message, range(1, 6))) + asked(6) + message(8)
+        wanted += "".join(f"  line {n}: {hint[2:]}" for n in (1, 2, 3, 8))
+        if found != (1, wanted):
+            self.wrong.append(f"many lines at a terminal: {found}")
+
+    def try_never(self):
+        """Hints that aren't wanted."""
+        self.count += 1
+        os.environ["BEDKEEP_HINTS"] = "never"
+        found = self.run_at_terminal(["merge"])
+        del os.environ["BEDKEEP_HINTS"]
+        if found != (2, "bedkeep: bad options\n"):
+            self.wrong.append(f"without hints at a terminal: {found}")
+
+    def try_pipes(self):
+        """Damaged files that are pipes: the hint shows the line as it was read."""
+        names = {"spaces": "spaces and no TAB", "a.bed.gz": "gzip", "bed12": "BED12", "bare.bed": "no 1, and has chr1", "shifted": "column 2, chr1"}
+        for name, part in names.items():
+            with open(name, "rb") as file:
+                text = file.read()
+            fault = next(line for where, typed, _, line, _ in read_table() if (where, typed) == ("bed", name))
+            self.says_of(lambda text=text: self.pipe_of(text), ["merge", "-g", "sizes", "-i", "/dev/stdin"], 3, f"bedkeep: /dev/stdin: {fault}\n", ["line 1: ", part])
 
     def try_others(self):
         """What isn't a table: other genome files, streams that fail, names that are no text, and too little memory."""
@@ -268,19 +283,23 @@ class Trial:
         os.close(reader)
         self.says(merge, 4, lost, ["head", "all rows before"], stdout=writer)
         os.close(writer)
-        self.says_of(lambda: self.pipe_of(b"chr1 10 20\n"), ["merge", "-g", "sizes", "-i", "/dev/stdin"], 3, "bedkeep: /dev/stdin: line 1: wrong number of columns\n", ["read twice"])
+        self.says_of(lambda: self.pipe_of(b"chr1\t10\t20\n" * 6000 + b"chr1 10 20\n"), ["merge", "-g", "sizes", "-i", "/dev/stdin"], 3, "bedkeep: /dev/stdin: line 6001: wrong number of columns\n", ["read twice"])
         self.says(["merge", "-g", "marked.sizes", "-i", "a.bed"], 3, "bedkeep: a.bed: line 1: unknown sequence\n", ["byte order mark", "sed"])
         self.says_of_script(session, 4, "bedkeep: input too long\n", ["line 2 of the script", "1048576"], "long")
         self.says_of_script(session, 4, "bedkeep: input cannot be read\n", ["line 1 of the script"], "folder")
         self.says_of_script(session, 4, lost, ["line 2 of the script", "disk may be full"], "script", "/dev/full")
-        self.says_of_script(session, 1, "line 1: unknown sequence\n", [], "refused")
+        self.says_of_script(session, 1, "line 1: unknown sequence\n", ["line 1: the genome file has no chr9"], "refused")
         self.says_of_script(session, 0, "", [], "script")
 
     def pipe_of(self, text):
         """A pipe that has this text."""
         reader, writer = os.pipe()
-        os.write(writer, text)
-        os.close(writer)
+
+        def write():
+            with contextlib.suppress(BrokenPipeError), open(writer, "wb") as file:
+                file.write(text)
+
+        threading.Thread(target=write, daemon=True).start()
         return reader
 
     def says_of_script(self, words, status, line, parts, name, output=os.devnull):
@@ -289,16 +308,17 @@ class Trial:
     def says_of(self, opened, words, status, line, parts, output=os.devnull):
         """One mistake with an input, which is opened for each of both runs."""
         self.count += 1
-        for at_terminal in (False, True):
+        for way, run in enumerate([self.run, self.run_at_terminal, self.run_with_hints]):
             reader = opened()
-            run = self.run_at_terminal if at_terminal else self.run
             with open(output, "wb") as rows:
                 found = run(words, stdin=reader, stdout=rows)
             os.close(reader)
             hint = found[1].removeprefix(line)
-            wanted = parts if at_terminal else []
+            wanted = parts if way > 0 else []
+            if way == 2:
+                wanted = [part.removeprefix("line 1: ") if line.startswith("line 1: ") else part for part in parts]
             if found[0] != status or not found[1].startswith(line) or bool(hint) != bool(wanted) or not all(part in hint for part in wanted):
-                self.wrong.append(f"{words} {line!r}: {'at a terminal' if at_terminal else 'through a pipe'} {found}")
+                self.wrong.append(f"{words} {line!r}: {run.__name__} {found}")
 
     def try_typing(self):
         """Who types a script is sent to the prompt, once."""
@@ -328,13 +348,16 @@ def main():
     with tempfile.TemporaryDirectory() as folder:
         os.chdir(folder)
         make_files()
-        trial.try_tables()
+        trial.try_table()
+        trial.try_many_lines()
+        trial.try_never()
+        trial.try_pipes()
         trial.try_others()
         trial.try_typing()
         os.chdir("/")
     for wrong in trial.wrong:
         print(wrong, file=sys.stderr)
-    print(f"{trial.count} runs through a pipe and at a terminal, {len(trial.wrong)} of them wrong")
+    print(f"{trial.count} mistakes through a pipe, at a terminal and with hints on, {len(trial.wrong)} of them wrong")
     sys.exit(1 if trial.wrong else 0)
 
 

@@ -2,21 +2,25 @@
 //! `bedkeep SUBCOMMAND ..`: prints one view of its files.
 //!
 //! It hands the arguments, the files and the standard streams over, and exits. What a run does is in `iv_program`. If standard error is
-//! a terminal, a hint of `iv_hints` follows.
+//! a terminal, or the environment says `BEDKEEP_HINTS=always`, hints of `iv_hints` are among the messages or follow them.
 #![tactic(auto)]
 
+mod kept_front;
 mod seen_files;
+mod watched;
 
 ghost use Rattle.std.specs.Prelude.{None};
 
+use crate::kept_front::{KeptFront, KeptSource};
 use crate::seen_files::SeenFiles;
+use crate::watched::{Hints, Seen, Watch, WatchedInput, WatchedMessages, show};
 use iv_bytes::{ReadFault, Source, StdSink, StdSource, put_all};
 use iv_cli::ExitReason;
-use iv_hints::{Hint, hint_of, hint_of_no_words, hint_of_session};
-use iv_program::{InputFiles, run_program, tell};
-use std::alloc::AllocError;
+use iv_hints::{hint_of, hint_of_no_words, hint_of_session};
+use iv_program::{Ended, InputFiles, run_program, tell};
+use std::cell::RefCell;
 use std::env;
-use std::fs::File;
+use std::fs::{File, metadata};
 use std::io::IsTerminal;
 use std::process::ExitCode;
 use std::str::from_utf8;
@@ -24,36 +28,87 @@ use std::str::from_utf8;
 /// The files of the system.
 #[derive(Drop)]
 struct StdFiles<'a> {
-    rt: &'a HostRuntime,
+    watch: Watch<'a>,
     failed: bool,
 }
 
+impl StdFiles<'_> {
+    /// Where the front of a file is kept, if it can't be read twice and hints are shown.
+    fn front_of(&self, path: &str) -> Option<KeptFront> {
+        let is_regular = metadata(self.watch.rt, path).is_ok_and(|known| known.is_file());
+        if is_regular || self.watch.hints == Hints::Never {
+            return None;
+        }
+        KeptFront::new(self.watch.rt.alloc(), path.as_bytes()).ok()
+    }
+
+    /// Keeps the front of a file.
+    fn keep(&self, front: Option<KeptFront>) {
+        if let (Some(front), Ok(mut seen)) = (front, self.watch.seen.try_borrow_mut()) {
+            let _ = seen.fronts.push(front);
+        }
+    }
+}
+
 impl InputFiles for StdFiles<'_> {
-    type File = StdSource<File>;
+    type File = KeptSource<StdSource<File>>;
 
     // What a file holds is not known.
     ghost state = { λ files. record { contents = λ _. None; failed = files.failed } };
 
-    fn open(&mut self, name: &[u8]) -> Result<StdSource<File>, ReadFault> {
+    fn open(&mut self, name: &[u8]) -> Result<KeptSource<StdSource<File>>, ReadFault> {
         // A name that is no text can't be opened.
         if let Ok(path) = from_utf8(name) {
-            if let Ok(file) = File::open(self.rt, path) {
-                return Ok(StdSource::new(file));
+            if let Ok(file) = File::open(self.watch.rt, path) {
+                let front = self.front_of(path);
+                return Ok(KeptSource::new(StdSource::new(file), front));
             }
         }
         self.failed = true;
         Err(ReadFault)
     }
 
-    fn close(&mut self, file: StdSource<File>) {
+    fn close(&mut self, file: KeptSource<StdSource<File>>) {
         self.failed = file.failed() || self.failed;
+        self.keep(file.into_front());
     }
 }
 
-/// Writes a hint, if there is memory for one. It is no loss if that fails.
-fn show(rt: &HostRuntime, hint: Result<Hint, AllocError>) {
-    if let Ok(hint) = hint {
-        let _ = put_all(&mut StdSink::new(rt.stderr()), hint.bytes());
+/// When hints are shown: as `BEDKEEP_HINTS` says, or if standard error is a terminal. Below each message they are if a program asks for
+/// them or the script is typed.
+fn hints_wanted(rt: &HostRuntime) -> Hints {
+    if let Ok(wish) = env::var(rt, "BEDKEEP_HINTS") {
+        match wish.as_bytes() {
+            b"always" => return Hints::AtOnce,
+            b"never" => return Hints::Never,
+            _ => {}
+        }
+    }
+    if !rt.stderr().is_terminal() {
+        Hints::Never
+    } else if rt.stdin().is_terminal() {
+        Hints::AtOnce
+    } else {
+        Hints::After
+    }
+}
+
+/// Shows the hints that follow a run.
+fn show_after(watch: Watch<'_>, ended: Ended) {
+    if watch.hints == Hints::Never {
+        return;
+    }
+    if let Ok(seen) = watch.seen.try_borrow() {
+        for hint in seen.later.as_slice() {
+            let _ = put_all(&mut StdSink::new(watch.rt.stderr()), hint.bytes());
+        }
+        let files = &mut SeenFiles {
+            rt: watch.rt,
+            fronts: seen.fronts.as_slice(),
+        };
+        let alloc = watch.rt.alloc();
+        let hint = hint_of(alloc, watch.names, ended.exit_reason, ended.line, files);
+        show(watch.rt, hint);
     }
 }
 
@@ -62,31 +117,35 @@ fn run(rt: &HostRuntime) -> Result<u8, ExitReason> {
     let words: Vec<String> = env::args(rt)?.collect(rt.alloc())?;
     let after_program = words.iter().skip(1).map(|word| word.as_bytes());
     let names: Vec<&[u8]> = after_program.collect(rt.alloc())?;
-    let has_reader = rt.stderr().is_terminal();
-    if has_reader && rt.stdin().is_terminal() {
+    let seen = RefCell::new(Seen::new(rt));
+    let watch = Watch {
+        rt,
+        names: names.as_slice(),
+        hints: hints_wanted(rt),
+        seen: &seen,
+    };
+    if watch.hints != Hints::Never && rt.stderr().is_terminal() && rt.stdin().is_terminal() {
         show(rt, hint_of_session(rt.alloc(), names.as_slice()));
     }
     let ended = run_program(
         rt.alloc(),
         names.as_slice(),
-        &mut StdFiles { rt, failed: false },
-        &mut StdSource::new(rt.stdin()),
+        &mut StdFiles {
+            watch,
+            failed: false,
+        },
+        &mut WatchedInput::new(StdSource::new(rt.stdin()), watch),
         &mut StdSink::new(rt.stdout()),
-        &mut StdSink::new(rt.stderr()),
+        &mut WatchedMessages::new(StdSink::new(rt.stderr()), watch),
     );
-    if has_reader {
-        let files = &mut SeenFiles { rt };
-        let (exit_reason, line) = (ended.exit_reason, ended.line);
-        let hint = hint_of(rt.alloc(), names.as_slice(), exit_reason, line, files);
-        show(rt, hint);
-    }
+    show_after(watch, ended);
     Ok(ended.status())
 }
 
 /// Ends a run whose arguments the system doesn't give.
 fn end(rt: &HostRuntime, exit_reason: ExitReason) -> u8 {
     let status = tell(exit_reason, b"", &mut StdSink::new(rt.stderr()));
-    if rt.stderr().is_terminal() {
+    if hints_wanted(rt) != Hints::Never {
         show(rt, hint_of_no_words(rt.alloc(), exit_reason));
     }
     status

@@ -1,14 +1,16 @@
 //! The files of the system, as hints look at them.
+use crate::kept_front::KeptFront;
 use iv_bytes::StdSource;
 use iv_hints::{HintFiles, NoFile};
 use std::fs::{File, metadata};
 use std::io::ErrorKind;
 use std::str::from_utf8;
 
-/// Files that are read again. A pipe is left alone: it could wait for ever.
+/// Files that are read again. A pipe is left alone, since it could wait for ever: of it the front was kept.
 #[derive(Drop)]
-pub(crate) struct SeenFiles<'a> {
+pub(crate) struct SeenFiles<'a, 'b> {
     pub(crate) rt: &'a HostRuntime,
+    pub(crate) fronts: &'b [KeptFront],
 }
 
 /// Why a file is not looked at, by the kind of the system's error.
@@ -20,7 +22,7 @@ fn no_file(kind: ErrorKind) -> NoFile {
     }
 }
 
-impl HintFiles for SeenFiles<'_> {
+impl HintFiles for SeenFiles<'_, '_> {
     type File = StdSource<File>;
 
     fn open(&mut self, name: &[u8]) -> Result<StdSource<File>, NoFile> {
@@ -36,5 +38,14 @@ impl HintFiles for SeenFiles<'_> {
             },
             Err(error) => Err(no_file(error.kind())),
         }
+    }
+
+    fn kept(&self, name: &[u8]) -> &[u8] {
+        for front in self.fronts {
+            if front.is_of(name) {
+                return front.bytes();
+            }
+        }
+        b""
     }
 }

@@ -1,16 +1,20 @@
 //! The hint on a damaged file.
 use crate::file_kinds::{BYTE_ORDER_MARK, FileKind, GZIP};
 use crate::hint::Hint;
-use crate::records::{alike_in, column, count_columns, first_record, is_number, length_in};
+use crate::records::{
+    alike_in, column, count_columns, first_record, has_name, is_number, length_in,
+};
+use crate::values::{SPACES_AWAY, is_spaced, put_number, put_spaced, shown, trimmed};
 use itoa::Buffer;
 use iv_args::Slot;
 use iv_text::{Fault, LoadCause, LoadFault};
 use std::alloc::AllocError;
 
-/// A damaged file: its first fault, the text of the faulty line, the front of the file and that of the genome file.
+/// A damaged file: its name, its first fault, the text of the faulty line, the front of the file and that of the genome file.
 #[derive(Drop)]
 pub(crate) struct Damage<'a> {
     pub(crate) slot: Slot,
+    pub(crate) name: &'a [u8],
     pub(crate) fault: LoadFault,
     pub(crate) line: &'a [u8],
     pub(crate) front: &'a [u8],
@@ -24,7 +28,9 @@ pub(crate) const IN_PARTS: &[u8] = b"larger data is cut into parts: examples/at_
 pub(crate) fn put_too_many(slot: Slot, hint: &mut Hint) -> Result<(), AllocError> {
     match slot {
         Slot::Sizes => hint.line(&[b"a genome file has at most 1000000 sequences"])?,
-        _ => hint.line(&[b"a BED file has at most 4000000 records"])?,
+        _ => hint.line(&[
+            b"a BED file has more records than -limit allows, which is 4000000 if it isn't given: -limit N, up to 100000000",
+        ])?,
     }
     hint.line(&[IN_PARTS])
 }
@@ -32,8 +38,47 @@ pub(crate) fn put_too_many(slot: Slot, hint: &mut Hint) -> Result<(), AllocError
 /// Puts a text about a column, and the column.
 fn put_value(text: &[u8], value: Option<&[u8]>, hint: &mut Hint) -> Result<(), AllocError> {
     match value {
-        Some(value) => hint.line(&[text, b", and not ", value.get(..40).unwrap_or(value)]),
+        Some(value) => hint.line(&[text, b", and not ", shown(value)]),
         None => hint.line(&[text]),
+    }
+}
+
+/// Puts that the columns of a line are shifted: the second one is a sequence.
+fn put_shifted(line: &[u8], hint: &mut Hint) -> Result<(), AllocError> {
+    hint.line(&[
+        b"column 2, ",
+        shown(column(line, 1).unwrap_or(b"")),
+        b", is a sequence of the genome file: it is column 1 of a BED file",
+    ])?;
+    match count_columns(line) {
+        4 => hint.line(&[
+            b"awk -F '\\t' -v OFS='\\t' '{ print $2, $3, $4, $1 }' FILE makes the first column the name",
+        ]),
+        _ => hint.line(&[b"cut -f2- FILE leaves the first column out"]),
+    }
+}
+
+/// Puts how names of a file become like those of the genome file, given one of each.
+fn put_renaming(name: &[u8], known: &[u8], hint: &mut Hint) -> Result<(), AllocError> {
+    let starts = name.get(..3).zip(known.get(..3));
+    if known.strip_prefix(b"chr").is_some_and(|rest| rest == name) {
+        hint.line(&[b"names have to be the same: sed '/^#/!s/^/chr/' FILE"])
+    } else if name.strip_prefix(b"chr").is_some_and(|rest| rest == known) {
+        hint.line(&[b"names have to be the same: sed 's/^chr//' FILE"])
+    } else if let Some((front, b"chr")) = starts {
+        hint.line(&[
+            b"names have to be the same: sed 's/^",
+            front,
+            b"/chr/' FILE",
+        ])
+    } else {
+        hint.line(&[
+            b"names have to be the same: sed 's/^",
+            name,
+            b"\\t/",
+            known,
+            b"\\t/' FILE",
+        ])
     }
 }
 
@@ -42,7 +87,7 @@ impl Damage<'_> {
     pub(crate) fn put(&self, hint: &mut Hint) -> Result<(), AllocError> {
         if self.line.is_empty() {
             return hint.line(&[
-                b"the line isn't shown, since the file can't be read twice: docs/FORMAT.md says what the message means",
+                b"the line isn't shown, since a pipe can't be read twice: write it into a file, and give that",
             ]);
         }
         hint.quote(self.fault.line, self.line)?;
@@ -55,32 +100,22 @@ impl Damage<'_> {
 
     /// Puts what a BED file looks like, or what is wrong with its line.
     fn put_bed(&self, hint: &mut Hint) -> Result<(), AllocError> {
-        if let Some(kind) = FileKind::of_bed(self.front, self.line) {
+        if let Some(kind) = FileKind::of_bed(self.name, self.front, self.line) {
             return kind.put(hint);
         }
         match self.fault.cause {
             LoadCause::Record(Fault::UnknownSeq) => self.put_unknown(hint),
             LoadCause::Record(Fault::PastEnd) => self.put_past_end(hint),
-            LoadCause::Record(Fault::Order) => hint.line(&[
-                b"the start has to be below the end: awk -F '\\t' '$2 < $3' FILE leaves such records out",
-            ]),
-            LoadCause::Record(Fault::StartNumber) => put_value(
-                b"the start has 1 to 10 digits",
-                column(self.line, 1),
-                hint,
-            ),
-            LoadCause::Record(Fault::StopNumber) => put_value(
-                b"the end has 1 to 10 digits",
-                column(self.line, 2),
-                hint,
-            ),
+            LoadCause::Record(Fault::Order) => self.put_order(hint),
+            LoadCause::Record(Fault::StartNumber) => {
+                put_number(b"the start", column(self.line, 1), hint)
+            }
+            LoadCause::Record(Fault::StopNumber) => {
+                put_number(b"the end", column(self.line, 2), hint)
+            }
             LoadCause::Record(Fault::Name) => self.put_empty(b"4", 3, hint),
             LoadCause::Record(Fault::Score) => self.put_empty(b"5", 4, hint),
-            LoadCause::Record(Fault::Strand) => put_value(
-                b"column 6 is +, - or . (cut -f1-5 FILE leaves it out)",
-                column(self.line, 5),
-                hint,
-            ),
+            LoadCause::Record(Fault::Strand) => self.put_strand(hint),
             _ => self.put_columns(hint),
         }
     }
@@ -113,11 +148,23 @@ impl Damage<'_> {
                 b"the genome file begins with a byte order mark: sed '1s/^\xEF\xBB\xBF//' takes it away",
             ]);
         }
+        if first_record(self.genome).is_none() {
+            return hint.line(&[
+                b"the genome file is empty: it has a name, a TAB and a length on each line",
+            ]);
+        }
         let name = column(self.line, 0).unwrap_or(b"");
+        if is_spaced(name) {
+            put_spaced(b"the name", name, hint)?;
+            return hint.line(&[SPACES_AWAY]);
+        }
+        if column(self.line, 1).is_some_and(|second| has_name(self.genome, second)) {
+            return put_shifted(self.line, hint);
+        }
         match alike_in(self.genome, name) {
             Some(known) => {
                 hint.line(&[b"the genome file has no ", name, b", and has ", known])?;
-                hint.line(&[b"names have to be the same: sed 's/^/chr/' or sed 's/^chr//'"])
+                put_renaming(name, known, hint)
             }
             None => hint.line(&[
                 b"the genome file has no ",
@@ -125,6 +172,43 @@ impl Damage<'_> {
                 b": take the genome file of this assembly, or add a line to it",
             ]),
         }
+    }
+
+    /// Puts what is wrong with a start that isn't below the end.
+    fn put_order(&self, hint: &mut Hint) -> Result<(), AllocError> {
+        let start = column(self.line, 1).unwrap_or(b"");
+        let end = column(self.line, 2).unwrap_or(b"");
+        if start == end {
+            hint.line(&[
+                b"the start has to be below the end, and both are ",
+                start,
+                b": the record has no base",
+            ])?;
+            return hint.line(&[b"awk -F '\\t' 'NF < 3 || $2 != $3' FILE leaves such records out"]);
+        }
+        hint.line(&[
+            b"the start has to be below the end: ",
+            start,
+            b" is above ",
+            end,
+        ])?;
+        hint.line(&[
+            b"awk -F '\\t' -v OFS='\\t' '$2 > $3 { t = $2; $2 = $3; $3 = t } 1' FILE exchanges the two; '$2 < $3' leaves the record out",
+        ])
+    }
+
+    /// Puts what is wrong with a strand.
+    fn put_strand(&self, hint: &mut Hint) -> Result<(), AllocError> {
+        let value = column(self.line, 5).unwrap_or(b"");
+        if is_spaced(value) && matches!(trimmed(value), b"+" | b"-" | b".") {
+            put_spaced(b"column 6", value, hint)?;
+            return hint.line(&[SPACES_AWAY]);
+        }
+        put_value(
+            b"column 6 is +, - or . (cut -f1-5 FILE leaves it out)",
+            Some(value),
+            hint,
+        )
     }
 
     /// Puts the length of the sequence.
@@ -154,7 +238,7 @@ impl Damage<'_> {
 
     /// Puts what a genome file looks like, or what is wrong with its line.
     fn put_genome(&self, hint: &mut Hint) -> Result<(), AllocError> {
-        if let Some(kind) = FileKind::of_any(self.front, self.line) {
+        if let Some(kind) = FileKind::of_any(self.name, self.front, self.line) {
             return kind.put(hint);
         }
         match self.fault.cause {
@@ -177,7 +261,7 @@ impl Damage<'_> {
     /// Puts what is wrong with a FASTA file.
     fn put_bases(&self, hint: &mut Hint) -> Result<(), AllocError> {
         if self.front.starts_with(GZIP) {
-            return FileKind::Gzip.put(hint);
+            return FileKind::of_gzip(self.name, self.front).put(hint);
         }
         match self.fault.cause {
             LoadCause::BasesFirst => {

@@ -3,12 +3,13 @@ use crate::damage::{Damage, IN_PARTS, put_too_many};
 use crate::files::{FRONT_BYTES, HintFiles, NoFile, front_of, line_of};
 use crate::hint::Hint;
 use crate::losses::put_loss;
+use crate::mistake::value_after;
 use crate::records::{count_columns, first_record};
 use crate::words::put_words;
 use itoa::Buffer;
 use iv_args::{Plan, Slot};
 use iv_cli::ExitReason;
-use iv_text::{LoadCause, LoadFault};
+use iv_text::{LoadCause, LoadFault, read_number};
 use std::alloc::{AllocError, Global};
 
 /// The hint below the line of an ending, given the arguments after the program's name, the line of the script at which the run ended
@@ -33,7 +34,7 @@ pub fn hint_of<F: HintFiles>(
         }
         (ExitReason::InputTooLong, _) => put_script_line(
             line,
-            b": a script has at most 4000000 lines of at most 1048576 bytes",
+            b": a script has at most as many lines as -limit allows, 4000000 if it isn't given, of at most 1048576 bytes",
             &mut hint,
         )?,
         (ExitReason::Output, _) => put_output(line, &mut hint)?,
@@ -109,36 +110,70 @@ fn put_of_plan<F: HintFiles>(
         }
         ExitReason::Damaged(slot, fault) => put_damage(alloc, plan, slot, fault, files, hint),
         ExitReason::Unreadable(_) if matches!(name, b"-" | b"stdin") => put_stdin(plan, hint),
-        ExitReason::Unreadable(_) => put_unreadable(name, files, hint),
+        ExitReason::Unreadable(_) => put_unreadable(alloc, name, files, hint),
         ExitReason::TooLong(_) => {
             hint.line(&[b"a file has at most 4294967295 bytes"])?;
             hint.line(&[IN_PARTS])
         }
-        _ => put_columns(alloc, plan, files, hint),
+        ExitReason::Words(code) => put_columns(alloc, plan, code, files, hint),
+        _ => Ok(()),
     }
 }
 
-/// Puts how many columns the records have, if an option needs more.
+/// The width of the track of a plan, and whether a record shows it.
+pub(crate) fn width_of<F: HintFiles>(
+    alloc: Global,
+    plan: &Plan<'_>,
+    slot: Slot,
+    files: &mut F,
+) -> Result<(usize, bool), AllocError> {
+    let front = front_of(alloc, files, plan.file(slot).unwrap_or(b""), 65536)?;
+    Ok(match first_record(front.bytes.as_slice()) {
+        Some(record) => (count_columns(record), true),
+        None => (plan.width() as usize, false),
+    })
+}
+
+/// Puts which column is missing, of how many.
 fn put_columns<F: HintFiles>(
     alloc: Global,
     plan: &Plan<'_>,
+    code: u8,
     files: &mut F,
     hint: &mut Hint,
 ) -> Result<(), AllocError> {
-    let front = front_of(alloc, files, plan.first_file(), 65536)?;
-    let mut digits = Buffer::new();
-    match first_record(front.bytes.as_slice()) {
-        Some(record) => hint.line(&[
-            b"the records of ",
-            plan.first_file(),
-            b" have so many columns: ",
-            digits.format(count_columns(record)).as_bytes(),
-            b"; -c counts from 1, and -s needs six",
-        ]),
-        None => hint.line(&[
-            b"the file has no record: -width 6 says that records of it would have six columns",
-        ]),
+    let (width, has_record) = width_of(alloc, plan, Slot::First, files)?;
+    put_missing_column(plan.view_words(), code, width, hint)?;
+    if has_record {
+        return Ok(());
     }
+    hint.line(&[b"the file has no record: -width 6 says that records of it would have six columns"])
+}
+
+/// Puts which column the words of a view ask for, of records of this width.
+pub(crate) fn put_missing_column(
+    words: &[&[u8]],
+    code: u8,
+    width: usize,
+    hint: &mut Hint,
+) -> Result<(), AllocError> {
+    let mut digits = Buffer::new();
+    let width_text = digits.format(width).as_bytes();
+    if code == 18 {
+        return hint.line(&[b"-s needs six columns, and the records have ", width_text]);
+    }
+    let list = value_after(words, b"-c").unwrap_or(b"");
+    for item in list.split(|byte| *byte == b',') {
+        if read_number(item).is_none_or(|number| number == 0 || number as usize > width) {
+            return hint.line(&[
+                b"-c ",
+                item,
+                b": the records have columns 1 to ",
+                width_text,
+            ]);
+        }
+    }
+    Ok(())
 }
 
 /// A line without the carriage return at its end.
@@ -161,6 +196,7 @@ fn put_damage<F: HintFiles>(
     let genome = front_of(alloc, files, plan.sizes_file(), FRONT_BYTES)?;
     let damage = Damage {
         slot,
+        name,
         fault,
         line: without_return(line.as_slice()),
         front: front.bytes.as_slice(),
@@ -179,14 +215,33 @@ fn put_stdin(plan: &Plan<'_>, hint: &mut Hint) -> Result<(), AllocError> {
 
 /// Puts why a file can't be read.
 fn put_unreadable<F: HintFiles>(
+    alloc: Global,
     name: &[u8],
     files: &mut F,
     hint: &mut Hint,
 ) -> Result<(), AllocError> {
-    hint.line(&[match files.open(name) {
-        Err(NoFile::Missing) => b"there is no such file",
-        Err(NoFile::Directory) => b"it is a directory, and no file",
-        Err(NoFile::Forbidden) => b"the system doesn't allow to read it: ls -l shows whose it is",
-        _ => b"the system failed to read it to its end",
-    }])
+    match files.open(name) {
+        Err(NoFile::Missing) => put_missing_file(alloc, name, hint),
+        Err(NoFile::Directory) => hint.line(&[b"it is a directory, and no file"]),
+        Err(NoFile::Forbidden) => {
+            hint.line(&[b"the system doesn't allow to read it: ls -l shows whose it is"])
+        }
+        _ => hint.line(&[b"the system failed to read it to its end"]),
+    }
+}
+
+/// Puts that there is no file of a name, which may be several names.
+fn put_missing_file(alloc: Global, name: &[u8], hint: &mut Hint) -> Result<(), AllocError> {
+    if !name.contains(&b',') {
+        return hint.line(&[b"there is no such file: ls shows those that there are"]);
+    }
+    let mut names = Vec::new(alloc);
+    for byte in name {
+        names.push(if *byte == b',' { b' ' } else { *byte })?;
+    }
+    hint.line(&[
+        b"there is no such file; one file comes after an option: of several, <(cat ",
+        names.as_slice(),
+        b")",
+    ])
 }

@@ -6,7 +6,10 @@ use std::alloc::AllocError;
 /// What a file looks like.
 #[derive(Clone, Copy, Debug, PartialEq, Eq)]
 pub(crate) enum FileKind {
+    Bam,
+    Bgzip,
     Gzip,
+    Cram,
     Mark,
     Binary,
     Returns,
@@ -23,6 +26,9 @@ pub(crate) enum FileKind {
 
 /// What a file that gzip has compressed begins with.
 pub(crate) const GZIP: &[u8] = b"\x1f\x8b";
+
+/// What bgzip and BAM begin with: a block of gzip with a field of its own.
+const BLOCKED_GZIP: &[u8] = b"\x1f\x8b\x08\x04";
 
 /// What some editors put at the front of a file.
 pub(crate) const BYTE_ORDER_MARK: &[u8] = b"\xef\xbb\xbf";
@@ -47,15 +53,17 @@ fn is_heading(line: &[u8]) -> bool {
 }
 
 impl FileKind {
-    /// What a BED file looks like, given its front and its damaged line.
-    pub(crate) fn of_bed(front: &[u8], line: &[u8]) -> Option<FileKind> {
-        FileKind::of_any(front, line).or_else(|| FileKind::of_line(front, line))
+    /// What a BED file looks like, given its name, its front and its damaged line.
+    pub(crate) fn of_bed(name: &[u8], front: &[u8], line: &[u8]) -> Option<FileKind> {
+        FileKind::of_any(name, front, line).or_else(|| FileKind::of_line(front, line))
     }
 
-    /// What any file looks like, given its front and its damaged line.
-    pub(crate) fn of_any(front: &[u8], line: &[u8]) -> Option<FileKind> {
+    /// What any file looks like, given its name, its front and its damaged line.
+    pub(crate) fn of_any(name: &[u8], front: &[u8], line: &[u8]) -> Option<FileKind> {
         if front.starts_with(GZIP) {
-            Some(FileKind::Gzip)
+            Some(FileKind::of_gzip(name, front))
+        } else if front.starts_with(b"CRAM") {
+            Some(FileKind::Cram)
         } else if line.starts_with(BYTE_ORDER_MARK) {
             Some(FileKind::Mark)
         } else if line.iter().any(|byte| is_binary(*byte)) {
@@ -68,6 +76,17 @@ impl FileKind {
             Some(FileKind::Commas)
         } else {
             None
+        }
+    }
+
+    /// What a compressed file holds: of a file of blocks its name shows whether that is BAM.
+    pub(crate) fn of_gzip(name: &[u8], front: &[u8]) -> FileKind {
+        if !front.starts_with(BLOCKED_GZIP) {
+            FileKind::Gzip
+        } else if name.ends_with(b".bam") {
+            FileKind::Bam
+        } else {
+            FileKind::Bgzip
         }
     }
 
@@ -99,6 +118,18 @@ impl FileKind {
     /// What it is, and what to do.
     fn text(self) -> (&'static [u8], &'static [u8]) {
         match self {
+            FileKind::Bam => (
+                b"the file is BAM",
+                b"bedtools bamtobed -i FILE writes BED, with /dev/stdin as the file",
+            ),
+            FileKind::Cram => (
+                b"the file is CRAM",
+                b"samtools view -b FILE | bedtools bamtobed -i stdin writes BED, with /dev/stdin as the file",
+            ),
+            FileKind::Bgzip => (
+                b"the file is compressed by bgzip",
+                b"zcat FILE, with /dev/stdin as the file; if it is BAM, bedtools bamtobed -i FILE",
+            ),
             FileKind::Gzip => (
                 b"the file is compressed by gzip",
                 b"zcat FILE, with /dev/stdin as the file, or <(zcat FILE)",

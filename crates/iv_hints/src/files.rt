@@ -1,5 +1,6 @@
 //! Files that are looked at again.
 use iv_bytes::Source;
+use iv_text::lines_of;
 use std::alloc::{AllocError, Global};
 
 /// How many bytes of the front of a file are looked at.
@@ -7,6 +8,9 @@ pub(crate) const FRONT_BYTES: usize = 4_194_304;
 
 /// How many bytes of a line are kept.
 const MOST_LINE_BYTES: usize = 4096;
+
+/// More lines than the front of a pipe that is kept can have.
+const MOST_KEPT_LINES: u64 = 1_000_000;
 
 /// Why a file is not looked at.
 #[derive(Clone, Copy, Debug, PartialEq, Eq)]
@@ -28,6 +32,9 @@ pub trait HintFiles {
 
     /// Opens the file of this name at its front.
     fn open(&mut self, name: &[u8]) -> Result<Self::File, NoFile>;
+
+    /// What was kept of the front of a file that can't be read twice; nothing of others.
+    fn kept(&self, name: &[u8]) -> &[u8];
 }
 
 /// A line that is looked for.
@@ -111,7 +118,7 @@ fn read_front<R: Source>(alloc: Global, source: &mut R, most: usize) -> Result<F
     Ok(front)
 }
 
-/// The front of the file of a name, nothing if it isn't looked at.
+/// The front of the file of a name, or what was kept of it.
 pub(crate) fn front_of<F: HintFiles>(
     alloc: Global,
     files: &mut F,
@@ -120,14 +127,18 @@ pub(crate) fn front_of<F: HintFiles>(
 ) -> Result<Front, AllocError> {
     match files.open(name) {
         Ok(mut file) => read_front(alloc, &mut file, most),
-        Err(_) => Ok(Front {
-            bytes: Vec::new(alloc),
-            is_whole: false,
-        }),
+        Err(_) => {
+            let mut bytes = Vec::new(alloc);
+            bytes.extend_from_slice(files.kept(name))?;
+            Ok(Front {
+                bytes,
+                is_whole: false,
+            })
+        }
     }
 }
 
-/// The line of this number of the file of a name, nothing if it isn't looked at.
+/// The line of this number of the file of a name, nothing if it isn't known.
 pub(crate) fn line_of<F: HintFiles>(
     alloc: Global,
     files: &mut F,
@@ -136,6 +147,13 @@ pub(crate) fn line_of<F: HintFiles>(
 ) -> Result<Vec<u8>, AllocError> {
     match files.open(name) {
         Ok(mut file) => read_line(alloc, &mut file, number),
-        Err(_) => Ok(Vec::new(alloc)),
+        Err(_) => {
+            let mut text = Vec::new(alloc);
+            let before = number.saturating_sub(1).min(MOST_KEPT_LINES) as usize;
+            if let Some(line) = lines_of(files.kept(name)).nth(before) {
+                text.extend_from_slice(line)?;
+            }
+            Ok(text)
+        }
     }
 }

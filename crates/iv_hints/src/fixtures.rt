@@ -26,7 +26,15 @@ impl<'a> HintFiles for MemHintFiles<'a> {
             Some(file) => Ok(MemSource::new(file.bytes, 1_000_000, 7)),
             None if name == b"folder".as_slice() => Err(NoFile::Directory),
             None if name == b"secret".as_slice() => Err(NoFile::Forbidden),
+            None if name.starts_with(b"/dev/") => Err(NoFile::Other),
             None => Err(NoFile::Missing),
+        }
+    }
+
+    fn kept(&self, name: &[u8]) -> &[u8] {
+        match name {
+            b"/dev/fd/63" => b"chr1 10 20\n",
+            _ => b"",
         }
     }
 }

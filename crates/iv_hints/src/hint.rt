@@ -49,6 +49,8 @@ fn quoted_front(text: &[u8]) -> &[u8] {
 pub struct Hint {
     text: Vec<u8>,
     lines: usize,
+    /// The number of the line of a script that the first line names; 0 if it names none.
+    number: u64,
     ghost few: { lines ≤ 3 },
     ghost ended: { feeds text.items ≡ lines },
     ghost shown: { AreShown text.items },
@@ -60,6 +62,16 @@ impl Hint {
         Hint {
             text: Vec::new(alloc),
             lines: 0,
+            number: 0,
+        }
+    }
+
+    /// The same, and its first line names a line of a script.
+    pub(crate) fn on_line(alloc: Global, number: u64) -> Hint {
+        Hint {
+            text: Vec::new(alloc),
+            lines: 0,
+            number,
         }
     }
 
@@ -91,10 +103,29 @@ impl Hint {
         }
         self.push(b' ')?;
         self.push(b' ')?;
+        if self.lines == 0 && self.number > 0 {
+            let mut digits = Buffer::new();
+            self.escape(b"line ")?;
+            self.escape(digits.format(self.number).as_bytes())?;
+            self.escape(b": ")?;
+        }
         for piece in pieces {
             self.escape(piece)?;
         }
         self.end_line()
+    }
+
+    /// Adds a line of six pieces; some may be empty.
+    pub(crate) fn join(
+        &mut self,
+        first: &[u8],
+        second: &[u8],
+        third: &[u8],
+        fourth: &[u8],
+        fifth: &[u8],
+        sixth: &[u8],
+    ) -> Result<(), AllocError> {
+        self.line(&[first, second, third, fourth, fifth, sixth])
     }
 
     /// Ends a line, unless three have ended.

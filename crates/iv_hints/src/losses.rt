@@ -3,6 +3,8 @@ use crate::files::{FRONT_BYTES, HintFiles, front_of};
 use crate::hint::Hint;
 use crate::mistake::value_after;
 use crate::records::{alike_in, column, is_digits, is_record, length_in};
+use crate::values::shown;
+use itoa::Buffer;
 use iv_args::{Plan, Slot, Subcommand};
 use iv_text::{lines_of, split_first_column};
 use std::alloc::{AllocError, Global};
@@ -32,7 +34,37 @@ pub(crate) fn put_loss<F: HintFiles>(
         Subcommand::Merge => put_fraction(alloc, plan, files, hint),
         Subcommand::Getfasta => put_no_bases(alloc, plan, files, hint),
         _ => Ok(()),
+    }?;
+    put_headers(alloc, plan, files, hint)
+}
+
+/// Whether a line of a BED file is for a browser.
+fn is_header(line: &[u8]) -> bool {
+    matches!(line, b"track" | b"browser")
+        || line.starts_with(b"track ")
+        || line.starts_with(b"browser ")
+}
+
+/// Puts how many lines for a browser no row has.
+fn put_headers<F: HintFiles>(
+    alloc: Global,
+    plan: &Plan<'_>,
+    files: &mut F,
+    hint: &mut Hint,
+) -> Result<(), AllocError> {
+    let front = front_of(alloc, files, plan.first_file(), BYTES)?;
+    let lines = lines_of(front.bytes.as_slice()).take(LINES);
+    let count = lines.filter(|line| is_header(line)).count();
+    if count == 0 {
+        return Ok(());
     }
+    let mut digits = Buffer::new();
+    hint.line(&[
+        b"track and browser lines are no records, and no row has them; lines of ",
+        plan.first_file(),
+        b" that are such: ",
+        digits.format(count).as_bytes(),
+    ])
 }
 
 /// Whether the lines of a genome file have the length 0 and a number after it.
@@ -56,8 +88,8 @@ fn is_whole(value: &[u8]) -> bool {
     value == b".".as_slice() || (is_digits(digits) && digits.len() <= 15)
 }
 
-/// A value in a column that is no whole number, if most of the first lines have one.
-fn fraction_in(text: &[u8], place: usize) -> Option<&[u8]> {
+/// A value in a column that is no whole number, and how many of the first lines have one, if most do.
+fn fraction_in(text: &[u8], place: usize) -> Option<(&[u8], usize)> {
     let mut found = None;
     let mut whole: usize = 0;
     let mut others: usize = 0;
@@ -71,7 +103,9 @@ fn fraction_in(text: &[u8], place: usize) -> Option<&[u8]> {
             _ => {}
         }
     }
-    if others > whole { found } else { None }
+    found
+        .filter(|_| others > whole)
+        .map(|value| (value, others))
 }
 
 /// The item of a list at this place, or the only one.
@@ -109,8 +143,8 @@ fn put_fraction<F: HintFiles>(
             return Ok(());
         };
         let value = place_of(asked).and_then(|place| fraction_in(front.bytes.as_slice(), place));
-        if let (Some(value), true) = (value, reads_numbers(operation)) {
-            return put_unread(operation, asked, value, hint);
+        if let (Some((value, count)), true) = (value, reads_numbers(operation)) {
+            return put_unread(operation, asked, value, count, hint);
         }
     }
     Ok(())
@@ -126,17 +160,28 @@ fn put_unread(
     operation: &[u8],
     asked: &[u8],
     value: &[u8],
+    count: usize,
     hint: &mut Hint,
 ) -> Result<(), AllocError> {
-    hint.line(&[
+    let shown_value = shown(value);
+    hint.join(
         b"column ",
         asked,
         b" has ",
-        value.get(..40).unwrap_or(value),
-        b": ",
+        shown_value,
+        b", which is no whole number",
+        b"",
+    )?;
+    let mut digits = Buffer::new();
+    let number = digits.format(count).as_bytes();
+    hint.join(
         operation,
-        b" reads whole numbers alone, and prints . for a block with another value",
-    ])
+        b" reads whole numbers alone, and prints . for a block with another value; such values in the first 1000 lines: ",
+        number,
+        b"",
+        b"",
+        b"",
+    )
 }
 
 /// The name of a header of a FASTA file, if the line is one.
@@ -160,18 +205,19 @@ fn first_header(fasta: &[u8]) -> &[u8] {
     b"none"
 }
 
-/// The sequence of the first record, if a FASTA file has none of the sequences of the first records.
-fn missing_name<'a>(bed: &'a [u8], fasta: &[u8]) -> Option<&'a [u8]> {
+/// The first sequence of the first records that a FASTA file has not. Of a file that is not whole all of them have to be missing.
+fn missing_name<'a>(bed: &'a [u8], fasta: &[u8], is_whole: bool) -> Option<&'a [u8]> {
     let mut first: Option<&'a [u8]> = None;
     let mut last: &'a [u8] = b"";
     let mut left = NAMES;
     for line in lines_of(bed).take(LINES) {
         let (name, _) = split_first_column(line);
         if is_record(line) && name != last && left > 0 {
-            if has_header(fasta, name) {
+            if !has_header(fasta, name) {
+                first = first.or(Some(name));
+            } else if !is_whole {
                 return None;
             }
-            first = first.or(Some(name));
             last = name;
             left -= 1;
         }
@@ -207,7 +253,7 @@ fn put_missing(
     genome: &[u8],
     hint: &mut Hint,
 ) -> Result<(), AllocError> {
-    let Some(name) = missing_name(bed, fasta) else {
+    let Some(name) = missing_name(bed, fasta, is_whole) else {
         return Ok(());
     };
     let header = first_header(fasta);
@@ -215,8 +261,36 @@ fn put_missing(
     let is_other = length_in(genome, header).is_none() && alike_in(genome, header).is_some();
     if is_whole || is_other {
         put_names(name, header, hint)?;
+        put_count(bed, fasta, hint)?;
     }
     Ok(())
+}
+
+/// Puts how many of the first records have no row.
+fn put_count(bed: &[u8], fasta: &[u8], hint: &mut Hint) -> Result<(), AllocError> {
+    let mut missing: usize = 0;
+    let mut all: usize = 0;
+    let mut last: &[u8] = b"";
+    let mut has_last = false;
+    for line in lines_of(bed).take(LINES) {
+        let (name, _) = split_first_column(line);
+        if is_record(line) {
+            if name != last {
+                has_last = has_header(fasta, name);
+                last = name;
+            }
+            all = all.saturating_add(1);
+            missing = missing.saturating_add(if has_last { 0 } else { 1 });
+        }
+    }
+    let mut first = Buffer::new();
+    let mut second = Buffer::new();
+    hint.line(&[
+        b"records without a row: ",
+        first.format(missing).as_bytes(),
+        b" of the first ",
+        second.format(all).as_bytes(),
+    ])
 }
 
 /// Puts that a FASTA file lacks a name.
@@ -228,5 +302,11 @@ fn put_names(name: &[u8], header: &[u8], hint: &mut Hint) -> Result<(), AllocErr
         header,
         b"), and getfasta prints nothing for it",
     ])?;
-    hint.line(&[b"names have to be the same: sed 's/^>/>chr/' or sed 's/^>chr/>/'"])
+    if name.strip_prefix(b"chr").is_some_and(|rest| rest == header) {
+        return hint.line(&[b"names have to be the same: sed 's/^>/>chr/' FASTA"]);
+    }
+    if header.strip_prefix(b"chr").is_some_and(|rest| rest == name) {
+        return hint.line(&[b"names have to be the same: sed 's/^>chr/>/' FASTA"]);
+    }
+    hint.line(&[b"names have to be the same: grep '^>' FASTA prints those of the FASTA file"])
 }

@@ -1,8 +1,8 @@
 //! What is wrong with the arguments of a command line.
+use crate::bedtools::{instead_of, is_other_subcommand};
 use crate::records::count_of;
 use crate::vocabulary::{
-    Value, is_between, is_operation, is_other_option, is_other_subcommand, lists, needed_of,
-    options_of, value_of,
+    Options, Value, is_between, is_command, is_operation, needed_of, records_option,
 };
 use iv_args::Subcommand;
 use iv_text::read_number;
@@ -18,28 +18,38 @@ pub(crate) enum Mistake<'a> {
     NoSubcommand(&'a [u8]),
     /// It is one that only bedtools has.
     OtherSubcommand(&'a [u8]),
+    /// It is a command of a script.
+    Command(&'a [u8]),
     /// Help is asked for beside other arguments.
     HelpBesideWords(Subcommand),
     /// The name of a script is among the arguments of a session.
     Script(&'a [u8]),
     /// An argument is no option and belongs to none.
     StrayWord(Subcommand, &'a [u8]),
+    /// The names of files come without their options.
+    BareFiles(Subcommand, &'a [u8], &'a [u8]),
+    /// A second file comes after an option.
+    TwoFiles(&'a [u8], &'a [u8], &'a [u8]),
+    /// An item of a list comes after a space.
+    SpacedList(&'a [u8], &'a [u8], &'a [u8]),
     /// An option and its value are one argument.
     OneWord(&'a [u8]),
     /// The option that names the records in other runs.
     RecordsOption(Subcommand, &'a [u8]),
     /// An option that only bedtools has.
-    OtherOption(&'a [u8]),
-    /// No option of this kind of run.
-    NoOption(Subcommand, &'a [u8]),
+    OtherOption(&'a [u8], &'static [u8]),
+    /// None of the options.
+    NoOption(Options, &'a [u8]),
     /// The value of an option is missing.
-    NoValue(Subcommand, &'a [u8]),
+    NoValue(Options, &'a [u8]),
     /// The value of an option is none.
-    WrongValue(Subcommand, &'a [u8], &'a [u8]),
+    WrongValue(Options, &'a [u8], &'a [u8]),
+    /// An option of files is among those of a view in a script.
+    FileOption(&'a [u8]),
     /// An option is given twice.
     Twice(&'a [u8]),
     /// An option is missing that names a file.
-    Missing(Subcommand, &'a [u8]),
+    Missing(Options, &'static [u8]),
     /// `genomecov` has none of its modes, or several.
     Modes,
     /// `intersect` has several options of which one can be given.
@@ -60,6 +70,13 @@ fn is_option_like(word: &[u8]) -> bool {
     matches!(word, [b'-', _, ..])
 }
 
+/// The option that was read last, with its value, and the one that waits for its value.
+#[derive(Clone, Copy)]
+struct Reading<'a> {
+    last: Option<(&'a [u8], &'a [u8])>,
+    open: Option<&'a [u8]>,
+}
+
 impl<'a> Mistake<'a> {
     /// The mistake in the arguments after the program's name, if it is found.
     pub(crate) fn of(words: &[&'a [u8]]) -> Option<Mistake<'a>> {
@@ -77,6 +94,8 @@ impl<'a> Mistake<'a> {
     fn of_subject(word: &'a [u8]) -> Option<Mistake<'a>> {
         if let Some(run) = Subcommand::of(word) {
             Some(Mistake::HelpBesideWords(run))
+        } else if is_command(word) {
+            Some(Mistake::Command(word))
         } else if is_other_subcommand(word) {
             Some(Mistake::OtherSubcommand(word))
         } else if matches!(word, b"-g" | b"-i" | b"-a" | b"-b") {
@@ -91,81 +110,149 @@ impl<'a> Mistake<'a> {
         if words.iter().any(|word| matches!(*word, b"--help" | b"-h")) {
             return Some(Mistake::HelpBesideWords(run));
         }
-        Mistake::of_each(run, words)
-            .or_else(|| Mistake::of_doubles(run, words))
-            .or_else(|| Mistake::of_missing(run, words))
-            .or_else(|| Mistake::of_view(run, words))
+        let options = Options {
+            run,
+            is_view: false,
+        };
+        Mistake::of_each(options, words)
+            .or_else(|| Mistake::of_doubles(options, words))
+            .or_else(|| Mistake::of_missing(options, words))
+            .or_else(|| Mistake::of_together(run, words))
+    }
+
+    /// The mistake in the words of a view in a script.
+    pub(crate) fn of_view(words: &[&'a [u8]]) -> Option<Mistake<'a>> {
+        let (word, rest) = words.split_first()?;
+        match Subcommand::of(word) {
+            Some(run) if run != Subcommand::Session => {
+                let options = Options { run, is_view: true };
+                Mistake::of_each(options, rest)
+                    .or_else(|| Mistake::of_doubles(options, rest))
+                    .or_else(|| Mistake::of_together(run, rest))
+            }
+            _ if is_other_subcommand(word) => Some(Mistake::OtherSubcommand(word)),
+            _ => Some(Mistake::NoSubcommand(word)),
+        }
     }
 
     /// The first argument that is no option and no value, or no value that its option takes.
-    fn of_each(run: Subcommand, words: &[&'a [u8]]) -> Option<Mistake<'a>> {
-        let mut option: Option<&'a [u8]> = None;
-        for word in words {
-            match option {
+    fn of_each(options: Options, words: &[&'a [u8]]) -> Option<Mistake<'a>> {
+        let mut reading = Reading {
+            last: None,
+            open: None,
+        };
+        for (place, word) in words.iter().enumerate() {
+            match reading.open {
                 Some(open) => {
-                    if !is_value(run, open, word) {
-                        return Some(Mistake::of_value(run, open, word));
+                    if !is_value(options, open, word) {
+                        return Some(Mistake::of_value(options, open, word));
                     }
-                    option = None;
+                    reading.last = Some((open, word));
+                    reading.open = None;
                 }
-                None if !lists(options_of(run), word) => return Some(Mistake::of_word(run, word)),
-                None if value_of(run, word) != Value::Nothing => option = Some(word),
-                None => {}
+                None if !options.has(word) => {
+                    let rest = words.get(place..).unwrap_or(words);
+                    return Some(Mistake::of_word(options, word, words, rest, reading.last));
+                }
+                None => {
+                    reading.last = None;
+                    reading.open = Some(*word).filter(|word| options.value(word) != Value::Nothing);
+                }
             }
         }
-        option.map(|open| Mistake::NoValue(run, open))
+        reading.open.map(|open| Mistake::NoValue(options, open))
     }
 
     /// The mistake of a value that the option before it doesn't take.
-    fn of_value(run: Subcommand, option: &'a [u8], value: &'a [u8]) -> Mistake<'a> {
-        if lists(options_of(run), value) {
-            Mistake::NoValue(run, option)
+    fn of_value(options: Options, option: &'a [u8], value: &'a [u8]) -> Mistake<'a> {
+        if options.has(value) {
+            Mistake::NoValue(options, option)
         } else {
-            Mistake::WrongValue(run, option, value)
+            Mistake::WrongValue(options, option, value)
         }
     }
 
-    /// The mistake of an argument that is no option.
-    fn of_word(run: Subcommand, word: &'a [u8]) -> Mistake<'a> {
+    /// The mistake of an argument that is none of the options. It is the first of the rest; the option before it may have a value.
+    fn of_word(
+        options: Options,
+        word: &'a [u8],
+        words: &[&'a [u8]],
+        rest: &[&'a [u8]],
+        last: Option<(&'a [u8], &'a [u8])>,
+    ) -> Mistake<'a> {
         if !is_option_like(word) {
-            return match run {
-                Subcommand::Session => Mistake::Script(word),
-                _ => Mistake::StrayWord(run, word),
-            };
+            return Mistake::of_bare_word(options, word, words, rest, last);
         }
         if word.contains(&b'=') {
             Mistake::OneWord(word)
+        } else if options.is_view
+            && matches!(
+                word,
+                b"-g" | b"-i" | b"-a" | b"-b" | b"-bed" | b"-fi" | b"-width"
+            )
+        {
+            Mistake::FileOption(word)
         } else if matches!(word, b"-i" | b"-a" | b"-bed") {
-            Mistake::RecordsOption(run, word)
-        } else if is_other_option(word) {
-            Mistake::OtherOption(word)
+            Mistake::RecordsOption(options.run, word)
         } else {
-            Mistake::NoOption(run, word)
+            match instead_of(word) {
+                Some(text) => Mistake::OtherOption(word, text),
+                None => Mistake::NoOption(options, word),
+            }
+        }
+    }
+
+    /// The mistake of an argument that doesn't look like an option.
+    fn of_bare_word(
+        options: Options,
+        word: &'a [u8],
+        words: &[&'a [u8]],
+        rest: &[&'a [u8]],
+        last: Option<(&'a [u8], &'a [u8])>,
+    ) -> Mistake<'a> {
+        let run = options.run;
+        if let Some((option, value)) = last {
+            match options.value(option) {
+                Value::Columns | Value::Operations => {
+                    return Mistake::SpacedList(option, value, word);
+                }
+                Value::File if has_records(run, words) && !is_script_of(run, option) => {
+                    return Mistake::TwoFiles(option, value, word);
+                }
+                _ => {}
+            }
+        }
+        match (run, rest) {
+            (_, [one, other, ..]) if !has_records(run, words) && !is_option_like(other) => {
+                Mistake::BareFiles(run, one, other)
+            }
+            (Subcommand::Session, _) => Mistake::Script(word),
+            _ => Mistake::StrayWord(run, word),
         }
     }
 
     /// An option that is given twice.
-    fn of_doubles(run: Subcommand, words: &[&'a [u8]]) -> Option<Mistake<'a>> {
-        for option in options_of(run).split(is_between) {
-            if words.iter().filter(|word| **word == option).count() > 1 {
-                return Some(Mistake::Twice(option));
+    fn of_doubles(options: Options, words: &[&'a [u8]]) -> Option<Mistake<'a>> {
+        for word in words {
+            if options.has(word) && words.iter().filter(|other| *other == word).count() > 1 {
+                return Some(Mistake::Twice(word));
             }
         }
         None
     }
 
     /// An option that is missing.
-    fn of_missing(run: Subcommand, words: &[&'a [u8]]) -> Option<Mistake<'a>> {
-        for option in options_of(run).split(is_between).take(needed_of(run)) {
+    fn of_missing(options: Options, words: &[&'a [u8]]) -> Option<Mistake<'a>> {
+        for option in needed_of(options.run).split(is_between) {
             if !words.contains(&option) {
-                return Some(Mistake::Missing(run, option));
+                return Some(Mistake::Missing(options, option));
             }
         }
         None
     }
 
     /// The mistake of options that don't go together.
-    fn of_view(run: Subcommand, words: &[&'a [u8]]) -> Option<Mistake<'a>> {
+    fn of_together(run: Subcommand, words: &[&'a [u8]]) -> Option<Mistake<'a>> {
         match run {
             Subcommand::Genomecov => Some(Mistake::Modes),
             Subcommand::Intersect => Some(Mistake::Exclusive),
@@ -184,12 +271,25 @@ impl<'a> Mistake<'a> {
     }
 }
 
+/// Whether the option of the records is among the arguments of a run.
+fn has_records(run: Subcommand, words: &[&[u8]]) -> bool {
+    words.contains(&records_option(run))
+}
+
+/// Whether a word after the value of this option is probably a script.
+fn is_script_of(run: Subcommand, option: &[u8]) -> bool {
+    run == Subcommand::Session && !matches!(option, b"-b" | b"-fi")
+}
+
 /// Whether an argument is a value that an option takes.
-fn is_value(run: Subcommand, option: &[u8], word: &[u8]) -> bool {
-    match value_of(run, option) {
+fn is_value(options: Options, option: &[u8], word: &[u8]) -> bool {
+    match options.value(option) {
         Value::Nothing => false,
-        Value::File => !lists(options_of(run), word),
+        Value::File => !options.has(word),
         Value::Width => matches!(word, [b'3'..=b'6']),
+        Value::Limit => {
+            read_number(word).is_some_and(|number| number >= 1 && number <= 100_000_000)
+        }
         Value::Distance => read_number(word).is_some_and(|number| number <= 1_000_000_000),
         Value::Columns => are_numbers(word),
         Value::Operations => are_operations(word),

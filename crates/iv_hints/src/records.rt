@@ -55,6 +55,11 @@ pub(crate) fn length_in<'a>(genome: &'a [u8], name: &[u8]) -> Option<&'a [u8]> {
     None
 }
 
+/// Whether a genome file has a name.
+pub(crate) fn has_name(genome: &[u8], name: &[u8]) -> bool {
+    !name.is_empty() && length_in(genome, name).is_some()
+}
+
 /// Whether two names differ by `chr` at the front alone, or by capitals.
 fn are_alike(one: &[u8], other: &[u8]) -> bool {
     one.strip_prefix(b"chr").is_some_and(|rest| rest == other)

@@ -1,5 +1,7 @@
 //! Hints, each beside what it is a hint on.
-use crate::fixtures::{Named, hints, words_of};
+use crate::fixtures::{MemHintFiles, Named, hints, words_of};
+use crate::refusals::hint_of_refusal;
+use crate::script::{Refusal, SeenScript};
 use iv_args::Slot;
 use iv_cli::ExitReason;
 use iv_text::{Fault, LoadCause, LoadFault};
@@ -14,7 +16,7 @@ const WORDS: &[(&[u8], &[u8])] = &[
     ),
     (
         b"slop -g g -i a",
-        b"slop of bedtools isn't there: docs/BEDTOOLS.md says what to do instead\n  try: bedkeep --help",
+        b"slop of bedtools isn't there: bedtools does it, over rows of bedkeep too\n  try: bedkeep --help",
     ),
     (
         b"-v",
@@ -90,7 +92,19 @@ const WORDS: &[(&[u8], &[u8])] = &[
     ),
     (
         b"intersect -g g -a a -b b -wo",
-        b"-wo of bedtools isn't there: docs/BEDTOOLS.md says what to do instead\n  try: bedkeep intersect --help",
+        b"-wo of bedtools isn't there: intersect -wa -wb prints both records of each overlap, and awk takes what is wanted of these rows\n  try: bedkeep intersect --help",
+    ),
+    (
+        b"merge -g g -i a b",
+        b"one file comes after -i: of two, -i <(cat a b)\n  try: bedkeep merge --help",
+    ),
+    (
+        b"merge -g g -i a -c 4 5",
+        b"a list has commas and no spaces: -c 4,5\n  try: bedkeep merge --help",
+    ),
+    (
+        b"session g a",
+        b"files come after their options: -g g -i a\n  try: bedkeep session --help",
     ),
     (
         b"session -g g -i a script",
@@ -98,7 +112,7 @@ const WORDS: &[(&[u8], &[u8])] = &[
     ),
     (
         b"-g g -i a",
-        b"a subcommand comes before -g: merge, cluster, complement, genomecov, intersect, subtract, getfasta, or session\n  try: bedkeep --help",
+        b"a subcommand comes before -g: merge, cluster, complement, genomecov, intersect, subtract, getfasta, records, or session\n  try: bedkeep --help",
     ),
     (
         b"help mrege",
@@ -200,7 +214,7 @@ const DAMAGES: &[(LoadCause, u64, &[u8], &[u8])] = &[
         LoadCause::Record(Fault::UnknownSeq),
         1,
         b"1\t1\t2\n",
-        b"line 1: 1\\t1\\t2\n  the genome file has no 1, and has chr1\n  names have to be the same: sed 's/^/chr/' or sed 's/^chr//'",
+        b"line 1: 1\\t1\\t2\n  the genome file has no 1, and has chr1\n  names have to be the same: sed '/^#/!s/^/chr/' FILE",
     ),
     (
         LoadCause::Record(Fault::UnknownSeq),
@@ -224,7 +238,7 @@ const DAMAGES: &[(LoadCause, u64, &[u8], &[u8])] = &[
         LoadCause::Record(Fault::StartNumber),
         1,
         b"chr1\t1,000\t2000\n",
-        b"line 1: chr1\\t1,000\\t2000\n  the start has 1 to 10 digits, and not 1,000",
+        b"line 1: chr1\\t1,000\\t2000\n  the start has 1 to 10 digits, and not 1,000\n  awk -F '\\t' -v OFS='\\t' '!/^#/ { gsub(\",\", \"\", $2); gsub(\",\", \"\", $3) } 1' FILE takes the commas away",
     ),
     (
         LoadCause::Record(Fault::Name),
@@ -242,13 +256,13 @@ const DAMAGES: &[(LoadCause, u64, &[u8], &[u8])] = &[
         LoadCause::Columns,
         9,
         b"chr1\t1\t2\n",
-        b"the line isn't shown, since the file can't be read twice: docs/FORMAT.md says what the message means",
+        b"the line isn't shown, since a pipe can't be read twice: write it into a file, and give that",
     ),
     (
         LoadCause::TooMany,
         4_000_001,
         b"chr1\t1\t2\n",
-        b"a BED file has at most 4000000 records\n  larger data is cut into parts: examples/at_scale/README.md",
+        b"a BED file has more records than -limit allows, which is 4000000 if it isn't given: -limit N, up to 100000000\n  larger data is cut into parts: examples/at_scale/README.md",
     ),
 ];
 
@@ -308,7 +322,7 @@ const OTHERS: &[(&[u8], ExitReason, &[u8])] = &[
     (
         b"merge -g g -i none",
         ExitReason::Unreadable(Slot::First),
-        b"there is no such file",
+        b"there is no such file: ls shows those that there are",
     ),
     (
         b"merge -g folder -i a",
@@ -323,12 +337,12 @@ const OTHERS: &[(&[u8], ExitReason, &[u8])] = &[
     (
         b"merge -g g -i a -c 6",
         ExitReason::Words(17),
-        b"the records of a have so many columns: 5; -c counts from 1, and -s needs six",
+        b"-c 6: the records have columns 1 to 5",
     ),
     (
         b"session -g g -i a",
         ExitReason::InputTooLong,
-        b"line 7 of the script: a script has at most 4000000 lines of at most 1048576 bytes",
+        b"line 7 of the script: a script has at most as many lines as -limit allows, 4000000 if it isn't given, of at most 1048576 bytes",
     ),
     (
         b"merge -g zero -i a",
@@ -338,12 +352,12 @@ const OTHERS: &[(&[u8], ExitReason, &[u8])] = &[
     (
         b"merge -g g -i a -c 4,5 -o count,sum",
         ExitReason::Done,
-        b"column 5 has 2.5: sum reads whole numbers alone, and prints . for a block with another value",
+        b"column 5 has 2.5, which is no whole number\n  sum reads whole numbers alone, and prints . for a block with another value; such values in the first 1000 lines: 1",
     ),
     (
         b"getfasta -g g -bed a -fi bare",
         ExitReason::Done,
-        b"the FASTA file has no chr1 (its first sequence is 1), and getfasta prints nothing for it\n  names have to be the same: sed 's/^>/>chr/' or sed 's/^>chr/>/'",
+        b"the FASTA file has no chr1 (its first sequence is 1), and getfasta prints nothing for it\n  names have to be the same: sed 's/^>/>chr/' FASTA\n  records without a row: 1 of the first 1",
     ),
 ];
 
@@ -413,6 +427,85 @@ fn are_quiet(rt: &HostRuntime, table: &[&[u8]]) -> Result<bool, Fail> {
         }
     }
     Ok(true)
+}
+
+/// Lines of a script, the numbers of their faults, and the hints on them, over the files above.
+const REFUSALS: &[(u8, &[u8], &[u8])] = &[
+    (
+        1,
+        b"add chr1 1 2 x 2.5",
+        b"line 9: a TAB, and no space, follows add: sed '/^open/!s/  */\\t/g' FILE writes them",
+    ),
+    (
+        2,
+        b"add\tchr1\t1\t2",
+        b"line 9: 3 columns, and the track has 5: all are written, a . for what isn't known",
+    ),
+    (
+        5,
+        b"resize\tchr1\t5000000000",
+        b"line 9: the length 5000000000 is above the limit: a sequence has at most 4000000000 positions",
+    ),
+    (
+        11,
+        b"remove\tchr1\t1\t2\tx\t9",
+        b"line 9: all 5 columns count, and a has chr1\\t1\\t2\\tx\\t2.5\n  python3 -m bedkeep replay shows the nearest record of each such line",
+    ),
+    (
+        16,
+        b"open\tm\tmrege",
+        b"line 9: mrege is no view: is merge meant?",
+    ),
+];
+
+/// Whether the hints on refused lines are these.
+fn are_hints_on_refusals(rt: &HostRuntime, table: &[(u8, &[u8], &[u8])]) -> Result<bool, Fail> {
+    let words = words_of(rt.alloc(), b"session -g g -i a")?;
+    for (code, line, expected) in table {
+        let refusal = Refusal {
+            number: 9,
+            code: *code,
+        };
+        let expected = hint_text(rt.alloc(), expected)?;
+        let files = &mut MemHintFiles { files: FILES };
+        let hint = hint_of_refusal(rt.alloc(), words.as_slice(), refusal, line, files, false)?;
+        if hint.bytes() != expected.as_slice() {
+            return Ok(false);
+        }
+    }
+    Ok(true)
+}
+
+#[test]
+fn hints_on_refused_lines(rt: HostRuntime) -> Result<(), Fail> {
+    assert!(rt; are_hints_on_refusals(&rt, REFUSALS)?);
+    Ok(())
+}
+
+/// Whether a script that is seen in pieces gives each refused line, until there were three of a kind.
+fn sees_lines(rt: &HostRuntime) -> Result<bool, Fail> {
+    let mut seen = SeenScript::new(rt.alloc());
+    seen.take_piece(b"ad")?;
+    seen.take_piece(b"d\nxy\r\nz\n?\nlast")?;
+    let expected: &[(&[u8], &[u8])] = &[
+        (b"line 1: no such command or wrong fields\n", b"add"),
+        (b"line 2: no such command or wrong fields\n", b"xy"),
+        (b"line 3: no such command or wrong fields\n", b"z"),
+    ];
+    for (message, line) in expected {
+        match seen.take_message(rt.alloc(), message)? {
+            Some((_, text)) if text.as_slice() == *line => {}
+            _ => return Ok(false),
+        }
+    }
+    let fourth = seen.take_message(rt.alloc(), b"line 4: no such command or wrong fields\n")?;
+    Ok(fourth.is_none())
+}
+
+#[test]
+fn lines_that_are_seen(rt: HostRuntime) -> Result<(), Fail> {
+    assert!(rt; sees_lines(&rt)?);
+    Ok(())
 }
 
 #[test]

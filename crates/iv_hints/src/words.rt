@@ -1,25 +1,16 @@
-//! The hint on arguments that ask for no run.
+//! The hint on arguments that ask for no run, and on the words of a view.
+use crate::bedtools::instead_of_subcommand;
 use crate::hint::Hint;
 use crate::mistake::Mistake;
 use crate::nearest::Nearest;
-use crate::vocabulary::{FIRST_WORDS, is_between, meaning_of, options_of, records_option};
+use crate::vocabulary::{NOTICES, Options, is_between, records_option, run_at, word_of};
 use itoa::Buffer;
 use iv_args::Subcommand;
 use std::alloc::{AllocError, Global};
 
-/// The argument of a kind of run.
-pub(crate) fn word_of(run: Subcommand) -> &'static [u8] {
-    match run {
-        Subcommand::Session => b"session",
-        Subcommand::Merge => b"merge",
-        Subcommand::Cluster => b"cluster",
-        Subcommand::Complement => b"complement",
-        Subcommand::Genomecov => b"genomecov",
-        Subcommand::Intersect => b"intersect",
-        Subcommand::Subtract => b"subtract",
-        Subcommand::Getfasta => b"getfasta",
-    }
-}
+/// What a view in a script is.
+const VIEWS: &[u8] =
+    b"merge, cluster, complement, genomecov, intersect, subtract, getfasta or records";
 
 /// Puts the hint on arguments that ask for no run.
 pub(crate) fn put_words(alloc: Global, words: &[&[u8]], hint: &mut Hint) -> Result<(), AllocError> {
@@ -32,6 +23,45 @@ pub(crate) fn put_words(alloc: Global, words: &[&[u8]], hint: &mut Hint) -> Resu
     }
 }
 
+/// Puts what is wrong with the words of a view.
+pub(crate) fn put_view(alloc: Global, words: &[&[u8]], hint: &mut Hint) -> Result<(), AllocError> {
+    match Mistake::of_view(words) {
+        Some(Mistake::NoSubcommand(word)) => put_no_view(alloc, word, hint),
+        Some(Mistake::StrayWord(_, word)) => {
+            hint.line(&[
+                word,
+                b" is no option of a view: the files are those of the session",
+            ])
+        }
+        Some(mistake) => put_mistake(alloc, mistake, hint),
+        None => hint.line(&[b"a view is a subcommand and its options: ", VIEWS]),
+    }
+}
+
+/// Puts that a word is no view, and which is near.
+fn put_no_view(alloc: Global, word: &[u8], hint: &mut Hint) -> Result<(), AllocError> {
+    match near_run(alloc, word)? {
+        Some(known) => put_near(word, b" is no view", b"", known, hint),
+        None if word.is_empty() => hint.line(&[b"a view is missing after the name: ", VIEWS]),
+        None => hint.line(&[word, b" is no view: ", VIEWS]),
+    }
+}
+
+/// The subcommand that is near to a word.
+fn near_run(alloc: Global, word: &[u8]) -> Result<Option<&'static [u8]>, AllocError> {
+    let mut nearest = Nearest::to(word);
+    for place in 0..64usize {
+        match run_at(place) {
+            Some(known) => nearest.look_at(alloc, known)?,
+            None => break,
+        }
+    }
+    for known in NOTICES.split(is_between) {
+        nearest.look_at(alloc, known)?;
+    }
+    Ok(nearest.found())
+}
+
 /// Puts what is wrong, in a line.
 fn put_mistake(alloc: Global, mistake: Mistake<'_>, hint: &mut Hint) -> Result<(), AllocError> {
     match mistake {
@@ -39,10 +69,16 @@ fn put_mistake(alloc: Global, mistake: Mistake<'_>, hint: &mut Hint) -> Result<(
         Mistake::OptionFirst(word) => hint.line(&[
             b"a subcommand comes before ",
             word,
-            b": merge, cluster, complement, genomecov, intersect, subtract, getfasta, or session",
+            b": merge, cluster, complement, genomecov, intersect, subtract, getfasta, records, or session",
         ]),
         Mistake::NoSubcommand(word) => put_no_subcommand(alloc, word, hint),
-        Mistake::OtherSubcommand(word) => put_not_there(word, hint),
+        Mistake::OtherSubcommand(word) => put_not_there(word, instead_of_subcommand(word), hint),
+        Mistake::Command(word) => hint.line(&[
+            word,
+            b" is a line of a session's script: printf '",
+            word,
+            b"\\t..\\n' | bedkeep session -g GENOME -i BED",
+        ]),
         Mistake::HelpBesideWords(run) => hint.line(&[
             b"help on ",
             word_of(run),
@@ -53,8 +89,8 @@ fn put_mistake(alloc: Global, mistake: Mistake<'_>, hint: &mut Hint) -> Result<(
             b" is no option: a script is read from standard input: < ",
             word,
         ]),
-        Mistake::NoOption(run, word) => put_no_option(alloc, run, word, hint),
-        Mistake::OtherOption(word) => put_not_there(word, hint),
+        Mistake::NoOption(options, word) => put_no_option(alloc, options, word, hint),
+        Mistake::OtherOption(word, text) => put_not_there(word, text, hint),
         other => put_option(other, hint),
     }
 }
@@ -65,51 +101,46 @@ fn put_usage(hint: &mut Hint) -> Result<(), AllocError> {
         b"usage: bedkeep SUBCOMMAND -g GENOME -i BED, or bedkeep session -g GENOME -i BED < SCRIPT",
     ])?;
     hint.line(&[
-        b"subcommands: merge, cluster, complement, genomecov, intersect, subtract, getfasta",
+        b"subcommands: merge, cluster, complement, genomecov, intersect, subtract, getfasta, records",
     ])
 }
 
 /// Puts that an argument is no subcommand, and which is near.
 fn put_no_subcommand(alloc: Global, word: &[u8], hint: &mut Hint) -> Result<(), AllocError> {
-    let mut nearest = Nearest::to(word);
-    for known in FIRST_WORDS.split(is_between) {
-        nearest.look_at(alloc, known)?;
-    }
-    match nearest.found() {
+    match near_run(alloc, word)? {
         Some(known) => put_near(word, b" isn't a subcommand", b"", known, hint),
         None if word == b"-v".as_slice() || word == b"-V".as_slice() => {
             hint.line(&[word, b" isn't an option of bedkeep: is --version meant?"])
         }
         None => hint.line(&[
             word,
-            b" isn't a subcommand: merge, cluster, complement, genomecov, intersect, subtract, getfasta, or session",
+            b" isn't a subcommand: merge, cluster, complement, genomecov, intersect, subtract, getfasta, records, or session",
         ]),
     }
 }
 
-/// Puts that an argument of bedtools is not there.
-fn put_not_there(word: &[u8], hint: &mut Hint) -> Result<(), AllocError> {
-    hint.line(&[
-        word,
-        b" of bedtools isn't there: docs/BEDTOOLS.md says what to do instead",
-    ])
+/// Puts that an argument of bedtools is not there, and what to do instead.
+fn put_not_there(word: &[u8], instead: &[u8], hint: &mut Hint) -> Result<(), AllocError> {
+    hint.line(&[word, b" of bedtools isn't there: ", instead])
 }
 
-/// Puts that an argument is no option, and which is near.
+/// Puts that an argument is none of the options, and which is near.
 fn put_no_option(
     alloc: Global,
-    run: Subcommand,
+    options: Options,
     word: &[u8],
     hint: &mut Hint,
 ) -> Result<(), AllocError> {
     let mut nearest = Nearest::to(word);
-    for known in options_of(run).split(is_between) {
-        nearest.look_at(alloc, known)?;
+    for list in options.lists() {
+        for known in list.split(is_between) {
+            nearest.look_at(alloc, known)?;
+        }
     }
     let text = b" isn't an option of ".as_slice();
     match nearest.found() {
-        Some(known) => put_near(word, text, word_of(run), known, hint),
-        None => put_parts(word, text, word_of(run), hint),
+        Some(known) => put_near(word, text, word_of(options.run), known, hint),
+        None => put_parts(word, text, word_of(options.run), hint),
     }
 }
 
@@ -168,15 +199,66 @@ fn put_option(mistake: Mistake<'_>, hint: &mut Hint) -> Result<(), AllocError> {
             records_option(run),
             hint,
         ),
-        Mistake::NoValue(run, option) => {
-            put_parts(option, b" needs ", meaning_of(run, option), hint)
+        Mistake::NoValue(options, option) => {
+            put_parts(option, b" needs ", options.meaning(option), hint)
         }
-        Mistake::WrongValue(run, option, value) => {
-            put_value(option, meaning_of(run, option), value, hint)
+        Mistake::WrongValue(options, option, value) => {
+            put_value(option, options.meaning(option), value, hint)
         }
-        Mistake::Missing(run, option) => put_absent(option, meaning_of(run, option), hint),
+        Mistake::Missing(options, option) => put_absent(option, options.meaning(option), hint),
+        other => put_files(other, hint),
+    }
+}
+
+/// Puts which arguments belong to which option.
+fn put_files(mistake: Mistake<'_>, hint: &mut Hint) -> Result<(), AllocError> {
+    match mistake {
+        Mistake::BareFiles(run, one, other) => {
+            let option = records_option(run);
+            hint.join(
+                b"files come after their options: -g ",
+                one,
+                b" ",
+                option,
+                b" ",
+                other,
+            )
+        }
+        Mistake::TwoFiles(option, one, other) => put_two_files(option, one, other, hint),
+        Mistake::SpacedList(option, one, other) => hint.join(
+            b"a list has commas and no spaces: ",
+            option,
+            b" ",
+            one,
+            b",",
+            other,
+        ),
+        Mistake::FileOption(option) => hint.line(&[
+            option,
+            b" is no option of a view in a session: the files are given as it starts",
+        ]),
         other => put_together(other, hint),
     }
+}
+
+/// Puts how two files are given as one.
+fn put_two_files(
+    option: &[u8],
+    one: &[u8],
+    other: &[u8],
+    hint: &mut Hint,
+) -> Result<(), AllocError> {
+    hint.line(&[
+        b"one file comes after ",
+        option,
+        b": of two, ",
+        option,
+        b" <(cat ",
+        one,
+        b" ",
+        other,
+        b")",
+    ])
 }
 
 /// Puts which options don't go together.

@@ -1,0 +1,553 @@
+//! The hint on a refused line of a script.
+use crate::exit_reason::{put_missing_column, width_of};
+use crate::file_kinds::BYTE_ORDER_MARK;
+use crate::files::{HintFiles, front_of};
+use crate::hint::Hint;
+use crate::records::{
+    alike_in, column, count_columns, first_record, has_name, is_record, length_in,
+};
+use crate::script::Refusal;
+use crate::unknown_command::put_no_command;
+use crate::values::{NumberFault, is_spaced, put_spaced, shown};
+use crate::words::put_view;
+use itoa::Buffer;
+use iv_args::{Plan, Slot};
+use iv_text::{lines_of, read_number};
+use std::alloc::{AllocError, Global};
+
+/// How many bytes of the front of a file are looked at for a refused line.
+const BYTES: usize = 1_048_576;
+
+/// The hint on a refused line of the script of a session, given the arguments after the program's name. If it is not shown below the
+/// message, it names the line.
+///
+/// # Errors
+///
+/// An allocation failed.
+pub fn hint_of_refusal<F: HintFiles>(
+    alloc: Global,
+    words: &[&[u8]],
+    refusal: Refusal,
+    line: &[u8],
+    files: &mut F,
+    is_below: bool,
+) -> Result<Hint, AllocError> {
+    let mut hint = if is_below {
+        Hint::new(alloc)
+    } else {
+        Hint::on_line(alloc, refusal.number)
+    };
+    if let Ok(plan) = Plan::read(alloc, words) {
+        match refusal.code {
+            1 => put_no_command(alloc, line, &mut hint)?,
+            2..=11 | 23 => put_edit(alloc, &plan, refusal.code, line, files, &mut hint)?,
+            16..=18 => put_view_words(alloc, &plan, refusal.code, line, files, &mut hint)?,
+            code => put_other(code, line, &mut hint)?,
+        }
+    }
+    Ok(hint)
+}
+
+/// A field of a line, counted from 0, nothing if it isn't there.
+fn field(line: &[u8], number: usize) -> &[u8] {
+    match column(line, number) {
+        Some(text) => text,
+        None => b"",
+    }
+}
+
+/// A refused edit: its line, the width of the records that it is about, and the fronts of their file and of the genome file.
+#[derive(Clone, Copy)]
+struct Refused<'a> {
+    line: &'a [u8],
+    width: usize,
+    name: &'a [u8],
+    records: &'a [u8],
+    genome: &'a [u8],
+}
+
+/// The file that an edit is about.
+fn slot_of(line: &[u8]) -> Slot {
+    match field(line, 0) {
+        b"addb" | b"removeb" | b"replaceb" => Slot::Other,
+        _ => Slot::First,
+    }
+}
+
+/// Puts what is wrong with an edit.
+fn put_edit<F: HintFiles>(
+    alloc: Global,
+    plan: &Plan<'_>,
+    code: u8,
+    line: &[u8],
+    files: &mut F,
+    hint: &mut Hint,
+) -> Result<(), AllocError> {
+    let slot = slot_of(line);
+    let (width, _) = width_of(alloc, plan, slot, files)?;
+    let mut name = Vec::new(alloc);
+    name.extend_from_slice(plan.file(slot).unwrap_or(b""))?;
+    let records = front_of(alloc, files, name.as_slice(), BYTES)?;
+    let genome = front_of(alloc, files, plan.sizes_file(), BYTES)?;
+    let refused = Refused {
+        line,
+        width,
+        name: name.as_slice(),
+        records: records.bytes.as_slice(),
+        genome: genome.bytes.as_slice(),
+    };
+    refused.put(code, hint)
+}
+
+impl<'a> Refused<'a> {
+    /// Puts what is wrong, by the number of the fault.
+    fn put(&self, code: u8, hint: &mut Hint) -> Result<(), AllocError> {
+        match code {
+            2 => self.put_columns(hint),
+            3 => self.put_sequence(hint),
+            4 => self.put_number(b"start", 1, hint),
+            5 => self.put_number(b"end", 2, hint),
+            6 => self.put_order(hint),
+            7 => self.put_past_end(hint),
+            8 => self.put_text(b"column 4, the name,", 3, hint),
+            9 => self.put_text(b"column 5, the score,", 4, hint),
+            10 => self.put_strand(hint),
+            23 => self.put_left_out(hint),
+            _ => self.put_absent(hint),
+        }
+    }
+
+    /// The command.
+    fn command(&self) -> &'a [u8] {
+        field(self.line, 0)
+    }
+
+    /// What the file of the records is called.
+    fn file_said(&self) -> &'static [u8] {
+        match self.command() {
+            b"addb" | b"removeb" | b"replaceb" => b"the second file",
+            _ => b"the track",
+        }
+    }
+
+    /// Whether the command has an old record and a new one.
+    fn has_two(&self) -> bool {
+        matches!(self.command(), b"replace" | b"replaceb")
+    }
+
+    /// A column of the record, or of the second one, counted from 0.
+    fn column_of(&self, is_second: bool, place: usize) -> &'a [u8] {
+        let front = if is_second { self.width } else { 0 };
+        let number = place.saturating_add(front).saturating_add(1);
+        field(self.line, number)
+    }
+
+    /// What to do about so many fields instead of those that are wanted.
+    fn remedy(&self, fields: usize, wanted: usize) -> &'static [u8] {
+        let parts = self
+            .line
+            .split(|byte| matches!(*byte, b'\t' | b' '))
+            .count();
+        if fields < wanted && parts > wanted {
+            b": spaces are no TABs, and sed 's/  */\\t/g' FILE writes TABs"
+        } else if self.has_two() {
+            b": replace has all columns of the old record, and then of the new one"
+        } else if fields < wanted {
+            b": all are written, a . for what isn't known"
+        } else {
+            b": the others are left out"
+        }
+    }
+
+    /// Puts how many columns there are, and how many should be.
+    fn put_columns(&self, hint: &mut Hint) -> Result<(), AllocError> {
+        let fields = count_columns(self.line).saturating_sub(1);
+        let wanted = if self.has_two() {
+            self.width.saturating_mul(2)
+        } else {
+            self.width
+        };
+        let remedy = self.remedy(fields, wanted);
+        let file = self.file_said();
+        let mut first = Buffer::new();
+        let mut second = Buffer::new();
+        let found = first.format(fields).as_bytes();
+        let width = second.format(self.width).as_bytes();
+        let columns = columns_and(fields);
+        hint.join(found, columns, file, b" has ", width, remedy)
+    }
+
+    /// Puts which sequence is unknown.
+    fn put_sequence(&self, hint: &mut Hint) -> Result<(), AllocError> {
+        let first = self.column_of(false, 0);
+        let is_second = has_name(self.genome, first) && self.has_two();
+        let name = self.column_of(is_second, 0);
+        let next = self.column_of(is_second, 1);
+        if is_spaced(name) {
+            return put_spaced(b"the name", name, hint);
+        }
+        if has_name(self.genome, next) {
+            return put_order_of_columns(name, next, hint);
+        }
+        match alike_in(self.genome, name) {
+            Some(known) => put_alike(name, known, hint),
+            None => put_no_name(name, hint),
+        }
+    }
+
+    /// Puts which number is none.
+    fn put_number(&self, subject: &[u8], place: usize, hint: &mut Hint) -> Result<(), AllocError> {
+        if self.command() == b"resize".as_slice() {
+            let length = field(self.line, 2);
+            return put_length(length, hint);
+        }
+        let is_second = self.has_two() && read_number(self.column_of(false, place)).is_some();
+        let value = self.column_of(is_second, place);
+        put_no_number(subject, value, hint)
+    }
+
+    /// Whether the start of a record is below its end.
+    fn is_ordered(&self, is_second: bool) -> bool {
+        read_number(self.column_of(is_second, 1)) < read_number(self.column_of(is_second, 2))
+    }
+
+    /// Puts which start isn't below its end.
+    fn put_order(&self, hint: &mut Hint) -> Result<(), AllocError> {
+        let is_second = self.has_two() && self.is_ordered(false);
+        let start = self.column_of(is_second, 1);
+        let end = self.column_of(is_second, 2);
+        put_unordered(start, end, hint)
+    }
+
+    /// Whether a record ends in its sequence.
+    fn is_inside(&self, is_second: bool) -> bool {
+        let end = read_number(self.column_of(is_second, 2));
+        match length_in(self.genome, self.column_of(is_second, 0)) {
+            Some(length) => read_number(length) >= end,
+            None => false,
+        }
+    }
+
+    /// Puts which end is past the end of its sequence.
+    fn put_past_end(&self, hint: &mut Hint) -> Result<(), AllocError> {
+        let is_second = self.has_two() && self.is_inside(false);
+        let name = self.column_of(is_second, 0);
+        let end = self.column_of(is_second, 2);
+        match length_in(self.genome, name) {
+            Some(length) => put_past(end, name, length, hint),
+            None => put_no_name(name, hint),
+        }
+    }
+
+    /// Puts which name or score is empty, or holds what it may not.
+    fn put_text(&self, subject: &[u8], place: usize, hint: &mut Hint) -> Result<(), AllocError> {
+        let is_second = self.has_two() && !self.column_of(false, place).is_empty();
+        let value = self.column_of(is_second, place);
+        put_wrong_text(subject, value, hint)
+    }
+
+    /// Puts which strand is none.
+    fn put_strand(&self, hint: &mut Hint) -> Result<(), AllocError> {
+        let is_first = matches!(self.column_of(false, 5), b"+" | b"-" | b".");
+        let value = self.column_of(self.has_two() && is_first, 5);
+        put_no_strand(value, hint)
+    }
+
+    /// Puts a record that ends after a new length.
+    fn put_left_out(&self, hint: &mut Hint) -> Result<(), AllocError> {
+        let name = field(self.line, 1);
+        let length = field(self.line, 2);
+        hint.join(
+            b"a record of ",
+            name,
+            b" ends after ",
+            length,
+            b": remove or replace it before, or take a greater length",
+            b"",
+        )?;
+        for line in lines_of(self.records) {
+            let end = field(line, 2);
+            let is_past = read_number(end) > read_number(length);
+            let text = front(line);
+            if is_record(line) && field(line, 0) == name && is_past {
+                return hint.join(self.name, b" has ", text, b"", b"", b"");
+            }
+        }
+        Ok(())
+    }
+
+    /// How many columns of a line are those of the record.
+    fn count_equal(&self, line: &[u8]) -> usize {
+        let mut count: usize = 0;
+        for place in 0..6usize {
+            if place < self.width && column(line, place) == Some(self.column_of(false, place)) {
+                count = count.saturating_add(1);
+            }
+        }
+        count
+    }
+
+    /// The line of the file that has most columns of the record, at least two of them.
+    fn nearest(&self) -> Option<(usize, &'a [u8])> {
+        let mut best: usize = 1;
+        let mut found = None;
+        for line in lines_of(self.records) {
+            if is_record(line) && !line.starts_with(BYTE_ORDER_MARK) {
+                let count = self.count_equal(line);
+                if count > best {
+                    best = count;
+                    found = Some((count, line));
+                }
+            }
+        }
+        found
+    }
+
+    /// Puts which record is nearest to one that is absent.
+    fn put_absent(&self, hint: &mut Hint) -> Result<(), AllocError> {
+        match self.nearest() {
+            Some((count, _)) if count == self.width => hint.join(
+                self.name,
+                b" has it: an earlier line removed or replaced it, or names it too often",
+                b"",
+                b"",
+                b"",
+                b"",
+            )?,
+            Some((_, line)) => put_nearest(self.width, self.name, line, hint)?,
+            None if first_record(self.records).is_none() => {
+                hint.join(self.name, b" has no record", b"", b"", b"", b"")?;
+            }
+            None => put_none_like(self.width, self.name, hint)?,
+        }
+        hint.line(&[b"python3 -m bedkeep replay shows the nearest record of each such line"])
+    }
+}
+
+/// The front of a line of a file.
+fn front(line: &[u8]) -> &[u8] {
+    line.get(..80).unwrap_or(line)
+}
+
+/// The word after a number of columns.
+fn columns_and(number: usize) -> &'static [u8] {
+    if number == 1 {
+        b" column, and "
+    } else {
+        b" columns, and "
+    }
+}
+
+/// Puts that a sequence is after another column.
+fn put_order_of_columns(name: &[u8], next: &[u8], hint: &mut Hint) -> Result<(), AllocError> {
+    hint.join(
+        next,
+        b" is a sequence, and ",
+        name,
+        b" before it isn't: a record begins with its sequence",
+        b"",
+        b"",
+    )
+}
+
+/// Puts which name a genome file has instead of another.
+fn put_alike(name: &[u8], known: &[u8], hint: &mut Hint) -> Result<(), AllocError> {
+    hint.join(
+        b"the genome file has no ",
+        name,
+        b", and has ",
+        known,
+        b": write that",
+        b"",
+    )
+}
+
+/// Puts that a genome file has no such name.
+fn put_no_name(name: &[u8], hint: &mut Hint) -> Result<(), AllocError> {
+    hint.join(
+        b"the genome file has no ",
+        name,
+        b": cut -f1 GENOME prints its names",
+        b"",
+        b"",
+        b"",
+    )
+}
+
+/// Puts what is wrong with the length of a `resize`.
+fn put_length(value: &[u8], hint: &mut Hint) -> Result<(), AllocError> {
+    if read_number(value).is_some() {
+        return hint.join(
+            b"the length ",
+            value,
+            b" is above the limit: a sequence has at most 4000000000 positions",
+            b"",
+            b"",
+            b"",
+        );
+    }
+    let instead = NumberFault::of(value).instead();
+    hint.join(b"the length is ", value, b": ", instead, b"", b"")
+}
+
+/// Puts what is wrong with a start or an end.
+fn put_no_number(subject: &[u8], value: &[u8], hint: &mut Hint) -> Result<(), AllocError> {
+    let instead = NumberFault::of(value).instead();
+    hint.join(b"the ", subject, b" is \"", value, b"\": ", instead)
+}
+
+/// Puts that a start isn't below an end.
+fn put_unordered(start: &[u8], end: &[u8], hint: &mut Hint) -> Result<(), AllocError> {
+    if start == end {
+        return hint.join(
+            b"start and end are ",
+            start,
+            b": a record has at least one base",
+            b"",
+            b"",
+            b"",
+        );
+    }
+    hint.join(
+        b"the start ",
+        start,
+        b" isn't below the end ",
+        end,
+        b": exchange the two, if that is meant",
+        b"",
+    )
+}
+
+/// Puts that an end is past the end of its sequence.
+fn put_past(end: &[u8], name: &[u8], length: &[u8], hint: &mut Hint) -> Result<(), AllocError> {
+    hint.line(&[
+        b"the end is ",
+        end,
+        b", and ",
+        name,
+        b" has ",
+        length,
+        b" bases in the genome file: resize corrects a length",
+    ])
+}
+
+/// Puts what is wrong with a name or a score.
+fn put_wrong_text(subject: &[u8], value: &[u8], hint: &mut Hint) -> Result<(), AllocError> {
+    if value.is_empty() {
+        return hint.join(
+            subject,
+            b" is empty: a . says that there is none",
+            b"",
+            b"",
+            b"",
+            b"",
+        );
+    }
+    hint.join(subject, b" holds a CR or a NUL: ", value, b"", b"", b"")
+}
+
+/// Puts what is wrong with a strand.
+fn put_no_strand(value: &[u8], hint: &mut Hint) -> Result<(), AllocError> {
+    if value.contains(&b'#') {
+        return hint.join(
+            b"the strand is \"",
+            value,
+            b"\": a comment has a line of its own, which begins with #",
+            b"",
+            b"",
+            b"",
+        );
+    }
+    if is_spaced(value) {
+        return put_spaced(b"the strand", value, hint);
+    }
+    hint.join(
+        b"the strand is +, - or ., and not ",
+        value,
+        b"",
+        b"",
+        b"",
+        b"",
+    )
+}
+
+/// Puts which record of a file is nearest.
+fn put_nearest(width: usize, name: &[u8], line: &[u8], hint: &mut Hint) -> Result<(), AllocError> {
+    let mut digits = Buffer::new();
+    let number = digits.format(width).as_bytes();
+    let text = front(line);
+    hint.join(
+        b"all ",
+        number,
+        b" columns count, and ",
+        name,
+        b" has ",
+        text,
+    )
+}
+
+/// Puts that no record of a file is near.
+fn put_none_like(width: usize, name: &[u8], hint: &mut Hint) -> Result<(), AllocError> {
+    let mut digits = Buffer::new();
+    let number = digits.format(width).as_bytes();
+    hint.join(
+        b"all ",
+        number,
+        b" columns count, and no record of ",
+        name,
+        b" is like it",
+        b"",
+    )
+}
+
+/// Puts what is wrong with the words of a view.
+fn put_view_words<F: HintFiles>(
+    alloc: Global,
+    plan: &Plan<'_>,
+    code: u8,
+    line: &[u8],
+    files: &mut F,
+    hint: &mut Hint,
+) -> Result<(), AllocError> {
+    let mut words: Vec<&[u8]> = Vec::new(alloc);
+    for word in column(line, 2).unwrap_or(b"").split(|byte| *byte == b' ') {
+        if !word.is_empty() {
+            words.push(word)?;
+        }
+    }
+    if code == 16 {
+        return put_view(alloc, words.as_slice(), hint);
+    }
+    let (width, _) = width_of(alloc, plan, Slot::First, files)?;
+    put_missing_column(words.as_slice(), code, width, hint)
+}
+
+/// Puts what is wrong with a line that is about a view, or about memory.
+fn put_other(code: u8, line: &[u8], hint: &mut Hint) -> Result<(), AllocError> {
+    let name = shown(column(line, 1).unwrap_or(b""));
+    match code {
+        12 => hint.line(&[
+            b"the track has as many records as -limit allows, 4000000 if it isn't given: -limit N, up to 100000000",
+        ]),
+        13 => hint.line(&[
+            b"a view's name has 1 to 32 characters and no space, and not \"",
+            name,
+            b"\"",
+        ]),
+        14 => hint.line(&[name, b" is open: close it before, or take another name"]),
+        15 => hint.line(&[b"64 views are open: close one before"]),
+        19 => hint.line(&[b"the session has no second file: start it with -b BED"]),
+        20 => hint.line(&[b"the session has no FASTA file: start it with -fi FASTA"]),
+        21 => hint.line(&[
+            b"no view ",
+            name,
+            b" is open: its open was refused, it was closed, or it has another name",
+        ]),
+        22 => hint.line(&[b"close a view, or allow more memory: ulimit -v unlimited"]),
+        _ => hint.line(&[
+            b"the FASTA file has another number of bases for ",
+            name,
+            b": its .fai has the length",
+        ]),
+    }
+}

@@ -1,0 +1,171 @@
+//! What is kept of a script while it runs: the lines that were read last, and how often each kind of message was written.
+use crate::records::count_of;
+use iv_text::{fault_text, read_number};
+use std::alloc::{AllocError, Global};
+
+/// How many bytes are kept of a line before the piece that was read last.
+const MOST_FRONT_BYTES: usize = 57_344;
+
+/// How many bytes a message has at most.
+const MOST_MESSAGE_BYTES: usize = 200;
+
+/// How many refused lines of one kind have a hint.
+const MOST_OF_A_KIND: u8 = 3;
+
+/// How many kinds of message there are, counted from 1.
+const KINDS: u8 = 24;
+
+/// A refused line of a script: its number, and that of the fault in its message.
+#[derive(Clone, Copy, Debug, PartialEq, Eq)]
+pub struct Refusal {
+    pub number: u64,
+    pub code: u8,
+}
+
+/// What is kept of a script while it runs. Each line is run before the next piece is read.
+#[derive(Drop)]
+pub struct SeenScript {
+    /// What came before the last piece of the line that this begins with.
+    front: Vec<u8>,
+    /// What was read last.
+    piece: Vec<u8>,
+    /// The number of the line that the front and the piece begin with.
+    number: u64,
+    /// The front of a message that has not ended.
+    message: Vec<u8>,
+    /// How many lines were refused with each message.
+    counts: [u8; 25],
+}
+
+impl SeenScript {
+    /// Nothing was read so far.
+    pub fn new(alloc: Global) -> SeenScript {
+        SeenScript {
+            front: Vec::new(alloc),
+            piece: Vec::new(alloc),
+            number: 1,
+            message: Vec::new(alloc),
+            counts: [0; 25],
+        }
+    }
+
+    /// Takes the next piece that was read, once all lines that ended before it were run.
+    ///
+    /// # Errors
+    ///
+    /// An allocation failed.
+    pub fn take_piece(&mut self, piece: &[u8]) -> Result<(), AllocError> {
+        let ended = count_of(self.piece.as_slice(), b'\n') as u64;
+        if ended > 0 {
+            self.front.clear();
+            self.number = self.number.saturating_add(ended);
+        }
+        let open = after_last_feed(self.piece.as_slice());
+        let room = MOST_FRONT_BYTES.saturating_sub(self.front.len());
+        self.front
+            .extend_from_slice(open.get(..room).unwrap_or(open))?;
+        self.piece.clear();
+        self.piece.extend_from_slice(piece)?;
+        Ok(())
+    }
+
+    /// The line of this number, if it is kept.
+    fn line(&self, alloc: Global, number: u64) -> Result<Vec<u8>, AllocError> {
+        let mut line = Vec::new(alloc);
+        if number < self.number {
+            return Ok(line);
+        }
+        let before = number - self.number;
+        if before == 0 {
+            line.extend_from_slice(self.front.as_slice())?;
+        }
+        if before < 1_000_000 {
+            let mut lines = self.piece.as_slice().split(|byte| *byte == b'\n');
+            if let Some(text) = lines.nth(before as usize) {
+                line.extend_from_slice(text.strip_suffix(b"\r").unwrap_or(text))?;
+            }
+        }
+        Ok(line)
+    }
+
+    /// Takes bytes of a message. At its end it answers which line was refused, and the line, if that wants a hint: the first three of
+    /// each kind do. A line `?`, by which a program finds where an answer ends, wants none, and after it the count begins again.
+    ///
+    /// # Errors
+    ///
+    /// An allocation failed.
+    pub fn take_message(
+        &mut self,
+        alloc: Global,
+        bytes: &[u8],
+    ) -> Result<Option<(Refusal, Vec<u8>)>, AllocError> {
+        if self.message.len() > MOST_MESSAGE_BYTES {
+            self.message.clear();
+        }
+        self.message
+            .extend_from_slice(bytes.get(..MOST_MESSAGE_BYTES).unwrap_or(bytes))?;
+        let Some(text) = self.message.as_slice().strip_suffix(b"\n") else {
+            return Ok(None);
+        };
+        let refusal = refusal_of(text);
+        self.message.clear();
+        match refusal {
+            Some(refusal) => self.take_refusal(alloc, refusal),
+            None => Ok(None),
+        }
+    }
+
+    /// Counts a refused line.
+    fn take_refusal(
+        &mut self,
+        alloc: Global,
+        refusal: Refusal,
+    ) -> Result<Option<(Refusal, Vec<u8>)>, AllocError> {
+        let Some(count) = self.counts.get_mut(refusal.code as usize) else {
+            return Ok(None);
+        };
+        let is_few = *count < MOST_OF_A_KIND;
+        if !is_few && !(refusal.code == 1 && self.piece.as_slice().ends_with(b"?\n")) {
+            return Ok(None);
+        }
+        *count = count.saturating_add(1);
+        let line = self.line(alloc, refusal.number)?;
+        if line.as_slice() == b"?".as_slice() {
+            self.counts = [0; 25];
+            return Ok(None);
+        }
+        Ok(if is_few { Some((refusal, line)) } else { None })
+    }
+}
+
+/// What follows the last LF of a text, all of it if it has none.
+fn after_last_feed(text: &[u8]) -> &[u8] {
+    match text.iter().rposition(|byte| *byte == b'\n') {
+        Some(place) => text
+            .get(place..)
+            .and_then(|rest| rest.get(1..))
+            .unwrap_or(text),
+        None => text,
+    }
+}
+
+/// The number of the fault with this text.
+fn code_of(text: &[u8]) -> Option<u8> {
+    for code in 1..=KINDS {
+        if fault_text(code) == text {
+            return Some(code);
+        }
+    }
+    None
+}
+
+/// What a message without its LF says, if it is on a line of a script.
+fn refusal_of(message: &[u8]) -> Option<Refusal> {
+    let rest = message.strip_prefix(b"line ")?;
+    let digits = rest.split(|byte| *byte == b':').next()?;
+    let text = rest.get(digits.len()..)?.strip_prefix(b": ")?;
+    Some(Refusal {
+        number: read_number(digits)?,
+        code: code_of(text)?,
+    })
+}

@@ -1,0 +1,148 @@
+//! The hint on a line of a script that is no command, or has other fields.
+use crate::file_kinds::BYTE_ORDER_MARK;
+use crate::hint::Hint;
+use crate::nearest::Nearest;
+use crate::records::{column, count_columns, is_number};
+use crate::values::shown;
+use crate::vocabulary::{COMMANDS, is_between, is_command};
+use itoa::Buffer;
+use std::alloc::{AllocError, Global};
+
+/// Words that are probably tried, and what to do.
+const OTHERS: &[(&[u8], &[u8])] = &[
+    (b"delete", b"remove takes a record out"),
+    (b"del", b"remove takes a record out"),
+    (b"insert", b"add puts a record in"),
+    (b"change", b"replace has the old record and the new one"),
+    (b"update", b"replace has the old record and the new one"),
+    (
+        b"undo",
+        b"write the edit that reverses it; python3 -m bedkeep.curate has undo",
+    ),
+    (b"help", b"bedkeep session --help lists the commands"),
+    (b"quit", b"a script ends with its input"),
+    (b"exit", b"a script ends with its input"),
+    (b"save", b"a print of the view cluster has all records"),
+    (b"list", b"a print of the view cluster has all records"),
+    (b"show", b"a print of the view cluster has all records"),
+    (b"records", b"a print of the view cluster has all records"),
+];
+
+/// The first word of a line, if spaces separate its words.
+fn first_word(line: &[u8]) -> &[u8] {
+    line.split(|byte| *byte == b' ' || *byte == b'\t')
+        .next()
+        .unwrap_or(line)
+}
+
+/// What follows a command, in a few words.
+fn fields_of(command: &[u8]) -> &'static [u8] {
+    match command {
+        b"open" => b"a name and a view, in two fields (spaces separate the options of the view)",
+        b"close" | b"print" => b"a name, in one field",
+        b"printall" => b"no field",
+        b"resize" => b"a sequence and a length, in two fields",
+        _ => b"the columns of a record, in as many fields",
+    }
+}
+
+/// What writes the TABs of a line with spaces.
+fn tabs_for(command: &[u8]) -> &'static [u8] {
+    match command {
+        b"open" => b"sed '/^open /{ s/ /\\t/; s/ /\\t/ }' FILE writes them for open",
+        _ => b"sed '/^open/!s/  */\\t/g' FILE writes them",
+    }
+}
+
+/// What to do instead of a word that is probably tried.
+fn other_word(word: &[u8]) -> Option<&'static [u8]> {
+    for (known, text) in OTHERS {
+        if word.eq_ignore_ascii_case(known) {
+            return Some(text);
+        }
+    }
+    None
+}
+
+/// Puts why a line is no command.
+pub(crate) fn put_no_command(
+    alloc: Global,
+    line: &[u8],
+    hint: &mut Hint,
+) -> Result<(), AllocError> {
+    let field = column(line, 0).unwrap_or(b"");
+    let word = first_word(line);
+    if let Some(rest) = line.strip_prefix(BYTE_ORDER_MARK) {
+        let next = first_word(rest);
+        return hint.join(
+            b"a byte order mark is before ",
+            next,
+            b": sed '1s/^\\xEF\\xBB\\xBF//' FILE takes it away",
+            b"",
+            b"",
+            b"",
+        );
+    }
+    if line.starts_with(b" ") {
+        return hint.line(&[b"the line begins with a space: sed 's/^ *//' FILE takes it away"]);
+    }
+    if is_command(field) {
+        return put_fields(field, line, hint);
+    }
+    if is_command(word) {
+        let remedy = tabs_for(word);
+        return hint.join(
+            b"a TAB, and no space, follows ",
+            word,
+            b": ",
+            remedy,
+            b"",
+            b"",
+        );
+    }
+    if is_number(line, 1) && is_number(line, 2) {
+        return hint.line(&[
+            b"the line is a record, and no command: sed 's/^/add\\t/' FILE makes edits of such lines",
+        ]);
+    }
+    put_unknown(alloc, word, hint)
+}
+
+/// Puts how many fields follow a command, and how many should.
+fn put_fields(command: &[u8], line: &[u8], hint: &mut Hint) -> Result<(), AllocError> {
+    let meaning = fields_of(command);
+    let fields = count_columns(line).saturating_sub(1);
+    let mut digits = Buffer::new();
+    let number = digits.format(fields).as_bytes();
+    hint.join(
+        command,
+        b" has after it ",
+        meaning,
+        b"; fields here: ",
+        number,
+        b"",
+    )
+}
+
+/// Puts that a word is no command, and which is meant.
+fn put_unknown(alloc: Global, word: &[u8], hint: &mut Hint) -> Result<(), AllocError> {
+    let text = shown(word);
+    if let Some(instead) = other_word(word) {
+        return hint.join(text, b" is no command: ", instead, b"", b"", b"");
+    }
+    let mut nearest = Nearest::to(word);
+    for known in COMMANDS.split(is_between) {
+        nearest.look_at(alloc, known)?;
+    }
+    match nearest.found() {
+        Some(known) => hint.join(text, b" is no command: is ", known, b" meant?", b"", b""),
+        None => hint.join(
+            text,
+            b" is no command: add, remove, replace, addb, removeb, replaceb, resize, open, close, print or printall",
+            b"",
+            b"",
+            b"",
+            b"",
+        ),
+    }
+}
