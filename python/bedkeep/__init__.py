@@ -11,16 +11,17 @@
 
 A record is the columns of a BED line: chromosome, start, end, and then name, score and strand if the file has them. Start
 counts from 0, and end is not included. The program is the argument `program`, else what BEDKEEP in the environment names,
-else `bedkeep` on the path.
+else `bedkeep` on the path, or where pip put it.
 """
 from .errors import BadOptions, Damaged, Ended, Error, InputOutput, NoMemory, NotFound, Refused
-from .rows import Row, to_frame
-from .runs import cluster, complement, genomecov, getfasta, intersect, merge, subtract
+from .rows import Row
+from .runs import Rows, cluster, complement, genomecov, getfasta, intersect, merge, subtract
 from .session import Session
+from .tables import edits, to_frame
 
 __version__ = "1.0.0"
 __all__ = [
     "BadOptions", "Damaged", "Ended", "Error", "InputOutput", "NoMemory", "NotFound", "Refused",
-    "Row", "Session", "to_frame",
+    "Row", "Rows", "Session", "edits", "to_frame",
     "cluster", "complement", "genomecov", "getfasta", "intersect", "merge", "subtract",
 ]

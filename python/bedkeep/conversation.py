@@ -11,7 +11,8 @@ import os
 import re
 import selectors
 import subprocess
-from typing import Callable, NamedTuple, NoReturn, Optional, Sequence
+import weakref
+from typing import IO, Callable, NamedTuple, NoReturn, Optional, Sequence
 
 from .errors import Ended, ended
 from .interrupts import Interrupts
@@ -82,15 +83,25 @@ class Exchange:
         return Answer(self.count, self.refused)
 
 
-class Conversation:
-    """The program, started with the arguments of a session."""
+def _end(process: subprocess.Popen[bytes], pipes: Sequence[IO[bytes]], owner: int) -> None:
+    """Ends a session that nobody holds any more. A process that was forked only closes its own ends of the pipes."""
+    if os.getpid() == owner:
+        process.kill()
+        process.wait()
+    for pipe in pipes:
+        pipe.close()
 
-    def __init__(self, words: Sequence[str]) -> None:
+
+class Conversation:
+    """The program, started with the arguments of a session; it ends with this object at the latest."""
+
+    def __init__(self, words: Sequence[str], descriptors: Sequence[int] = ()) -> None:
         # A process group of its own gets no interrupt from the terminal.
-        self._process = subprocess.Popen(words, bufsize=0, start_new_session=True,
+        self._process = subprocess.Popen(words, bufsize=0, start_new_session=True, pass_fds=descriptors,
                                          stdin=subprocess.PIPE, stdout=subprocess.PIPE, stderr=subprocess.PIPE)
         assert self._process.stdin and self._process.stdout and self._process.stderr
         self._pipes = [self._process.stdin, self._process.stdout, self._process.stderr]
+        self._ending = weakref.finalize(self, _end, self._process, self._pipes, os.getpid())
         self._in, self._out, self._err = [pipe.fileno() for pipe in self._pipes]
         for pipe in self._in, self._out, self._err:
             os.set_blocking(pipe, False)
@@ -124,6 +135,11 @@ class Conversation:
         if exchange.failure:
             raise exchange.failure
         return answer
+
+    @property
+    def is_over(self) -> bool:
+        """Whether the program has ended."""
+        return self._over is not None
 
     def kill(self) -> None:
         """Ends the program at once; who waits for it sees its end."""
@@ -185,6 +201,7 @@ class Conversation:
 
     def _close(self, over: Ended) -> None:
         self._over = over
+        self._ending.detach()
         self._selector.close()
         for pipe in self._pipes:
             pipe.close()

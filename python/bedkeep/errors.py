@@ -18,6 +18,7 @@ class Refused(Error):
     reason: why, as the program says it, such as `no such record`
     number: the line's number in the script that was handed to `edit`, from 1; 1 for a call that sends one line
     line:   the line as it was sent, its fields separated by TABs
+    others: what was refused after it, if `edit` raised it
     """
 
     def __init__(self, reason: str, number: int, line: str) -> None:
@@ -25,9 +26,11 @@ class Refused(Error):
         self.reason = reason
         self.number = number
         self.line = line
+        self.others: list[Refused] = []
 
     def __str__(self) -> str:
-        return f"line {self.number}: {self.reason}: {self.line!r}"
+        more = f", and {len(self.others)} more" if self.others else ""
+        return f"line {self.number}: {self.reason}: {self.line!r}{more}"
 
 
 class Ended(Error):

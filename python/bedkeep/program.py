@@ -3,6 +3,8 @@ from __future__ import annotations
 
 import os
 import shutil
+import sys
+import sysconfig
 from typing import Optional, Union
 
 from .errors import NotFound
@@ -11,9 +13,12 @@ Path = Union[str, "os.PathLike[str]"]
 
 
 def find(program: Optional[Path]) -> str:
-    """The path of the program: the argument, else what BEDKEEP names, else `bedkeep` on the path."""
+    """The path of the program: the argument, else what BEDKEEP names, else `bedkeep` on the path, or where pip puts it."""
     name = os.fspath(program) if program is not None else os.environ.get("BEDKEEP") or "bedkeep"
     path = shutil.which(name)
+    if path is None and name == "bedkeep":
+        folders = os.path.dirname(sys.executable), sysconfig.get_path("scripts"), sysconfig.get_path("scripts", "posix_user")
+        path = shutil.which(name, path=os.pathsep.join(folders))
     if path is None:
         raise NotFound(f"no program {name!r}: give program=.., set BEDKEEP, or put bedkeep on the path")
     return path

@@ -1,7 +1,6 @@
 """Rows as tuples with names and integers, made from what the program prints."""
 from __future__ import annotations
 
-import importlib
 import os
 from collections import namedtuple
 from functools import lru_cache
@@ -33,7 +32,7 @@ class Row(tuple[Any, ...]):
         def __getattr__(self, name: str) -> Any: ...
 
     def __reduce__(self) -> tuple[Any, ...]:
-        return _row, (self._fields, tuple(self))
+        return row_of, (self._fields, tuple(self))
 
 
 @lru_cache(maxsize=None)
@@ -42,15 +41,24 @@ def _row_class(fields: tuple[str, ...]) -> type[Row]:
     return type("Row", (Row, named), {"__slots__": ()})
 
 
-def _row(fields: tuple[str, ...], columns: Iterable[Any]) -> Row:
+def distinct(fields: tuple[str, ...]) -> tuple[str, ...]:
+    """The names that rows with these columns have: each once."""
+    return _row_class(fields)._fields
+
+
+def row_of(fields: tuple[str, ...], columns: Iterable[Any]) -> Row:
+    """A row with these names."""
     return tuple.__new__(_row_class(fields), columns)
 
 
-def to_frame(rows: Iterable[Row]) -> Any:
-    """The rows as a DataFrame of pandas, which has to be installed; the columns have the names of the rows'."""
-    pandas = importlib.import_module("pandas")
-    listed = list(rows)
-    return pandas.DataFrame.from_records(listed, columns=listed[0]._fields if listed else None)
+def is_integer(field: str) -> bool:
+    """Whether a column holds whole numbers alone."""
+    return field in INTEGERS or field.startswith("count_")
+
+
+def is_number(field: str) -> bool:
+    """Whether a column holds whole numbers, and None if the program prints `.`."""
+    return field.startswith(("sum_", "min_", "max_"))
 
 
 class Shape(NamedTuple):
@@ -63,18 +71,29 @@ class Shape(NamedTuple):
 
 def _shape(words: Sequence[str], columns: int, width: Optional[int]) -> Shape:
     """The shape of a view's rows that have so many columns, over a track of that width."""
+    fields = fields_of(words, columns, width)
     if words[0] == "getfasta":
-        stranded = "-s" in words
-        fields = RECORD[:3] + ("strand", "bases") if stranded else RECORD[:3] + ("bases",)
-        return Shape(_row_class(fields), lambda line: _bases(line, stranded), [])
-    fields = _fields(words, columns, width)
-    integers = [(place, int) for place, field in enumerate(fields) if field.partition("_")[0] == "count" or field in INTEGERS]
-    numbers = [(place, _number) for place, field in enumerate(fields) if field.partition("_")[0] in ("sum", "min", "max")]
+        return Shape(_row_class(fields), lambda line: _bases(line, "-s" in words), [])
+    integers = [(place, int) for place, field in enumerate(fields) if is_integer(field)]
+    numbers = [(place, _number) for place, field in enumerate(fields) if is_number(field)]
     return Shape(_row_class(fields), lambda line: line.split("\t"), [*integers, *numbers])
 
 
-def _fields(words: Sequence[str], columns: int, width: Optional[int]) -> tuple[str, ...]:
+def count_of(words: Sequence[str], width: int, second: int) -> int:
+    """How many columns the rows of a view have over a track of that width, and a second file of that."""
     kind, options = words[0], words[1:]
+    if kind == "genomecov":
+        return 3 if "-d" in options else 4
+    if kind in ("merge", "complement", "getfasta"):
+        return 3
+    return width + (kind == "cluster" or "-c" in options) + (second if "-wb" in options else 0)
+
+
+def fields_of(words: Sequence[str], columns: int, width: Optional[int]) -> tuple[str, ...]:
+    """The names of the columns of a view's rows that have so many, over a track of that width."""
+    kind, options = words[0], words[1:]
+    if kind == "getfasta":
+        return RECORD[:3] + (("strand", "bases") if "-s" in options else ("bases",))
     if kind == "merge":
         return RECORD[:3] + tuple(_results(options))
     if kind == "cluster":
@@ -87,7 +106,7 @@ def _fields(words: Sequence[str], columns: int, width: Optional[int]) -> tuple[s
         if width is None:
             return RECORD[:3] + tuple(f"column_{number}" for number in range(4, columns + 1))
         return RECORD[:width] + tuple(f"second_{field}" for field in RECORD[:columns - width])
-    return RECORD[:columns]
+    return RECORD[:columns] + tuple(f"column_{number}" for number in range(len(RECORD) + 1, columns + 1))
 
 
 def _results(options: Sequence[str]) -> Iterator[str]:

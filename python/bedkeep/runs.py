@@ -1,73 +1,121 @@
 """Runs of one subcommand. Each gives its rows one after another, as the program prints them.
 
-A run begins when its first row is asked for, and ends with its last one or when the generator is closed. It raises BadOptions,
-Damaged, InputOutput or NoMemory if the program ends with such a status. `width` is the number of columns of a BED file
-without a record. A file may be a pipe; /dev/stdin is standard input.
+A run begins with the call, and ends with its last row or when it is closed. If the program ends with such a status the call
+raises BadOptions, Damaged, InputOutput or NoMemory; after the first rows they do. `width` is the number of columns of a BED
+file without a record. A file may be a pipe; /dev/stdin is standard input. A genome may be a dict of lengths, and a BED file a
+DataFrame of pandas.
 """
 from __future__ import annotations
 
+import inspect
 import os
 import subprocess
-from typing import Iterator, Optional, Sequence, Union
+from typing import Any, Generator, Iterator, Optional, Sequence, Union
 
-from .errors import ended
+from .errors import Ended, ended
 from .program import Path, decoded, find
-from .rows import Lines, Reader, Row, width_of
+from .rows import Lines, Reader, Row, count_of, fields_of, width_of
+from .sources import Genome, Sources, Track
+from .tables import frame_of_rows, frame_of_text
 
+PIECE = 1 << 20
 Value = Union[None, bool, int, str, Sequence[int], Sequence[str]]
 
 
-def merge(genome: Path, bed: Path, *, d: Optional[int] = None, s: bool = False, c: Union[int, Sequence[int]] = (),
-          o: Union[str, Sequence[str]] = (), width: Optional[int] = None, program: Optional[Path] = None) -> Iterator[Row]:
+class Rows(Iterator[Row]):
+    """The rows of a run, one after another. What isn't wanted any more is left out by `close`, or at the end of `with`."""
+
+    def __init__(self, pieces: Generator[bytes, None, None], words: Sequence[str], widths: Sequence[Optional[int]]) -> None:
+        self._pieces = pieces
+        self._words = words
+        self._widths = [*widths, None]
+        self._rows = _made(pieces, Reader(words, self._widths[0]))
+
+    def __iter__(self) -> Iterator[Row]:
+        return self._rows
+
+    def __next__(self) -> Row:
+        return next(self._rows)
+
+    def __enter__(self) -> Rows:
+        return self
+
+    def __exit__(self, *_: object) -> None:
+        self.close()
+
+    def close(self) -> None:
+        """Ends the run."""
+        self._rows.close()
+        self._pieces.close()
+
+    def to_frame(self, names: str = "bedkeep") -> Any:
+        """The rows that are left, as a DataFrame of pandas; `names` as in `to_frame` of the package."""
+        width, second = self._widths[:2]
+        fields = fields_of(self._words, count_of(self._words, width or 3, second or 3), width or 3)
+        if inspect.getgeneratorstate(self._rows) != inspect.GEN_CREATED:
+            rows = list(self._rows)
+            return frame_of_rows(rows, rows[0]._fields if rows else fields, names)
+        text = b"".join(self._pieces)
+        if text:
+            fields = fields_of(self._words, text[:text.index(b"\n")].count(b"\t") + 1, width)
+        return frame_of_text(text, self._words, fields, names)
+
+
+def _made(pieces: Generator[bytes, None, None], reader: Reader) -> Generator[Row, None, None]:
+    for lines in pieces:
+        yield from reader.rows(lines)
+
+
+def merge(genome: Genome, bed: Track, *, d: Optional[int] = None, s: bool = False, c: Union[int, Sequence[int]] = (),
+          o: Union[str, Sequence[str]] = (), width: Optional[int] = None, program: Optional[Path] = None) -> Rows:
     """Blocks of records that overlap, are book-ended or are at most `d` bases apart: chromosome, start, end, results.
 
     s: blocks of one strand. c: columns, from 1. o: their operations: count, sum, min, max, collapse, distinct.
     """
-    return _rows(_words("merge", d=d, s=s, c=c, o=o), [("-g", genome), ("-i", bed)], width, program)
+    return _run(_words("merge", d=d, s=s, c=c, o=o), genome, [("-i", bed)], width, program)
 
 
-def cluster(genome: Path, bed: Path, *, d: Optional[int] = None, width: Optional[int] = None,
-            program: Optional[Path] = None) -> Iterator[Row]:
+def cluster(genome: Genome, bed: Track, *, d: Optional[int] = None, width: Optional[int] = None,
+            program: Optional[Path] = None) -> Rows:
     """Every record, with the number of its block, from 1."""
-    return _rows(_words("cluster", d=d), [("-g", genome), ("-i", bed)], width, program)
+    return _run(_words("cluster", d=d), genome, [("-i", bed)], width, program)
 
 
-def complement(genome: Path, bed: Path, *, L: bool = False, width: Optional[int] = None,
-               program: Optional[Path] = None) -> Iterator[Row]:
+def complement(genome: Genome, bed: Track, *, L: bool = False, width: Optional[int] = None,
+               program: Optional[Path] = None) -> Rows:
     """The intervals that no record covers: chromosome, start, end. L: only of chromosomes that have a record."""
-    return _rows(_words("complement", L=L), [("-g", genome), ("-i", bed)], width, program)
+    return _run(_words("complement", L=L), genome, [("-i", bed)], width, program)
 
 
-def genomecov(genome: Path, bed: Path, *, bg: bool = False, bga: bool = False, d: bool = False,
-              width: Optional[int] = None, program: Optional[Path] = None) -> Iterator[Row]:
+def genomecov(genome: Genome, bed: Track, *, bg: bool = False, bga: bool = False, d: bool = False,
+              width: Optional[int] = None, program: Optional[Path] = None) -> Rows:
     """Depth; one of the three is required. bg: intervals of depth above 0. bga: all. d: each position, from 1."""
-    return _rows(_words("genomecov", bg=bg, bga=bga, d=d), [("-g", genome), ("-i", bed)], width, program)
+    return _run(_words("genomecov", bg=bg, bga=bga, d=d), genome, [("-i", bed)], width, program)
 
 
-def intersect(genome: Path, a: Path, b: Path, *, wa: bool = False, wb: bool = False, u: bool = False, v: bool = False,
-              c: bool = False, width: Optional[int] = None, program: Optional[Path] = None) -> Iterator[Row]:
+def intersect(genome: Genome, a: Track, b: Track, *, wa: bool = False, wb: bool = False, u: bool = False, v: bool = False,
+              c: bool = False, width: Optional[int] = None, program: Optional[Path] = None) -> Rows:
     """The part of each record of `a` that each record of `b` overlaps, with the further columns of `a`.
 
     wa: the record whole. wb: also the record of `b`; its columns, and those of `a` after the third, have their names only if
     `a` is a regular file. u, v, c: each record that has a hit; that has none; every one, with the number of its hits.
     """
-    words = _words("intersect", wa=wa, wb=wb, u=u, v=v, c=c)
-    return _rows(words, [("-g", genome), ("-a", a), ("-b", b)], width, program, width_of(a) if wb else None)
+    return _run(_words("intersect", wa=wa, wb=wb, u=u, v=v, c=c), genome, [("-a", a), ("-b", b)], width, program)
 
 
-def subtract(genome: Path, a: Path, b: Path, *, A: bool = False, width: Optional[int] = None,
-             program: Optional[Path] = None) -> Iterator[Row]:
+def subtract(genome: Genome, a: Track, b: Track, *, A: bool = False, width: Optional[int] = None,
+             program: Optional[Path] = None) -> Rows:
     """The parts of each record of `a` that no record of `b` covers. A: only records that no record of `b` overlaps."""
-    return _rows(_words("subtract", A=A), [("-g", genome), ("-a", a), ("-b", b)], width, program)
+    return _run(_words("subtract", A=A), genome, [("-a", a), ("-b", b)], width, program)
 
 
-def getfasta(genome: Path, bed: Path, fasta: Path, *, s: bool = False, width: Optional[int] = None,
-             program: Optional[Path] = None) -> Iterator[Row]:
+def getfasta(genome: Genome, bed: Track, fasta: Path, *, s: bool = False, width: Optional[int] = None,
+             program: Optional[Path] = None) -> Rows:
     """The bases of each record whose sequence the FASTA file has: chromosome, start, end, bases.
 
     s: the strand before the bases, which are those of the record's own strand.
     """
-    return _rows(_words("getfasta", s=s, tab=True), [("-g", genome), ("-bed", bed), ("-fi", fasta)], width, program)
+    return _run(_words("getfasta", s=s, tab=True), genome, [("-bed", bed)], width, program, fasta)
 
 
 def _words(kind: str, **options: Value) -> list[str]:
@@ -83,23 +131,41 @@ def _words(kind: str, **options: Value) -> list[str]:
     return words
 
 
-def _rows(words: list[str], files: Sequence[tuple[str, Path]], width: Optional[int], program: Optional[Path],
-          columns: Optional[int] = None) -> Iterator[Row]:
+def _run(words: list[str], genome: Genome, files: Sequence[tuple[str, Track]], width: Optional[int], program: Optional[Path],
+         fasta: Optional[Path] = None) -> Rows:
+    """Begins a run, and returns once its first rows are here or it has ended."""
     command = [find(program), *words]
-    for option, file in files:
-        command += [option, os.fspath(file)]
-    if width is not None:
-        command += ["-width", str(width)]
-    lines, reader = Lines(), Reader(words, columns)
-    with subprocess.Popen(command, stdout=subprocess.PIPE, stderr=subprocess.PIPE) as process:
+    with Sources() as sources:
+        command += ["-g", sources.genome(genome)]
+        paths = [sources.track(file) for _, file in files]
+        for (option, _), path in zip(files, paths):
+            command += [option, path]
+        if fasta is not None:
+            command += ["-fi", os.fspath(fasta)]
+        if width is not None:
+            command += ["-width", str(width)]
+        widths = [width_of(path) or width for path in paths]
+        pieces = _lines(command, sources)
+        try:
+            next(pieces, None)
+        except Ended as failure:
+            raise sources.renamed(failure) from None
+    return Rows(pieces, words, widths)
+
+
+def _lines(command: Sequence[str], sources: Sources) -> Generator[bytes, None, None]:
+    """What the program prints, in whole lines. The first piece is empty: it says that the run has begun."""
+    lines = Lines()
+    with subprocess.Popen(command, pass_fds=sources.descriptors, stdout=subprocess.PIPE, stderr=subprocess.PIPE) as process:
         assert process.stdout and process.stderr
         try:
             # Standard error gets one line at most, which its pipe has room for.
-            while True:
-                piece = os.read(process.stdout.fileno(), 1 << 20)
-                if not piece:
-                    break
-                yield from reader.rows(lines.whole(piece))
+            piece = os.read(process.stdout.fileno(), PIECE)
+            if piece:
+                yield b""
+            while piece:
+                yield lines.whole(piece)
+                piece = os.read(process.stdout.fileno(), PIECE)
             messages = decoded(process.stderr.read())
             status = process.wait()
         except BaseException:

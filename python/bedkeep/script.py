@@ -2,21 +2,32 @@
 from __future__ import annotations
 
 import io
+import operator
 import os
 import re
-from typing import Iterable, Union
+from collections import Counter
+from collections.abc import Mapping
+from typing import Any, Iterable, Optional, SupportsIndex, Union
 
 from .interrupts import Interrupts
-from .program import Path, decoded
 
 INVERSE = {"add": "remove", "remove": "add", "replace": "replace",
            "addb": "removeb", "removeb": "addb", "replaceb": "replaceb"}
 VIEW_COMMAND = re.compile(r"\n(?:open\t|close\t|print\t|printall\n)")
 
 
-def line_of(*fields: Union[str, int]) -> str:
+def text_of(field: object) -> str:
+    """A field as text: it is text, or a whole number of any type."""
+    if isinstance(field, str):
+        return field
+    if isinstance(field, SupportsIndex) and not isinstance(field, bool):
+        return str(operator.index(field))
+    raise TypeError(f"a field is text or a whole number, and not {field!r}")
+
+
+def line_of(*fields: object) -> str:
     """A line of a script with its end. No field may have a TAB or the end of a line in it."""
-    texts = [str(field) for field in fields]
+    texts = [text_of(field) for field in fields]
     for text in texts:
         if re.search(r"[\t\r\n]", text):
             raise ValueError(f"a TAB or the end of a line in a field: {text!r}")
@@ -25,6 +36,7 @@ def line_of(*fields: Union[str, int]) -> str:
 
 def edits_of(lines: Union[str, Iterable[str]]) -> str:
     """The text of a script that has edits alone, from such a text, an open file or any lines. Each line has its end."""
+    _refuse_other_types(lines)
     if isinstance(lines, io.TextIOBase):
         lines = lines.read()
     if isinstance(lines, str):
@@ -43,17 +55,21 @@ def edits_of(lines: Union[str, Iterable[str]]) -> str:
     return text
 
 
-class Script:
-    """The accepted edits over a genome file."""
+def _refuse_other_types(lines: object) -> None:
+    """Raises for what is surely no script: a path, bytes, a dict or a table."""
+    if isinstance(lines, (bytes, os.PathLike, Mapping)) or hasattr(lines, "columns"):
+        raise TypeError(f"edits are a text, an open file or lines, and not a {type(lines).__name__}")
+    if isinstance(lines, str) and lines and not re.search("^#|[\t\n]", lines):
+        raise ValueError(f"no line of a script: {lines!r}; a file of edits is handed in when it is open")
 
-    def __init__(self, genome: Path) -> None:
+
+class Script:
+    """The accepted edits over a genome, whose lengths are None if they aren't known."""
+
+    def __init__(self, lengths: Optional[Mapping[str, int]]) -> None:
         self._lines: list[str] = []
         self._added: list[str] = []
-        # For `resize` that is taken back. A pipe can't be read twice, and its lengths aren't known.
-        self._genome = ""
-        if os.path.isfile(genome):
-            with open(genome, "rb") as file:
-                self._genome = decoded(file.read())
+        self._lengths = lengths
 
     def add(self, text: str) -> None:
         """Adds accepted lines. They are taken apart when that is needed, so that many cost little."""
@@ -67,6 +83,34 @@ class Script:
             self._added.clear()
         return self._lines
 
+    def parts(self, line: str) -> list[str]:
+        """The command of a line and the fields that the program is given."""
+        return line.split("\t")
+
+    def change(self) -> Counter[tuple[Any, ...]]:
+        """How many more copies of each record the track has by the edits, or below 0 how many fewer."""
+        change: Counter[tuple[Any, ...]] = Counter()
+        for line in self.lines():
+            command, *fields = self.parts(line)
+            if command in ("remove", "replace"):
+                change[_record(fields[:len(fields) // 2] if command == "replace" else fields)] -= 1
+            if command in ("add", "replace"):
+                change[_record(fields[len(fields) // 2:] if command == "replace" else fields)] += 1
+        return change
+
+    def explain(self, reason: str) -> None:
+        """Puts comments above the last edit."""
+        place = self.last()
+        self.lines()[place:place] = [f"# {line}".rstrip() for line in reason.splitlines()]
+
+    def forget(self, place: int) -> None:
+        """Takes out an edit with the comments directly above it."""
+        lines = self.lines()
+        first = place
+        while first and lines[first - 1].startswith("#"):
+            first -= 1
+        del lines[first:place + 1]
+
     def last(self) -> int:
         """The place of the last edit. Comments and empty lines are none."""
         lines = self.lines()
@@ -77,7 +121,7 @@ class Script:
 
     def reverse(self, place: int) -> str:
         """The line that takes back the line at that place, the last edit."""
-        command, *fields = self.lines()[place].split("\t")
+        command, *fields = self.parts(self.lines()[place])
         if command == "resize":
             return line_of("resize", fields[0], self._length(place, fields[0]))
         half = len(fields) // 2 if command.startswith("replace") else 0
@@ -88,8 +132,11 @@ class Script:
         for line in reversed(self.lines()[:place]):
             if line.startswith(f"resize\t{chromosome}\t"):
                 return line.rpartition("\t")[2]
-        for line in self._genome.split("\n"):
-            columns = line.rstrip("\r").split("\t")
-            if columns[0] == chromosome and columns != ["chrom", "size"]:
-                return columns[1]
-        raise ValueError(f"the length of {chromosome} before isn't known, since the genome file is no regular file")
+        if self._lengths is None:
+            raise ValueError(f"the length of {chromosome} before isn't known, since the genome file is no regular file")
+        return str(self._lengths[chromosome])
+
+
+def _record(columns: list[str]) -> tuple[Any, ...]:
+    """A record as the program prints it, with its numbers as integers."""
+    return (columns[0], int(columns[1]), int(columns[2]), *columns[3:])

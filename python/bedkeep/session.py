@@ -1,29 +1,39 @@
 """A session: a track that is edited line by line while views of it stay open."""
 from __future__ import annotations
 
+import html
 import os
 import re
-import shutil
-from typing import Any, Callable, Iterable, Optional, Sequence, Union
+from collections.abc import Mapping
+from heapq import nsmallest
+from typing import Any, Callable, Iterable, Iterator, Optional, Sequence, Union
 
 from .conversation import Conversation, Take
-from .errors import Refused
+from .errors import Ended, Refused
+from .files import whole
 from .interrupts import Interrupts
+from .lookup import Lookup, Record
 from .program import Path, find
-from .rows import Lines, Reader, Row, to_frame
-from .script import Script, edits_of, line_of
+from .rows import RECORD, Lines, Reader, Row, count_of, fields_of, row_of
+from .script import Script, edits_of, line_of, text_of
+from .sources import Genome, Sources, Track
+from .tables import SCORE, frame_of_text, score_of
+from .wide_session import Wide, WideScript
 
-Columns = Sequence[Union[str, int]]
+Columns = Iterable[Union[str, int]]
 STANDARD_INPUT = {"/dev/stdin", "/dev/fd/0", "/proc/self/fd/0"}
 OPENED = "view:"  # how the names of views begin that `view` opens
-BLOCK = re.compile(rb"\t[0-9]+\n")
+LONGEST = 1 << 32  # more than a sequence can have
+REACH = 10_000  # how far from a record those near it are looked for at first
 
 
 class Session:
     """A track over a genome file, edited by lines of a script, and views of it.
 
     genome, bed: the files; second: the second file, for intersect, subtract and the edits of it; fasta: for getfasta;
-    width: the number of columns of a BED file without a record. No file is ever changed.
+    width: the number of columns of a BED file without a record. No file is ever changed. A genome may be a dict of lengths,
+    and a BED file a DataFrame of pandas. wide: takes files of more than six columns, packed by gzip or not; the columns from
+    the seventh on go along with their records as text, and `records` and `save` have them.
 
     Records are columns, `add("chr1", 10, 20)`, or one sequence of them, `add(("chr1", 10, 20))`: as many as the file has,
     `width`. Start counts from 0, and end is not included. A line that is refused raises Refused and changes nothing. If the
@@ -31,28 +41,44 @@ class Session:
 
     An interrupt (Ctrl-C) is raised once the answer that was begun is complete, and the session can be used on. A second
     interrupt closes it. A session is for one thread at a time. A call takes one more line than it sends of the 4,000,000
-    that the program takes.
+    that the program takes. The program ends with `end`, at the end of `with`, or when nobody holds the session any more.
+
+    `len` is the number of records, and `in` asks whether a record is there.
     """
 
-    def __init__(self, genome: Path, bed: Path, second: Optional[Path] = None, fasta: Optional[Path] = None,
-                 width: Optional[int] = None, program: Optional[Path] = None) -> None:
-        words = [find(program), "session"]
-        for option, file in ("-g", genome), ("-i", bed), ("-b", second), ("-fi", fasta):
-            if file is not None:
-                words += [option, os.fspath(file)]
-        if STANDARD_INPUT.intersection(words):
-            raise ValueError("standard input of a session is its script")
-        if width is not None:
-            words += ["-width", str(width)]
-        self._script = Script(genome)
+    def __init__(self, genome: Genome, bed: Track, second: Optional[Track] = None, fasta: Optional[Path] = None,
+                 width: Optional[int] = None, program: Optional[Path] = None, wide: bool = False) -> None:
+        self._wide = Wide(bed, second) if wide else None
         self._named: dict[str, list[str]] = {}
         self._opened = 0
-        self._talk = Conversation(words)
-        try:
-            self.width = self._find_width()
-        except BaseException:
-            self.end()
-            raise
+        self._refused: list[Refused] = []  # of the last call of `edit`
+        with Sources() as sources:
+            self._files = {"-g": sources.genome(genome), "-i": sources.track(bed)}
+            if second is not None:
+                self._files["-b"] = sources.track(second)
+            if fasta is not None:
+                self._files["-fi"] = os.fspath(fasta)
+            if self._wide:
+                self._files.update(self._wide.narrow)
+            if STANDARD_INPUT.intersection(self._files.values()):
+                raise ValueError("standard input of a session is its script")
+            words = [find(program), "session", *(word for option in self._files.items() for word in option)]
+            if width is not None:
+                words += ["-width", str(width)]
+            self._lookup = Lookup(genome, self._files["-i"], program)
+            self._talk = Conversation(words, sources.descriptors)
+            try:
+                self.width = self._find_width("remove")
+            except Ended as failure:
+                self.end()
+                raise sources.renamed(self._wide.named(failure) if self._wide else failure) from None
+            except BaseException:
+                self.end()
+                raise
+            sources.free()
+        self._script = self._lookup.begin(self._wide.script if self._wide else Script)
+        if self._wide:
+            self._files.update(self._wide.given)
 
     def __enter__(self) -> Session:
         return self
@@ -63,6 +89,41 @@ class Session:
     def end(self) -> None:
         """Ends the session. `script()` can be called afterwards."""
         self._talk.end()
+        if self._wide:
+            self._wide.close()
+
+    def __len__(self) -> int:
+        """The number of records."""
+        if self._lookup.is_possible:
+            return self._lookup.count()
+        counted: list[int] = []
+        self._print_track(lambda lines: counted.append(lines.count(b"\n")))
+        return sum(counted)
+
+    def __bool__(self) -> bool:
+        """True, also without a record."""
+        return True
+
+    def __iter__(self) -> Iterator[Row]:
+        """All records, as `records` has them."""
+        return iter(self.records())
+
+    def __contains__(self, record: Columns) -> bool:
+        """Whether the track has the record. The program is asked to replace it by itself, which changes nothing."""
+        columns = _columns(record)
+        return not self._send(line_of("replace", *columns, *columns))
+
+    def __repr__(self) -> str:
+        return f"<bedkeep.Session of {self._files['-i']}: {', '.join(self._state())}>"
+
+    def _repr_html_(self) -> str:
+        """What a notebook shows: the last edits, and what the last call of `edit` refused."""
+        edits = "".join(f"<tr><td>{'</td><td>'.join(map(html.escape, line.split(chr(9))))}</td></tr>" for line in self._edits()[-5:])
+        refused = "".join(f"<tr><td>{html.escape(one.reason)}</td><td>{html.escape(one.line)}</td></tr>"
+                          for one in self._refused[:10])
+        if refused:
+            refused = f"<p>{len(self._refused)} refused</p><table>{refused}</table>"
+        return f"<b>bedkeep session of {html.escape(self._files['-i'])}</b>: {', '.join(self._state())}<table>{edits}</table>{refused}"
 
     # Edits
 
@@ -76,7 +137,7 @@ class Session:
 
     def replace(self, old: Columns, new: Columns) -> None:
         """Takes a copy of one record out of the track and puts one of another in."""
-        self._edit("replace", [*old, *new])
+        self._send_one(line_of("replace", *_columns(old), *_columns(new)), done=self._script.add)
 
     def add_second(self, *record: Union[str, int, Columns]) -> None:
         """`add` for the second file."""
@@ -88,29 +149,49 @@ class Session:
 
     def replace_second(self, old: Columns, new: Columns) -> None:
         """`replace` for the second file."""
-        self._edit("replaceb", [*old, *new])
+        self._send_one(line_of("replaceb", *_columns(old), *_columns(new)), done=self._script.add)
 
     def resize(self, chromosome: str, length: int) -> None:
         """Corrects the length of a chromosome."""
-        self._edit("resize", [chromosome, length])
+        self._send_one(line_of("resize", chromosome, length), done=self._script.add)
 
-    def edit(self, lines: Union[str, Iterable[str]]) -> list[Refused]:
+    def edit(self, lines: Union[str, Iterable[str]], strict: bool = False) -> list[Refused]:
         """Carries out the edits of a script, all at once, and returns what was refused; all other lines are done.
 
         lines: the text of a script, an open file, or any lines: `add`, TAB, `chr1` .. Comments are part of `script()`.
+        strict: raises the first one that was refused instead; its `others` are those after it.
         """
-        return self._send(edits_of(lines), done=self._script.add)
+        self._refused = self._send(edits_of(lines), done=self._script.add)
+        if strict and self._refused:
+            self._refused[0].others = self._refused[1:]
+            raise self._refused[0]
+        return self._refused
 
     def undo(self) -> str:
-        """Takes the last accepted edit back by the edit that reverses it, and returns its line. IndexError if there is none."""
+        """Takes the last accepted edit back by the edit that reverses it, and returns its line. IndexError if there is none.
+
+        The comments directly above it go with it.
+        """
         place = self._script.last()
         line = self._script.lines()[place]
-        self._send_one(self._script.reverse(place), done=lambda _: self._script.lines().pop(place))
+        self._send_one(self._script.reverse(place), done=lambda _: self._script.forget(place))
         return line
+
+    def inverse(self) -> str:
+        """The line that `undo` would send. IndexError if there is no edit."""
+        return self._script.reverse(self._script.last())
+
+    def explain(self, reason: str) -> None:
+        """Puts the reason for the last accepted edit above it, as a comment of the script. IndexError if there is none."""
+        self._script.explain(reason)
 
     def script(self) -> str:
         """The accepted edits, in their order, as the text of a script; without those that `undo` took back."""
         return "".join(f"{line}\n" for line in self._script.lines())
+
+    def warnings(self) -> list[tuple[str, str]]:
+        """What of the columns from the seventh on can't hold any more, such as a thickEnd, after the line that left it so."""
+        return self._script.warnings if isinstance(self._script, WideScript) else []
 
     # Views
 
@@ -125,51 +206,105 @@ class Session:
 
     def rows(self, name: str) -> list[Row]:
         """The rows of an open view, as the records are now."""
-        return self._print(name, Reader(self._named.get(name, []), self.width))
+        rows: list[Row] = []
+        lines, reader = Lines(), Reader(self._named.get(name, []), self.width)
+        # They are made as the text comes, so that it is never there as a whole.
+        self._send_one(line_of("print", name), lambda piece: rows.extend(reader.rows(lines.whole(piece))))
+        return rows
 
     def view(self, words: str) -> list[Row]:
         """The rows of a view, such as `merge -d 10`. It stays open, so that the next look at it is a print."""
         return self.rows(self._view(words))
 
     def records(self) -> list[Row]:
-        """All records in the order of the genome file: the view `cluster`, which stays open, without its last column."""
-        return self._print(self._view("cluster"), Reader(["records"], self.width), _without_block)
+        """All records in the order of the genome file."""
+        rows: list[Row] = []
+        reader = Reader(["records"], self.width)
+        self._print_track(lambda lines: rows.extend(reader.rows(lines)))
+        return rows
 
-    def to_frame(self, words: Optional[str] = None) -> Any:
-        """The rows of a view, or all records, as a DataFrame of pandas, which has to be installed."""
-        return to_frame(self.records() if words is None else self.view(words))
+    def region(self, chromosome: str, start: int = 0, end: Optional[int] = None) -> list[Row]:
+        """The records that overlap an interval, or all of a chromosome, in their order."""
+        if end is None:
+            end = LONGEST
+        if self._lookup.is_possible:
+            return self._rows_of(self._lookup.overlapping(chromosome, start, end))
+        return [row for row in self.records() if row.chromosome == chromosome and row.start < end and start < row.end]
+
+    def find(self, name: str) -> list[Row]:
+        """The records of that name, in their order."""
+        if self._lookup.is_possible:
+            return self._rows_of(self._lookup.named(name))
+        return [row for row in self.records() if row[3:4] == (name,)]
+
+    def near(self, chromosome: str, start: int, end: int, count: int = 3) -> list[Row]:
+        """The records of a chromosome whose start and end are nearest, the nearest first."""
+        def distance(row: Row) -> int:
+            return abs(row.start - start) + abs(row.end - end)
+
+        reach = REACH if self._lookup.is_possible else LONGEST
+        while True:
+            found = nsmallest(count, self.region(chromosome, start - reach, end + reach), key=distance)
+            if len(found) == count and distance(found[-1]) <= reach or reach >= LONGEST:
+                return found
+            reach *= 100
+
+    def to_frame(self, words: Optional[str] = None, names: str = "bedkeep") -> Any:
+        """The rows of a view, or all records, as a DataFrame of pandas, which has to be installed.
+
+        names: what the columns of a record are called, as in the rows ("bedkeep"), in bioframe or in pyranges.
+        """
+        pieces: list[bytes] = []
+        if words is None:
+            self._print_track(pieces.append)
+            columns = max(self.width, self._wide.width) if self._wide else self.width
+            return frame_of_text(b"".join(pieces), ["records"], fields_of(["records"], columns, self.width), names)
+        listed = _words(words)
+        self._send_one(line_of("print", self._view(words)), pieces.append)
+        text = b"".join(pieces)
+        if text:
+            count = text[:text.index(b"\n")].count(b"\t") + 1
+        else:
+            count = count_of(listed, self.width, self._find_width("removeb") if "-wb" in listed else 0)
+        return frame_of_text(text, listed, fields_of(listed, count, self.width), names)
 
     def save(self, path: Path) -> None:
-        """Writes all records as a BED file, first into a file beside it that then gets its name."""
-        target = os.path.realpath(path)
-        beside = os.path.join(os.path.dirname(target), f".bedkeep-{os.getpid()}")
-        name, lines = self._view("cluster"), Lines()
-        with open(beside, "xb") as file:
-            try:
-                self._send_one(line_of("print", name), lambda piece: file.write(_without_block(lines.whole(piece))))
-                file.flush()
-                os.fsync(file.fileno())
-                if os.path.exists(target):
-                    shutil.copymode(target, beside)
-                os.replace(beside, target)
-            except BaseException:
-                os.unlink(beside)
-                raise
+        """Writes all records as a BED file, whole or not at all; `-` is standard output. ValueError if the session reads it."""
+        if self.reads(path):
+            raise ValueError(f"{os.fspath(path)} is a file of this session, which isn't changed")
+        with whole(path) as file:
+            self._print_track(file.write)
+
+    def stream(self, take: Callable[[bytes], object]) -> None:
+        """Hands on all records as lines of a BED file, some at a time."""
+        self._print_track(take)
+
+    def reads(self, path: Path) -> bool:
+        """Whether the session reads this file, under any of its names."""
+        files = (file for file in self._files.values() if os.path.exists(file) and os.path.exists(path))
+        return any(os.path.samefile(file, path) for file in files)
 
     # What the calls above are made of
 
     def _edit(self, command: str, record: Sequence[Union[str, int, Columns]]) -> None:
-        columns: Any = record
-        if len(record) == 1 and not isinstance(record[0], (str, int)):
-            columns = record[0]
+        columns = _columns(record[0] if len(record) == 1 else record)
         self._send_one(line_of(command, *columns), done=self._script.add)
 
-    def _print(self, name: str, reader: Reader, cut: Callable[[bytes], bytes] = bytes) -> list[Row]:
-        """The rows of a view. They are made as its text comes, so that the text is never there as a whole."""
-        lines = Lines()
-        rows: list[Row] = []
-        self._send_one(line_of("print", name), lambda piece: rows.extend(reader.rows(cut(lines.whole(piece)))))
-        return rows
+    def _print_track(self, take: Callable[[bytes], object]) -> None:
+        """Hands on the lines of all records, in their order. The view `records`, which stays open, has them."""
+        name, lines = self._view("records"), Lines()
+        joined = self._wide.joiner() if self._wide else bytes
+        self._send_one(line_of("print", name), lambda piece: take(joined(lines.whole(piece))))
+
+    def _rows_of(self, records: Iterable[Record]) -> list[Row]:
+        return [row_of(RECORD[:self.width], record) for record in records]
+
+    def _edits(self) -> list[str]:
+        return [line for line in self._script.lines() if line and not line.startswith("#")]
+
+    def _state(self) -> list[str]:
+        """What is short to say of a session."""
+        return [f"{self.width} columns", f"{len(self._edits())} edits", *(["ended"] if self._talk.is_over else [])]
 
     def _send_one(self, line: str, take: Take = len, done: Callable[[str], object] = len) -> None:
         for refused in self._send(line, take, done):
@@ -178,7 +313,7 @@ class Session:
     def _send(self, text: str, take: Take = len, done: Callable[[str], object] = len) -> list[Refused]:
         """Sends lines; `take` gets what they print, and `done` those that were accepted."""
         with Interrupts(self._talk.kill) as interrupts:
-            sent, refused = self._talk.ask(text, take, interrupts)
+            sent, refused = self._talk.ask(self._wide.sent(text) if self._wide else text, take, interrupts)
             lines = text.split("\n") if refused or interrupts.came else []
             if lines:
                 text = "".join(f"{line}\n" for number, line in enumerate(lines[:sent], 1) if number not in refused)
@@ -186,10 +321,10 @@ class Session:
                 done(text)
         return [Refused(reason, number, lines[number - 1]) for number, reason in refused.items()]
 
-    def _find_width(self) -> int:
+    def _find_width(self, command: str) -> int:
         """Asks for the number of columns of a record, by records of empty columns: only one of them has the right number."""
         widths = range(3, 7)
-        refused = self._send("".join("remove" + "\t" * width + "\n" for width in widths))
+        refused = self._send("".join(command + "\t" * width + "\n" for width in widths))
         return next(width for width, why in zip(widths, refused) if why.reason != "wrong number of columns")
 
     def _view(self, words: str) -> str:
@@ -204,10 +339,17 @@ class Session:
             self.open(name, words)
         except Refused as refused:
             if refused.reason != "too many views" or not mine:
-                raise
+                raise Refused(refused.reason, 1, words) from None
             self.close(mine[0])
             self.open(name, words)
         return name
+
+
+def _columns(record: object) -> list[str]:
+    """The columns of a record as text."""
+    if isinstance(record, (str, bytes, Mapping, set, frozenset)) or hasattr(record, "columns") or not isinstance(record, Iterable):
+        raise TypeError(f"a record is its columns, and not {record!r}")
+    return [score_of(column) if place == SCORE else text_of(column) for place, column in enumerate(record)]
 
 
 def _words(words: str) -> list[str]:
@@ -216,8 +358,3 @@ def _words(words: str) -> list[str]:
     if listed[:1] == ["getfasta"] and "-tab" not in listed:
         listed.append("-tab")
     return listed
-
-
-def _without_block(lines: bytes) -> bytes:
-    """Rows of cluster without their last column."""
-    return BLOCK.sub(b"\n", lines)

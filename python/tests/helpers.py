@@ -1,4 +1,6 @@
 """What the tests share: a folder of files for each, and the program that BEDKEEP names."""
+import contextlib
+import io
 import os
 import signal
 import subprocess
@@ -7,6 +9,7 @@ import unittest
 from pathlib import Path
 
 import bedkeep
+from bedkeep import desk
 
 PROGRAM = os.environ["BEDKEEP"]
 EXAMPLES = Path(__file__).resolve().parent.parent.parent / "examples"
@@ -48,6 +51,26 @@ class Case(unittest.TestCase):
         return self.assertRaisesRegex(bedkeep.Refused, f"^line {number}: {reason}: ")
 
 
+class Outcome:
+    """What a command of the desk printed, on standard output and on standard error, and its status."""
+
+    def __init__(self, *words):
+        out, err = io.TextIOWrapper(io.BytesIO(), "utf-8", "surrogateescape", newline=""), io.StringIO()
+        with contextlib.redirect_stdout(out), contextlib.redirect_stderr(err):
+            try:
+                self.status = desk.main([str(word) for word in words])
+            except SystemExit as end:
+                self.status = end.code
+        out.flush()
+        self.out = out.buffer.getvalue().decode("utf-8", "surrogateescape")
+        self.err = err.getvalue()
+
+
+def tabs(text):
+    """Lines with TABs for spaces."""
+    return "".join("\t".join(line.split()) + "\n" for line in text.strip().split("\n"))
+
+
 def printed(*words, **options):
     """The rows of a run, as lists of text."""
     run = subprocess.run([PROGRAM, *map(str, words)], stdout=subprocess.PIPE, check=True, **options)
@@ -57,6 +80,11 @@ def printed(*words, **options):
 def texts(rows):
     """Rows of the package as lists of text."""
     return [["." if column is None else str(column) for column in row] for row in rows]
+
+
+def children():
+    """The processes that this one started and that haven't ended, or nobody waited for."""
+    return Path(f"/proc/self/task/{os.getpid()}/children").read_text().split()
 
 
 def many(folder, count, length=10 ** 9):

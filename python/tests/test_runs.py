@@ -3,10 +3,9 @@ import pathlib
 import subprocess
 import sys
 import time
-import types
 
 import bedkeep
-from helpers import EXAMPLES, Case, many, printed, texts
+from helpers import EXAMPLES, Case, children, many, printed, texts
 
 GENOME, GENES, MASK = EXAMPLES / "human.genome", EXAMPLES / "genes.bed", EXAMPLES / "mask.bed"
 CONTIGS, CODING, BASES = EXAMPLES / "contigs.genome", EXAMPLES / "coding.bed", EXAMPLES / "contigs.fa"
@@ -42,7 +41,7 @@ class Runs(Case):
             (bedkeep.merge(self.sizes, os.devnull, s=True, width=6), ("merge", "-g", self.sizes, "-i", os.devnull)),
         ):
             with self.subTest(words):
-                self.assertIsInstance(rows, types.GeneratorType)
+                self.assertIsInstance(rows, bedkeep.Rows)
                 self.assertEqual(texts(rows), printed(*words))
 
     def test_bases(self):
@@ -78,6 +77,16 @@ class Runs(Case):
         self.assertEqual(said[0], "Row(chromosome='chr1', start=150, end=200, column_4='geneA', column_5='chr1', "
                                   "column_6='150', column_7='350')")
 
+    def test_a_dict_as_genome(self):
+        lengths = {"chr1": 1000, "chr2": 500}
+        self.assertEqual(list(bedkeep.complement(lengths, self.genes)), list(bedkeep.complement(self.sizes, self.genes)))
+        for lengths in {"chr1": -1}, {"": 5}:
+            with self.assertRaisesRegex(bedkeep.Damaged, "^genome: line 1: bad "):
+                bedkeep.merge(lengths, self.genes)
+        for lengths in {"chr1": 1.5}, {"chr1": True}, {1.5: 5}, ["chr1"], b"sizes":
+            with self.assertRaises(TypeError):
+                bedkeep.merge(lengths, self.genes)
+
     def test_rows_come_one_after_another(self):
         sizes, bed = many(self.folder, 100_000)
         rows = bedkeep.cluster(sizes, bed)
@@ -87,7 +96,12 @@ class Runs(Case):
         self.assertEqual(next(rows), ("chr1", 1, 2))
         begun = time.monotonic()
         rows.close()
+        self.assertEqual(list(rows), [])
+        with bedkeep.merge(sizes, bed, program=self.script("slow", "printf 'chr1\\t1\\t2\\n'\nexec sleep 60")):
+            pass
+        bedkeep.merge(sizes, bed, program=self.script("slow", "printf 'chr1\\t1\\t2\\n'\nexec sleep 60"))
         self.assertLess(time.monotonic() - begun, 30)
+        self.assertEqual(children(), [])
         count = sum(1 for _ in bedkeep.genomecov(sizes, bed, bg=True))
         self.assertEqual(count, 199_999)
 
@@ -97,31 +111,36 @@ class Failures(Case):
         damaged = self.file("damaged.bed", "chr1\t1\t2\nchr1\t5\t2000\n")
         small = self.script("small", 'ulimit -v 8000\nexec "$BEDKEEP" "$@"')
         sizes, bed = many(self.folder, 300_000)
-        for rows, error, status, message in (
-            (bedkeep.genomecov(self.sizes, self.genes), bedkeep.BadOptions, 2, "bad options"),
-            (bedkeep.merge(self.sizes, self.genes, c=0), bedkeep.BadOptions, 2, "no such column"),
-            (bedkeep.merge(self.sizes, self.genes, s=True), bedkeep.BadOptions, 2, "strand needs six columns"),
-            (bedkeep.merge(self.sizes, damaged), bedkeep.Damaged, 3, f"{damaged}: line 2: end past the sequence's end"),
-            (bedkeep.merge(self.sizes, "absent"), bedkeep.InputOutput, 4, "absent: cannot be read"),
-            (bedkeep.intersect(self.sizes, "absent", self.mask, wb=True), bedkeep.InputOutput, 4, "absent: cannot be read"),
-            (bedkeep.cluster(sizes, bed, program=small), bedkeep.NoMemory, 5, "no memory"),
-            (bedkeep.merge(self.sizes, self.genes, program=self.script("dies", "kill -9 $$")), bedkeep.Ended, -9,
+        for run, error, status, message in (
+            (lambda: bedkeep.genomecov(self.sizes, self.genes), bedkeep.BadOptions, 2, "bad options"),
+            (lambda: bedkeep.merge(self.sizes, self.genes, c=0), bedkeep.BadOptions, 2, "no such column"),
+            (lambda: bedkeep.merge(self.sizes, self.genes, s=True), bedkeep.BadOptions, 2, "strand needs six columns"),
+            (lambda: bedkeep.merge(self.sizes, damaged), bedkeep.Damaged, 3, f"{damaged}: line 2: end past the sequence's end"),
+            (lambda: bedkeep.merge(self.sizes, "absent"), bedkeep.InputOutput, 4, "absent: cannot be read"),
+            (lambda: bedkeep.intersect(self.sizes, "absent", self.mask, wb=True), bedkeep.InputOutput, 4, "absent: cannot be read"),
+            (lambda: bedkeep.cluster(sizes, bed, program=small), bedkeep.NoMemory, 5, "no memory"),
+            (lambda: bedkeep.merge(self.sizes, self.genes, program=self.script("dies", "kill -9 $$")), bedkeep.Ended, -9,
              "ended by signal 9"),
-            (bedkeep.merge(self.sizes, self.genes, program=self.script("fails", "exit 77")), bedkeep.Ended, 77,
+            (lambda: bedkeep.merge(self.sizes, self.genes, program=self.script("fails", "exit 77")), bedkeep.Ended, 77,
              "ended without a message"),
         ):
             with self.subTest(message):
                 with self.assertRaises(error) as caught:
-                    list(rows)
+                    run()
                 self.assertEqual((type(caught.exception), caught.exception.status, caught.exception.message),
                                  (error, status, message))
                 self.assertEqual(str(caught.exception), f"{message} (status {status})")
         with self.assertRaises(bedkeep.NotFound):
-            list(bedkeep.merge(self.sizes, self.genes, program="absent"))
+            bedkeep.merge(self.sizes, self.genes, program="absent")
+
+    def test_a_run_that_ends_after_its_first_rows(self):
+        rows = bedkeep.merge(self.sizes, self.genes, program=self.script("fails", "printf 'chr1\\t1\\t2\\n'\nexit 77"))
+        with self.assertRaisesRegex(bedkeep.Ended, "ended without a message"):
+            list(rows)
 
     def test_what_a_damaged_file_says(self):
         with self.assertRaises(bedkeep.Damaged) as caught:
-            list(bedkeep.merge(self.genes, self.genes))
+            bedkeep.merge(self.genes, self.genes)
         self.assertEqual((caught.exception.file, caught.exception.line, caught.exception.reason),
                          (str(self.genes), 2, "repeated name"))
 

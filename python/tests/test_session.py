@@ -5,7 +5,6 @@ import signal
 import sys
 import threading
 import time
-import types
 from collections import Counter
 from unittest import mock
 
@@ -56,7 +55,7 @@ class Edits(Case):
             for record, reason in (
                 (("chr1", 1, 1001, "x"), "end past the sequence's end"), (("chr9", 1, 2, "x"), "unknown sequence"),
                 (("chr1", 2, 2, "x"), "start not below end"), (("chr1", 1, 2), "wrong number of columns"),
-                (("chr1", 1.5, 2, "x"), "start is not a number"), (("chr1", 1, 2, ""), "bad name"),
+                (("chr1", "1.5", 2, "x"), "start is not a number"), (("chr1", 1, 2, ""), "bad name"),
             ):
                 with self.refused(reason):
                     session.add(record)
@@ -243,16 +242,6 @@ class Views(Case):
                     self.assertEqual(pickle.loads(pickle.dumps(found)), found)
             self.assertEqual(session.view("getfasta -s")[1], ("chr1", 15, 30, "-", "AACGTAACGTAACGT"))
 
-    def test_to_frame(self):
-        pandas = types.ModuleType("pandas")
-        pandas.DataFrame = types.SimpleNamespace(from_records=lambda rows, columns: (list(columns or []), list(rows)))
-        with self.session() as session, mock.patch.dict(sys.modules, pandas=pandas):
-            self.assertEqual(session.to_frame("merge"), (["chromosome", "start", "end"], session.view("merge")))
-            self.assertEqual(session.to_frame()[1], session.records())
-            self.assertEqual(bedkeep.to_frame(iter([])), ([], []))
-        with self.session() as session, mock.patch.dict(sys.modules, pandas=None), self.assertRaises(ImportError):
-            session.to_frame()
-
 
 class Saving(Case):
     def test_a_saved_file_is_the_track(self):
@@ -274,9 +263,9 @@ class Saving(Case):
     def test_a_save_that_fails_leaves_both_as_they_were(self):
         with self.session() as session:
             before = sorted(os.listdir(self.folder))
-            with self.assertRaises(FileNotFoundError):
+            with self.assertRaisesRegex(FileNotFoundError, f"no such folder: '{self.folder}/absent'$"):
                 session.save(self.folder / "absent" / "x.bed")
-            with mock.patch("bedkeep.session._without_block", side_effect=OSError("no space")), self.assertRaises(OSError):
+            with mock.patch("os.fsync", side_effect=OSError("no space")), self.assertRaises(OSError):
                 session.save(self.folder / "x.bed")
             self.assertEqual(sorted(os.listdir(self.folder)), before)
             session.add("chr1", 1, 2, "x")
@@ -319,6 +308,10 @@ class Ends(Case):
         (self.folder / "bedkeep").symlink_to(os.environ["BEDKEEP"])
         with mock.patch.dict(os.environ, PATH=str(self.folder), BEDKEEP=""):
             self.assertEqual(len(self.session().records()), 2)
+        with mock.patch.dict(os.environ, PATH="", BEDKEEP=""), mock.patch("sys.executable", str(self.folder / "python")):
+            self.assertEqual(len(self.session().records()), 2)
+            with self.assertRaises(bedkeep.NotFound):
+                self.session(program="bedkeeper")
 
     def test_no_memory(self):
         program = self.script("small", 'ulimit -v 8000\nexec "$BEDKEEP" "$@"')
@@ -438,7 +431,7 @@ class Interrupted(Case):
                 os.kill(os.getpid(), signal.SIGINT)
                 return super().split(*words)
 
-        script = Script(self.sizes)
+        script = Script(None)
         script.add("add\tchr1\t1\t2\n")
         script.add(Text("add\tchr1\t3\t4\n"))
         with self.assertRaises(KeyboardInterrupt):

@@ -1,8 +1,15 @@
 #!/usr/bin/env bash
-# Tests the Python package with the built program, by Python without any other package. If mypy is there, it checks the types.
+# Tests the Python package with the built program, by Python without any other package. If mypy is there, it checks the types. If
+# a Python with pandas is there, it tests tables.
 #
 #     scripts/test/python.sh build/bedkeep [FOLDER]     FOLDER has the package, for instance that of an unpacked release
+#     scripts/test/python.sh --coverage build/bedkeep   says which lines no test runs; status 1 if these are over 5 in 100
 set -eu
+coverage=false
+if [ "$1" = --coverage ]; then
+    coverage=true
+    shift
+fi
 program=$(realpath "$1")
 sources=$(realpath "$(dirname "$0")/../../python")
 package=$(realpath "${2:-$sources}")
@@ -11,4 +18,20 @@ if command -v mypy > /dev/null; then
     mypy --strict --cache-dir /dev/null "$package/bedkeep"
 fi
 cd "$sources/tests"
-BEDKEEP=$program PYTHONPATH=$package python3 -S -m unittest
+export BEDKEEP=$program PYTHONPATH=$package
+if $coverage; then
+    COVERAGE_FILE=$(mktemp)
+    export COVERAGE_FILE
+    trap 'rm -f "$COVERAGE_FILE"' EXIT
+    /usr/bin/python3 -m coverage run --source="$package/bedkeep" -m unittest
+    /usr/bin/python3 -m coverage report --show-missing --skip-covered --fail-under=95
+    exit
+fi
+python3 -S -m unittest
+for python in python3 /usr/bin/python3; do
+    if "$python" -c 'import pandas' 2> /dev/null; then
+        "$python" -m unittest test_tables
+        exit
+    fi
+done
+echo 'without pandas, so tables are not tested'

@@ -1,0 +1,174 @@
+"""Files as the desk reads them: plain or packed by gzip, `-` for standard input, BED files of any width from 3.
+
+`Bed` makes a file of at most six columns of a BED file, for the program; line by line, so that its messages name the right one.
+"""
+from __future__ import annotations
+
+import errno
+import gzip
+import os
+import shutil
+import sys
+import zlib
+from contextlib import contextmanager
+from typing import BinaryIO, Iterator, Optional, cast
+
+from .errors import Error
+from .program import Path, decoded, encoded
+from .records import NARROWEST, WIDEST
+
+GZIP = b"\x1f\x8b"
+BEGINS = b"#tb"  # with what the header lines of a BED file begin
+
+
+@contextmanager
+def opened(path: Path) -> Iterator[BinaryIO]:
+    """A file to read from, unpacked if gzip packed it; `-` is standard input."""
+    name = os.fspath(path)
+    with open(0, "rb", closefd=False) if name == "-" else open(name, "rb") as file:
+        if file.peek(2)[:2] != GZIP:
+            yield file
+            return
+        try:
+            with gzip.open(file) as unpacked:
+                yield cast(BinaryIO, unpacked)
+        except (EOFError, zlib.error, gzip.BadGzipFile) as failure:
+            raise Error(f"{name}: {failure}") from None
+
+
+def read_bytes(path: Path) -> bytes:
+    """All bytes of a file, as `opened` has them."""
+    with opened(path) as file:
+        return file.read()
+
+
+def lines_of(path: Path, begins: Optional[bytes] = None) -> Iterator[str]:
+    """The lines of a file, without their ends; or those that begin with one of some bytes."""
+    with opened(path) as file:
+        for line in file:
+            if begins and line[0] not in begins:
+                continue
+            text = decoded(line[:-1] if line.endswith(b"\n") else line)
+            yield text[:-1] if text.endswith("\r") else text
+
+
+def is_header(line: str) -> bool:
+    """Whether a line of a BED file is no record."""
+    return not line or line[0] == "#" or line in ("track", "browser") or line.startswith(("track ", "browser "))
+
+
+def is_plain(path: Path) -> bool:
+    """Whether the program can read a file as it is, and we as often as we want."""
+    if not os.path.isfile(path):
+        return False
+    with open(path, "rb") as file:
+        return file.read(2) != GZIP
+
+
+def plain(path: Path, folder: str) -> str:
+    """The path of a file that the program can read, which is a copy if that is needed."""
+    name = os.fspath(path)
+    if name != "-" and is_plain(name):
+        return name
+    target = os.path.join(folder, f"plain-{len(os.listdir(folder))}")
+    with open(target, "wb") as copy:
+        copy.write(read_bytes(name))
+    return target
+
+
+class Bed:
+    """A BED file.
+
+    path:    as it was given
+    width:   of its first record, or of the first one that is added to a file without a record; 0 if there is neither
+    narrow:  the path of a file with its first six columns, which the program can read
+    option:  what `-width` has to be for it, if it has no record
+    headers: its header and comment lines
+    """
+
+    def __init__(self, path: Path, folder: str) -> None:
+        self.path = os.fspath(path)
+        self._plain = plain(path, folder)
+        self.headers = [line for line in self._lines(BEGINS) if line and is_header(line)]
+        self.width = next((row.count("\t") + 1 for row in self.rows()), 0)
+        self.option: Optional[int] = None
+        self.narrow = self._cut(folder) if self.width > WIDEST else self._plain
+
+    @property
+    def is_wide(self) -> bool:
+        return self.width > WIDEST
+
+    def widen(self, width: int) -> None:
+        """Takes the width of a record that is added, if there is no other."""
+        if not self.width and width >= NARROWEST:
+            self.width = width
+            self.option = min(width, WIDEST)
+
+    def rows(self) -> Iterator[str]:
+        """The lines that have a record."""
+        return (line for line in self._lines() if line and (line[0] not in "#tb" or not is_header(line)))
+
+    def named(self, message: str) -> str:
+        """A message of the program with the name of this file."""
+        return message.replace(f"{self.narrow}: ", f"{self.path}: ")
+
+    def _lines(self, begins: Optional[bytes] = None) -> Iterator[str]:
+        return lines_of(self._plain, begins)
+
+    def _cut(self, folder: str) -> str:
+        target = os.path.join(folder, f"narrow-{len(os.listdir(folder))}")
+        with open(target, "wb") as file:
+            for number, line in enumerate(self._lines(), 1):
+                if is_header(line):
+                    file.write(b"\n")
+                    continue
+                columns = line.split("\t")
+                if len(columns) != self.width:
+                    raise Error(f"{self.path}: line {number}: wrong number of columns")
+                file.write(encoded("\t".join(columns[:WIDEST]) + "\n"))
+        return target
+
+
+def lengths_of(genome: str) -> dict[str, int]:
+    """The sequences of a genome file that the program took, with their lengths, in their order."""
+    rows = (line.split("\t") for line in lines_of(genome) if line and line[0] != "#")
+    return {row[0]: int(row[1]) for row in rows if row != ["chrom", "size"]}
+
+
+@contextmanager
+def whole(path: Path) -> Iterator[BinaryIO]:
+    """A file to write, which gets its name once all is written: it is there whole, or not at all.
+
+    `-` is standard output. That and a device or a pipe are written as they are.
+    """
+    if os.fspath(path) == "-":
+        yield sys.stdout.buffer
+        sys.stdout.flush()
+        return
+    if os.path.exists(path) and not os.path.isfile(path):
+        with open(path, "wb") as device:
+            yield device
+        return
+    target = os.path.realpath(path)
+    folder = os.path.dirname(target)
+    if not os.path.isdir(folder):
+        raise FileNotFoundError(errno.ENOENT, "no such folder", folder)
+    beside = os.path.join(folder, f".bedkeep-{os.getpid()}")
+    with open(beside, "xb") as file:
+        try:
+            yield file
+            file.flush()
+            os.fsync(file.fileno())
+            if os.path.exists(target):
+                shutil.copymode(target, beside)
+            os.replace(beside, target)
+        except BaseException:
+            os.unlink(beside)
+            raise
+
+
+def refuse_inputs(output: Path, inputs: list[str]) -> None:
+    """Raises an Error if the output is one of the inputs."""
+    for path in inputs:
+        if path != "-" and os.path.exists(path) and os.path.exists(output) and os.path.samefile(path, output):
+            raise Error(f"{path}: an input is never written over")

@@ -1,0 +1,112 @@
+"""What the page says of a line: what it changes, why it was refused, and what may be meant."""
+from __future__ import annotations
+
+from typing import Iterator, Mapping
+
+from ..classes import BAD, CHANGED, FOLLOWS, GONE, IGNORED, MOVED, SO, TAKEN, Finding
+from ..corrections import Line
+from ..rows import RECORD
+from .intervals import Interval, asked, of_record
+from .markup import counted, escaped, is_whole, number, with_tabs
+
+SENTENCES = {
+    CHANGED: "<b>Changed</b>: the record at this place differs.",
+    MOVED: "<b>Moved</b>: the record is at another place.",
+    IGNORED: "It fits but for one column.",
+    SO: "<b>Already so</b>: the track has what the line asks for, and the line can go.",
+    TAKEN: "<b>Taken out</b> by a line above.",
+    FOLLOWS: "<b>Follows</b> a line above: it fits once that is mended.",
+    GONE: "<b>Gone</b>: the track has no record like it that no other line takes.",
+    BAD: "<b>Bad line</b>.",
+}
+WHAT_TO_DO = {
+    "start is not a number": "A position has 1 to 10 digits.",
+    "end is not a number": "A position has 1 to 10 digits.",
+    "end past the sequence's end": "If the sequence is longer by now, <code>resize</code> it first.",
+    "no such command or wrong fields": "Fields are separated by one TAB.",
+    "track is full": "A run takes 4,000,000 records.",
+    "no second file": "Give it with <code>-b</code>.",
+    "records past the new end": "Correct these records first.",
+}
+
+
+def difference(old: Interval, new: Interval) -> str:
+    """In what two records differ, as a sentence."""
+    parts = []
+    if old.sequence != new.sequence:
+        parts.append(f"from {escaped(old.sequence)} to {escaped(new.sequence)}")
+    for what, a, b in ("start", old.start, new.start), ("end", old.end, new.end):
+        if a != b:
+            parts.append(f"{what} {counted(abs(a - b), 'base')} {'later' if b > a else 'earlier'}")
+    for what, before, after in zip(RECORD[3:], old.rest, new.rest):
+        if before != after:
+            parts.append(f"{what} {escaped(before)} → {escaped(after)}")
+    text = ", ".join(parts) or "no column changes"
+    return f"{text[0].upper()}{text[1:]}."
+
+
+def link(line: Line) -> str:
+    return f'<a href="#L{line.number}">line {line.place}</a>'
+
+
+def to_copy(text: str) -> str:
+    """A line that fits, with a button that copies it."""
+    button = f'<button class=copy data-text="{escaped(text)}">copy</button> ' if is_whole(text) else ""
+    return f"{button}<code>{with_tabs(text)}</code>"
+
+
+def of_refused(line: Line, finding: Finding, lengths: Mapping[str, int]) -> Iterator[str]:
+    """The class of a refused line, what differs, and the line that fits."""
+    by = f" ({link(finding.by)})" if finding.by else ""
+    note = f" {escaped(finding.note[0].upper() + finding.note[1:])}." if finding.note else ""
+    if finding.kind == SO and not finding.found:
+        yield "<b>Already so</b>, or mistyped: the track has no record like it."
+    else:
+        yield f"{SENTENCES.get(finding.kind, escaped(finding.kind))}{by}{note}"
+    record, found = of_record(finding.asked), of_record(finding.found)
+    if record and found and record != found and finding.kind in (CHANGED, MOVED, IGNORED):
+        yield difference(record, found)
+    if line.refusal in WHAT_TO_DO:
+        yield WHAT_TO_DO[line.refusal]
+    if line.refusal == "end past the sequence's end":
+        yield from _past(line, lengths)
+    mended = finding.mended or _mended(line, lengths)
+    if mended:
+        yield f"{'Mended' if finding.mended else 'Perhaps'}: {to_copy(mended)}"
+
+
+def _past(line: Line, lengths: Mapping[str, int]) -> Iterator[str]:
+    for interval in asked(line):
+        length = lengths.get(interval.sequence) if interval else None
+        if interval and length is not None and interval.end > length:
+            yield f"{escaped(interval.sequence)} ends at {number(length)}, {counted(interval.end - length, 'base')} before."
+
+
+def _mended(line: Line, lengths: Mapping[str, int]) -> str:
+    """What a bad line may have meant."""
+    if line.refusal == "unknown sequence":
+        wrong = next((field for field in (line.fields[0], line.fields[len(line.fields) // 2]) if field not in lengths), "")
+        name = _like(wrong, lengths)
+        return "\t".join([line.command, *(name if field == wrong else field for field in line.fields)]) if name else ""
+    if line.refusal == "start not below end":
+        return _exchanged(line)
+    if line.refusal.startswith("no such command") and "\t" not in line.text and len(line.text.split()) > 3:
+        return "\t".join(line.text.split())
+    return ""
+
+
+def _like(name: str, lengths: Mapping[str, int]) -> str:
+    """The sequence that has the same name with or without `chr`, or in another case."""
+    alike = {name, f"chr{name}", name[3:] if name.lower().startswith("chr") else name}
+    folded = {other.lower() for other in alike}
+    return next((other for other in lengths if other.lower() in folded), "")
+
+
+def _exchanged(line: Line) -> str:
+    """The line with start and end exchanged if they are the wrong way round."""
+    fields = [*line.fields]
+    half = len(fields) // 2 if line.command.startswith("replace") else len(fields)
+    for at in range(0, len(fields), half):
+        if int(fields[at + 1]) > int(fields[at + 2]):
+            fields[at + 1], fields[at + 2] = fields[at + 2], fields[at + 1]
+    return "\t".join([line.command, *fields]) if fields != line.fields else ""

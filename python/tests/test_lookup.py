@@ -1,0 +1,246 @@
+"""What is asked of a session without a print of all its records."""
+import gc
+import os
+import pathlib
+import random
+import warnings
+from unittest import mock
+
+import bedkeep
+from helpers import Case, children, many
+
+ODD = ("track name=genes\n#c\n\n\r\nbrowser\nchr1\t0100\t200\tgeneA\r\nbrowsers\t5\t6\tgeneA\n# \tgeneA\n"
+       "chr1\t300\t400\tgeneB\ntrack\nchr1\t7\t8\tgeneA2")
+
+
+class Looks(Case):
+    def test_len_iteration_and_in(self):
+        with self.session() as session:
+            self.assertEqual((len(session), list(session), bool(session)), (2, session.records(), True))
+            session.add("chr2", 5, 10, "x")
+            session.replace(("chr2", 5, 10, "x"), ("chr2", 6, 10, "x"))
+            session.remove("chr1", 100, 200, "geneA")
+            self.assertEqual(len(session), 2)
+            script = session.script()
+            self.assertIn(("chr2", "06", 10, "x"), session)
+            for record in ("chr2", 5, 10, "x"), ("chr1", 100, 200, "geneA"), ("chr1", 300, 400), ("chr9", 1, 2, "x"):
+                self.assertNotIn(record, session)
+            with self.assertRaises(TypeError):
+                "chr1" in session
+            session.undo()
+            self.assertEqual((len(session), session.script().count("\n")), (3, script.count("\n") - 1))
+        with bedkeep.Session(self.sizes, os.devnull) as session:
+            self.assertEqual((len(session), list(session), bool(session)), (0, [], True))
+
+    def test_lines_that_are_no_records(self):
+        self.sizes = self.file("sizes", "#x\nchrom\tsize\nchr1\t1000\nbrowsers\t10\nchr2\t500\n")
+        self.genes = self.file("odd.bed", ODD)
+        with self.session() as session, mock.patch.object(session, "_print_track", side_effect=AssertionError):
+            self.assertEqual(len(session), 4)
+            self.assertEqual(session.find("geneA"), [("chr1", 100, 200, "geneA"), ("browsers", 5, 6, "geneA")])
+            self.assertEqual(session.find("geneA2"), [("chr1", 7, 8, "geneA2")])
+            self.assertEqual(session.find("gene"), [])
+            self.assertEqual(session.region("chr1", 8, 101), [("chr1", 100, 200, "geneA")])
+            self.assertEqual(session.region("chr1", -5, 8)[0].name, "geneA2")
+        for text, count in (("", 0), ("\n", 0), ("#\n", 0), ("chr1\t1\t2\n\n\n\n", 1), ("track\tx\t1\n", None), ("tracks 1\n", None)):
+            if count is not None:
+                with bedkeep.Session(self.sizes, self.file("few.bed", text), width=3) as session:
+                    self.assertEqual((len(session), session.find("x")), (count, []))
+
+    def test_files_that_cannot_be_looked_at_again(self):
+        """A pipe, a table in memory, a file that was written again: then all records are printed."""
+        before = [("chr1", 100, 200, "geneA"), ("chr1", 300, 400, "geneB")]
+        program = self.script("program", f'exec "$BEDKEEP" session -g "$3" -i <(cat {self.genes})')
+        piped = bedkeep.Session(self.sizes, "/dev/fd/99", program=program)
+        changed = self.session()
+        self.genes, given = self.file("others.bed", self.genes.read_text()), self.genes
+        other = self.session()
+        given.write_text("chr1\t7\t8\tgeneC\n")
+        self.sizes.write_text("chr1\t9\n")
+        for session in piped, changed, other:
+            with session:
+                self.assertEqual((len(session), session.find("geneA")), (2, before[:1]))
+                self.assertEqual((session.region("chr1", 200, 301), session.region("chr2")), (before[1:], []))
+                self.assertEqual(session.near("chr1", 310, 400), before[::-1])
+
+    def test_beside_all_records(self):
+        """Each look is what a search through all records finds, after any edits and lengths."""
+        chance = random.Random(11)
+        lines = {(chance.choice(["chr1", "chr2"]), start, start + chance.randrange(1, 60), f"n{chance.randrange(5)}")
+                 for start in (chance.randrange(400) for _ in range(40))}
+        self.genes = self.file("some.bed", "".join("\t".join(map(str, line)) + "\n" for line in lines))
+        with self.session() as session:
+            session.resize("chr1", 3000)
+            for _ in range(25):
+                old = chance.choice(session.records())
+                session.add("chr1", 2000 + chance.randrange(900), 2999, f"n{chance.randrange(5)}")
+                session.replace(old, old._replace(end=old.end + 1))
+                session.add(old)
+                session.remove(chance.choice(session.records()))
+                records, name = session.records(), f"n{chance.randrange(6)}"
+                start = chance.randrange(3000)
+                end = start + chance.randrange(1, 500)
+                with mock.patch.object(session, "_print_track", side_effect=AssertionError):
+                    self.assertEqual(len(session), len(records))
+                    self.assertEqual(session.find(name), [record for record in records if record.name == name])
+                    for chromosome in "chr1", "chr2", "chr3":
+                        here = [record for record in records if record.chromosome == chromosome]
+                        self.assertEqual(session.region(chromosome), here)
+                        self.assertEqual(session.region(chromosome, start, end),
+                                         [record for record in here if record.start < end and start < record.end])
+                        found = [abs(one.start - start) + abs(one.end - end) for one in session.near(chromosome, start, end, 4)]
+                        self.assertEqual(found, sorted(abs(one.start - start) + abs(one.end - end) for one in here)[:4])
+
+    def test_near_ones_that_are_far(self):
+        self.sizes = self.file("sizes", "chr1\t4000000000\n")
+        self.genes = self.file("far.bed", "chr1\t5\t9\ta\nchr1\t3999999000\t4000000000\tb\n")
+        with self.session() as session:
+            self.assertEqual([row.name for row in session.near("chr1", 2_000_000_000, 2_000_000_001)], ["b", "a"])
+
+    def test_a_million_records(self):
+        self.sizes, self.genes = many(self.folder, 1_000_000)
+        with self.session() as session, mock.patch.object(session, "_print_track", side_effect=AssertionError):
+            self.assertEqual(len(session), 1_000_000)
+            self.assertEqual([row.start for row in session.near("chr1", 5_000_003, 5_000_015)], [5_000_000, 5_000_010, 4_999_990])
+            self.assertEqual(len(session.find("g77")), 10_000)
+
+
+class Held(Case):
+    def test_a_session_that_is_dropped_ends(self):
+        before, files = children(), os.listdir("/proc/self/fd")
+        for _ in range(10):
+            session = self.session_that_nobody_ends()
+            session.add("chr1", 1, 2, "x")
+        self.assertEqual(len(children()), len(before) + 1)
+        del session
+        gc.collect()
+        self.assertEqual((children(), len(os.listdir("/proc/self/fd"))), (before, len(files)))
+
+    def session_that_nobody_ends(self):
+        return bedkeep.Session(self.sizes, self.genes)
+
+    def test_two_hundred_sessions(self):
+        """They leave no process, no open file and no file."""
+        before, files, folder = children(), os.listdir("/proc/self/fd"), self.folder / "temporary"
+        folder.mkdir()
+        with mock.patch("tempfile.tempdir", str(folder)):
+            for number in range(200):
+                with bedkeep.Session({"chr1": 1000, "chr2": 5}, self.genes) as session:
+                    session.add("chr1", number, 900, "x")
+                list(bedkeep.merge({"chr1": 1000}, self.genes))
+        self.assertEqual((children(), len(os.listdir("/proc/self/fd")), os.listdir(folder)), (before, len(files), []))
+
+    def test_a_forked_process_leaves_the_session(self):
+        session = self.session_that_nobody_ends()
+        child = os.fork()
+        if child == 0:
+            warnings.simplefilter("ignore")  # Popen warns of a process that it left running.
+            del session
+            gc.collect()
+            os._exit(0)
+        os.waitpid(child, 0)
+        self.assertEqual(len(session.records()), 2)
+        session.end()
+
+
+class Shown(Case):
+    def test_repr(self):
+        with self.session() as session:
+            session.edit(["# why", "add\tchr1\t1\t2\tx", ""])
+            self.assertEqual(repr(session), f"<bedkeep.Session of {self.genes}: 4 columns, 1 edits>")
+        self.assertEqual(repr(session), f"<bedkeep.Session of {self.genes}: 4 columns, 1 edits, ended>")
+
+    def test_in_a_notebook(self):
+        with self.session() as session:
+            session.edit(["add\tchr1\t1\t2\t<x>", "remove\tchr1\t1\t2\t&"])
+            shown = session._repr_html_()
+            self.assertIn("<td>&lt;x&gt;</td>", shown)
+            self.assertIn("1 refused", shown)
+            self.assertIn("<td>no such record</td><td>remove\tchr1\t1\t2\t&amp;</td>", shown)
+            session.edit("")
+            self.assertNotIn("refused", session._repr_html_())
+
+
+class Types(Case):
+    def test_records_of_other_types(self):
+        with self.session() as session:
+            for record in ({"chrom": "chr1"},), ("chr1\t1\t2\tx",), (5,), ([("chr1", 1, 2, "x"), ("chr1", 1, 3, "x")],), \
+                    ({"chr1", "x"},), (b"chr1",), ("chr1", 1, None, "x"), ("chr1", 1.0, 2, "x"), ("chr1", True, 2, "x"), \
+                    ("chr1", 1, 2, b"x"), ("chr1", 1, 2, "x", float("nan")):
+                for call in session.add, session.remove:
+                    with self.subTest(record), self.assertRaises(TypeError):
+                        call(*record)
+                with self.assertRaises((TypeError, ValueError, bedkeep.Refused)):
+                    session.replace(("chr1", 100, 200, "geneA"), record)
+            with self.assertRaises(TypeError):
+                session.resize("chr1", 5.5)
+            self.assertEqual((session.script(), len(session.records())), ("", 2))
+
+    def test_scores_with_a_fraction(self):
+        bed = self.file("six.bed", "chr1\t1\t2\tx\t2.5\t+\n")
+        with bedkeep.Session(self.sizes, bed) as session:
+            session.remove("chr1", 1, 2, "x", 2.5, "+")
+            session.add("chr1", 1, 2, "x", 7.0, "+")
+            self.assertEqual(session.records()[0].score, "7")
+
+    def test_edits_of_other_types(self):
+        with self.session() as session:
+            for lines in self.folder / "corrections", b"add\tchr1\t1\t2\tx", {"add\tchr1\t1\t2\tx": 1}, [("add", "chr1")], 5:
+                with self.subTest(lines), self.assertRaises(TypeError):
+                    session.edit(lines)
+            for lines in "corrections", str(self.folder / "corrections"):
+                with self.assertRaisesRegex(ValueError, "no line of a script"):
+                    session.edit(lines)
+            self.assertEqual(session.edit("# a comment"), [])
+            with open(self.genes, "rb") as file, self.assertRaises(TypeError):
+                session.edit(file)
+
+    def test_a_strict_edit(self):
+        with self.session() as session:
+            with self.refused("no such record", 2) as caught:
+                session.edit(["add\tchr1\t1\t2\tx", "remove\tchr1\t1\t2\ty", "add\tchr1\t1\t3\tx", "help"], strict=True)
+            self.assertEqual([one.number for one in caught.exception.others], [4])
+            self.assertTrue(str(caught.exception).endswith(", and 1 more"))
+            self.assertEqual(session.script(), "add\tchr1\t1\t2\tx\nadd\tchr1\t1\t3\tx\n")
+            self.assertEqual(session.edit("add\tchr1\t1\t2\tx", strict=True), [])
+
+    def test_paths_of_other_types(self):
+        for bed in b"genes.bed", 5, ["genes.bed"], None:
+            with self.assertRaises(TypeError):
+                bedkeep.Session(self.sizes, bed)
+
+
+class Scripts(Case):
+    def test_reasons(self):
+        with self.session() as session:
+            with self.assertRaises(IndexError):
+                session.explain("why")
+            session.edit(["# of the file", "", "add\tchr1\t1\t2\tx"])
+            session.explain("the track lacks it\nsee page 5")
+            self.assertEqual(session.script(), "# of the file\n\n# the track lacks it\n# see page 5\nadd\tchr1\t1\t2\tx\n")
+            session.undo()
+            self.assertEqual(session.script(), "# of the file\n\n")
+
+    def test_a_dict_as_genome(self):
+        with bedkeep.Session({"chr1": 1000, "chr2": 500}, self.genes) as session:
+            session.resize("chr2", 700)
+            session.undo()
+            self.assertEqual([row.end for row in session.view("complement")], [100, 300, 1000, 500])
+            self.assertEqual(session.region("chr1", 0, 150), [("chr1", 100, 200, "geneA")])
+
+    def test_no_file_of_a_session_is_written(self):
+        other, link = self.folder / "other.bed", self.folder / "link.bed"
+        os.link(self.genes, other)
+        link.symlink_to(self.genes)
+        before = self.genes.read_bytes()
+        with self.session(second=self.mask) as session:
+            session.add("chr1", 1, 2, "x")
+            for path in self.genes, other, link, self.mask, str(self.sizes), pathlib.Path(os.path.relpath(self.genes)):
+                with self.assertRaisesRegex(ValueError, "is a file of this session"):
+                    session.save(path)
+        self.assertEqual((self.genes.read_bytes(), link.is_symlink()), (before, True))
+
+    def test_a_view_that_is_refused_shows_what_was_asked_for(self):
+        with self.session() as session, self.assertRaises(bedkeep.Refused) as caught:
+            session.view("mrege -d 5")
+        self.assertEqual(caught.exception.line, "mrege -d 5")

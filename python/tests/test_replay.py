@@ -1,0 +1,285 @@
+import random
+from collections import Counter
+
+import bedkeep
+from bedkeep.replay import replay
+from helpers import Case, tabs
+from slow_classes import Slow
+
+LENGTHS = {"chr1": 60, "chr2": 60}
+
+
+class Replays(Case):
+    def bed(self, name, records):
+        return self.file(name, "".join("\t".join(record) + "\n" for record in records))
+
+    def reasons(self, sizes, bed, lines, second=None):
+        """Why a session refuses lines, by their numbers from 1."""
+        with bedkeep.Session(sizes, bed, second) as session:
+            return {refused.number: refused.reason for refused in session.edit(lines)}
+
+    def kinds(self, replayed):
+        return Counter(finding.kind for finding in replayed.findings)
+
+
+def some_record(pick):
+    start = pick.randrange(0, 12) * 4
+    return (pick.choice(list(LENGTHS)), str(start), str(start + pick.choice([1, 5, 9])), pick.choice(".abcd"), pick.choice("01"),
+            pick.choice("+-."))
+
+
+def altered(pick, record):
+    columns = list(record)
+    for _ in range(pick.choice([1, 1, 2])):
+        column = pick.randrange(1, 6)
+        columns[column] = [None, str(int(columns[1]) + 1), str(int(columns[2]) + 3), pick.choice(".abcde"), pick.choice("012"),
+                           pick.choice("+-.")][column]
+    return tuple(columns) if int(columns[1]) < int(columns[2]) else record
+
+
+def some_script(pick, records):
+    """Lines as lists of fields: over records, over records that are altered, in chains, and damaged."""
+    known, lines = list(records), []
+    for _ in range(pick.randrange(1, 14)):
+        old = pick.choice(known) if pick.random() < 0.9 else some_record(pick)
+        old = altered(pick, old) if pick.random() < 0.3 else old
+        new = altered(pick, old)
+        line = pick.choice([["add", *new], ["remove", *old], *[["replace", *old, *new]] * 4])
+        if pick.random() < 0.16 and line[0] == "replace":
+            column = pick.choice([1, 2, 3, 6, 7, 8, 9, 12])
+            line[column] = pick.choice(["chr9", "x", "", "999999"]) if column % 6 else "x"
+        lines.append(line)
+        known.append(new)
+    return lines
+
+
+class RandomScripts(Replays):
+    """Also over the second file, over releases that have some of the corrections, and with lines that end in CR."""
+
+    def test_the_classes_are_those_of_a_slow_check(self):
+        sizes = self.file("sizes", "chr1\t60\nchr2\t60\n")
+        seen = Counter()
+        for seed in range(300):
+            with self.subTest(seed=seed):
+                pick = random.Random(seed)
+                records = [some_record(pick) for _ in range(pick.choice([1, 3, 8, 20]))]
+                records += [pick.choice(records) for _ in range(pick.choice([0, 0, 2, 4]))]
+                release = [altered(pick, one) if pick.random() < 0.4 else one for one in records if pick.random() < 0.85]
+                script = some_script(pick, records)
+                if pick.random() < 0.3:
+                    release = self.partly_corrected(pick, sizes, release or records, script)
+                seen += self.one(pick, sizes, release or records, script)
+        self.assertEqual(len(seen), 10, seen)
+
+    def partly_corrected(self, pick, sizes, release, script):
+        with bedkeep.Session(sizes, self.bed("before", release)) as session:
+            session.edit(["\t".join(line) for line in script if pick.random() < 0.7])
+            return [tuple(map(str, row)) for row in session.records()]
+
+    def one(self, pick, sizes, release, script):
+        ignore, copies, second = pick.choice([None, None, "score", "name", "strand"]), pick.random() < 0.6, pick.random() < 0.3
+        files = [self.bed("release", release), self.bed("other", [("chr1", "1", "2")])]
+        bed, other = reversed(files) if second else files
+        lines = ["\t".join([line[0] + "b" * second, *line[1:]]) for line in script]
+        corrections = self.file("corrections", "".join(f"{line}{pick.choice(['', chr(13)])}\n" for line in lines))
+        replayed = replay(sizes, bed, [corrections], other, ignore, copies)
+        reasons = self.reasons(sizes, bed, lines, other)
+        column = None if ignore is None else bedkeep.rows.RECORD.index(ignore)
+        slow = Slow(release, script, reasons, LENGTHS, column, copies).all()
+        self.assertEqual(len(replayed.findings), len(slow))
+        for finding, (kind, found, by, mended) in zip(replayed.findings, slow):
+            self.assertEqual((finding.kind, finding.mended.split("\t")[1:], finding.by and finding.by.number),
+                             (kind, mended, by), finding.line.text)
+            if found:
+                self.assertEqual(finding.found, found)
+        self.check_mended(sizes, bed, other, replayed, copies)
+        return self.kinds(replayed)
+
+    def check_mended(self, sizes, bed, other, replayed, copies):
+        """Of the mended script a session refuses exactly the lines that couldn't be mended."""
+        left = [one for one in replayed.findings if one.kind != "already so" and (one.kind != "already there" or copies)]
+        lines = [finding.mended or finding.line.text for finding in left]
+        self.assertEqual([line for line in replayed.mended() if not line.startswith("#")], lines)
+        unmended = {number for number, finding in enumerate(left, 1)
+                    if not finding.mended and finding.kind not in ("fits", "follows", "already there")}
+        self.assertEqual(set(self.reasons(sizes, bed, lines, other)), unmended)
+
+
+class Releases(Replays):
+    """3,000 records; 45 lines that replace or remove one, and 5 that add one."""
+
+    def setUp(self):
+        super().setUp()
+        pick = random.Random(7)
+        self.sizes = self.file("sizes", "chr1\t9000000\nchr2\t9000000\n")
+        self.records = [(f"chr{1 + n % 2}", str(n * 2000 + 100), str(n * 2000 + 100 + pick.randrange(50, 900)), f"gene{n}",
+                         str(n % 900), pick.choice("+-")) for n in range(3000)]
+        self.lines = []
+        for n, record in enumerate(pick.sample(self.records, 45)):
+            start, end = int(record[1]), int(record[2])
+            new = (record[0], str(start - 7), str(end), *record[3:]) if n % 2 else (*record[:2], str(end + 30), *record[3:])
+            self.lines.append("\t".join(["remove", *record] if n % 5 == 0 else ["replace", *record, *new]))
+        self.lines += [f"add\tchr2\t{7000000 + n * 100}\t{7000050 + n * 100}\tnew{n}\t0\t+" for n in range(5)]
+        self.corrections = self.file("corrections", "# why\n" + "\n".join(self.lines) + "\n")
+        self.rescored = [(*one[:4], str(int(one[4]) + 1), one[5]) for one in self.records]
+
+    def replay(self, release, **options):
+        self.release = self.bed("release", release)
+        return replay(self.sizes, self.release, [self.corrections], **options)
+
+    def refused_when_mended(self, replayed):
+        return len(self.reasons(self.sizes, self.release, list(replayed.mended())))
+
+    def test_the_same_release(self):
+        replayed = self.replay(self.records)
+        self.assertEqual((self.kinds(replayed), replayed.is_refused), (Counter({"fits": 50}), False))
+
+    def test_a_release_that_was_rescored(self):
+        replayed = self.replay(self.rescored)
+        self.assertEqual(self.kinds(replayed), Counter({"changed": 45, "fits": 5}))
+        scores = {one[3]: one[4] for one in self.rescored}
+        for finding in replayed.findings[:45]:
+            self.assertEqual(finding.differing, ["score"])
+            fields = finding.mended.split("\t")
+            self.assertEqual(fields[5::6], [scores[fields[4]]] * (1 if fields[0] == "remove" else 2))
+        self.assertEqual(self.refused_when_mended(replayed), 0)
+
+    def test_a_release_that_was_rescored_and_scores_ignored(self):
+        replayed = self.replay(self.rescored, ignore="score")
+        self.assertEqual((self.kinds(replayed), replayed.is_refused), (Counter({"fits but for": 45, "fits": 5}), False))
+        self.assertEqual(self.refused_when_mended(replayed), 0)
+
+    def test_the_own_corrected_track(self):
+        """Also if other records are at the places of those that are corrected, or have their names."""
+        others = [(*one[:3], f"{one[3]}b", *one[4:]) for one in self.records[::3]]
+        others += [("chr2", str(8000000 + n), str(8000001 + n), *one[3:]) for n, one in enumerate(self.records[::2])]
+        with bedkeep.Session(self.sizes, self.bed("before", self.records + others)) as session:
+            self.assertEqual(session.edit(self.lines), [])
+            corrected = [tuple(map(str, row)) for row in session.records()]
+        replayed = self.replay(corrected, copies=False)
+        self.assertEqual(self.kinds(replayed), Counter({"already so": 45, "already there": 5}))
+        why, *comments = replayed.mended()
+        self.assertEqual([why, *(line.partition(": ")[2] for line in comments)],
+                         ["# why", *(line for line in self.lines if line.startswith("remove"))])
+        self.assertEqual({line.partition(": ")[0] for line in comments},
+                         {"# no record like it is there", "# the file has the other corrections"})
+
+    def test_releases_that_move_and_drop_records(self):
+        for seed in range(3):
+            pick, release, fates = random.Random(seed), [], {}
+            for one in self.records:
+                fates[one[3]] = fate = pick.choices(["fits", "moved", "gone"], [80, 12, 8])[0]
+                if fate != "gone":
+                    release.append((one[0], str(int(one[1]) + 3), *one[2:]) if fate == "moved" else one)
+            replayed = self.replay(release)
+            for finding in replayed.findings[:45]:
+                fate = fates[finding.line.fields[3]]
+                self.assertEqual(finding.kind, "already so" if (fate, finding.line.command) == ("gone", "remove") else fate)
+            self.assertEqual(self.refused_when_mended(replayed), self.kinds(replayed)["gone"])
+
+
+class Particular(Replays):
+    """What was settled, case by case."""
+
+    def of(self, release, script, second=None, **options):
+        other = self.file("second", tabs(second)) if second else None
+        sizes, bed = self.file("sizes", "chr1\t1000\n"), self.file("release", tabs(release))
+        return replay(sizes, bed, [self.file("corrections", tabs(script))], other, **options)
+
+    def listed(self, *given, **options):
+        return [finding.kind for finding in self.of(*given, **options).findings]
+
+    def test_both_changed_one_column(self):
+        finding = self.of("chr1 12 30 a", "replace chr1 10 30 a chr1 11 30 a").findings[0]
+        self.assertEqual((finding.kind, finding.mended, finding.note),
+                         ("moved", "replace\tchr1\t12\t30\ta\tchr1\t11\t30\ta", "the file has another start too"))
+
+    def test_the_release_made_it_and_rescored(self):
+        self.assertEqual(self.listed("chr1 11 30 a 9 +", "replace chr1 10 30 a 5 + chr1 11 30 a 5 +"), ["already so"])
+
+    def test_a_record_that_was_removed_beside_others(self):
+        """Over the corrected track those at its place and of its name aren't taken for it."""
+        script = "remove chr1 10 30 a\nremove chr1 40 50 b\nreplace chr1 60 70 c chr1 60 71 c\n"
+        left = "chr1 10 30 other\nchr1 80 90 b\n"
+        self.assertEqual(self.listed(left + "chr1 60 71 c", script), ["already so"] * 3)
+        self.assertEqual(self.listed(left + "chr1 60 72 c", script), ["changed", "moved", "moved"])
+        self.assertEqual(self.listed(left + "chr1 10 31 a\nchr1 60 71 c", script), ["moved", "already so", "already so"])
+
+    def test_a_chain(self):
+        script = "replace chr1 10 30 a chr1 11 30 a\nreplace chr1 11 30 a chr1 12 30 a"
+        self.assertEqual(self.listed("chr1 12 30 a", script), ["already so", "already so"])
+        self.assertEqual(self.listed("chr1 10 40 a", script), ["moved", "moved"])
+
+    def test_a_chain_over_a_rescored_release(self):
+        script = "replace chr1 10 30 a 1 chr1 11 30 a 1\nreplace chr1 11 30 a 1 chr1 11 31 a 1\nremove chr1 11 31 a 1"
+        self.assertEqual([one.mended.split("\t")[1:6] for one in self.of("chr1 10 30 a 2", script).findings],
+                         [["chr1", "10", "30", "a", "2"], ["chr1", "11", "30", "a", "2"], ["chr1", "11", "31", "a", "2"]])
+
+    def test_a_chain_leaves_a_copy_to_the_line_that_had_it(self):
+        script = ("replace chr1 10 30 a 1 chr1 11 30 a 1\nreplace chr1 11 30 a 1 chr1 12 30 a 1\n"
+                  "replace chr1 11 30 a 1 chr1 13 30 a 1\nremove chr1 11 30 a 2")
+        self.assertEqual(self.listed("chr1 10 30 a 2\nchr1 11 30 a 2", script), ["changed", "changed", "taken out", "fits"])
+
+    def test_a_line_that_follows(self):
+        script = "replace chr1 10 30 a 1 chr1 10 30 b 2\nreplace chr1 10 30 b 2 chr1 12 30 b 2"
+        self.assertEqual(self.listed("chr1 10 30 a 0", script), ["changed", "follows"])
+
+    def test_a_mended_record_that_has_no_length(self):
+        finding = self.of("chr1 25 30 a", "replace chr1 10 30 a chr1 10 20 a").findings[0]
+        self.assertEqual((finding.kind, finding.mended, finding.note),
+                         ("moved", "", "start and end of the mended record don't fit"))
+
+    def test_ignore_takes_one_alone(self):
+        script = "replace chr1 10 30 a 1 chr1 11 30 a 1\nremove chr1 11 30 a 1"
+        self.assertEqual(self.listed("chr1 10 30 a 2", script, ignore="score"), ["fits but for", "fits but for"])
+        self.assertEqual(self.listed("chr1 10 30 a 2\nchr1 10 30 a 3", script, ignore="score")[0], "changed")
+
+    def test_copies(self):
+        script = "remove chr1 10 30 a\nremove chr1 10 31 a"
+        self.assertEqual(self.listed("chr1 10 30 a\nchr1 10 30 a", script), ["fits", "moved"])
+        script = "remove chr1 10 31 a\nremove chr1 10 30 a"
+        self.assertEqual(self.listed("chr1 10 30 a", script), ["already so", "fits"])
+        self.assertEqual(list(self.of("chr1 1 2", "add chr1 01 2", copies=False).mended()), [])
+        self.assertEqual(list(self.of("chr1 1 2", "add chr1 01 2").mended()), ["add\tchr1\t01\t2"])
+
+    def test_a_record_that_a_line_took(self):
+        taken = self.of("chr1 10 30", "remove chr1 10 30\nremove chr1 10 30").findings[1]
+        self.assertEqual((taken.kind, taken.by.number), ("taken out", 1))
+
+    def test_bad_lines(self):
+        script = ("replace chr1 10 30 chr1 3O 40\nadd chr1 5 1001\nresize chr1 2000\nadd chr1 5 1001\nadd chr7 1 2\naddb chr1 1 2\n"
+                  "resize chr1 20\nresize chr7 20\nfoo\nadd chr1 5\nreplace chr1 9 4 chr1 3 4\nresize\nremove chr1 7 7000")
+        self.assertEqual([one.note for one in self.of("chr1 10 30", script).findings if one.kind == "bad line"],
+                         ["start is not a number: '3O' (new start, field 6)", "end past the sequence's end: '1001' (end, field 4)",
+                          "unknown sequence: 'chr7' (chromosome, field 2)", "no second file: addb",
+                          "records past the new end: '20' (length)", "unknown sequence: 'chr7' (sequence)",
+                          "no such command or wrong fields: foo", "wrong number of columns: 2 fields",
+                          "start not below end: '9' (old start, field 3)", "no such command or wrong fields: resize",
+                          "end past the sequence's end: '7000' (end, field 4)"])
+        script = "add chr1 5 6 n\r\r 0 +\nadd chr1 5 6 n 0 x\nreplace chr1 10 30 a 0 + chr1 10 30 b 0 ?"
+        self.assertEqual([one.note for one in self.of("chr1 10 30 a 0 +", script.replace("\r\r ", "\0 ")).findings],
+                         ["bad name: 'n\\x00' (name, field 5)", "bad strand: 'x' (strand, field 7)",
+                          "bad strand: '?' (new strand, field 13)"])
+
+    def test_two_records_fit_as_well(self):
+        finding = self.of("chr1 12 30 a\nchr1 8 30 a", "replace chr1 10 30 a chr1 10 31 a").findings[0]
+        self.assertEqual((finding.kind, finding.mended, finding.note), ("moved", "", "2 records fit as well"))
+
+    def test_a_name_that_many_records_have(self):
+        release = "\n".join(f"chr1 {n * 10} {n * 10 + 8} gene" for n in range(90))
+        replayed = self.of(release, "remove chr1 13 18 gene\nremove chr1 8 9 gene")
+        self.assertEqual([(one.kind, one.mended) for one in replayed.findings],
+                         [("moved", "remove\tchr1\t10\t18\tgene"), ("already so", "")])
+
+    def test_the_second_file_has_its_own_width(self):
+        replayed = self.of("chr1 1 2 a", "removeb chr1 5 9\nresize chr1 2000\naddb chr1 1 1500", "chr1 5 10")
+        self.assertEqual([(one.kind, one.mended) for one in replayed.findings],
+                         [("moved", "removeb\tchr1\t5\t10"), ("fits", ""), ("fits", "")])
+
+    def test_lines_of_views_and_comments_stay(self):
+        script = self.file("corrections", "# why\nopen\tv\tmerge\n\nadd\tchr1\t1\t2\tx\nprintall\nadd\tchr1\t3\t4\tx\r")
+        replayed = replay(self.sizes, self.genes, [script, self.file("more", "# more\n# of it\nadd\tchr1\t5\t6\ty\n")])
+        self.assertEqual([(one.line.number, one.line.place, one.line.comments) for one in replayed.findings],
+                         [(4, 4, ()), (6, 6, ()), (9, 3, ("more", "of it"))])
+        self.assertEqual("\n".join([*replayed.mended(), ""]),
+                         script.read_text().replace("\r", "\n") + "# more\n# of it\nadd\tchr1\t5\t6\ty\n")

@@ -1,0 +1,347 @@
+"""`review`: the page, what comes with it, and that none is written whose pictures don't arrive at the program's track."""
+import hashlib
+import io
+import os
+import random
+import re
+import tempfile
+import unittest
+import xml.etree.ElementTree as ElementTree
+from pathlib import Path
+from unittest import mock
+
+from helpers import PROGRAM, Case, Outcome, tabs
+from pages import Page
+
+from bedkeep.review.drawing import Picture
+from bedkeep.review.intervals import Interval, Stretch, Windows, blocks_of, stretches_of
+from bedkeep.review.markup import bases, escaped, is_whole, shortened
+from bedkeep.review.neighbours import Neighbours
+from bedkeep.review.printed import BINS, Side
+from bedkeep.review.reviewer import Differs, Reviewer
+
+SCRIPT = tabs("""
+#5_bases_later
+replace chr1 100 200 geneA chr1 100 205 geneA
+#renamed_upstream
+replace chr1 300 400 geneX chr1 300 410 geneX
+remove chr1 853 900 geneE
+add chr1 390 500 geneC
+add chr1 390 500 geneC
+remove chr1 700 800 geneD
+remove chr1 700 800 geneD
+replace chr1 600 700 lost chr1 600 710 lost
+replace chr1 550 555 geneF chr1 550 560 geneF
+add chr2 450 600 long
+add 2 100 200 short
+add chr1 200 100 wrong
+removeb chr1 150 350
+resize chr2 700
+resize chr1 450
+resize chrX 450
+print all
+""")
+STATES = {**dict.fromkeys((2, 6, 7, 8, 15, 16), "done"), **dict.fromkeys((4, 5, 9, 10, 11, 12, 13, 14, 17, 18), "refused")}
+GROUPS = {2: "done", 4: "refused|changed", 5: "refused|moved", 7: "done|copies", 9: "refused|taken out", 10: "refused|gone",
+          11: "refused|already so", 12: "refused|bad line", 17: "refused|bad line"}
+
+
+class Written(Case):
+    """A page of all kinds of lines."""
+
+    def setUp(self):
+        super().setUp()
+        self.genes.write_text(self.genes.read_text() + "chr1\t700\t800\tgeneD\nchr1\t850\t900\tgeneE\nchr1\t550\t560\tgeneF\n")
+        self.corrections = self.file("corrections", SCRIPT)
+        self.path = self.folder / "page.html"
+        self.outcome = Outcome("review", self.sizes, self.genes, self.corrections, "-b", self.mask, "-d", 10, "-o", self.path)
+        self.text = self.path.read_text()
+        self.page = Page(self.text)
+
+    def card(self, number):
+        return re.search(rf"<article id=L{number} .*?</article>", self.text, re.DOTALL)[0]
+
+    def test_status_and_message(self):
+        self.assertEqual(self.outcome.status, 1)
+        self.assertEqual(self.outcome.err, f"{self.path}: 6 done, 10 refused\n")
+
+    def test_page_is_well_formed(self):
+        self.assertEqual(self.page.faults, [])
+
+    def test_page_needs_no_network(self):
+        self.assertEqual(re.findall(r'\bsrc=|@import|url\(|href=(?!"#)|https?:', self.text), [])
+
+    def test_verdict_of_each_line(self):
+        self.assertEqual({int(name[1:]): named["class"] for name, named in self.page.articles.items()}, STATES)
+        for number, groups in GROUPS.items():
+            self.assertEqual(self.page.articles[f"L{number}"]["data-groups"], groups, number)
+
+    def test_reasons_are_the_comments_above(self):
+        self.assertIn("<p class=reason>5_bases_later</p>", self.card(2))
+        self.assertIn("<p class=reason>renamed_upstream</p>", self.card(5))
+        self.assertIn("no such record", self.page.texts["L4"])
+
+    def test_counts_before_and_after(self):
+        # Blocks by distance 10, and bases. Before: [100,200) [300,400) [550,560) [700,800) [850,900).
+        # After: [100,205) [300,400), two copies of [390,500), [550,560) [850,900).
+        self.assertTrue("records<b>5 → 6 <small>+1</small></b>" in self.text)
+        self.assertTrue("blocks<b>5 → 4 <small>-1</small></b>" in self.text)
+        self.assertTrue("bases covered<b>360 → 365 <small>+5</small></b>" in self.text)
+        row = re.search(r'<tr data-sequence="chr1">.*?</tr>', self.text, re.DOTALL)[0]
+        columns = re.sub(r"<svg.*?</svg>", "", row, flags=re.DOTALL)
+        self.assertEqual(re.findall(r">([^<>\n]*)</t[dh]>", columns), ["chr1", "", "5", "7", "6", "+1", "4", "-1", "365", "+5"])
+
+    def test_what_differs_and_the_line_that_fits(self):
+        self.assertIn("<mark>200</mark>", self.card(2))
+        self.assertIn("End 5 bases later.", self.card(2))
+        self.assertIn("Name geneX → geneB.", self.card(4))
+        self.assertIn('data-text="replace\tchr1\t300\t400\tgeneB\tchr1\t300\t410\tgeneB"', self.card(4))
+        self.assertIn("Start 3 bases earlier.", self.card(5))
+
+    def test_links_to_other_lines(self):
+        self.assertIn('<a href="#L8">line 8</a>', self.card(9))
+
+    def test_bad_lines(self):
+        self.assertIn("chr2 ends at 500, 100 bases before.", self.card(12))
+        self.assertIn('data-text="add\tchr2\t100\t200\tshort"', self.card(13))
+        self.assertIn('data-text="add\tchr1\t100\t200\twrong"', self.card(14))
+        self.assertIn("Correct these records first.", self.card(17))
+
+    def test_pictures(self):
+        # Line 6 shows 390 to 500 with 82 bases on either side, in 830 units from 62: 82 are 248.4, and 110 are 333.2.
+        added = r'"r added"><title>390–500 geneC</title><path d="M310 \d+h333v13h-333z"'
+        self.assertRegex(self.card(6), added)
+        marks_of = {2: {"removed", "added"}, 4: {"asked", "wished", "meant", "added"}, 6: {"added"}, 8: {"removed"}, 9: {"asked"},
+                    11: {"asked", "wished", "meant"}, 15: {"removed"}, 16: {"added"}, 17: {"asked", "meant"}}
+        for number, marks in marks_of.items():
+            found = set(re.findall('"r ([a-z]+)"', self.card(number))) - {"second"}
+            self.assertEqual(found, marks, number)
+        self.assertIn('"r second"', self.card(2))
+        self.assertIn("close to the end: 200 → 205, 5 bases", self.card(2))
+        self.assertIn("past the end", self.card(12))
+        self.assertNotIn("<svg", self.card(13) + self.card(14) + self.card(18))
+
+    def test_sums_of_all_inputs(self):
+        for path in self.sizes, self.genes, self.mask, self.corrections:
+            self.assertTrue(hashlib.sha256(path.read_bytes()).hexdigest() in self.text)
+
+    def test_track_of_the_corrections(self):
+        rows = (self.folder / "page.corrections.bed").read_text().split("\n")
+        self.assertRegex(rows[0], '^track .*itemRgb="On"$')
+        self.assertIn("chr1\t100\t205\tline 2: replace\t0\t.\t100\t205\t26,127,75", rows)
+        self.assertIn("chr1\t853\t900\tline 5: remove, no such record\t0\t.\t853\t900\t179,38,30", rows)
+        self.assertTrue(all(row.count("\t") == 8 for row in rows[1:-1]))
+
+    def test_session_for_igv(self):
+        session = ElementTree.parse(self.folder / "page.session.xml").getroot()
+        self.assertEqual([one.get("path") for one in session.iter("Resource")], ["genes.bed", "mask.bed", "page.corrections.bed"])
+        regions = [one.attrib for one in session.iter("Region")]
+        self.assertEqual(len(regions), 8)  # No region for the two `resize`.
+        self.assertEqual(regions[0], {"chromosome": "chr1", "start": "300", "end": "410",
+                                      "description": "line 4: replace, no such record"})
+
+
+class Files(Case):
+    """What is read and written."""
+
+    def review(self, *words):
+        return Outcome("review", *words, "-o", self.folder / "page.html")
+
+    def test_several_scripts_are_one(self):
+        one = self.file("one", tabs("add chr1 1 2 a"))
+        other = self.file("other", tabs("remove chr1 1 2 a\nremove chr1 1 2 a"))
+        self.assertEqual(self.review(self.sizes, self.genes, one, other).status, 1)
+        page = Page((self.folder / "page.html").read_text())
+        self.assertEqual(list(page.articles), ["L1", "L2", "L3"])
+        self.assertIn(f"{other}: line 2", page.texts["L3"])
+
+    def test_nothing_to_correct(self):
+        self.assertEqual(self.review(self.sizes, self.genes, self.file("empty", "")).status, 0)
+        self.assertEqual(Page((self.folder / "page.html").read_text()).faults, [])
+
+    def test_bases_between_the_records_of_a_block_are_not_covered(self):
+        script = self.file("corrections", tabs("add chr1 205 300 geneC"))
+        self.assertEqual(self.review(self.sizes, self.genes, script, "-d", "10").status, 0)
+        text = (self.folder / "page.html").read_text()
+        self.assertTrue("blocks<b>2 → 1 <small>-1</small></b>" in text)
+        self.assertTrue("bases covered<b>200 → 295 <small>+95</small></b>" in text)
+
+    def test_an_input_is_never_written_over(self):
+        corrections = self.file("page.corrections.bed", tabs("add chr1 1 2 a"))
+        self.assertEqual(self.review(self.sizes, self.genes, corrections).status, 2)
+        self.assertEqual(corrections.read_text(), "add\tchr1\t1\t2\ta\n")
+        self.assertFalse((self.folder / "page.html").exists())
+
+    def test_damaged_file(self):
+        outcome = self.review(self.sizes, self.file("bad.bed", "chr1\t5\t4\n"), self.file("corrections", ""))
+        self.assertEqual((outcome.status, (self.folder / "page.html").exists()), (2, False))
+        self.assertIn("bad.bed: line 1: start not below end", outcome.err)
+
+    def test_script_from_standard_input(self):
+        typed = io.TextIOWrapper(io.BytesIO(b"add\tchr1\t1\t2\ta\n"))
+        with mock.patch("sys.stdin", typed):
+            self.assertEqual(self.review(self.sizes, self.genes, "-").status, 0)
+        self.assertIn("standard input over genes.bed", (self.folder / "page.html").read_text())
+
+    def test_wide_file(self):
+        wide = self.file("wide.bed", tabs("chr1 100 200 a 0 + 100 200 1,2,3\nchr1 300 400 b 0 + 300 400 0"))
+        script = self.file("corrections", tabs("""replace chr1 100 200 a 0 + chr1 100 150 a 0 +
+replace chr1 300 400 b 0 + chr1 300 450 b 0 + 300 450 9,9,9"""))
+        self.assertEqual(self.review(self.sizes, wide, script).status, 0)
+        page = Page((self.folder / "page.html").read_text())
+        self.assertEqual(page.faults, [])
+        self.assertIn("thickEnd", page.texts["L1"])
+        self.assertIn("End 50 bases later.", page.texts["L2"])
+        self.assertEqual(self.review(self.sizes, wide, script, "--strict").status, 1)
+
+    def test_second_file_has_its_own_lines(self):
+        script = self.file("corrections", tabs("addb chr1 1 2\nreplaceb chr1 1 2 chr1 5 9\nremoveb chr1 1 2"))
+        self.assertEqual(self.review(self.sizes, self.genes, script, "-b", self.mask).status, 1)
+        page = Page((self.folder / "page.html").read_text())
+        self.assertEqual([named["class"] for named in page.articles.values()], ["done", "done", "refused"])
+        self.assertIn("The record was put in by line 1.", page.texts["L2"])
+        self.assertEqual(self.review(self.sizes, self.genes, script).status, 1)
+
+    def test_names_that_are_no_text(self):
+        sizes = self.file("odd", b"<b>\xff&\t1000\n\x01c\t50\n")
+        genes = self.file("odd.bed", b"<b>\xff&\t1\t9\t\xfe\"'\n")
+        script = self.file("corrections", b"# <i>\xfd\x02\nremove\t<b>\xff&\t1\t8\t\xfe\"'\n"
+                                          b"remove\t<b>\xff&\t1\t9\t\xfe\"'\nadd\t\x01c\t1\t2\t]]>\n")
+        self.assertEqual(self.review(sizes, genes, script).status, 1)
+        page = Page((self.folder / "page.html").read_text())
+        self.assertEqual(page.faults, [])
+        self.assertIn("<i>\ufffd\u2402", page.texts["L2"])
+        self.assertNotIn("copy", page.texts["L2"])
+        ElementTree.parse(self.folder / "page.session.xml")
+
+
+class Arrival(Case):
+    """No page is written unless its pictures arrive at what the program printed."""
+
+    def test_program_that_prints_another_track(self):
+        """The second session of a review reads another BED file than the first."""
+        other = self.file("other.bed", "chr1\t100\t200\tgeneA\nchr1\t330\t400\tgeneB\n")
+        liar = self.script("liar", f'if [ -e {self.folder}/begun ]; then exec {PROGRAM} "${{@/%*genes.bed/{other}}}"; fi\n'
+                                   f'if [ "$1" = session ]; then touch {self.folder}/begun; fi\nexec {PROGRAM} "$@"')
+        script = self.file("corrections", tabs("remove chr1 300 400 geneB"))
+        with mock.patch.dict(os.environ, BEDKEEP=str(liar)):
+            outcome = Outcome("review", self.sizes, self.genes, script, "-o", self.folder / "page.html")
+        self.assertEqual((outcome.status, outcome.err), (2, "lines that were done are refused without the others\n"))
+        self.assertEqual(list(self.folder.glob("page*")), [])
+
+    def sides(self):
+        windows = Windows([Stretch("chr1", 100, 300)], 11)
+        before = Side(windows)
+        before.near = [Interval("chr1", 100, 150, ("a",)), Interval("chr1", 155, 200, ("b",))]
+        before.near_blocks = [Interval("chr1", 100, 200)]
+        return windows, before, Reviewer(before, None, {"chr1": 1000}, 10)
+
+    def test_sound_track(self):
+        windows, before, reviewer = self.sides()
+        reviewer.check(windows, before, None)
+
+    def test_a_missing_record(self):
+        windows, before, reviewer = self.sides()
+        after = Side(windows)
+        after.near, after.near_blocks = before.near[:1], before.near_blocks
+        with self.assertRaisesRegex(Differs, "the pictures of chr1 from 89 to 311"):
+            reviewer.check(windows, after, None)
+
+    def test_another_block(self):
+        windows, before, reviewer = self.sides()
+        after = Side(windows)
+        after.near, after.near_blocks = before.near, [Interval("chr1", 100, 150), Interval("chr1", 155, 200)]
+        with self.assertRaisesRegex(Differs, "the blocks of chr1 from 100 to 300"):
+            reviewer.check(windows, after, None)
+
+
+class Pieces(unittest.TestCase):
+    """What the page is made of, beside slow versions of it."""
+
+    def intervals(self, chance, count):
+        for _ in range(count):
+            start = chance.randrange(2000)
+            yield Interval(chance.choice("ab"), start, start + chance.choice([1, 3, 40, 700]), (str(chance.randrange(3)),))
+
+    def test_neighbours(self):
+        for seed in range(40):
+            chance = random.Random(seed)
+            listed = list(self.intervals(chance, 60))
+            neighbours = Neighbours(listed)
+            for interval in self.intervals(chance, 20):
+                listed.append(interval)
+                neighbours.add(interval)
+            for interval in [*chance.sample(listed, 30), Interval("c", 1, 2)]:
+                self.assertEqual(neighbours.has(interval), interval in listed)
+                self.assertEqual(neighbours.remove(interval), interval in listed)
+                if interval in listed:
+                    listed.remove(interval)
+            for _ in range(20):
+                low = chance.randrange(2000)
+                stretch, margin = Stretch(chance.choice("abc"), low, low + chance.randrange(300)), chance.choice([0, 0, 7])
+                wide = Stretch(stretch.sequence, stretch.low - margin, stretch.high + margin)
+                self.assertEqual(neighbours.within(stretch, margin), sorted(filter(wide.touches, listed)))
+                after = [one for one in listed if one.sequence == stretch.sequence and one.start > stretch.high]
+                self.assertEqual(neighbours.beside(stretch)[1], min(after, default=None))
+
+    def test_what_is_read_of_a_track(self):
+        for seed in range(60):
+            chance = random.Random(seed)
+            listed = sorted(self.intervals(chance, chance.randrange(200)))
+            windows = Windows([Stretch("b", low, low + 30) for low in chance.sample(range(2700), 3)], 5)
+            side = Side(windows)
+            blocks = {name: blocks_of([one for one in listed if one.sequence == name], 3) for name in "ab"}
+            with tempfile.TemporaryDirectory() as folder:
+                track, merged = Path(folder, "track"), Path(folder, "blocks")
+                track.write_text("".join("\t".join(map(str, [*one[:3], *one.rest])) + "\n" for one in listed))
+                merged.write_text("".join(f"{name}\t{start}\t{end}\n" for name in "ab" for start, end in blocks[name]))
+                side.read(str(track), str(merged), str(merged), {"a": 2700, "c": 10})
+            wanted = [one for one in listed if any(stretch.touches(one) for stretch in windows)]
+            self.assertEqual([one for one in side.near if any(stretch.touches(one) for stretch in windows)], wanted)
+            self.assertEqual(side.records["a"], sum(one.sequence == "a" for one in listed))
+            self.assertEqual(side.blocks["b"], len(blocks["b"]))
+            self.assertEqual(side.covered["b"], sum(end - start for start, end in blocks["b"]))
+            near = [Interval("b", start, end) for start, end in blocks["b"]]
+            self.assertEqual(side.near_blocks, [one for one in near if any(stretch.touches(one) for stretch in windows)])
+            starts = [one.start for one in listed if one.sequence == "a"]
+            edges = [2700 * number // BINS for number in range(BINS + 1)]
+            density = [sum(low <= start < high for start in starts) for low, high in zip(edges, edges[1:])]
+            self.assertEqual(side.density("a"), density)
+            self.assertEqual(side.density("c"), [0] * BINS)
+
+    def test_blocks(self):
+        intervals = [Interval("a", 1, 9), Interval("a", 2, 4), Interval("a", 9, 12), Interval("a", 14, 15)]
+        self.assertEqual(blocks_of(intervals, 0), [(1, 12), (14, 15)])
+        self.assertEqual(blocks_of(intervals, 2), [(1, 15)])
+
+    def test_one_picture_for_what_is_near(self):
+        near, far = Interval("a", 1000, 1100), Interval("a", 9000, 9100)
+        self.assertEqual(list(stretches_of([near, Interval("a", 1200, 1300)])), [Stretch("a", 775, 1525)])
+        self.assertEqual(list(stretches_of([far, near])), [Stretch("a", 925, 1175), Stretch("a", 8925, 9175)])
+        self.assertEqual(list(stretches_of([near, Interval("b", 10, 20)])), [Stretch("a", 925, 1175), Stretch("b", 0, 60)])
+        self.assertEqual(list(stretches_of([])), [])
+
+    def test_no_more_than_there_is_room_for(self):
+        picture = Picture(Stretch("a", 0, 1000), 1000)
+        picture.lane("before", [Interval("a", 100, 900, (str(number),)) for number in range(50)], {})
+        drawn = picture.svg("title")
+        self.assertEqual(drawn.count("<g class=r>"), 6)
+        self.assertIn("+ 44 more here", drawn)
+
+    def test_boxes_point_along_their_strand(self):
+        picture = Picture(Stretch("a", 0, 830), None)
+        picture.lane("before", [Interval("a", 0, 100, ("", "0", "+")), Interval("a", 200, 300, ("", "0", "-"))], {})
+        drawn = picture.svg("title", (None, None))
+        self.assertIn('d="M62 7h95l5 6.5l-5 6.5h-95z"', drawn)
+        self.assertIn('d="M267 7h95v13h-95l-5 -6.5z"', drawn)
+
+    def test_texts(self):
+        self.assertEqual([bases(value) for value in (0, 9999, 10_000, 1_234_567, 2_500_000_000)],
+                         ["0 b", "9,999 b", "10 kb", "1.23 Mb", "2,500 Mb"])
+        self.assertEqual(escaped("<\x00\x7f\udcff\t>"), "&lt;\u2400\u2421\ufffd\t&gt;")
+        self.assertEqual((is_whole("a\tb"), is_whole("a\rb")), (True, False))
+        self.assertEqual(shortened("x" * 30), "x" * 22 + "…")
+
+
+if __name__ == "__main__":
+    unittest.main()
