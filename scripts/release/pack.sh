@@ -1,6 +1,6 @@
 #!/usr/bin/env bash
-# Makes a release from the built program: build/bedkeep-VERSION-linux-x86_64.tar.gz, and if dpkg-deb is there also
-# build/bedkeep_VERSION_amd64.deb, with their checksums in build/SHA256SUMS. The program in them needs no shared library.
+# Makes a release from the built program: build/bedkeep-VERSION-linux-x86_64.tar.gz, a wheel of the program and the Python package,
+# and if dpkg-deb is there also build/bedkeep_VERSION_amd64.deb, with their checksums in build/SHA256SUMS. The program in them needs no shared library.
 # The same sources give the same bytes with the same tools: files have the time of SOURCE_DATE_EPOCH, or else the date
 # of the man page.
 #
@@ -93,7 +93,7 @@ made=("$name.tar.gz")
 mkdir "$stage/unpacked"
 tar --extract --gzip --file="build/$name.tar.gz" --directory="$stage/unpacked"
 documents=$stage/unpacked/$name/share/doc/bedkeep
-for document in README.md CHANGELOG.md LICENSE NOTICE docs/{GUIDE,BEDTOOLS,bedtools-report,FORMAT,PROMISES}.md examples/{in_git,by_pieces,at_scale}/README.md; do
+for document in README.md CHANGELOG.md LICENSE NOTICE docs/{GUIDE,BEDTOOLS,bedtools-report,FORMAT,PROMISES}.md examples/{in_git,by_pieces,at_scale,workflows}/README.md; do
     if [ ! -s "$documents/$document" ]; then
         echo "the release lacks $document" >&2
         exit 1
@@ -109,6 +109,13 @@ if [ "$said" != $'chr1\t10\t30' ]; then
     echo "the unpacked program printed: $said" >&2
     exit 1
 fi
+
+scripts/test/workflows.sh "$stage/unpacked/$name/bin/bedkeep" "$documents/examples"
+python3 scripts/release/address.py --check
+python3 scripts/release/address.py --layout "$stage/unpacked/$name"
+wheel=$(python3 scripts/release/wheel.py "$stage/unpacked/$name" build)
+scripts/release/try_wheel.sh "build/$wheel"
+made+=("$wheel")
 
 if command -v dpkg-deb > /dev/null; then
     root=$stage/deb
@@ -139,8 +146,10 @@ END
     dpkg-deb --root-owner-group -Zxz --threads-max=1 --build "$root" "build/bedkeep_${version}_amd64.deb" > /dev/null
     made+=("bedkeep_${version}_amd64.deb")
     if command -v lintian > /dev/null; then
-        # The program is static, so that it needs nothing, for which lintian has two words; all else that it says is to be mended.
-        said=$(lintian --allow-root "build/bedkeep_${version}_amd64.deb" | grep -v -e statically-linked-binary -e shared-library-lacks-prerequisites || true)
+        # The program is static, so that it needs nothing, for which lintian has two words, and an example has files for git; all
+        # else that it says is to be mended.
+        said=$(lintian --allow-root "build/bedkeep_${version}_amd64.deb" | grep -v -e statically-linked-binary -e shared-library-lacks-prerequisites \
+            -e 'vcs-control-file .*/in_git/' || true)
         if [ -n "$said" ]; then
             echo "$said" >&2
             exit 1
