@@ -1,9 +1,10 @@
 #!/usr/bin/env bash
-# Shows that examples/at_scale prints, byte for byte, what one run prints: each subcommand, and a session; and that a fault is
-# reported by the line of the whole file. That is over 20,000 records, or as many as are given, and takes seconds.
+# Shows that examples/at_scale prints, byte for byte, what one run prints: each subcommand, in windows that are cut and in windows
+# that are halved, while few files may be open; and that it reports a damaged record. That is over 20,000 records, or as many as are
+# given, and takes seconds. Without bgzip and tabix it does nothing.
 #
-# With --large it makes 40,000,000 records of which 9,000,000 are on one sequence, which one run refuses, and compares the rows
-# with those of bedtools; it says how many seconds each took, and the bytes of files and rows. That takes 8 GB below TMPDIR.
+# With --large it makes 40,000,000 records of which 9,000,000 are on one sequence, and compares the rows of one run with -limit, and
+# those by windows, with bedtools; it says how many seconds each took, and the bytes of files and rows. That takes 8 GB below TMPDIR.
 #
 #     scripts/test/at_scale.sh build/bedkeep [RECORDS]
 #     scripts/test/at_scale.sh --large build/bedkeep
@@ -25,6 +26,11 @@ mkdir "$folder/path" && ln -s "$(realpath "$1")" "$folder/path/bedkeep"
 export PATH=$folder/path:$PATH XDG_CACHE_HOME=$folder/cache
 cd "$folder" || exit 1
 failed=0
+if ! command -v bgzip > /dev/null || ! command -v tabix > /dev/null; then
+    echo 'bgzip and tabix are not installed, so examples/at_scale was left out'
+    exit 0
+fi
+ulimit -n 128
 
 fails() {
     echo "$*" >&2
@@ -61,86 +67,108 @@ write("genome", (f"{name}\t{length}\n" for name, length in genome))
 write("short_genome", (f"{name}\t{length}\n" for name, length in genome if name != "far"))
 rows = list(records(RECORDS, 6))
 write("records.bed", ["track name=records\n", "# six columns, in no order\n", *rows])
-write("short.bed", (row for row in rows if not row.startswith("far")))
-write("second.bed", records(RECORDS // 5, 4))
+second = list(records(RECORDS // 5, 4))
+write("second.bed", second)
+for name, lines in ("short.bed", rows), ("short_second.bed", second):
+    write(name, (line for line in lines if not line.startswith("far")))
 write("bases.fa", (f">{name} made up\n" + "".join(random.choices("ACGTacgtN", k=length)) + "\n"
                    for name, length in [*reversed(genome), ("unknown", 100)] if name not in ("far", "scaffold/1")))
-edits = list(records(RECORDS // 30 + 9, 6))
-write("script", [*(f"add\t{edit}" for edit in edits), *(f"remove\t{edit}" for edit in edits[::2] + edits[::5]),
-                 f"resize\tchr1\t{7 * RECORDS}\n", "resize\tchr2\t2\n", "open\tview\tgenomecov -bga\n", "print\tview\n"])
 END_OF_PYTHON
 }
 
-# same WORD ..: a run of these words, and parts of it with at most an eighth of the records
+# index FILE: FILE.gz, sorted, with its index
+index() {
+    grep -v -E '^(#|track|browser)' "$1" | sort -k 1,1 -k 2,2n | bgzip > "$1.gz"
+    tabix -f -C -p bed "$1.gz" 2> said || fails "tabix: $(cat said)"
+}
+
+# same BASES LIMIT WORD ..: a run, and the same by windows of so many bases, and of so many records unless that is empty
 same() {
+    local bases=$1 limit=$2
+    shift 2
     bedkeep "$@" > rows 2> said || fails "$*: one run fails: $(cat said)"
-    "$tools/run.sh" work $((records / 8)) 1000 "$@" > joined 2> said || fails "$*: by parts it fails: $(cat said)"
-    cmp rows joined || fails "$*: other rows"
+    # shellcheck disable=SC2086 # no limit is no word
+    "$tools/windows.py" --window "$bases" "${@/%.bed/.bed.gz}" ${limit:+-limit $limit} > joined 2> said || fails "$*: by windows it fails: $(cat said)"
+    cmp rows joined || fails "$*: other rows by windows of $bases bases"
     compared=$((compared + 1))
 }
 
-# same_session: the script of a part is the whole one with an empty line for each edit of another part
-same_session() {
-    bedkeep session -g genome -i records.bed < script > rows 2> messages
-    "$tools/cut.sh" cut 1 0 session -g genome -i records.bed
-    for part in cut/[0-9]*; do
-        awk -F '\t' 'NR == FNR { here[$1]; next } /^(add|remove|replace|resize)/ && !($2 in here) { print ""; next } { print }' \
-            "$part/genome" script | bedkeep session -g "$part/genome" -i "$part/track" -width 6
-    done > joined 2> said
-    cmp rows joined || fails 'session: other rows'
-    cmp messages <(sort -k 2n said) || fails 'session: other messages'
+# by_bases WORD ..: longer sequences are cut
+by_bases() {
+    same "$records" '' "$@"
 }
 
-# same_fault LINE EDIT: after this edit of a line it fails with the message of one run
+# by_halves WORD ..: windows have too many records, again and again
+by_halves() {
+    same 1000000000 $((records / 8)) "$@"
+}
+
+# same_views BY GENOME FIRST SECOND
+same_views() {
+    local by=$1 genome=$2 first=$3 second=$4 option
+    for option in '' '-d 7'; do
+        # shellcheck disable=SC2086 # no option is no word
+        $by merge -g "$genome" -i "$first" $option
+    done
+    for option in '' -L; do
+        # shellcheck disable=SC2086
+        $by complement -g "$genome" -i "$first" $option
+    done
+    $by genomecov -g "$genome" -i "$first" -bg
+    $by genomecov -g "$genome" -i "$first" -bga
+    for option in '' -wa -wb -u -v -c; do
+        # shellcheck disable=SC2086
+        $by intersect -g "$genome" -a "$first" -b "$second" $option
+    done
+    $by subtract -g "$genome" -a "$first" -b "$second"
+    $by subtract -g "$genome" -a "$first" -b "$second" -A
+    $by getfasta -g "$genome" -bed "$first" -fi bases.fa -s
+    $by records -g "$genome" -i "$first"
+}
+
+# same_fault EDIT: after this edit of the first record on chr1, by awk, it fails with the text of one run
 same_fault() {
-    sed "$1$2" records.bed > damaged.bed
-    bedkeep subtract -g genome -a damaged.bed -b second.bed > rows 2> said && fails "line $1: one run is done"
-    "$tools/run.sh" work "$records" 0 subtract -g genome -a damaged.bed -b second.bed > joined 2> messages && fails "line $1: it is done by parts"
-    cmp said messages || fails "line $1: other messages"
+    local words text
+    awk -F '\t' -v OFS='\t' '$1 == "chr1" && !done { '"$1"'; done = 1 } { print }' records.bed > damaged.bed
+    index damaged.bed
+    for words in 'merge -g genome -i' 'subtract -g genome -b second.bed -a'; do
+        # shellcheck disable=SC2086 # the words are to be separated
+        bedkeep $words damaged.bed > rows 2> said && fails "$1: one run is done"
+        text=$(sed 's/.*: //' said)
+        # shellcheck disable=SC2086
+        "$tools/windows.py" --window 1000000000 ${words/second.bed/second.bed.gz} damaged.bed.gz > joined 2> said && fails "$1: it is done by windows"
+        grep -q -- "$text" said || fails "$1: $(cat said) instead of $text"
+    done
 }
 
 # same_workflow: the same by Snakemake, in a folder of its own
 same_workflow() {
-    printf '%s\n' 'subcommand: intersect' 'options: -wa -wb' "genome: $folder/genome" "tracks: {some: $folder/records.bed}" \
-        "second: $folder/second.bed" "records: $((records / 4))" 'bases: 1000' > config.yaml
-    snakemake --snakefile "$tools/Snakefile" --configfile config.yaml --directory workflow --cores "$(nproc)" > said 2>&1 ||
-        fails "snakemake: $(cat said)"
-    bedkeep intersect -g genome -a records.bed -b second.bed -wa -wb > rows
+    printf '%s\n' 'subcommand: intersect' 'options: -wa -wb' "genome: $folder/short_genome" "tracks: {some: $folder/short.bed.gz}" \
+        "second: $folder/short_second.bed.gz" "window: $((4 * records))" > config.yaml
+    (ulimit -n "$(ulimit -H -n)" && snakemake --snakefile "$tools/Snakefile" --configfile config.yaml --directory workflow --cores "$(nproc)") \
+        > said 2>&1 || fails "snakemake: $(cat said)"
+    bedkeep intersect -g short_genome -a short.bed -b short_second.bed -wa -wb > rows
     cmp rows workflow/some.rows || fails 'snakemake: other rows'
 }
 
 small() {
+    local file
     compared=0
     make_small
-    same merge -g genome -i records.bed
-    same merge -g genome -i records.bed -d 7
-    same merge -g genome -i records.bed -s -d 5 -c 4,5 -o distinct,sum
-    same cluster -g genome -i records.bed -d 2
-    same complement -g genome -i records.bed
-    same complement -g genome -i records.bed -L
-    same genomecov -g genome -i records.bed -bg
-    same genomecov -g genome -i records.bed -bga
-    same genomecov -g short_genome -i short.bed -d
-    for option in '' -wa -wb -u -v -c; do
-        # shellcheck disable=SC2086 # no option is no word
-        same intersect -g genome -a records.bed -b second.bed $option
-    done
-    same subtract -g genome -a records.bed -b second.bed
-    same subtract -g genome -a records.bed -b second.bed -A
-    same getfasta -g genome -bed records.bed -fi bases.fa -s
-    same getfasta -g genome -bed records.bed -fi bases.fa -tab
-    same_session
-    same_fault "$((records / 2))" 's/\t[0-9]*/\t5000000000/2'
-    same_fault "$((records / 3))" 's/\t[0-9]*\t[0-9]*/\t10\t10/'
-    same_fault 3 's/[^\t]*$/*/'
-    same_fault "$((records / 5))" 's/^[^\t]*/chr99/'
-    same_fault "$((records / 6))" 's/\t[^\t]*$//'
+    for file in records short second short_second; do index $file.bed; done
+    same_views by_halves genome records.bed second.bed
+    same_views by_bases short_genome short.bed short_second.bed
+    by_bases genomecov -g short_genome -i short.bed -d
+    by_bases cluster -g short_genome -i short.bed -d 2
+    same 1000000000 '' merge -g genome -i records.bed -s -d 5 -c 4,5 -o distinct,sum
+    # shellcheck disable=SC2016 # these are for awk
+    for edit in '$3 = 4000000' '$6 = "*"' '$1 = "chr99"' 'NF = 5'; do same_fault "$edit"; done
     if command -v snakemake > /dev/null; then
         same_workflow
     else
         echo 'snakemake is not installed, so the Snakefile was left out'
     fi
-    [ "$failed" -ne 0 ] || echo "$compared runs of examples/at_scale and a session print what one run prints"
+    [ "$failed" -ne 0 ] || echo "$compared runs of examples/at_scale print what one run prints"
 }
 
 # make_large: files in the order in which all programs print, no two records with one start
@@ -165,37 +193,44 @@ seconds_since() {
     awk -v since="$1" -v now="$(date +%s%N)" 'BEGIN { printf "%.1f", (now - since) / 1e9 }'
 }
 
-# beside NAME "WORDS OF BEDTOOLS" WORD ..: both print the same
+# timed COMMAND ..: runs it, and puts its seconds into a variable
+timed() {
+    local begun
+    begun=$(date +%s%N)
+    "$@" || fails "$*: it fails"
+    seconds=$(seconds_since "$begun")
+}
+
+# beside "WORDS OF BEDTOOLS" WORD ..: both print the same, in one run and by windows
 beside() {
-    local name=$1 words=$2 begun ours theirs verdict=same
-    shift 2
-    begun=$(date +%s%N)
+    local words=$1 theirs one verdict=same
+    shift
     # shellcheck disable=SC2086 # the words are to be separated
-    bedtools $words > rows || fails "$name: bedtools fails"
-    theirs=$(seconds_since "$begun")
-    begun=$(date +%s%N)
-    "$tools/run.sh" work 3000000 1000000 "$@" > joined || fails "$name: by parts it fails"
-    ours=$(seconds_since "$begun")
+    timed bedtools $words > rows
+    theirs=$seconds
+    timed bedkeep "$@" -limit 100000000 > joined
+    one=$seconds
     cmp rows joined || { verdict=other && failed=1; }
-    echo "$name: $verdict rows, $(wc -l < joined) of them, $(stat -c %s joined) bytes; by $(cut -f 1 work/cut/parts | uniq | wc -l) parts $ours s, bedtools $theirs s; cut files $(du -sb work/cut | cut -f 1) bytes"
-    rm -rf rows joined work
+    timed "$tools/windows.py" "${@/%.bed/.bed.gz}" > joined
+    cmp rows joined || { verdict=other && failed=1; }
+    echo "$*: $verdict rows, $(wc -l < joined) of them, $(stat -c %s joined) bytes; one run $one s, by windows $seconds s, bedtools $theirs s"
+    rm -f rows joined
 }
 
 large() {
-    local begun
     command -v bedtools > /dev/null || { fails 'bedtools is not installed' && return; }
-    begun=$(date +%s%N)
-    make_large
-    echo "$(wc -l < records.bed) records, $(stat -c %s records.bed) bytes, $(grep -c -P '^chr1\t' records.bed) on one sequence; made in $(seconds_since "$begun") s"
-    bedkeep merge -g genome -i records.bed > rows 2> said && fails 'one run takes them all'
-    echo "one run says: $(cat said)"
-    beside merge 'merge -i records.bed' merge -g genome -i records.bed
-    beside 'merge -d 5' 'merge -i records.bed -d 5' merge -g genome -i records.bed -d 5
-    beside complement 'complement -i records.bed -g genome' complement -g genome -i records.bed
-    beside 'genomecov -bg' 'genomecov -bg -i records.bed -g genome' genomecov -bg -g genome -i records.bed
-    beside 'intersect' 'intersect -sorted -g genome -a records.bed -b second.bed' intersect -g genome -a records.bed -b second.bed
-    beside 'intersect -c' 'intersect -c -sorted -g genome -a records.bed -b second.bed' intersect -c -g genome -a records.bed -b second.bed
-    beside subtract 'subtract -sorted -g genome -a records.bed -b second.bed' subtract -g genome -a records.bed -b second.bed
+    timed make_large
+    echo "$(wc -l < records.bed) records, $(stat -c %s records.bed) bytes, $(grep -c -P '^chr1\t' records.bed) on one sequence; made in $seconds s"
+    for file in records.bed second.bed; do timed index $file && echo "$file is indexed in $seconds s"; done
+    bedkeep merge -g genome -i records.bed > rows 2> said && fails 'without -limit one run takes them all'
+    echo "without -limit one run says: $(cat said)"
+    beside 'merge -i records.bed' merge -g genome -i records.bed
+    beside 'merge -i records.bed -d 5' merge -g genome -i records.bed -d 5
+    beside 'complement -i records.bed -g genome' complement -g genome -i records.bed
+    beside 'genomecov -bg -i records.bed -g genome' genomecov -bg -g genome -i records.bed
+    beside 'intersect -sorted -g genome -a records.bed -b second.bed' intersect -g genome -a records.bed -b second.bed
+    beside 'intersect -c -sorted -g genome -a records.bed -b second.bed' intersect -c -g genome -a records.bed -b second.bed
+    beside 'subtract -sorted -g genome -a records.bed -b second.bed' subtract -g genome -a records.bed -b second.bed
 }
 
 if $large; then large; else small; fi

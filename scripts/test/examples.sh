@@ -16,7 +16,9 @@ cd "${2:-$(dirname "$0")/../../examples}" || exit 1
 found=$(mktemp -d)
 trap 'rm -rf "$found"' EXIT
 mkdir "$found/path" && ln -s "$program" "$found/path/bedkeep"
-export PATH=$found/path:$PATH
+export PATH=$found/path:$PATH PYTHONDONTWRITEBYTECODE=1
+# The package of the sources, or of a release.
+export PYTHONPATH=$PWD/../python:$PWD/../../../bedkeep/python
 failed=0
 
 fails() {
@@ -66,14 +68,58 @@ in_git() {
         cd "$found/in_git" || exit
         silent_make
         cat corrected.bed
-        ./edited_by_hand.sh corrected.bed edited.bed | tee -a corrections
+        python3 -m bedkeep diff corrected.bed edited.bed | tee -a corrections
         silent_make
-        cmp corrected.bed edited.bed
+        diff corrected.bed edited.bed
         silent_make check
         silent_make check BED=next_release.bed
-        ./replay.sh next_release.bed | uniq -d
+        silent_make review.html
+        grep -q '<svg' review.html && echo 'a page with pictures'
     ) > "$found/in_git.out" 2> "$found/in_git.err"
     wanted in_git 0 $?
+}
+
+# commits LINES: appends lines to the corrections, and commits them
+commits() {
+    printf '%b\n' "$1" >> corrections
+    git commit -qam Corrections
+}
+
+# both BRANCH LINES LINES: a branch of its own gets the first lines, and the main one the others; then they are merged
+both() {
+    git checkout -q -b "$1"
+    commits "$2"
+    git checkout -q main
+    commits "$3"
+    git merge -q --no-edit "$1" > /dev/null
+    echo "merge: status $?"
+}
+
+# two_curators: two branches with corrections are merged, as the README of in_git says
+two_curators() {
+    cp -R in_git "$found/two_curators"
+    (
+        cd "$found/two_curators" || exit
+        unset GIT_DIR GIT_WORK_TREE
+        export GIT_CONFIG_GLOBAL=/dev/null GIT_CONFIG_NOSYSTEM=1 HOME=$found
+        git init -q -b main
+        git config user.name curator
+        git config user.email curator@example.invalid
+        git config core.hooksPath hooks
+        git add .
+        git commit -qm 'The track'
+        both first '# geneD begins later.\nreplace\tchr1\t600\t700\tgeneD\tchr1\t610\t700\tgeneD' \
+            '# geneF is no gene.\nremove\tchr2\t400\t500\tgeneF'
+        silent_make
+        tail -n 4 corrections
+        commits 'remove\tchr2\t51\t150\tgeneE' || echo "no commit: status $?"
+        git checkout -q HEAD corrections
+        both second '# geneB ends later.\nreplace\tchr1\t300\t400\tgeneB\tchr1\t300\t450\tgeneB' \
+            '# geneB ends later.\nreplace\tchr1\t300\t400\tgeneB\tchr1\t300\t460\tgeneB'
+        silent_make
+        [ -e corrected.bed ] || echo 'no corrected.bed'
+    ) > "$found/two_curators.out" 2> "$found/two_curators.err"
+    wanted two_curators 0 $?
 }
 
 # pieces SCRIPT WORD ..: the script prints what one run prints
@@ -115,13 +161,13 @@ by_pieces() {
     pieces by_windows.sh genomecov -g sizes -i a.bed -bg
 }
 
-# round_trip BED EDITS VIEWS WORD ..: `cluster` without its last column is the track. It is written out beside the views, and loaded
-# again it prints the same views.
+# round_trip BED EDITS VIEWS WORD ..: `records` is the track. It is written out beside the views, and loaded again it prints the same
+# views, and itself.
 round_trip() {
     local track=$1 edits=$2 views=$3
     shift 3
-    { printf '%b' "$edits" && printf 'open\tall\tcluster\nprint\tall\n'; } |
-        bedkeep session -i "$track" "$@" | sed 's/\t[0-9]*$//' > "$found/written.bed"
+    { printf '%b' "$edits" && printf 'open\tall\trecords\nprint\tall\n'; } |
+        bedkeep session -i "$track" "$@" > "$found/written.bed"
     { printf '%b' "$edits" && printf 'open\t%s\nprintall\n' "$views"; } | sed 's/|/\nopen\t/g' > "$found/views"
     bedkeep session -i "$track" "$@" < "$found/views" > "$found/edited"
     grep -Ev '^(add|remove|replace|resize)' "$found/views" | bedkeep session -i "$found/written.bed" "$@" > "$found/loaded"
@@ -131,6 +177,11 @@ round_trip() {
 }
 
 in_git
+if command -v git > /dev/null; then
+    two_curators
+else
+    echo 'without git, so two branches are not merged'
+fi
 by_pieces
 views=$'blocks\tmerge -d 9|each\tcluster|free\tcomplement -L|depth\tgenomecov -bga|other\tintersect -wa -wb|left\tsubtract|count\tintersect -c'
 round_trip genes.bed 'add\tchrX\t5\t9\nadd\tchrX\t5\t9\nremove\tchr21\t31659600\t31668900\n' "$views" -g human.genome -b mask.bed

@@ -1,0 +1,63 @@
+#!/usr/bin/env bash
+# Runs examples/workflows with Snakemake and with cwltool, if they are there, and looks at what each made.
+#
+#     scripts/test/workflows.sh build/bedkeep [FOLDER]     FOLDER has the examples, for instance those of an unpacked release
+set -u
+program=$(realpath "$1")
+cd "${2:-$(dirname "$0")/../../examples}" || exit 1
+found=$(mktemp -d)
+trap 'rm -rf "$found"' EXIT
+mkdir "$found/path" && ln -s "$program" "$found/path/bedkeep"
+export PATH=$found/path:$PATH PYTHONDONTWRITEBYTECODE=1 XDG_CACHE_HOME=$found/cache HOME=$found
+export PYTHONPATH=$PWD/../python:$PWD/../../../bedkeep/python
+cp -R workflows in_git "$found"
+cd "$found/workflows" || exit 1
+failed=0
+ran=()
+
+fails() {
+    echo "workflows: $*" >&2
+    failed=1
+}
+
+# holds FILE LINES: looks whether a file has these lines
+holds() {
+    printf '%b' "$2" | cmp -s - "$1" || fails "$1 holds other lines than $2"
+}
+
+# absent FILE ..: looks whether files were not made
+absent() {
+    for file in "$@"; do
+        [ ! -e "$file" ] || fails "$file was made"
+    done
+}
+
+clear='chr1\t100\t250\tgeneA\nchr1\t600\t700\tgeneD\nchr2\t400\t500\tgeneF\n'
+refused='corrections: line 2: no such record: chr1 100 200 geneA'
+
+if command -v snakemake > /dev/null; then
+    ran+=(Snakemake)
+    timeout 100 snakemake --cores 4 --keep-going > said 2>&1 && fails 'Snakemake has no failure'
+    holds clear/genes.bed "$clear"
+    holds logs/genes.refused ''
+    holds logs/next_release.refused "../in_git/$refused\n"
+    absent corrected/next_release.bed clear/next_release.bed
+    for track in genes next_release; do
+        [ -s "review/$track.html" ] || fails "the page of $track was not made: $(cat said)"
+    done
+fi
+
+if command -v cwltool > /dev/null && command -v node nodejs > /dev/null; then
+    ran+=(cwltool)
+    for track in genes next_release; do
+        timeout 100 cwltool --preserve-environment PYTHONPATH --outdir "$track" cwl/correct.cwl "cwl/$track.yaml" > said 2>&1 ||
+            fails "$track: $(cat said)"
+    done
+    holds genes/rows.bed "$clear"
+    holds genes/refused.txt ''
+    grep -q "/$refused\$" next_release/refused.txt || fails 'next_release/refused.txt lacks the refused line'
+    absent next_release/rows.bed
+fi
+
+[ "$failed" -ne 0 ] || echo "examples/workflows: ${ran[*]:-neither Snakemake nor cwltool is there}"
+exit "$failed"
