@@ -18,21 +18,22 @@ INSTALL ?= install
 INSTALL_PROGRAM ?= $(INSTALL) -m 755
 INSTALL_DATA ?= $(INSTALL) -m 644
 # The Python package, which is installed below datadir/bedkeep: PYTHONPATH is then its folder python, or pip installs that.
-PACKAGE = python/pyproject.toml python/bedkeep/py.typed $(sort $(wildcard python/bedkeep/*.py))
+PACKAGE = python/pyproject.toml python/README.md python/bedkeep/py.typed $(sort $(wildcard $(addprefix python/bedkeep/,*.py review/*.py review/*.css review/*.js)))
 # What is installed below docdir, in the folders that it has here, so that links and the steps of the guide work there too.
-DOCUMENTS = README.md CHANGELOG.md LICENSE $(addprefix docs/,GUIDE.md BEDTOOLS.md bedtools-report.md FORMAT.md PROMISES.md BENCHMARKS.md speed.svg) \
-	$(shell find examples -type f ! -path '*/.snakemake/*' ! -name '*.pyc' ! -name corrected.bed | LC_ALL=C sort)
+DOCUMENTS = README.md CHANGELOG.md LICENSE CITATION.cff $(addprefix docs/,GUIDE.md BEDTOOLS.md bedtools-report.md FORMAT.md PROMISES.md BENCHMARKS.md speed.svg review.png) \
+	$(shell find examples -type f ! -path '*/.snakemake/*' ! -name '*.pyc' ! -name corrected.bed ! -name 'review.*' \
+		! \( -path '*/workflows/*/*' ! -name '*.cwl' ! -name '*.yaml' \) | LC_ALL=C sort)
 
 .DEFAULT_GOAL := help
 .PHONY: help try build demo install uninstall dist test wrong-bodies clean
 
 help:
-	@echo 'make try     in a minute, without a proof: the first session of the README, or a run of your own as in make try ARGS="merge -g sizes -i genes.bed"'
+	@echo 'make try     in a minute, without a proof: the first session of the README, or a run of your own as in make try ARGS="merge -g sizes -i genes.bed"; it leaves build/bedkeep-unproved'
 	@echo 'make build   prove and build the program; it is left at $(PROGRAM)'
 	@echo 'make demo    build it, then run the scripts of examples/ over the files beside them'
 	@echo 'make install     put the built program, its man page, its completions and the Python package below PREFIX (/usr/local)'
 	@echo 'make uninstall   take them away again'
-	@echo 'make dist    build it, then leave an archive and a Debian package of a release in build/'
+	@echo 'make dist    build it, then leave an archive, a Debian package and a wheel of a release in build/'
 	@echo 'make test    all proofs from nothing, the mutants of must-fail/, and all tests; about an hour'
 	@echo 'make wrong-bodies   the mutants that make test leaves out, an hour or more'
 	@echo 'make clean   remove all that builds and proofs left behind'
@@ -67,7 +68,7 @@ uninstall:
 	rm -f $(addprefix $(DESTDIR),$(bindir)/bedkeep $(man1dir)/bedkeep.1 $(bashdir)/bedkeep $(zshdir)/_bedkeep)
 	rm -f $(addprefix $(DESTDIR)$(docdir)/,$(DOCUMENTS))
 	rm -f $(addprefix $(DESTDIR)$(datadir)/bedkeep/,$(PACKAGE))
-	rm -rf $(DESTDIR)$(datadir)/bedkeep/python/bedkeep/__pycache__
+	rm -rf $(addprefix $(DESTDIR)$(datadir)/bedkeep/python/bedkeep/,__pycache__ review/__pycache__)
 	find $(DESTDIR)$(docdir) $(DESTDIR)$(datadir)/bedkeep -depth -type d -empty -delete 2> /dev/null || true
 
 # It builds for itself, since a release is linked from the object file of the program.
@@ -81,6 +82,7 @@ test:
 	python3 scripts/test/lint.py --try
 	python3 scripts/test/lint.py
 	python3 scripts/test/words.py
+	python3 scripts/release/address.py --check
 	python3 scripts/prove/reached.py --check
 	python3 scripts/prove/mutants.py --applies
 	RT=$(RT) scripts/prove/check.sh
@@ -92,7 +94,9 @@ test:
 	python3 scripts/test/cuts.py $(PROGRAM)
 	scripts/test/examples.sh $(PROGRAM)
 	scripts/test/at_scale.sh $(PROGRAM)
+	scripts/test/workflows.sh $(PROGRAM)
 	scripts/test/python.sh $(PROGRAM)
+	python3 scripts/test/review_page.py $(PROGRAM)
 	python3 scripts/test/options.py $(PROGRAM)
 	python3 scripts/test/hints.py $(PROGRAM)
 	python3 scripts/test/pages.py $(PROGRAM)

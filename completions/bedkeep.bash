@@ -3,14 +3,15 @@
 # The options of a kind of run.
 _bedkeep_options() {
     case $1 in
-        session) echo '-g -i -b -fi -width' ;;
-        merge) echo '-g -i -d -s -c -o -width' ;;
-        cluster) echo '-g -i -d -width' ;;
-        complement) echo '-g -i -L -width' ;;
-        genomecov) echo '-g -i -bg -bga -d -width' ;;
-        intersect) echo '-g -a -b -wa -wb -u -v -c -width' ;;
-        subtract) echo '-g -a -b -A -width' ;;
-        getfasta) echo '-g -bed -fi -s -tab -width' ;;
+        session) echo '-g -i -b -fi -width -limit' ;;
+        merge) echo '-g -i -d -s -c -o -width -limit' ;;
+        cluster) echo '-g -i -d -width -limit' ;;
+        complement) echo '-g -i -L -width -limit' ;;
+        genomecov) echo '-g -i -bg -bga -d -width -limit' ;;
+        intersect) echo '-g -a -b -wa -wb -u -v -c -width -limit' ;;
+        subtract) echo '-g -a -b -A -width -limit' ;;
+        getfasta) echo '-g -bed -fi -s -tab -width -limit' ;;
+        records) echo '-g -i -width -limit' ;;
     esac
 }
 
@@ -20,7 +21,7 @@ _bedkeep_value() {
         *:-g | *:-i | *:-a | *:-bed | *:-fi | session:-b | intersect:-b | subtract:-b) echo file ;;
         *:-width) echo width ;;
         merge:-o) echo operation ;;
-        merge:-d | merge:-c | cluster:-d) echo other ;;
+        *:-limit | merge:-d | merge:-c | cluster:-d) echo other ;;
     esac
 }
 
@@ -47,7 +48,7 @@ _bedkeep_left() {
 }
 
 _bedkeep() {
-    local kinds='session merge cluster complement genomecov intersect subtract getfasta'
+    local kinds='session merge cluster complement genomecov intersect subtract getfasta records'
     local word=${COMP_WORDS[COMP_CWORD]} before=${COMP_WORDS[COMP_CWORD - 1]} subcommand=${COMP_WORDS[1]}
     local choices=
     COMPREPLY=()

@@ -56,7 +56,7 @@ def in_synopsis(page):
 
 
 def in_files(page):
-    """The options that name files or the width, in their list in the man page."""
+    """The options that each kind of run has beside those of its view, in their list in the man page."""
     part = page.partition(".Ss Options of each run\n")[2].partition("\n.El\n")[0]
     return in_macros(re.findall(r"^\.It (.*)$", part, re.M))
 
@@ -111,7 +111,10 @@ def compare_values(what, wanted, found, is_file, faults):
 
 
 def faults_of(program):
-    usages = in_usages(help_of(program))
+    general = help_of(program)
+    usages = in_usages(general)
+    # All runs take it, and the general help has it in its list alone.
+    everywhere = {option: value for option, value in in_list(general).items() if option == "-limit"}
     page = text_of("man/bedkeep.1")
     synopsis, files, views = in_synopsis(page), in_files(page), in_views(page)
     bash, zsh = in_bash(usages), in_zsh()
@@ -126,7 +129,7 @@ def faults_of(program):
         wanted, usage = in_help(program, kind)
         shared.update((option, value) for option, value in wanted.items() if option in files)
         compare(f"the usage in the help of {kind}", wanted, usage, faults)
-        compare(f"the usage of {kind} in the general help", wanted, usages[kind], faults)
+        compare(f"the usage and the list of {kind} in the general help", wanted, {**usages[kind], **everywhere}, faults)
         compare(f"the synopsis of {kind} in the man page", wanted, synopsis[kind], faults)
         if kind != "session":
             own = {option: value for option, value in wanted.items() if option not in files}

@@ -5,8 +5,8 @@
 
 FOLDER has README.md, GUIDE.md or docs/GUIDE.md, and examples/: the sources, which is the default, or the documents of a
 release that was unpacked. A step is a block of commands, ```sh, and after it what it prints, ```text; a step without that
-prints nothing. The steps of a page run in their order, each by a bash of its own, in a temporary folder that has examples/,
-with the program on the path as bedkeep and the Python package on that of Python. Standard output and standard error go into
+prints nothing. The steps of a page run in their order, each by a bash of its own that has what they exported, in a temporary
+folder that has examples/, with the program on the path and the Python package beside it as they are installed. Standard output and standard error go into
 one pipe, as they would to a terminal. A block of Python is the text of a file of examples/, and a block without a language is
 a picture. Status 1 if anything differs.
 """
@@ -72,13 +72,22 @@ def run_page(name, steps, program, top):
     faults = []
     with tempfile.TemporaryDirectory() as here, tempfile.TemporaryDirectory() as path:
         shutil.copytree(top / "examples", Path(here) / "examples")
-        (Path(path) / "bedkeep").symlink_to(program)
-        packages = f"{top / 'python'}:{top.parent.parent / 'bedkeep' / 'python'}"  # of the sources, or of a release
-        environment = {**os.environ, "PATH": f"{path}:{os.environ['PATH']}",
-                       "PYTHONPATH": packages, "PYTHONDONTWRITEBYTECODE": "1"}
+        install(Path(path), program, top)
+        environment = {**os.environ, "PATH": f"{path}/bin:{os.environ['PATH']}", "PYTHONDONTWRITEBYTECODE": "1"}
+        environment.pop("PYTHONPATH", None)
+        exported = ""
         for line, commands, shown in steps:
-            faults += differences(f"{name}, the step at line {line}:", shown, run(commands, here, environment))
+            faults += differences(f"{name}, the step at line {line}:", shown, run(exported + commands, here, environment))
+            exported += "".join(re.findall("^export .*\n", commands, re.M))
     return faults
+
+
+def install(folder, program, top):
+    """Links to the program and to the Python package, of the sources or of a release, where `make install` puts them."""
+    sources = top / "python"
+    for place, target in ("bin/bedkeep", program), ("share/bedkeep/python", sources if sources.is_dir() else top.parent.parent / "bedkeep/python"):
+        (folder / place).parent.mkdir(parents=True)
+        (folder / place).symlink_to(target)
 
 
 def run(commands, folder, environment):
