@@ -14,23 +14,24 @@ import subprocess
 import weakref
 from typing import IO, Callable, NamedTuple, NoReturn, Optional, Sequence
 
-from .errors import Ended, ended
+from .errors import HINT, Ended, ended
 from .interrupts import Interrupts
-from .program import decoded, encoded
+from .program import decoded, encoded, environment
 from .rows import Lines
 
 Take = Callable[[bytes], object]
 MARK = "?\n"
 PIECE = 1 << 16
 SECONDS = 5
-MESSAGE = re.compile(r"^line (\d+): (.*)\n", re.MULTILINE)
+MESSAGE = re.compile(r"line (\d+): (.*)", re.DOTALL)
 
 
 class Answer(NamedTuple):
-    """How many of the lines were sent, and why some of these were refused, by their number from 1."""
+    """How many of the lines were sent, and why some of these were refused, by their number from 1, with hints on some of them."""
 
     sent: int
     refused: dict[int, str]
+    hints: dict[int, list[str]]
 
 
 class Exchange:
@@ -39,11 +40,13 @@ class Exchange:
     def __init__(self, text: str, take: Take, before: int) -> None:
         self.count: Optional[int] = None  # of lines before the mark, once all is written
         self.refused: dict[int, str] = {}
+        self.hints: dict[int, list[str]] = {}
         self.messages = ""
         self.failure: Optional[Exception] = None
         self._take = take
         self._before = before
         self._heard = Lines()
+        self._last = 0  # the line that was refused last
         self._text = encoded(text + MARK)
         self._written = 0
 
@@ -72,15 +75,21 @@ class Exchange:
     def hear(self, piece: bytes) -> None:
         """Reads what came from standard error."""
         lines = decoded(self._heard.whole(piece))
-        self.refused.update((int(number) - self._before, reason) for number, reason in MESSAGE.findall(lines))
-        self.messages = lines or self.messages
+        for line in lines.split("\n")[:-1]:
+            message = MESSAGE.fullmatch(line)
+            if message:
+                self._last = int(message[1]) - self._before
+                self.refused[self._last] = message[2]
+            elif line.startswith(HINT):
+                self.hints.setdefault(self._last, []).append(line[len(HINT):])
+        self.messages = (self.messages + lines)[-PIECE:]
 
     def answer(self) -> Optional[Answer]:
         """The answer, once all is written and the message of the mark is here."""
         if self.count is None or self.count + 1 not in self.refused:
             return None
         del self.refused[self.count + 1]
-        return Answer(self.count, self.refused)
+        return Answer(self.count, self.refused, self.hints)
 
 
 def _end(process: subprocess.Popen[bytes], pipes: Sequence[IO[bytes]], owner: int) -> None:
@@ -97,7 +106,7 @@ class Conversation:
 
     def __init__(self, words: Sequence[str], descriptors: Sequence[int] = ()) -> None:
         # A process group of its own gets no interrupt from the terminal.
-        self._process = subprocess.Popen(words, bufsize=0, start_new_session=True, pass_fds=descriptors,
+        self._process = subprocess.Popen(words, env=environment(), bufsize=0, start_new_session=True, pass_fds=descriptors,
                                          stdin=subprocess.PIPE, stdout=subprocess.PIPE, stderr=subprocess.PIPE)
         assert self._process.stdin and self._process.stdout and self._process.stderr
         self._pipes = [self._process.stdin, self._process.stdout, self._process.stderr]

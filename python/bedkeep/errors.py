@@ -18,14 +18,16 @@ class Refused(Error):
     reason: why, as the program says it, such as `no such record`
     number: the line's number in the script that was handed to `edit`, from 1; 1 for a call that sends one line
     line:   the line as it was sent, its fields separated by TABs
+    hint:   what the program says of it besides, line by line; of the first three refused lines of a kind
     others: what was refused after it, if `edit` raised it
     """
 
-    def __init__(self, reason: str, number: int, line: str) -> None:
+    def __init__(self, reason: str, number: int, line: str, hint: tuple[str, ...] = ()) -> None:
         super().__init__(reason, number, line)
         self.reason = reason
         self.number = number
         self.line = line
+        self.hint = hint
         self.others: list[Refused] = []
 
     def __str__(self) -> str:
@@ -38,19 +40,24 @@ class Ended(Error):
 
     status:  its exit status, or a signal's number below 0 if a signal ended it
     message: the line that it wrote of that, without `bedkeep: `
+    hint:    the lines after it, on what is wrong and what to do
     """
 
-    def __init__(self, status: int, message: str) -> None:
+    def __init__(self, status: int, message: str, hint: tuple[str, ...] = ()) -> None:
         super().__init__(status, message)
         self.status = status
         self.message = message
+        self.hint = hint
 
     def __str__(self) -> str:
         return f"{self.message} (status {self.status})"
 
 
 class BadOptions(Ended):
-    """Status 2: an option, a value or a column that the subcommand doesn't take."""
+    """Status 2: an option, a value or a column that the subcommand doesn't take. Its text has the first line of the hint."""
+
+    def __str__(self) -> str:
+        return ": ".join([super().__str__(), *self.hint[:1]])
 
 
 class Damaged(Ended):
@@ -61,8 +68,8 @@ class Damaged(Ended):
     reason: why, as the program says it
     """
 
-    def __init__(self, status: int, message: str) -> None:
-        super().__init__(status, message)
+    def __init__(self, status: int, message: str, hint: tuple[str, ...] = ()) -> None:
+        super().__init__(status, message, hint)
         parts = re.fullmatch(r"(.*): line (\d+): (.*)", message, re.DOTALL)
         self.file, line, self.reason = parts.groups() if parts else ("", "0", message)
         self.line = int(line)
@@ -76,13 +83,18 @@ class NoMemory(Ended):
     """Status 5: memory ran out."""
 
 
+HINT = "  "  # how the lines of a hint begin
 BY_STATUS = {2: BadOptions, 3: Damaged, 4: InputOutput, 5: NoMemory}
 
 
 def ended(status: int, messages: str) -> Ended:
     """The exception for an exit status and all that was written to standard error."""
-    last = messages.rstrip("\n").rpartition("\n")[2]
+    lines = messages.split("\n")
+    while lines and (not lines[-1] or lines[-1].startswith(HINT)):
+        lines.pop()
+    last = lines[-1] if lines else ""
     message = last[len("bedkeep: "):] if last.startswith("bedkeep: ") else ""
     if not message:
         message = f"ended by signal {-status}" if status < 0 else "ended without a message"
-    return BY_STATUS.get(status, Ended)(status, message)
+    hint = [line[len(HINT):] for line in messages.split("\n")[len(lines):] if line]
+    return BY_STATUS.get(status, Ended)(status, message, tuple(hint))

@@ -24,6 +24,11 @@ def find(program: Optional[Path]) -> str:
     return path
 
 
+def environment() -> dict[str, str]:
+    """The environment of the program: it says what is wrong and what to do, after each message."""
+    return {**os.environ, "BEDKEEP_HINTS": "always"}
+
+
 def decoded(text: bytes) -> str:
     """The text of bytes in any encoding; `encoded` gives the same bytes again."""
     return text.decode("utf-8", "surrogateescape")

@@ -13,7 +13,7 @@ import subprocess
 from typing import Any, Generator, Iterator, Optional, Sequence, Union
 
 from .errors import Ended, ended
-from .program import Path, decoded, find
+from .program import Path, decoded, environment, find
 from .rows import Lines, Reader, Row, count_of, fields_of, width_of
 from .sources import Genome, Sources, Track
 from .tables import frame_of_rows, frame_of_text
@@ -156,10 +156,11 @@ def _run(words: list[str], genome: Genome, files: Sequence[tuple[str, Track]], w
 def _lines(command: Sequence[str], sources: Sources) -> Generator[bytes, None, None]:
     """What the program prints, in whole lines. The first piece is empty: it says that the run has begun."""
     lines = Lines()
-    with subprocess.Popen(command, pass_fds=sources.descriptors, stdout=subprocess.PIPE, stderr=subprocess.PIPE) as process:
+    with subprocess.Popen(command, env=environment(), pass_fds=sources.descriptors,
+                          stdout=subprocess.PIPE, stderr=subprocess.PIPE) as process:
         assert process.stdout and process.stderr
         try:
-            # Standard error gets one line at most, which its pipe has room for.
+            # Standard error gets a few lines at most, which its pipe has room for.
             piece = os.read(process.stdout.fileno(), PIECE)
             if piece:
                 yield b""

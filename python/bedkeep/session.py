@@ -313,13 +313,13 @@ class Session:
     def _send(self, text: str, take: Take = len, done: Callable[[str], object] = len) -> list[Refused]:
         """Sends lines; `take` gets what they print, and `done` those that were accepted."""
         with Interrupts(self._talk.kill) as interrupts:
-            sent, refused = self._talk.ask(self._wide.sent(text) if self._wide else text, take, interrupts)
+            sent, refused, hints = self._talk.ask(self._wide.sent(text) if self._wide else text, take, interrupts)
             lines = text.split("\n") if refused or interrupts.came else []
             if lines:
                 text = "".join(f"{line}\n" for number, line in enumerate(lines[:sent], 1) if number not in refused)
             if text:
                 done(text)
-        return [Refused(reason, number, lines[number - 1]) for number, reason in refused.items()]
+        return [Refused(reason, number, lines[number - 1], tuple(hints.get(number, ()))) for number, reason in refused.items()]
 
     def _find_width(self, command: str) -> int:
         """Asks for the number of columns of a record, by records of empty columns: only one of them has the right number."""
@@ -339,7 +339,7 @@ class Session:
             self.open(name, words)
         except Refused as refused:
             if refused.reason != "too many views" or not mine:
-                raise Refused(refused.reason, 1, words) from None
+                raise Refused(refused.reason, 1, words, refused.hint) from None
             self.close(mine[0])
             self.open(name, words)
         return name

@@ -61,7 +61,9 @@ class Sources:
     def renamed(self, failure: Ended) -> Ended:
         """The failure, about a text in memory by its name."""
         path, separator, rest = failure.message.partition(": ")
-        return type(failure)(failure.status, self._names[path] + separator + rest) if path in self._names else failure
+        if path not in self._names:
+            return failure
+        return type(failure)(failure.status, self._names[path] + separator + rest, failure.hint)
 
     def free(self) -> None:
         """Frees the memory of texts that were read."""

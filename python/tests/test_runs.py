@@ -129,7 +129,7 @@ class Failures(Case):
                     run()
                 self.assertEqual((type(caught.exception), caught.exception.status, caught.exception.message),
                                  (error, status, message))
-                self.assertEqual(str(caught.exception), f"{message} (status {status})")
+                self.assertTrue(str(caught.exception).startswith(f"{message} (status {status})"))
         with self.assertRaises(bedkeep.NotFound):
             bedkeep.merge(self.sizes, self.genes, program="absent")
 
@@ -137,6 +137,11 @@ class Failures(Case):
         rows = bedkeep.merge(self.sizes, self.genes, program=self.script("fails", "printf 'chr1\\t1\\t2\\n'\nexit 77"))
         with self.assertRaisesRegex(bedkeep.Ended, "ended without a message"):
             list(rows)
+
+    def test_bad_options_name_what_is_wrong(self):
+        with self.assertRaises(bedkeep.BadOptions) as caught:
+            bedkeep.merge(self.sizes, self.genes, c=4, o="mean")
+        self.assertRegex(str(caught.exception), r"^bad options \(status 2\): .*mean")
 
     def test_what_a_damaged_file_says(self):
         with self.assertRaises(bedkeep.Damaged) as caught:

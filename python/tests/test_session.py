@@ -49,6 +49,15 @@ class Edits(Case):
         with self.session() as session, self.refused("no second file"):
             session.add_second("chr1", 0, 110)
 
+    def test_a_refused_line_has_a_hint(self):
+        with self.session() as session:
+            refused = session.edit("remove\tchr1\t100\t201\tgeneA\nadd\tchr1\t1\t2\n")
+            self.assertRegex(" ".join(refused[0].hint), "geneA.*replay")
+            self.assertRegex(" ".join(refused[1].hint), "3 columns.*4")
+            with self.assertRaises(bedkeep.Refused) as caught:
+                session.view("mrege")
+            self.assertRegex(caught.exception.hint[0], "merge")
+
     def test_a_refused_edit_changes_nothing(self):
         with self.session() as session:
             before = session.records()

@@ -25,6 +25,7 @@ import multiprocessing
 import os
 import platform
 import random
+import shlex
 import shutil
 import statistics
 import subprocess
@@ -35,7 +36,7 @@ import time
 TOP = os.path.dirname(os.path.dirname(os.path.dirname(os.path.abspath(__file__))))
 SEED = 20
 VIEWS = ["merge", "merge -d 100", "complement", "cluster", "merge -c 4 -o collapse", "merge -c 5 -o sum", "merge -c 1,2 -o count,max", "genomecov -bg", "genomecov -bga", "genomecov -d",
-         "intersect", "intersect -u", "intersect -v", "intersect -c", "intersect -wa", "intersect -wb", "intersect -wa -wb", "subtract", "subtract -A"]
+         "intersect", "intersect -u", "intersect -v", "intersect -c", "intersect -wa", "intersect -wb", "intersect -wa -wb", "subtract", "subtract -A", "records"]
 TWO_FILES = ("intersect", "subtract")
 CHROMOSOMES = [
     ("chr1", 249250621), ("chr2", 243199373), ("chr3", 198022430), ("chr4", 191154276),
@@ -79,7 +80,7 @@ def run_case(wanted, folder, view, records, columns, order):
         "bedkeep": bedkeep_run(wanted, view, genome, track, beside, script),
         "bedtools": (["sh", "-c", bedtools_line(view, genome, track, second, order)], os.devnull),
     }
-    compare(programs)
+    compare(settled(programs) if view == "records" else programs)
     report(view, records, columns, order, *measure(programs, wanted.runs))
 
 
@@ -100,6 +101,8 @@ def bedkeep_run(wanted, view, genome, track, beside, script):
 
 def bedtools_line(view, genome, track, second, order):
     """The command of bedtools for a view of a track."""
+    if view == "records":
+        return f"bedtools sort -g {genome} -i {track}"
     sort, track = ("", track) if order == "sorted" else (f"bedtools sort -i {track} | ", "-")
     if view.startswith(TWO_FILES):
         return f"{sort}bedtools {view} -sorted -a {track} -b {second}"
@@ -171,6 +174,11 @@ def compare(programs):
     found = {name: digest_of(*program) for name, program in programs.items()}
     if found["bedkeep"] != found["bedtools"]:
         sys.exit(f"the outputs differ (digest, bytes): {found}")
+
+
+def settled(programs):
+    """The programs with their lines sorted, since `bedtools sort` leaves records of one start in any order."""
+    return {name: (["sh", "-c", f"{shlex.join(words)} | LC_ALL=C sort"], given) for name, (words, given) in programs.items()}
 
 
 def digest_of(words, given):
