@@ -151,8 +151,9 @@ def whole(path: Path) -> Iterator[BinaryIO]:
         return
     target = os.path.realpath(path)
     folder = os.path.dirname(target)
-    if not os.path.isdir(folder):
-        raise FileNotFoundError(errno.ENOENT, "no such folder", folder)
+    astray = os.path.exists(target) and not os.path.exists(path)  # absent/../file, which realpath alone finds
+    if astray or not os.path.isdir(folder):
+        raise FileNotFoundError(errno.ENOENT, "no such folder", os.path.dirname(path) if astray else folder)
     beside = os.path.join(folder, f".bedkeep-{os.getpid()}")
     with open(beside, "xb") as file:
         try:

@@ -97,6 +97,11 @@ class Curate(Case):
                          ["done", asked, "saved", "saved", "written"])
         self.assertEqual(kept.read_text(), "add\tchr1\t1\t2\tx\n")
 
+    def test_no_path_through_a_missing_folder_is_written(self):
+        before, missing = self.genes.read_bytes(), self.folder / "missing"
+        said = self.typed(f"save {missing}/../{self.genes.name}", f"script {missing}/../{self.genes.name}")
+        self.assertEqual((said, self.genes.read_bytes()), ([f"{missing}/..: no such folder"] * 2, before))
+
     def test_many_rows_are_cut(self):
         said = self.typed(*(f"add chr1 {2 * number} {2 * number + 1} x" for number in range(50)), "cluster")
         self.assertEqual(said[50 + 40:], [".. and 12 more rows"])

@@ -102,6 +102,15 @@ class Apply(Case):
             self.assertEqual((outcome.status, name.read_bytes()), (2, before))
             self.assertIn("an input is never written over", outcome.err)
 
+    def test_no_path_through_a_missing_folder_is_written(self):
+        before, link = self.genes.read_bytes(), self.folder / "link"
+        astray = self.folder / "missing" / ".." / self.genes.name
+        link.symlink_to(astray)
+        for name in astray, link:
+            outcome = Outcome("apply", self.sizes, self.genes, self.file("corrections", "add\tchr1\t1\t2\n"), "-o", name)
+            self.assertEqual((outcome.status, self.genes.read_bytes()), (2, before))
+            self.assertIn("no such folder", outcome.err)
+
     def test_nothing_is_written_unless_all_is(self):
         self.corrected.write_text("as before\n")
         damaged = self.file("damaged.bed", "chr1\t1\t2\nchr1\t2\t1\n")
