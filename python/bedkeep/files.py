@@ -168,8 +168,13 @@ def whole(path: Path) -> Iterator[BinaryIO]:
             raise
 
 
+def same_file(one: Path, other: Path) -> bool:
+    """Whether a file is there under both names."""
+    return os.path.exists(one) and os.path.exists(other) and os.path.samefile(one, other)
+
+
 def refuse_inputs(output: Path, inputs: list[str]) -> None:
     """Raises an Error if the output is one of the inputs."""
     for path in inputs:
-        if path != "-" and os.path.exists(path) and os.path.exists(output) and os.path.samefile(path, output):
+        if path != "-" and same_file(path, output):
             raise Error(f"{path}: an input is never written over")

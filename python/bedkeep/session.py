@@ -10,7 +10,7 @@ from typing import Any, Callable, Iterable, Iterator, Optional, Sequence, Union
 
 from .conversation import Conversation, Take
 from .errors import Ended, Refused
-from .files import whole
+from .files import same_file, whole
 from .interrupts import Interrupts
 from .lookup import Lookup, Record
 from .program import Path, find
@@ -281,8 +281,7 @@ class Session:
 
     def reads(self, path: Path) -> bool:
         """Whether the session reads this file, under any of its names."""
-        files = (file for file in self._files.values() if os.path.exists(file) and os.path.exists(path))
-        return any(os.path.samefile(file, path) for file in files)
+        return any(same_file(file, path) for file in self._files.values())
 
     # What the calls above are made of
 
