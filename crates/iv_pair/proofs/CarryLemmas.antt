@@ -10,11 +10,12 @@ use Rattle.iv_text.proofs.InOrderLemmas.{in_order-filter}
 use Rattle.iv_track.specs.Tracked.{is_from}
 use Rattle.iv_text.specs.CoveredPositions.{covers}
 use Rattle.iv_text.proofs.ListLemmas.{all-mem, filter-all}
-use Rattle.iv_pair.specs.Hits.{overlaps, hits}
+use Rattle.iv_track.specs.Regions.{overlaps, hits}
 use Rattle.iv_pair.specs.Inside.Lengths.{AreUpTo}
 use Rattle.iv_pair.specs.Inside.HitFinder.{held, keeps, IsOnward, HitAlike, AllCover, AllBegun, IsPlaced}
-use Rattle.iv_pair.proofs.HitsLemmas.{overlaps_parts, overlaps_from, covers_parts, covers_from, length-filter_le}
-use Rattle.iv_pair.proofs.PlaceLemmas.{pair_le, filter-implied}
+use Rattle.iv_track.proofs.RegionLemmas.{overlaps_parts, overlaps_from}
+use Rattle.iv_pair.proofs.HitsLemmas.{covers_parts, covers_from, length-filter_le}
+use Rattle.iv_track.proofs.PlaceLemmas.{pair_le, filter-implied}
 
 -- ---- slots
 

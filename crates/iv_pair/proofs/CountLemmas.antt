@@ -17,7 +17,8 @@ use Rattle.iv_text.specs.RecordValue.{RecordValue, record_cmp}
 use Rattle.iv_index.specs.Inside.Locators.{HasBase, span_in, span_of}
 use Rattle.iv_index.specs.declared.locator.Locator.{Locator}
 use Rattle.iv_index.specs.declared.span.Span.{Span}
-use Rattle.iv_pair.specs.Hits.{overlaps, hits_of}
+use Rattle.iv_track.specs.Regions.{overlaps}
+use Rattle.iv_pair.specs.Hits.{hits_of}
 use Rattle.iv_pair.specs.Inside.Counts.{is_before, is_up_to, begins_before, ends_by, place_before, end_by, end_of, AreEndsOf, AreStartsOf, EndsAscend}
 use Rattle.iv_pair.specs.Inside.PairSweeps.{Precedes}
 use Rattle.iv_pair.specs.declared.count_sweep.End.{End}

@@ -11,7 +11,8 @@ use Rattle.iv_cover.specs.Runs.{Run}
 use Rattle.iv_cover.proofs.DepthLemmas.{depth-cons}
 use Rattle.iv_text.proofs.ListLemmas.{all-mem, any-found, any-at}
 use Rattle.iv_index.specs.Cover.{is_covered}
-use Rattle.iv_pair.specs.Hits.{overlaps, hits_of}
+use Rattle.iv_track.specs.Regions.{overlaps}
+use Rattle.iv_pair.specs.Hits.{hits_of}
 use Rattle.iv_pair.specs.IntersectRows.{record_line, any_line, none_line}
 use Rattle.iv_pair.specs.PairRows.{pair_rows}
 use Rattle.iv_pair.specs.SubtractRows.{uncovered_rows}

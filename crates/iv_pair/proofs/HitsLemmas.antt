@@ -1,5 +1,5 @@
 -- Where the records are that share a position with an interval.
-use Rattle.std.proofs.Common.{◌≡◌, ℕ, ◌+◌, ◌-◌, ◌<◌, ◌≤◌, ◌↔◌, inl, inr, Bool, true, false, cond, List, [], ◌∷◌, max, refl, sym, ap, ◌∙◌, subst, arith, length, eq-eqb}
+use Rattle.std.proofs.Common.{◌≡◌, ℕ, ◌+◌, ◌-◌, ◌<◌, ◌≤◌, ◌↔◌, Bool, true, false, cond, List, [], ◌∷◌, max, refl, sym, ap, ◌∙◌, subst, arith, length, eq-eqb}
 use Rattle.std.specs.Prelude.{filter}
 use Rattle.std.proofs.lemmas.Bool.{and_parts, lt-ltb, ltb-true, le-leb, leb-true}
 use Rattle.std.proofs.lemmas.List.Sums.{length-filter, count_by-le-length}
@@ -8,20 +8,13 @@ use Rattle.iv_text.specs.Ordered.{AreInOrder}
 use Rattle.iv_text.specs.RecordValue.{RecordValue}
 use Rattle.iv_track.specs.Tracked.{is_from}
 use Rattle.iv_text.specs.CoveredPositions.{covers}
-use Rattle.iv_text.proofs.ListLemmas.{Mem, all-mem}
-use Rattle.iv_pair.specs.Hits.{overlaps, hits, hits_of}
+use Rattle.iv_text.proofs.ListLemmas.{all-mem}
+use Rattle.iv_track.specs.Regions.{overlaps, hits}
+use Rattle.iv_pair.specs.Hits.{hits_of}
 use Rattle.iv_pair.specs.Inside.Lengths.{AreUpTo}
 use Rattle.iv_pair.specs.Inside.HitLines.{AllOverlap}
-use Rattle.iv_pair.proofs.PlaceLemmas.{le_pair, pair_le, filter-implied, from_all, from_whole}
-
-pub overlaps_parts : (seq start stop : ℕ) (q : RecordValue) → overlaps seq start stop q ≡ true → (q.seq ≡ seq) × (q.start < stop) × (start < q.stop)
-overlaps_parts seq start stop q h =
-    let a = and_parts _ _ h in
-    let b = and_parts _ _ a.1 in
-    (exact_unsigned_eq q.seq seq a.0, ltb-true q.start stop b.0, ltb-true start q.stop b.1)
-
-pub overlaps_from : (seq start stop : ℕ) (q : RecordValue) → q.seq ≡ seq → q.start < stop → start < q.stop → overlaps seq start stop q ≡ true
-overlaps_from seq start stop q on low high = rw (eq-eqb q.seq seq on, lt-ltb q.start stop low, lt-ltb start q.stop high) refl
+use Rattle.iv_track.proofs.PlaceLemmas.{pair_le, filter-implied, from_whole}
+use Rattle.iv_track.proofs.RegionLemmas.{overlaps_parts, overlaps_from}
 
 pub covers_parts : (seq p : ℕ) (q : RecordValue) → covers seq p q ≡ true → (q.seq ≡ seq) × (q.start ≤ p) × (p < q.stop)
 covers_parts seq p q h =
@@ -77,36 +70,6 @@ pub near-next : (seq from : ℕ) (near rest rows : List RecordValue) (r : Record
     → filter (is_from seq from) near ≡ filter (is_from seq from) rows → filter (is_from seq from) rest ≡ filter (is_from seq from) rows
 near-next seq from near rest rows r first not same =
     sym (ap (filter (is_from seq from)) first ∙ ap (λ b. cond b (r ∷ filter (is_from seq from) rest) (filter (is_from seq from) rest)) not) ∙ same
-
--- ---- hit by hit
-
-from_apart : (seq start stop : ℕ) (q : RecordValue) → is_from seq stop q ≡ true → overlaps seq start stop q ≡ false
-from_apart seq start stop q h = go (overlaps seq start stop q) refl
-  where
-    go : (b : Bool) → overlaps seq start stop q ≡ b → b ≡ false
-    go false e = refl
-    go true e =
-        let parts = overlaps_parts seq start stop q e in
-        let same : seq ≡ q.seq = sym parts.0 in
-        let up : stop ≤ q.start = (le_pair seq q.seq stop q.start h).1 same in
-        let low : q.start < stop = parts.1 in
-        absurd (omega arith)
-
-none_from : (seq start stop : ℕ) (rows : List RecordValue) → ((q : RecordValue) → Mem q rows → is_from seq stop q ≡ true) → hits rows seq start stop ≡ []
-none_from seq start stop [] all = refl
-none_from seq start stop (q ∷ rows) all =
-    ap (λ b. cond b (q ∷ hits rows seq start stop) (hits rows seq start stop)) (from_apart seq start stop q (all q (inl refl)))
-    ∙ none_from seq start stop rows (λ r m. all r (inr m))
-
--- from a record on that begins at the stop or after it there are none
-pub hits_beyond : (seq start stop : ℕ) (r : RecordValue) (rows : List RecordValue) → AreInOrder (r ∷ rows) → is_from seq stop r ≡ true → hits rows seq start stop ≡ []
-hits_beyond seq start stop r rows o h = none_from seq start stop rows (λ q m. from_all seq stop r rows o h q (inr m))
-
-pub hit_first : (rows rest : List RecordValue) (r : RecordValue) (seq start stop : ℕ) → rows ≡ r ∷ rest → overlaps seq start stop r ≡ true → hits rows seq start stop ≡ r ∷ hits rest seq start stop
-hit_first rows rest r seq start stop e is = ap (λ xs. hits xs seq start stop) e ∙ ap (λ b. cond b (r ∷ hits rest seq start stop) (hits rest seq start stop)) is
-
-pub hit_not : (rows rest : List RecordValue) (r : RecordValue) (seq start stop : ℕ) → rows ≡ r ∷ rest → overlaps seq start stop r ≡ false → hits rows seq start stop ≡ hits rest seq start stop
-hit_not rows rest r seq start stop e is = ap (λ xs. hits xs seq start stop) e ∙ ap (λ b. cond b (r ∷ hits rest seq start stop) (hits rest seq start stop)) is
 
 -- each hit of a record shares a position with it
 pub hits-overlap : (rows : List RecordValue) (a : RecordValue) → AllOverlap a (hits_of rows a)

@@ -24,26 +24,18 @@ use Rattle.iv_text.proofs.OrderedLemmas.{copies-added, length-all_added}
 use Rattle.iv_track.specs.Copies.{removed_by, expanded}
 use Rattle.iv_track.specs.Entries.{IsLedger, value_at, last_until, pair_cmp}
 use Rattle.iv_track.specs.Tracked.{Tracked, removed}
-use Rattle.iv_track.proofs.Counts.{copies-expanded, copies-removed, expanded-insert, expanded-remove_entry, expanded-set_value}
+use Rattle.iv_track.proofs.Counts.{count-added, copies-expanded, copies-removed, expanded-insert, expanded-remove_entry, expanded-set_value}
 use Rattle.iv_track.proofs.Edits.{added-removed}
 use Rattle.iv_pair.specs.Inside.Lengths.{length_of, with_length, IsTally, AreLengths, IsSecond, AreUpTo}
 use Rattle.iv_track.proofs.NumberOrder.{pair_total, pair_exact}
-use Rattle.iv_pair.proofs.PlaceLemmas.{le_pair, ge_pair, pair_ge}
+use Rattle.iv_track.proofs.PlaceLemmas.{le_pair, ge_pair, pair_ge}
 
--- ---- how many pass a test, with one more in order
+-- ---- how many pass a test
 
 module _ {K : Type 0} (cmp : K → K → Ordering) (p : K → Bool) where
-  count_step : (b : Bool) (x q : K) (xs ys : List K) → count_by p ys ≡ cond (p x) 1 0 + count_by p xs → count_by p (cond b (x ∷ q ∷ xs) (q ∷ ys)) ≡ cond (p x) 1 0 + count_by p (q ∷ xs)
-  count_step true x q xs ys h = sum_by-cons (λ k. cond (p k) 1 0) x (q ∷ xs)
-  count_step false x q xs ys h = omega (arith, sum_by-cons (λ k. cond (p k) 1 0) q ys, sum_by-cons (λ k. cond (p k) 1 0) q xs, h)
-
-  count-added : (xs : List K) (x : K) → count_by p (added_by cmp xs x) ≡ cond (p x) 1 0 + count_by p xs
-  count-added [] x = sum_by-cons (λ k. cond (p k) 1 0) x []
-  count-added (q ∷ xs) x = count_step (is_le (cmp x q)) x q xs (added_by cmp xs x) (count-added xs x)
-
   pub count-all_added : (xs start : List K) → count_by p (fold (added_by cmp) start xs) ≡ count_by p start + count_by p xs
   count-all_added [] start = omega arith
-  count-all_added (x ∷ xs) start = omega (arith, count-all_added xs (added_by cmp start x), count-added start x, sum_by-cons (λ k. cond (p k) 1 0) x xs)
+  count-all_added (x ∷ xs) start = omega (arith, count-all_added xs (added_by cmp start x), count-added cmp p start x, sum_by-cons (λ k. cond (p k) 1 0) x xs)
 
 -- ---- one more length in the map
 

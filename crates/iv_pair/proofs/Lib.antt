@@ -1,4 +1,3 @@
-pub mod PlaceLemmas
 pub mod LengthLemmas
 pub mod HitsLemmas
 pub mod UncoveredLemmas

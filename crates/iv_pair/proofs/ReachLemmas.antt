@@ -4,8 +4,8 @@ use Rattle.std.specs.Ordering.{is_le}
 use Rattle.std.proofs.lemmas.Bool.{and_parts, and_from, and_cases, or_parts, ltb-true, ltb-false, eqb-true, eqb-false, lt-ltb, false_from_ne_true}
 use Rattle.iv_text.specs.RecordValue.{RecordValue, record_cmp}
 use Rattle.iv_text.proofs.PrecedesLemmas.{precedes-from}
-use Rattle.iv_pair.specs.Hits.{overlaps}
-use Rattle.iv_pair.proofs.HitsLemmas.{overlaps_parts, overlaps_from}
+use Rattle.iv_track.specs.Regions.{overlaps}
+use Rattle.iv_track.proofs.RegionLemmas.{overlaps_parts, overlaps_from}
 use Rattle.iv_pair.specs.Inside.PairSweeps.{reaches, is_past, Precedes, Covers}
 
 -- of two records in order the first begins no later

@@ -6,8 +6,9 @@ use Rattle.std.proofs.lemmas.List.Elements.{All-from_recursion, All-weaker, All-
 use Rattle.iv_text.specs.RecordValue.{RecordValue, record_cmp}
 use Rattle.iv_text.specs.Ordered.{AreInOrder}
 use Rattle.iv_text.proofs.ListLemmas.{all-mem, filter-all}
-use Rattle.iv_pair.specs.Hits.{overlaps, hits_of}
-use Rattle.iv_pair.proofs.PlaceLemmas.{filter-implied}
+use Rattle.iv_track.specs.Regions.{overlaps}
+use Rattle.iv_pair.specs.Hits.{hits_of}
+use Rattle.iv_track.proofs.PlaceLemmas.{filter-implied}
 use Rattle.iv_pair.specs.Inside.PairSweeps.{reaches, Precedes, Covers, HitAlike}
 use Rattle.iv_pair.proofs.ReachLemmas.{precedes, precedes-trans, precedes-itself, covers, covers-precedes, covers-hit, hit-reaches, hit-not}
 

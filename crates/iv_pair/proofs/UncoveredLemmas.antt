@@ -15,8 +15,9 @@ use Rattle.iv_cover.specs.Runs.{Run, empty_runs}
 use Rattle.iv_cover.proofs.DepthLemmas.{depth-cons}
 use Rattle.iv_cover.proofs.EmptyLemmas.{empty_runs-none, empty_runs-skip, empty_runs-run}
 use Rattle.iv_text.proofs.PrecedesLemmas.{precedes-from}
-use Rattle.iv_pair.specs.Hits.{overlaps, hits}
-use Rattle.iv_pair.proofs.HitsLemmas.{overlaps_parts, overlaps_from, covers_parts, covers_from}
+use Rattle.iv_track.specs.Regions.{overlaps, hits}
+use Rattle.iv_track.proofs.RegionLemmas.{overlaps_parts, overlaps_from}
+use Rattle.iv_pair.proofs.HitsLemmas.{covers_parts, covers_from}
 
 -- the run of value 0 from one position to another, if it has a position
 gap : ℕ → ℕ → List Run

@@ -3,7 +3,7 @@ ghost use Rattle.std.specs.Prelude.{◌≡◌, ◌+◌, ◌-◌, ◌<◌, ◌≤
 ghost use Rattle.iv_text.specs.CoveredPositions.{covers};
 ghost use Rattle.iv_text.specs.Ordered.{AreInOrder};
 ghost use Rattle.iv_pair.specs.Inside.HitFinder.{AllCover, HitAlike, IsOnward, held, keeps};
-ghost use Rattle.iv_pair.specs.Hits.{hits};
+ghost use Rattle.iv_track.specs.Regions.{hits};
 ghost use Rattle.iv_pair.specs.Inside.Lengths.{AreUpTo};
 
 use crate::hits::{Hits, is_from};
@@ -39,7 +39,7 @@ pub(crate) struct HitFinder<'a, A: Allocator + Copy> {
 impl<'a, A: Allocator + Copy> Model for HitFinder<'a, A> {
     ghost use Rattle.std.specs.Prelude.{◌++◌};
     ghost use Rattle.iv_pair.specs.Inside.HitFinder.{Finding, StandsAt};
-    ghost use Rattle.iv_pair.specs.Hits.{hits};
+    ghost use Rattle.iv_track.specs.Regions.{hits};
 
     ghost Value = { Finding };
 

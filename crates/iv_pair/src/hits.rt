@@ -4,7 +4,7 @@ ghost use Rattle.std.specs.Iterator.{YieldsFirstRef, item_count};
 ghost use Rattle.iv_text.specs.Ordered.{AreInOrder};
 ghost use Rattle.iv_track.specs.Tracked.{is_from};
 ghost use Rattle.iv_pair.specs.Inside.HitFinder.{held};
-ghost use Rattle.iv_pair.specs.Hits.{overlaps, hits};
+ghost use Rattle.iv_track.specs.Regions.{overlaps, hits};
 
 use iv_text::{BedRecord, Record};
 use iv_track::{Meter, TrackRecords};
@@ -30,7 +30,7 @@ impl<'a, A: Allocator + Copy> Model for Hits<'a, A> {
     ghost use Rattle.iv_text.specs.Ordered.{AreInOrder};
     ghost use Rattle.iv_text.specs.RecordValue.{RecordValue};
     ghost use Rattle.iv_pair.specs.Inside.HitFinder.{held};
-    ghost use Rattle.iv_pair.specs.Hits.{hits};
+    ghost use Rattle.iv_track.specs.Regions.{hits};
 
     ghost Value = { List RecordValue };
 

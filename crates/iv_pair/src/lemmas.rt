@@ -4,7 +4,7 @@ ghost use Rattle.iv_text.specs.RecordValue.{RecordValue};
 ghost use Rattle.iv_text.specs.CoveredPositions.{covers};
 ghost use Rattle.iv_cover.specs.Depth.{depth};
 ghost use Rattle.iv_cover.specs.Runs.{Run, empty_runs};
-ghost use Rattle.iv_pair.specs.Hits.{overlaps};
+ghost use Rattle.iv_track.specs.Regions.{overlaps};
 
 /// A record is a hit of an interval exactly if it covers some position of the interval.
 pub fn overlap_is_a_shared_position()

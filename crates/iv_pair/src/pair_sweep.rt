@@ -36,7 +36,7 @@ pub struct PairSweep<'t, A: Allocator = Global> {
 
 impl<'t, A: Allocator> Model for PairSweep<'t, A> {
     ghost use Rattle.std.specs.Prelude.{◌++◌, vec_len, vec_capacity};
-    ghost use Rattle.iv_pair.specs.Hits.{hits};
+    ghost use Rattle.iv_track.specs.Regions.{hits};
     ghost use Rattle.iv_pair.specs.Pairs.{Pairs};
     ghost use Rattle.iv_pair.specs.Inside.PairSweeps.{IsSweep};
 
@@ -145,7 +145,7 @@ impl<'a, 't> Model for ActiveHits<'a, 't> {
     ghost use Rattle.std.specs.Prelude.{◌+◌, ◌<◌, ◌^◌, ◌++◌, List, length};
     ghost use Rattle.iv_text.specs.Ordered.{AreInOrder};
     ghost use Rattle.iv_text.specs.RecordValue.{RecordValue};
-    ghost use Rattle.iv_pair.specs.Hits.{hits};
+    ghost use Rattle.iv_track.specs.Regions.{hits};
 
     ghost Value = { List RecordValue };
 

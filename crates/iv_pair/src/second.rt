@@ -4,7 +4,7 @@ ghost use Rattle.iv_text.specs.Ordered.{AreInOrder, copies, ordered};
 ghost use Rattle.iv_track.specs.Edits.{RefusesAdd, RefusesRemove, RefusesReplace, with_record, without_record, with_replaced};
 ghost use Rattle.iv_track.specs.Steps.{TakesUpTo};
 ghost use Rattle.iv_track.specs.Tracked.{is_from, most_records};
-ghost use Rattle.iv_pair.specs.Hits.{hits};
+ghost use Rattle.iv_track.specs.Regions.{hits};
 ghost use Rattle.iv_pair.specs.Inside.Lengths.{AreLengths, AreUpTo};
 
 use crate::hits::Hits;

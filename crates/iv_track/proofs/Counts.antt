@@ -1,6 +1,6 @@
 -- A map from keys to numbers of copies, and the list that it means.
 use Rattle.std.proofs.Common.{◌≡◌, ℕ, ◌+◌, ◌*◌, ◌<◌, Bool, true, false, cond, List, [], ◌∷◌, ◌++◌, Option, Some, None, length, refl, sym, ap, ◌∙◌, subst, arith, add-one, zero, suc}
-use Rattle.std.specs.Prelude.{All, sum, replicate, unwrap_or, find, option_map}
+use Rattle.std.specs.Prelude.{All, count_by, sum, replicate, unwrap_or, find, option_map}
 use Rattle.std.specs.List.{position_or_len, AllByRecursion}
 use Rattle.std.specs.declared.cmp.Ordering.{Ordering}
 use Rattle.std.specs.declared.cmp.Ordering.TheVariants.{Less, Equal, Greater}
@@ -32,17 +32,18 @@ first_or_rest : (b : Bool) (n : ℕ) (rest : Option ℕ) → (b ≡ true → res
 first_or_rest true n rest h = let e : unwrap_or rest 0 ≡ 0 = ap (λ o. unwrap_or o 0) (h refl) in omega (arith, e)
 first_or_rest false n rest h = omega arith
 
-module _ {K : Type 0} (cmp : K → K → Ordering) where
-  copies-front : (n : ℕ) (k x : K) (xs : List K) → copies_by cmp (replicate n k ++ xs) x ≡ cond (is_eq (cmp x k)) n 0 + copies_by cmp xs x
-  copies-front n k x xs =
-      sum_by-append (λ q. cond (is_eq (cmp x q)) 1 0) (replicate n k) xs
-      ∙ ap (λ m. m + copies_by cmp xs x) (sum_by-replicate (λ q. cond (is_eq (cmp x q)) 1 0) n k ∙ times_test (is_eq (cmp x k)) n)
+-- how many of some equal ones and others pass a test
+pub count-front : {K : Type 0} (p : K → Bool) (n : ℕ) (k : K) (xs : List K) → count_by p (replicate n k ++ xs) ≡ cond (p k) n 0 + count_by p xs
+count-front p n k xs =
+    sum_by-append (λ q. cond (p q) 1 0) (replicate n k) xs
+    ∙ ap (λ m. m + count_by p xs) (sum_by-replicate (λ q. cond (p q) 1 0) n k ∙ times_test (p k) n)
 
+module _ {K : Type 0} (cmp : K → K → Ordering) where
   -- a key's number of copies is the value at the key
   pub copies-expanded : IsTotalOrder cmp → (es : List (K × ℕ)) (x : K) → IsStrictlySortedBy cmp (keys_of es) → copies_by cmp (expanded es) x ≡ unwrap_or (lookup (is_at (cmp x)) es) 0
   copies-expanded o [] x s = refl
   copies-expanded o (e ∷ es) x s =
-      copies-front e.1 e.0 x (expanded es)
+      count-front (λ q. is_eq (cmp x q)) e.1 e.0 (expanded es)
       ∙ ap (λ m. cond (is_eq (cmp x e.0)) e.1 0 + m) (copies-expanded o es x (sorted_tail cmp e.0 (keys_of es) s))
       ∙ first_or_rest (is_eq (cmp x e.0)) e.1 (lookup (is_at (cmp x)) es) (λ h. lookup-none (is_at (cmp x)) es (none_past_head (eq_by_cmp_equiv o) x e es (IsDistinct-from_sorted cmp (keys_of (e ∷ es)) s) h))
 
@@ -54,6 +55,16 @@ length-expanded (e ∷ es) =
     ∙ sym (sum_by-cons (λ n. n) e.1 (values_of es))
 
 -- ---- one more
+
+module _ {K : Type 0} (cmp : K → K → Ordering) (p : K → Bool) where
+  count_step : (b : Bool) (x q : K) (xs ys : List K) → count_by p ys ≡ cond (p x) 1 0 + count_by p xs → count_by p (cond b (x ∷ q ∷ xs) (q ∷ ys)) ≡ cond (p x) 1 0 + count_by p (q ∷ xs)
+  count_step true x q xs ys h = sum_by-cons (λ k. cond (p k) 1 0) x (q ∷ xs)
+  count_step false x q xs ys h = omega (arith, sum_by-cons (λ k. cond (p k) 1 0) q ys, sum_by-cons (λ k. cond (p k) 1 0) q xs, h)
+
+  -- how many pass a test, with one more in order
+  pub count-added : (xs : List K) (x : K) → count_by p (added_by cmp xs x) ≡ cond (p x) 1 0 + count_by p xs
+  count-added [] x = sum_by-cons (λ k. cond (p k) 1 0) x []
+  count-added (q ∷ xs) x = count_step (is_le (cmp x q)) x q xs (added_by cmp xs x) (count-added xs x)
 
 module _ {K : Type 0} (cmp : K → K → Ordering) where
   added-here : (m : ℕ) (k x : K) (xs : List K) → 0 < m → is_le (cmp x k) ≡ true → added_by cmp (replicate m k ++ xs) x ≡ x ∷ (replicate m k ++ xs)

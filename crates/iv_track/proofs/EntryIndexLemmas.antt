@@ -71,10 +71,26 @@ find-nothing (e ∷ es) = find-nothing es
 pub find-nowhere : (seq start : ℕ) (es : List (RecordValue × ℕ)) → BeginsFrom seq start None → All IsPlaced (keys_of es) → find (λ e. is_from seq start e.0) es ≡ None
 find-nowhere seq start es begins h = find-placed (is_from seq start) (λ q. false) begins es h ∙ find-nothing es
 
+-- tests that agree on placed records keep the same
+filter-placed : (p r : RecordValue → Bool) → ((q : RecordValue) → IsPlaced q → p q ≡ r q) → (es : List (RecordValue × ℕ)) → All IsPlaced (keys_of es) → filter (λ e. p e.0) es ≡ filter (λ e. r e.0) es
+filter-placed p r same [] h = refl
+filter-placed p r same (e ∷ es) h =
+    let rest = filter-placed p r same es (All-tail IsPlaced e.0 (keys_of es) h) in
+    (λ i. cond (same e.0 (All-head IsPlaced e.0 (keys_of es) h) i) (e ∷ rest i) (rest i))
+
+-- the entries from where a search begins on are those of the records from the position on
+pub filter-begun : (seq start : ℕ) (least : RecordValue) (es : List (RecordValue × ℕ)) → BeginsFrom seq start (Some least) → All IsPlaced (keys_of es) → filter (λ e. is_le (record_cmp least e.0)) es ≡ filter (λ e. is_from seq start e.0) es
+filter-begun seq start least es begins = filter-placed (λ q. is_le (record_cmp least q)) (is_from seq start) begins es
+
+-- if it begins nowhere there are none
+pub filter-nowhere : (seq start : ℕ) (es : List (RecordValue × ℕ)) → BeginsFrom seq start None → All IsPlaced (keys_of es) → filter (λ e. is_from seq start e.0) es ≡ []
+filter-nowhere seq start es begins h = filter-placed (is_from seq start) (λ q. false) begins es h ∙ filter-all_false es
+  where
+    filter-all_false : (es : List (RecordValue × ℕ)) → filter (λ (e : RecordValue × ℕ). false) es ≡ []
+    filter-all_false [] = refl
+    filter-all_false (e ∷ es) = filter-all_false es
+
 -- the entries from the least record at a position on are those of the records from there on
 pub filter-least : (seq start : ℕ) (es : List (RecordValue × ℕ)) → All IsPlaced (keys_of es)
     → filter (λ e. is_le (record_cmp (record { seq = seq; start = start; stop = start + 1; name = []; score = []; strand = None; width = 0 }) e.0)) es ≡ filter (λ e. is_from seq start e.0) es
-filter-least seq start [] h = refl
-filter-least seq start (e ∷ es) h =
-    let rest = filter-least seq start es (All-tail IsPlaced e.0 (keys_of es) h) in
-    (λ i. cond (begins-least seq start e.0 (All-head IsPlaced e.0 (keys_of es) h) i) (e ∷ rest i) (rest i))
+filter-least seq start es = filter-begun seq start (record { seq = seq; start = start; stop = start + 1; name = []; score = []; strand = None; width = 0 }) es (begins-least seq start)

@@ -1,6 +1,7 @@
 pub mod CountedLemmas
 pub mod BuiltLemmas
 pub mod ChunkLemmas
+pub mod ClassLemmas
 pub mod Counts
 pub mod DifferentLemmas
 mod CopyLemmas
@@ -15,3 +16,5 @@ pub mod Splits
 pub mod StepLemmas
 pub mod TrackLemmas
 pub mod WalkLemmas
+pub mod PlaceLemmas
+pub mod RegionLemmas

@@ -1,5 +1,6 @@
 -- Definitions that only lemmas and private functions cite. No public contract reaches one.
 pub mod Chunks
 pub mod Counted
+pub mod LengthClasses
 pub mod Steps
 pub mod Tracked

@@ -1,6 +1,7 @@
 pub mod Copies
 pub mod Edits
 pub mod Entries
+pub mod Regions
 pub mod Steps
 pub mod Tracked
 pub mod Inside

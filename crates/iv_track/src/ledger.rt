@@ -228,6 +228,16 @@ impl<K: Ord + Abbreviated + Drop, V: Drop, A: Allocator + Clone + Drop> Ledger<K
         Some((&entry.0, &entry.1))
     }
 
+    /// All entries, in order. It is no step.
+    pub(crate) fn all(&self) -> Walk<'_, K, V, A>
+        ensures { result ≡ self.now }
+    {
+        Walk {
+            rest: &[],
+            later: &self.chunks,
+        }
+    }
+
     /// The entries from a key on, in order. Beginning is one step, and each call of the walk's `next` another.
     pub fn walk(&self, key: &K, meter: &mut Meter) -> Walk<'_, K, V, A>
         ensures entries { result ≡ filter (λ e. is_le (K.cmp key.now e.0)) self.now }
@@ -281,12 +291,29 @@ impl<'a, K, V, A: Allocator> Walk<'a, K, V, A> {
         }
     }
 
+    /// A walk over no entry.
+    pub(crate) fn none() -> Walk<'a, K, V, A>
+        ensures { result ≡ [] }
+    {
+        Walk {
+            rest: &[],
+            later: &[],
+        }
+    }
+
     /// The next entry, `None` after the last. Each call is one step, the last one too.
     pub fn next(&mut self, meter: &mut Meter) -> Option<(&'a K, &'a V)>
         ensures next { TakesFirst deref_pair self.old result self.new }
         ensures step { meter.new ≡ ticked meter.old }
     {
         meter.tick();
+        self.advance()
+    }
+
+    /// The next entry, `None` after the last. It is no step.
+    pub(crate) fn advance(&mut self) -> Option<(&'a K, &'a V)>
+        ensures { TakesFirst deref_pair self.old result self.new }
+    {
         if let Some((entry, rest)) = self.rest.split_first() {
             self.rest = rest;
             return Some((&entry.0, &entry.1));

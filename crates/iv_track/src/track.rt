@@ -1,10 +1,11 @@
 //! A track.
-ghost use Rattle.std.specs.Prelude.{◌≡◌, ◌+◌, ◌-◌, ◌^◌, ◌<◌, ◌≤◌, [], length, Some, None, IfOk, IfErr, OnOk, OnErr, All, option_map, vec_len};
+ghost use Rattle.std.specs.Prelude.{◌≡◌, ◌+◌, ◌-◌, ◌*◌, ◌^◌, ◌<◌, ◌≤◌, [], length, Some, None, IfOk, IfErr, OnOk, OnErr, All, option_map, vec_len};
 ghost use Rattle.std.specs.Map.Iter.{deref_pair};
 ghost use Rattle.std.specs.List.{filter};
 ghost use Rattle.std.specs.List.Sorted.{IsPermutation, IsSorted};
 ghost use Rattle.iv_text.specs.RecordValue.{RecordValue, record_cmp};
 ghost use Rattle.iv_text.specs.Ordered.{AreInOrder, copies, ordered};
+ghost use Rattle.iv_track.specs.Regions.{hits, longest, near};
 ghost use Rattle.iv_track.specs.Edits.{RefusesAdd, RefusesRemove, RefusesReplace, with_record, without_record, with_replaced};
 ghost use Rattle.iv_track.specs.Steps.{TakesUpTo, ticked};
 ghost use Rattle.iv_track.specs.Copies.{expanded};
@@ -13,8 +14,11 @@ ghost use Rattle.iv_track.specs.Inside.Tracked.{BeginsFrom};
 
 use crate::counted::Counted;
 use crate::ledger::Ledger;
+use crate::length_classes::{LengthClasses, length_class};
 use crate::meter::Meter;
+use crate::region::Region;
 use crate::track_entries::TrackEntries;
+use crate::track_hits::TrackHits;
 use crate::track_records::TrackRecords;
 use iv_text::{Batches, Fault, Record};
 use std::alloc::{AllocError, Allocator, Global};
@@ -33,18 +37,20 @@ pub struct Track<A: Allocator + Copy = Global> {
     len: u32,
     limit: u32,
     width: u8,
+    // About how long the records are, for where a walk over hits begins.
+    lengths: LengthClasses,
 }
 
 impl<A: Allocator + Copy> Model for Track<A> {
     ghost use Rattle.iv_track.specs.Copies.{expanded};
     ghost use Rattle.iv_track.specs.Tracked.{Tracked};
-    ghost use Rattle.iv_track.specs.Inside.Tracked.{IsTrack};
+    ghost use Rattle.iv_track.specs.Inside.Tracked.{AreParts};
 
     ghost Value = { Tracked };
 
     ghost view = { λ t. record { rows = expanded t.ledger; width = t.width; limit = t.limit } };
 
-    ghost invariant = { λ t. IsTrack t.ledger t.len t.width t.limit };
+    ghost invariant = { λ t. AreParts t.ledger t.len t.width t.limit t.lengths };
 }
 
 impl<A: Allocator + Copy> Track<A> {
@@ -63,6 +69,7 @@ impl<A: Allocator + Copy> Track<A> {
             len: 0,
             limit,
             width,
+            lengths: LengthClasses::new(),
         }
     }
 
@@ -101,12 +108,15 @@ impl<A: Allocator + Copy> Track<A> {
     {
         let len = rows.len() as u32;
         let sorted = in_order(rows)?;
+        let ledger = Ledger::from_entries(alloc, Counted::of(sorted))?;
+        let lengths = LengthClasses::of(ledger.all());
         Ok(Track {
-            ledger: Ledger::from_entries(alloc, Counted::of(sorted))?,
+            ledger,
             alloc,
             len,
             limit,
             width,
+            lengths,
         })
     }
 
@@ -164,8 +174,10 @@ impl<A: Allocator + Copy> Track<A> {
         ensures steps { TakesUpTo meter.old meter.new 3 }
     {
         row.lemma_of_interval();
+        let class = length_class(&row);
         let count = self.ledger.get(&row, meter).copied().unwrap_or(0);
         self.ledger.put(row, count + 1, meter)?;
+        self.lengths.add(class, 1);
         self.len += 1;
         Ok(())
     }
@@ -246,6 +258,69 @@ impl<A: Allocator + Copy> Track<A> {
         }
     }
 
+    /// The records that share a position with a region, copies repeated.
+    ///
+    /// The region has a position. To begin is at most one step, and each call of the walk's `next` at most another for each record
+    /// that it passes. It passes only records near the region, and takes no memory.
+    pub fn hits(&self, at: Region, meter: &mut Meter) -> TrackHits<'_, A>
+        requires { at.start < at.stop }
+        ensures rows { result.rows ≡ hits self.now.rows at.seq at.start at.stop }
+        ensures passes { result.passes ≤ length (near at self.now.rows) }
+        ensures few { length result.rows ≤ most_records + 1 }
+        ensures steps { TakesUpTo meter.old meter.new 1 }
+    {
+        let _few = self.len();
+        // A record that ends after the region's start begins from here on.
+        let from = (at.start + 1).saturating_sub(self.length_bound());
+        TrackHits {
+            rows: self.walk_from(at.seq, from, meter),
+            at,
+        }
+    }
+
+    /// How many records cover a position, 0-based, of the sequence of this rank, copies counted.
+    ///
+    /// The position is below 2^64 - 1. At most two steps more than there are records near it, and no memory.
+    pub fn depth_at(&self, seq: u32, position: u64, meter: &mut Meter) -> u64
+        requires { position < 2 ^ 64 - 1 }
+        ensures depth { result ≡ length (hits self.now.rows seq position (position + 1)) }
+        ensures steps { TakesUpTo meter.old meter.new (2 + length (near (record { seq = seq; start = position; stop = position + 1 }) self.now.rows)) }
+    {
+        let at = Region {
+            seq,
+            start: position,
+            stop: position + 1,
+        };
+        let mut hits = self.hits(at, meter);
+        let mut depth = 0;
+        while let Some(_) = hits.next(meter) {
+            depth += 1;
+        }
+        depth
+    }
+
+    /// The records on this sequence from this start on, and on later sequences, copies repeated. At most one step.
+    fn walk_from(&self, seq: u32, start: u64, meter: &mut Meter) -> TrackRecords<'_, A>
+        ensures rows { result ≡ filter (is_from seq start) self.now.rows }
+        ensures steps { TakesUpTo meter.old meter.new 1 }
+    {
+        let Some(least) = least_from(self.alloc, seq, start) else {
+            return TrackRecords::none();
+        };
+        TrackRecords {
+            entries: self.ledger.walk(&least, meter),
+            held: None,
+        }
+    }
+
+    /// A number of positions that no record has more than. It is at most twice the greatest number that one has.
+    fn length_bound(&self) -> u64
+        ensures up_to { All (λ r. r.stop ≤ r.start + result) self.now.rows }
+        ensures near { result ≤ 2 * longest self.now.rows }
+    {
+        self.lengths.bound()
+    }
+
     /// Takes one copy of a record out. At most 3 steps, and no memory.
     ///
     /// # Errors
@@ -262,6 +337,7 @@ impl<A: Allocator + Copy> Track<A> {
         let Some(count) = self.ledger.get(row, meter).copied() else {
             return Err(EditFault::Absent);
         };
+        self.lengths.remove(length_class(row));
         if count == 1 {
             self.ledger.take(row, meter);
         } else {

@@ -1,5 +1,5 @@
 //! A walk over the records of a track.
-ghost use Rattle.std.specs.Prelude.{◌≡◌};
+ghost use Rattle.std.specs.Prelude.{◌≡◌, []};
 ghost use Rattle.std.specs.Iterator.{YieldsFirstRef};
 ghost use Rattle.iv_track.specs.Steps.{TakesUpTo};
 
@@ -32,6 +32,16 @@ impl<'a, A: Allocator + Copy> Model for TrackRecords<'a, A> {
 }
 
 impl<'a, A: Allocator + Copy> TrackRecords<'a, A> {
+    /// A walk over no record.
+    pub(crate) fn none() -> TrackRecords<'a, A>
+        ensures { result ≡ [] }
+    {
+        TrackRecords {
+            entries: Walk::none(),
+            held: None,
+        }
+    }
+
     /// The next record, `None` after the last. A call is at most one step.
     pub fn next(&mut self, meter: &mut Meter) -> Option<&'a Record<A>>
         ensures row { YieldsFirstRef (λ rows. rows) self.old result self.new }

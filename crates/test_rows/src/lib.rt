@@ -36,6 +36,8 @@ mod records;
 #[cfg(test)]
 mod refusals;
 #[cfg(test)]
+mod regions;
+#[cfg(test)]
 mod sinks;
 #[cfg(test)]
 mod sizes;

@@ -4,7 +4,7 @@ use Rattle.std.specs.Prelude.{◌≡◌, ℕ, ◌<◌, ◌≤◌, ◌^◌, ◌++
 use Rattle.iv_text.specs.Ordered.{AreInOrder}
 use Rattle.iv_text.specs.RecordValue.{RecordValue}
 use Rattle.iv_text.specs.CoveredPositions.{covers}
-use Rattle.iv_pair.specs.Hits.{hits}
+use Rattle.iv_track.specs.Regions.{hits}
 use Rattle.iv_pair.specs.Inside.Lengths.{AreUpTo}
 
 -- the records in these slots

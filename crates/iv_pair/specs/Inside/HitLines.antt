@@ -3,7 +3,7 @@ use Rattle.std.specs.Prelude.{◌≡◌, ℕ, true, nat_lt, if◌then◌else◌,
 use Rattle.std.specs.List.{AllByRecursion}
 use Rattle.iv_text.specs.Genome.{Sequences}
 use Rattle.iv_text.specs.RecordValue.{RecordValue, part}
-use Rattle.iv_pair.specs.Hits.{overlaps}
+use Rattle.iv_track.specs.Regions.{overlaps}
 use Rattle.iv_pair.specs.IntersectRows.{record_line, pair_line, shared}
 use Rattle.iv_pair.specs.declared.intersect.IntersectRows.{IntersectRows}
 use Rattle.iv_pair.specs.declared.intersect.IntersectRows.TheVariants.{Shared, SharedAndHit, Whole, WholeAndHit, IfHit, IfNoHit, Count}

@@ -1,10 +1,13 @@
 -- The map of a track, and where a search in it begins.
-use Rattle.std.specs.Prelude.{◌≡◌, ℕ, ◌+◌, ◌<◌, ◌≤◌, false, List, Option, Some, None, All, sum}
+use Rattle.std.specs.Prelude.{◌≡◌, ℕ, ◌+◌, ◌<◌, ◌≤◌, false, not, List, Option, Some, None, All, sum, filter}
 use Rattle.std.specs.Ordering.{is_le}
 use Rattle.std.specs.Map.{keys_of, values_of}
+use Rattle.iv_track.specs.Copies.{expanded}
 use Rattle.iv_track.specs.Entries.{IsLedger}
+use Rattle.iv_track.specs.Inside.LengthClasses.{AreClasses}
 use Rattle.iv_text.specs.RecordValue.{RecordValue, IsPlaced, record_cmp}
 use Rattle.iv_track.specs.Tracked.{is_from, most_records}
+use Rattle.iv_track.specs.declared.region.Region.{Region}
 
 -- where a search for these records begins: the placed records at or after the key are these, and with no key there are none
 abbrev pub BeginsFrom : ℕ → ℕ → Option RecordValue → Type 0
@@ -20,3 +23,12 @@ pub record IsTrack (es : List (RecordValue × ℕ)) (len width limit : ℕ) : Ty
   pub len_is : len ≡ sum (values_of es)
   pub room : len ≤ limit + 1
   pub bounded : limit ≤ most_records
+
+-- the parts of a track: its map, and the classes of its records' lengths
+pub record AreParts (es : List (RecordValue × ℕ)) (len width limit : ℕ) (classes : List ℕ) : Type 0 where
+  pub track : IsTrack es len width limit
+  pub lengths : AreClasses classes (expanded es)
+
+-- the records before the end of a region: those that a walk passes until it knows that no other hit comes
+abbrev pub starting_before : Region → List RecordValue → List RecordValue
+starting_before at rows = filter (λ r. not (is_from at.seq at.stop r)) rows

@@ -1,6 +1,6 @@
 use Rattle.std.proofs.Common.{◌≡◌, ◌++◌, ap, ◌∙◌, arith, rules}
 use Rattle.iv_pair.specs.Inside.HitFinder.{Finding}
-use Rattle.iv_pair.specs.Hits.{hits}
+use Rattle.iv_track.specs.Regions.{hits}
 use Rattle.iv_pair.proofs.CarryLemmas.{found, alike-trans, placed-on}
 use Rattle.iv_pair.proofs.hit_finder.HitFinder.seek.Goals as goal
 

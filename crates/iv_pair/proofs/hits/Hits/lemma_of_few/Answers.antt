@@ -1,7 +1,7 @@
 use Rattle.std.proofs.Common.{List, length, ap, arith, length-append}
 use Rattle.iv_text.specs.RecordValue.{RecordValue}
 use Rattle.iv_pair.specs.Inside.HitFinder.{held}
-use Rattle.iv_pair.specs.Hits.{overlaps, hits}
+use Rattle.iv_track.specs.Regions.{overlaps, hits}
 use Rattle.iv_pair.proofs.CarryLemmas.{held-few}
 use Rattle.iv_pair.proofs.HitsLemmas.{length-filter_le}
 use Rattle.iv_pair.proofs.hits.Hits.lemma_of_few.Goals as goal

@@ -1,7 +1,7 @@
 use Rattle.std.proofs.Common.{◌≡◌, ◌<◌, ◌≤◌, ◌^◌, ◌++◌, [], length}
 use Rattle.iv_text.specs.Ordered.{AreInOrder}
 use Rattle.iv_pair.specs.Inside.HitFinder.{held}
-use Rattle.iv_pair.specs.Hits.{hits}
+use Rattle.iv_track.specs.Regions.{hits}
 use Rattle.iv_pair.proofs.hits.HitsIterator.next.Given as goal
 
 -- slots without a record were passed

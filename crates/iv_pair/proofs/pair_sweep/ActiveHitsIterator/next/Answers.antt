@@ -1,8 +1,8 @@
 use Rattle.std.proofs.Common.{◌++◌, List, ap, sym, ◌∙◌, subst}
 use Rattle.iv_text.specs.Ordered.{AreInOrder}
 use Rattle.iv_text.specs.RecordValue.{RecordValue}
-use Rattle.iv_pair.specs.Hits.{hits}
-use Rattle.iv_pair.proofs.HitsLemmas.{hit_not, hits_beyond}
+use Rattle.iv_track.specs.Regions.{hits}
+use Rattle.iv_track.proofs.RegionLemmas.{hit_not, hits_beyond}
 use Rattle.iv_pair.proofs.pair_sweep.ActiveHitsIterator.next.Goals as goal
 
 pub returns-then-is_from-clause-steps : goal.returns-then-is_from-clause-steps

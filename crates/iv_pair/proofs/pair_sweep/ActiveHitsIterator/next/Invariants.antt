@@ -1,6 +1,6 @@
 use Rattle.std.proofs.Common.{◌≡◌, [], ◌<◌, ◌^◌, length}
 use Rattle.iv_text.specs.Ordered.{AreInOrder}
-use Rattle.iv_pair.specs.Hits.{hits}
+use Rattle.iv_track.specs.Regions.{hits}
 use Rattle.iv_pair.proofs.pair_sweep.ActiveHitsIterator.next.Given as goal
 
 -- the records left are in order and few, and the hits among them are all that were left

@@ -2,7 +2,8 @@ use Rattle.std.proofs.Common.{◌≡◌, ◌∷◌, ◌++◌, All, List, refl, s
 use Rattle.std.proofs.lemmas.List.Elements.{All-head}
 use Rattle.iv_text.specs.RecordValue.{RecordValue}
 use Rattle.iv_text.specs.Ordered.{AreInOrder}
-use Rattle.iv_pair.specs.Hits.{hits, hits_of}
+use Rattle.iv_track.specs.Regions.{hits}
+use Rattle.iv_pair.specs.Hits.{hits_of}
 use Rattle.iv_pair.specs.Inside.PairSweeps.{Covers, Precedes}
 use Rattle.iv_pair.proofs.StepLemmas.{kept-covers, begun-next, found-next, same-next}
 use Rattle.iv_pair.proofs.pair_sweep.PairSweep.next.Goals as goal

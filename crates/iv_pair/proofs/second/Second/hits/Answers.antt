@@ -3,7 +3,7 @@ use Rattle.iv_text.specs.Ordered.{AreInOrder}
 use Rattle.iv_text.specs.RecordValue.{record_cmp, RecordValue}
 use Rattle.iv_text.proofs.InOrderLemmas.{in_order-filter}
 use Rattle.iv_track.specs.Tracked.{is_from}
-use Rattle.iv_pair.specs.Hits.{hits, overlaps}
+use Rattle.iv_track.specs.Regions.{hits, overlaps}
 use Rattle.iv_pair.proofs.HitsLemmas.{hits_from, length-filter_le}
 use Rattle.iv_pair.proofs.second.Second.hits.Goals as goal
 

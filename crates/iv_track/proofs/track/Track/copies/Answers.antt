@@ -12,7 +12,7 @@ pub returns-clause-value : goal.returns-clause-value
 returns-clause-value g c =
     c.unwrap_or.ensures
     ∙ ap (λ o. unwrap_or o 0) (c.copied.ensures ∙ c.get.ensures.value)
-    ∙ sym (copies-expanded record_cmp records_total c.self.inside.ledger c.args.row.now c.self.invariant.ordered)
+    ∙ sym (copies-expanded record_cmp records_total c.self.inside.ledger c.args.row.now c.self.invariant.track.ordered)
     ∙ ap (λ (t : Tracked). copies t.rows c.args.row.now) c.self.view_is
 
 pub returns-clause-steps : goal.returns-clause-steps
@@ -20,4 +20,4 @@ returns-clause-steps g c = takes_within _ _ 1 2 (lit≤ tt) (takes_one_more _ _ 
 
 pub returns-clause-ordered : goal.returns-clause-ordered
 returns-clause-ordered g c =
-    subst (λ (t : Tracked). AreInOrder t.rows) c.self.view_is (in_order-expanded record_cmp records_total c.self.inside.ledger c.self.invariant.ordered)
+    subst (λ (t : Tracked). AreInOrder t.rows) c.self.view_is (in_order-expanded record_cmp records_total c.self.inside.ledger c.self.invariant.track.ordered)

@@ -19,7 +19,7 @@ passed g c =
     let i = c.self.inside in
     c.walk.ensures.entries
     ∙ ap (λ k. filter (λ e. is_le (record_cmp k e.0)) i.ledger) c.least_at-least.ensures
-    ∙ filter-least c.args.seq c.args.start i.ledger c.self.invariant.placed
+    ∙ filter-least c.args.seq c.args.start i.ledger c.self.invariant.track.placed
 
 -- and their records those of the track
 meant : (g : given.Over) (c : goal.Joined-least g)
@@ -35,7 +35,7 @@ pub returns-clause-each : goal.returns-clause-each
 returns-clause-each g c =
     let i = c.self.inside in
     let test = is_from c.args.seq c.args.start in
-    let sorted = subst (IsStrictlySortedBy record_cmp) (sym (keys-filter test i.ledger)) (IsStrictlySortedBy-filter record_cmp test (keys_of i.ledger) c.self.invariant.ordered) in
+    let sorted = subst (IsStrictlySortedBy record_cmp) (sym (keys-filter test i.ledger)) (IsStrictlySortedBy-filter record_cmp test (keys_of i.ledger) c.self.invariant.track.ordered) in
     ap length (passed g c)
-    ∙ sym (different-expanded record_cmp records_total (filter (λ e. test e.0) i.ledger) sorted (present-filter (λ e. test e.0) i.ledger c.self.invariant.present))
+    ∙ sym (different-expanded record_cmp records_total (filter (λ e. test e.0) i.ledger) sorted (present-filter (λ e. test e.0) i.ledger c.self.invariant.track.present))
     ∙ ap different_records (meant g c)

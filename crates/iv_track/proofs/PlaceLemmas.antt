@@ -1,10 +1,11 @@
 -- Orders of pairs of numbers, as numbers; and records from a position on.
-use Rattle.std.proofs.Common.{◌≡◌, ℕ, ◌<◌, ◌≤◌, ◌&&◌, Bool, true, false, List, ◌∷◌, refl, sym, ap, ◌∙◌, arith, inl, inr}
+use Rattle.std.proofs.Common.{◌≡◌, ℕ, ◌<◌, ◌≤◌, ◌&&◌, Bool, true, false, not, nat_lt, List, ◌∷◌, refl, sym, ap, ◌∙◌, arith, inl, inr}
 use Rattle.std.specs.Prelude.{filter}
 use Rattle.std.specs.declared.cmp.Ordering.{Ordering}
 use Rattle.std.specs.declared.cmp.Ordering.TheVariants.{Less, Equal, Greater}
 use Rattle.std.specs.Ordering.{is_le, is_ge, nat_cmp, ordering_then}
 use Rattle.std.specs.Cmp.{ranked}
+use Rattle.std.proofs.lemmas.Bool.{both_ways, ltb-true, ltb-false}
 use Rattle.std.proofs.lemmas.List.Elements.{All-from_recursion}
 use Rattle.std.proofs.lemmas.Map.Keys.{le_from_is_le}
 use Rattle.iv_text.specs.Ordered.{AreInOrder}
@@ -62,6 +63,28 @@ pub from-on : (seq at from : ℕ) (rows : List RecordValue) → at ≤ from → 
 from-on seq at from rows low = filter-implied (is_from seq from) (is_from seq at) rows (λ q m is.
     let place = le_pair seq q.seq from q.start is in
     pair_le seq q.seq at q.start place.0 (λ e. let r : from ≤ q.start = place.1 e in omega arith))
+
+-- a record that is not from there on is on an earlier sequence, or starts before
+pub not_from : (seq start : ℕ) (q : RecordValue) → not (is_from seq start q) ≡ true → (q.seq ≤ seq) × (q.seq ≡ seq → q.start < start)
+not_from seq start q h = (go (nat_lt seq q.seq) refl, λ same. stay (nat_lt q.start start) refl same)
+  where
+    not_true : (b : Bool) → not b ≡ true → b ≡ false
+    not_true true e = absurd cc
+    not_true false e = refl
+
+    go : (b : Bool) → b ≡ nat_lt seq q.seq → q.seq ≤ seq
+    go true e =
+        let later : seq < q.seq = ltb-true seq q.seq (sym e) in
+        let is = pair_le seq q.seq start q.start (omega arith) (λ e. absurd (omega (arith, e, later))) in
+        absurd (both_ways (is_from seq start q) (not_true (is_from seq start q) h) is)
+    go false e = ltb-false seq q.seq (sym e)
+
+    stay : (b : Bool) → b ≡ nat_lt q.start start → q.seq ≡ seq → q.start < start
+    stay true e same = ltb-true q.start start (sym e)
+    stay false e same =
+        let up : start ≤ q.start = ltb-false q.start start (sym e) in
+        let is = pair_le seq q.seq start q.start (omega (arith, same)) (λ _. up) in
+        absurd (both_ways (is_from seq start q) (not_true (is_from seq start q) h) is)
 
 from_next : (seq p : ℕ) (x y : RecordValue) → is_from seq p x ≡ true → is_le (record_cmp x y) ≡ true → is_from seq p y ≡ true
 from_next seq p x y h le =

@@ -1,7 +1,7 @@
 use Rattle.std.proofs.Common.{rules, arith, subst, ◌≡◌, ◌∷◌, length}
 use Rattle.std.proofs.lemmas.List.Elements.{All-head, All-tail}
 use Rattle.iv_track.specs.Inside.Chunks.{IsFilled, AreFilled}
-use Rattle.iv_track.proofs.ledger.Walk.next.Goals as goal
+use Rattle.iv_track.proofs.ledger.Walk.advance.Goals as goal
 
 pub returns-in_err-entry : goal.returns-in_err-entry
 returns-in_err-entry g c =

@@ -1,0 +1,190 @@
+-- About how long the records of a track are, with one more and with one less.
+use Rattle.std.proofs.Common.{◌≡◌, ℕ, ◌+◌, ◌-◌, ◌*◌, ◌^◌, ◌<◌, ◌≤◌, ◌==◌, inl, inr, Bool, true, false, cond, List, [], ◌∷◌, refl, sym, ap, ◌∙◌, subst, arith, length, suc, eq-eqb}
+use Rattle.std.specs.Prelude.{All, count_by, replicate, slice_index_or, slice_set}
+use Rattle.std.specs.Map.{keys_of}
+use Rattle.std.proofs.lemmas.Bool.{cases_Bool, cases_lt, eqb-true, eqb-false, cond-true, cond-false}
+use Rattle.std.proofs.lemmas.Nat.{leading_top}
+use Rattle.std.proofs.lemmas.List.{get_or-replicate, get_or_past, get_or-set_same, get_or-set_other, length-set}
+use Rattle.std.proofs.lemmas.List.Elements.{All-from_recursion, recursion_from_All}
+use Rattle.std.proofs.lemmas.List.Sums.{sum_by-cons, count_by-le-length}
+use Rattle.std.proofs.Math.ListN.{length-replicate}
+use Rattle.std.proofs.Math.Nat.{two-pow-succ}
+use Rattle.iv_text.specs.Ordered.{AreInOrder, added, copies}
+use Rattle.iv_text.specs.RecordValue.{RecordValue, IsPlaced, record_cmp}
+use Rattle.iv_text.proofs.ListLemmas.{Mem, all-mem, mem-all}
+use Rattle.iv_track.specs.Copies.{expanded}
+use Rattle.iv_track.specs.Regions.{longest}
+use Rattle.iv_track.specs.Tracked.{removed}
+use Rattle.iv_track.specs.Inside.LengthClasses.{length_class, with_class, AreClasses}
+use Rattle.iv_track.proofs.Counts.{all-expanded, count-added, count-front}
+use Rattle.iv_track.proofs.Edits.{added-removed}
+use Rattle.iv_track.proofs.RegionLemmas.{all-longest}
+
+-- ---- one counter of them
+
+-- the counters after a write of one
+written : (counts : List ℕ) (c v k : ℕ) → c < length counts → slice_index_or (slice_set counts c v) k 0 ≡ cond (c == k) v (slice_index_or counts k 0)
+written counts c v k within = elim (cases_Bool (c == k)) [
+  | inl is ↦
+      let e : c ≡ k = eqb-true c k is in
+      subst (λ j. slice_index_or (slice_set counts c v) j 0 ≡ v) e (get_or-set_same counts c v 0 within) ∙ sym (cond-true (c == k) v (slice_index_or counts k 0) is)
+  | inr not ↦ get_or-set_other counts c k v 0 (λ e. eqb-false c k not (sym e)) ∙ sym (cond-false (c == k) v (slice_index_or counts k 0) not)
+]
+
+plus : (b : Bool) (v n m : ℕ) → (b ≡ true → v ≡ m + n) → cond b v m ≡ cond b n 0 + m
+plus true v n m h = let e = h refl in omega arith
+plus false v n m h = omega arith
+
+less : (b : Bool) (v m : ℕ) → (b ≡ true → v ≡ m - 1) → (b ≡ true → 0 < m) → cond b 1 0 + cond b v m ≡ m
+less true v m h some = let e : v ≡ m - 1 = h refl in let s : 0 < m = some refl in omega arith
+less false v m h some = omega arith
+
+-- one counter says so many more
+raised : (counts : List ℕ) (c n k : ℕ) → c < length counts → slice_index_or (slice_set counts c (slice_index_or counts c 0 + n)) k 0 ≡ cond (c == k) n 0 + slice_index_or counts k 0
+raised counts c n k within =
+    written counts c (slice_index_or counts c 0 + n) k within
+    ∙ plus (c == k) (slice_index_or counts c 0 + n) n (slice_index_or counts k 0) (λ is. ap (λ j. slice_index_or counts j 0 + n) (eqb-true c k is))
+
+-- or one less
+lowered : (counts : List ℕ) (c k : ℕ) → c < length counts → 0 < slice_index_or counts c 0
+    → cond (c == k) 1 0 + slice_index_or (slice_set counts c (slice_index_or counts c 0 - 1)) k 0 ≡ slice_index_or counts k 0
+lowered counts c k within some =
+    ap (λ m. cond (c == k) 1 0 + m) (written counts c (slice_index_or counts c 0 - 1) k within)
+    ∙ less (c == k) (slice_index_or counts c 0 - 1) (slice_index_or counts k 0) (λ is. ap (λ j. slice_index_or counts j 0 - 1) (eqb-true c k is)) (λ is. subst (λ j. 0 < slice_index_or counts j 0) (eqb-true c k is) some)
+
+-- ---- a list of records
+
+pub classes-none : (counts : List ℕ) → counts ≡ replicate 33 0 → AreClasses counts []
+classes-none counts e = record {
+  classes = ap {B = ℕ} length e ∙ length-replicate {A = ℕ} 33 0;
+  counted = λ k. ap (λ (l : List ℕ). slice_index_or l k 0) e ∙ none k;
+}
+  where
+    none : (k : ℕ) → slice_index_or {A = ℕ} (replicate 33 0) k 0 ≡ 0
+    none k = elim (cases_lt k 33) [
+      | inl low ↦ get_or-replicate 33 k 0 0 low
+      | inr high ↦ get_or_past {X = ℕ} (replicate 33 0) k 0 (omega (arith, high, length-replicate {A = ℕ} 33 0))
+    ]
+
+-- no class has more records than there are
+pub classes-room : (counts : List ℕ) (rows : List RecordValue) (k : ℕ) → AreClasses counts rows → slice_index_or counts k 0 ≤ length rows
+classes-room counts rows k a = omega (arith, a.counted k, count_by-le-length (λ r. length_class r == k) rows)
+
+pub classes-added : (counts : List ℕ) (rows : List RecordValue) (r : RecordValue) → AreClasses counts rows → length_class r < 33
+    → AreClasses (slice_set counts (length_class r) (slice_index_or counts (length_class r) 0 + 1)) (added rows r)
+classes-added counts rows r a within = record {
+  classes = length-set counts (length_class r) (slice_index_or counts (length_class r) 0 + 1) ∙ a.classes;
+  counted = λ k. omega (arith, raised counts (length_class r) 1 k (omega (arith, a.classes, within)), a.counted k, count-added record_cmp (λ q. length_class q == k) rows r);
+}
+
+with_class-removed : (rows : List RecordValue) (r : RecordValue) (k : ℕ) → AreInOrder rows → 0 < copies rows r
+    → with_class rows k ≡ cond (length_class r == k) 1 0 + with_class (removed rows r) k
+with_class-removed rows r k order there =
+    ap (λ (l : List RecordValue). with_class l k) (added-removed rows r order there) ∙ count-added record_cmp (λ q. length_class q == k) (removed rows r) r
+
+-- the class of a record that is there is counted
+pub classes-some : (counts : List ℕ) (rows : List RecordValue) (r : RecordValue) → AreClasses counts rows → AreInOrder rows → 0 < copies rows r → 0 < slice_index_or counts (length_class r) 0
+classes-some counts rows r a order there =
+    omega (arith, a.counted (length_class r), with_class-removed rows r (length_class r) order there, ap {B = ℕ} (λ b. cond b 1 0) (eq-eqb (length_class r) (length_class r) refl))
+
+pub classes-removed : (counts : List ℕ) (rows : List RecordValue) (r : RecordValue) → AreClasses counts rows → AreInOrder rows → 0 < copies rows r → length_class r < 33
+    → AreClasses (slice_set counts (length_class r) (slice_index_or counts (length_class r) 0 - 1)) (removed rows r)
+classes-removed counts rows r a order there within = record {
+  classes = length-set counts (length_class r) (slice_index_or counts (length_class r) 0 - 1) ∙ a.classes;
+  counted = λ k. omega (
+    arith,
+    lowered counts (length_class r) k (omega (arith, a.classes, within)) (classes-some counts rows r a order there),
+    a.counted k,
+    with_class-removed rows r k order there,
+  );
+}
+
+-- ---- the entries of a map, one after another
+
+-- all records but those that are left are counted
+pub record AreCountedBut (counts : List ℕ) (left rows : List RecordValue) : Type 0 where
+  pub classes : length counts ≡ 33
+  pub counted : (k : ℕ) → slice_index_or counts k 0 + with_class left k ≡ with_class rows k
+
+pub counted-begin : (counts : List ℕ) (rows : List RecordValue) → AreClasses counts [] → AreCountedBut counts rows rows
+counted-begin counts rows a = record { classes = a.classes; counted = λ k. omega (arith, a.counted k) }
+
+pub counted-room : (counts : List ℕ) (left after : List (RecordValue × ℕ)) (rows : List RecordValue) (r : RecordValue) (n : ℕ) → AreCountedBut counts (expanded left) rows → left ≡ (r, n) ∷ after
+    → slice_index_or counts (length_class r) 0 + n ≤ length rows
+counted-room counts left after rows r n a first =
+    omega (
+      arith,
+      a.counted (length_class r),
+      count_by-le-length (λ q. length_class q == length_class r) rows,
+      ap (λ (l : List (RecordValue × ℕ)). with_class (expanded l) (length_class r)) first,
+      count-front (λ q. length_class q == length_class r) n r (expanded after),
+      ap {B = ℕ} (λ b. cond b n 0) (eq-eqb (length_class r) (length_class r) refl),
+    )
+
+pub counted-next : (counts : List ℕ) (left after : List (RecordValue × ℕ)) (rows : List RecordValue) (r : RecordValue) (n : ℕ) → AreCountedBut counts (expanded left) rows → left ≡ (r, n) ∷ after → length_class r < 33
+    → AreCountedBut (slice_set counts (length_class r) (slice_index_or counts (length_class r) 0 + n)) (expanded after) rows
+counted-next counts left after rows r n a first within = record {
+  classes = length-set counts (length_class r) (slice_index_or counts (length_class r) 0 + n) ∙ a.classes;
+  counted = λ k. omega (
+    arith,
+    raised counts (length_class r) n k (omega (arith, a.classes, within)),
+    a.counted k,
+    ap (λ (l : List (RecordValue × ℕ)). with_class (expanded l) k) first,
+    count-front (λ q. length_class q == k) n r (expanded after),
+  );
+}
+
+pub counted-all : (counts : List ℕ) (left : List (RecordValue × ℕ)) (rows : List RecordValue) → AreCountedBut counts (expanded left) rows → left ≡ [] → AreClasses counts rows
+counted-all counts left rows a none = record {
+  classes = a.classes;
+  counted = λ k. omega (arith, a.counted k, ap (λ (l : List (RecordValue × ℕ)). with_class (expanded l) k) none);
+}
+
+-- ---- a bound of all lengths
+
+module _ {X : Type 0} (p : X → Bool) where
+  -- what passes a test is counted
+  passed-counts : (xs : List X) (q : X) → Mem q xs → p q ≡ true → 0 < count_by p xs
+  passed-counts [] q m e = absurd m
+  passed-counts (x ∷ xs) q (inl at) e = omega (arith, sum_by-cons (λ y. cond (p y) 1 0) x xs, ap {B = ℕ} (λ b. cond b 1 0) (ap p at ∙ e))
+  passed-counts (x ∷ xs) q (inr m) e = omega (arith, sum_by-cons (λ y. cond (p y) 1 0) x xs, passed-counts xs q m e)
+
+  -- and if some are counted one passes
+  counts-passed : (xs : List X) → 0 < count_by p xs → (q : X) × Mem q xs × (p q ≡ true)
+  counts-passed [] some = absurd (omega arith)
+  counts-passed (x ∷ xs) some = elim (cases_Bool (p x)) [
+    | inl e ↦ (x, inl refl, e)
+    | inr e ↦
+        let rest = counts-passed xs (omega (arith, some, sum_by-cons (λ y. cond (p y) 1 0) x xs, ap {B = ℕ} (λ b. cond b 1 0) e)) in
+        (rest.0, inr rest.1, rest.2)
+  ]
+
+-- a record has fewer positions than 2 to the power of its class, and at least half as many
+class-means : (r : RecordValue) → IsPlaced r → (r.stop - r.start < 2 ^ length_class r) × (2 ^ length_class r ≤ 2 * (r.stop - r.start))
+class-means r placed =
+    let top = leading_top 32 (r.stop - r.start) (omega (arith, placed.some)) (omega (arith, placed.stop)) in
+    let digits : length_class r ≡ suc top.0 = omega (arith, top.1) in
+    let low : 2 ^ top.0 ≤ r.stop - r.start = top.2 in (
+      subst (λ k. r.stop - r.start < 2 ^ k) (sym digits) top.3,
+      subst (λ k. 2 ^ k ≤ 2 * (r.stop - r.start)) (sym digits) (omega (arith, low, two-pow-succ top.0)),
+    )
+
+pub placed-expanded : (es : List (RecordValue × ℕ)) → All IsPlaced (keys_of es) → All IsPlaced (expanded es)
+placed-expanded es h = All-from_recursion IsPlaced (expanded es) (all-expanded IsPlaced es (recursion_from_All IsPlaced (keys_of es) h))
+
+pub bound-above : (counts : List ℕ) (rows : List RecordValue) (n : ℕ) → AreClasses counts rows → All IsPlaced rows → ((k : ℕ) → 0 < slice_index_or counts k 0 → 2 ^ k ≤ n) → All (λ r. r.stop ≤ r.start + n) rows
+bound-above counts rows n a placed above = mem-all (λ r. r.stop ≤ r.start + n) rows (λ q m.
+    let k = length_class q in
+    let means = class-means q (all-mem IsPlaced rows placed q m) in
+    let high : 2 ^ k ≤ n = above k (omega (arith, a.counted k, passed-counts (λ r. length_class r == k) rows q m (eq-eqb k k refl))) in
+    let short : q.stop - q.start < 2 ^ k = means.0 in
+    omega arith)
+
+pub bound-near : (counts : List ℕ) (rows : List RecordValue) (k : ℕ) → AreClasses counts rows → All IsPlaced rows → 0 < slice_index_or counts k 0 → 2 ^ k ≤ 2 * longest rows
+bound-near counts rows k a placed some =
+    let one = counts-passed (λ r. length_class r == k) rows (omega (arith, a.counted k, some)) in
+    let q = one.0 in
+    let is : length_class q ≡ k = eqb-true (length_class q) k one.2 in
+    let half : 2 ^ length_class q ≤ 2 * (q.stop - q.start) = (class-means q (all-mem IsPlaced rows placed q one.1)).1 in
+    let long : q.stop ≤ q.start + longest rows = all-mem (λ (r : RecordValue). r.stop ≤ r.start + longest rows) rows (all-longest rows) q one.1 in
+    subst (λ j. 2 ^ j ≤ 2 * longest rows) is (omega (arith, half, long))

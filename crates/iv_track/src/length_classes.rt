@@ -1,0 +1,90 @@
+//! About how long the records of a track are.
+ghost use Rattle.std.specs.Prelude.{◌≡◌, ◌+◌, ◌-◌, ◌^◌, ◌<◌, ◌≤◌, ℕ, [], length, slice_index_or, slice_set};
+ghost use Rattle.iv_track.specs.Copies.{expanded};
+ghost use Rattle.iv_track.specs.Inside.LengthClasses.{AreClasses, length_class};
+
+use crate::ledger::Walk;
+use iv_text::Record;
+use std::alloc::Allocator;
+use std::marker::Model;
+
+/// How many binary digits the number of a record's positions has, 1 to 32.
+pub(crate) fn length_class<A: Allocator>(row: &Record<A>) -> usize
+    ensures is { result ≡ length_class row.now }
+    ensures within { result < 33 }
+{
+    row.lemma_of_interval();
+    let positions = (row.stop() - row.start()) as u32;
+    (32 - positions.leading_zeros()) as usize
+}
+
+/// For each number of binary digits, up to 32, how many records of a track have so many positions. Copies are counted.
+///
+/// A record is in the class of its number of digits. Its model is the list of the 33 counters.
+#[derive(Drop)]
+pub(crate) struct LengthClasses {
+    counts: [u32; 33],
+}
+
+impl Model for LengthClasses {
+    ghost use Rattle.std.specs.Prelude.{List, ℕ};
+
+    ghost Value = { List ℕ };
+
+    ghost view = { λ c. c.counts };
+}
+
+impl LengthClasses {
+    /// The classes of no record.
+    pub(crate) fn new() -> Self
+        ensures { AreClasses result [] }
+    {
+        LengthClasses { counts: [0; 33] }
+    }
+
+    /// The classes of the records of a map, each with the number of its copies.
+    pub(crate) fn of<A: Allocator + Copy>(entries: Walk<'_, Record<A>, u32, A>) -> Self
+        requires { length (expanded entries) < 2 ^ 32 }
+        ensures { AreClasses result (expanded entries.entry) }
+    {
+        let mut classes = LengthClasses::new();
+        let mut entries = entries;
+        while let Some((row, copies)) = entries.advance() {
+            classes.add(length_class(row), *copies);
+        }
+        classes
+    }
+
+    /// Counts so many records more of a class.
+    pub(crate) fn add(&mut self, class: usize, copies: u32)
+        requires class { class < 33 }
+        requires room { slice_index_or self.old class 0 + copies < 2 ^ 32 }
+        ensures { self.new ≡ slice_set self.old class (slice_index_or self.old class 0 + copies) }
+    {
+        self.counts[class] += copies;
+    }
+
+    /// Counts one record less of a class, of which there is one.
+    pub(crate) fn remove(&mut self, class: usize)
+        requires class { class < 33 }
+        requires some { 0 < slice_index_or self.old class 0 }
+        ensures { self.new ≡ slice_set self.old class (slice_index_or self.old class 0 - 1) }
+    {
+        self.counts[class] -= 1;
+    }
+
+    /// A number of positions that no record has: the least power of 2 above all lengths, 0 if there is no record.
+    pub(crate) fn bound(&self) -> u64
+        ensures above { (k : ℕ) → 0 < slice_index_or self.now k 0 → 2 ^ k ≤ result }
+        ensures near { 0 < result → (k : ℕ) × (0 < slice_index_or self.now k 0) × (result ≡ 2 ^ k) }
+    {
+        let mut class = 33;
+        while class > 0 {
+            class -= 1;
+            if self.counts[class] > 0 {
+                return 1 << class;
+            }
+        }
+        0
+    }
+}

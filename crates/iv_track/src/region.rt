@@ -1,0 +1,37 @@
+//! A region: an interval of a sequence.
+ghost use Rattle.std.specs.Prelude.{◌≡◌};
+ghost use Rattle.iv_track.specs.Regions.{overlaps};
+ghost use Rattle.iv_track.specs.Tracked.{is_from};
+
+use iv_text::Record;
+use std::alloc::Allocator;
+
+/// An interval of the sequence of this rank, 0-based and half-open.
+#[derive(Clone, Copy, Debug, PartialEq, Eq)]
+pub struct Region {
+    /// The rank of the sequence in the genome.
+    pub seq: u32,
+    /// The start, from 0.
+    pub start: u64,
+    /// The end, not included.
+    pub stop: u64,
+}
+
+impl Region {
+    /// Whether a record is on the region's sequence and shares a position with the region.
+    pub(crate) fn overlaps<A: Allocator>(&self, row: &Record<A>) -> bool
+        ensures { result ≡ overlaps self.now.seq self.now.start self.now.stop row.now }
+    {
+        row.seq() == self.seq && row.start() < self.stop && self.start < row.stop()
+    }
+
+    /// Whether a record starts at the region's end or after it, or is on a later sequence.
+    pub(crate) fn ends_before<A: Allocator>(&self, row: &Record<A>) -> bool
+        ensures { result ≡ is_from self.now.seq self.now.stop row.now }
+    {
+        self.seq
+            .cmp(&row.seq())
+            .then(self.stop.cmp(&row.start()))
+            .is_le()
+    }
+}

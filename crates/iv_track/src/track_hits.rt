@@ -1,0 +1,54 @@
+//! A walk over the records of a track that share a position with a region.
+ghost use Rattle.std.specs.Prelude.{◌≡◌};
+ghost use Rattle.std.specs.Iterator.{YieldsFirstRef};
+ghost use Rattle.iv_track.specs.Regions.{TakesForPassed, end_step};
+
+use crate::meter::Meter;
+use crate::region::Region;
+use crate::track_records::TrackRecords;
+use iv_text::Record;
+use std::alloc::{Allocator, Global};
+use std::marker::Model;
+
+/// A walk over the records of a track that share a position with a region, in its order: an iterator whose `next` counts its
+/// steps.
+///
+/// A record comes once for each of its copies. Its model is the list of the records that are left, with how many records of the
+/// track the walk may still pass.
+#[derive(Drop)]
+pub struct TrackHits<'a, A: Allocator + Copy = Global> {
+    pub(crate) rows: TrackRecords<'a, A>,
+    pub(crate) at: Region,
+}
+
+impl<'a, A: Allocator + Copy> Model for TrackHits<'a, A> {
+    ghost use Rattle.std.specs.Prelude.{length};
+    ghost use Rattle.iv_text.specs.Ordered.{AreInOrder};
+    ghost use Rattle.iv_track.specs.Regions.{HitsLeft, hits};
+    ghost use Rattle.iv_track.specs.Inside.Tracked.{starting_before};
+
+    ghost Value = { HitsLeft };
+
+    ghost view = { λ h. record { rows = hits h.rows h.at.seq h.at.start h.at.stop; passes = length (starting_before h.at h.rows) } };
+
+    ghost invariant = { λ h. AreInOrder h.rows };
+}
+
+impl<'a, A: Allocator + Copy> TrackHits<'a, A> {
+    /// The next record, `None` after the last. A call is at most one step for each record that it passes, and the last call
+    /// at most another.
+    pub fn next(&mut self, meter: &mut Meter) -> Option<&'a Record<A>>
+        ensures row { YieldsFirstRef (λ h. h.rows) self.old result self.new }
+        ensures steps { TakesForPassed meter.old meter.new self.old self.new (end_step result) }
+    {
+        while let Some(row) = self.rows.next(meter) {
+            if self.at.overlaps(row) {
+                return Some(row);
+            }
+            if self.at.ends_before(row) {
+                return None;
+            }
+        }
+        None
+    }
+}
