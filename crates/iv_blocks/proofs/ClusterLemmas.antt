@@ -1,12 +1,12 @@
 -- The numbers of the records' blocks.
-use Rattle.std.proofs.Common.{◌≡◌, ℕ, zero, suc, ◌+◌, ◌<◌, ◌≤◌, ◌++◌, ◌==◌, ◌&&◌, nat_le, nat_lt, Bool, true, false, List, [], ◌∷◌, map, length, Option, Some, None, refl, sym, ◌∙◌, ap, subst, inl, inr, arith, All, append_assoc, append-nil, length-append, eqb-true, ltb-true, leb-true}
+use Rattle.std.proofs.Common.{◌≡◌, ℕ, zero, suc, ◌+◌, ◌-◌, ◌<◌, ◌≤◌, ◌++◌, ◌==◌, ◌&&◌, nat_le, nat_lt, Bool, true, false, List, [], ◌∷◌, map, length, Option, Some, None, refl, sym, ◌∙◌, ap, subst, inl, inr, arith, All, append_assoc, append-nil, length-append, eqb-true, ltb-true, leb-true}
 use Rattle.std.specs.Option.{option_map}
 use Rattle.std.specs.Prelude.{codes, decimal, sum}
 use Rattle.std.specs.declared.cmp.Ordering.TheVariants.{Equal, Greater}
 use Rattle.std.specs.List.{flat_map, take_while, prefix_len, range_with_len, sum_by, AllByRecursion}
 use Rattle.std.specs.Ordering.{is_le, nat_cmp, bool_cmp, ordering_then}
 use Rattle.std.specs.Cmp.{nat_cmp_is, nat_cmp_total, tied_itself}
-use Rattle.std.proofs.lemmas.Bool.{and_from, and_parts, or_cases, or_left, or_right, false_from_ne_true, lt-ltb, le-leb, eq-eqb}
+use Rattle.std.proofs.lemmas.Bool.{and_from, and_parts, cases_Bool, or_cases, or_left, or_right, false_from_ne_true, lt-ltb, le-leb, eq-eqb}
 use Rattle.std.proofs.Math.Bool.{and-true}
 use Rattle.std.proofs.lemmas.List.{map-append, length-map, take-append-drop}
 use Rattle.std.proofs.lemmas.List.Concat.{length-flat_map}
@@ -25,7 +25,7 @@ use Rattle.iv_cover.proofs.Groups.{mem-append}
 use Rattle.iv_text.proofs.PrecedesLemmas.{Precedes, precedes-from}
 use Rattle.iv_text.proofs.ListLemmas.{Mem, filter-agree, mem-filter}
 use Rattle.iv_blocks.specs.Inside.BlockCursor.{interval_of, starts_until, drop_while, BeginsElse}
-use Rattle.iv_blocks.specs.ClusterRows.{blocks_before, cluster_row}
+use Rattle.iv_blocks.specs.ClusterRows.{blocks_before, blocks_until, cluster_row}
 use Rattle.iv_blocks.specs.Groups.{is_in_group, group, listed}
 use Rattle.iv_blocks.specs.KeptBlocks.{Key, Kept, Entries, AreBlocksOf, key_cmp, kept_at, kept_block, name_of}
 use Rattle.iv_blocks.specs.declared.options.BlockOptions.{BlockOptions}
@@ -88,6 +88,20 @@ take-passes test (x ∷ blocks) b m = go (λ later. take-passes test blocks b la
     ]
     go rest false is = absurd (subst (λ (l : List Block). Mem b l) (take-none test (x ∷ blocks) is) m)
 
+-- a stricter test takes no more
+take-fewer : (test more : Block → Bool) → ((b : Block) → test b ≡ true → more b ≡ true) → (blocks : List Block) → length (take_while test blocks) ≤ length (take_while more blocks)
+take-fewer test more weaker [] = omega arith
+take-fewer test more weaker (x ∷ blocks) = elim (cases_Bool (test x)) [
+  | inl e ↦
+      omega (
+        arith,
+        take-fewer test more weaker blocks,
+        ap (λ (l : List Block). length l) (take-first test (x ∷ blocks) blocks x refl e),
+        ap (λ (l : List Block). length l) (take-first more (x ∷ blocks) blocks x refl (weaker x e)),
+      )
+  | inr e ↦ omega (arith, ap (λ (l : List Block). length l) (take-none test (x ∷ blocks) e))
+]
+
 drop-begins : (test : Block → Bool) (blocks : List Block) → BeginsElse test (drop_while test blocks)
 drop-begins test [] = tt
 drop-begins test (x ∷ blocks) = go (drop-begins test blocks) (test x) refl
@@ -115,6 +129,18 @@ module _ (number more : ℕ) (all left after : List Block) (rows rest : List Rec
         count = omega (arith, h.count, counted, length-append h.passed (take_while (starts_until r.seq r.start) left));
         until = λ q m b here. until-later r q b (later-rows r rest sorted.0 q m) (passes b here);
       }
+
+  -- those that were counted are no longer left
+  pub left-is : length left ≡ more + length after
+  left-is =
+      let parts = ap (λ (l : List Block). length l) (split (starts_until r.seq r.start) left) in
+      omega (
+        arith,
+        parts,
+        length-append (take_while (starts_until r.seq r.start) left) (drop_while (starts_until r.seq r.start) left),
+        counted,
+        ap (λ (l : List Block). length l) past,
+      )
 
   -- the number is that of all blocks up to the record
   pub number-is : number + more ≡ length (take_while (starts_until r.seq r.start) all)
@@ -215,8 +241,7 @@ module _ (o : BlockOptions) (g : Sequences) (width : ℕ) (rows : List RecordVal
       ∙ sym (sum-map (λ s. blocks_before o.distance rows s (sequence_length g s)) (range_with_len 0 n))
 
   -- the blocks up to a position of a sequence
-  pub count-until : (s p : ℕ) → length (take_while (starts_until s p) (map interval_of entries))
-      ≡ sum (map (λ rank. blocks_before o.distance rows rank (sequence_length g rank)) (range_with_len 0 s)) + blocks_before o.distance rows s (p + 1)
+  pub count-until : (s p : ℕ) → length (take_while (starts_until s p) (map interval_of entries)) ≡ blocks_until o.distance g rows s (p + 1)
   count-until s p =
       let lower : Entries = all_entries look (sequence_length g) s in
       let here : Entries = side_entries look s false (p + 1) in
@@ -258,6 +283,18 @@ module _ (o : BlockOptions) (g : Sequences) (width : ℕ) (rows : List RecordVal
           let key : e.0 ≡ (e.0.0, true, e.0.2) = ap (λ (t : Bool). (e.0.0, t, e.0.2)) other in
           entry-found entries e both.0 (right.blocks e.0 ∙ ap look key ∙ no-other e.0.0 e.0.2)) in
           rw (← found.2) (past-key s p e.0 e.1 both.1 side)
+
+  -- up to a record there are no more than up to any position past its start
+  pub count-below : (r : RecordValue) (s position number : ℕ) → r.seq ≡ s → r.start < position → number ≡ length (take_while (starts_until r.seq r.start) (map interval_of entries))
+      → number ≤ blocks_until o.distance g rows s position
+  count-below r s position number is_on below is =
+      let last : RecordValue = record r { start = position - 1 } in
+      let later : Precedes r last = inr (refl, omega (arith, below)) in
+      let fewer = take-fewer (starts_until r.seq r.start) (starts_until r.seq (position - 1)) (λ b passes. until-later r last b later passes) (map interval_of entries) in
+      let all = count-until r.seq (position - 1) in
+      let past : (position - 1) + 1 ≡ position = omega (arith, below) in
+      subst (λ k. number ≤ blocks_until o.distance g rows k position) is_on
+      (subst (λ k. number ≤ blocks_until o.distance g rows r.seq k) past (omega (arith, is, fewer, all)))
 
   -- the row of a record
   pub row-is : (r : RecordValue) (number : ℕ) → number ≡ length (take_while (starts_until r.seq r.start) (map interval_of entries))

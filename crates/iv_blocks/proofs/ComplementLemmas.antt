@@ -23,10 +23,11 @@ use Rattle.iv_blocks.specs.Inside.BlockCursor.{interval_of, gap_between, gaps_be
 use Rattle.iv_blocks.specs.ComplementRows.{gap_row, gap_rows, is_shown, complement_text}
 use Rattle.iv_blocks.specs.Groups.{is_in_group, group, sides}
 use Rattle.iv_blocks.specs.KeptBlocks.{Entries, AreBlocksOf}
+use Rattle.iv_blocks.specs.MergeRows.{side_blocks}
 use Rattle.iv_blocks.specs.declared.options.BlockOptions.{BlockOptions}
 use Rattle.iv_blocks.proofs.BlockCursorLemmas.{take-all, drop-all, begins-else}
 use Rattle.iv_blocks.proofs.GapLemmas.{all_gaps-are}
-use Rattle.iv_blocks.proofs.KeptLemmas.{group-in, entry_of, side_blocks, entries-are, flat_map-agree, map-filter_map}
+use Rattle.iv_blocks.proofs.KeptLemmas.{group-in, entry_of, entries-are, flat_map-agree, map-filter_map}
 use Rattle.iv_blocks.proofs.UnstrandedLemmas.{all-lie, map-flat_map}
 
 -- ---- one block after another
@@ -212,8 +213,9 @@ module _ (g : Sequences) (rows : List RecordValue) (lie : All (IsOnGenome g) row
     where
       go : (b : Bool) → list_any (λ r. r.seq == s) rows ≡ b → sequence_text false g s (intervals_on g rows s) ≡ gap_rows true g rows s
       go true e = ap (flat_map (gap_row (sequence_name g s))) (shown-some 0 (sequence_length g s) (intervals_on g rows s) (own-some s e) ∙ runs-are s)
-          ∙ sym (cond-true (is_shown true rows s) _ _ e)
-      go false e = ap (sequence_text false g s) (own-none s e) ∙ sym (cond-false (is_shown true rows s) _ _ e)
+          ∙ sym (ap (flat_map (gap_row (sequence_name g s))) (cond-true (is_shown true rows s) (empty_runs (depth rows s) 0 (sequence_length g s)) [] e))
+      go false e = ap (sequence_text false g s) (own-none s e)
+          ∙ sym (ap (flat_map (gap_row (sequence_name g s))) (cond-false (is_shown true rows s) (empty_runs (depth rows s) 0 (sequence_length g s)) [] e))
 
   -- the rows of the gaps of all blocks
   pub gaps-of_blocks : (limited : Bool) → texts (not limited) g 0 (seq_count g) (flat_map (intervals_on g rows) (range_with_len 0 (seq_count g))) ≡ complement_text limited g rows

@@ -1,7 +1,7 @@
 -- The gaps of a sequence from a position on, and those that share a position with a region.
-use Rattle.std.proofs.Common.{◌≡◌, ◌≢◌, ◌⊎◌, ℕ, zero, suc, ◌+◌, ◌-◌, ◌<◌, ◌≤◌, ◌==◌, inl, inr, ◌&&◌, ◌||◌, not, nat_lt, nat_le, min, Bool, true, false, cond, if◌then◌else◌, List, [], ◌∷◌, ◌++◌, filter, length, Option, Some, None, refl, sym, ◌∙◌, ap, ap₂, subst, arith, All, lt-ltb, ltb-true, le-ltb, le-leb, eq-eqb, eqb-true, leb-true, append-nil, length-append}
-use Rattle.std.specs.List.{flat_map, list_any}
-use Rattle.std.proofs.lemmas.Bool.{and_parts, and_from, and_left, and_right, cases_Bool, cases_lt, cases_eq, cond-true, cond-false, false_from_ne_true, both_ways, ne_eqb}
+use Rattle.std.proofs.Common.{◌≡◌, ◌≢◌, ℕ, zero, suc, ◌+◌, ◌-◌, ◌<◌, ◌≤◌, ◌==◌, inl, inr, ◌&&◌, ◌||◌, not, nat_lt, nat_le, min, Bool, true, false, if◌then◌else◌, List, [], ◌∷◌, ◌++◌, filter, length, Option, Some, None, refl, sym, ◌∙◌, ap, ap₂, arith, All, lt-ltb, le-ltb, le-leb, eq-eqb, eqb-true, leb-true, append-nil, length-append}
+use Rattle.std.specs.List.{flat_map}
+use Rattle.std.proofs.lemmas.Bool.{and_from, and_left, and_right, cases_Bool, cases_lt, cases_eq, cond-true, cond-false, false_from_ne_true, both_ways, ne_eqb}
 use Rattle.std.proofs.lemmas.List.Concat.{flat_map-append}
 use Rattle.std.proofs.lemmas.List.Elements.{filter-append}
 use Rattle.iv_text.specs.Genome.{Sequences, sequence_length}
@@ -13,7 +13,7 @@ use Rattle.iv_cover.specs.Blocks.{is_block_start}
 use Rattle.iv_cover.specs.Depth.{depth}
 use Rattle.iv_cover.specs.Runs.{Run, empty_runs}
 use Rattle.iv_cover.specs.TrackBlocks.{start_of, stop_of}
-use Rattle.iv_cover.proofs.Cover.{Free, Lasting, IsBlock, next_start, none_within, home, home-starts, home-le}
+use Rattle.iv_cover.proofs.Cover.{Free, Lasting, IsBlock, next_start, home, home-starts, home-le}
 use Rattle.iv_cover.proofs.EmptyLemmas.{empty_runs-none, empty_runs-skip}
 use Rattle.iv_cover.proofs.EmptyMeanings.{empty-bare}
 use Rattle.iv_blocks.specs.ComplementRows.{gap_row, is_shown}
@@ -22,7 +22,7 @@ use Rattle.iv_blocks.specs.Inside.BlockCursor.{gap_between}
 use Rattle.iv_blocks.specs.Inside.Lookups.{IsFirstBlock, IsLastBlock}
 use Rattle.iv_blocks.specs.Inside.Regions.{BeginsGap, gaps_from, kept_on}
 use Rattle.iv_blocks.specs.KeptBlocks.{Kept, Entries, AreBlocksOf, name_of}
-use Rattle.iv_blocks.specs.Inside.RegionRows.{shares, gaps_in}
+use Rattle.iv_blocks.specs.RegionRows.{shares, gaps_in}
 use Rattle.iv_blocks.proofs.ComplementLemmas.{depth-some, depth-none, in-group, within}
 use Rattle.iv_blocks.proofs.GapLemmas.{runs-gap}
 use Rattle.iv_blocks.proofs.JoinLemmas.{none-some}
@@ -32,6 +32,11 @@ use Rattle.iv_blocks.proofs.RepairLemmas.{none-shown_is}
 use Rattle.iv_blocks.proofs.UnstrandedLemmas.{all-lie}
 
 -- ---- gaps and a region
+
+-- a filter of a list that may be left out
+filter-if : {X : Type 0} (p : X → Bool) (shown : Bool) (xs : List X) → filter p (if shown then xs else []) ≡ (if shown then filter p xs else [])
+filter-if p true xs = refl
+filter-if p false xs = refl
 
 abbrev gap_of : ℕ → ℕ → Run
 gap_of a b = record { start = a; stop = b; value = 0 }
@@ -263,13 +268,17 @@ module _ (g : Sequences) (width : ℕ) (rows : List RecordValue) (entries : Entr
 
     -- ---- where the first gap may begin
 
+    pub left-all : gaps_in limited g rows s start stop ≡ left 0
+    left-all = filter-if (is_near start stop) (is_shown limited rows s) (empty_runs (depth rows s) 0 end)
+
     -- the gaps before the last block that starts up to the region's start aren't near it
     pub left-begin : (last : ℕ) (found : ℕ × ℕ) → last ≤ start → IsLastBlock look last found → gaps_in limited g rows s start stop ≡ left found.1
     left-begin last found low entry =
         let b : Kept = record { stop = found.1; results = entry.results } in
         let long = (block found.0 b entry.is).long in
         let some = full found.0 b entry.is in
-        ap (λ (l : List Run). if is_shown limited rows s then l else [])
+        left-all
+        ∙ ap (λ (l : List Run). if is_shown limited rows s then l else [])
         (early-none start stop (depth rows s) found.0 0 found.0 end (omega arith) (omega arith) (low-start found.0 b entry.is) (some found.0 (omega arith) long) (omega (arith, entry.within, low))
         ∙ ap (filter (is_near start stop)) (empty_runs-skip (depth rows s) found.0 found.1 end (omega (arith, long)) (low-stop found.0 b entry.is) some))
 

@@ -17,6 +17,7 @@ use Rattle.iv_cover.proofs.Positions.{values-agree}
 use Rattle.iv_text.proofs.ListLemmas.{Mem, mem-filter, all-mem, filter-none}
 use Rattle.iv_blocks.specs.Groups.{is_in_group, is_on_side, group, sides, listed}
 use Rattle.iv_blocks.specs.KeptBlocks.{Key, Kept, Entries, AreBlocksOf, kept_at, kept_block, name_of}
+use Rattle.iv_blocks.specs.MergeRows.{side_blocks}
 use Rattle.iv_blocks.specs.declared.options.BlockOptions.{BlockOptions}
 use Rattle.iv_blocks.proofs.EntryLemmas.{side_entries, rank_entries, entries-all}
 
@@ -49,10 +50,6 @@ group-other s rows = filter-none (is_in_group false s true) rows (λ q m. and_ri
 
 pub name_is : (g : Sequences) (rank : ℕ) → name_of (names_of g) rank ≡ sequence_name g rank
 name_is g rank = ap (λ o. unwrap_or o []) (slice_get-map (λ (s : List ℕ × ℕ). s.0) g rank)
-
--- the blocks of one side of a sequence
-abbrev pub side_blocks : BlockOptions → Sequences → List RecordValue → ℕ → Bool → List (ℕ × (ℕ × List RecordValue))
-side_blocks o g rows s t = blocks_below start_of stop_of o.distance (group o.stranded s t rows) (sequence_length g s)
 
 -- the entry of a block
 abbrev pub entry_of : BlockOptions → Sequences → ℕ → Bool → ℕ × (ℕ × List RecordValue) → Key × Kept

@@ -26,13 +26,13 @@ use Rattle.iv_blocks.specs.Groups.{group, listed, sides}
 use Rattle.iv_blocks.specs.Inside.Lookups.{IsLastBlock}
 use Rattle.iv_blocks.specs.Inside.Regions.{ReachesFrom, row_past}
 use Rattle.iv_blocks.specs.KeptBlocks.{Key, Kept, Entries, AreBlocksOf, key_cmp, kept_at, name_of}
-use Rattle.iv_blocks.specs.MergeRows.{block_row}
-use Rattle.iv_blocks.specs.Inside.RegionRows.{shares, side_blocks_in, blocks_in, merge_text_in}
+use Rattle.iv_blocks.specs.MergeRows.{block_row, side_blocks}
+use Rattle.iv_blocks.specs.RegionRows.{shares, side_blocks_in, blocks_in, merge_text_in}
 use Rattle.iv_blocks.specs.declared.options.BlockOptions.{BlockOptions}
 use Rattle.iv_blocks.proofs.ComplementLemmas.{mem-values}
 use Rattle.iv_blocks.proofs.EntryLemmas.{from, from-step, walked-on, later-keys, side_entries, none-past as no_entry}
 use Rattle.iv_blocks.proofs.JoinLemmas.{none-some}
-use Rattle.iv_blocks.proofs.KeptLemmas.{group-in, side-is, side_blocks, entry_of, none-past}
+use Rattle.iv_blocks.proofs.KeptLemmas.{group-in, side-is, entry_of, none-past}
 use Rattle.iv_blocks.proofs.Keys.{keys_total, keys_exact}
 use Rattle.iv_blocks.proofs.LookupLemmas.{key_cmp-group, beside-after}
 use Rattle.iv_blocks.proofs.MergeLemmas.{entry_row}

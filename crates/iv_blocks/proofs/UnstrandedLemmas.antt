@@ -20,11 +20,12 @@ use Rattle.iv_cover.specs.declared.column.ColumnSummary.{ColumnSummary}
 use Rattle.iv_cover.proofs.Comings.{coming-begun, coming-joined, coming-split_up}
 use Rattle.iv_blocks.specs.Groups.{is_in_group, group, sides, listed}
 use Rattle.iv_blocks.specs.KeptBlocks.{Key, Entries, key_cmp, kept_at}
+use Rattle.iv_blocks.specs.MergeRows.{side_blocks}
 use Rattle.iv_blocks.specs.Inside.UnstrandedBlocks.{kept_entry, entries_with, plain_entry, GivesKept}
 use Rattle.iv_blocks.specs.declared.options.BlockOptions.{BlockOptions}
 use Rattle.iv_blocks.proofs.EntryLemmas.{rank_entries, all_entries}
 use Rattle.iv_blocks.proofs.InOrderLemmas.{all-ordered, all-look}
-use Rattle.iv_blocks.proofs.KeptLemmas.{flat_map-agree, side_blocks, entry_of, sides-are, none-past, none-later}
+use Rattle.iv_blocks.proofs.KeptLemmas.{flat_map-agree, entry_of, sides-are, none-past, none-later}
 
 -- records that fit a genome are on it
 pub all-lie : (g : Sequences) (width : ℕ) (rows : List RecordValue) → All (Fits g width) rows → All (IsOnGenome g) rows

@@ -12,11 +12,14 @@ use Rattle.iv_cover.specs.TrackBlocks.{start_of, stop_of}
 abbrev pub blocks_before : ℕ → List RecordValue → ℕ → ℕ → ℕ
 blocks_before d rows rank position = length (blocks_below start_of stop_of d (on rank rows) position)
 
--- the number of a record's block, from 1: how many blocks there are on sequences of lower rank, and on its own up to its own
+-- how many blocks there are on sequences before the one of this rank, and on it below a position
+abbrev pub blocks_until : ℕ → Sequences → List RecordValue → ℕ → ℕ → ℕ
+blocks_until d g rows rank position =
+    sum (map (λ s. blocks_before d rows s (sequence_length g s)) (range_with_len 0 rank)) + blocks_before d rows rank position
+
+-- the number of a record's block, from 1: how many blocks there are up to its own
 abbrev pub block_number : ℕ → Sequences → List RecordValue → RecordValue → ℕ
-block_number d g rows r =
-    sum (map (λ rank. blocks_before d rows rank (sequence_length g rank)) (range_with_len 0 r.seq))
-    + blocks_before d rows r.seq (r.start + 1)
+block_number d g rows r = blocks_until d g rows r.seq (r.start + 1)
 
 -- the row of a record: its columns, the number of its block, and a line feed
 abbrev pub cluster_row : ℕ → Sequences → List RecordValue → RecordValue → List ℕ

@@ -14,12 +14,13 @@ gap_row name gap = name ++ codes "\t" ++ decimal gap.start ++ codes "\t" ++ deci
 abbrev pub is_shown : Bool → List RecordValue → ℕ → Bool
 is_shown limited rows rank = not limited || list_any (λ r. r.seq == rank) rows
 
--- the rows of a sequence: one for each maximal interval that no record covers
+-- the gaps of a sequence: the maximal intervals that no record covers; none if it isn't shown
+abbrev pub gaps : Bool → Sequences → List RecordValue → ℕ → List Run
+gaps limited g rows rank = if is_shown limited rows rank then empty_runs (depth rows rank) 0 (sequence_length g rank) else []
+
+-- their rows
 abbrev pub gap_rows : Bool → Sequences → List RecordValue → ℕ → List ℕ
-gap_rows limited g rows rank =
-    if is_shown limited rows rank
-    then flat_map (gap_row (sequence_name g rank)) (empty_runs (depth rows rank) 0 (sequence_length g rank))
-    else []
+gap_rows limited g rows rank = flat_map (gap_row (sequence_name g rank)) (gaps limited g rows rank)
 
 -- all rows: those of each sequence, by rank
 abbrev pub complement_text : Bool → Sequences → List RecordValue → List ℕ

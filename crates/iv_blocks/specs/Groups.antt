@@ -1,5 +1,5 @@
 -- Which records of a track may be in one block.
-use Rattle.std.specs.Prelude.{ℕ, ◌+◌, ◌-◌, ◌++◌, length, replicate, ◌==◌, ◌&&◌, Bool, true, false, not, List, [], ◌∷◌, filter, take, Option, None, Some, if◌then◌else◌}
+use Rattle.std.specs.Prelude.{ℕ, ◌-◌, ◌++◌, length, replicate, ◌==◌, ◌&&◌, Bool, true, false, not, List, [], ◌∷◌, filter, take, Option, None, Some, if◌then◌else◌}
 use Rattle.iv_text.specs.RecordValue.{RecordValue}
 use Rattle.iv_text.specs.declared.record_ref.Strand.{Strand}
 use Rattle.iv_cover.specs.declared.column.Column.TheVariants.{Sequence}

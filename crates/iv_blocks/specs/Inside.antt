@@ -9,5 +9,4 @@ pub mod Repairs
 pub mod BlockCursor
 pub mod BlockSweeps
 pub mod MergeSweeps
-pub mod RegionRows
 pub mod Regions

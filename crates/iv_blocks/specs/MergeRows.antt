@@ -16,11 +16,13 @@ abbrev pub block_row : List ℕ → List ColumnSummary → ℕ × (ℕ × List R
 block_row name summaries b =
     name ++ codes "\t" ++ decimal b.0 ++ codes "\t" ++ decimal b.1.0 ++ results_over name summaries b.1.1 ++ codes "\n"
 
--- the rows of one side of a sequence: one for each block, by start
+-- the blocks of one side of a sequence, by start
+abbrev pub side_blocks : BlockOptions → Sequences → List RecordValue → ℕ → Bool → List (ℕ × (ℕ × List RecordValue))
+side_blocks o g rows rank minus = blocks_below start_of stop_of o.distance (group o.stranded rank minus rows) (sequence_length g rank)
+
+-- their rows
 abbrev pub side_rows : BlockOptions → Sequences → List RecordValue → ℕ → Bool → List ℕ
-side_rows o g rows rank minus =
-    flat_map (block_row (sequence_name g rank) (listed o.summaries))
-    (blocks_below start_of stop_of o.distance (group o.stranded rank minus rows) (sequence_length g rank))
+side_rows o g rows rank minus = flat_map (block_row (sequence_name g rank) (listed o.summaries)) (side_blocks o g rows rank minus)
 
 -- all rows: those of each sequence by rank, and within it of each side
 abbrev pub merge_text : BlockOptions → Sequences → List RecordValue → List ℕ
@@ -28,6 +30,4 @@ merge_text o g rows = flat_map (λ rank. flat_map (side_rows o g rows rank) (sid
 
 -- all blocks: those of each sequence by rank, and within it of each side
 abbrev pub all_blocks : BlockOptions → Sequences → List RecordValue → List (ℕ × (ℕ × List RecordValue))
-all_blocks o g rows =
-    flat_map (λ rank. flat_map (λ minus. blocks_below start_of stop_of o.distance (group o.stranded rank minus rows) (sequence_length g rank)) (sides o.stranded))
-    (range_with_len 0 (seq_count g))
+all_blocks o g rows = flat_map (λ rank. flat_map (side_blocks o g rows rank) (sides o.stranded)) (range_with_len 0 (seq_count g))

@@ -11,7 +11,7 @@ ghost use Rattle.iv_blocks.specs.Groups.{joined};
 ghost use Rattle.iv_blocks.specs.Inside.BlockCursor.{gap_between};
 ghost use Rattle.iv_blocks.specs.Inside.Regions.{BeginsGap, gaps_from, kept_on};
 ghost use Rattle.iv_blocks.specs.KeptBlocks.{AreBlocksOf, Kept};
-ghost use Rattle.iv_blocks.specs.Inside.RegionRows.{complement_text_in, gaps_in};
+ghost use Rattle.iv_blocks.specs.RegionRows.{complement_text_in, gaps_in};
 
 use crate::blocks::Blocks;
 use crate::complement::put_gap;
@@ -26,7 +26,7 @@ impl<A: Allocator + Copy> Blocks<A> {
     /// included, of the sequence of this rank. If `limited`, there is none on a sequence without a block.
     ///
     /// At most 2 steps more than there are rows, however many blocks there are elsewhere. Lengths are those of this genome. On a
-    /// fault the sink has taken a prefix of the rows. The program doesn't call it yet.
+    /// fault the sink has taken a prefix of the rows.
     pub fn print_complement_in<S: Sink>(
         &self,
         limited: bool,

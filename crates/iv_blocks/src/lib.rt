@@ -5,6 +5,7 @@
 mod block_cursor;
 mod blocks;
 mod cluster;
+mod cluster_region;
 mod complement;
 mod complement_region;
 mod entries;

@@ -12,7 +12,7 @@ ghost use Rattle.iv_blocks.specs.Inside.Lookups.{kept_in};
 ghost use Rattle.iv_blocks.specs.Inside.Regions.{ReachesFrom, row_past};
 ghost use Rattle.iv_blocks.specs.KeptBlocks.{AreBlocksOf};
 ghost use Rattle.iv_blocks.specs.MergeRows.{block_row};
-ghost use Rattle.iv_blocks.specs.Inside.RegionRows.{blocks_in, merge_text_in, side_blocks_in};
+ghost use Rattle.iv_blocks.specs.RegionRows.{blocks_in, merge_text_in, side_blocks_in};
 
 use crate::blocks::Blocks;
 use crate::group::{Group, Side};
@@ -29,7 +29,7 @@ impl<A: Allocator + Copy> Blocks<A> {
     /// the sequence of this rank.
     ///
     /// At most 8 steps more than there are rows, however many blocks there are elsewhere. On a fault the sink has taken a prefix of
-    /// the rows. The program doesn't call it yet.
+    /// the rows.
     pub fn print_merge_in<S: Sink>(
         &self,
         seq: u32,

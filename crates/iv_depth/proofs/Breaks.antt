@@ -16,7 +16,7 @@ use Rattle.iv_depth.specs.Changes.{ChangeKey, Entries, total, reaches}
 use Rattle.iv_depth.specs.Inside.Walks.{on, level, AreBreaks, Follows}
 
 -- no break is before the first
-level-before : (from to : ℕ) (breaks : List (ℕ × ℤ)) (p : ℕ) → AreBreaks from to breaks → p < from → level breaks p ≡ pos 0
+pub level-before : (from to : ℕ) (breaks : List (ℕ × ℤ)) (p : ℕ) → AreBreaks from to breaks → p < from → level breaks p ≡ pos 0
 level-before from to [] p h low = refl
 level-before from to (b ∷ breaks) p h low =
     let rest : level breaks p ≡ pos 0 = level-before (b.0 + 1) to breaks p h.3 (omega arith) in
@@ -37,7 +37,7 @@ Follows-change f from to value b breaks h follows p low =
     omega (arith, ints, e)
 
 -- the value after the last break at or before p
-Follows-at : (f : ℕ → ℕ) (from to : ℕ) (value : ℤ) (breaks : List (ℕ × ℤ)) → AreBreaks (from + 1) to breaks
+pub Follows-at : (f : ℕ → ℕ) (from to : ℕ) (value : ℤ) (breaks : List (ℕ × ℤ)) → AreBreaks (from + 1) to breaks
     → Follows f from value breaks → value ≡ pos (f from)
 Follows-at f from to value breaks h follows =
     let none : level breaks from ≡ pos 0 = level-before (from + 1) to breaks from h (omega arith) in

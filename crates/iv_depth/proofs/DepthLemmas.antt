@@ -7,7 +7,7 @@ use Rattle.std.proofs.lemmas.Bool.Decides.{eqb_tells}
 use Rattle.std.proofs.lemmas.List.Elements.{All-head, All-tail}
 use Rattle.std.proofs.lemmas.List.Sums.{count_by-le-length}
 use Rattle.std.specs.Ordering.{is_le}
-use Rattle.iv_text.specs.Genome.{Sequences, seq_count, sequence_length}
+use Rattle.iv_text.specs.Genome.{Sequences, seq_count, sequence_name, sequence_length}
 use Rattle.iv_text.specs.Ordered.{added}
 use Rattle.std.specs.List.{AllByRecursion}
 use Rattle.iv_text.specs.Read.{Fits, IsOnGenome}
@@ -17,7 +17,9 @@ use Rattle.iv_text.specs.CoveredPositions.{covers}
 use Rattle.iv_cover.specs.Depth.{depth}
 use Rattle.iv_depth.specs.Changes.{Entries, AreChangesOf}
 use Rattle.iv_depth.specs.Inside.Changes.{AreChanges}
+use Rattle.iv_depth.specs.Inside.Region.{AreChangesOn}
 use Rattle.iv_depth.specs.DepthRows.{covered_runs, all_covered_runs, text_by, depth_text}
+use Rattle.iv_depth.specs.RegionRows.{rows_in, depth_text_in, covered_runs_in}
 use Rattle.iv_depth.specs.declared.depth_rows.DepthRows.{DepthRows}
 use Rattle.iv_depth.specs.Inside.Walks.{on, AreAhead, depth_by}
 use Rattle.iv_cover.proofs.RunsLemmas.{runs-none}
@@ -89,7 +91,7 @@ any-rank [] = tt
 any-rank (e ∷ entries) = (omega arith, any-rank entries)
 
 module _ (g : Sequences) (width : ℕ) (rows : List RecordValue) (entries : Entries) (fit : All (Fits g width) rows) (h : AreChangesOf rows entries) where
-  depth-by : (rank p : ℕ) → depth_by entries rank p ≡ depth rows rank p
+  pub depth-by : (rank p : ℕ) → depth_by entries rank p ≡ depth rows rank p
   depth-by rank p = ap nat_abs (h.depths rank p)
 
   ends : (rank p : ℕ) → sequence_length g rank ≤ p → depth rows rank p ≡ 0
@@ -105,6 +107,24 @@ module _ (g : Sequences) (width : ℕ) (rows : List RecordValue) (entries : Entr
   -- the text by changes is that of the definition
   pub text-of : (shown : DepthRows) → text_by shown g (depth_by entries) ≡ depth_text shown g rows
   text-of shown = ap (text_by shown g) (λ k rank p. depth-by rank p k)
+
+  -- those of one sequence
+  pub AreChangesOn-of : length rows < 2 ^ 32 → (rank : ℕ) → AreChangesOn (depth_by entries rank) rank (sequence_length g rank) entries
+  AreChangesOn-of few rank = record {
+    ordered = h.ordered;
+    changes = h.changes;
+    depths = λ p. h.depths rank p ∙ ap pos (sym (depth-by rank p));
+    small = λ p. let low : depth rows rank p ≤ length rows = count_by-le-length (covers rank p) rows in omega (arith, depth-by rank p, low);
+    ends = λ p past. depth-by rank p ∙ ends rank p past;
+  }
+
+  pub text_in-of : (shown : DepthRows) (rank start stop : ℕ)
+      → rows_in shown (sequence_name g rank) (depth_by entries rank) (sequence_length g rank) start stop ≡ depth_text_in shown g rows rank start stop
+  text_in-of shown rank start stop = ap (λ (f : ℕ → ℕ). rows_in shown (sequence_name g rank) f (sequence_length g rank) start stop) (λ k p. depth-by rank p k)
+
+  pub covered_in-of : (rank start stop : ℕ)
+      → length (covered_runs_in (depth_by entries rank) (sequence_length g rank) start stop) ≡ length (covered_runs_in (depth rows rank) (sequence_length g rank) start stop)
+  covered_in-of rank start stop = ap (λ (f : ℕ → ℕ). length (covered_runs_in f (sequence_length g rank) start stop)) (λ k p. depth-by rank p k)
 
   -- two changes for each row of a depth above 0
   pub entries-of : length entries ≤ 2 * length (all_covered_runs g rows)

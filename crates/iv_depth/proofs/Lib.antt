@@ -11,3 +11,5 @@ pub mod Covered
 pub mod OrderLemmas
 pub mod EdgeLemmas
 pub mod NetChangesLemmas
+pub mod Lookups
+pub mod RegionLemmas

@@ -16,17 +16,17 @@ use Rattle.iv_depth.specs.Inside.Walks.{on, Follows, AreAhead}
 use Rattle.iv_depth.proofs.Breaks.{AreBreaks-on, Follows-on, Follows-end, Step-at}
 
 -- entries of higher ranks are not on this sequence
-on-higher : (rank : ℕ) (entries : Entries) → AllByRecursion (λ e. rank + 1 ≤ e.0.0) entries → on rank entries ≡ []
+pub on-higher : (rank : ℕ) (entries : Entries) → AllByRecursion (λ e. rank + 1 ≤ e.0.0) entries → on rank entries ≡ []
 on-higher rank [] h = refl
 on-higher rank (e ∷ entries) h =
     let off : eqb e.0.0 rank ≡ false = ne_eqb e.0.0 rank (λ is. absurd (omega (arith, h.0, is))) in
     rw off (on-higher rank entries h.1)
 
-on-here : (rank p : ℕ) (z : ℤ) (entries : Entries) → on rank (((rank, p), z) ∷ entries) ≡ (p, z) ∷ on rank entries
+pub on-here : (rank p : ℕ) (z : ℤ) (entries : Entries) → on rank (((rank, p), z) ∷ entries) ≡ (p, z) ∷ on rank entries
 on-here rank p z entries = rw (eq-eqb rank rank refl) refl
 
 -- entries in order are of no lower rank than the first
-ranks-rise : (e : ChangeKey × ℤ) (rest : Entries) (rank : ℕ) → rank ≤ e.0.0
+pub ranks-rise : (e : ChangeKey × ℤ) (rest : Entries) (rank : ℕ) → rank ≤ e.0.0
     → IsLedger pair_cmp (e ∷ rest) → AllByRecursion (λ x. rank ≤ x.0.0) (e ∷ rest)
 unfolding IsStrictlySortedBy
 ranks-rise e rest rank low sorted = (low, later rest sorted.0)
@@ -49,7 +49,7 @@ BeginsElsewhere rank [] = Unit {0}
 BeginsElsewhere rank (e ∷ entries) = e.0.0 ≢ rank
 
 -- so none is
-elsewhere : (rank : ℕ) (entries : Entries) → IsLedger pair_cmp entries → AllByRecursion (λ e. rank ≤ e.0.0) entries → BeginsElsewhere rank entries
+pub elsewhere : (rank : ℕ) (entries : Entries) → IsLedger pair_cmp entries → AllByRecursion (λ e. rank ≤ e.0.0) entries → BeginsElsewhere rank entries
     → AllByRecursion (λ e. rank + 1 ≤ e.0.0) entries
 elsewhere rank [] sorted ranks other = tt
 elsewhere rank (e ∷ entries) sorted ranks other = ranks-rise e entries (rank + 1) (omega (arith, ranks.0, other)) sorted

@@ -4,3 +4,5 @@ pub mod DepthChanges
 pub mod Walks
 pub mod Edges
 pub mod NetChanges
+pub mod Region
+pub mod RunRows

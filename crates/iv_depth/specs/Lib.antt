@@ -1,3 +1,4 @@
 pub mod DepthRows
+pub mod RegionRows
 pub mod Changes
 pub mod Inside

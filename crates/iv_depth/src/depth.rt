@@ -1,14 +1,18 @@
 //! Changes of depth: the state of a kept view.
-ghost use Rattle.std.specs.Prelude.{◌+◌, ◌*◌, All, length};
+ghost use Rattle.std.specs.Prelude.{◌≡◌, ◌<◌, ◌≤◌, ◌+◌, ◌*◌, All, length};
 ghost use Rattle.iv_bytes.specs.Sinks.{Puts};
+ghost use Rattle.iv_text.specs.Genome.{sequence_length};
 ghost use Rattle.iv_text.specs.Read.{Fits};
+ghost use Rattle.iv_cover.specs.Depth.{depth};
 ghost use Rattle.iv_track.specs.Steps.{TakesUpTo};
 ghost use Rattle.iv_depth.specs.Changes.{AreChangesOf};
 ghost use Rattle.iv_depth.specs.DepthRows.{depth_text, all_covered_runs};
+ghost use Rattle.iv_depth.specs.RegionRows.{depth_text_in, covered_runs_in};
 
 use crate::changes::{Changes, add_record, take_record};
 use crate::depth_rows::{DepthRows, put_genome};
 use crate::net_changes::{NetChanges, edges_of};
+use crate::region::{length_of, put_region};
 use iv_bytes::{Sink, WriteFault};
 use iv_cover::Kept;
 use iv_text::{Genome, RecordRef};
@@ -103,5 +107,43 @@ impl<A: Allocator + Copy> Depth<A> {
         // A track holds so few records that no depth leaves 64 bits.
         let _few = track.len();
         put_genome(shown, &self.changes, genome, meter, sink)
+    }
+
+    /// Prints the rows whose interval shares a position with the region, whole and in their order: at most 3 steps, and 2 more for
+    /// each of these rows of a depth above 0. `at` is the depth of the region's first position. It takes no memory.
+    pub fn print_depth_in<S: Sink>(
+        &self,
+        shown: DepthRows,
+        seq: u32,
+        start: u64,
+        stop: u64,
+        at: u64,
+        track: &Track<A>,
+        genome: &Genome<A>,
+        meter: &mut Meter,
+        sink: &mut S,
+    ) -> Result<(), WriteFault>
+        requires right { AreChangesOf track.now.rows self.now }
+        requires fit { All (Fits genome.now track.now.width) track.now.rows }
+        requires some { start < stop }
+        requires within { stop ≤ sequence_length genome.now seq }
+        requires at { at ≡ depth track.now.rows seq start }
+        ensures text { Puts (S.state sink.old) (S.state sink.new) result (depth_text_in shown genome.now track.now.rows seq start stop) }
+        ensures steps { TakesUpTo meter.old meter.new (3 + 2 * length (covered_runs_in (depth track.now.rows seq) (sequence_length genome.now seq) start stop)) }
+    {
+        // A track holds so few records that a depth fits, and so does a position of a sequence.
+        let _few = track.len();
+        let _length = length_of(genome, seq);
+        put_region(
+            shown,
+            &self.changes,
+            genome,
+            seq,
+            start as u32,
+            stop as u32,
+            at as i64,
+            meter,
+            sink,
+        )
     }
 }

@@ -29,7 +29,7 @@ pub enum DepthRows {
 /// Puts the rows of the positions from `start` to `stop`, 0-based and half-open, which are all of this depth.
 ///
 /// There are none if `stop` is not after `start`.
-fn put_stretch<S: Sink>(
+pub(crate) fn put_stretch<S: Sink>(
     shown: DepthRows,
     name: &[u8],
     start: u64,
@@ -73,7 +73,7 @@ fn put_run<S: Sink>(
 }
 
 /// Puts a row for each of the positions, which are all of this depth.
-fn put_positions<S: Sink>(
+pub(crate) fn put_positions<S: Sink>(
     name: &[u8],
     start: u64,
     stop: u64,

@@ -9,6 +9,7 @@ mod depth_sweep;
 mod edges;
 mod lemmas;
 mod net_changes;
+mod region;
 
 pub use depth::Depth;
 pub use depth_rows::DepthRows;

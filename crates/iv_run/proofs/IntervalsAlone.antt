@@ -49,10 +49,10 @@ genomecov-bare shown g rows = ap (text_by shown g) (depth-bare rows)
 
 pub complement-bare : (limited : Bool) (g : Sequences) (rows : List RecordValue) → complement_text limited g (map bare rows) ≡ complement_text limited g rows
 complement-bare limited g rows = λ i. flat_map
-    (λ rank.
-    if not limited || any-bare (λ r. r.seq == rank) rows i
-    then flat_map (gap_row (sequence_name g rank)) (empty_runs (depth-bare rows i rank) 0 (sequence_length g rank))
-    else [])
+    (λ rank. flat_map (gap_row (sequence_name g rank))
+    (if not limited || any-bare (λ r. r.seq == rank) rows i
+    then empty_runs (depth-bare rows i rank) 0 (sequence_length g rank)
+    else []))
     (range_with_len 0 (seq_count g))
 
 -- ---- blocks

@@ -5,7 +5,6 @@ use Rattle.iv_cover.specs.declared.column.ColumnSummary.{ColumnSummary}
 use Rattle.iv_blocks.specs.declared.group.Group.{Group}
 use Rattle.iv_blocks.specs.declared.group.Side.{Side}
 use Rattle.iv_blocks.specs.declared.options.Summaries.{Summaries}
-use Rattle.iv_text.specs.declared.record_ref.Strand.TheVariants.{Plus, Minus}
 use Rattle.iv_blocks.specs.declared.group.Side.TheVariants as side
 use Rattle.iv_blocks.specs.Groups.{is_in_group, is_on_side}
 

@@ -7,7 +7,7 @@ use Rattle.iv_cover.specs.Depth.{depth}
 use Rattle.iv_cover.specs.Runs.{Run, empty_runs}
 use Rattle.iv_blocks.specs.ComplementRows.{is_shown}
 use Rattle.iv_blocks.specs.KeptBlocks.{Entries, Kept, key_cmp}
-use Rattle.iv_blocks.specs.Inside.RegionRows.{shares}
+use Rattle.iv_blocks.specs.RegionRows.{shares}
 
 -- the blocks before `low` stop at the position or before it, and those after `low` stop past it
 pub record ReachesFrom (look : ℕ → Option Kept) (position low : ℕ) : Type 0 where

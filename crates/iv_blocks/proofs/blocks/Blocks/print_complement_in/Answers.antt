@@ -1,11 +1,11 @@
-use Rattle.std.proofs.Common.{◌≡◌, ◌∙◌, ◌≤◌, List, length, min, ap, subst, arith}
+use Rattle.std.proofs.Common.{◌≡◌, ◌∙◌, List, length, min, ap, subst, arith}
 use Rattle.std.specs.Option.{unwrap_or}
 use Rattle.iv_text.specs.Genome.{sequence_length}
 use Rattle.iv_text.specs.Named.{names_of}
 use Rattle.iv_cover.specs.Runs.{Run}
 use Rattle.iv_blocks.specs.KeptBlocks.{AreBlocksOf}
 use Rattle.iv_blocks.specs.declared.options.BlockOptions.{BlockOptions}
-use Rattle.iv_blocks.proofs.GapRegionLemmas.{left-begin, past-some, past-none}
+use Rattle.iv_blocks.proofs.GapRegionLemmas.{left-all, left-begin, past-some, past-none}
 use Rattle.iv_blocks.proofs.blocks.Blocks.print_complement_in.Goals as goal
 
 pub returns-in-Some : goal.returns-in-Some
@@ -20,6 +20,19 @@ returns-in-Some g c =
       steps = record {
         no_less = omega (arith, c.in-Some.ensures.steps, c.print_gaps_from.ensures.steps);
         at_most = omega (arith, c.in-Some.ensures.steps, c.print_gaps_from.ensures.steps, ap (λ (l : List Run). length l) begin);
+      };
+    }
+
+pub returns-in-None : goal.returns-in-None
+returns-in-None g c =
+    let a = c.args in
+    let right = subst (λ (o : BlockOptions). AreBlocksOf o (names_of a.genome.now) a.track.now.rows a.self.now.entries) c.requires.joined c.requires.right in
+    let all = left-all a.genome.now a.track.now.width a.track.now.rows a.self.now.entries right c.requires.fit a.seq a.limited a.start a.stop in
+    record {
+      text = rw all c.print_gaps_from-in-None.ensures.text;
+      steps = record {
+        no_less = omega (arith, c.in-None.ensures.steps, c.print_gaps_from-in-None.ensures.steps);
+        at_most = omega (arith, c.in-None.ensures.steps, c.print_gaps_from-in-None.ensures.steps, ap (λ (l : List Run). length l) all);
       };
     }
 

@@ -9,7 +9,7 @@ use Rattle.iv_blocks.specs.Inside.Groups.{is_minus}
 use Rattle.iv_blocks.specs.Inside.Insertion.{key_of}
 use Rattle.iv_blocks.specs.KeptBlocks.{Key, Kept, key_cmp}
 use Rattle.iv_blocks.specs.MergeRows.{block_row}
-use Rattle.iv_blocks.specs.Inside.RegionRows.{side_blocks_in}
+use Rattle.iv_blocks.specs.RegionRows.{side_blocks_in}
 use Rattle.iv_blocks.proofs.MergeLemmas.{entry_row}
 use Rattle.iv_blocks.proofs.RegionLemmas.{Ascends, is_early, is_in}
 use Rattle.iv_blocks.proofs.blocks.Blocks.print_side_in.Given as goal

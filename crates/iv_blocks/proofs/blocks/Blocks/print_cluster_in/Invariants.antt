@@ -1,0 +1,29 @@
+use Rattle.std.proofs.Common.{◌≡◌, ◌+◌, ◌<◌, ◌≤◌, length, map}
+use Rattle.std.specs.List.{flat_map}
+use Rattle.iv_bytes.proofs.PutLemmas.{Underway}
+use Rattle.iv_text.specs.Ordered.{AreInOrder}
+use Rattle.iv_text.specs.RecordValue.{RecordValue}
+use Rattle.iv_text.proofs.ListLemmas.{Mem}
+use Rattle.iv_track.specs.Regions.{near}
+use Rattle.iv_blocks.specs.Inside.BlockCursor.{interval_of}
+use Rattle.iv_blocks.specs.ClusterRows.{blocks_until, cluster_row}
+use Rattle.iv_blocks.specs.RegionRows.{cluster_text_in}
+use Rattle.iv_blocks.proofs.ClusterLemmas.{IsPassed}
+use Rattle.iv_blocks.proofs.blocks.Blocks.print_cluster_in.Given as goal
+
+-- the rows of the records that are left remain to be written
+abbrev pub invariant-loop-row : goal.invariant-loop-row
+invariant-loop-row g l = record {
+  put : Underway (g.S.Sink.state l.fn.sink) (g.S.Sink.state l.sink)
+      (flat_map (cluster_row l.self.options.distance l.genome l.track.rows) l.hits.rows)
+      (cluster_text_in l.self.options.distance l.genome l.track.rows l.fn.region.seq l.fn.region.start l.fn.region.stop);
+  ordered : AreInOrder l.hits.rows;
+  here : (r : RecordValue) → Mem r l.hits.rows → (r.seq ≡ l.fn.region.seq) × (r.start < l.fn.region.stop);
+  passed : IsPassed l.number (map interval_of l.self.entries) l.ahead l.hits.rows;
+  until : l.number ≤ blocks_until l.self.options.distance l.genome l.track.rows l.fn.region.seq l.fn.region.stop;
+  no_less : l.fn.meter ≤ l.meter;
+  at_most : l.meter + l.hits.passes ≤ l.fn.meter + (3 + length (near l.fn.region l.track.rows) + l.number);
+}
+
+abbrev pub decreases-loop-row : goal.decreases-loop-row
+decreases-loop-row g l = length l.hits.rows
