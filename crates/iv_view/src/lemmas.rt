@@ -1,6 +1,16 @@
 //! Lemmas on the definitions: functions that do nothing, whose contracts are the lemmas.
-ghost use Rattle.std.specs.Prelude.{◌≡◌, ◌↔◌, ◌++◌, ◌∷◌, ℕ, List, Some, None, IsPermutation, slice_get};
+ghost use Rattle.std.specs.Prelude.{◌≡◌, ◌<◌, ◌≤◌, ◌↔◌, ◌++◌, ◌∷◌, All, ℕ, List, Some, None, Ok, IsPermutation, length, slice_get};
+ghost use Rattle.iv_text.specs.BedFile.{Bed, bed_of};
+ghost use Rattle.iv_text.specs.Genome.{Sequences};
+ghost use Rattle.iv_text.specs.Named.{names_of};
+ghost use Rattle.iv_text.specs.Ordered.{ordered};
+ghost use Rattle.iv_text.specs.Read.{read, Fits};
+ghost use Rattle.iv_text.specs.RecordText.{record_text};
+ghost use Rattle.iv_text.specs.RecordValue.{RecordValue};
+ghost use Rattle.iv_text.specs.Widths.{IsWidth};
 ghost use Rattle.iv_view.specs.Merge.{MergeArgs, said_by, nothing_said};
+ghost use Rattle.iv_view.specs.Inside.RowsAgain.{IsBedRow};
+ghost use Rattle.iv_view.specs.RecordRows.{records_text};
 ghost use Rattle.iv_view.specs.Inside.MergeOptions.{MergeOption, words_of, option_words, options_of};
 
 /// Words of `merge` and `cluster` are accepted exactly if they are those of options in some order, each of which comes once;
@@ -17,4 +27,16 @@ pub fn options_in_any_order()
 /// Words in which an option comes twice are refused, whatever its values are.
 pub fn no_option_twice()
     ensures { (front middle back : List MergeOption) (a b : MergeOption) → slice_get (words_of a) 0 ≡ slice_get (words_of b) 0 → said_by (option_words (front ++ a ∷ (middle ++ b ∷ back))) nothing_said ≡ None }
+{}
+
+/// The text of the record of a line, read again, is that record.
+///
+/// While sequences have other lengths, and the record ends within its own, the line means the same record. A BED file whose lines are
+/// the rows of `records` has just their records, unless a row begins as a header does or the name of a sequence holds a LF.
+/// No row of the records of a BED file does: printed in the order of a track, and loaded again, they are the same track.
+pub fn records_are_read_again()
+    ensures line { (g : Sequences) (width : ℕ) (line : List ℕ) (r : RecordValue) → IsWidth width → read g width line ≡ Ok r → read g width (record_text g r) ≡ Ok r }
+    ensures lengths { (g other : Sequences) (width : ℕ) (line : List ℕ) (r : RecordValue) → names_of other ≡ names_of g → Fits other width r → read g width line ≡ Ok r → read other width line ≡ Ok r }
+    ensures rows { (g : Sequences) (width empty limit : ℕ) (rows : List RecordValue) → IsWidth width → All (IsBedRow g width) rows → 0 < length rows → length rows ≤ limit → bed_of g empty limit (records_text g rows) ≡ Ok (record { width = width; rows = rows }) }
+    ensures file { (g : Sequences) (empty limit : ℕ) (text : List ℕ) (b : Bed) → bed_of g empty limit text ≡ Ok b → bed_of g empty limit (records_text g (ordered b.rows)) ≡ Ok (record { width = b.width; rows = ordered b.rows }) }
 {}
