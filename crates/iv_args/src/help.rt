@@ -44,8 +44,11 @@ Lines of a script, their fields separated by one TAB:
   resize    SEQUENCE  LENGTH          correct the length of a sequence
   print     NAME                      print a view
   printall                            print all views, each under #NAME
+  show      NAME  REGION              print the rows of a view in a region
+  showall   REGION                    print those of all views, as printall does
   close     NAME                      close a view
-Empty lines and lines that begin with # are skipped.
+Empty lines and lines that begin with # are skipped. A REGION is three fields,
+SEQUENCE  START  END: rows that share a position with it are printed whole.
 
 Views, with the same options in a script and on the command line:
   merge             the blocks of records that overlap or are book-ended;
@@ -117,11 +120,15 @@ Lines of a script, their fields separated by one TAB:
   resize    SEQUENCE  LENGTH          correct the length of a sequence
   print     NAME                      print a view
   printall                            print all views, each under #NAME
+  show      NAME  REGION              print the rows of a view in a region
+  showall   REGION                    print those of all views, as printall does
   close     NAME                      close a view
 Empty lines and lines that begin with # are skipped. A VIEW is a subcommand with
 its options, separated by spaces: merge, cluster, complement, genomecov,
-intersect, subtract, getfasta, records. A refused line changes nothing; standard
-error names it with the reason, and the exit status is 1.
+intersect, subtract, getfasta, records. A REGION is three fields, SEQUENCE
+START  END: rows that share a position with it are printed whole, and of views
+whose rows come from records those of such records. A refused line changes
+nothing; standard error names it with the reason, and the exit status is 1.
 
 No file is changed. The corrected track comes out by records, as in the example.
 Standard input is the script, so no file can be /dev/stdin; <(..) of bash is

@@ -40,9 +40,9 @@ const OPTIONS: &[(&[u8], &[u8])] = &[
     (b"-C -names -filenames", b"one run for each file"),
     (
         b"-name -name+ -nameOnly",
-        b"-tab, and paste the names beside it, in the order of cluster",
+        b"-tab, and paste the names beside it, in the order of records",
     ),
-    (b"-bedOut", b"-tab, and paste it beside the rows of cluster"),
+    (b"-bedOut", b"-tab, and paste it beside the rows of records"),
     (b"-rna", b"sed '/^>/!y/Tt/Uu/' over the rows"),
     (
         b"-fullHeader",
@@ -77,7 +77,7 @@ const OPTIONS: &[(&[u8], &[u8])] = &[
         b"-trackline -trackopts",
         b"echo writes such a line before the rows",
     ),
-    (b"-N", b"bedtools subtract has it, over the rows of cluster"),
+    (b"-N", b"bedtools subtract has it, over the rows of records"),
 ];
 
 /// Whether a word is a subcommand that only bedtools has.
@@ -98,7 +98,7 @@ pub(crate) fn instead_of(option: &[u8]) -> Option<&'static [u8]> {
 /// What to do instead of a subcommand.
 pub(crate) fn instead_of_subcommand(word: &[u8]) -> &'static [u8] {
     match word {
-        b"sort" => b"bedkeep cluster prints all records in order, with one more column",
+        b"sort" => b"bedkeep records prints all records in order",
         b"coverage" =>
             b"bedkeep intersect -c counts; bedtools does the rest, over rows of bedkeep too",
         b"maskfasta" => b"bedtools maskfasta -fi FASTA -bed BED -fo FILE, over rows of bedkeep too",

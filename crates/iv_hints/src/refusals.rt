@@ -56,7 +56,8 @@ fn field(line: &[u8], number: usize) -> &[u8] {
     }
 }
 
-/// A refused edit: its line, the width of the records that it is about, and the fronts of their file and of the genome file.
+/// A refused edit, or a refused print of a region: its line, the width of the records that it is about, and the fronts of their file and
+/// of the genome file.
 #[derive(Clone, Copy)]
 struct Refused<'a> {
     line: &'a [u8],
@@ -74,7 +75,7 @@ fn slot_of(line: &[u8]) -> Slot {
     }
 }
 
-/// Puts what is wrong with an edit.
+/// Puts what is wrong with an edit, or with a region.
 fn put_edit<F: HintFiles>(
     alloc: Global,
     plan: &Plan<'_>,
@@ -135,10 +136,19 @@ impl<'a> Refused<'a> {
         matches!(self.command(), b"replace" | b"replaceb")
     }
 
-    /// A column of the record, or of the second one, counted from 0.
+    /// Whether the command has a region instead of a record.
+    fn has_region(&self) -> bool {
+        matches!(self.command(), b"show" | b"showall")
+    }
+
+    /// A column of the record, or of the second one, or of the region, counted from 0.
     fn column_of(&self, is_second: bool, place: usize) -> &'a [u8] {
-        let front = if is_second { self.width } else { 0 };
-        let number = place.saturating_add(front).saturating_add(1);
+        let front = match self.command() {
+            b"show" => 2,
+            _ => 1,
+        };
+        let skipped = if is_second { self.width } else { 0 };
+        let number = place.saturating_add(skipped).saturating_add(front);
         field(self.line, number)
     }
 
@@ -186,7 +196,7 @@ impl<'a> Refused<'a> {
         if is_spaced(name) {
             return put_spaced(b"the name", name, hint);
         }
-        if has_name(self.genome, next) {
+        if has_name(self.genome, next) && !self.has_region() {
             return put_order_of_columns(name, next, hint);
         }
         match alike_in(self.genome, name) {
@@ -233,8 +243,16 @@ impl<'a> Refused<'a> {
         let is_second = self.has_two() && self.is_inside(false);
         let name = self.column_of(is_second, 0);
         let end = self.column_of(is_second, 2);
+        if !self.has_two() && self.is_inside(false) {
+            return put_resized(end, name, hint);
+        }
+        let remedy: &[u8] = if self.has_region() {
+            b"a region ends there at most"
+        } else {
+            b"resize corrects a length"
+        };
         match length_in(self.genome, name) {
-            Some(length) => put_past(end, name, length, hint),
+            Some(length) => put_past(end, name, length, remedy, hint),
             None => put_no_name(name, hint),
         }
     }
@@ -402,7 +420,7 @@ fn put_unordered(start: &[u8], end: &[u8], hint: &mut Hint) -> Result<(), AllocE
         return hint.join(
             b"start and end are ",
             start,
-            b": a record has at least one base",
+            b": an interval has at least one base",
             b"",
             b"",
             b"",
@@ -418,8 +436,14 @@ fn put_unordered(start: &[u8], end: &[u8], hint: &mut Hint) -> Result<(), AllocE
     )
 }
 
-/// Puts that an end is past the end of its sequence.
-fn put_past(end: &[u8], name: &[u8], length: &[u8], hint: &mut Hint) -> Result<(), AllocError> {
+/// Puts that an end is past the end of its sequence, and what to do.
+fn put_past(
+    end: &[u8],
+    name: &[u8],
+    length: &[u8],
+    remedy: &[u8],
+    hint: &mut Hint,
+) -> Result<(), AllocError> {
     hint.line(&[
         b"the end is ",
         end,
@@ -427,8 +451,21 @@ fn put_past(end: &[u8], name: &[u8], length: &[u8], hint: &mut Hint) -> Result<(
         name,
         b" has ",
         length,
-        b" bases in the genome file: resize corrects a length",
+        b" bases in the genome file: ",
+        remedy,
     ])
+}
+
+/// Puts that an end is past a length that a line before has corrected.
+fn put_resized(end: &[u8], name: &[u8], hint: &mut Hint) -> Result<(), AllocError> {
+    hint.join(
+        b"the end is ",
+        end,
+        b", and a resize before has made ",
+        name,
+        b" shorter",
+        b"",
+    )
 }
 
 /// Puts what is wrong with a name or a score.

@@ -456,6 +456,56 @@ const REFUSALS: &[(u8, &[u8], &[u8])] = &[
         b"open\tm\tmrege",
         b"line 9: mrege is no view: is merge meant?",
     ),
+    (
+        1,
+        b"show\tm\tchr1:10-20",
+        b"line 9: show has after it a name, a sequence, a start and an end, in four fields; fields here: 2",
+    ),
+    (
+        1,
+        b"showall\tm\tchr1\t10\t20",
+        b"line 9: showall has after it a sequence, a start and an end, in three fields; fields here: 4",
+    ),
+    (
+        3,
+        b"show\tm\tchr2\t1\t2",
+        b"line 9: the genome file has no chr2, and has 2: write that",
+    ),
+    (
+        3,
+        b"showall\tchr3\t2\t9",
+        b"line 9: the genome file has no chr3: cut -f1 GENOME prints its names",
+    ),
+    (
+        4,
+        b"show\tm\tchr1\t1,000\t2,000",
+        b"line 9: the start is \"1,000\": without commas",
+    ),
+    (
+        5,
+        b"showall\tchr1\t1\t-2",
+        b"line 9: the end is \"-2\": the first position is 0",
+    ),
+    (
+        6,
+        b"show\tm\tchr1\t20\t10",
+        b"line 9: the start 20 isn't below the end 10: exchange the two, if that is meant",
+    ),
+    (
+        7,
+        b"show\tm\t2\t1\t501",
+        b"line 9: the end is 501, and 2 has 500 bases in the genome file: a region ends there at most",
+    ),
+    (
+        7,
+        b"showall\t2\t1\t500",
+        b"line 9: the end is 500, and a resize before has made 2 shorter",
+    ),
+    (
+        21,
+        b"show\tn\tchr1\t1\t2",
+        b"line 9: no view n is open: its open was refused, it was closed, or it has another name",
+    ),
 ];
 
 /// Whether the hints on refused lines are these.

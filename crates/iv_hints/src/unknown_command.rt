@@ -8,6 +8,12 @@ use crate::vocabulary::{COMMANDS, is_between, is_command};
 use itoa::Buffer;
 use std::alloc::{AllocError, Global};
 
+/// What prints all records.
+const ALL_RECORDS: &[u8] = b"open NAME records, and then print NAME, has all records";
+
+/// What prints a part of a view.
+const REGION: &[u8] = b"show NAME SEQUENCE START END has the rows of a view there";
+
 /// Words that are probably tried, and what to do.
 const OTHERS: &[(&[u8], &[u8])] = &[
     (b"delete", b"remove takes a record out"),
@@ -22,10 +28,11 @@ const OTHERS: &[(&[u8], &[u8])] = &[
     (b"help", b"bedkeep session --help lists the commands"),
     (b"quit", b"a script ends with its input"),
     (b"exit", b"a script ends with its input"),
-    (b"save", b"a print of the view cluster has all records"),
-    (b"list", b"a print of the view cluster has all records"),
-    (b"show", b"a print of the view cluster has all records"),
-    (b"records", b"a print of the view cluster has all records"),
+    (b"save", ALL_RECORDS),
+    (b"list", ALL_RECORDS),
+    (b"records", ALL_RECORDS),
+    (b"region", REGION),
+    (b"query", REGION),
 ];
 
 /// The first word of a line, if spaces separate its words.
@@ -41,6 +48,8 @@ fn fields_of(command: &[u8]) -> &'static [u8] {
         b"open" => b"a name and a view, in two fields (spaces separate the options of the view)",
         b"close" | b"print" => b"a name, in one field",
         b"printall" => b"no field",
+        b"show" => b"a name, a sequence, a start and an end, in four fields",
+        b"showall" => b"a sequence, a start and an end, in three fields",
         b"resize" => b"a sequence and a length, in two fields",
         _ => b"the columns of a record, in as many fields",
     }
@@ -138,7 +147,7 @@ fn put_unknown(alloc: Global, word: &[u8], hint: &mut Hint) -> Result<(), AllocE
         Some(known) => hint.join(text, b" is no command: is ", known, b" meant?", b"", b""),
         None => hint.join(
             text,
-            b" is no command: add, remove, replace, addb, removeb, replaceb, resize, open, close, print or printall",
+            b" is no command: add, remove, replace, addb, removeb, replaceb, resize, open, close, print, printall, show or showall",
             b"",
             b"",
             b"",

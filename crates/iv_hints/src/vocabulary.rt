@@ -83,7 +83,7 @@ pub(crate) const NOTICES: &[u8] = b"--help --version";
 
 /// The commands of a script.
 pub(crate) const COMMANDS: &[u8] =
-    b"add remove replace addb removeb replaceb resize open close print printall";
+    b"add remove replace addb removeb replaceb resize open close print printall show showall";
 
 /// Operations of a summary.
 const OPERATIONS: &[u8] = b"count sum min max collapse distinct";

@@ -63,7 +63,7 @@ with_two = with_track with_one (with_record second_row)
 pub comments-ask_nothing : asked empty (codes "# a note") ≡ Ok request.Nothing
 comments-ask_nothing = refl
 
-pub commands-come_before_a_tab : asked empty (codes "print" ++ tab ++ codes "m") ≡ Ok (request.Print (codes "m"))
+pub commands-come_before_a_tab : asked empty (codes "print" ++ tab ++ codes "m") ≡ Ok (request.Print (codes "m") None)
 commands-come_before_a_tab = refl
 
 pub other_words-are_no_commands : asked empty (codes "paint" ++ tab ++ codes "m") ≡ Err fault.Command
@@ -97,7 +97,7 @@ names-are_taken_once = refl
 pub names-come_before_words : opened with_a_view (codes "n") [] ≡ Err fault.Words
 names-come_before_words = refl
 
-pub views-are_under_their_names : all_text (record with_a_view { views = (codes "b", merging) ∷ (codes "a", merging) ∷ [] }) ≡ codes "#b\n#a\n"
+pub views-are_under_their_names : all_text None (record with_a_view { views = (codes "b", merging) ∷ (codes "a", merging) ∷ [] }) ≡ codes "#b\n#a\n"
 views-are_under_their_names = refl
 
 -- two adds and a print between an opening and a refused add
@@ -112,7 +112,7 @@ script =
 abbrev silent : Written
 silent = printed []
 
-pub script-steps : Steps Runs empty script (silent ∷ silent ∷ silent ∷ printed (text_in with_two plain_merge) ∷ refused_by 7 ∷ []) with_two
+pub script-steps : Steps Runs empty script (silent ∷ silent ∷ silent ∷ printed (text_in None with_two plain_merge) ∷ refused_by 7 ∷ []) with_two
 script-steps = (
   with_a_view,
   inl ([], ((plain_merge, refl, refl), refl), refl),
@@ -124,7 +124,7 @@ script-steps = (
       inl ([], ((omega arith, (refl, (refl, refl, (λ stale. stale), (λ none. refl), tt))), refl), refl),
       (
         with_two,
-        inl (text_in with_two plain_merge, (merging, refl, refl, refl), refl),
+        inl (text_in None with_two plain_merge, (merging, refl, refl, refl), refl),
         (with_two, inr (fault.PastEnd, refl, refl, refl), refl),
       ),
     ),
@@ -141,8 +141,8 @@ edits-may_leave_a_view_stale = inl ([], ((omega arith, (refl, (refl, refl, (λ s
 pub prints-may_want_memory : Runs with_stale (codes "print" ++ tab ++ codes "m") with_stale (refused_by 22)
 prints-may_want_memory = inr (fault.NoMemory, (record { view = plain_merge; stale = true }, refl, refl), refl, refl)
 
-pub prints-make_a_view_current : Runs with_stale (codes "print" ++ tab ++ codes "m") with_one (printed (text_in with_one plain_merge))
-prints-make_a_view_current = inl (text_in with_one plain_merge, (record { view = plain_merge; stale = true }, refl, refl, refl), refl)
+pub prints-make_a_view_current : Runs with_stale (codes "print" ++ tab ++ codes "m") with_one (printed (text_in None with_one plain_merge))
+prints-make_a_view_current = inl (text_in None with_one plain_merge, (record { view = plain_merge; stale = true }, refl, refl, refl), refl)
 
 -- ---- a second file
 
@@ -166,7 +166,7 @@ no_second-is_reported = refl
 pub options-go_in_any_order : opened (record empty { second = Some other }) (codes "i") (codes "intersect" ∷ codes "-wb" ∷ codes "-wa" ∷ []) ≡ Ok (view.Written (written.Paired (pair.Intersect rows.WholeAndHit)))
 options-go_in_any_order = refl
 
-pub records_with_a_hit-are_left_out : all_text beside ≡ codes "#v\n"
+pub records_with_a_hit-are_left_out : all_text None beside ≡ codes "#v\n"
 records_with_a_hit-are_left_out = refl
 
 -- an edit of the second file asks for one, before its columns are looked at
@@ -201,5 +201,5 @@ no_option-is_twice = refl
 pub bases-are_shown_with_strands : opened with_bases (codes "f") (codes "getfasta" ∷ codes "-tab" ∷ codes "-s" ∷ []) ≡ Ok (view.Written (written.Getfasta (record { stranded = true; tab = true })))
 bases-are_shown_with_strands = refl
 
-pub sequences_without_bases-are_left_out : text_in with_bases (view.Written (written.Getfasta (record { stranded = false; tab = false }))) ≡ []
+pub sequences_without_bases-are_left_out : text_in None with_bases (view.Written (written.Getfasta (record { stranded = false; tab = false }))) ≡ []
 sequences_without_bases-are_left_out = refl

@@ -8,6 +8,7 @@ use Rattle.iv_text.specs.Fault.{code_of}
 use Rattle.iv_text.specs.Fields.{words}
 use Rattle.iv_text.specs.declared.fault.Fault.{Fault}
 use Rattle.iv_text.specs.declared.fault.Fault.TheVariants as fault
+use Rattle.iv_track.specs.declared.region.Region.{Region}
 use Rattle.iv_view.proofs.WordLemmas.{words-cut}
 use Rattle.iv_workspace.specs.OpenViews.{Shown}
 use Rattle.iv_workspace.specs.Prints.{PrintedNamed, PrintedView, PrintedAll, IsButCurrent}
@@ -91,42 +92,42 @@ RefusesOpen-cut s name text f why = rw (sym (opened-cut s name text)) why
 
 -- ---- a print
 
-pub printed-view : (s new : State) (given name : List ℕ) (out0 out1 : SinkState) (result : Result (Unit {0}) PrintFault) → given ≡ name
-    → PrintedNamed s given new out0 out1 result → Writes (Ok (request.Print name)) s new out0 out1 result
-printed-view s new given name out0 out1 result same it =
-    by (view_named s.views name) refl result (subst (λ (n : List ℕ). PrintedNamed s n new out0 out1 result) same it)
+pub printed-view : (part : Option Region) (s new : State) (given name : List ℕ) (out0 out1 : SinkState) (result : Result (Unit {0}) PrintFault) → given ≡ name
+    → PrintedNamed part s given new out0 out1 result → Writes (Ok (request.Print name part)) s new out0 out1 result
+printed-view part s new given name out0 out1 result same it =
+    by (view_named s.views name) refl result (subst (λ (n : List ℕ). PrintedNamed part s n new out0 out1 result) same it)
   where
     by : (o : Option Shown) → view_named s.views name ≡ o → (r : Result (Unit {0}) PrintFault)
-        → MatchOption o ((r ≡ Err (printing.Refused fault.NoView)) × (out1 ≡ out0) × (new ≡ s)) (λ v. PrintedView s name v new out0 out1 r)
-        → Writes (Ok (request.Print name)) s new out0 out1 r
+        → MatchOption o ((r ≡ Err (printing.Refused fault.NoView)) × (out1 ≡ out0) × (new ≡ s)) (λ v. PrintedView part s name v new out0 out1 r)
+        → Writes (Ok (request.Print name part)) s new out0 out1 r
     by None is r it =
-        subst (λ (a : Result (Unit {0}) PrintFault). Writes (Ok (request.Print name)) s new out0 out1 a) (sym it.0)
-        (subst (λ (o : SinkState). Writes (Ok (request.Print name)) s new out0 o (Err (printing.Refused fault.NoView))) (sym it.1)
-        (refused (Ok (request.Print name)) s new out0 fault.NoView is it.2))
-    by (Some v) is (Ok tt) it = done (Ok (request.Print name)) s new out0 out1 (text_in s v.view) (v, is, it.1, refl) it.0
-    by (Some v) is (Err printing.Write) it = done-failed (Ok (request.Print name)) s new out0 out1 (text_in s v.view) tt (v, is, it.1, refl) it.0
+        subst (λ (a : Result (Unit {0}) PrintFault). Writes (Ok (request.Print name part)) s new out0 out1 a) (sym it.0)
+        (subst (λ (o : SinkState). Writes (Ok (request.Print name part)) s new out0 o (Err (printing.Refused fault.NoView))) (sym it.1)
+        (refused (Ok (request.Print name part)) s new out0 fault.NoView is it.2))
+    by (Some v) is (Ok tt) it = done (Ok (request.Print name part)) s new out0 out1 (text_in part s v.view) (v, is, it.1, refl) it.0
+    by (Some v) is (Err printing.Write) it = done-failed (Ok (request.Print name part)) s new out0 out1 (text_in part s v.view) tt (v, is, it.1, refl) it.0
     by (Some v) is (Err (printing.Refused fault.NoMemory)) it =
-        subst (λ (o : SinkState). Writes (Ok (request.Print name)) s new out0 o (Err (printing.Refused fault.NoMemory))) (sym it.2)
-        (refused (Ok (request.Print name)) s new out0 fault.NoMemory (v, is, it.0) it.3)
+        subst (λ (o : SinkState). Writes (Ok (request.Print name part)) s new out0 o (Err (printing.Refused fault.NoMemory))) (sym it.2)
+        (refused (Ok (request.Print name part)) s new out0 fault.NoMemory (v, is, it.0) it.3)
     by (Some v) is (Err (printing.Refused other)) it = absurd it
 
 -- a print of all views
-pub printed-all : (s new : State) (out0 out1 : SinkState) (result : Result (Unit {0}) PrintFault) → PrintedAll s new out0 out1 result
-    → Writes (Ok request.PrintAll) s new out0 out1 result
-printed-all s new out0 out1 (Ok tt) it = done (Ok request.PrintAll) s new out0 out1 (all_text s) (it.1, refl) it.0
-printed-all s new out0 out1 (Err printing.Write) it = done-failed (Ok request.PrintAll) s new out0 out1 (all_text s) tt (it.1, refl) it.0
-printed-all s new out0 out1 (Err (printing.Refused fault.NoMemory)) it =
-    subst (λ (o : SinkState). Writes (Ok request.PrintAll) s new out0 o (Err (printing.Refused fault.NoMemory))) (sym it.1)
-    (refused (Ok request.PrintAll) s new out0 fault.NoMemory it.0 it.2)
-printed-all s new out0 out1 (Err (printing.Refused other)) it = absurd it
+pub printed-all : (part : Option Region) (s new : State) (out0 out1 : SinkState) (result : Result (Unit {0}) PrintFault) → PrintedAll part s new out0 out1 result
+    → Writes (Ok (request.PrintAll part)) s new out0 out1 result
+printed-all part s new out0 out1 (Ok tt) it = done (Ok (request.PrintAll part)) s new out0 out1 (all_text part s) (it.1, refl) it.0
+printed-all part s new out0 out1 (Err printing.Write) it = done-failed (Ok (request.PrintAll part)) s new out0 out1 (all_text part s) tt (it.1, refl) it.0
+printed-all part s new out0 out1 (Err (printing.Refused fault.NoMemory)) it =
+    subst (λ (o : SinkState). Writes (Ok (request.PrintAll part)) s new out0 o (Err (printing.Refused fault.NoMemory))) (sym it.1)
+    (refused (Ok (request.PrintAll part)) s new out0 fault.NoMemory it.0 it.2)
+printed-all part s new out0 out1 (Err (printing.Refused other)) it = absurd it
 
 -- ---- how a run ends at a line
 
 -- a print leaves the session as before, except that some views may have become current
 fresher-done : (asks : Result Request Fault) (old new : State) (text : List ℕ) → AsksToPrint asks → DoesAsked asks old new text → IsButCurrent old new
-fresher-done (Ok (request.Print name)) old new text print (v, named, is, same) =
+fresher-done (Ok (request.Print name part)) old new text print (v, named, is, same) =
     subst (IsButCurrent old) (sym is) (refl, freshens-one old.views name)
-fresher-done (Ok request.PrintAll) old new text print (is, same) = subst (IsButCurrent old) (sym is) (refl, freshens-all old.views)
+fresher-done (Ok (request.PrintAll part)) old new text print (is, same) = subst (IsButCurrent old) (sym is) (refl, freshens-all old.views)
 fresher-done (Ok request.Nothing) old new text print does = absurd print
 fresher-done (Ok (request.Edit target e)) old new text print does = absurd print
 fresher-done (Ok (request.Resize name n)) old new text print does = absurd print
@@ -140,13 +141,13 @@ fresher-same old new same = subst (IsButCurrent old) (sym same) (refl, freshens-
 
 -- a refused line leaves it so too
 fresher-left : (asks : Result Request Fault) (old new : State) → Leaves asks old new → IsButCurrent old new
-fresher-left (Ok request.PrintAll) old new left = left
+fresher-left (Ok (request.PrintAll part)) old new left = left
 fresher-left (Ok request.Nothing) old new left = fresher-same old new left
 fresher-left (Ok (request.Edit target e)) old new left = fresher-same old new left
 fresher-left (Ok (request.Resize name n)) old new left = fresher-same old new left
 fresher-left (Ok (request.Open name said)) old new left = fresher-same old new left
 fresher-left (Ok (request.Close name)) old new left = fresher-same old new left
-fresher-left (Ok (request.Print name)) old new left = fresher-same old new left
+fresher-left (Ok (request.Print name part)) old new left = fresher-same old new left
 fresher-left (Err f) old new left = fresher-same old new left
 
 -- a line that ended with the refusal that it writes

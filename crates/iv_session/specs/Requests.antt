@@ -1,5 +1,6 @@
 -- What a line of a script asks for, and why it is refused.
 use Rattle.std.specs.Prelude.{ℕ, ◌==◌, ◌||◌, nat_le, List, [], ◌∷◌, Option, None, Some, Result, Ok, Err, length, drop, codes, if◌then◌else◌}
+use Rattle.std.specs.Option.{is_some}
 use Rattle.std.specs.Str.{bytes_eq}
 use Rattle.iv_text.specs.Bytes.{number_sign}
 use Rattle.iv_text.specs.Fields.{columns}
@@ -10,6 +11,8 @@ use Rattle.iv_text.specs.Read.{column}
 use Rattle.iv_text.specs.declared.fault.Fault.{Fault}
 use Rattle.iv_workspace.specs.States.{State}
 use Rattle.iv_workspace.specs.Edits.{width_of}
+use Rattle.iv_workspace.specs.Regions.{region_said}
+use Rattle.iv_workspace.specs.Views.{view_named}
 use Rattle.iv_session.specs.EditLines.{edit_said}
 use Rattle.iv_session.specs.declared.request.EditKind.{EditKind}
 use Rattle.iv_workspace.specs.declared.session.edits.Target.{Target}
@@ -70,6 +73,18 @@ edit_at g target kind fields (Ok width) = of_fields (request.Edit target) (edit_
 abbrev pub edit_asked : State → Target → EditKind → List (List ℕ) → Result Request Fault
 edit_asked s target kind fields = edit_at s.genome target kind fields (width_of s target)
 
+-- to print of a view, or of all, the rows of a region: that no view has the name is reported first
+abbrev pub show_asked : State → List (List ℕ) → Result Request Fault
+show_asked s (name ∷ seq ∷ start ∷ stop ∷ []) =
+    if is_some (view_named s.views name)
+    then of_fields (λ at. request.Print name (Some at)) (region_said s.genome seq start stop)
+    else Err fault.NoView
+show_asked s other = Err fault.Command
+
+abbrev pub show_all_asked : State → List (List ℕ) → Result Request Fault
+show_all_asked s (seq ∷ start ∷ stop ∷ []) = of_fields (λ at. request.PrintAll (Some at)) (region_said s.genome seq start stop)
+show_all_asked s other = Err fault.Command
+
 -- what a command asks for with these fields, in a session
 abbrev pub asked_by : State → List ℕ → List (List ℕ) → Result Request Fault
 asked_by s word fields =
@@ -81,8 +96,10 @@ asked_by s word fields =
     else if bytes_eq word (codes "replaceb") then edit_asked s target.Second kind.Replace fields
     else if bytes_eq word (codes "open") then of_fields (λ pair. request.Open pair.0 pair.1) (two_fields fields)
     else if bytes_eq word (codes "close") then of_fields (λ name. request.Close name) (only_field fields)
-    else if bytes_eq word (codes "print") then of_fields (λ name. request.Print name) (only_field fields)
-    else if bytes_eq word (codes "printall") then of_fields (λ none. request.PrintAll) (no_fields fields)
+    else if bytes_eq word (codes "print") then of_fields (λ name. request.Print name None) (only_field fields)
+    else if bytes_eq word (codes "printall") then of_fields (λ none. request.PrintAll None) (no_fields fields)
+    else if bytes_eq word (codes "show") then show_asked s fields
+    else if bytes_eq word (codes "showall") then show_all_asked s fields
     else if bytes_eq word (codes "resize") then of_fields (λ pair. request.Resize pair.0 pair.1) (name_and_length (two_fields fields))
     else Err fault.Command
 

@@ -26,9 +26,9 @@ Does (request.Resize name n) old new text = (resized old name n ≡ Ok new) × (
 Does (request.Open name said) old new text = Opens old name (words said) new × (text ≡ [])
 Does (request.Close name) old new text =
     IsSome (view_named old.views name) × (new ≡ without_view old name) × (text ≡ [])
-Does (request.Print name) old new text =
-    (v : Shown) × (view_named old.views name ≡ Some v) × (new ≡ with_printed old name) × (text ≡ text_in old v.view)
-Does request.PrintAll old new text = (new ≡ with_all_printed old) × (text ≡ all_text old)
+Does (request.Print name part) old new text =
+    (v : Shown) × (view_named old.views name ≡ Some v) × (new ≡ with_printed old name) × (text ≡ text_in part old v.view)
+Does (request.PrintAll part) old new text = (new ≡ with_all_printed old) × (text ≡ all_text part old)
 
 -- why a request is refused: a print for out of memory only if a view to be printed is stale
 abbrev pub Refuses : Request → State → Fault → Type 0
@@ -36,9 +36,9 @@ Refuses (request.Edit target e) s f = RefusesIn target e s f
 Refuses (request.Resize name n) s f = resized s name n ≡ Err f
 Refuses (request.Open name said) s f = RefusesOpen s name (words said) f
 Refuses (request.Close name) s fault.NoView = view_named s.views name ≡ None
-Refuses (request.Print name) s fault.NoView = view_named s.views name ≡ None
-Refuses (request.Print name) s fault.NoMemory = (v : Shown) × (view_named s.views name ≡ Some v) × (v.stale ≡ true)
-Refuses request.PrintAll s fault.NoMemory = 0 < stale_count s.views
+Refuses (request.Print name part) s fault.NoView = view_named s.views name ≡ None
+Refuses (request.Print name part) s fault.NoMemory = (v : Shown) × (view_named s.views name ≡ Some v) × (v.stale ≡ true)
+Refuses (request.PrintAll part) s fault.NoMemory = 0 < stale_count s.views
 Refuses other s f = ⊥
 
 -- what a line asks for is done, if it asks for anything
@@ -53,7 +53,7 @@ RefusesAsked (Err reported) s f = f ≡ reported
 
 -- what a refused line leaves: all as before, except that a print of all views may have made some of them current
 abbrev pub Leaves : Result Request Fault → State → State → Type 0
-Leaves (Ok request.PrintAll) old new = IsButCurrent old new
+Leaves (Ok (request.PrintAll part)) old new = IsButCurrent old new
 Leaves other old new = new ≡ old
 
 -- how a line that asks for this may end: it is done, and its text is written; or it is refused, and the message is
@@ -69,8 +69,8 @@ Runs old line new written = Ends (asked old line) old new written
 
 -- a view is to be printed, or all of them
 abbrev pub AsksToPrint : Result Request Fault → Type 0
-AsksToPrint (Ok (request.Print name)) = Unit {0}
-AsksToPrint (Ok request.PrintAll) = Unit {0}
+AsksToPrint (Ok (request.Print name part)) = Unit {0}
+AsksToPrint (Ok (request.PrintAll part)) = Unit {0}
 AsksToPrint other = ⊥
 
 -- the line with which a run ends at a sink: at the output only a print that isn't refused, at the messages only a refused line. The

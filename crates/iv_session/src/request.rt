@@ -1,5 +1,5 @@
 //! What a line of a script asks for.
-ghost use Rattle.std.specs.Prelude.{◌≡◌, ◌≢◌, ◌<◌, ◌≤◌, ◌++◌, Err, IfOk, MatchOption, length};
+ghost use Rattle.std.specs.Prelude.{◌≡◌, ◌≢◌, ◌<◌, ◌≤◌, ◌++◌, Err, None, IfOk, MatchOption, length};
 ghost use Rattle.iv_text.specs.Bytes.{tab};
 ghost use Rattle.iv_text.specs.Fields.{columns as columns_of, fields_left};
 ghost use Rattle.iv_text.specs.Genome.{most_length};
@@ -7,7 +7,7 @@ ghost use Rattle.iv_text.specs.Read.{Fits, read_columns};
 ghost use Rattle.iv_workspace.specs.Edits.{EditFits};
 ghost use Rattle.iv_workspace.specs.States.{State};
 ghost use Rattle.iv_session.specs.EditLines.{both, edit_said, read_two};
-ghost use Rattle.iv_session.specs.Requests.{asked, asked_by, edit_asked, length_said, name_and_length, no_fields, of_fields, only_field, two_fields as two_of};
+ghost use Rattle.iv_session.specs.Requests.{asked, asked_by, edit_asked, length_said, name_and_length, no_fields, of_fields, only_field, show_all_asked, show_asked, two_fields as two_of};
 ghost use Rattle.iv_session.specs.Inside.Requests.{RequestFits};
 ghost use Rattle.iv_session.specs.declared.request.Request.TheVariants as request;
 ghost use Rattle.iv_text.specs.Widths.{IsWidth};
@@ -15,6 +15,7 @@ ghost use Rattle.iv_text.specs.Widths.{IsWidth};
 use iv_text::{
     Fault, Genome, MOST_LENGTH, RecordRef, columns, read_number, read_record, split_first_column,
 };
+use iv_track::Region;
 use iv_workspace::{Edit, Session, Target};
 use std::alloc::Allocator;
 use std::marker::Model;
@@ -31,8 +32,10 @@ pub(crate) enum Request<'a> {
     /// To open a view under this name, by the words of this text.
     Open(Field<'a>, Field<'a>),
     Close(Field<'a>),
-    Print(Field<'a>),
-    PrintAll,
+    /// To print the view of this name, all of it or a region.
+    Print(Field<'a>, Option<Region>),
+    /// To print all views, all of each or a region.
+    PrintAll(Option<Region>),
 }
 
 /// A field of a line.
@@ -117,6 +120,10 @@ impl<'a> Request<'a> {
             Request::print(fields)
         } else if word == b"printall".as_slice() {
             Request::print_all(fields)
+        } else if word == b"show".as_slice() {
+            Request::show(session, fields)
+        } else if word == b"showall".as_slice() {
+            Request::show_all(session, fields)
         } else if word == b"resize".as_slice() {
             Request::resize(fields)
         } else {
@@ -166,17 +173,61 @@ impl<'a> Request<'a> {
 
     /// To print the view of the one field.
     fn print(fields: Option<&'a [u8]>) -> Result<Request<'a>, Fault>
-        ensures { result ≡ of_fields (λ name. request.Print name) (only_field (fields_left tab fields.entry)) }
+        ensures value { result ≡ of_fields (λ name. request.Print name None) (only_field (fields_left tab fields.entry)) }
+        ensures fits { (s : State) → IfOk result (RequestFits s) }
     {
-        Ok(Request::Print(one_field(fields)?))
+        Ok(Request::Print(one_field(fields)?, None))
     }
 
     /// To print all views; there is no field.
     fn print_all(fields: Option<&'a [u8]>) -> Result<Request<'a>, Fault>
-        ensures { result ≡ of_fields (λ none. request.PrintAll) (no_fields (fields_left tab fields.entry)) }
+        ensures value { result ≡ of_fields (λ none. request.PrintAll None) (no_fields (fields_left tab fields.entry)) }
+        ensures fits { (s : State) → IfOk result (RequestFits s) }
     {
         no_field(fields)?;
-        Ok(Request::PrintAll)
+        Ok(Request::PrintAll(None))
+    }
+
+    /// To print the rows of a region of the view of the first field. That no view has this name is reported first.
+    fn show<A: Allocator + Copy>(
+        session: &Session<A>,
+        fields: Option<&'a [u8]>,
+    ) -> Result<Request<'a>, Fault>
+        ensures value { result ≡ show_asked session.now (fields_left tab fields.entry) }
+        ensures fits { IfOk result (RequestFits session.now) }
+    {
+        let mut columns = columns(fields.ok_or(Fault::Command)?);
+        let name = columns.next().ok_or(Fault::Command)?;
+        let sequence = columns.next().ok_or(Fault::Command)?;
+        let start = columns.next().ok_or(Fault::Command)?;
+        let stop = columns.next().ok_or(Fault::Command)?;
+        if columns.next().is_some() {
+            return Err(Fault::Command);
+        }
+        if !session.is_open(name) {
+            return Err(Fault::NoView);
+        }
+        let region = session.region(sequence, start, stop)?;
+        Ok(Request::Print(Field::of(name), Some(region)))
+    }
+
+    /// To print the rows of a region of all views.
+    fn show_all<A: Allocator + Copy>(
+        session: &Session<A>,
+        fields: Option<&'a [u8]>,
+    ) -> Result<Request<'a>, Fault>
+        ensures value { result ≡ show_all_asked session.now (fields_left tab fields.entry) }
+        ensures fits { IfOk result (RequestFits session.now) }
+    {
+        let mut columns = columns(fields.ok_or(Fault::Command)?);
+        let sequence = columns.next().ok_or(Fault::Command)?;
+        let start = columns.next().ok_or(Fault::Command)?;
+        let stop = columns.next().ok_or(Fault::Command)?;
+        if columns.next().is_some() {
+            return Err(Fault::Command);
+        }
+        let region = session.region(sequence, start, stop)?;
+        Ok(Request::PrintAll(Some(region)))
     }
 }
 

@@ -2,6 +2,8 @@ mod CuttingLemmas
 mod FlagLemmas
 mod ListLemmas
 mod OptionLemmas
+mod RegionLemmas
+pub mod RecordsAgain
 mod RowLemmas
 mod MergeArgsLemmas
 mod SameLemmas

@@ -8,4 +8,5 @@ pub mod RecordRows
 pub mod Views
 pub mod NarrowedViews
 pub mod KeptStates
+pub mod RegionText
 pub mod Inside

@@ -1,18 +1,25 @@
 //! What is kept for views: the blocks of records, or their depth.
-ghost use Rattle.std.specs.Prelude.{◌≡◌, ◌↔◌, All, IsTrue};
+ghost use Rattle.std.specs.Prelude.{◌≡◌, ◌↔◌, ◌+◌, ◌*◌, All, IsTrue, length};
 ghost use Rattle.iv_bytes.specs.Sinks.{Puts};
 ghost use Rattle.iv_text.specs.Named.{names_of};
 ghost use Rattle.iv_text.specs.Read.{Fits};
 ghost use Rattle.iv_view.specs.KeptStates.{built_for as what_is_kept, state_key as kept_for, state_key_of, IsRight, PrintsWithin, repair_steps};
+ghost use Rattle.iv_text.specs.Genome.{sequence_length};
+ghost use Rattle.iv_track.specs.Regions.{near};
+ghost use Rattle.iv_track.specs.Steps.{TakesUpTo};
+ghost use Rattle.iv_cover.specs.Depth.{depth as depth_of};
+ghost use Rattle.iv_depth.specs.Changes.{AreChangesOf};
+ghost use Rattle.iv_depth.specs.RegionRows.{covered_runs_in, depth_text_in};
+ghost use Rattle.iv_view.specs.RegionText.{IsWithin, PrintsInWithin, kept_text_in};
 ghost use Rattle.iv_view.specs.Views.{kept_text};
 
 use crate::view::{KeptView, View};
 use iv_blocks::{BlockOptions, Blocks};
 use iv_bytes::{Sink, WriteFault};
 use iv_cover::Kept;
-use iv_depth::Depth;
+use iv_depth::{Depth, DepthRows};
 use iv_text::{Genome, RecordRef};
-use iv_track::{Meter, Track};
+use iv_track::{Meter, Region, Track};
 use std::alloc::{AllocError, Allocator, Global};
 
 /// What is kept for a view. Views of one `StateKey` can share a state.
@@ -80,6 +87,68 @@ impl KeptView {
             _ => unreachable!(),
         }
     }
+
+    /// Prints the rows of the view that share a position with a region from what is kept for it. It takes no memory; on a fault the
+    /// sink has taken a prefix of them.
+    ///
+    /// It takes at most two steps, and one for each row (`complement`), or eight and one (`merge`); at most five, and one for each record
+    /// that may share a position with the region and two for each row of a depth above 0 (`genomecov`). `cluster`, which counts its
+    /// blocks from the first, takes at most four, and one for each such record and each block up to the region's end.
+    pub fn print_in<A: Allocator + Copy, S: Sink>(
+        self,
+        at: Region,
+        state: &KeptState<A>,
+        track: &Track<A>,
+        genome: &Genome<A>,
+        meter: &mut Meter,
+        sink: &mut S,
+    ) -> Result<(), WriteFault>
+        requires kept { what_is_kept state.now ≡ kept_for self }
+        requires within { IsWithin genome.now at }
+        requires right { IsRight state.now (names_of genome.now) track.now.rows }
+        requires fit { All (Fits genome.now track.now.width) track.now.rows }
+        ensures text { Puts (S.state sink.old) (S.state sink.new) result (kept_text_in at self genome.now track.now.rows) }
+        ensures steps { PrintsInWithin at self genome.now track.now.rows meter.old meter.new }
+    {
+        match (self, state) {
+            (KeptView::Merge(_), KeptState::Blocks(blocks)) => {
+                blocks.print_merge_in(at.seq, at.start, at.stop, track, genome, meter, sink)
+            }
+            (KeptView::Cluster(_), KeptState::Blocks(blocks)) => {
+                blocks.print_cluster_in(at, track, genome, meter, sink)
+            }
+            (KeptView::Complement { limited }, KeptState::Blocks(blocks)) =>
+                blocks.print_complement_in(
+                    limited, at.seq, at.start, at.stop, track, genome, meter, sink,
+                ),
+            (KeptView::Genomecov(shown), KeptState::Depth(depth)) => {
+                print_depth_in(shown, at, depth, track, genome, meter, sink)
+            }
+            _ => unreachable!(),
+        }
+    }
+}
+
+/// Prints the rows of depth of a region.
+fn print_depth_in<A: Allocator + Copy, S: Sink>(
+    shown: DepthRows,
+    at: Region,
+    depth: &Depth<A>,
+    track: &Track<A>,
+    genome: &Genome<A>,
+    meter: &mut Meter,
+    sink: &mut S,
+) -> Result<(), WriteFault>
+    requires within { IsWithin genome.now at }
+    requires right { AreChangesOf track.now.rows depth.now }
+    requires fit { All (Fits genome.now track.now.width) track.now.rows }
+    ensures text { Puts (S.state sink.old) (S.state sink.new) result (depth_text_in shown genome.now track.now.rows at.seq at.start at.stop) }
+    ensures steps { TakesUpTo meter.old meter.new (5 + length (near at track.now.rows) + 2 * length (covered_runs_in (depth_of track.now.rows at.seq) (sequence_length genome.now at.seq) at.start at.stop)) }
+{
+    let first = track.depth_at(at.seq, at.start, meter);
+    depth.print_depth_in(
+        shown, at.seq, at.start, at.stop, first, track, genome, meter, sink,
+    )
 }
 
 impl View {

@@ -11,7 +11,9 @@ mod words;
 mod written_view;
 
 pub use kept_state::{KeptState, StateKey};
-pub use lemmas::{no_option_twice, options_in_any_order, words_are_options};
+pub use lemmas::{
+    no_option_twice, options_in_any_order, records_are_read_again, words_are_options,
+};
 pub use view::{Beside, KeptView, View, ViewFault};
 pub use words::Words;
 pub use written_view::WrittenView;

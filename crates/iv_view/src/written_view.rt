@@ -1,16 +1,20 @@
 //! The views that have no state.
-ghost use Rattle.std.specs.Prelude.{[], IsTrue, IsSome};
+ghost use Rattle.std.specs.Prelude.{◌+◌, ◌<◌, [], ◌∷◌, IsTrue, IsSome, length};
 ghost use Rattle.std.specs.Option.{option_copied, unwrap_or};
 ghost use Rattle.iv_bytes.specs.Sinks.{Puts};
+ghost use Rattle.iv_pair.specs.PairRows.{pair_rows};
+ghost use Rattle.iv_track.specs.Regions.{near};
+ghost use Rattle.iv_track.specs.Steps.{TakesUpTo};
+ghost use Rattle.iv_view.specs.RegionText.{written_text_in};
 ghost use Rattle.iv_view.specs.Views.{needs_second, second_records, written_text, WritesWithin};
 ghost use Rattle.iv_view.specs.declared.view.View.TheVariants.{Written};
 
 use crate::records::print_records;
 use iv_bytes::{Sink, WriteFault};
-use iv_fasta::{Fasta, FastaRows, print_fasta};
-use iv_pair::{PairRows, Second, print_pairs};
-use iv_text::Genome;
-use iv_track::{Meter, Track};
+use iv_fasta::{Fasta, FastaRows, print_fasta, put_fasta};
+use iv_pair::{PairRows, Second, print_pairs, put_pair_rows};
+use iv_text::{BedRecord, Genome, Record, put_line};
+use iv_track::{Meter, Region, Track};
 use std::alloc::Allocator;
 
 /// A view that is written from the records at each print.
@@ -55,4 +59,72 @@ impl WrittenView {
             WrittenView::Records => print_records(track, genome, meter, sink),
         }
     }
+    /// Puts the rows of the records that share a position with a region, as [`WrittenView::print`] does. It takes no memory; on a fault
+    /// the sink has taken a prefix of them.
+    ///
+    /// It takes at most two steps, and one for each record that starts below the region's end, and before it by less than twice the
+    /// greatest length of a record. A view that needs a second file has one. Without a FASTA file `getfasta` prints nothing.
+    pub fn print_in<A: Allocator + Copy, S: Sink>(
+        self,
+        at: Region,
+        track: &Track<A>,
+        second: Option<&Second<A>>,
+        fasta: Option<&Fasta<A>>,
+        genome: &Genome<A>,
+        meter: &mut Meter,
+        sink: &mut S,
+    ) -> Result<(), WriteFault>
+        requires some { at.start < at.stop }
+        requires second { IsTrue (needs_second (Written self)) → IsSome (option_copied second) }
+        ensures text { Puts (S.state sink.old) (S.state sink.new) result
+            (written_text_in at self genome.now track.now.rows (second_records (option_copied second.entry)) (unwrap_or (option_copied fasta.entry) [])) }
+        ensures steps { TakesUpTo meter.old meter.new (2 + length (near at track.now.rows)) }
+    {
+        let mut hits = track.hits(at, meter);
+        'rows: while let Some(row) = hits.next(meter) {
+            self.put_rows(row, second, fasta, genome, sink)?;
+        }
+        Ok(())
+    }
+
+    /// Puts the rows of one record.
+    fn put_rows<A: Allocator + Copy, S: Sink>(
+        self,
+        row: &Record<A>,
+        second: Option<&Second<A>>,
+        fasta: Option<&Fasta<A>>,
+        genome: &Genome<A>,
+        sink: &mut S,
+    ) -> Result<(), WriteFault>
+        requires { IsTrue (needs_second (Written self)) → IsSome (option_copied second) }
+        ensures { Puts (S.state sink.old) (S.state sink.new) result
+            (written_text self genome.now (row.now ∷ []) (second_records (option_copied second.entry)) (unwrap_or (option_copied fasta.entry) [])) }
+    {
+        match self {
+            WrittenView::Paired(rows) => match second {
+                Some(second) => put_pair(rows, row, second, genome, sink),
+                None => unreachable!(),
+            },
+            WrittenView::Getfasta(shown) => match fasta {
+                Some(fasta) => put_fasta(shown, genome, row, fasta, sink),
+                None => Ok(()),
+            },
+            WrittenView::Records => put_line(sink, genome, &row.as_ref()),
+        }
+    }
+}
+
+/// Puts the rows of one record beside its hits.
+fn put_pair<A: Allocator + Copy, S: Sink>(
+    rows: PairRows,
+    row: &Record<A>,
+    second: &Second<A>,
+    genome: &Genome<A>,
+    sink: &mut S,
+) -> Result<(), WriteFault>
+    ensures { Puts (S.state sink.old) (S.state sink.new) result (pair_rows rows genome.now row.now second.now.rows) }
+{
+    row.lemma_of_interval();
+    let hits = second.hits(row.seq(), row.start(), row.stop());
+    put_pair_rows(rows, genome, row, hits, sink)
 }

@@ -8,6 +8,7 @@ use Rattle.std.specs.Map.{lookup}
 use Rattle.std.specs.Option.{option_map}
 use Rattle.std.specs.Str.{bytes_eq}
 use Rattle.iv_bytes.specs.Sinks.{SinkState, Takes, FailsIn, Puts}
+use Rattle.iv_track.specs.declared.region.Region.{Region}
 use Rattle.iv_view.specs.declared.view.View.{View}
 use Rattle.iv_workspace.specs.declared.views.OpenView.{OpenView}
 use Rattle.iv_workspace.specs.Inside.ViewStates.{seen}
@@ -46,16 +47,16 @@ pub current-found : (name : List ℕ) (views more : List (List ℕ × Shown)) (v
 current-found name views more v found are = ap (lookup (bytes_eq name)) are ∙ current-named name views ∙ ap (option_map current) (sym found)
 
 -- what it prints
-pub same-text : (inside s : State) (v : Shown) (view : View) → inside ≡ s → view ≡ v.view → text_in inside view ≡ text_in s v.view
-same-text inside s v view same is = ap (text_in inside) is ∙ ap (λ (u : State). text_in u v.view) same
+pub same-text : (part : Option Region) (inside s : State) (v : Shown) (view : View) → inside ≡ s → view ≡ v.view → text_in part inside view ≡ text_in part s v.view
+same-text part inside s v view same is = ap (text_in part inside) is ∙ ap (λ (u : State). text_in part u v.view) same
 
 -- all views print the same, current or not
-pub same-all_text : (s : State) → all_text (with_all_printed s) ≡ all_text s
-same-all_text s = by s.views
+pub same-all_text : (part : Option Region) (s : State) → all_text part (with_all_printed s) ≡ all_text part s
+same-all_text part s = by s.views
   where
-    by : (views : List (List ℕ × Shown)) → flat_map (headed_text s) (all_current views) ≡ flat_map (headed_text s) views
+    by : (views : List (List ℕ × Shown)) → flat_map (headed_text part s) (all_current views) ≡ flat_map (headed_text part s) views
     by [] = refl
-    by (v ∷ views) = ap (λ (l : List ℕ). headed_text s v ++ l) (by views)
+    by (v ∷ views) = ap (λ (l : List ℕ). headed_text part s v ++ l) (by views)
 
 pub Takes-text : (old new : SinkState) (a b : List ℕ) → a ≡ b → Takes old new a → Takes old new b
 Takes-text old new a b same took = subst (λ (l : List ℕ). Takes old new l) same took
@@ -67,15 +68,15 @@ pub Puts-text : {T E : Type 0} (old new : SinkState) (put : Result T E) (a b : L
 Puts-text old new put a b same puts = subst (λ (l : List ℕ). Puts old new put l) same puts
 
 -- the answer of a print whose text was put, of one view and of all
-pub view-answered : {E : Type 0} (old new : State) (name : List ℕ) (v : Shown) (out0 out1 : SinkState) (put : Result (Unit {0}) E) (result : Result (Unit {0}) PrintFault)
-    → MatchResult put (λ done. result ≡ Ok done) (λ fault. result ≡ Err printing.Write) → Puts out0 out1 put (text_in old v.view) → new ≡ with_printed old name → PrintedView old name v new out0 out1 result
-view-answered old new name v out0 out1 (Ok done) result is took same = subst (λ (r : Result (Unit {0}) PrintFault). PrintedView old name v new out0 out1 r) (sym is) (took, same)
-view-answered old new name v out0 out1 (Err fault) result is fails same = subst (λ (r : Result (Unit {0}) PrintFault). PrintedView old name v new out0 out1 r) (sym is) (fails, same)
+pub view-answered : {E : Type 0} (part : Option Region) (old new : State) (name : List ℕ) (v : Shown) (out0 out1 : SinkState) (put : Result (Unit {0}) E) (result : Result (Unit {0}) PrintFault)
+    → MatchResult put (λ done. result ≡ Ok done) (λ fault. result ≡ Err printing.Write) → Puts out0 out1 put (text_in part old v.view) → new ≡ with_printed old name → PrintedView part old name v new out0 out1 result
+view-answered part old new name v out0 out1 (Ok done) result is took same = subst (λ (r : Result (Unit {0}) PrintFault). PrintedView part old name v new out0 out1 r) (sym is) (took, same)
+view-answered part old new name v out0 out1 (Err fault) result is fails same = subst (λ (r : Result (Unit {0}) PrintFault). PrintedView part old name v new out0 out1 r) (sym is) (fails, same)
 
-pub all-answered : {E : Type 0} (old new : State) (out0 out1 : SinkState) (put : Result (Unit {0}) E) (result : Result (Unit {0}) PrintFault)
-    → MatchResult put (λ done. result ≡ Ok done) (λ fault. result ≡ Err printing.Write) → Puts out0 out1 put (all_text old) → new ≡ with_all_printed old → PrintedAll old new out0 out1 result
-all-answered old new out0 out1 (Ok done) result is took same = subst (λ (r : Result (Unit {0}) PrintFault). PrintedAll old new out0 out1 r) (sym is) (took, same)
-all-answered old new out0 out1 (Err fault) result is fails same = subst (λ (r : Result (Unit {0}) PrintFault). PrintedAll old new out0 out1 r) (sym is) (fails, same)
+pub all-answered : {E : Type 0} (part : Option Region) (old new : State) (out0 out1 : SinkState) (put : Result (Unit {0}) E) (result : Result (Unit {0}) PrintFault)
+    → MatchResult put (λ done. result ≡ Ok done) (λ fault. result ≡ Err printing.Write) → Puts out0 out1 put (all_text part old) → new ≡ with_all_printed old → PrintedAll part old new out0 out1 result
+all-answered part old new out0 out1 (Ok done) result is took same = subst (λ (r : Result (Unit {0}) PrintFault). PrintedAll part old new out0 out1 r) (sym is) (took, same)
+all-answered part old new out0 out1 (Err fault) result is fails same = subst (λ (r : Result (Unit {0}) PrintFault). PrintedAll part old new out0 out1 r) (sym is) (fails, same)
 
 -- the view at an index, as contracts see it
 pub seen-at : {A : Type 0} (views : List (List ℕ × OpenView A)) (i : ℕ) (name : List ℕ) (v : OpenView A) → Some (name, v) ≡ slice_get views i
@@ -102,11 +103,11 @@ all-fresh views more is = subst (λ (l : List (List ℕ × Shown)). All (λ v. v
     by (v ∷ views) = (refl, by views)
 
 -- the view at an index is the next to be printed
-pub views-next : (inside s : State) → inside ≡ s → (i : ℕ) (v : List ℕ × Shown) → Some v ≡ slice_get inside.views i
-    → flat_map (headed_text s) (drop i s.views) ≡ heading v.0 ++ (text_in s v.1.view ++ flat_map (headed_text s) (drop (i + 1) s.views))
-views-next inside s same i v found =
+pub views-next : (part : Option Region) (inside s : State) → inside ≡ s → (i : ℕ) (v : List ℕ × Shown) → Some v ≡ slice_get inside.views i
+    → flat_map (headed_text part s) (drop i s.views) ≡ heading v.0 ++ (text_in part s v.1.view ++ flat_map (headed_text part s) (drop (i + 1) s.views))
+views-next part inside s same i v found =
     let at : Some v ≡ slice_get s.views i = found ∙ ap (λ (t : State). slice_get t.views i) same in
     let low = slice_get_within s.views i v (sym at) in
     let is : get_or s.views i v ≡ v = get_or_from_slice_get s.views i v v (sym at) in
-    ap (flat_map (headed_text s)) (drop-cons s.views i v low ∙ ap₂ (λ (q : List ℕ × Shown) (k : ℕ). q ∷ drop k s.views) is (sym (add-one i)))
-    ∙ append_assoc (heading v.0) (text_in s v.1.view) (flat_map (headed_text s) (drop (i + 1) s.views))
+    ap (flat_map (headed_text part s)) (drop-cons s.views i v low ∙ ap₂ (λ (q : List ℕ × Shown) (k : ℕ). q ∷ drop k s.views) is (sym (add-one i)))
+    ∙ append_assoc (heading v.0) (text_in part s v.1.view) (flat_map (headed_text part s) (drop (i + 1) s.views))

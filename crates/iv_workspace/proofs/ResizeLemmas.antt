@@ -17,8 +17,8 @@ use Rattle.iv_text.proofs.ListLemmas.{Mem, all-mem, mem-all, any-found, any-at, 
 use Rattle.iv_text.specs.declared.fault.Fault.{Fault}
 use Rattle.iv_text.specs.declared.fault.Fault.TheVariants as fault
 use Rattle.iv_fasta.specs.Fasta.{Bases, bases_of, HasLengthsOf}
-use Rattle.iv_pair.specs.Hits.{overlaps}
-use Rattle.iv_pair.proofs.PlaceLemmas.{le_pair, pair_le, from_all}
+use Rattle.iv_track.specs.Regions.{overlaps}
+use Rattle.iv_track.proofs.PlaceLemmas.{le_pair, pair_le, from_all}
 use Rattle.iv_view.specs.Views.{second_records}
 use Rattle.iv_workspace.specs.OpenViews.{Shown}
 use Rattle.iv_workspace.specs.Resizes.{reaches_past, has_record_past, has_other_bases, is_other, with_sequence_length, resized_if, resized}
@@ -38,48 +38,6 @@ not-past seq n q h same = elim (and_cases (q.seq == seq) (nat_lt n q.stop) h) [
   | inl differ ↦ absurd (eqb-false q.seq seq differ same)
   | inr low ↦ ltb-false n q.stop low
 ]
-
--- ---- the walk over the records of a sequence
-
-any-implied : {X : Type 0} (p t : X → Bool) (xs : List X) → ((q : X) → p q ≡ true → t q ≡ true) → list_any p (filter t xs) ≡ list_any p xs
-any-implied p t [] h = refl
-any-implied p t (x ∷ xs) h = elim (cases_Bool (t x)) [
-  | inl e ↦ ap (list_any p) (cond-true (t x) (x ∷ filter t xs) (filter t xs) e) ∙ ap (λ b. p x || b) (any-implied p t xs h)
-  | inr e ↦
-      let none : p x ≡ false = false_from_ne_true (p x) (λ yes. true≢false (sym (h x yes) ∙ e)) in
-      ap (list_any p) (cond-false (t x) (x ∷ filter t xs) (filter t xs) e) ∙ any-implied p t xs h ∙ sym (ap (λ b. b || list_any p xs) none)
-]
-
--- those past a length are among the records from the first of their sequence on
-pub past-from_first : (seq n : ℕ) (rows : List RecordValue) → list_any (reaches_past seq n) (filter (is_from seq 0) rows) ≡ list_any (reaches_past seq n) rows
-past-from_first seq n rows = any-implied (reaches_past seq n) (is_from seq 0) rows (λ q is.
-    let same : q.seq ≡ seq = (past_parts seq n q is).0 in
-    pair_le seq q.seq 0 q.start (omega (arith, same)) (λ _. omega arith))
-
--- one is found
-pub past-found : (seq n : ℕ) (left rest all : List RecordValue) (r : RecordValue) → left ≡ r ∷ rest → reaches_past seq n r ≡ true
-    → list_any (reaches_past seq n) left ≡ list_any (reaches_past seq n) all → true ≡ list_any (reaches_past seq n) all
-past-found seq n left rest all r first is same =
-    sym (ap (list_any (reaches_past seq n)) first ∙ or_left (reaches_past seq n r) (list_any (reaches_past seq n) rest) is) ∙ same
-
--- a record on a later sequence: none is left
-pub past-none : (seq n : ℕ) (left rest all : List RecordValue) (r : RecordValue) → left ≡ r ∷ rest → AreInOrder left → seq < r.seq
-    → list_any (reaches_past seq n) left ≡ list_any (reaches_past seq n) all → false ≡ list_any (reaches_past seq n) all
-past-none seq n left rest all r first order later same =
-    sym (ap (list_any (reaches_past seq n)) first
-    ∙ any-from_none (reaches_past seq n) (r ∷ rest) (λ q m. false_from_ne_true (reaches_past seq n q) (λ is.
-    let on : q.seq ≡ seq = (past_parts seq n q is).0 in
-    let from : is_from (seq + 1) 0 q ≡ true =
-    from_all (seq + 1) 0 r rest (subst AreInOrder first order) (pair_le (seq + 1) r.seq 0 r.start (omega (arith, later)) (λ _. omega arith)) q m in
-    let low : seq + 1 ≤ q.seq = (le_pair (seq + 1) q.seq 0 q.start from).0 in
-    absurd (omega (arith, on, low)))))
-    ∙ same
-
--- the next record
-pub past-next : (seq n : ℕ) (left rest all : List RecordValue) (r : RecordValue) → left ≡ r ∷ rest → reaches_past seq n r ≡ false
-    → list_any (reaches_past seq n) left ≡ list_any (reaches_past seq n) all → list_any (reaches_past seq n) rest ≡ list_any (reaches_past seq n) all
-past-next seq n left rest all r first not same =
-    sym (ap (list_any (reaches_past seq n)) first ∙ ap (λ b. b || list_any (reaches_past seq n) rest) not) ∙ same
 
 -- ---- the hits of what is cut off
 
@@ -109,14 +67,16 @@ any-some_left p xs ys y is =
     any-at p xs y there.0 there.1
 
 -- an iterator over what passes a test gives one exactly if some element passes
-first-any : (p : RecordValue → Bool) (rows left rest : List RecordValue) (r : Option (Bor RecordValue)) → left ≡ filter p rows → YieldsFirstRef (λ (h : List RecordValue). h) left r rest → is_some r ≡ list_any p rows
-first-any p rows left rest None is gives = sym (any-none_left p rows (sym is ∙ gives.0))
-first-any p rows left rest (Some q) is gives = sym (any-some_left p rows rest q.now (sym is ∙ gives))
+first-any : {H : Type 0} (items : H → List RecordValue) (p : RecordValue → Bool) (rows : List RecordValue) (left rest : H) (r : Option (Bor RecordValue))
+    → items left ≡ filter p rows → YieldsFirstRef items left r rest → is_some r ≡ list_any p rows
+first-any items p rows left rest None is gives = sym (any-none_left p rows (sym is ∙ gives.0))
+first-any items p rows left rest (Some q) is gives = sym (any-some_left p rows (items rest) q.now (sym is ∙ gives))
 
-pub hit-past : (seq n end : ℕ) (rows left rest : List RecordValue) (r : Option (Bor RecordValue)) → All (λ q. q.start < q.stop) rows → All (λ q. q.seq ≡ seq → q.stop ≤ end) rows
-    → left ≡ filter (overlaps seq n end) rows → YieldsFirstRef (λ (h : List RecordValue). h) left r rest → is_some r ≡ list_any (reaches_past seq n) rows
-hit-past seq n end rows left rest r some within is gives =
-    first-any (overlaps seq n end) rows left rest r is gives
+pub hit-past : {H : Type 0} (items : H → List RecordValue) (seq n end : ℕ) (rows : List RecordValue) (left rest : H) (r : Option (Bor RecordValue))
+    → All (λ q. q.start < q.stop) rows → All (λ q. q.seq ≡ seq → q.stop ≤ end) rows
+    → items left ≡ filter (overlaps seq n end) rows → YieldsFirstRef items left r rest → is_some r ≡ list_any (reaches_past seq n) rows
+hit-past items seq n end rows left rest r some within is gives =
+    first-any items (overlaps seq n end) rows left rest r is gives
     ∙ any-agree (overlaps seq n end) (reaches_past seq n) rows (λ q m.
     cut-overlaps seq n end q (all-mem (λ (x : RecordValue). x.start < x.stop) rows some q m) (all-mem (λ (x : RecordValue). x.seq ≡ seq → x.stop ≤ end) rows within q m))
 

@@ -7,7 +7,9 @@ use Rattle.std.specs.Str.{bytes_eq}
 use Rattle.iv_text.specs.Fault.{code_of}
 use Rattle.iv_text.specs.declared.fault.Fault.{Fault}
 use Rattle.iv_text.specs.declared.fault.Fault.TheVariants as fault
-use Rattle.iv_view.specs.Views.{read_words, second_records, view_text}
+use Rattle.iv_track.specs.declared.region.Region.{Region}
+use Rattle.iv_view.specs.RegionText.{shown_text}
+use Rattle.iv_view.specs.Views.{read_words, second_records}
 use Rattle.iv_view.specs.declared.view.View.{View}
 use Rattle.iv_workspace.specs.OpenViews.{Shown}
 use Rattle.iv_workspace.specs.States.{State, with_view}
@@ -62,21 +64,22 @@ Opens old name words new = (view : View) × (opened old name words ≡ Ok view) 
 abbrev pub RefusesOpen : State → List ℕ → List (List ℕ) → Fault → Type 0
 RefusesOpen s name words f = (opened s name words ≡ Err f) ⊎ ((f ≡ fault.NoMemory) × IsOk (opened s name words))
 
--- what a view prints: its text for the records as they are, beside the second file's records and the bases, if there are any
-abbrev pub text_in : State → View → List ℕ
-text_in s v = view_text v s.genome s.track.rows (second_records s.second) (unwrap_or s.bases [])
+-- what is printed of a view, all of it or a region: its text for the records as they are, beside the second file's records and the
+-- bases, if there are any
+abbrev pub text_in : Option Region → State → View → List ℕ
+text_in part s v = shown_text part v s.genome s.track.rows (second_records s.second) (unwrap_or s.bases [])
 
 -- the line above a view's text, if all views are printed
 abbrev pub heading : List ℕ → List ℕ
 heading name = codes "#" ++ name ++ codes "\n"
 
--- what a view prints under its heading
-abbrev pub headed_text : State → List ℕ × Shown → List ℕ
-headed_text s v = heading v.0 ++ text_in s v.1.view
+-- the same under its heading
+abbrev pub headed_text : Option Region → State → List ℕ × Shown → List ℕ
+headed_text part s v = heading v.0 ++ text_in part s v.1.view
 
--- what all views print, in order of opening
-abbrev pub all_text : State → List ℕ
-all_text s = flat_map (headed_text s) s.views
+-- the same of all views, in order of opening
+abbrev pub all_text : Option Region → State → List ℕ
+all_text part s = flat_map (headed_text part s) s.views
 
 -- the number of the fault for which a print or a line is refused; none if the output failed
 abbrev pub print_code : PrintFault → Option ℕ

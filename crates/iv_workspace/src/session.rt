@@ -9,6 +9,7 @@ ghost use Rattle.iv_text.specs.Widths.{IsWidth};
 mod edits;
 mod lengths;
 mod open_views;
+mod regions;
 
 use crate::views::Views;
 pub use edits::{Accepted, Edit, Target};

@@ -8,7 +8,8 @@ ghost use Rattle.iv_bytes.specs.Sinks.{Puts};
 ghost use Rattle.iv_text.specs.Named.{names_of};
 ghost use Rattle.iv_text.specs.Read.{Fits};
 ghost use Rattle.iv_text.specs.RecordValue.{RecordValue};
-ghost use Rattle.iv_view.specs.Views.{second_records, view_text};
+ghost use Rattle.iv_view.specs.RegionText.{IsWithin, shown_text};
+ghost use Rattle.iv_view.specs.Views.{second_records};
 ghost use Rattle.iv_workspace.specs.OpenViews.{Freshens, all_current, stale_count, with_current};
 ghost use Rattle.iv_workspace.specs.Prints.{ViewPrintsWithin};
 ghost use Rattle.iv_workspace.specs.Inside.States.{IsServed};
@@ -21,7 +22,7 @@ use iv_bytes::{Sink, WriteFault};
 use iv_fasta::Fasta;
 use iv_pair::Second;
 use iv_text::{ContentSeed, Genome, NameMap};
-use iv_track::{Meter, Track};
+use iv_track::{Meter, Region, Track};
 use iv_view::{KeptState, View};
 pub(crate) use states::Change;
 use std::alloc::{AllocError, Allocator, Global};
@@ -230,11 +231,12 @@ impl<A: Allocator + Copy> Views<A> {
         Ok(())
     }
 
-    /// Puts the text of a view whose state is kept into the sink. On a fault the sink has taken a prefix of it.
-    /// It takes no more steps than its print from what is kept.
+    /// Puts the text of a view whose state is kept into the sink, or its rows that share a position with a region. On a fault the sink
+    /// has taken a prefix. It takes no more steps than its print from what is kept.
     pub(crate) fn put<S: Sink>(
         &self,
         view: View,
+        part: Option<Region>,
         track: &Track<A>,
         second: Option<&Second<A>>,
         fasta: Option<&Fasta<A>>,
@@ -246,18 +248,25 @@ impl<A: Allocator + Copy> Views<A> {
         requires served { IsServed (option_copied second) view }
         requires right { AreRight self.now (names_of genome.now) track.now.rows }
         requires fit { All (Fits genome.now track.now.width) track.now.rows }
+        requires within { IfSome part (IsWithin genome.now) }
         ensures text { Puts (S.state sink.old) (S.state sink.new) result
-            (view_text view genome.now track.now.rows (second_records (option_copied second.entry)) (unwrap_or (option_copied fasta.entry) [])) }
-        ensures steps { ViewPrintsWithin view genome.now track.now.rows meter.old meter.new }
+            (shown_text part view genome.now track.now.rows (second_records (option_copied second.entry)) (unwrap_or (option_copied fasta.entry) [])) }
+        ensures steps { ViewPrintsWithin part view genome.now track.now.rows meter.old meter.new }
     {
         match view {
             View::Kept(kept) => {
                 let Some(state) = self.state_for(kept.state_key()) else {
                     unreachable!()
                 };
-                kept.print(state, track, genome, meter, sink)
+                match part {
+                    None => kept.print(state, track, genome, meter, sink),
+                    Some(at) => kept.print_in(at, state, track, genome, meter, sink),
+                }
             }
-            View::Written(view) => view.print(track, second, fasta, genome, meter, sink),
+            View::Written(view) => match part {
+                None => view.print(track, second, fasta, genome, meter, sink),
+                Some(at) => view.print_in(at, track, second, fasta, genome, meter, sink),
+            },
         }
     }
 }

@@ -1,18 +1,19 @@
 -- Requests that fit their session.
-use Rattle.std.specs.Prelude.{◌≤◌}
+use Rattle.std.specs.Prelude.{◌≤◌, IfSome}
 use Rattle.iv_text.specs.Genome.{most_length}
+use Rattle.iv_view.specs.RegionText.{IsWithin}
 use Rattle.iv_workspace.specs.States.{State}
 use Rattle.iv_workspace.specs.Edits.{EditFits, FitsIn}
 use Rattle.iv_session.specs.declared.request.Request.{Request}
 use Rattle.iv_workspace.specs.declared.session.edits.Target.TheVariants as target
 use Rattle.iv_session.specs.declared.request.Request.TheVariants as request
 
--- the records of a request fit the session, and no length is above the greatest
+-- the records of a request fit the session, no length is above the greatest, and a region is one of its genome
 abbrev pub RequestFits : State → Request → Type 0
 RequestFits s (request.Edit target e) = EditFits (FitsIn s target) e
 RequestFits s (request.Resize name n) = n ≤ most_length
 RequestFits s request.Nothing = Unit {0}
 RequestFits s (request.Open name words) = Unit {0}
 RequestFits s (request.Close name) = Unit {0}
-RequestFits s (request.Print name) = Unit {0}
-RequestFits s request.PrintAll = Unit {0}
+RequestFits s (request.Print name part) = IfSome part (IsWithin s.genome)
+RequestFits s (request.PrintAll part) = IfSome part (IsWithin s.genome)

@@ -8,41 +8,32 @@ ghost use Rattle.iv_workspace.specs.Resizes.{has_other_bases, has_record_past, r
 use super::Session;
 use crate::fault::ResizeFault;
 use iv_pair::Second;
-use iv_text::BedRecord;
-use iv_track::{Meter, Track};
+use iv_track::{Meter, Region, Track};
 use std::alloc::Allocator;
 
-/// Whether a record is on this sequence, and its stop is above a length.
-fn reaches_past<R: BedRecord>(row: &R, seq: u32, length: u64) -> bool
-    ensures { result ≡ reaches_past seq length (R.as_record row.now) }
-{
-    row.seq() == seq && length < row.stop()
-}
-
-// The track doesn't count lengths, as the second file does, which would give a search its beginning.
-/// Whether a record of the track ends past a length: a walk over its records on the sequence, up to the first that does.
+/// Whether a record of the track ends past a length. Those on the sequence end at its present end or before, so it is enough to look
+/// for one that shares a position with what is to be cut off.
 pub(crate) fn track_reaches_past<A: Allocator + Copy>(
     track: &Track<A>,
     seq: u32,
     length: u64,
+    end: u64,
     meter: &mut Meter,
 ) -> bool
+    requires shorter { length < end }
+    requires some { All (λ r. r.start < r.stop) track.now.rows }
+    requires within { All (λ r. r.seq ≡ seq → r.stop ≤ end) track.now.rows }
     ensures { result ≡ list_any (reaches_past seq length) track.now.rows }
 {
-    let mut walk = track.walk(seq, 0, meter);
-    while let Some(row) = walk.next(meter) {
-        if reaches_past(row, seq, length) {
-            return true;
-        }
-        if row.seq() > seq {
-            return false;
-        }
-    }
-    false
+    let cut_off = Region {
+        seq,
+        start: length,
+        stop: end,
+    };
+    track.hits(cut_off, meter).next(meter).is_some()
 }
 
-/// Whether a record of the second file ends past a length. Those on the sequence end at its present end or before, so it is
-/// enough to look for one that shares a position with what is to be cut off.
+/// The same of the second file.
 pub(crate) fn second_reaches_past<A: Allocator + Copy>(
     second: &Second<A>,
     seq: u32,
@@ -95,7 +86,7 @@ impl<A: Allocator + Copy> Session<A> {
             return false;
         }
         let mut meter = Meter::new();
-        if track_reaches_past(&self.track, seq, length, &mut meter) {
+        if track_reaches_past(&self.track, seq, length, end, &mut meter) {
             return true;
         }
         match &self.second {

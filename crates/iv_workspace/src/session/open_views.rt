@@ -1,7 +1,9 @@
 //! The open views under their names: opened, printed and closed.
-ghost use Rattle.std.specs.Prelude.{◌≡◌, ◌+◌, ◌<◌, None, Some, All, map, false, not, IsSome, IfErr, OnOk, OnErr, MatchOption, MatchResult, Ok, Err};
+ghost use Rattle.std.specs.Prelude.{◌≡◌, ◌+◌, ◌<◌, None, Some, All, map, false, not, IsSome, IfSome, IfErr, OnOk, OnErr, MatchOption, MatchResult, Ok, Err};
+ghost use Rattle.std.specs.Option.{is_some};
 ghost use Rattle.iv_bytes.specs.Sinks.{Puts};
 ghost use Rattle.iv_text.specs.Read.{read};
+ghost use Rattle.iv_view.specs.RegionText.{IsWithin};
 ghost use Rattle.iv_workspace.specs.OpenViews.{stale_count};
 ghost use Rattle.iv_workspace.specs.Prints.{PrintedNamed, PrintedAll, NamedPrintsWithin, AllPrintWithin};
 ghost use Rattle.iv_workspace.specs.States.{without_view};
@@ -11,7 +13,7 @@ use super::Session;
 use crate::fault::PrintFault;
 use iv_bytes::{Buffered, Sink, WriteFault, put_pieces};
 use iv_text::Fault;
-use iv_track::Meter;
+use iv_track::{Meter, Region};
 use iv_view::{View, ViewFault};
 use std::alloc::Allocator;
 
@@ -110,6 +112,13 @@ impl<A: Allocator + Copy> Session<A> {
         }
     }
 
+    /// Whether a view of this name is open.
+    pub fn is_open(&self, name: &[u8]) -> bool
+        ensures { result ≡ is_some (view_named self.now.views name.now) }
+    {
+        self.views.contains(name)
+    }
+
     /// Prints the view of this name: the text of its definition for the records as they are. A stale view is rebuilt
     /// first, and is then current.
     ///
@@ -118,17 +127,41 @@ impl<A: Allocator + Copy> Session<A> {
     /// `NoView` exactly if none is open, and `NoMemory` only for a stale view, which stays stale: then nothing was
     /// written. `Write`, and then a prefix was.
     pub fn print_view<S: Sink>(&mut self, name: &[u8], sink: &mut S) -> Result<(), PrintFault>
-        ensures { PrintedNamed self.old name.now self.new (S.state sink.old) (S.state sink.new) result }
+        ensures { PrintedNamed None self.old name.now self.new (S.state sink.old) (S.state sink.new) result }
     {
-        self.print_view_counted(name, &mut Meter::new(), sink)
+        self.print_view_counted(name, None, &mut Meter::new(), sink)
     }
 
-    /// Prints the view of this name, as [`Session::print_view`] does, and counts the steps.
+    /// Prints of the view of this name the rows whose interval shares a position with a region, whole and in their order, byte for byte
+    /// as [`Session::print_view`] does. Of a view whose rows come from records these are the rows of such records. A stale view is
+    /// rebuilt first, and is then current.
+    ///
+    /// # Errors
+    ///
+    /// As [`Session::print_view`].
+    pub fn show_view<S: Sink>(
+        &mut self,
+        name: &[u8],
+        region: Region,
+        sink: &mut S,
+    ) -> Result<(), PrintFault>
+        requires { IsWithin self.old.genome region }
+        ensures { PrintedNamed (Some region) self.old name.now self.new (S.state sink.old) (S.state sink.new) result }
+    {
+        self.print_view_counted(name, Some(region), &mut Meter::new(), sink)
+    }
+
+    /// Prints the view of this name, all of it or a region, as [`Session::print_view`] and [`Session::show_view`] do, and counts the
+    /// steps.
     ///
     /// A view that is current takes no more than its print from what is kept for it: two steps, and one for each block (`merge`,
     /// `complement`) or two for each row of a depth above 0 (`genomecov`); `cluster` four, and one for each record and each block.
     /// `records` takes two, and one for each different record. There is no bound for a stale view, which is built again, or for another
     /// one that is written from the records.
+    ///
+    /// A region takes a step for each row (`merge`, and eight more; `complement`, and two more), or one for each record that starts below
+    /// its end, and before it by less than twice the greatest length of a record: a written view two more, `genomecov` five more, and two
+    /// for each row of a depth above 0, and `cluster` four more, and one for each block up to the region's end.
     ///
     /// # Errors
     ///
@@ -136,11 +169,13 @@ impl<A: Allocator + Copy> Session<A> {
     pub fn print_view_counted<S: Sink>(
         &mut self,
         name: &[u8],
+        part: Option<Region>,
         meter: &mut Meter,
         sink: &mut S,
     ) -> Result<(), PrintFault>
-        ensures printed { PrintedNamed self.old name.now self.new (S.state sink.old) (S.state sink.new) result }
-        ensures steps { NamedPrintsWithin (view_named self.old.views name.now) self.old.genome self.old.track.rows meter.old meter.new }
+        requires { IfSome part (IsWithin self.old.genome) }
+        ensures printed { PrintedNamed part self.old name.now self.new (S.state sink.old) (S.state sink.new) result }
+        ensures steps { NamedPrintsWithin part (view_named self.old.views name.now) self.old.genome self.old.track.rows meter.old meter.new }
     {
         let Some(view) = self
             .views
@@ -151,8 +186,7 @@ impl<A: Allocator + Copy> Session<A> {
         let mut buffer = Buffered::new(sink);
         let (second, fasta) = (self.second.as_ref(), self.fasta.as_ref());
         let (track, genome) = (&self.track, &self.genome);
-        self.views
-            .put(view, track, second, fasta, genome, meter, &mut buffer)?;
+        self.views.put(view, part, track, second, fasta, genome, meter, &mut buffer)?;
         answer_of(buffer.finish())
     }
 
@@ -164,12 +198,25 @@ impl<A: Allocator + Copy> Session<A> {
     /// `NoMemory` only if a view is stale: then nothing was written, and some stale views may have become current.
     /// `Write`, and then a prefix was written.
     pub fn print_all<S: Sink>(&mut self, sink: &mut S) -> Result<(), PrintFault>
-        ensures { PrintedAll self.old self.new (S.state sink.old) (S.state sink.new) result }
+        ensures { PrintedAll None self.old self.new (S.state sink.old) (S.state sink.new) result }
     {
-        self.print_all_counted(&mut Meter::new(), sink)
+        self.print_all_counted(None, &mut Meter::new(), sink)
     }
 
-    /// Prints all views, as [`Session::print_all`] does, and counts the steps.
+    /// Prints of all views the rows that [`Session::show_view`] prints, in order of opening, each under a line `#NAME`. Stale views are
+    /// rebuilt before the first byte, and are then current.
+    ///
+    /// # Errors
+    ///
+    /// As [`Session::print_all`].
+    pub fn show_all<S: Sink>(&mut self, region: Region, sink: &mut S) -> Result<(), PrintFault>
+        requires { IsWithin self.old.genome region }
+        ensures { PrintedAll (Some region) self.old self.new (S.state sink.old) (S.state sink.new) result }
+    {
+        self.print_all_counted(Some(region), &mut Meter::new(), sink)
+    }
+
+    /// Prints all views, all of each or a region, as [`Session::print_all`] and [`Session::show_all`] do, and counts the steps.
     ///
     /// If no view is stale, each takes no more than its print from what is kept for it, and nothing else takes a step.
     ///
@@ -178,24 +225,32 @@ impl<A: Allocator + Copy> Session<A> {
     /// As [`Session::print_all`].
     pub fn print_all_counted<S: Sink>(
         &mut self,
+        part: Option<Region>,
         meter: &mut Meter,
         sink: &mut S,
     ) -> Result<(), PrintFault>
-        ensures printed { PrintedAll self.old self.new (S.state sink.old) (S.state sink.new) result }
-        ensures steps { stale_count self.old.views ≡ 0 → AllPrintWithin self.old.views self.old.genome self.old.track.rows meter.old meter.new }
+        requires { IfSome part (IsWithin self.old.genome) }
+        ensures printed { PrintedAll part self.old self.new (S.state sink.old) (S.state sink.new) result }
+        ensures steps { stale_count self.old.views ≡ 0 → AllPrintWithin part self.old.views self.old.genome self.old.track.rows meter.old meter.new }
     {
         self.views
             .refresh_all(self.alloc, &self.track, &self.genome, meter)?;
         let mut buffer = Buffered::new(sink);
-        self.put_views(meter, &mut buffer)?;
+        self.put_views(part, meter, &mut buffer)?;
         answer_of(buffer.finish())
     }
 
-    /// Puts the headings and texts of all views, which are current.
-    fn put_views<S: Sink>(&self, meter: &mut Meter, sink: &mut S) -> Result<(), WriteFault>
-        requires { All (λ v. v.1.stale ≡ false) self.now.views }
-        ensures text { Puts (S.state sink.old) (S.state sink.new) result (all_text self.now) }
-        ensures steps { AllPrintWithin self.now.views self.now.genome self.now.track.rows meter.old meter.new }
+    /// Puts the headings and texts of all views, which are current, all of each or a region.
+    fn put_views<S: Sink>(
+        &self,
+        part: Option<Region>,
+        meter: &mut Meter,
+        sink: &mut S,
+    ) -> Result<(), WriteFault>
+        requires fresh { All (λ v. v.1.stale ≡ false) self.now.views }
+        requires within { IfSome part (IsWithin self.now.genome) }
+        ensures text { Puts (S.state sink.old) (S.state sink.new) result (all_text part self.now) }
+        ensures steps { AllPrintWithin part self.now.views self.now.genome self.now.track.rows meter.old meter.new }
     {
         for place in 0..self.views.len() {
             let Some((name, opened)) = self.views.at(place) else {
@@ -204,8 +259,7 @@ impl<A: Allocator + Copy> Session<A> {
             put_heading(sink, name)?;
             let (second, fasta) = (self.second.as_ref(), self.fasta.as_ref());
             let (track, genome) = (&self.track, &self.genome);
-            self.views
-                .put(opened.view, track, second, fasta, genome, meter, sink)?;
+            self.views.put(opened.view, part, track, second, fasta, genome, meter, sink)?;
         }
         Ok(())
     }

@@ -11,6 +11,13 @@ pub returns-then-track_reaches_past : goal.returns-then-track_reaches_past
 returns-then-track_reaches_past g c =
     track-past _ c.args.self.now c.args.seq c.args.length c.self.view_is (sym c.track_reaches_past.ensures ∙ c.if-track_reaches_past.true)
 
+pub track_reaches_past-requires-clause-some : goal.track_reaches_past-requires-clause-some
+track_reaches_past-requires-clause-some g c = rows-some c.self.inside.genome c.self.inside.track c.self.invariant.0.track_is
+
+pub track_reaches_past-requires-clause-within : goal.track_reaches_past-requires-clause-within
+track_reaches_past-requires-clause-within g c =
+    rows-within c.self.inside.genome c.self.inside.track c.self.invariant.0.track_is c.args.seq c.length_of-end.result c.length_of-end.ensures
+
 pub second_reaches_past-requires-clause-some : goal.second_reaches_past-requires-clause-some
 second_reaches_past-requires-clause-some g c =
     let i = c.self.inside in

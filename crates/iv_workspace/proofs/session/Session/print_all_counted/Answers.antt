@@ -1,6 +1,8 @@
 use Rattle.std.proofs.Common.{◌≡◌, ◌∙◌, ◌<◌, refl, ap, sym, subst, arith}
 use Rattle.std.proofs.lemmas.Result.{err_from_is_err_and}
 use Rattle.iv_bytes.proofs.PutLemmas.{Puts-finished, FailsIn-given_up}
+use Rattle.std.specs.Prelude.{IfSome}
+use Rattle.iv_view.specs.RegionText.{IsWithin}
 use Rattle.iv_workspace.specs.Inside.ViewStates.{all_seen}
 use Rattle.iv_workspace.specs.OpenViews.{Freshens, all_current, stale_count}
 use Rattle.iv_workspace.specs.States.{State}
@@ -21,7 +23,10 @@ returns-in_err-refresh_all-clause-printed g c =
     )
 
 pub put_views-requires : goal.put_views-requires
-put_views-requires g c = all-fresh (all_seen c.self.inside.views) (all_seen c.refresh_all.new.self) c.in_ok-refresh_all.ensures.ok
+put_views-requires g c = record {
+  fresh = all-fresh (all_seen c.self.inside.views) (all_seen c.refresh_all.new.self) c.in_ok-refresh_all.ensures.ok;
+  within = subst (λ (s : State). IfSome c.args.part (IsWithin s.genome)) (sym c.self.view_is) c.requires;
+}
 
 pub returns-in_err-put_views-clause-printed : goal.returns-in_err-put_views-clause-printed
 returns-in_err-put_views-clause-printed g c =
@@ -31,7 +36,7 @@ returns-in_err-put_views-clause-printed g c =
     let names = failed.same in
     let named : c.put_views.new.sink.sink.ghost_name ≡ c.new-buffer.result.sink.ghost_name = cc names in
     let same = c.in_err-put_views.sink-1-own.given.1 (sym c.new-buffer.ensures.same_reference ∙ sym named) in
-    rw (p.1, p.2, same) (FailsIn-text _ _ _ _ (ap all_text new ∙ same-all_text c.args.self.now) (FailsIn-given_up _ _ _ _ _ _ failed), new)
+    rw (p.1, p.2, same) (FailsIn-text _ _ _ _ (ap (all_text c.args.part) new ∙ same-all_text c.args.part c.args.self.now) (FailsIn-given_up _ _ _ _ _ _ failed), new)
 
 pub returns-clause-printed : goal.returns-clause-printed
 returns-clause-printed g c =
@@ -40,8 +45,8 @@ returns-clause-printed g c =
     let names = took.moved.same in
     let named : c.put_views.new.sink.sink.ghost_name ≡ c.new-buffer.result.sink.ghost_name = cc names in
     let same = c.sink-2-1.given.1 (sym c.new-buffer.ensures.same_reference ∙ sym named) in
-    let text = ap all_text new ∙ same-all_text c.args.self.now in
-    rw same (all-answered _ _ _ _ c.finish.result _ c.answer_of.ensures (Puts-text _ _ c.finish.result _ _ text (Puts-finished _ _ _ _ _ _ _ c.finish.result took c.finish.ensures)) new)
+    let text = ap (all_text c.args.part) new ∙ same-all_text c.args.part c.args.self.now in
+    rw same (all-answered c.args.part _ _ _ _ c.finish.result _ c.answer_of.ensures (Puts-text _ _ c.finish.result _ _ text (Puts-finished _ _ _ _ _ _ _ c.finish.result took c.finish.ensures)) new)
 
 pub invariant_of-self : goal.invariant_of-self
 invariant_of-self g c = (
@@ -66,8 +71,8 @@ returns-in_err-refresh_all-clause-steps g c =
 
 pub returns-in_err-put_views-clause-steps : goal.returns-in_err-put_views-clause-steps
 returns-in_err-put_views-clause-steps g c =
-    printed-within _ c.args.self.now (all_seen c.refresh_all.new.self) _ _ _ c.self.view_is c.in_ok-refresh_all.ensures.ok c.refresh_all.ensures.steps c.put_views.ensures.steps
+    printed-within c.args.part _ c.args.self.now (all_seen c.refresh_all.new.self) _ _ _ c.self.view_is c.in_ok-refresh_all.ensures.ok c.refresh_all.ensures.steps c.put_views.ensures.steps
 
 pub returns-clause-steps : goal.returns-clause-steps
 returns-clause-steps g c =
-    printed-within _ c.args.self.now (all_seen c.refresh_all.new.self) _ _ _ c.self.view_is c.in_ok-refresh_all.ensures.ok c.refresh_all.ensures.steps c.put_views.ensures.steps
+    printed-within c.args.part _ c.args.self.now (all_seen c.refresh_all.new.self) _ _ _ c.self.view_is c.in_ok-refresh_all.ensures.ok c.refresh_all.ensures.steps c.put_views.ensures.steps

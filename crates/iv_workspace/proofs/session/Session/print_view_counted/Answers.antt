@@ -50,7 +50,7 @@ put-requires-clause-served g c =
 pub returns-clause-printed : goal.returns-clause-printed
 returns-clause-printed g c =
     let found = view-found _ c.in-Some.view (sym c.in-Some.is ∙ c.in_ok-view.ensures.view) in
-    let text = same-text _ c.args.self.now found.0 c.in-Some.view c.self.view_is found.2 in
+    let text = same-text c.args.part _ c.args.self.now found.0 c.in-Some.view c.self.view_is found.2 in
     let took = rw (c.new-buffer.ensures.same, c.new-buffer.ensures.empty) at c.in_ok-put.ensures.text in
     let names = took.moved.same in
     let named : c.put.new.sink.sink.ghost_name ≡ c.new-buffer.result.sink.ghost_name = cc names in
@@ -59,7 +59,7 @@ returns-clause-printed g c =
     (rw (c.as_ref-second.ensures.value, c.as_ref-fasta.ensures.value) at (Puts-finished _ _ _ _ _ _ _ c.finish.result took c.finish.ensures)) in
     rw same
     (match-some _ _ _ found.0 (found.1 ∙ ap (λ (s : State). view_named s.views c.args.name.now) c.self.view_is)
-    (view-answered _ _ c.args.name.now found.0 _ _ c.finish.result _ c.answer_of.ensures puts
+    (view-answered c.args.part _ _ c.args.name.now found.0 _ _ c.finish.result _ c.answer_of.ensures puts
     (views-changed (λ views. with_current views c.args.name.now) _ c.args.self.now (all_seen c.refresh.new.self) c.self.view_is c.in_ok-view.ensures.ok)))
 
 pub invariant_of-self-in_err-put : goal.invariant_of-self-in_err-put
@@ -81,19 +81,19 @@ invariant_of-self-2 g c = (
 pub returns-in_default-clause-steps : goal.returns-in_default-clause-steps
 returns-in_default-clause-steps g c =
     let none = view-none _ (sym c.in_default.is ∙ c.in_ok-view.ensures.view) ∙ ap (λ (s : State). view_named s.views c.args.name.now) c.self.view_is in
-    none-within _ _ _ _ _ _ (ap (λ (s : State). view_named s.views c.args.name.now) c.self.view_is) none c.refresh.ensures.steps
+    none-within c.args.part _ _ _ _ _ _ (ap (λ (s : State). view_named s.views c.args.name.now) c.self.view_is) none c.refresh.ensures.steps
 
 pub returns-in_err-view-clause-steps : goal.returns-in_err-view-clause-steps
 returns-in_err-view-clause-steps g c =
     let found = some-and _ (λ v. v.stale ≡ true) c.in_err-view.ensures.stale in
-    stale-within _ _ _ _ _ found.0 (found.1 ∙ ap (λ (s : State). view_named s.views c.args.name.now) c.self.view_is) found.2
+    stale-within c.args.part _ _ _ _ _ found.0 (found.1 ∙ ap (λ (s : State). view_named s.views c.args.name.now) c.self.view_is) found.2
 
 pub returns-in_err-put-clause-steps : goal.returns-in_err-put-clause-steps
 returns-in_err-put-clause-steps g c =
     let found = view-found _ c.in-Some.view (sym c.in-Some.is ∙ c.in_ok-view.ensures.view) in
-    named-within _ c.args.self.now c.args.name.now _ _ _ found.0 c.in-Some.view c.self.view_is found.1 found.2 c.refresh.ensures.steps c.put.ensures.steps
+    named-within c.args.part _ c.args.self.now c.args.name.now _ _ _ found.0 c.in-Some.view c.self.view_is found.1 found.2 c.refresh.ensures.steps c.put.ensures.steps
 
 pub returns-clause-steps : goal.returns-clause-steps
 returns-clause-steps g c =
     let found = view-found _ c.in-Some.view (sym c.in-Some.is ∙ c.in_ok-view.ensures.view) in
-    named-within _ c.args.self.now c.args.name.now _ _ _ found.0 c.in-Some.view c.self.view_is found.1 found.2 c.refresh.ensures.steps c.put.ensures.steps
+    named-within c.args.part _ c.args.self.now c.args.name.now _ _ _ found.0 c.in-Some.view c.self.view_is found.1 found.2 c.refresh.ensures.steps c.put.ensures.steps

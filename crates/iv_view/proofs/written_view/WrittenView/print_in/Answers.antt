@@ -1,0 +1,53 @@
+use Rattle.std.proofs.Common.{◌≡◌, ◌∙◌, ◌∷◌, List, [], ap, arith}
+use Rattle.std.specs.Option.{option_copied, unwrap_or}
+use Rattle.iv_bytes.proofs.PutLemmas.{Underway-begin, Underway-more, Underway-fails, Puts-err}
+use Rattle.iv_text.specs.RecordValue.{RecordValue}
+use Rattle.iv_view.specs.Views.{second_records, written_text}
+use Rattle.iv_view.proofs.RegionLemmas.{first-rows}
+use Rattle.iv_view.proofs.written_view.WrittenView.print_in.Goals as goal
+
+pub rows-init : goal.rows-init
+rows-init g c = record {
+  put = rw c.hits-hits.ensures.rows (Underway-begin _ _);
+  no_less = omega (arith, c.hits-hits.ensures.steps);
+  at_most = omega (arith, c.hits-hits.ensures.steps, c.hits-hits.ensures.passes);
+}
+
+pub rows-preserved : goal.rows-preserved
+rows-preserved g c =
+    let a = c.args in
+    let i = c.rows.invariant in
+    let second = second_records (option_copied a.second) in
+    let bases = unwrap_or (option_copied a.fasta) [] in
+    let first : c.rows.hits.rows ≡ c.in-Some.row.now ∷ c.next.new.self.rows = c.in-Some.ensures.row in
+    let next = ap (λ (l : List RecordValue). written_text a.self a.genome.now l second bases) first ∙ first-rows a.self a.genome.now c.in-Some.row.now c.next.new.self.rows second bases in
+    record {
+      put = Underway-more _ _ _ _ _ _ (rw next at i.put) c.in_ok-put_rows.ensures;
+      no_less = omega (arith, i.no_less, c.in-Some.ensures.steps);
+      at_most = omega (arith, i.at_most, c.in-Some.ensures.steps);
+    }
+
+pub returns-in_err-put_rows : goal.returns-in_err-put_rows
+returns-in_err-put_rows g c =
+    let a = c.args in
+    let i = c.rows.invariant in
+    let second = second_records (option_copied a.second) in
+    let bases = unwrap_or (option_copied a.fasta) [] in
+    let first : c.rows.hits.rows ≡ c.in-Some.row.now ∷ c.next.new.self.rows = c.in-Some.ensures.row in
+    let next = ap (λ (l : List RecordValue). written_text a.self a.genome.now l second bases) first ∙ first-rows a.self a.genome.now c.in-Some.row.now c.next.new.self.rows second bases in
+    record {
+      text = Puts-err _ _ c.from_residual.result _ c.from_residual.ensures.0
+          (Underway-fails _ _ _ _ _ _ (rw next at i.put) c.in_err-put_rows.ensures);
+      steps = record {
+        no_less = omega (arith, i.no_less, c.in-Some.ensures.steps);
+        at_most = omega (arith, i.at_most, c.in-Some.ensures.steps);
+      };
+    }
+
+pub returns-clause-steps : goal.returns-clause-steps
+returns-clause-steps g c =
+    let i = c.rows.invariant in
+    record {
+      no_less = omega (arith, i.no_less, c.in_default.ensures.steps);
+      at_most = omega (arith, i.at_most, c.in_default.ensures.steps);
+    }
