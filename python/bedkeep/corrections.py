@@ -15,7 +15,7 @@ from .rows import RECORD
 from .wide import cut
 
 EDITS = {"add", "remove", "replace", "addb", "removeb", "replaceb"}
-VIEWS = {"open", "close", "print", "printall"}
+VIEWS = {"open", "close", "print", "printall", "show", "showall"}
 ABSENT = "no such record"
 COLUMN_OF = {"unknown sequence": 0, "start is not a number": 1, "end is not a number": 2, "start not below end": 1,
              "end past the sequence's end": 2, "bad name": 3, "bad score": 4, "bad strand": 5}

@@ -30,6 +30,7 @@ show chr1:100-200        the records that overlap it, from 0 and without its end
 find NAME                the records of that name
 merge -d 10              the rows of this view; also cluster, complement, genomecov,
                          intersect, subtract and getfasta, with their options
+merge -d 10 chr1:100-200 its rows that overlap the place
 undo                     takes the last edit back
 review [PAGE.html]       writes a page to look at each correction, and opens it
 save FILE                writes all records as a BED file
@@ -103,7 +104,7 @@ class Curator:
 
     def _do(self, word: str, rest: str, line: str) -> None:
         if word in VIEWS:
-            self._show(self._session.view(line))
+            self._show(self._view(line))
         elif word in self._commands:
             self._commands[word](rest)
         elif line.startswith("#"):
@@ -180,6 +181,11 @@ class Curator:
 
     def _show_place(self, place: str) -> None:
         self._show(self._session.region(*_place(place)), "no record is there")
+
+    def _view(self, line: str) -> list[Row]:
+        """The rows of a view, or those that overlap the place at the end of the line."""
+        words, _, place = line.rpartition(" ")
+        return self._session.show(words, *_place(place)) if PLACE.fullmatch(place) else self._session.view(line)
 
     def _find(self, name: str) -> None:
         self._show(self._session.find(name), "no record has that name")

@@ -10,9 +10,8 @@ from typing import Any, Callable, Iterable, Optional
 
 from .program import Path, decoded, encoded
 from .rows import RECORD
-from .runs import intersect
 from .script import Script
-from .sources import Genome, Text, lengths_of
+from .sources import Genome, lengths_of
 
 PIECE = 1 << 20
 HEADER = re.compile(rb"^(?:#.*|(?:track|browser)(?: .*)?)?\r?$", re.MULTILINE)
@@ -21,25 +20,29 @@ Record = tuple[Any, ...]
 
 
 class Lookup:
-    """The genome and the BED file as the session reads them, and its edits. This is made before the program is started."""
+    """The BED file as the session reads it, and its edits. This is made before the program is started.
 
-    def __init__(self, genome: Genome, bed: str, program: Optional[Path]) -> None:
-        self._genome, self._bed, self._program = genome, bed, program
-        files = [bed] if isinstance(genome, Mapping) else [bed, os.fspath(genome)]
-        self._read = {path: _stamp(path) for path in files}
+    lengths: those of the genome file when the program read it, or None if they aren't known
+    """
+
+    def __init__(self, genome: Genome, bed: str) -> None:
+        self._genome, self._bed = genome, bed
+        self._genome_read = None if isinstance(genome, Mapping) else _stamp(genome)
+        self._bed_read = _stamp(bed)
         self.lengths: Optional[dict[str, int]] = None
         self.script = Script(None)
 
     def begin(self, script: Callable[[Optional[dict[str, int]]], Script] = Script) -> Script:
         """Reads the lengths of a genome file that the program took, and begins the script."""
-        self.lengths = lengths_of(self._genome)
+        if isinstance(self._genome, Mapping) or _stamp(self._genome) == self._genome_read:
+            self.lengths = lengths_of(self._genome)
         self.script = script(self.lengths)
         return self.script
 
     @property
     def is_possible(self) -> bool:
-        """Whether the files are still those that were read. A pipe can't be read twice."""
-        return all(stamp is not None and _stamp(path) == stamp for path, stamp in self._read.items())
+        """Whether the BED file is still the one that was read, and the lengths are known. A pipe can't be read twice."""
+        return self.lengths is not None and self._bed_read is not None and _stamp(self._bed) == self._bed_read
 
     def count(self) -> int:
         """How many records the track has."""
@@ -53,28 +56,15 @@ class Lookup:
         """How many records the edits added, less those that they removed."""
         return sum(self.script.change().values())
 
-    def overlapping(self, chromosome: str, start: int, end: int) -> list[Record]:
-        """The records that overlap an interval. The program finds those of the file."""
-        first, last = max(start, 0), min(end, (self.lengths or {}).get(chromosome, 0))
-        found: Iterable[Record] = ()
-        if first < last:
-            interval = Text(f"{chromosome}\t{first}\t{last}\n", "interval")
-            found = intersect(self._genome, self._bed, interval, u=True, program=self._program)
-        return self._edited(found, lambda record: bool(record[0] == chromosome and record[1] < end and start < record[2]))
-
     def named(self, name: str) -> list[Record]:
-        """The records of that name."""
-        return self._edited(_named(self._bed, name), lambda record: record[3:4] == (name,))
-
-    def _edited(self, found: Iterable[Record], wanted: Callable[[Record], bool]) -> list[Record]:
-        """Records of the file as they are after the edits, in track order."""
-        counted = Counter(tuple(record) for record in found)
-        counted.update({record: copies for record, copies in self.script.change().items() if wanted(record)})
-        ranks = {name: rank for rank, name in enumerate(self.lengths or ())}
+        """The records of that name as they are after the edits, in track order."""
+        counted = Counter(_named(self._bed, name))
+        counted.update({record: copies for record, copies in self.script.change().items() if record[3:4] == (name,)})
+        ranks = {sequence: rank for rank, sequence in enumerate(self.lengths or ())}
         return sorted(counted.elements(), key=lambda record: (ranks[record[0]], *record[1:3], *map(encoded, record[3:])))
 
 
-def _stamp(path: str) -> Optional[tuple[int, ...]]:
+def _stamp(path: Path) -> Optional[tuple[int, ...]]:
     """What differs when a regular file was written again."""
     if not os.path.isfile(path):
         return None

@@ -13,7 +13,7 @@ from .interrupts import Interrupts
 
 INVERSE = {"add": "remove", "remove": "add", "replace": "replace",
            "addb": "removeb", "removeb": "addb", "replaceb": "replaceb"}
-VIEW_COMMAND = re.compile(r"\n(?:open\t|close\t|print\t|printall\n)")
+VIEW_COMMAND = re.compile(r"\n(?:open\t|close\t|print\t|printall\n|show\t|showall\t)")
 
 
 def text_of(field: object) -> str:
@@ -123,18 +123,22 @@ class Script:
         """The line that takes back the line at that place, the last edit."""
         command, *fields = self.parts(self.lines()[place])
         if command == "resize":
-            return line_of("resize", fields[0], self._length(place, fields[0]))
+            return line_of("resize", fields[0], self._length(fields[0], place))
         half = len(fields) // 2 if command.startswith("replace") else 0
         return line_of(INVERSE[command], *fields[half:], *fields[:half])
 
-    def _length(self, place: int, chromosome: str) -> str:
+    def length(self, chromosome: str) -> int:
+        """The length of a chromosome after all lines, or 0 if the genome lacks it."""
+        return self._length(chromosome, len(self.lines()))
+
+    def _length(self, chromosome: str, place: int) -> int:
         """The length of a chromosome before the line at that place."""
         for line in reversed(self.lines()[:place]):
             if line.startswith(f"resize\t{chromosome}\t"):
-                return line.rpartition("\t")[2]
+                return int(line.rpartition("\t")[2])
         if self._lengths is None:
-            raise ValueError(f"the length of {chromosome} before isn't known, since the genome file is no regular file")
-        return str(self._lengths[chromosome])
+            raise ValueError(f"the length of {chromosome} before isn't known, since the genome file can't be read again")
+        return self._lengths.get(chromosome, 0)
 
 
 def _record(columns: list[str]) -> tuple[Any, ...]:

@@ -12,7 +12,7 @@ from .conversation import Conversation, Take
 from .errors import Ended, Refused
 from .files import same_file, whole
 from .interrupts import Interrupts
-from .lookup import Lookup, Record
+from .lookup import Lookup
 from .program import Path, find
 from .rows import RECORD, Lines, Reader, Row, count_of, fields_of, row_of
 from .script import Script, edits_of, line_of, text_of
@@ -65,7 +65,7 @@ class Session:
             words = [find(program), "session", *(word for option in self._files.items() for word in option)]
             if width is not None:
                 words += ["-width", str(width)]
-            self._lookup = Lookup(genome, self._files["-i"], program)
+            self._lookup = Lookup(genome, self._files["-i"])
             self._talk = Conversation(words, sources.descriptors)
             try:
                 self.width = self._find_width("remove")
@@ -206,15 +206,19 @@ class Session:
 
     def rows(self, name: str) -> list[Row]:
         """The rows of an open view, as the records are now."""
-        rows: list[Row] = []
-        lines, reader = Lines(), Reader(self._named.get(name, []), self.width)
-        # They are made as the text comes, so that it is never there as a whole.
-        self._send_one(line_of("print", name), lambda piece: rows.extend(reader.rows(lines.whole(piece))))
-        return rows
+        return self._rows(name, line_of("print", name))
 
     def view(self, words: str) -> list[Row]:
         """The rows of a view, such as `merge -d 10`. It stays open, so that the next look at it is a print."""
         return self.rows(self._view(words))
+
+    def show(self, words: str, chromosome: str, start: int, end: int) -> list[Row]:
+        """The rows of a view, such as `merge -d 10`, that share a position with an interval of a chromosome, whole.
+
+        Of records, cluster, intersect, subtract and getfasta: the rows of the records that do so. The view stays open, as by `view`.
+        """
+        name = self._view(words)
+        return self._rows(name, line_of("show", name, chromosome, start, end))
 
     def records(self) -> list[Row]:
         """All records in the order of the genome file."""
@@ -227,14 +231,15 @@ class Session:
         """The records that overlap an interval, or all of a chromosome, in their order."""
         if end is None:
             end = LONGEST
-        if self._lookup.is_possible:
-            return self._rows_of(self._lookup.overlapping(chromosome, start, end))
-        return [row for row in self.records() if row.chromosome == chromosome and row.start < end and start < row.end]
+        if self._lookup.lengths is None:
+            return [row for row in self.view("records") if row.chromosome == chromosome and row.start < end and start < row.end]
+        first, last = max(start, 0), min(end, self._script.length(chromosome))
+        return self.show("records", chromosome, first, last) if first < last else []
 
     def find(self, name: str) -> list[Row]:
         """The records of that name, in their order."""
         if self._lookup.is_possible:
-            return self._rows_of(self._lookup.named(name))
+            return [row_of(RECORD[:self.width], record) for record in self._lookup.named(name)]
         return [row for row in self.records() if row[3:4] == (name,)]
 
     def near(self, chromosome: str, start: int, end: int, count: int = 3) -> list[Row]:
@@ -242,7 +247,7 @@ class Session:
         def distance(row: Row) -> int:
             return abs(row.start - start) + abs(row.end - end)
 
-        reach = REACH if self._lookup.is_possible else LONGEST
+        reach = LONGEST if self._lookup.lengths is None else REACH
         while True:
             found = nsmallest(count, self.region(chromosome, start - reach, end + reach), key=distance)
             if len(found) == count and distance(found[-1]) <= reach or reach >= LONGEST:
@@ -289,14 +294,18 @@ class Session:
         columns = _columns(record[0] if len(record) == 1 else record)
         self._send_one(line_of(command, *columns), done=self._script.add)
 
+    def _rows(self, name: str, line: str) -> list[Row]:
+        """What a line prints of an open view. The rows are made as the text comes, so that it is never there as a whole."""
+        rows: list[Row] = []
+        lines, reader = Lines(), Reader(self._named.get(name, []), self.width)
+        self._send_one(line, lambda piece: rows.extend(reader.rows(lines.whole(piece))))
+        return rows
+
     def _print_track(self, take: Callable[[bytes], object]) -> None:
         """Hands on the lines of all records, in their order. The view `records`, which stays open, has them."""
         name, lines = self._view("records"), Lines()
         joined = self._wide.joiner() if self._wide else bytes
         self._send_one(line_of("print", name), lambda piece: take(joined(lines.whole(piece))))
-
-    def _rows_of(self, records: Iterable[Record]) -> list[Row]:
-        return [row_of(RECORD[:self.width], record) for record in records]
 
     def _edits(self) -> list[str]:
         return [line for line in self._script.lines() if line and not line.startswith("#")]

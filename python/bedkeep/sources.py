@@ -6,7 +6,7 @@ from __future__ import annotations
 
 import os
 from collections.abc import Mapping
-from typing import Any, NamedTuple, Optional, Union
+from typing import Any, Optional, Union
 
 from . import files
 from .errors import Ended
@@ -16,13 +16,6 @@ from .tables import bed_text, is_table
 
 Genome = Union[Path, Mapping[str, int]]
 Track = Any  # a path, or a table with the columns of a record
-
-
-class Text(NamedTuple):
-    """The text of a BED file, and what messages call it."""
-
-    text: str
-    name: str
 
 
 class Sources:
@@ -44,8 +37,6 @@ class Sources:
 
     def track(self, given: Track) -> str:
         """The path of a BED file, or of the records of a table."""
-        if isinstance(given, Text):
-            return self.text(*given)
         return self.text(bed_text(given), "table") if is_table(given) else path_of(given)
 
     def text(self, text: str, name: str) -> str:

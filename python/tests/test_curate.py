@@ -83,6 +83,13 @@ class Curate(Case):
              "addb\tchr1\t1\t2", "add\tchr1\t5\t6\tgeneX", "replace\tchr1\t5\t6\tgeneX\tchr1\t4\t6\tgeneX",
              "add\tchr1\t4\t6\tgeneX", "replace\tchr1\t4\t6\tgeneX\tchr1\t3\t6\tgeneX"])
 
+    def test_the_rows_of_a_view_at_a_place(self):
+        self.assertEqual(
+            self.typed("merge -d 100 chr1:250-251", "merge chr1:250-251", "intersect -c chr1:1,00-1,50", "complement chr1:399-1,001",
+                       "merge chr1:,-5", "merge chr1"),
+            ["chr1\t100\t400", "chr1\t100\t200\tgeneA\t1", "refused: end past the sequence's end",
+             "a place is like chr1:100-2000, or chr1", "refused: bad options"])
+
     def test_no_file_is_written_over(self):
         kept, link = self.file("kept", "mine\n"), self.folder / "link.bed"
         link.symlink_to(self.genes)
@@ -209,7 +216,7 @@ class Kept(Case):
         self.assertEqual(self.path.read_text(), "# for nothing\n")
 
     def test_it_goes_on(self):
-        before = "# why\r\nadd\tchr1\t1\t2\tx\nopen\tm\tmerge\nremove\tchr1\t7\t8\tx\nresize\tchr2\t600"
+        before = "# why\r\nadd\tchr1\t1\t2\tx\nshow\tm\tchr1\t1\t2\nremove\tchr1\t7\t8\tx\nresize\tchr2\t600"
         self.path.write_bytes(before.encode())
         with self.prompt() as says:
             self.assertEqual(says.began, [f"{self.path}: line 4: no such record: remove chr1 7 8 x",

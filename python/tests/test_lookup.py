@@ -48,16 +48,21 @@ class Looks(Case):
                     self.assertEqual((len(session), session.find("x")), (count, []))
 
     def test_files_that_cannot_be_looked_at_again(self):
-        """A pipe, a table in memory, a file that was written again: then all records are printed."""
+        """A pipe, a table in memory, a file that was written again: then all records are printed if they have to be."""
         before = [("chr1", 100, 200, "geneA"), ("chr1", 300, 400, "geneB")]
         program = self.script("program", f'exec "$BEDKEEP" session -g "$3" -i <(cat {self.genes})')
         piped = bedkeep.Session(self.sizes, "/dev/fd/99", program=program)
+        genome = bedkeep.Session("/dev/fd/99", self.genes, program=self.script(
+            "other", f'exec "$BEDKEEP" session -g <(cat {self.sizes}) -i "$5"'))
         changed = self.session()
+        begun = self.session(program=self.script(
+            "third", f'cp {self.sizes} {self.sizes}2; mv {self.sizes}2 {self.sizes}; exec "$BEDKEEP" "$@"'))
+        self.assertIsNone(begun._lookup.lengths)
         self.genes, given = self.file("others.bed", self.genes.read_text()), self.genes
         other = self.session()
         given.write_text("chr1\t7\t8\tgeneC\n")
         self.sizes.write_text("chr1\t9\n")
-        for session in piped, changed, other:
+        for session in piped, genome, changed, begun, other:
             with session:
                 self.assertEqual((len(session), session.find("geneA")), (2, before[:1]))
                 self.assertEqual((session.region("chr1", 200, 301), session.region("chr2")), (before[1:], []))

@@ -277,7 +277,7 @@ class Particular(Replays):
                          [("moved", "removeb\tchr1\t5\t10"), ("fits", ""), ("fits", "")])
 
     def test_lines_of_views_and_comments_stay(self):
-        script = self.file("corrections", "# why\nopen\tv\tmerge\n\nadd\tchr1\t1\t2\tx\nprintall\nadd\tchr1\t3\t4\tx\r")
+        script = self.file("corrections", "# why\nopen\tv\tmerge\n\nadd\tchr1\t1\t2\tx\nshowall\tchr1\t1\t2\nadd\tchr1\t3\t4\tx\r")
         replayed = replay(self.sizes, self.genes, [script, self.file("more", "# more\n# of it\nadd\tchr1\t5\t6\ty\n")])
         self.assertEqual([(one.line.number, one.line.place, one.line.comments) for one in replayed.findings],
                          [(4, 4, ()), (6, 6, ()), (9, 3, ("more", "of it"))])

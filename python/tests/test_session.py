@@ -126,7 +126,7 @@ class Scripts(Case):
 
     def test_views_are_no_edits(self):
         with self.session() as session:
-            for line in "open\tm\tmerge", "close\tm", "print\tm", "printall":
+            for line in "open\tm\tmerge", "close\tm", "print\tm", "printall", "show\tm\tchr1\t1\t2", "showall\tchr1\t1\t2":
                 with self.assertRaises(ValueError):
                     session.edit(["add\tchr1\t1\t2\tx", line])
             self.assertEqual(session.script(), "")
@@ -250,6 +250,65 @@ class Views(Case):
                     self.assertEqual([type(one) for one in found], [type(one) for one in row])
                     self.assertEqual(pickle.loads(pickle.dumps(found)), found)
             self.assertEqual(session.view("getfasta -s")[1], ("chr1", 15, 30, "-", "AACGTAACGTAACGT"))
+
+    def test_the_rows_of_a_region(self):
+        """Rows that share a position with it, whole; of intersect, subtract and getfasta those of records that do so."""
+        bed = self.file("some.bed", "chr1\t10\t20\ta\nchr1\t15\t30\tb\nchr1\t40\t50\tc\nchr2\t10\t20\td\n")
+        mask = self.file("cuts.bed", "chr1\t12\t14\nchr1\t45\t46\n")
+        a, b, c = ("chr1", 10, 20, "a"), ("chr1", 15, 30, "b"), ("chr1", 40, 50, "c")
+        with bedkeep.Session(self.sizes, bed, second=mask, fasta=self.bases) as session:
+            for words, start, end, rows in (
+                ("records", 0, 10, []), ("records", 19, 20, [a, b]), ("records", 20, 41, [b, c]),
+                ("merge", 29, 30, [("chr1", 10, 30)]), ("merge", 30, 40, []), ("merge -d 10", 30, 40, [("chr1", 10, 50)]),
+                ("merge -c 4 -o collapse", 5, 11, [("chr1", 10, 30, "a,b")]),
+                ("cluster", 41, 42, [(*c, 2)]), ("complement", 30, 31, [("chr1", 30, 40)]),
+                ("complement", 9, 51, [("chr1", 0, 10), ("chr1", 30, 40), ("chr1", 50, 1000)]),
+                ("genomecov -bg", 14, 21, [("chr1", 10, 15, 1), ("chr1", 15, 20, 2), ("chr1", 20, 30, 1)]),
+                ("genomecov -bga", 9, 10, [("chr1", 0, 10, 0)]),
+                ("genomecov -d", 14, 16, [("chr1", 15, 1), ("chr1", 16, 2)]),
+                ("intersect", 18, 19, [("chr1", 12, 14, "a")]), ("intersect -c", 18, 21, [(*a, 1), (*b, 0)]),
+                ("intersect -wb", 49, 50, [("chr1", 45, 46, "c", "chr1", 45, 46)]), ("intersect -v", 0, 1000, [b]),
+                ("subtract", 19, 20, [("chr1", 10, 12, "a"), ("chr1", 14, 20, "a"), b]), ("subtract -A", 0, 15, []),
+                ("getfasta", 49, 1000, [("chr1", 40, 50, "ACGTTACGTT")]),
+            ):
+                with self.subTest(words, start=start, end=end):
+                    found = session.show(words, "chr1", start, end)
+                    self.assertEqual(found, rows)
+                    whole = session.view(words)[0]
+                    for row in found:
+                        self.assertEqual((type(row), [*map(type, row)]), (type(whole), [*map(type, whole)]))
+            self.assertEqual(session.show("cluster", "chr2", 0, 500), [("chr2", 10, 20, "d", 3)])
+
+    def test_a_region_follows_each_edit(self):
+        with self.session() as session:
+            self.assertEqual(session.show("merge -d 100", "chr1", 399, 400), [("chr1", 100, 400)])
+            session.remove("chr1", 300, 400, "geneB")
+            with mock.patch.object(session, "open") as opened:
+                self.assertEqual(session.show("merge  -d 100", "chr1", 199, 200), [("chr1", 100, 200)])
+                self.assertEqual(session.show("merge -d 100", "chr1", "0200", 300), [])
+            opened.assert_not_called()
+            session.resize("chr2", 600)
+            self.assertEqual(session.show("complement", "chr2", 599, 600), [("chr2", 0, 600)])
+            self.assertEqual(session.script(), "remove\tchr1\t300\t400\tgeneB\nresize\tchr2\t600\n")
+
+    def test_regions_that_are_refused(self):
+        with self.session() as session:
+            for region, reason in (
+                (("chr1", -1, 5), "start is not a number"), (("chr1", 0, "x"), "end is not a number"),
+                (("chr3", 5, 5), "start not below end"), (("chr3", 0, 1001), "unknown sequence"),
+                (("chr1", 0, 1001), "end past the sequence's end"),
+            ):
+                with self.refused(reason) as caught:
+                    session.show("merge", *region)
+                self.assertEqual(caught.exception.line, "\t".join(["show", "view:1", *map(str, region)]))
+                self.assertTrue(caught.exception.hint)
+            with self.refused("bad options"):
+                session.show("merge -x", "chr1", 0, 1)
+            with self.refused("no second file"):
+                session.show("intersect", "chr9", 0, 1)
+            with self.assertRaises(TypeError):
+                session.show("merge", "chr1", 0, 1.5)
+            self.assertEqual(session.show("merge", "chr1", 0, 1000), [("chr1", 100, 200), ("chr1", 300, 400)])
 
 
 class Saving(Case):
