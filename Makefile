@@ -20,7 +20,7 @@ INSTALL_DATA ?= $(INSTALL) -m 644
 # The Python package, which is installed below datadir/bedkeep: PYTHONPATH is then its folder python, or pip installs that.
 PACKAGE = python/pyproject.toml python/README.md python/bedkeep/py.typed $(sort $(wildcard $(addprefix python/bedkeep/,*.py review/*.py review/*.css review/*.js)))
 # What is installed below docdir, in the folders that it has here, so that links and the steps of the guide work there too.
-DOCUMENTS = README.md CHANGELOG.md LICENSE CITATION.cff $(addprefix docs/,GUIDE.md BEDTOOLS.md bedtools-report.md FORMAT.md PROMISES.md BENCHMARKS.md speed.svg review.png) \
+DOCUMENTS = README.md CHANGELOG.md LICENSE CITATION.cff $(addprefix docs/,GUIDE.md BEDTOOLS.md bedtools-report.md FORMAT.md PROMISES.md STATEMENT.md BENCHMARKS.md speed.svg review.png) \
 	$(shell find examples -type f ! -path '*/.snakemake/*' ! -name '*.pyc' ! -name corrected.bed ! -name 'review.*' \
 		! \( -path '*/workflows/*/*' ! -name '*.cwl' ! -name '*.yaml' \) | LC_ALL=C sort)
 
@@ -92,6 +92,7 @@ test:
 	python3 scripts/test/transcripts.py $(PROGRAM)
 	python3 scripts/test/sizes.py $(PROGRAM)
 	python3 scripts/test/cuts.py $(PROGRAM)
+	python3 scripts/test/growth.py $(PROGRAM)
 	scripts/test/examples.sh $(PROGRAM)
 	scripts/test/at_scale.sh $(PROGRAM)
 	scripts/test/workflows.sh $(PROGRAM)
