@@ -14,6 +14,8 @@ status 1 if what they print differs.
 The edits are those of the track, or, with `--of second`, of a second file that
 has the same records. With `--of lengths` they make the first sequence longer and
 then as long as it was: first N times longer by one base, and then N times shorter.
+With `--of shows` they are no edits, but a `show` of each view in turn, of the region
+from a record to the tenth after it.
 
 The records that are added lie all over the genome. With `--at one-place` they lie
 beside one another in the first sequence, and are added in no order; with
@@ -57,7 +59,7 @@ def main():
 def read_words():
     words = argparse.ArgumentParser(description=__doc__.splitlines()[0])
     words.add_argument("folder", nargs="?", help="where the data is written (default: a temporary folder)")
-    words.add_argument("--of", choices=["track", "second", "lengths"], default="track", help="what is edited")
+    words.add_argument("--of", choices=["track", "second", "lengths", "shows"], default="track", help="what is edited")
     words.add_argument("--view", nargs="+", choices=VIEWS, default=["merge"], help="the views that are open")
     words.add_argument("--records", type=int, default=1_000_000)
     words.add_argument("--columns", type=int, nargs="+", choices=[3, 4, 5, 6], default=[3, 6])
@@ -77,11 +79,13 @@ def run_case(wanted, folder, columns):
     words = [wanted.program, "session", "-g", genome, "-i", track]
     if wanted.of == "lengths":
         write_lengths(busy, opened, wanted.edits)
+    elif wanted.of == "shows":
+        write_shows(busy, opened, wanted)
     else:
         write_edits(busy, opened, wanted.edits, columns, "b" if wanted.of == "second" else "", wanted.at)
     if wanted.of == "second":
         words += ["-b", track]
-    if printed(words, idle) != printed(words, busy):
+    if not printed(words, busy).endswith(printed(words, idle)):
         sys.exit("what the scripts print differs")
     seconds = {idle: [], busy: []}
     for _ in range(wanted.runs):
@@ -97,6 +101,20 @@ def write_lengths(script, opened, edits):
         file.write(opened)
         file.writelines(f"resize\t{name}\t{length + more}\n" for more in range(1, edits + 1))
         file.writelines(f"resize\t{name}\t{length + more}\n" for more in reversed(range(edits)))
+        file.write("printall\n")
+
+
+def write_shows(script, opened, wanted):
+    chance = random.Random(SEED)
+    found = sorted(places(wanted.records))
+    with open(script, "w") as file:
+        file.write(opened)
+        for number in range(2 * wanted.edits):
+            place = chance.randrange(len(found) - 10)
+            rank, start, stop = found[place]
+            last = found[place + 9]
+            end = last[2] if last[0] == rank else stop
+            file.write(f"show\tv{number % len(wanted.view)}\t{CHROMOSOMES[rank][0]}\t{start}\t{end}\n")
         file.write("printall\n")
 
 

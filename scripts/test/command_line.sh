@@ -219,7 +219,7 @@ if ! grep -qxE 'bedkeep [0-9]+\.[0-9]+\.[0-9]+' out || ! grep -qxE 'proved with 
 fi
 "$program" --help > out 2> err
 ends 'the help' 0 ''
-for word in 'usage: bedkeep session -g GENOME -i BED' --help --version '-b BED' '-fi FASTA' -width open add remove replace addb removeb replaceb resize close print printall merge intersect subtract getfasta; do
+for word in 'usage: bedkeep session -g GENOME -i BED' --help --version '-b BED' '-fi FASTA' -width open add remove replace addb removeb replaceb resize close print printall show showall merge intersect subtract getfasta; do
     if ! grep -q -e "$word" out; then
         echo "the help does not speak of $word" >&2
         failed=1

@@ -5,7 +5,7 @@
     python3 scripts/test/fuzz.py build/bedkeep [--seed N] [--seconds N] [--count N]
 
 Each script is random lines of all commands over small random files, some of them faulty. It is run once undisturbed, and a
-script of `add`, `remove` and `merge` alone is compared with a plain reference in this file. Then it is run again in one of these
+script of edits, prints and regions of a merge alone is compared with a plain reference in this file. Then it is run again in one of these
 ways, at random: with little memory, with an output whose reader goes away, on a full device, with a reader that is slow, with an
 input that ends in the middle of a line, with a SIGTERM at some time.
 
@@ -281,6 +281,14 @@ def record(chance):
     return name, str(start), str(stop)
 
 
+def region(chance):
+    """The three fields of a region, mostly a sound one, of one position or of many."""
+    name, start, stop = record(chance)
+    if chance.random() < 0.2:
+        return chance.choice([*(name for name, _ in SEQUENCES), "chr3"]), chance.choice([start, "", "x"]), chance.choice([stop, "0", "91", "1e9"])
+    return name, start, chance.choice([stop, str(int(start) + 1), str(dict(SEQUENCES)[name])])
+
+
 def any_lines(chance, most):
     """Lines of all commands."""
     for _ in range(chance.randrange(1, most)):
@@ -295,13 +303,14 @@ def any_line(chance):
         lambda: f"replace\t{columns}\t" + "\t".join(record(chance)), lambda: f"addb\t{columns}", lambda: f"removeb\t{columns}",
         lambda: f"replaceb\t{columns}\t" + "\t".join(record(chance)), lambda: f"resize\tchr{chance.randrange(4)}\t{chance.randrange(260)}",
         lambda: f"open\t{name}\t{chance.choice(VIEWS)}", lambda: f"open\t{name}\t{chance.choice(VIEWS)}", lambda: f"print\t{name}",
-        lambda: f"print\t{name}", lambda: "printall", lambda: f"close\t{name}", lambda: "# a note", lambda: "",
+        lambda: f"print\t{name}", lambda: "printall", lambda: f"show\t{name}\t" + "\t".join(region(chance)), lambda: "showall\t" + "\t".join(region(chance)),
+        lambda: f"close\t{name}", lambda: "# a note", lambda: "",
         lambda: f"add\tchr1\t{chance.choice(['-1', '5', 'x'])}\t{chance.choice(['5', '999', ''])}", lambda: "paint\ta",
     ])()
 
 
 def plain_lines(chance, most):
-    """Lines of `add`, `remove` and `print` of a merge, over an empty track."""
+    """Lines of `add` and `remove`, and prints of a merge and of its regions, over an empty track."""
     yield b"# plain"
     yield b"open\tm\tmerge"
     kept = []
@@ -314,6 +323,8 @@ def plain_lines(chance, most):
             yield f"remove\t{chance.choice(kept) if kept and chance.random() < 0.8 else 'chr2	1	2'}".encode()
         elif at < 0.8:
             yield f"add\tchr{chance.randrange(4)}\t{chance.randrange(40)}\t{chance.choice([3, 20, 90, 91, 201])}".encode()
+        elif at < 0.9:
+            yield "\t".join([chance.choice(["show\tm"] * 5 + ["show\tn", "showall"]), *region(chance)]).encode()
         else:
             yield b"print\tm"
 
@@ -328,7 +339,15 @@ def reference(script):
     for number, line in enumerate(script.decode().splitlines(), 1):
         word, *fields = line.split("\t")
         if word == "print":
-            output.append(merged(records))
+            output += map(row_text, merged(records))
+            continue
+        if word in ("show", "showall"):
+            why = region_fault(word, fields)
+            if why is not None:
+                messages.append(f"line {number}: {why}\n")
+                continue
+            output += ["#m\n"] if word == "showall" else []
+            output += map(row_text, in_region(merged(records), *fields[-3:]))
             continue
         if word not in ("add", "remove"):
             continue
@@ -355,6 +374,31 @@ def fault(fields, ranks):
     return "end past the sequence's end" if int(stop) > SEQUENCES[ranks[name]][1] else None
 
 
+def region_fault(word, fields):
+    """Why the fields after a command are no region of the view m."""
+    name, start, stop = fields[-3:]
+    if word == "show" and fields[0] != "m":
+        return "no such view"
+    for text, what in (start, "start"), (stop, "end"):
+        if not re.fullmatch("[0-9]{1,10}", text):
+            return f"{what} is not a number"
+    if int(start) >= int(stop):
+        return "start not below end"
+    if name not in dict(SEQUENCES):
+        return "unknown sequence"
+    return "end past the sequence's end" if int(stop) > dict(SEQUENCES)[name] else None
+
+
+def in_region(rows, name, start, stop):
+    """The rows that share a position with a region."""
+    positions = set(range(int(start), int(stop)))
+    return [row for row in rows if row[0] == name and not positions.isdisjoint(range(row[1], row[2]))]
+
+
+def row_text(row):
+    return "\t".join(map(str, row)) + "\n"
+
+
 def merged(records):
     """The rows of a merge, position by position: book-ended records are one block."""
     rows = []
@@ -368,9 +412,9 @@ def merged(records):
             if joined[position] and begun is None:
                 begun = position
             if not joined[position] and begun is not None:
-                rows.append(f"{name}\t{begun}\t{position}\n")
+                rows.append((name, begun, position))
                 begun = None
-    return "".join(rows)
+    return rows
 
 
 if __name__ == "__main__":

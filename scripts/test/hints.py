@@ -1,6 +1,6 @@
 #!/usr/bin/env python3
-"""Makes the ordinary mistakes of tests/mistakes.tsv with the built program: through a pipe, at a pseudo-terminal, and through a pipe
-with hints always on.
+"""Makes the ordinary mistakes of tests/mistakes.tsv with the built program: through a pipe, at a pseudo-terminal, through a pipe
+with hints always on, and those in files and lines of scripts from Python too, whose exceptions have the same hints.
 
     python3 scripts/test/hints.py build/bedkeep
 
@@ -17,6 +17,11 @@ import subprocess
 import sys
 import tempfile
 import threading
+from pathlib import Path
+
+TOP = Path(__file__).resolve().parent.parent.parent
+sys.path.insert(0, str(TOP / "python"))
+import bedkeep
 
 BED6 = b"chr1\t10\t20\ta\t2.5\t+\nchr1\t15\t30\tb\t1.5\t-\n"
 FILES = {
@@ -98,8 +103,7 @@ MENDED = {
 
 def read_table():
     """The rows of the table: where, what is typed, the status, the fixed line, the parts of the hint."""
-    top = os.path.dirname(os.path.dirname(os.path.dirname(os.path.abspath(__file__))))
-    with open(os.path.join(top, "tests", "mistakes.tsv"), encoding="utf-8") as table:
+    with open(TOP / "tests" / "mistakes.tsv", encoding="utf-8") as table:
         for line in table:
             if not line.startswith("#"):
                 where, typed, status, fixed, parts = line.rstrip("\n").split("\t")
@@ -190,13 +194,36 @@ class Trial:
         """A damaged file. A command that the hint has mends it."""
         named = f"bedkeep: {line}\n" if ": line" in line else f"bedkeep: {name}: {line}\n"
         if where == "genome":
-            self.says(["merge", "-g", name, "-i", "a.bed"], status, named, parts)
+            hint = self.says(["merge", "-g", name, "-i", "a.bed"], status, named, parts)
+            self.raises(name, lambda: list(bedkeep.merge(name, "a.bed", program=self.program)), named, hint)
         elif where == "fasta":
-            self.says(["getfasta", "-g", "sizes", "-bed", "a.bed", "-fi", name], status, named, parts)
+            hint = self.says(["getfasta", "-g", "sizes", "-bed", "a.bed", "-fi", name], status, named, parts)
+            self.raises(name, lambda: list(bedkeep.getfasta("sizes", "a.bed", name, program=self.program)), named, hint)
         else:
             hint = self.says(["merge", "-g", "sizes", "-i", name], status, named, parts)
+            self.raises(name, lambda: list(bedkeep.merge("sizes", name, program=self.program)), named, hint)
             if name in MENDED:
                 self.try_command(name, hint)
+
+    def raises(self, subject, call, line, hint):
+        """A run from Python, whose exception has the line and the hint."""
+        found = None
+        try:
+            call()
+        except bedkeep.Error as failure:
+            found = f"bedkeep: {failure.message}\n", "".join(f"  {one}\n" for one in failure.hint)
+        if found != (line, hint):
+            self.wrong.append(f"{subject}: from Python {found}, wanted {(line, hint)}")
+
+    def refuses(self, name, typed, reason, hint):
+        """A line of a script from Python, if it is one that `edit` sends, with the same reason and hint."""
+        try:
+            with bedkeep.Session("sizes", name, program=self.program) as session:
+                found = [(one.reason, list(one.hint)) for one in session.edit(unescaped(typed).decode())]
+        except (UnicodeDecodeError, ValueError):
+            return
+        if found != [(reason, hint)]:
+            self.wrong.append(f"{typed}: from Python {found}, wanted {[(reason, hint)]}")
 
     def try_command(self, name, hint):
         """The first command of a hint, over the file."""
@@ -211,18 +238,21 @@ class Trial:
             self.wrong.append(f"{name}: {command}: {done}")
 
     def try_line(self, name, typed, reason, parts):
-        """A refused line of a script over a file, in the three ways. With hints on the hint is below the message."""
+        """The refused last line of a script over a file, in the three ways. With hints on the hint is below the message."""
         self.count += 1
         words = ["session", "-g", "sizes", "-i", name]
-        message = f"line 1: {reason}\n"
+        lines = unescaped(typed) + b"\n"
+        number = lines.count(b"\n")
+        at = f"line {number}: "
+        message = f"{at}{reason}\n"
         with open("typed", "wb") as script:
-            script.write(unescaped(typed) + b"\n")
+            script.write(lines)
         runs = self.run, self.run_at_terminal, self.run_with_hints
         piped, shown, hinted = [self.over("typed", run, words) for run in runs]
         if piped != (1, message):
             self.wrong.append(f"{typed}: through a pipe {piped}, wanted {message!r}")
         self.check_hint(typed, shown, 1, message, parts)
-        if hinted != (1, shown[1].replace("  line 1: ", "  ", 1)):
+        if hinted != (1, shown[1].replace("  " + at, "  ", 1)):
             self.wrong.append(f"{typed}: with hints on {hinted}, at a terminal {shown}")
 
     def over(self, name, run, words):

@@ -51,13 +51,19 @@ ask 'print\tgenes'
 wants 'line 11: no such view'
 ask 'printall'
 wants '#more' 'chr2\t0\t50'
+ask 'show\tmore\tchr2\t49\t50'
+wants 'chr2\t0\t50'
+ask 'show\tmore\tchr2\t49\t51'
+wants "line 14: end past the sequence's end"
+ask 'showall\tchr1\t0\t100'
+wants '#more'
 
 input=${SESSION[1]}
 exec {input}>&-
 status=0
 wait "$process" || status=$?
 if [ "$status" -ne 1 ]; then
-    echo "status $status, though two lines were refused" >&2
+    echo "status $status, though three lines were refused" >&2
     exit 1
 fi
 echo 'each answer came before the next line was sent'

@@ -35,10 +35,10 @@ MAKES_A_METER = {
     "iv_pair/src/second.rt": {"from_batches", "hits"},
     "iv_workspace/src/session/edits.rt": {"add", "remove", "replace", "add_second", "remove_second", "replace_second"},
     "iv_workspace/src/session/lengths.rt": {"has_record_past"},
-    "iv_workspace/src/session/open_views.rt": {"open_view", "print_view", "print_all"},
+    "iv_workspace/src/session/open_views.rt": {"open_view", "print_view", "show_view", "print_all", "show_all"},
 }
-HANDS_ITS_METER_ON = {"iv_workspace/src/session/open_views.rt": {"print_view", "print_all"}}
-ONE_CALL = re.compile(r"\{\s*self\.\w+\((?:\w+,\s*)*&mut Meter::new\(\)(?:,\s*\w+)*,?\s*\)\s*\}")
+HANDS_ITS_METER_ON = {"iv_workspace/src/session/open_views.rt": {"print_view", "show_view", "print_all", "show_all"}}
+ONE_CALL = re.compile(r"\{\s*self\.\w+\((?:(?:\w+|Some\(\w+\)),\s*)*&mut Meter::new\(\)(?:,\s*\w+)*,?\s*\)\s*\}")
 # A list of items in several vectors may be longer than any one of them, so their number is looked at before it grows.
 FULL_COUNTS = {
     "iv_text/src/batches.rt": (r"let Some\(len\) = self\.len\.checked_add\(1\) else \{", ""),

@@ -68,6 +68,25 @@ def reversed_records():
     yield "records from the end", "cluster -g g -i a", files, None, table((*place, number) for number, place in enumerate(places, 1))
 
 
+def regions():
+    """A few rows of many records on two sequences, without a long record over all of them, with it, and without it again."""
+    places = [(name, start, start + 5) for name in ("big", "other") for start in range(0, 500_000, 10)]
+    lines = [("open", "m", "merge"), ("open", "k", "cluster"), ("open", "g", "genomecov -bg"), ("open", "c", "complement"), ("open", "r", "records")]
+    at = ("other", 250_002, 250_015)
+    shown = [(place, number) for number, place in enumerate(places, 1) if place[0] == at[0] and place[1] < at[2] and at[1] < place[2]]
+    numbered, ones = table((*place, number) for place, number in shown), table((*place, 1) for place, _ in shown)
+    plain = table(place for place, _ in shown)
+    before = f"#m\n{plain}#k\n{numbered}#g\n{ones}#c\n" + table([("other", 250_005, 250_010)]) + f"#r\n{plain}"
+    # One long record joins all blocks of its sequence, and covers each position once more.
+    long = ("other", 0, 500_000)
+    joined = table((*place, 50_001) for place in [long, *(place for place, _ in shown)])
+    depths = table([("other", 250_000, 250_005, 2), ("other", 250_005, 250_010, 1), ("other", 250_010, 250_015, 2)])
+    after = f"#m\n{table([long])}#k\n{joined}#g\n{depths}#c\n#r\n{table([long])}{plain}"
+    yield "regions of many records", "session -g g -i a", {"g": "big\t500000\nother\t500000\n", "a": table(places)}, (
+        table([*lines, ("showall", *at), ("add", *long), ("showall", *at), ("remove", *long), ("show", "k", *at)])
+    ), before + after + numbered
+
+
 def long_lines():
     """Script lines with long names."""
     for count in 1_001, 10_000, 100_000:
@@ -242,7 +261,7 @@ def main():
     program = Path(sys.argv[1]).resolve()
     if run_in_parts([sys.executable, "-c", IS_SHORT], "/", None)[0] != 1:
         sys.exit("no write is cut short here")
-    whole = [records_at_one_place, many_sequences, reversed_records, long_lines, long_names, long_bases, many_short_bases, long_headers,
+    whole = [records_at_one_place, many_sequences, reversed_records, regions, long_lines, long_names, long_bases, many_short_bases, long_headers,
              long_rows, pairs]
     results = [is_right(program, *run) for kind in whole for run in kind()]
     for kind in long_prints, long_sequences:

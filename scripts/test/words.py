@@ -50,7 +50,8 @@ def texts():
         if re.search(r"(^|/)(out|build|\.git)/", name) or not path.is_file():
             continue
         if name.endswith(".md"):
-            for_code = re.match(r"CONTRIBUTING|docs/ARCHITECTURE|docs/DECISIONS|crates/", name)
+            # the prose of docs/STATEMENT is that of comments, which speak of the names of the code
+            for_code = re.match(r"CONTRIBUTING|docs/ARCHITECTURE|docs/DECISIONS|docs/STATEMENT|crates/", name)
             yield name, blanked(path.read_text(), CODE), not for_code
         elif name.startswith("man/") or name == "crates/iv_args/src/help.rt":
             yield name, path.read_text(), True
