@@ -8,7 +8,7 @@ than a minute.
 Each shape is run at a size n and at 4n. Twice as much work may take at most 2.6 times as long, so 4n at most 6.8 times as long as n: that
 leaves room for noise of 30 % and for a logarithm, and none for a square. What is compared is the processor time above that of an empty run,
 the least of five. The size n is found by doubling, until a run takes 20 ms: so no speed is asked for, on no machine. What takes too long is
-measured again before it counts, up to three times. Shapes of KNOWN are known to grow faster, and are only shown.
+measured again, up to five times, before it counts. Shapes of KNOWN are known to grow faster, and are only shown.
 
 Sizes that have a limit near them are given, and there the rows are compared with rows that are made here, never by the program. Then the
 calls that read are counted, and how often each file is opened; each file is given as a named pipe; and the bytes that the program holds
@@ -20,6 +20,7 @@ import argparse
 import contextlib
 import ctypes
 import fcntl
+import functools
 import math
 import os
 import resource
@@ -34,7 +35,7 @@ from pathlib import Path
 FLOOR = 0.02
 # How much longer twice as much work may take.
 TWICE = 2.6
-RUNS, SERIES = 5, 3
+RUNS, SERIES = 5, 6
 # Seconds of processor time that any run may take. A run that hangs takes none, and is stopped after some seconds of waiting.
 MOST_SECONDS, MOST_WAITING = 60, 120
 FIRST, LARGEST = 1_000, 500_000
@@ -113,21 +114,41 @@ def long_names(size):
     return {"g": lines(f"{name}\t900", numbers), "a": lines(f"{name}\t10\t500", in_no_order(numbers))}
 
 
-# Whatever comes before these bytes, the fast hasher of the standard library has the hash 0: as a number they are its multiplier, so that
-# it multiplies by 0.
-COLLIDING = bytes.fromhex("157c4a7fb979379e")
+# The fast hasher of the standard library: what it begins with, and what it multiplies by. It has a number for the length, and one for each
+# byte.
+HASH, MULTIPLIER = 0x243f6a8885a308d3, 0x9e3779b97f4a7c15
+LOW = (1 << 64) - 1
 
 
-def colliding(size, form):
-    return b"".join(form % (b"%07d" % number + COLLIDING) for number in range(size))
+def mixed(hashed, number, size):
+    """The hash after a number of so many bytes."""
+    product = (hashed ^ number) * (MULTIPLIER ^ 2 * size)
+    return product & LOW ^ product >> 64
+
+
+@functools.lru_cache
+def colliding(count):
+    """So many names of eight bytes. A map that hashes them in that way looks for all of them from its front on, and passes those that it has."""
+    found, number = [], 0
+    while len(found) < count:
+        name = "%07d" % number
+        hashed = mixed(HASH, 8, 8)
+        for byte in name.encode():
+            hashed = mixed(hashed, byte * 0x010101, 1)
+        for last in range(33, 127):
+            end = mixed(hashed, last * 0x010101, 1)
+            if (end ^ end >> 32) % 16_384 < 256:
+                found.append(name + chr(last))
+        number += 1
+    return found[:count]
 
 
 def colliding_names(size):
-    return {"g": colliding(size, b"%s\t900\n"), "a": b""}
+    return {"g": "".join(f"{name}\t900\n" for name in colliding(size)), "a": ""}
 
 
 def colliding_headers(size):
-    return {"g": "big\t4\n", "a": "big\t1\t3\n", "f": colliding(size, b">%s\nAC\n") + b">big\nACGT\n"}
+    return {"g": "big\t4\n", "a": "big\t1\t3\n", "f": "".join(f">{name}\nAC\n" for name in colliding(size)) + ">big\nACGT\n"}
 
 
 def headers(size):
@@ -298,8 +319,8 @@ SHAPES = [
     Shape("contigs in no order: merge", "merge -g g -i a", contigs),
     Shape("contigs in no order: session cluster", "session -g g -i a", contigs, prints("cluster")),
     Shape("long names: merge", "merge -g g -i a", long_names),
-    Shape("names that collide: merge", "merge -g g -i a", colliding_names),
-    Shape("headers that collide: getfasta", "getfasta -g g -bed a -fi f", colliding_headers),
+    Shape("names that collide: merge", "merge -g g -i a", colliding_names, size=16_000),
+    Shape("headers that collide: getfasta", "getfasta -g g -bed a -fi f", colliding_headers, size=16_000),
     Shape("headers in no order: getfasta", "getfasta -g g -bed a -fi f", headers),
     *of_two_files("a long record and a deep place", long_and_deep),
     *of_two_files("deep in both", deep_in_both),
@@ -377,11 +398,11 @@ class Runs:
         return seconds - self.empty, calls
 
     def least(self, arguments, name, enough=0):
-        """The least seconds of some runs, or the first that are few enough."""
+        """The least seconds of some runs. No more are made once they are few enough, or twice too many."""
         least = math.inf
         for _ in range(RUNS):
             least = min(least, self.run(arguments, name)[0])
-            if least <= enough:
+            if enough and not enough < least < 2 * enough:
                 break
         return least
 
@@ -534,7 +555,8 @@ def mostly_unknown_bases(size):
 # The most bytes that may be held for each record or byte: about 30 % more than is held, and far less than a text that is kept.
 MEMORY = [
     ("a run of merge", "merge -g g -i a", one_long_name, None, "VmHWM", 16),
-    ("a session with merge", "session -g g -i a", one_long_name, prints("merge"), "VmHWM", 100),
+    ("a session", "session -g g -i a", one_long_name, prints("records"), "VmHWM", 58),
+    ("a session with merge", "session -g g -i a", one_long_name, prints("merge"), "VmHWM", 95),
     ("bases that no record can name", "session -g g -i a -fi f", mostly_unknown_bases, prints("getfasta"), "VmRSS", 0.2),
 ]
 
