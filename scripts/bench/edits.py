@@ -14,8 +14,8 @@ status 1 if what they print differs.
 The edits are those of the track, or, with `--of second`, of a second file that
 has the same records. With `--of lengths` they make the first sequence longer and
 then as long as it was: first N times longer by one base, and then N times shorter.
-With `--of shows` they are no edits, but a `show` of each view in turn, of the region
-from a record to the tenth after it.
+With `--of shows` they are no edits, but a `show` of each view in turn, of a region
+with ten records.
 
 The records that are added lie all over the genome. With `--at one-place` they lie
 beside one another in the first sequence, and are added in no order; with
@@ -85,7 +85,8 @@ def run_case(wanted, folder, columns):
         write_edits(busy, opened, wanted.edits, columns, "b" if wanted.of == "second" else "", wanted.at)
     if wanted.of == "second":
         words += ["-b", track]
-    if not printed(words, busy).endswith(printed(words, idle)):
+    still, moved = printed(words, idle), printed(words, busy)
+    if not (moved.endswith(still) if wanted.of == "shows" else moved == still):
         sys.exit("what the scripts print differs")
     seconds = {idle: [], busy: []}
     for _ in range(wanted.runs):

@@ -22,6 +22,7 @@ from pathlib import Path
 TOP = Path(__file__).resolve().parent.parent.parent
 sys.path.insert(0, str(TOP / "python"))
 import bedkeep
+from bedkeep.script import VIEW_COMMAND
 
 BED6 = b"chr1\t10\t20\ta\t2.5\t+\nchr1\t15\t30\tb\t1.5\t-\n"
 FILES = {
@@ -124,6 +125,7 @@ class Trial:
     def __init__(self, program):
         self.program = program
         self.count = 0
+        self.from_python = 0
         self.wrong = []
 
     def run(self, words, **options):
@@ -207,6 +209,7 @@ class Trial:
 
     def raises(self, subject, call, line, hint):
         """A run from Python, whose exception has the line and the hint."""
+        self.from_python += 1
         found = None
         try:
             call()
@@ -216,12 +219,17 @@ class Trial:
             self.wrong.append(f"{subject}: from Python {found}, wanted {(line, hint)}")
 
     def refuses(self, name, typed, reason, hint):
-        """A line of a script from Python, if it is one that `edit` sends, with the same reason and hint."""
+        """A line of a script from Python, with the same reason and hint. Commands of views, which `edit` doesn't send, and what is no text
+        are left out."""
         try:
-            with bedkeep.Session("sizes", name, program=self.program) as session:
-                found = [(one.reason, list(one.hint)) for one in session.edit(unescaped(typed).decode())]
-        except (UnicodeDecodeError, ValueError):
+            text = unescaped(typed).decode()
+        except UnicodeDecodeError:
             return
+        if VIEW_COMMAND.search(f"\n{text}\n"):
+            return
+        self.from_python += 1
+        with bedkeep.Session("sizes", name, program=self.program) as session:
+            found = [(one.reason, list(one.hint)) for one in session.edit(f"{text}\n")]
         if found != [(reason, hint)]:
             self.wrong.append(f"{typed}: from Python {found}, wanted {[(reason, hint)]}")
 
@@ -254,6 +262,7 @@ class Trial:
         self.check_hint(typed, shown, 1, message, parts)
         if hinted != (1, shown[1].replace("  " + at, "  ", 1)):
             self.wrong.append(f"{typed}: with hints on {hinted}, at a terminal {shown}")
+        self.refuses(name, typed, reason, [one.removeprefix("  ") for one in hinted[1].removeprefix(message).splitlines()])
 
     def over(self, name, run, words):
         """A run whose standard input is a file."""
@@ -387,7 +396,7 @@ def main():
         os.chdir("/")
     for wrong in trial.wrong:
         print(wrong, file=sys.stderr)
-    print(f"{trial.count} mistakes through a pipe, at a terminal and with hints on, {len(trial.wrong)} of them wrong")
+    print(f"{trial.count} mistakes through a pipe, at a terminal and with hints on, and {trial.from_python} from Python, {len(trial.wrong)} of them wrong")
     sys.exit(1 if trial.wrong else 0)
 
 
