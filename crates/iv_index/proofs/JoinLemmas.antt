@@ -15,7 +15,7 @@ use Rattle.iv_index.specs.Cover.{is_covered}
 use Rattle.iv_index.specs.Inside.Cover.{AreApart}
 use Rattle.iv_index.specs.Inside.Joins.{touches, grown, joined, joined_from}
 use Rattle.iv_index.specs.Locators.{bare}
-use Rattle.iv_index.specs.Inside.Locators.{HasBase, record_at, records_at}
+use Rattle.iv_index.specs.Inside.Locators.{HasAllColumns, HasBase, record_at, records_at}
 use Rattle.iv_index.specs.declared.locator.Locator.{Locator}
 
 -- the locator covers position p of the sequence of this rank
@@ -125,6 +125,26 @@ bases (x ∷ xs) all = bases_from x xs all.0 all.1
 
 pub bases-joined : (xs : List Locator) → All HasBase xs → All HasBase (joined xs)
 bases-joined xs all = All-from_recursion HasBase (joined xs) (bases xs (recursion_from_All HasBase xs all))
+
+-- ---- that the columns are those of their lines
+
+grown-whole : (w : ℕ) (text : List ℕ) (k x : Locator) → HasAllColumns w text k → HasAllColumns w text (grown k x)
+grown-whole w text k x whole = record { all = whole.all }
+
+whole_from : (w : ℕ) (text : List ℕ) (k : Locator) (xs : List Locator) → HasAllColumns w text k → AllByRecursion (HasAllColumns w text) xs → AllByRecursion (HasAllColumns w text) (joined_from k xs)
+whole_from w text k [] whole all = (whole, tt)
+whole_from w text k (x ∷ xs) whole all = elim (touches k x) as (λ c. AllByRecursion (HasAllColumns w text) (cond c (joined_from (grown k x) xs) (k ∷ joined_from x xs))) [
+  | true ↦ whole_from w text (grown k x) xs (grown-whole w text k x whole) all.1
+  | false ↦ (whole, whole_from w text x xs all.0 all.1)
+]
+
+wholes : (w : ℕ) (text : List ℕ) (xs : List Locator) → AllByRecursion (HasAllColumns w text) xs → AllByRecursion (HasAllColumns w text) (joined xs)
+wholes w text [] all = all
+wholes w text (x ∷ xs) all = whole_from w text x xs all.0 all.1
+
+pub whole-joined : (w : ℕ) (text : List ℕ) (xs : List Locator) → All (HasAllColumns w text) xs → All (HasAllColumns w text) (joined xs)
+whole-joined w text xs all =
+    All-from_recursion (HasAllColumns w text) (joined xs) (wholes w text xs (recursion_from_All (HasAllColumns w text) xs all))
 
 -- ---- their records
 

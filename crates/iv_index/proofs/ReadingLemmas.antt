@@ -1,5 +1,6 @@
 -- The reading of a text: the record of a line, and the whole.
 use Rattle.std.proofs.Common.{◌≡◌, ℕ, ◌<◌, ◌≤◌, ◌%◌, ◌^◌, Bool, true, false, cond, not, ◌==◌, nat_le, List, [], ◌∷◌, ◌++◌, Option, Some, None, Result, Ok, Err, length, map, drop, find, refl, sym, ap, subst, ◌∙◌, arith, All, unwrap_or, append-nil}
+use Rattle.std.specs.Prelude.{IsSome}
 use Rattle.std.proofs.Math.Nat.{mod-eq_of_lt}
 use Rattle.std.proofs.lemmas.Bool.{eqb-true}
 use Rattle.std.proofs.lemmas.Bool.Decides.{nat_tests}
@@ -17,8 +18,8 @@ use Rattle.iv_text.specs.BedFile.{Draft, bed_of, finished}
 use Rattle.iv_text.specs.declared.fault.Fault.{Fault}
 use Rattle.iv_text.specs.declared.fault.Fault.TheVariants as fault
 use Rattle.iv_text.specs.declared.fault.LoadFault.{LoadFault}
-use Rattle.iv_index.proofs.LocatorLemmas.{line-is}
-use Rattle.iv_index.specs.Inside.Locators.{HasBase, line_at, locator_at, row_of, record_at, records_at}
+use Rattle.iv_index.proofs.LocatorLemmas.{line-is, line-whole}
+use Rattle.iv_index.specs.Inside.Locators.{HasAllColumns, HasBase, line_at, locator_at, row_of, record_at, records_at}
 use Rattle.iv_index.specs.Inside.Drafts.{AreLocators}
 use Rattle.iv_index.specs.declared.locator.Locator.{Locator}
 
@@ -91,6 +92,18 @@ fits-base g w v text [] fit = All-nil HasBase
 fits-base g w v text (p ∷ ps) fit =
     All-cons HasBase p ps (All-head (Fits g w) (record_at v text p) (records_at v text ps) fit).is_placed.some (fits-base g w v text ps (All-tail (Fits g w) (record_at v text p) (records_at v text ps) fit))
 
+-- the lines of records that fit have no other columns
+fits-whole : (g : Sequences) (w : ℕ) (text : List ℕ) (ps : List Locator) → w ≤ 6 → All (Fits g w) (map (row_in text) ps) → All (HasAllColumns w text) ps
+fits-whole g w text [] few fit = All-nil (HasAllColumns w text)
+fits-whole g w text (p ∷ ps) few fit =
+    let fits : Fits g w (row_in text p) = All-head (Fits g w) (row_in text p) (map (row_in text) ps) fit in
+    let cs = columns (line_at text p.line) in
+    let strand : 6 ≤ w → IsSome (strand_of (column cs 5)) = λ six.
+    let wide : nat_le 6 (length cs) ≡ true = grind (arith, nat_tests, six, fits.width_is) in
+    subst (λ (b : Bool). IsSome (cond b (strand_of (column cs 5)) None)) wide (fits.beside.strand_good six) in
+    All-cons (HasAllColumns w text) p ps (line-whole w text p fits.width_is few strand)
+    (fits-whole g w text ps few (All-tail (Fits g w) (row_in text p) (map (row_in text) ps) fit))
+
 -- records of one width are those of that width
 rows-in : (g : Sequences) (w : ℕ) (text : List ℕ) (ps : List Locator) → All (Fits g w) (map (row_in text) ps) → map (row_in text) ps ≡ records_at w text ps
 rows-in g w text [] fit = refl
@@ -103,7 +116,7 @@ pub record AreRead (g : Sequences) (limit empty : ℕ) (text : List ℕ) (w : �
   pub says : bed_of g empty limit text ≡ Ok (record { width = w; rows = records_at w text locators })
   pub fit : All (Fits g w) (records_at w text locators)
   pub few : length (records_at w text locators) ≤ limit
-  pub places_are : AreLocators w locators
+  pub places_are : AreLocators w text locators
 
 module _ (g : Sequences) (limit empty : ℕ) (text : List ℕ) (small : length text < 2 ^ 32) where
   -- a locator that is held shows the record of its line
@@ -151,5 +164,5 @@ module _ (g : Sequences) (limit empty : ℕ) (text : List ℕ) (small : length t
             ∙ ap (λ (l : List RecordValue). Ok (record { width = w; rows = l })) (rows-all rows ∙ same);
         fit = fit_at;
         few = subst (λ (l : List RecordValue). length l ≤ limit) same sound.few;
-        places_are = record { low = wide.0; high = wide.1; some = fits-base g w w text now.kept fit_at };
+        places_are = record { low = wide.0; high = wide.1; some = fits-base g w w text now.kept fit_at; whole = fits-whole g w text now.kept wide.1 fit };
       }

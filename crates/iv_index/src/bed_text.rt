@@ -57,7 +57,7 @@ impl<'t, A: Allocator> Model for BedText<'t, A> {
 
     ghost view = { λ b. record { width = b.width; rows = records_at b.width b.text.now b.locators.items } };
 
-    ghost invariant = { λ b. AreLocators b.width b.locators.items };
+    ghost invariant = { λ b. AreLocators b.width b.text.now b.locators.items };
 }
 
 impl<'t, A: Allocator + Copy> BedText<'t, A> {

@@ -1,5 +1,5 @@
 //! Locators of records: their intervals, and where their lines begin; and the columns of these lines.
-ghost use Rattle.std.specs.Prelude.{◌≡◌, ◌≤◌, [], None, cond, drop, nat_le, refl};
+ghost use Rattle.std.specs.Prelude.{◌≡◌, ◌<◌, ◌≤◌, ◌⊎◌, MatchOption, [], None, cond, drop, nat_le, refl};
 ghost use Rattle.iv_text.specs.Fields.{columns as columns_of};
 ghost use Rattle.iv_text.specs.Read.{column};
 ghost use Rattle.iv_text.specs.RecordValue.{strand_of};
@@ -7,7 +7,10 @@ ghost use Rattle.iv_index.specs.Locators.{bare};
 ghost use Rattle.iv_index.specs.Inside.Locators.{locator_at, row_of, line_at, record_at};
 
 use crate::span::Span;
-use iv_text::{FastLine, Fields, FromRecord, RecordRef, Strand, columns, read_strand, split_line};
+use iv_text::{
+    FastLine, Fields, FromRecord, RecordRef, Strand, columns, read_strand, split_first_column,
+    split_line,
+};
 use std::alloc::{AllocError, Allocator};
 
 /// A record's interval, and where its line begins in the text of its file.
@@ -104,6 +107,27 @@ pub(crate) fn optional_columns_of(text: &[u8], locator: Locator, width: u8) -> O
         };
     }
     optional_columns_in(line_from(text, locator.line), width)
+}
+
+/// The columns after the third of a locator's line, with a TAB between two of them, if it has so many. At width 3 its line isn't
+/// looked at, and there are none.
+pub(crate) fn joined_columns_of(text: &[u8], locator: Locator, width: u8) -> Option<&[u8]>
+    ensures { MatchOption result ((width < 4) ⊎ (drop 3 (columns_of (line_at text.now locator.line)) ≡ [])) (λ joined. (4 ≤ width) × (columns_of joined.now ≡ drop 3 (columns_of (line_at text.now locator.line)))) }
+{
+    if width < 4 {
+        return None;
+    }
+    after_three_columns(line_from(text, locator.line))
+}
+
+/// What follows the third TAB of a line, if it has so many.
+fn after_three_columns(line: &[u8]) -> Option<&[u8]>
+    ensures { MatchOption result (drop 3 (columns_of line.now) ≡ []) (λ rest. columns_of rest.now ≡ drop 3 (columns_of line.now)) }
+{
+    let (_seq, after_seq) = split_first_column(line);
+    let (_start, after_start) = split_first_column(after_seq?);
+    let (_stop, after_stop) = split_first_column(after_start?);
+    after_stop
 }
 
 /// The line that begins at a byte of a text, empty past the end.

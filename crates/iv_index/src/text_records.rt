@@ -4,17 +4,17 @@ ghost use Rattle.std.specs.Iterator.{YieldsFirst, item_count};
 ghost use Rattle.iv_text.specs.RecordValue.{IsPlaced};
 ghost use Rattle.iv_text.specs.Ordered.{AreInOrder};
 ghost use Rattle.iv_text.specs.CoveredPositions.{on};
-ghost use Rattle.iv_index.specs.Inside.Locators.{HasBase, record_at, records_at, span_in, span_of};
+ghost use Rattle.iv_index.specs.Inside.Locators.{HasAllColumns, HasBase, record_at, records_at, span_in, span_of};
 
-use crate::locator::{Locator, OptionalColumns, optional_columns_of};
+use crate::locator::{Locator, joined_columns_of, optional_columns_of};
 use crate::span::Span;
 use iv_text::{BedRecord, RecordRef, Strand};
 use std::marker::Model;
 
 /// A record of a text: its interval is 0-based and half-open, its other columns are slices of the text.
 ///
-/// Its columns after the third are cut from its line each time that they are asked for. At width 3 the line
-/// isn't looked at. Columns beyond the width are empty. No call takes memory.
+/// Its columns after the third are cut from its line each time that they are asked for, and put as they are in it. At width 3 the
+/// line isn't looked at. Columns beyond the width are empty. No call takes memory.
 #[derive(Debug, Drop)]
 pub struct TextRecord<'t> {
     text: &'t [u8],
@@ -24,19 +24,20 @@ pub struct TextRecord<'t> {
 
 impl<'t> Model for TextRecord<'t> {
     ghost use Rattle.iv_text.specs.RecordValue.{RecordValue};
-    ghost use Rattle.iv_index.specs.Inside.Locators.{HasBase, record_at};
+    ghost use Rattle.iv_index.specs.Inside.Locators.{HasAllColumns, HasBase, record_at};
 
     ghost Value = { RecordValue };
 
     ghost view = { λ r. record_at r.width r.text.now r.locator };
 
-    ghost invariant = { λ r. HasBase r.locator };
+    ghost invariant = { λ r. HasBase r.locator × HasAllColumns r.width r.text.now r.locator };
 }
 
 impl<'t> TextRecord<'t> {
     /// The record of a locator into a text.
     pub(crate) fn of_locator(text: &'t [u8], locator: Locator, width: u8) -> TextRecord<'t>
-        requires { HasBase locator }
+        requires base { HasBase locator }
+        requires whole { HasAllColumns width text.now locator }
         ensures { result ≡ record_at width text.now locator }
     {
         TextRecord {
@@ -67,37 +68,22 @@ impl<'t> TextRecord<'t> {
         let _stop = self.locator.span.stop;
     }
 
-    /// Its columns after the third.
-    fn optional_columns(&self) -> OptionalColumns<'t>
-        ensures name { result.name.now ≡ self.now.name }
-        ensures score { result.score.now ≡ self.now.score }
-        ensures strand { result.strand ≡ self.now.strand }
-    {
-        optional_columns_of(self.text, self.locator, self.width)
-    }
-
     /// The strand, `None` below width 6.
     pub fn strand(&self) -> Option<Strand>
         ensures { result ≡ self.now.strand }
     {
-        self.optional_columns().strand
+        optional_columns_of(self.text, self.locator, self.width).strand
     }
 
-    /// The record with all its columns cut at once, which is cheaper than to cut one after another.
+    /// The record with all its columns: those after the third as they are in its line.
     pub fn to_ref(&self) -> RecordRef<'t>
         ensures { result ≡ self.now }
     {
-        let beside = self.optional_columns();
         let Span { seq, start, stop } = self.locator.span;
-        RecordRef::of_columns(
-            seq,
-            start,
-            stop,
-            beside.name,
-            beside.score,
-            beside.strand,
-            self.width,
-        )
+        match joined_columns_of(self.text, self.locator, self.width) {
+            Some(joined) => RecordRef::of_joined(seq, start, stop, joined, self.width),
+            None => RecordRef::of_columns(seq, start, stop, b"", b"", None, self.width),
+        }
     }
 }
 
@@ -132,19 +118,20 @@ pub struct TextRecords<'t> {
 impl<'t> Model for TextRecords<'t> {
     ghost use Rattle.std.specs.Prelude.{All, List};
     ghost use Rattle.iv_text.specs.RecordValue.{RecordValue};
-    ghost use Rattle.iv_index.specs.Inside.Locators.{HasBase, records_at};
+    ghost use Rattle.iv_index.specs.Inside.Locators.{HasAllColumns, HasBase, records_at};
 
     ghost Value = { List RecordValue };
 
     ghost view = { λ r. records_at r.width r.text.now r.locators.now };
 
-    ghost invariant = { λ r. All HasBase r.locators.now };
+    ghost invariant = { λ r. All HasBase r.locators.now × All (HasAllColumns r.width r.text.now) r.locators.now };
 }
 
 impl<'t> TextRecords<'t> {
     /// The records of locators into a text.
     pub(crate) fn of_locators(text: &'t [u8], locators: &'t [Locator], width: u8) -> TextRecords<'t>
-        requires { All HasBase locators.now }
+        requires bases { All HasBase locators.now }
+        requires whole { All (HasAllColumns width text.now) locators.now }
         ensures { result ≡ records_at width text.now locators.now }
     {
         TextRecords {

@@ -8,6 +8,7 @@ pub mod FileLemmas
 pub mod FileMeaningLemmas
 pub mod DigitLemmas
 pub mod CellLemmas
+pub mod JoinedLemmas
 pub mod OnePassLemmas
 pub mod FastLineLemmas
 pub mod BedLemmas

@@ -6,3 +6,4 @@ pub mod BedReading
 pub mod Batches
 pub mod OnePass
 pub mod NameAndScore
+pub mod OtherColumns

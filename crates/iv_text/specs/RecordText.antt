@@ -1,8 +1,10 @@
 -- A record as it is printed.
-use Rattle.std.specs.Prelude.{ℕ, ◌++◌, ◌-◌, List, [], ◌∷◌, Option, None, Some, take, codes, decimal}
+use Rattle.std.specs.Prelude.{ℕ, ◌++◌, ◌-◌, cond, nat_le, List, [], ◌∷◌, Option, None, Some, take, codes, decimal}
 use Rattle.std.specs.List.{flat_map}
+use Rattle.iv_text.specs.Fields.{columns}
 use Rattle.iv_text.specs.Genome.{Sequences, sequence_name}
-use Rattle.iv_text.specs.RecordValue.{RecordValue, strand_byte}
+use Rattle.iv_text.specs.Read.{column}
+use Rattle.iv_text.specs.RecordValue.{RecordValue, strand_byte, strand_of}
 use Rattle.iv_text.specs.declared.record_ref.Strand.{Strand}
 
 -- the sixth column of a record with this strand
@@ -29,3 +31,15 @@ interval_columns g r = interval_text (sequence_name g r.seq) r.start r.stop
 -- the columns of a record on this genome, with a TAB between two of them
 abbrev pub record_text : Sequences → RecordValue → List ℕ
 record_text g r = interval_columns g r ++ rest_text r
+
+-- the record of this interval whose columns after the third are those of a text, as far as the width goes
+abbrev pub joined_record : ℕ → ℕ → ℕ → List ℕ → ℕ → RecordValue
+joined_record seq start stop text width = record {
+  seq = seq;
+  start = start;
+  stop = stop;
+  name = cond (nat_le 4 width) (column (columns text) 0) [];
+  score = cond (nat_le 5 width) (column (columns text) 1) [];
+  strand = cond (nat_le 6 width) (strand_of (column (columns text) 2)) None;
+  width = width;
+}

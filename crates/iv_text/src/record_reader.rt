@@ -282,15 +282,15 @@ impl<'g, 't, A: Allocator + Copy> RecordReader<'g, 't, A> {
         if !sound {
             return None;
         }
-        Some(RecordRef {
-            rank: front.rank,
-            start: front.start,
-            stop: front.stop,
-            name: others.name,
-            score: others.score,
+        Some(RecordRef::of_columns(
+            front.rank,
+            front.start,
+            front.stop,
+            others.name,
+            others.score,
             strand,
             width,
-        })
+        ))
     }
 
     /// The record that the next line means at a width, or its first fault, as

@@ -81,11 +81,8 @@ fn prepend_rest(tail: &mut RowBuffer, row: &RecordRef<'_>)
     }
 }
 
-/// Puts a record's columns, as many as its width, with a TAB between two of them, and what is laid after them.
-///
-/// The first is the name that the genome has at the record's rank, or nothing if it has none.
-/// On a fault the sink has taken a prefix of the text. The buffer's bytes afterwards are unspecified.
-pub fn put_row<S: Sink, A: Allocator + Copy>(
+/// Puts a record whose columns after the third are each by itself, and what is laid after its columns.
+fn put_cut<S: Sink, A: Allocator + Copy>(
     sink: &mut S,
     genome: &Genome<A>,
     row: &RecordRef<'_>,
@@ -100,6 +97,63 @@ pub fn put_row<S: Sink, A: Allocator + Copy>(
     prepend_rest(tail, row);
     let name = genome.name_of(row.seq());
     tail.put_after_numbers(name, row.start(), row.stop(), sink)
+}
+
+/// Puts a record whose columns after the third are one text, and what is laid after its columns.
+fn put_joined<S: Sink, A: Allocator + Copy>(
+    sink: &mut S,
+    genome: &Genome<A>,
+    row: &RecordRef<'_>,
+    joined: &[u8],
+    tail: &mut RowBuffer,
+) -> Result<(), WriteFault>
+    requires { codes "\t" ++ joined.now ≡ rest_text row.now }
+    ensures { Puts (S.state sink.old) (S.state sink.new) result (record_text genome.now row.now ++ tail.old) }
+{
+    // A TAB and both numbers still have room.
+    if tail.len() > 32 || joined.len() > 117 {
+        return put_long(sink, genome, row, joined, tail);
+    }
+    tail.prepend(joined);
+    tail.prepend_byte(b'\t');
+    let name = genome.name_of(row.seq());
+    tail.put_after_numbers(name, row.start(), row.stop(), sink)
+}
+
+/// Puts what [`put_joined`] does, whatever its length.
+fn put_long<S: Sink, A: Allocator + Copy>(
+    sink: &mut S,
+    genome: &Genome<A>,
+    row: &RecordRef<'_>,
+    joined: &[u8],
+    tail: &mut RowBuffer,
+) -> Result<(), WriteFault>
+    requires { codes "\t" ++ joined.now ≡ rest_text row.now }
+    ensures { Puts (S.state sink.old) (S.state sink.new) result (record_text genome.now row.now ++ tail.old) }
+{
+    let name = genome.name_of(row.seq());
+    let mut front = RowBuffer::new();
+    front.prepend_byte(b'\t');
+    front.put_after_numbers(name, row.start(), row.stop(), sink)?;
+    tail.put_after(joined, sink)
+}
+
+/// Puts a record's columns, as many as its width, with a TAB between two of them, and what is laid after them.
+///
+/// The first is the name that the genome has at the record's rank, or nothing if it has none.
+/// On a fault the sink has taken a prefix of the text. The buffer's bytes afterwards are unspecified.
+pub fn put_row<S: Sink, A: Allocator + Copy>(
+    sink: &mut S,
+    genome: &Genome<A>,
+    row: &RecordRef<'_>,
+    tail: &mut RowBuffer,
+) -> Result<(), WriteFault>
+    ensures { Puts (S.state sink.old) (S.state sink.new) result (record_text genome.now row.now ++ tail.old) }
+{
+    match row.joined() {
+        Some(joined) => put_joined(sink, genome, row, joined, tail),
+        None => put_cut(sink, genome, row, tail),
+    }
 }
 
 /// Puts a record's columns as [`put_row`] does, with nothing after them and no line end.

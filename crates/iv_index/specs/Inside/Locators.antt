@@ -1,8 +1,9 @@
 -- The records of locators into a text, and their intervals.
-use Rattle.std.specs.Prelude.{◌<◌, ℕ, nat_le, cond, List, [], None, drop, map}
-use Rattle.std.specs.List.{slice_index_or}
+use Rattle.std.specs.Prelude.{◌≡◌, ◌<◌, ◌≤◌, ◌++◌, ℕ, nat_le, cond, List, [], None, codes, drop, map}
+use Rattle.std.specs.List.{flat_map, slice_index_or}
 use Rattle.iv_text.specs.Fields.{columns}
 use Rattle.iv_text.specs.Lines.{lines}
+use Rattle.iv_text.specs.RecordText.{rest_text}
 use Rattle.iv_text.specs.RecordValue.{RecordValue, strand_of}
 use Rattle.iv_text.specs.Read.{column}
 use Rattle.iv_index.specs.declared.locator.Locator.{Locator}
@@ -47,3 +48,7 @@ HasBase p = p.span.start < p.span.stop
 -- the interval of a locator
 abbrev pub span_in : Locator → Span
 span_in p = p.span
+
+-- beyond width 3 the columns of the record after the third are all that its line has
+pub record HasAllColumns (width : ℕ) (text : List ℕ) (p : Locator) : Type 0 where
+  pub all : 4 ≤ width → rest_text (record_at width text p) ≡ flat_map (λ column. codes "\t" ++ column) (drop 3 (columns (line_at text p.line)))

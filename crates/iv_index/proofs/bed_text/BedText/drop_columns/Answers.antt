@@ -1,9 +1,18 @@
-use Rattle.std.proofs.Common.{List, map, ap, ◌∙◌}
+use Rattle.std.proofs.Common.{List, map, ap, arith, ◌∙◌}
 use Rattle.iv_text.specs.RecordValue.{RecordValue}
 use Rattle.iv_text.specs.BedFile.{Bed}
 use Rattle.iv_index.specs.Locators.{bare}
 use Rattle.iv_index.proofs.BareLemmas.{rows-bare}
+use Rattle.iv_index.proofs.LocatorLemmas.{three-whole}
 use Rattle.iv_index.proofs.bed_text.BedText.drop_columns.Goals as goal
+
+pub invariant_of-self : goal.invariant_of-self
+invariant_of-self g c = record {
+  low = omega arith;
+  high = omega arith;
+  some = c.self.invariant.some;
+  whole = three-whole c.self.inside.text.now c.self.inside.locators.items;
+}
 
 pub returns : goal.returns
 returns g c =

@@ -6,10 +6,10 @@ use Rattle.iv_index.specs.Cover.{is_covered}
 use Rattle.iv_index.specs.Inside.Cover.{AreApart}
 use Rattle.iv_index.specs.Inside.Joins.{joined}
 use Rattle.iv_index.specs.Locators.{bare}
-use Rattle.iv_index.specs.Inside.Locators.{HasBase, records_at}
+use Rattle.iv_index.specs.Inside.Locators.{HasAllColumns, HasBase, records_at}
 use Rattle.iv_index.specs.declared.locator.Locator.{Locator}
 use Rattle.iv_index.proofs.BareLemmas.{rows-bare}
-use Rattle.iv_index.proofs.JoinLemmas.{bases-joined, covered-joined, rows-joined_apart, rows-joined_order, all-bare}
+use Rattle.iv_index.proofs.JoinLemmas.{bases-joined, covered-joined, rows-joined_apart, rows-joined_order, all-bare, whole-joined}
 use Rattle.iv_index.proofs.bed_text.BedText.join.Goals as goal
 
 pub invariant_of-self : goal.invariant_of-self
@@ -17,6 +17,8 @@ invariant_of-self g c = record {
   low = c.self.invariant.low;
   high = c.self.invariant.high;
   some = subst (All HasBase) (sym c.join_locators.ensures) (bases-joined c.self.inside.locators.items c.self.invariant.some);
+  whole = subst (All (HasAllColumns c.self.inside.width c.self.inside.text.now)) (sym c.join_locators.ensures)
+      (whole-joined c.self.inside.width c.self.inside.text.now c.self.inside.locators.items c.self.invariant.whole);
 }
 
 pub returns : goal.returns

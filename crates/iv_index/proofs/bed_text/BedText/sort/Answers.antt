@@ -4,7 +4,7 @@ use Rattle.iv_text.specs.RecordValue.{RecordValue}
 use Rattle.iv_text.specs.Ordered.{ordered}
 use Rattle.iv_text.specs.BedFile.{Bed}
 use Rattle.iv_index.specs.Inside.Drafts.{AreInOrder}
-use Rattle.iv_index.specs.Inside.Locators.{HasBase, record_at}
+use Rattle.iv_index.specs.Inside.Locators.{HasAllColumns, HasBase, record_at}
 use Rattle.iv_index.specs.declared.locator.Locator.{Locator}
 use Rattle.iv_index.proofs.OrderLemmas.{sorted-rows, sorted-by-rows}
 use Rattle.iv_index.proofs.bed_text.BedText.sort.Goals as goal
@@ -19,6 +19,7 @@ invariant_of-self g c =
       low = s.low;
       high = s.high;
       some = All-permutation HasBase c.self.inside.locators.items c.order_locators.new.locators.items c.order_locators.ensures s.some;
+      whole = All-permutation (HasAllColumns c.self.inside.width c.self.inside.text.now) c.self.inside.locators.items c.order_locators.new.locators.items c.order_locators.ensures s.whole;
     }
 
 pub invariant_of-self-2 : goal.invariant_of-self-2
@@ -29,6 +30,7 @@ invariant_of-self-2 g c =
       low = s.low;
       high = s.high;
       some = All-permutation HasBase c.self.inside.locators.items c.sort_unstable_by.new.self.items moved s.some;
+      whole = All-permutation (HasAllColumns c.self.inside.width c.self.inside.text.now) c.self.inside.locators.items c.sort_unstable_by.new.self.items moved s.whole;
     }
 
 pub returns-then-are_in_order : goal.returns-then-are_in_order

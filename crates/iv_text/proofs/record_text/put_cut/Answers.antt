@@ -1,5 +1,5 @@
 use Rattle.iv_bytes.proofs.PutLemmas.{Puts-back, Puts-err, FailsIn-front}
-use Rattle.iv_text.proofs.record_text.put_row.Goals as goal
+use Rattle.iv_text.proofs.record_text.put_cut.Goals as goal
 
 pub returns-in_err-put_columns : goal.returns-in_err-put_columns
 returns-in_err-put_columns g c =
