@@ -1,5 +1,5 @@
 -- The bytes of a cell, looked at one by one and together.
-use Rattle.std.proofs.Common.{◌≡◌, ℕ, zero, suc, ◌+◌, ◌-◌, ◌%◌, ◌^◌, ◌<◌, ◌≤◌, Bool, false, not, ltb, List, [], ◌∷◌, ◌++◌, length, take, get_or, map, sym, ap, subst, ◌∙◌, arith, add-one, replicate, w8}
+use Rattle.std.proofs.Common.{◌≡◌, ℕ, zero, suc, ◌+◌, ◌-◌, ◌%◌, ◌^◌, ◌<◌, ◌≤◌, Bool, false, not, ltb, List, [], ◌∷◌, length, take, get_or, map, sym, ap, subst, arith, add-one, replicate, w8}
 use lib.Lanes.{chunk, zip2, mask_l, top}
 use lib.Count.{count_trailing_zeros}
 use mathlib.Core.Bool.{cond}

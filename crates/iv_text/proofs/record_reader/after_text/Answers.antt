@@ -1,4 +1,4 @@
-use Rattle.std.proofs.Common.{◌≡◌, ◌∷◌, take, ap, ◌∙◌, arith, length-take}
+use Rattle.std.proofs.Common.{◌∷◌, take, ap, ◌∙◌, arith, length-take}
 use Rattle.iv_text.proofs.OnePassLemmas.{rest-whole}
 use Rattle.iv_text.proofs.FastLineLemmas.{cell-text}
 use Rattle.iv_text.proofs.record_reader.after_text.Goals as goal

@@ -1,4 +1,4 @@
-use Rattle.std.proofs.Common.{◌≡◌, ℕ, false, get_or, sym, ◌∙◌, arith}
+use Rattle.std.proofs.Common.{◌≡◌, false, get_or, sym, ◌∙◌, arith}
 use Rattle.iv_text.specs.Inside.OnePass.{ends_cell}
 use Rattle.iv_text.proofs.CellLemmas.{cell-more}
 use Rattle.iv_text.proofs.record_reader.count_slowly.Goals as goal
