@@ -66,7 +66,7 @@ takes_other kind.Intersect = true
 takes_other kind.Subtract = true
 takes_other run = false
 
--- whether one has to be named
+-- whether a second file has to be named
 abbrev pub needs_other : Subcommand → Bool
 needs_other kind.Intersect = true
 needs_other kind.Subtract = true
@@ -78,7 +78,7 @@ takes_bases kind.Session = true
 takes_bases kind.Getfasta = true
 takes_bases run = false
 
--- whether one has to be named
+-- whether a FASTA file has to be named
 abbrev pub needs_bases : Subcommand → Bool
 needs_bases kind.Getfasta = true
 needs_bases run = false

@@ -3,14 +3,14 @@ use Rattle.std.specs.Prelude.{ℕ, ◌==◌, List, zip, codes}
 use Rattle.std.specs.Map.{lookup}
 use Rattle.std.specs.Option.{unwrap_or}
 
--- the letters of bases whose complement is another letter ..
+-- the letters of bases whose complement is another letter
 abbrev pub letters : List ℕ
 letters = codes "ACGTURYKMBVDHacgturykmbvdh"
 
--- .. and under each of them its complement
+-- the complement of each letter, at its place
 abbrev pub opposites : List ℕ
 opposites = codes "TGCAAYRMKVBHDtgcaayrmkvbhd"
 
--- each letter of the first row gives the letter under it in the second, and every other byte gives itself
+-- the complement of a byte: of one of the letters the opposite at its place, and of every other byte itself
 abbrev pub complement : ℕ → ℕ
 complement b = unwrap_or (lookup (λ letter. b == letter) (zip letters opposites)) b

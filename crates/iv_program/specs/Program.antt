@@ -16,6 +16,7 @@ use Rattle.iv_program.specs.Files.{FilesState}
 use Rattle.iv_program.specs.Runs.{World, RunsPlan}
 use Rattle.iv_program.specs.declared.program.Ended.{Ended}
 
+-- all that a run uses: these files, this input, this output and these messages
 abbrev pub world : FilesState → SourceState → SinkState → SinkState → World
 world files input output messages = record { files = files; streams = streams input output messages }
 

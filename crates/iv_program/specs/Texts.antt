@@ -31,7 +31,7 @@ pub record AreTexts (files : FilesState) (plan : RunPlan) (texts : Texts) : Type
 abbrev pub HasText : FilesState → Option (List ℕ) → Type 0
 HasText files name = (text : Option (List ℕ)) × IsTextIfNamed files name text
 
--- the files of a plan that are read before the one of this slot have such texts
+-- the files of a plan that are read before the one of this slot have texts that are not too long
 abbrev pub HaveTextsBefore : FilesState → RunPlan → Slot → Type 0
 HaveTextsBefore files plan Sizes = Unit {0}
 HaveTextsBefore files plan First = HasText files (Some plan.sizes)

@@ -8,5 +8,6 @@ pub record Streams : Type 0 where
   pub output : SinkState
   pub messages : SinkState
 
+-- this input, this output and these messages
 abbrev pub streams : SourceState → SinkState → SinkState → Streams
 streams input output messages = record { input = input; output = output; messages = messages }

@@ -24,7 +24,7 @@ state_key (kept.Cluster distance) = keep.Blocks (joined distance)
 state_key (kept.Complement limited) = keep.Blocks (joined 0)
 state_key (kept.Genomecov shown) = keep.Depth
 
--- the same for any view: nothing is kept for one that is written from the records
+-- what is kept for any view: nothing for one that is written from the records
 abbrev pub state_key_of : View → Option StateKey
 state_key_of (view.Kept v) = Some (state_key v)
 state_key_of (view.Written v) = None

@@ -33,7 +33,7 @@ nothing_said = record { distance = None; columns = None; ops = None; stranded = 
 abbrev pub with_flag : MergeArgs → Option MergeArgs
 with_flag said = if said.stranded then None else Some (record said { stranded = true })
 
--- this, unless a value was given before
+-- these options, unless a value was given before
 abbrev pub unless_given : Option (List ℕ) → MergeArgs → Option MergeArgs
 unless_given None said = Some said
 unless_given (Some value) said = None
@@ -104,7 +104,7 @@ options_within width stranded distance (Ok summaries) =
     then Err fault.NoStrand
     else Ok (record { distance = distance; stranded = stranded; summaries = summaries })
 
--- the same, if the distance may be missing
+-- the options with these summaries and a distance; bad words if there is none
 abbrev pub options_with : ℕ → Bool → Option ℕ → Result Summaries Fault → Result BlockOptions Fault
 options_with width stranded None summaries = Err fault.Words
 options_with width stranded (Some distance) summaries = options_within width stranded distance summaries

@@ -14,7 +14,7 @@ use Rattle.iv_workspace.specs.States.{State}
 abbrev pub reaches_past : ℕ → ℕ → RecordValue → Bool
 reaches_past seq n r = (r.seq == seq) && nat_lt n r.stop
 
--- there is such a record in the track or in the second file
+-- the track or the second file has a record on the sequence of this rank whose stop is above a length
 abbrev pub has_record_past : State → ℕ → ℕ → Bool
 has_record_past s seq n = list_any (reaches_past seq n) s.track.rows || list_any (reaches_past seq n) (second_records s.second)
 
@@ -39,7 +39,7 @@ resized_at s seq n =
     else if has_other_bases s.bases seq n then Err fault.Fixed
     else Ok (with_sequence_length s seq n)
 
--- the same for the sequence of a rank that a name may have
+-- the session with this length of the sequence of a rank, or why it isn't given; there is a fault if no sequence has the name
 abbrev pub resized_if : State → Option ℕ → ℕ → Result State Fault
 resized_if s None n = Err fault.UnknownSeq
 resized_if s (Some seq) n = resized_at s seq n

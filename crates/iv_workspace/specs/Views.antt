@@ -20,7 +20,7 @@ use Rattle.iv_workspace.specs.declared.fault.PrintFault.TheVariants as printing
 abbrev pub is_visible : ℕ → Bool
 is_visible b = nat_le 33 b && nat_le b 126
 
--- a view's name is 1 to 32 of them
+-- a view's name is 1 to 32 visible bytes
 abbrev pub is_view_name : List ℕ → Bool
 is_view_name name = nat_le 1 (length name) && nat_le (length name) 32 && list_all is_visible name
 
