@@ -1,27 +1,45 @@
 -- One put after another.
 use Rattle.std.proofs.lemmas.List.{take_all}
-use Rattle.std.proofs.Common.{◌≡◌, ◌≤◌, ℕ, subst, OnErr, ◌+◌, ◌-◌, ◌<◌, arith, length-drop, length, take, drop, take-append-drop, get_or, drop-cons, add-one, IsErr, List, [], ◌∷◌, ◌++◌, refl, sym, ap, ◌∙◌, append_assoc, append-nil, Result, Ok, Err}
+use Rattle.std.proofs.Common.{◌≡◌, ◌≤◌, ℕ, subst, OnErr, ◌+◌, ◌-◌, ◌<◌, arith, length-drop, length, take, drop, take-append-drop, get_or, drop-cons, add-one, IsErr, List, [], ◌∷◌, ◌++◌, refl, sym, ap, ◌∙◌, append_assoc, append-nil, Result, Ok, Err, Option, Some, None, Bool, is_some, IsNone, true≢false, unwrap_or}
 use Rattle.std.specs.List.{flat_map}
 use Rattle.std.proofs.lemmas.Result.{MatchResult-from_err}
 use Rattle.std.proofs.lemmas.Slice.{take-put_mid}
 use Rattle.std.proofs.lemmas.Grind.{common_steps}
 use borrow.Rule.Slice.PartMut.{put_mid}
 use Rattle.std.proofs.KnownBytes.{Appends-nil, Appends-trans}
+use Rattle.std.specs.Io.KnownBytes.{Appends}
 use Rattle.std.specs.Borrow.{GName}
-use Rattle.iv_bytes.specs.Sinks.{SinkState, Moves, Takes, FailsIn, Puts, buffered}
+use Rattle.iv_bytes.specs.Sinks.{SinkState, Moves, Takes, FailsIn, Puts, buffered, waiting}
 
 pub Moves-nothing : (state : SinkState) → Moves state state []
-Moves-nothing state = record { sent = []; reaches = Appends-nil state.reached; all = append-nil state.waiting; same = refl }
+Moves-nothing state = record { sent = []; reaches = Appends-nil state.reached; all = append-nil (waiting state); holds = refl; same = refl }
+
+-- nothing waits in a direct sink
+pub waits-nothing : (state : SinkState) → IsNone state.held → waiting state ≡ []
+waits-nothing state direct = by state.held direct where
+  by : (held : Option (List ℕ)) → IsNone held → unwrap_or held [] ≡ []
+  by None is = refl
+  by (Some bytes) is = absurd (true≢false is)
 
 -- one text after another
 pub Moves-append : (old mid new : SinkState) (a b : List ℕ) → Moves old mid a → Moves mid new b → Moves old new (a ++ b)
 Moves-append old mid new a b first second = record {
   sent = first.sent ++ second.sent;
   reaches = Appends-trans old.reached mid.reached new.reached first.sent second.sent first.reaches second.reaches;
-  all = sym (append_assoc old.waiting a b) ∙ ap (λ (l : List ℕ). l ++ b) first.all ∙ append_assoc first.sent mid.waiting b
-      ∙ ap (λ (l : List ℕ). first.sent ++ l) second.all ∙ sym (append_assoc first.sent second.sent new.waiting);
+  all = sym (append_assoc (waiting old) a b) ∙ ap (λ (l : List ℕ). l ++ b) first.all ∙ append_assoc first.sent (waiting mid) b
+      ∙ ap (λ (l : List ℕ). first.sent ++ l) second.all ∙ sym (append_assoc first.sent second.sent (waiting new));
+  holds = second.holds ∙ first.holds;
   same = second.same ∙ first.same;
 }
+
+-- all that a direct sink took went on
+pub direct-sent : (old new : SinkState) (text : List ℕ) → IsNone old.held → Takes old new text → Appends old.reached new.reached text
+direct-sent old new text direct took =
+    let none : waiting new ≡ [] = waits-nothing new (took.moved.holds ∙ direct) in
+    let all : took.moved.sent ≡ text =
+    sym (append-nil took.moved.sent) ∙ ap (λ (l : List ℕ). took.moved.sent ++ l) (sym none) ∙ sym took.moved.all
+    ∙ ap (λ (l : List ℕ). l ++ text) (waits-nothing old direct) in
+    subst (λ (l : List ℕ). Appends old.reached new.reached l) all took.moved.reaches
 
 -- the front was put, and then the back
 pub Takes-append : (old mid new : SinkState) (a b : List ℕ) → Takes old mid a → Takes mid new b → Takes old new (a ++ b)
@@ -39,7 +57,8 @@ FailsIn-front old new a b fails = record {
   sent = fails.sent;
   lost = fails.lost ++ b;
   reaches = fails.reaches;
-  all = sym (append_assoc old.waiting a b) ∙ ap (λ (l : List ℕ). l ++ b) fails.all ∙ append_assoc fails.sent fails.lost b;
+  all = sym (append_assoc (waiting old) a b) ∙ ap (λ (l : List ℕ). l ++ b) fails.all ∙ append_assoc fails.sent fails.lost b;
+  holds = fails.holds;
   same = fails.same;
   failed = fails.failed;
 }
@@ -50,8 +69,9 @@ FailsIn-back old mid new a b first fails = record {
   sent = first.moved.sent ++ fails.sent;
   lost = fails.lost;
   reaches = Appends-trans old.reached mid.reached new.reached first.moved.sent fails.sent first.moved.reaches fails.reaches;
-  all = sym (append_assoc old.waiting a b) ∙ ap (λ (l : List ℕ). l ++ b) first.moved.all ∙ append_assoc first.moved.sent mid.waiting b
+  all = sym (append_assoc (waiting old) a b) ∙ ap (λ (l : List ℕ). l ++ b) first.moved.all ∙ append_assoc first.moved.sent (waiting mid) b
       ∙ ap (λ (l : List ℕ). first.moved.sent ++ l) fails.all ∙ sym (append_assoc first.moved.sent fails.sent fails.lost);
+  holds = fails.holds ∙ first.moved.holds;
   same = fails.same ∙ first.moved.same;
   failed = fails.failed;
 }
@@ -145,10 +165,11 @@ Moves-sent old new name n held took = record {
   moved = record {
     sent = took.moved.sent;
     reaches = took.moved.reaches;
-    all = append-nil (old.waiting ++ held) ∙ ap (λ (l : List ℕ). old.waiting ++ l) (sym (take-append-drop n held))
-        ∙ sym (append_assoc old.waiting (take n held) (drop n held)) ∙ ap (λ (l : List ℕ). l ++ drop n held) took.moved.all
-        ∙ append_assoc took.moved.sent new.waiting (drop n held);
-    same = ap (λ (l : List GName). name ∷ l) took.moved.same;
+    all = append-nil (waiting old ++ held) ∙ ap (λ (l : List ℕ). waiting old ++ l) (sym (take-append-drop n held))
+        ∙ sym (append_assoc (waiting old) (take n held) (drop n held)) ∙ ap (λ (l : List ℕ). l ++ drop n held) took.moved.all
+        ∙ append_assoc took.moved.sent (waiting new) (drop n held);
+    holds = refl;
+    same = rw (took.moved.holds, took.moved.same) refl;
   };
   failed = took.failed;
 }
@@ -160,9 +181,10 @@ FailsIn-sent old new name held later fails = record {
   sent = fails.sent;
   lost = fails.lost ++ held;
   reaches = fails.reaches;
-  all = append-nil (old.waiting ++ held) ∙ ap (λ (l : List ℕ). l ++ held) (sym (append-nil old.waiting) ∙ fails.all)
+  all = append-nil (waiting old ++ held) ∙ ap (λ (l : List ℕ). l ++ held) (sym (append-nil (waiting old)) ∙ fails.all)
       ∙ append_assoc fails.sent fails.lost held;
-  same = ap (λ (l : List GName). name ∷ l) fails.same;
+  holds = refl;
+  same = rw (fails.holds, fails.same) refl;
   failed = fails.failed;
 }
 
@@ -173,23 +195,32 @@ Takes-held sink name held text = record {
   moved = record {
     sent = [];
     reaches = Appends-nil sink.reached;
-    all = append_assoc sink.waiting held text;
+    all = append_assoc (waiting sink) held text;
+    holds = refl;
     same = refl;
   };
   failed = refl;
 }
 
+-- the top of what two buffers hold their sinks by: the borrow, and whether it may hold bytes back
+pub same-top : (after name : GName) (b c : Bool) (xs ys : List (GName × Bool)) → (after, b) ∷ xs ≡ (name, c) ∷ ys → (after ≡ name) × (b ≡ c)
+same-top after name b c xs ys same =
+    let top : ◌≡◌ {A = GName × Bool} (after, b) (name, c) = cc (same) in
+    (ap (λ (p : GName × Bool). p.0) top, ap (λ (p : GName × Bool). p.1) top)
+
 -- all that was put into a new buffer went on to the sink that was lent
 pub Takes-finished : (old mid new : SinkState) (name after : GName) (held text : List ℕ)
     → Takes (buffered old name []) (buffered mid after held) text → Takes mid new held → Takes old new text
 Takes-finished old mid new name after held text took last =
+    let holds : is_some mid.held ≡ is_some old.held = (same-top _ _ _ _ _ _ took.moved.same).1 in
     let below : mid.below ≡ old.below = cc (took.moved.same) in
     record {
       moved = record {
         sent = took.moved.sent ++ last.moved.sent;
         reaches = Appends-trans old.reached mid.reached new.reached took.moved.sent last.moved.sent took.moved.reaches last.moved.reaches;
-        all = ap (λ (l : List ℕ). l ++ text) (sym (append-nil old.waiting)) ∙ took.moved.all
-            ∙ ap (λ (l : List ℕ). took.moved.sent ++ l) last.moved.all ∙ sym (append_assoc took.moved.sent last.moved.sent new.waiting);
+        all = ap (λ (l : List ℕ). l ++ text) (sym (append-nil (waiting old))) ∙ took.moved.all
+            ∙ ap (λ (l : List ℕ). took.moved.sent ++ l) last.moved.all ∙ sym (append_assoc took.moved.sent last.moved.sent (waiting new));
+        holds = last.moved.holds ∙ holds;
         same = last.moved.same ∙ below;
       };
       failed = last.failed ∙ took.failed;
@@ -198,13 +229,15 @@ Takes-finished old mid new name after held text took last =
 pub FailsIn-finished : (old mid new : SinkState) (name after : GName) (held text : List ℕ)
     → Takes (buffered old name []) (buffered mid after held) text → FailsIn mid new held → FailsIn old new text
 FailsIn-finished old mid new name after held text took fails =
+    let holds : is_some mid.held ≡ is_some old.held = (same-top _ _ _ _ _ _ took.moved.same).1 in
     let below : mid.below ≡ old.below = cc (took.moved.same) in
     record {
       sent = took.moved.sent ++ fails.sent;
       lost = fails.lost;
       reaches = Appends-trans old.reached mid.reached new.reached took.moved.sent fails.sent took.moved.reaches fails.reaches;
-      all = ap (λ (l : List ℕ). l ++ text) (sym (append-nil old.waiting)) ∙ took.moved.all
+      all = ap (λ (l : List ℕ). l ++ text) (sym (append-nil (waiting old))) ∙ took.moved.all
           ∙ ap (λ (l : List ℕ). took.moved.sent ++ l) fails.all ∙ sym (append_assoc took.moved.sent fails.sent fails.lost);
+      holds = fails.holds ∙ holds;
       same = fails.same ∙ below;
       failed = fails.failed;
     }
@@ -219,12 +252,14 @@ Puts-finished old mid new name after held text (Err e) took puts = FailsIn-finis
 pub FailsIn-given_up : (old mid : SinkState) (name after : GName) (held text : List ℕ)
     → FailsIn (buffered old name []) (buffered mid after held) text → FailsIn old mid text
 FailsIn-given_up old mid name after held text fails =
+    let holds : is_some mid.held ≡ is_some old.held = (same-top _ _ _ _ _ _ fails.same).1 in
     let below : mid.below ≡ old.below = cc (fails.same) in
     record {
       sent = fails.sent;
       lost = fails.lost;
       reaches = fails.reaches;
-      all = ap (λ (l : List ℕ). l ++ text) (sym (append-nil old.waiting)) ∙ fails.all;
+      all = ap (λ (l : List ℕ). l ++ text) (sym (append-nil (waiting old))) ∙ fails.all;
+      holds = holds;
       same = below;
       failed = fails.failed;
     }

@@ -1,7 +1,7 @@
 //! Sinks, which take bytes in pieces, putting whole texts into them, and a buffer above a sink.
 ghost use Rattle.std.specs.Prelude.{◌≡◌, [], ◌<◌, ◌≤◌, length, take, IfOk, IfSome, OnErr, IsErr, IsTrue, false, ℕ, Ok, OnOk};
 ghost use Rattle.std.specs.List.{flat_map};
-ghost use Rattle.iv_bytes.specs.Sinks.{SinkState, Takes, FailsIn, Puts, buffered};
+ghost use Rattle.iv_bytes.specs.Sinks.{SinkState, Takes, FailsIn, Puts, buffered, waiting};
 
 use crate::byte_queue::ByteQueue;
 use thiserror::Error;
@@ -31,9 +31,10 @@ pub trait Sink {
 
 /// A sink that hands on what it holds when it is asked to.
 pub trait Flush: Sink {
-    /// Hands on all that is held. A fault fails the sink for good.
+    /// Hands on all that is held, so that nothing waits afterwards. A fault fails the sink for good.
     fn flush(&mut self) -> Result<(), WriteFault>
-        ensures { Puts (Self.state self.old) (Self.state self.new) result [] };
+        ensures puts { Puts (Self.state self.old) (Self.state self.new) result [] }
+        ensures empty { OnOk result (waiting (Self.state self.new) ≡ []) };
 }
 
 /// Puts all the bytes. On a fault the sink has taken a prefix of them.

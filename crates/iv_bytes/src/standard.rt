@@ -1,6 +1,6 @@
 //! Sinks and sources over std's writers and readers.
-ghost use Rattle.std.specs.Prelude.{◌≡◌, false, []};
-ghost use Rattle.iv_bytes.specs.Sinks.{SinkState};
+ghost use Rattle.std.specs.Prelude.{◌≡◌, false};
+ghost use Rattle.iv_bytes.specs.Sinks.{unbuffered};
 ghost use Rattle.iv_bytes.specs.Sources.{SourceState};
 
 use crate::sink::{Flush, Sink, WriteFault};
@@ -27,7 +27,7 @@ impl<W: Write> StdSink<W> {
 }
 
 impl<W: Write> Sink for StdSink<W> {
-    ghost state = { λ s. record { reached = W.contents s.writer; waiting = []; failed = s.failed; below = [] } };
+    ghost state = { λ s. unbuffered (W.contents s.writer) s.failed };
 
     fn push(&mut self, bytes: &[u8]) -> Result<usize, WriteFault> {
         if self.failed {

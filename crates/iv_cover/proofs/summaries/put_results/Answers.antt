@@ -1,7 +1,7 @@
 use Rattle.std.proofs.Common.{◌≡◌, ◌+◌, ◌++◌, List, ℕ, drop, get_or, arith}
 use Rattle.std.specs.List.{flat_map}
 use Rattle.std.specs.Prelude.{codes}
-use Rattle.iv_bytes.proofs.PutLemmas.{Underway-more, Underway-fails, Puts-err, flat_map-drop}
+use Rattle.iv_bytes.proofs.PutLemmas.{Underway-begin, Underway-more, Underway-fails, Puts-err, flat_map-drop}
 use Rattle.iv_cover.specs.Summaries.{summary_of}
 use Rattle.iv_cover.specs.declared.column.Column.TheVariants.{Sequence}
 use Rattle.iv_cover.specs.declared.column.ColumnSummary.{ColumnSummary}
@@ -27,6 +27,9 @@ returns-in_err-put_result-clause-text g c =
     (Underway-fails _ _ _ _ _ _
     (Underway-step _ _ _ _ _ _ _ (flat_map-drop f c.args.summaries.now c.loop-asked.asked-index _ c.loop-asked-test.true) c.loop-asked.invariant.put c.in_ok-put_all.ensures)
     c.in_err-put_result.ensures.text)
+
+pub loop-asked-init : goal.loop-asked-init
+loop-asked-init g c = record { put = Underway-begin _ _; grown = omega arith }
 
 pub loop-asked-preserved : goal.loop-asked-preserved
 loop-asked-preserved g c =
