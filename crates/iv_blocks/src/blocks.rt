@@ -112,7 +112,7 @@ impl<A: Allocator + Copy> Kept<A> for Blocks<A> {
             return Ok(());
         }
         self.take(group, low, meter);
-        self.insert_blocks(track, genome, group, low, high, meter)
+        self.split_block(track, genome, group, (low, high), (start, end), meter)
     }
 }
 
