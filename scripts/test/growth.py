@@ -44,13 +44,10 @@ FIVE_VIEWS = ["merge", "merge -d 100", "complement", "cluster", "genomecov -bg"]
 OPEN_FIVE = "".join(f"open\t{name}\t{view}\n" for name, view in zip("abcde", FIVE_VIEWS))
 # What is known to grow faster than its size, and why.
 HITS_ONE_BY_ONE = "a session looks at each hit"
-BLOCK_WALKED = "a removal walks over its block"
 KNOWN = {
     "deep in both: session intersect -c": HITS_ONE_BY_ONE,
     "deep in both: session subtract": HITS_ONE_BY_ONE,
     "nested: session intersect -c": HITS_ONE_BY_ONE,
-    "removals at one place": BLOCK_WALKED,
-    "removals that tile": BLOCK_WALKED,
 }
 
 

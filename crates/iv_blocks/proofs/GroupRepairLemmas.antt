@@ -1,8 +1,8 @@
 -- The blocks of all groups after a repair of one.
-use Rattle.std.proofs.Common.{◌≡◌, ◌⊎◌, inl, inr, ℕ, ◌+◌, ◌-◌, ◌*◌, ◌<◌, ◌≤◌, Bool, true, false, if◌then◌else◌, ◌==◌, ◌&&◌, List, [], ◌∷◌, ◌++◌, length, filter, All, Option, Some, None, Result, Ok, Err, OnOk, refl, sym, ap, subst, ◌∙◌, arith, eqb-true}
+use Rattle.std.proofs.Common.{◌≡◌, ◌⊎◌, inl, inr, ℕ, ◌+◌, ◌-◌, ◌*◌, ◌<◌, ◌≤◌, Bool, true, false, if◌then◌else◌, ◌==◌, ◌&&◌, List, [], ◌∷◌, ◌++◌, length, filter, All, Option, Some, None, Result, Ok, Err, OnOk, refl, sym, ap, subst, ◌∙◌, arith, eq-eqb, eqb-true, le-leb, lt-ltb}
 use Rattle.std.specs.Option.{option_map, option_or}
 use Rattle.std.specs.Ordering.{is_le}
-use Rattle.std.proofs.lemmas.Bool.{cond-true, cond-false, cases_Bool, and_parts, and_from, both_ways, false_from_ne_true, false≢true}
+use Rattle.std.proofs.lemmas.Bool.{cond-true, cond-false, cases_Bool, cases_lt, and_parts, and_from, both_ways, false_from_ne_true, false≢true}
 use Rattle.iv_text.specs.Genome.{Sequences, sequence_name}
 use Rattle.iv_text.specs.Named.{names_of}
 use Rattle.iv_text.specs.Ordered.{added}
@@ -13,22 +13,23 @@ use Rattle.iv_text.specs.declared.record_ref.Strand.TheVariants.{Plus, Minus, Do
 use Rattle.iv_track.specs.Entries.{IsLedger, value_at}
 use Rattle.iv_track.specs.Steps.{TakesUpTo}
 use Rattle.iv_cover.specs.TrackBlocks.{start_of, stop_of}
-use Rattle.iv_cover.specs.Blocks.{block_at}
-use Rattle.iv_text.proofs.ListLemmas.{Mem, mem-filter, mem-filter_from, all-mem, mem-all, filter-agree, filter-filter, filter-weaker, same_tests}
+use Rattle.iv_cover.specs.Blocks.{block_at, reaches}
+use Rattle.iv_text.proofs.ListLemmas.{Mem, any-at, mem-filter, mem-filter_from, all-mem, mem-all, filter-agree, filter-filter, filter-weaker, same_tests}
 use Rattle.iv_cover.proofs.Groups.{HasOneMore, one_more}
 use Rattle.iv_cover.proofs.BlockLemmas.{one_more-filter}
-use Rattle.iv_cover.proofs.Cover.{Lasting, IsBlock, starts_in, starts_in-true, stops_within}
+use Rattle.iv_cover.proofs.Cover.{Covered, Lasting, IsBlock, starts_in, starts_in-true, stops_within}
 use Rattle.iv_blocks.specs.Groups.{is_strand, is_on_side, is_in_group, group, listed}
 use Rattle.iv_blocks.specs.Inside.Groups.{between, between_on, members_between, starts_between, is_apart, is_minus}
 use Rattle.iv_blocks.specs.KeptBlocks.{Key, key_cmp, Kept, Entries, KeptBlocks, AreBlocksOf, kept_at, kept_block, name_of, around, within_block, block_steps}
 use Rattle.iv_blocks.specs.Inside.Lookups.{kept_in, IsLastBlock}
 use Rattle.iv_blocks.specs.Inside.Insertion.{key_of, IsOfOther, AreInserted, with_block}
-use Rattle.iv_blocks.specs.Inside.Repairs.{StaysCovered, without_block, KeepsOthers, JoinsBefore, JoinsAfter, count_from}
+use Rattle.iv_blocks.specs.Inside.Repairs.{AreOthers, StaysCovered, without_block, KeepsOthers, JoinsBefore, JoinsAfter, count_from}
 use Rattle.iv_blocks.specs.declared.group.Group.{Group}
 use Rattle.iv_blocks.specs.declared.options.BlockOptions.{BlockOptions}
 use Rattle.iv_cover.specs.declared.column.ColumnSummary.{ColumnSummary}
 use Rattle.iv_blocks.proofs.GroupSweeps.{count-parts, count-within}
 use Rattle.iv_blocks.proofs.Keys.{key-cases, look-put, look-put_other}
+use Rattle.iv_blocks.proofs.MembersLemmas.{between-from}
 use Rattle.iv_blocks.proofs.NameLemmas.{name-same}
 use Rattle.iv_blocks.proofs.TakeLemmas.{without-here, without-others}
 use Rattle.iv_blocks.proofs.RepairLemmas.{shown, IsBegun, found-some, found-block, found-ends, shown-less, removed-right, begun, added-block, added-below, added-above, added-right, added-count, home-count}
@@ -316,6 +317,50 @@ module _ (o : BlockOptions) (names : List (List ℕ)) (g : Group) (r : RecordVal
           let here = mem-filter_from (is_in_group o.stranded g.rank (is_minus g.side)) rows q (edit.more.old q is.0) (ap (λ (s : Bool). is_in_group s g.rank (is_minus g.side) q) (sym edit.apart) ∙ both.0) in
           let range = starts_in-true start_of stop_of o.distance b.0 b.1 q both.1 in
           stops_within start_of stop_of o.distance H b.0 b.1 block_is q here (omega (arith, range.1)))
+
+      member-of : (q : RecordValue) → Mem q G → b.0 ≤ q.start → q.start < b.1 → Mem q (members_between g b.0 b.1 less)
+      member-of q m above below =
+          let both = mem-filter (is_in_group o.stranded g.rank (is_minus g.side)) less q m in
+          mem-filter_from (λ p. is_in_group (is_apart g.side) g.rank (is_minus g.side) p && starts_between b.0 b.1 p) less q both.0
+          (and_from _ _ (ap (λ (s : Bool). is_in_group s g.rank (is_minus g.side) q) edit.apart ∙ both.1) (between-from b.0 b.1 q above below))
+
+      -- one of them starts where the block does, unless r does, and they reach each position of it, unless r does
+      pub removed-others : (start stop : ℕ) → start ≡ r.start → stop ≡ r.stop → AreOthers o.distance b (start, stop) (members_between g b.0 b.1 less)
+      removed-others start stop at_start at_stop = record {
+        within = omega (arith, last.within, at_start);
+        below = let long = lasting r more_g.added in omega (arith, ends, long, at_start);
+        stops = removed-stops;
+        starts = λ before.
+            let first = block_is.starts in
+            let long : b.0 < b.1 = block_is.long in
+            elim (more_g.cases first.0 first.1) [
+              | inl is ↦ absurd (omega (arith, before, at_start, ap start_of is, first.2))
+              | inr old ↦ any-at (λ q. q.start == b.0) (members_between g b.0 b.1 less) first.0
+                  (member-of first.0 old (omega (arith, first.2)) (omega (arith, first.2, long))) (eq-eqb _ _ first.2)
+            ];
+        reached = λ x above within far.
+            let c = block_is.covered x above within in
+            elim (more_g.cases c.0 c.1) [
+              | inl is ↦ absurd (elim far [
+                | inl early ↦ omega (arith, early, at_start, c.2, ap start_of is)
+                | inr past ↦ omega (arith, past, at_stop, c.3, ap stop_of is)
+              ])
+              | inr old ↦ any-at (reaches start_of stop_of o.distance x) (members_between g b.0 b.1 less) c.0
+                  (member-of c.0 old (from-low x c above) (below-high x c within)) (and_from _ _ (lt-ltb _ _ c.2) (le-leb _ _ c.3))
+            ];
+      }
+        where
+          from-low : (x : ℕ) (c : Covered start_of stop_of o.distance H x) → b.0 < x → b.0 ≤ c.0.start
+          from-low x c above = elim (cases_lt c.0.start b.0) [
+            | inl early ↦ let far = block_is.free c.0 c.1 early in absurd (omega (arith, far, above, c.3))
+            | inr from ↦ from
+          ]
+
+          below-high : (x : ℕ) (c : Covered start_of stop_of o.distance H x) → x ≤ b.1 + o.distance → c.0.start < b.1
+          below-high x c within =
+              let long = lasting c.0 c.1 in
+              let stops = stops_within start_of stop_of o.distance H b.0 b.1 block_is c.0 c.1 (omega (arith, c.2, within)) in
+              omega (arith, long, stops)
 
       -- those that start within r are some of those that start within its block
       own-within : length (between_on g.rank r.start r.stop less) ≤ length (between_on g.rank b.0 b.1 less)

@@ -1,5 +1,5 @@
 -- The state of a sweep over a group's records of a range, whose blocks are inserted one after another, and its steps.
-use Rattle.std.proofs.Common.{ℕ, ◌+◌, ◌*◌, ◌<◌, ◌≤◌, max, ◌≡◌, ◌⊎◌, inl, inr, Bool, false, ◌&&◌, ◌==◌, if◌then◌else◌, List, [], ◌∷◌, ◌++◌, length, filter, All, Option, Some, refl, sym, ap, ap₂, subst, ◌∙◌, arith, append-nil, append_assoc, eq-eqb}
+use Rattle.std.proofs.Common.{ℕ, ◌+◌, ◌*◌, ◌<◌, ◌≤◌, max, ◌≡◌, ◌⊎◌, inl, inr, Bool, false, ◌&&◌, ◌==◌, if◌then◌else◌, List, [], ◌∷◌, ◌++◌, length, filter, All, Option, Some, Result, Ok, Err, OnOk, refl, sym, ap, ap₂, subst, ◌∙◌, arith, append-nil, append_assoc, eq-eqb}
 use Rattle.std.specs.Option.{option_map, option_or}
 use Rattle.std.proofs.lemmas.Bool.{cond-true, cond-false, cases_Bool, cases_lt, and_parts, and_from, and_left, and_right, false_from_ne_true}
 use Rattle.std.proofs.lemmas.List.Elements.{filter-append}
@@ -131,6 +131,11 @@ count-some rank from to rows q m at above below =
 
 -- ---- the sweep
 
+-- two facts at one `Ok`
+pub on_ok_both : {T E P Q R : Type 0} (r : Result T E) → OnOk r P → OnOk r Q → (P → Q → R) → OnOk r R
+on_ok_both (Ok x) p q both = both p q
+on_ok_both (Err e) p q both = tt
+
 -- what is kept at the positions of a group
 abbrev pub look : Group → Entries → ℕ → Option Kept
 look g entries x = value_at key_cmp entries (key_of g x)
@@ -168,7 +173,7 @@ module _ (o : KeptBlocks) (genome : Sequences) (rows : List RecordValue) (g : Gr
     lasts passed left r all q m = known.lasting q (member-in g from to rows q (member passed left r all q m)).0
 
     -- each that was passed starts no later than each that is left
-    in_order : (passed left : List RecordValue) → members_between g from to rows ≡ passed ++ left → (q r : RecordValue) → Mem q passed → Mem r left → q.start ≤ r.start
+    pub in_order : (passed left : List RecordValue) → members_between g from to rows ≡ passed ++ left → (q r : RecordValue) → Mem q passed → Mem r left → q.start ≤ r.start
     in_order passed left all q r m n =
         let order : AreInOrder (passed ++ left) = subst (λ (l : List RecordValue). AreInOrder l) all (in_order-filter record_cmp _ rows known.ordered) in
         let at_q = (member-in g from to rows q (subst (λ (l : List RecordValue). Mem q l) (sym all) (mem-left passed left q m))).1 in
@@ -194,10 +199,10 @@ module _ (o : KeptBlocks) (genome : Sequences) (rows : List RecordValue) (g : Gr
         }
 
     module _ (now : KeptBlocks) (start stop : ℕ) (r : RecordValue) (left : List RecordValue) (s : IsSweeping now start stop (r ∷ left)) where
-      here : Mem r (members_between g from to rows)
+      pub here : Mem r (members_between g from to rows)
       here = member s.passed left r s.all r (mem-right s.passed (r ∷ []) r (inl refl))
 
-      all-more : members_between g from to rows ≡ (s.passed ++ r ∷ []) ++ left
+      pub all-more : members_between g from to rows ≡ (s.passed ++ r ∷ []) ++ left
       all-more = s.all ∙ sym (append_assoc s.passed (r ∷ []) left)
 
       before : (q : RecordValue) → Mem q s.passed → q.start ≤ r.start

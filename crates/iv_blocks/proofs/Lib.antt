@@ -8,6 +8,7 @@ pub mod Keys
 pub mod SweepLemmas
 pub mod MembersLemmas
 pub mod GroupSweeps
+pub mod NearSweeps
 pub mod EntriesLemmas
 pub mod LookupLemmas
 pub mod TakeLemmas

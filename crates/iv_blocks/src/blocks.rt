@@ -92,8 +92,8 @@ impl<A: Allocator + Copy> Kept<A> for Blocks<A> {
         self.insert_block(track, genome, group, low, high, meter)
     }
 
-    /// The record's block is taken out, and the others that were in it are inserted as blocks again. Without summaries, nothing is
-    /// changed if another record from its start on reaches as far.
+    /// The record's block is taken out, and the others that were in it are inserted as blocks again. Where these begin and
+    /// stop is found from the records near it. Without summaries, nothing is changed if another record from its start on reaches as far.
     fn removed(
         &mut self,
         track: &Track<A>,
@@ -112,7 +112,7 @@ impl<A: Allocator + Copy> Kept<A> for Blocks<A> {
             return Ok(());
         }
         self.take(group, low, meter);
-        self.insert_blocks(track, genome, group, low, high, meter)
+        self.split_block(track, genome, group, (low, high), (start, end), meter)
     }
 }
 

@@ -1,5 +1,5 @@
 //! The parts of a repair: blocks that are looked up, joined, taken out and inserted.
-ghost use Rattle.std.specs.Prelude.{◌≡◌, ◌≢◌, ◌+◌, ◌-◌, ◌*◌, ◌≤◌, ℕ, None, true, All, IfOk, MatchOption, OnOk, OnErr, length, map};
+ghost use Rattle.std.specs.Prelude.{◌≡◌, ◌≢◌, ◌+◌, ◌-◌, ◌*◌, ◌<◌, ◌≤◌, ℕ, max, None, true, All, IfOk, MatchOption, OnOk, OnErr, length, map};
 ghost use Rattle.iv_text.specs.Genome.{sequence_name};
 ghost use Rattle.iv_text.specs.Named.{names_of};
 ghost use Rattle.iv_text.specs.Read.{Fits};
@@ -11,7 +11,7 @@ ghost use Rattle.iv_blocks.specs.Inside.Groups.{between, between_on, is_apart, i
 ghost use Rattle.iv_blocks.specs.KeptBlocks.{key_cmp};
 ghost use Rattle.iv_blocks.specs.Inside.Lookups.{kept_in, IsLastBlock, IsFirstBlock};
 ghost use Rattle.iv_blocks.specs.Inside.Insertion.{AreInserted, AreInsertedOn, key_of, with_block};
-ghost use Rattle.iv_blocks.specs.Inside.Repairs.{without_block, StaysCovered, KeepsOthers, JoinsBefore, JoinsAfter, count_from};
+ghost use Rattle.iv_blocks.specs.Inside.Repairs.{without_block, AreOthers, StaysCovered, KeepsOthers, JoinsBefore, JoinsAfter, count_from};
 
 use crate::blocks::{Blocks, bounds_of};
 use crate::group::{Group, Key, Members, Side};
@@ -216,6 +216,68 @@ impl<A: Allocator + Copy> Blocks<A> {
             }
         }
         self.insert_block(track, genome, group, start, stop, meter)
+    }
+
+    /// Inserts the blocks of a group's records that start within `block`, over what is there, once a record with the bounds `gone`
+    /// is taken out of that block.
+    ///
+    /// It goes over those near `gone` alone: those that start before and don't reach it are in the first of the blocks, and once
+    /// a block stops where `gone` does, or past it, all that are left are in that one. At most 2 steps, and 5 for each record, of
+    /// any strand, that starts within `block`. After a refusal some of the blocks may be inserted.
+    pub(crate) fn split_block(
+        &mut self,
+        track: &Track<A>,
+        genome: &Genome<A>,
+        group: Group,
+        block: (u32, u32),
+        gone: (u32, u32),
+        meter: &mut Meter,
+    ) -> Result<(), AllocError>
+        requires apart { is_apart group.side ≡ self.old.options.stranded }
+        requires fit { All (Fits genome.now track.now.width) track.now.rows }
+        requires rest { AreOthers self.old.options.distance block gone (members_between group block.0 block.1 track.now.rows) }
+        ensures ok { OnOk result (AreInserted group (names_of genome.now) (between block.0 block.1 track.now.rows) self.old self.new) }
+        ensures steps { TakesUpTo meter.old meter.new (2 + 5 * length (between_on group.rank block.0 block.1 track.now.rows)) }
+    {
+        // The keys of the ledger ascend, even if nothing is inserted.
+        let _ordered = self.ledger.len();
+        let (low, high) = block;
+        let from = self.first_near(track, low, gone.0);
+        let mut members = Members::of(track, group, from, high, meter);
+        let Some(first) = members.next(meter) else {
+            return Ok(());
+        };
+        let (mut start, mut reached) = bounds_of(&first.as_ref());
+        if low < from {
+            start = low;
+        }
+        'row: while reached < gone.1 {
+            let Some(row) = members.next(meter) else {
+                return self.insert_block(track, genome, group, start, reached, meter);
+            };
+            let (next_start, next_stop) = bounds_of(&row.as_ref());
+            // If records start before `gone`, the block goes up to there without it too.
+            let joined = self.reach(reached).max(u64::from(gone.0));
+            if u64::from(next_start) <= joined {
+                reached = reached.max(next_stop);
+            } else {
+                self.insert_block(track, genome, group, start, reached, meter)?;
+                (start, reached) = (next_start, next_stop);
+            }
+        }
+        self.insert_block(track, genome, group, start, high, meter)
+    }
+
+    /// From where on a record may reach `start`, or `low` if that is later.
+    fn first_near(&self, track: &Track<A>, low: u32, start: u32) -> u32
+        ensures from { low ≤ result }
+        ensures within { result ≤ max low start }
+        ensures near { low < result → All (λ r. r.start < result → r.stop + self.now.options.distance < start) track.now.rows }
+    {
+        let distance = u64::from(self.options.distance);
+        let near = u64::from(start).saturating_sub(distance);
+        let first = near.saturating_sub(track.length_bound());
+        first.max(u64::from(low)) as u32
     }
 
     /// Inserts the block of a group's records that start at `start` or after and below `stop`, over what is there.

@@ -314,7 +314,7 @@ impl<A: Allocator + Copy> Track<A> {
     }
 
     /// A number of positions that no record has more than. It is at most twice the greatest number that one has.
-    fn length_bound(&self) -> u64
+    pub fn length_bound(&self) -> u64
         ensures up_to { All (λ r. r.stop ≤ r.start + result) self.now.rows }
         ensures near { result ≤ 2 * longest self.now.rows }
     {

@@ -1,9 +1,12 @@
 -- Blocks of one group by position, before and after an edit.
-use Rattle.std.specs.Prelude.{◌≡◌, ◌⊎◌, ℕ, zero, suc, ◌+◌, ◌<◌, ◌≤◌, ◌==◌, max, List, [], ◌∷◌, Option, None, Some, if◌then◌else◌}
+use Rattle.std.specs.Prelude.{◌≡◌, ◌⊎◌, ℕ, zero, suc, ◌+◌, ◌<◌, ◌≤◌, ◌==◌, max, true, All, List, [], ◌∷◌, Option, None, Some, if◌then◌else◌}
+use Rattle.std.specs.List.{list_any}
 use Rattle.std.specs.Option.{is_some}
 use Rattle.std.specs.Map.{remove_entry}
 use Rattle.std.specs.BTreeMap.{is_at}
 use Rattle.iv_track.specs.Entries.{IsLedger, value_at}
+use Rattle.iv_cover.specs.Blocks.{reaches}
+use Rattle.iv_cover.specs.TrackBlocks.{start_of, stop_of}
 use Rattle.iv_blocks.specs.KeptBlocks.{Key, key_cmp, Kept, KeptBlocks}
 use Rattle.iv_blocks.specs.Inside.Lookups.{IsLastBlock}
 use Rattle.iv_blocks.specs.Inside.Insertion.{key_of, IsOfOther}
@@ -25,6 +28,16 @@ pub record StaysCovered (o : BlockOptions) (g : Group) (rows : List RecordValue)
   pub members : members_between g start stop rows ≡ first ∷ rest
   pub starts : first.start ≡ start
   pub reaches : stop ≤ first.stop
+
+-- a block went from block.0 to block.1, and a record from gone.0 to gone.1 was in it. These are its other records: one starts where
+-- the block does unless that one does, and each position that the block reaches is reached by one of them that starts before, unless
+-- that one reaches it
+pub record AreOthers (d : ℕ) (block gone : ℕ × ℕ) (rows : List RecordValue) : Type 0 where
+  pub within : block.0 ≤ gone.0
+  pub below : gone.0 < block.1
+  pub stops : All (λ r. r.stop ≤ block.1) rows
+  pub starts : block.0 < gone.0 → list_any (λ r. r.start == block.0) rows ≡ true
+  pub reached : (x : ℕ) → block.0 < x → x ≤ block.1 + d → (x ≤ gone.0) ⊎ (gone.1 + d < x) → list_any (reaches start_of stop_of d x) rows ≡ true
 
 -- nothing except blocks of this group may have changed
 pub record KeepsOthers (g : Group) (old new : KeptBlocks) : Type 0 where

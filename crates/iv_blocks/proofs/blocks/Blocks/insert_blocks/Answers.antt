@@ -1,17 +1,12 @@
-use Rattle.std.proofs.Common.{◌≡◌, ◌+◌, ◌<◌, ℕ, List, [], ◌∷◌, length, ap, sym, subst, ◌∙◌, arith, Result, Ok, Err, OnOk}
+use Rattle.std.proofs.Common.{◌≡◌, ◌+◌, ◌<◌, ℕ, List, [], ◌∷◌, length, ap, sym, subst, ◌∙◌, arith}
 use Rattle.iv_text.specs.RecordValue.{RecordValue}
 use Rattle.iv_blocks.specs.Inside.MembersLeft.{MembersLeft}
 use Rattle.iv_blocks.specs.Inside.Groups.{between_on, members_between}
 use Rattle.iv_track.specs.Entries.{IsLedger}
 use Rattle.iv_blocks.specs.KeptBlocks.{KeptBlocks, key_cmp}
-use Rattle.iv_blocks.proofs.GroupSweeps.{IsSweeping, swept-from, sweep-first, sweep-join, sweep-rest, sweep-open, sweep-all, sweep-none, sweep-pays, count-within}
+use Rattle.iv_blocks.proofs.GroupSweeps.{IsSweeping, swept-from, sweep-first, sweep-join, sweep-rest, sweep-open, sweep-all, sweep-none, sweep-pays, count-within, on_ok_both}
 use Rattle.iv_blocks.proofs.blocks.Blocks.insert_blocks.Goals as goal
 use Rattle.iv_blocks.proofs.blocks.Blocks.insert_blocks.Goals.{else-row-test, then-row-test+in_default-next}
-
--- two facts at one `Ok`
-on_ok_both : {T E P Q R : Type 0} (r : Result T E) → OnOk r P → OnOk r Q → (P → Q → R) → OnOk r R
-on_ok_both (Ok x) p q both = both p q
-on_ok_both (Err e) p q both = tt
 
 pub returns-in_default-clause-ok : goal.returns-in_default-clause-ok
 returns-in_default-clause-ok g c =

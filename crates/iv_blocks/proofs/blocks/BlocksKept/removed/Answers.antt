@@ -3,12 +3,12 @@ use Rattle.std.proofs.lemmas.Result.{on_ok_weaker}
 use Rattle.iv_text.specs.Named.{names_of}
 use Rattle.iv_text.specs.Ordered.{added}
 use Rattle.iv_blocks.specs.KeptBlocks.{AreBlocksOf, KeptBlocks}
-use Rattle.iv_blocks.specs.Inside.Groups.{between}
+use Rattle.iv_blocks.specs.Inside.Groups.{between, members_between}
 use Rattle.iv_blocks.specs.Inside.Lookups.{kept_in, IsLastBlock}
 use Rattle.iv_blocks.specs.Inside.Insertion.{AreInserted}
-use Rattle.iv_blocks.specs.Inside.Repairs.{without_block}
+use Rattle.iv_blocks.specs.Inside.Repairs.{AreOthers, without_block}
 use Rattle.iv_blocks.specs.declared.options.BlockOptions.{BlockOptions}
-use Rattle.iv_blocks.proofs.GroupRepairLemmas.{IsEdit, edit-removed, beside-removed, removed-found, removed-stops, removed-takes, removed-covered, covered-takes, removed-all}
+use Rattle.iv_blocks.proofs.GroupRepairLemmas.{IsEdit, edit-removed, beside-removed, removed-found, removed-others, removed-takes, removed-covered, covered-takes, removed-all}
 use Rattle.iv_blocks.proofs.blocks.BlocksKept.removed.Given.{Over}
 use Rattle.iv_blocks.proofs.blocks.BlocksKept.removed.Goals as goal
 
@@ -27,43 +27,48 @@ unreachable-requires g c =
     (λ x within. c.in_default-before.ensures.found x (subst (λ (p : ℕ × ℕ). x ≤ p.0) (sym c.bounds_of-start.ensures) within))
 
 -- what is known once the block is found
-edit : (g : Over) (c : goal.After-insert_blocks-arg-2-1 g) → IsEdit c.args.self.now.options c.in-Some.group c.args.row.now c.args.track.now.rows (added c.args.track.now.rows c.args.row.now)
+edit : (g : Over) (c : goal.After-split_block-arg-2-1 g) → IsEdit c.args.self.now.options c.in-Some.group c.args.row.now c.args.track.now.rows (added c.args.track.now.rows c.args.row.now)
 edit g c =
     let a = c.args in
     edit-removed a.self.now.options c.self.inside.options c.in-Some.group a.row.now a.track.now.rows a.genome.now a.track.now.width
     (ap (λ (b : KeptBlocks). b.options) c.self.view_is) c.in-Some.ensures c.requires.fit c.requires.fits
 
-last : (g : Over) (c : goal.After-insert_blocks-arg-2-1 g) → IsLastBlock (kept_in c.args.self.now.entries c.in-Some.group) c.args.row.now.start (c.in-Some-before.low, c.in-Some-before.high)
+last : (g : Over) (c : goal.After-split_block-arg-2-1 g) → IsLastBlock (kept_in c.args.self.now.entries c.in-Some.group) c.args.row.now.start (c.in-Some-before.low, c.in-Some-before.high)
 last g c =
     subst (λ (p : ℕ × ℕ). IsLastBlock (kept_in c.args.self.now.entries c.in-Some.group) p.0 (c.in-Some-before.low, c.in-Some-before.high)) c.bounds_of-start.ensures c.in-Some-before.ensures.found
 
-pub insert_blocks-requires-clause-apart : goal.insert_blocks-requires-clause-apart
-insert_blocks-requires-clause-apart g c =
+pub split_block-requires-clause-apart : goal.split_block-requires-clause-apart
+split_block-requires-clause-apart g c =
     let is : IsEdit c.args.self.now.options c.in-Some.group c.args.row.now c.args.track.now.rows (added c.args.track.now.rows c.args.row.now) = edit g c in
     is.apart ∙ sym (ap (λ (b : KeptBlocks). b.options.stranded) c.take.ensures.taken)
 
-pub insert_blocks-requires-clause-stops : goal.insert_blocks-requires-clause-stops
-insert_blocks-requires-clause-stops g c =
+pub split_block-requires-clause-rest : goal.split_block-requires-clause-rest
+split_block-requires-clause-rest g c =
     let a = c.args in
-    removed-stops a.self.now.options (names_of a.genome.now) c.in-Some.group a.row.now a.track.now.rows (added a.track.now.rows a.row.now) (edit g c) a.self.now c.requires.right
-    (c.in-Some-before.low, c.in-Some-before.high) (last g c)
+    let starts = ap (λ (p : ℕ × ℕ). p.0) c.bounds_of-start.ensures in
+    let stops = ap (λ (p : ℕ × ℕ). p.1) c.bounds_of-start.ensures in
+    let distance : a.self.now.options.distance ≡ c.take.new.self.options.distance = sym (ap (λ (b : KeptBlocks). b.options.distance) c.take.ensures.taken) in
+    subst (λ (d : ℕ). AreOthers d (c.in-Some-before.low, c.in-Some-before.high) (c.bounds_of-start.result.0, c.bounds_of-start.result.1)
+    (members_between c.in-Some.group c.in-Some-before.low c.in-Some-before.high a.track.now.rows)) distance
+    (removed-others a.self.now.options (names_of a.genome.now) c.in-Some.group a.row.now a.track.now.rows (added a.track.now.rows a.row.now) (edit g c) a.self.now c.requires.right
+    (c.in-Some-before.low, c.in-Some-before.high) (last g c) c.bounds_of-start.result.0 c.bounds_of-start.result.1 starts stops)
 
 pub returns-clause-right : goal.returns-clause-right
 returns-clause-right g c =
     let a = c.args in
-    on_ok_weaker c.insert_blocks.result
-    (λ (put : AreInserted c.in-Some.group (names_of a.genome.now) (between c.in-Some-before.low c.in-Some-before.high a.track.now.rows) (without_block a.self.now c.in-Some.group c.in-Some-before.low) c.insert_blocks.new.self).
-    subst (λ (o : BlockOptions). AreBlocksOf o (names_of a.genome.now) a.track.now.rows c.insert_blocks.new.self.entries) (sym put.options)
+    on_ok_weaker c.split_block.result
+    (λ (put : AreInserted c.in-Some.group (names_of a.genome.now) (between c.in-Some-before.low c.in-Some-before.high a.track.now.rows) (without_block a.self.now c.in-Some.group c.in-Some-before.low) c.split_block.new.self).
+    subst (λ (o : BlockOptions). AreBlocksOf o (names_of a.genome.now) a.track.now.rows c.split_block.new.self.entries) (sym put.options)
     (removed-all a.self.now.options (names_of a.genome.now) c.in-Some.group a.row.now a.track.now.rows (added a.track.now.rows a.row.now) (edit g c.before) a.self.now c.requires.right
-    (c.in-Some-before.low, c.in-Some-before.high) (last g c.before) c.insert_blocks.new.self refl put))
-    (rw c.take.ensures.taken at c.insert_blocks.ensures.ok)
+    (c.in-Some-before.low, c.in-Some-before.high) (last g c.before) c.split_block.new.self refl put))
+    (rw c.take.ensures.taken at c.split_block.ensures.ok)
 
 pub returns-clause-built_for : goal.returns-clause-built_for
 returns-clause-built_for g c =
-    on_ok_weaker c.insert_blocks.result
-    (λ (put : AreInserted c.in-Some.group (names_of c.args.genome.now) (between c.in-Some-before.low c.in-Some-before.high c.args.track.now.rows) (without_block c.args.self.now c.in-Some.group c.in-Some-before.low) c.insert_blocks.new.self).
+    on_ok_weaker c.split_block.result
+    (λ (put : AreInserted c.in-Some.group (names_of c.args.genome.now) (between c.in-Some-before.low c.in-Some-before.high c.args.track.now.rows) (without_block c.args.self.now c.in-Some.group c.in-Some-before.low) c.split_block.new.self).
     put.options)
-    (rw c.take.ensures.taken at c.insert_blocks.ensures.ok)
+    (rw c.take.ensures.taken at c.split_block.ensures.ok)
 
 pub returns-clause-steps : goal.returns-clause-steps
 returns-clause-steps g c =
@@ -72,8 +77,8 @@ returns-clause-steps g c =
     let stops = ap (λ (p : ℕ × ℕ). p.1) c.bounds_of-start.ensures in
     removed-takes a.self.now.options (names_of a.genome.now) c.in-Some.group a.row.now a.track.now.rows (added a.track.now.rows a.row.now) (edit g c.before) a.self.now c.requires.right
     (c.in-Some-before.low, c.in-Some-before.high) (last g c.before) c.bounds_of-start.result.0 c.bounds_of-start.result.1
-    a.meter.now c.before-2.new.meter c.stays_covered.new.meter c.take.new.meter c.insert_blocks.new.meter starts stops refl
-    c.before-2.ensures.steps c.stays_covered.ensures.steps c.take.ensures.steps c.insert_blocks.ensures.steps
+    a.meter.now c.before-2.new.meter c.stays_covered.new.meter c.take.new.meter c.split_block.new.meter starts stops refl
+    c.before-2.ensures.steps c.stays_covered.ensures.steps c.take.ensures.steps c.split_block.ensures.steps
 
 pub returns-then-stays_covered-clause-right : goal.returns-then-stays_covered-clause-right
 returns-then-stays_covered-clause-right g c =
