@@ -206,6 +206,26 @@ prints 'a line for which there is no memory' ''
 (ulimit -v 40000 && { cat records.bed; yes '# a line that says no record, as long as one of a file' | head -n 2000000; } | "$program" merge -g sizes -i /dev/stdin > out 2> err)
 ends 'a file for which there is no memory' 0 ''
 prints 'a file for which there is no memory' 'chr1\t10\t20\n'
+# The stack: 1 MB of it is enough for a session with each kind of view, and for a run.
+printf '>chr1\n%0100d\n>chr2\n%050d\n' 0 0 > all_bases.fa
+number=0
+: > all_views
+for view in merge 'merge -d 3 -c 2,3 -o sum,distinct' cluster complement 'complement -L' 'genomecov -bg' 'genomecov -bga' 'genomecov -d' intersect 'intersect -wa -wb' 'intersect -u' 'intersect -v' 'intersect -c' subtract 'subtract -A' getfasta 'getfasta -tab' records; do
+    number=$((number + 1))
+    printf 'open\tv%d\t%s\n' "$number" "$view" >> all_views
+done
+printf 'add\tchr1\t30\t40\nreplaceb\tchr1\t12\t18\tchr1\t5\t35\nremove\tchr1\t10\t20\nshowall\tchr1\t0\t50\nprintall\n' >> all_views
+session -g sizes -i records.bed -b other.bed -fi all_bases.fa < all_views
+mv out wanted
+(ulimit -s 1024 && session -g sizes -i records.bed -b other.bed -fi all_bases.fa < all_views)
+ends 'a session in 1 MB of stack' 0 ''
+if ! cmp -s out wanted || [ "$(wc -l < wanted)" -lt 200 ]; then
+    echo 'a session in 1 MB of stack prints something else' >&2
+    failed=1
+fi
+(ulimit -s 1024 && "$program" merge -g sizes -i records.bed > out 2> err)
+ends 'a run in 1 MB of stack' 0 ''
+prints 'a run in 1 MB of stack' 'chr1\t10\t20\n'
 # One byte more than a file may have.
 yes '# a line that says no record, as long as one of a file' | head -c 4294967296 | "$program" merge -g sizes -i /dev/stdin > out 2> err
 ends 'a file that is too long' 4 'bedkeep: /dev/stdin: too long\n'
