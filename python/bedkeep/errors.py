@@ -3,6 +3,8 @@ from __future__ import annotations
 
 import re
 
+HINT = "  "  # how the lines of a hint begin
+
 
 class Error(Exception):
     """What the package raises of its own."""
@@ -18,7 +20,8 @@ class Refused(Error):
     reason: why, as the program says it, such as `no such record`
     number: the line's number in the script that was handed to `edit`, from 1; 1 for a call that sends one line
     line:   the line as it was sent, its fields separated by TABs
-    hint:   what the program says of it besides, line by line; of the first three refused lines of a kind
+    hint:   what the program says of it besides, line by line; of the first three refused lines of a kind. Its first line is in
+            the text of the exception
     others: what was refused after it, if `edit` raised it
     """
 
@@ -32,7 +35,7 @@ class Refused(Error):
 
     def __str__(self) -> str:
         more = f", and {len(self.others)} more" if self.others else ""
-        return f"line {self.number}: {self.reason}: {self.line!r}{more}"
+        return ": ".join([f"line {self.number}: {self.reason}: {self.line!r}", *self.hint[:1]]) + more
 
 
 class Ended(Error):
@@ -40,7 +43,7 @@ class Ended(Error):
 
     status:  its exit status, or a signal's number below 0 if a signal ended it
     message: the line that it wrote of that, without `bedkeep: `
-    hint:    the lines after it, on what is wrong and what to do
+    hint:    the lines after it, on what is wrong and what to do, which are in the text of the exception
     """
 
     def __init__(self, status: int, message: str, hint: tuple[str, ...] = ()) -> None:
@@ -50,14 +53,14 @@ class Ended(Error):
         self.hint = hint
 
     def __str__(self) -> str:
-        return f"{self.message} (status {self.status})"
+        return f"\n{HINT}".join([f"{self.message} (status {self.status})", *self.hint])
 
 
 class BadOptions(Ended):
     """Status 2: an option, a value or a column that the subcommand doesn't take. Its text has the first line of the hint."""
 
     def __str__(self) -> str:
-        return ": ".join([super().__str__(), *self.hint[:1]])
+        return ": ".join([f"{self.message} (status {self.status})", *self.hint[:1]])
 
 
 class Damaged(Ended):
@@ -83,7 +86,6 @@ class NoMemory(Ended):
     """Status 5: memory ran out."""
 
 
-HINT = "  "  # how the lines of a hint begin
 BY_STATUS = {2: BadOptions, 3: Damaged, 4: InputOutput, 5: NoMemory}
 
 

@@ -10,12 +10,13 @@ from __future__ import annotations
 import inspect
 import os
 import subprocess
-from typing import Any, Generator, Iterator, Optional, Sequence, Union
+from typing import Any, Generator, Iterator, Optional, Sequence, SupportsIndex, Union
 
 from .errors import Ended, ended
 from .program import Path, decoded, environment, find
 from .rows import Lines, Reader, Row, count_of, fields_of, width_of
-from .sources import Genome, Sources, Track
+from .script import text_of
+from .sources import Genome, Sources, Track, path_of
 from .tables import frame_of_rows, frame_of_text
 
 PIECE = 1 << 20
@@ -124,11 +125,18 @@ def _words(kind: str, **options: Value) -> list[str]:
     for option, value in options.items():
         if value is True:
             words.append(f"-{option}")
-        elif isinstance(value, (int, str)) and value is not False:
-            words += [f"-{option}", str(value)]
-        elif value:
-            words += [f"-{option}", ",".join(map(str, value))]
+        elif value is not None and value is not False:
+            text = _text(option, value)
+            words += [f"-{option}", text] if text or value == "" else []
     return words
+
+
+def _text(option: str, value: Union[int, str, Sequence[int], Sequence[str]]) -> str:
+    """The value of an option as the program is given it."""
+    try:
+        return text_of(value) if isinstance(value, (str, SupportsIndex)) else ",".join(map(text_of, value))
+    except TypeError:
+        raise TypeError(f"{option} is a whole number, a text or several of them, and not {value!r}") from None
 
 
 def _run(words: list[str], genome: Genome, files: Sequence[tuple[str, Track]], width: Optional[int], program: Optional[Path],
@@ -141,7 +149,7 @@ def _run(words: list[str], genome: Genome, files: Sequence[tuple[str, Track]], w
         for (option, _), path in zip(files, paths):
             command += [option, path]
         if fasta is not None:
-            command += ["-fi", os.fspath(fasta)]
+            command += ["-fi", path_of(fasta)]
         if width is not None:
             command += ["-width", str(width)]
         widths = [width_of(path) or width for path in paths]

@@ -51,7 +51,7 @@ def edits_of(lines: Union[str, Iterable[str]]) -> str:
     text = text.replace("\r\n", "\n")
     view = VIEW_COMMAND.search(f"\n{text}")
     if view:
-        raise ValueError(f"edits alone are taken here, and not {view[0].strip()}")
+        raise ValueError(f"edits alone are taken here, and not {view[0].strip()}: use open, rows and show of a session")
     return text
 
 

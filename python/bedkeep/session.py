@@ -16,7 +16,7 @@ from .lookup import Lookup
 from .program import Path, find
 from .rows import RECORD, Lines, Reader, Row, count_of, fields_of, row_of
 from .script import Script, edits_of, line_of, text_of
-from .sources import Genome, Sources, Track
+from .sources import Genome, Sources, Track, path_of
 from .tables import SCORE, frame_of_text, score_of
 from .wide_session import Wide, WideScript
 
@@ -57,7 +57,7 @@ class Session:
             if second is not None:
                 self._files["-b"] = sources.track(second)
             if fasta is not None:
-                self._files["-fi"] = os.fspath(fasta)
+                self._files["-fi"] = path_of(fasta)
             if self._wide:
                 self._files.update(self._wide.narrow)
             if STANDARD_INPUT.intersection(self._files.values()):
@@ -362,6 +362,8 @@ def _columns(record: object) -> list[str]:
 
 def _words(words: str) -> list[str]:
     """A view's subcommand and options. The rows of getfasta are a line each."""
+    if not isinstance(words, str):
+        raise TypeError(f"a view is a text, such as 'merge -d 10', and not {words!r}")
     listed = [word for word in words.split(" ") if word]
     if listed[:1] == ["getfasta"] and "-tab" not in listed:
         listed.append("-tab")

@@ -69,7 +69,7 @@ class Sources:
 
 def path_of(given: Path) -> str:
     """A path as text."""
-    path = os.fspath(given)
+    path = os.fspath(given) if isinstance(given, (str, os.PathLike)) else given
     if not isinstance(path, str):
         raise TypeError(f"a path is text, and not {given!r}")
     return path

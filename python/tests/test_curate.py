@@ -114,7 +114,7 @@ class Curate(Case):
         self.assertEqual(said[50 + 40:], [".. and 12 more rows"])
 
     def test_a_session_that_cannot_begin(self):
-        self.assertEqual(self.typed(words=(self.sizes, "absent"), status=1), ["absent: cannot be read (status 4)"])
+        self.assertEqual(self.typed(words=(self.sizes, "absent"), status=1), ["absent: cannot be read (status 4)", "  there is no such file: ls shows those that there are"])
 
     def test_as_a_process(self):
         run = subprocess.run(self.command(self.sizes, self.genes), input=b"find geneA\n", stdout=subprocess.PIPE,

@@ -1,18 +1,20 @@
 #!/usr/bin/env python3
-"""Makes the ordinary mistakes of tests/mistakes.tsv with the built program: through a pipe, at a pseudo-terminal, through a pipe
-with hints always on, and those in files and lines of scripts from Python too, whose exceptions have the same hints.
+"""Makes the ordinary mistakes of tests/mistakes.tsv with the built program: through a pipe, at a pseudo-terminal and through a pipe
+with hints always on. Those in files and lines of scripts are made from Python too, whose exceptions have the same hints, and so are
+calls of the package with wrong arguments.
 
     python3 scripts/test/hints.py build/bedkeep
 
 Through a pipe standard error has the fixed line alone. At a terminal, and with hints on, one to three lines follow, which name the word,
-the value or the kind of the file, and what to do. If that is a command over a damaged file, it has to mend the file.
+the value or the kind of the file, and what to do. If that is a command, or arguments, these have to do what the hint says: they mend
+the file or the script, or the run ends well.
 """
 import contextlib
 import gzip
 import os
 import pty
-import re
 import resource
+import shlex
 import subprocess
 import sys
 import tempfile
@@ -23,8 +25,10 @@ TOP = Path(__file__).resolve().parent.parent.parent
 sys.path.insert(0, str(TOP / "python"))
 import bedkeep
 from bedkeep.script import VIEW_COMMAND
+from ways_on import Ways
 
 BED6 = b"chr1\t10\t20\ta\t2.5\t+\nchr1\t15\t30\tb\t1.5\t-\n"
+BLOCKS = gzip.compress(b"chr1\t10\t20\n", mtime=0)
 FILES = {
     "sizes": b"chr1\t1000\nchr2\t500\n",
     "bare.sizes": b"1\t1000\n2\t500\n",
@@ -65,7 +69,7 @@ FILES = {
     "wide": b"chr1\t10\tx" + b"y" * 200 + b"\n",
     "spaced.sizes": b"chr1 1000\n",
     "marked.sizes": b"\xef\xbb\xbfchr1\t1000\n",
-    "gz.sizes": gzip.compress(b"chr1\t1000\n", mtime=0),
+    "gz.sizes": gzip.compress(b"chr1\t1000\nchr2\t500\n", mtime=0),
     "headed.sizes": b"name\tlength\nchr1\t1000\n",
     "twice.sizes": b"chr1\t1000\nchr1\t1000\n",
     "zero.sizes": b"chr1\t0\t1000\nchr2\t0\t500\n",
@@ -76,9 +80,9 @@ FILES = {
     "sound.fa": b">chr1\n" + b"A" * 1000 + b"\n",
     "short.fa": b">chr1\nACGT\n",
     "twice.fa": b">chr1\n" + b"A" * 1000 + b"\n>chr1\n" + b"A" * 1000 + b"\n",
-    "spaced.fa": b">chr1\nACGT \n",
+    "spaced.fa": b">chr1\n" + b"A" * 1000 + b" \n",
     "a.bam": b"\x1f\x8b\x08\x04\0\0\0\0\0\xff\x06\0BC\x02\0\0\0",
-    "blocks.gz": b"\x1f\x8b\x08\x04\0\0\0\0\0\xff\x06\0BC\x02\0\0\0",
+    "blocks.gz": BLOCKS[:3] + b"\x04" + BLOCKS[4:10] + b"\x06\0BC\x02\0\0\0" + BLOCKS[10:],
     "a.cram": b"CRAM\x03\x00",
     "shifted": b"geneA\tchr1\t100\t200\n",
     "shifted3": b"geneA\tchr1\n",
@@ -90,25 +94,32 @@ FILES = {
     "point": b"chr1\t10.0\t20.0\n",
     "no_start": b"chr1\t\t20\n",
     "tracked.bed": b"track name=a\nchr1\t10\t20\n",
-    "gz.fa": gzip.compress(b">chr1\nACGT\n", mtime=0),
+    "gz.fa": gzip.compress(b">chr1\n" + b"A" * 1000 + b"\n", mtime=0),
+    "b.bed": b"chr1\t40\t50\n",
+    "place": b"chr1:10-20\n",
+    "semicolons": b"chr1;10;20\n",
+    "mixed": b"chr1\t10 20\n",
+    "a.sam": b"@SQ\tSN:chr1\tLN:1000\n",
+    "page": b"<!DOCTYPE html>\n",
+    "wide.txt": "chr1\t10\t20\n".encode("utf-16"),
+    "a.xlsx": b"PK\x03\x04\x14\x00",
+    "binned": b"585\tchr1\t10\t20\ta\t0\t+\n",
+    "exchanged": b"chr1\t10\t20\ta\t+\t0\n",
+    "comment": b"chr1\t10\t20 # why\n",
+    "comma.sizes": b"chr1\t1,000\n",
+    "fasta.sizes": b">chr1\nACGT\n",
+    "a.dict": b"@HD\tVN:1.6\n@SQ\tSN:chr1\tLN:1000\n",
+    "page.sizes": b"<html>\n",
+    "far.sizes": b"chr1\t5000000000\n",
 }
-
-# Commands of hints, over a file that is called FILE, and those that mend what they are about.
-COMMAND = re.compile(r"(?:(?<=: )|(?<=; )|(?<=  )|(?<=\())((?:awk|sed|tr|cut|zcat)\b.*? FILE)\b")
-MENDED = {
-    "a.bed.gz", "bed12", "narrow", "a.gff", "a.vcf", "spaces", "commas", "trailing", "bare.bed", "mark", "heading", "quotes", "blank", "backwards",
-    "no_base", "negative", "thousands", "exponent", "returns", "ragged", "capital", "upper", "spaced_name", "spaced_start", "spaced_strand",
-    "shifted", "point", "strand",
-}
-
 
 def read_table():
-    """The rows of the table: where, what is typed, the status, the fixed line, the parts of the hint."""
+    """The rows of the table: where, what is typed, the status or the exception, the fixed line, the parts of the hint."""
     with open(TOP / "tests" / "mistakes.tsv", encoding="utf-8") as table:
         for line in table:
             if not line.startswith("#"):
                 where, typed, status, fixed, parts = line.rstrip("\n").split("\t")
-                yield where, typed, int(status), fixed, parts.split(" | ") if parts else []
+                yield where, typed, int(status) if status.isdigit() else status, fixed, parts.split(" | ") if parts else []
 
 
 def unescaped(text):
@@ -124,8 +135,10 @@ class Trial:
 
     def __init__(self, program):
         self.program = program
+        self.ways = Ways(program)
         self.count = 0
         self.from_python = 0
+        self.session = None
         self.wrong = []
 
     def run(self, words, **options):
@@ -183,12 +196,15 @@ class Trial:
     def try_table(self):
         for where, typed, status, line, parts in read_table():
             if where == "well":
-                self.says(typed.split(), status, "", parts)
+                self.ways.loss(typed.split(), self.says(typed.split(), status, "", parts))
             elif where == "arguments":
                 if typed.split()[-1:] != ["secret"] or os.geteuid() != 0:
-                    self.says(typed.split(), status, f"bedkeep: {line}\n", parts)
+                    words = shlex.split(typed)
+                    self.ways.arguments(words, self.says(words, status, f"bedkeep: {line}\n", parts))
             elif where in ("bed", "genome", "fasta"):
                 self.try_file(where, typed, status, line, parts)
+            elif where in ("python", "Session"):
+                self.try_call(where, typed, status, line, parts)
             else:
                 self.try_line(where, typed, line, parts)
 
@@ -197,15 +213,16 @@ class Trial:
         named = f"bedkeep: {line}\n" if ": line" in line else f"bedkeep: {name}: {line}\n"
         if where == "genome":
             hint = self.says(["merge", "-g", name, "-i", "a.bed"], status, named, parts)
-            self.raises(name, lambda: list(bedkeep.merge(name, "a.bed", program=self.program)), named, hint)
+            self.ways.file(name, hint, "complement -g mended -i empty.bed")
+            self.raises(name, lambda: list(bedkeep.merge(name, "a.bed")), named, hint)
         elif where == "fasta":
             hint = self.says(["getfasta", "-g", "sizes", "-bed", "a.bed", "-fi", name], status, named, parts)
-            self.raises(name, lambda: list(bedkeep.getfasta("sizes", "a.bed", name, program=self.program)), named, hint)
+            self.ways.file(name, hint, "getfasta -g sizes -bed six.bed -fi mended")
+            self.raises(name, lambda: list(bedkeep.getfasta("sizes", "a.bed", name)), named, hint)
         else:
             hint = self.says(["merge", "-g", "sizes", "-i", name], status, named, parts)
-            self.raises(name, lambda: list(bedkeep.merge("sizes", name, program=self.program)), named, hint)
-            if name in MENDED:
-                self.try_command(name, hint)
+            self.raises(name, lambda: list(bedkeep.merge("sizes", name)), named, hint)
+            self.ways.file(name, hint, "merge -g sizes -i mended")
 
     def raises(self, subject, call, line, hint):
         """A run from Python, whose exception has the line and the hint."""
@@ -228,27 +245,28 @@ class Trial:
         if VIEW_COMMAND.search(f"\n{text}\n"):
             return
         self.from_python += 1
-        with bedkeep.Session("sizes", name, program=self.program) as session:
+        first, *others = name.split()
+        with bedkeep.Session("sizes", first, *others[1:2]) as session:
             found = [(one.reason, list(one.hint)) for one in session.edit(f"{text}\n")]
         if found != [(reason, hint)]:
             self.wrong.append(f"{typed}: from Python {found}, wanted {[(reason, hint)]}")
 
-    def try_command(self, name, hint):
-        """The first command of a hint, over the file."""
-        found = COMMAND.search(hint)
-        if not found:
-            self.wrong.append(f"{name}: no command in {hint!r}")
-            return
-        command = found[1].replace("FILE", name)
-        script = f"{command} > mended && {self.program} merge -g sizes -i mended"
-        done = subprocess.run(["bash", "-c", script], capture_output=True, check=False)
-        if done.returncode != 0 or not done.stdout:
-            self.wrong.append(f"{name}: {command}: {done}")
+    def try_call(self, where, typed, kind, line, parts):
+        """A call of the package, or of a session over three files, whose exception names what is wrong."""
+        self.from_python += 1
+        subject = bedkeep if where == "python" else self.session
+        found = None
+        try:
+            list(eval(f"subject.{typed}", {"subject": subject}) or ())
+        except Exception as failure:
+            found = type(failure).__name__, str(failure)
+        if not found or found[0] != kind or not all(part in found[1] for part in (line, *parts)):
+            self.wrong.append(f"{where} {typed}: {found}, wanted {(kind, line, parts)}")
 
     def try_line(self, name, typed, reason, parts):
-        """The refused last line of a script over a file, in the three ways. With hints on the hint is below the message."""
+        """The refused last line of a script over files, in the three ways. With hints on the hint is below the message."""
         self.count += 1
-        words = ["session", "-g", "sizes", "-i", name]
+        words = ["session", "-g", "sizes", "-i", *name.split()]
         lines = unescaped(typed) + b"\n"
         number = lines.count(b"\n")
         at = f"line {number}: "
@@ -262,7 +280,9 @@ class Trial:
         self.check_hint(typed, shown, 1, message, parts)
         if hinted != (1, shown[1].replace("  " + at, "  ", 1)):
             self.wrong.append(f"{typed}: with hints on {hinted}, at a terminal {shown}")
-        self.refuses(name, typed, reason, [one.removeprefix("  ") for one in hinted[1].removeprefix(message).splitlines()])
+        hint = hinted[1].removeprefix(message)
+        self.ways.line(name, hint, reason)
+        self.refuses(name, typed, reason, [one.removeprefix("  ") for one in hint.splitlines()])
 
     def over(self, name, run, words):
         """A run whose standard input is a file."""
@@ -383,21 +403,25 @@ def make_files():
 
 
 def main():
-    trial = Trial(os.path.abspath(sys.argv[1]))
+    os.environ["BEDKEEP"] = os.path.abspath(sys.argv[1])
+    trial = Trial(os.environ["BEDKEEP"])
     with tempfile.TemporaryDirectory() as folder:
         os.chdir(folder)
         make_files()
-        trial.try_table()
+        with bedkeep.Session("sizes", "six.bed", "a.bed", "sound.fa") as trial.session:
+            trial.try_table()
         trial.try_many_lines()
         trial.try_never()
         trial.try_pipes()
         trial.try_others()
         trial.try_typing()
         os.chdir("/")
-    for wrong in trial.wrong:
+    all_wrong = trial.wrong + trial.ways.wrong
+    for wrong in all_wrong:
         print(wrong, file=sys.stderr)
-    print(f"{trial.count} mistakes through a pipe, at a terminal and with hints on, and {trial.from_python} from Python, {len(trial.wrong)} of them wrong")
-    sys.exit(1 if trial.wrong else 0)
+    print(f"{trial.count} mistakes through a pipe, at a terminal and with hints on, {trial.from_python} from Python, and {trial.ways.count} ways on, "
+          f"{len(all_wrong)} of them wrong")
+    sys.exit(1 if all_wrong else 0)
 
 
 main()

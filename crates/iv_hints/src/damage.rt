@@ -2,9 +2,11 @@
 use crate::file_kinds::{BYTE_ORDER_MARK, FileKind, GZIP};
 use crate::hint::Hint;
 use crate::records::{
-    alike_in, column, count_columns, first_record, has_name, is_number, length_in,
+    alike_in, column, count_columns, field, first_record, has_name, is_number, length_in,
 };
-use crate::values::{SPACES_AWAY, is_spaced, put_number, put_spaced, shown, trimmed};
+use crate::values::{
+    SPACES_AWAY, is_spaced, put_length, put_number, put_spaced, said, shown, trimmed,
+};
 use itoa::Buffer;
 use iv_args::Slot;
 use iv_text::{Fault, LoadCause, LoadFault};
@@ -35,19 +37,11 @@ pub(crate) fn put_too_many(slot: Slot, hint: &mut Hint) -> Result<(), AllocError
     hint.line(&[IN_PARTS])
 }
 
-/// Puts a text about a column, and the column.
-fn put_value(text: &[u8], value: Option<&[u8]>, hint: &mut Hint) -> Result<(), AllocError> {
-    match value {
-        Some(value) => hint.line(&[text, b", and not ", shown(value)]),
-        None => hint.line(&[text]),
-    }
-}
-
 /// Puts that the columns of a line are shifted: the second one is a sequence.
 fn put_shifted(line: &[u8], hint: &mut Hint) -> Result<(), AllocError> {
     hint.line(&[
         b"column 2, ",
-        shown(column(line, 1).unwrap_or(b"")),
+        shown(field(line, 1)),
         b", is a sequence of the genome file: it is column 1 of a BED file",
     ])?;
     match count_columns(line) {
@@ -133,12 +127,21 @@ impl Damage<'_> {
                 first.format(count_columns(record)).as_bytes(),
                 b"; cut -f1-3 FILE makes lines alike",
             ]),
+            _ if is_number(self.line, 1) && count_columns(self.line) == 2 => hint.line(&[
+                b"columns of this line: 2; it looks like a line of a genome file, which comes after -g; a BED file has 3 to 6",
+            ]),
+            _ if count_columns(self.line) > 3 && self.is_shifted() => put_shifted(self.line, hint),
             _ => hint.line(&[
                 b"columns of this line, separated by TABs: ",
                 found,
                 b"; a BED file has 3 to 6",
             ]),
         }
+    }
+
+    /// Whether the second column is a sequence.
+    fn is_shifted(&self) -> bool {
+        column(self.line, 1).is_some_and(|second| has_name(self.genome, second))
     }
 
     /// Puts the name that the genome file lacks, and one that it has.
@@ -153,12 +156,12 @@ impl Damage<'_> {
                 b"the genome file is empty: it has a name, a TAB and a length on each line",
             ]);
         }
-        let name = column(self.line, 0).unwrap_or(b"");
+        let name = field(self.line, 0);
         if is_spaced(name) {
             put_spaced(b"the name", name, hint)?;
             return hint.line(&[SPACES_AWAY]);
         }
-        if column(self.line, 1).is_some_and(|second| has_name(self.genome, second)) {
+        if self.is_shifted() {
             return put_shifted(self.line, hint);
         }
         match alike_in(self.genome, name) {
@@ -176,8 +179,8 @@ impl Damage<'_> {
 
     /// Puts what is wrong with a start that isn't below the end.
     fn put_order(&self, hint: &mut Hint) -> Result<(), AllocError> {
-        let start = column(self.line, 1).unwrap_or(b"");
-        let end = column(self.line, 2).unwrap_or(b"");
+        let start = field(self.line, 1);
+        let end = field(self.line, 2);
         if start == end {
             hint.line(&[
                 b"the start has to be below the end, and both are ",
@@ -199,26 +202,31 @@ impl Damage<'_> {
 
     /// Puts what is wrong with a strand.
     fn put_strand(&self, hint: &mut Hint) -> Result<(), AllocError> {
-        let value = column(self.line, 5).unwrap_or(b"");
+        let value = field(self.line, 5);
         if is_spaced(value) && matches!(trimmed(value), b"+" | b"-" | b".") {
             put_spaced(b"column 6", value, hint)?;
             return hint.line(&[SPACES_AWAY]);
         }
-        put_value(
-            b"column 6 is +, - or . (cut -f1-5 FILE leaves it out)",
-            Some(value),
-            hint,
-        )
+        if matches!(column(self.line, 4), Some(b"+" | b"-")) {
+            hint.line(&[b"column 6 is the strand, and not ", said(value)])?;
+            return hint.line(&[
+                b"awk -F '\\t' -v OFS='\\t' 'NF > 5 { t = $5; $5 = $6; $6 = t } 1' FILE exchanges columns 5 and 6",
+            ]);
+        }
+        hint.line(&[
+            b"column 6 is +, - or . (cut -f1-5 FILE leaves it out), and not ",
+            said(value),
+        ])
     }
 
     /// Puts the length of the sequence.
     fn put_past_end(&self, hint: &mut Hint) -> Result<(), AllocError> {
-        let name = column(self.line, 0).unwrap_or(b"");
+        let name = field(self.line, 0);
         let length = length_in(self.genome, name).unwrap_or(b"fewer");
         hint.line(&[name, b" has ", length, b" bases in the genome file"])?;
         match first_record(self.genome) {
             Some(line) if is_number(line, 2) && count_columns(line) < 5 => hint.line(&[
-                b"the genome file looks like a BED file: cut -f1,3 makes a genome file of it",
+                b"the genome file looks like a BED file: cut -f1,3 GENOME makes a genome file of it",
             ]),
             _ => hint.line(&[b"is the genome file that of this assembly?"]),
         }
@@ -227,6 +235,17 @@ impl Damage<'_> {
     /// Puts which column is empty, or holds what it may not.
     fn put_empty(&self, number: &[u8], place: usize, hint: &mut Hint) -> Result<(), AllocError> {
         match column(self.line, place) {
+            Some([]) if !self.line.ends_with(b"\t") => hint.line(&[
+                b"column ",
+                number,
+                b" is empty: awk -F '\\t' -v OFS='\\t' 'NF > ",
+                number,
+                b" && $",
+                number,
+                b" == \"\" { $",
+                number,
+                b" = \".\" } 1' FILE writes a . there",
+            ]),
             Some([]) => hint.line(&[
                 b"column ",
                 number,
@@ -246,15 +265,30 @@ impl Damage<'_> {
                 b"the genome file looks like a BED file: it has a name, a TAB and a length on each line",
             ]),
             LoadCause::Repeated => hint.line(&[
-                column(self.line, 0).unwrap_or(b""),
-                b" came before: each sequence has one line",
+                field(self.line, 0),
+                b" came before: awk -F '\\t' '!seen[$1]++' FILE keeps the first line of each sequence",
             ]),
-            LoadCause::Length => put_value(
-                b"the second column is a length, at most 4000000000",
-                column(self.line, 1),
-                hint,
-            ),
+            LoadCause::Length => self.put_length(hint),
+            _ if self.line.starts_with(b">") => hint.line(&[
+                b"the file looks like FASTA: samtools faidx FILE writes FILE.fai, which is a genome file",
+            ]),
             _ => hint.line(&[b"a genome file has a name, a TAB and a length on each line"]),
+        }
+    }
+
+    /// Puts what is wrong with the length of a sequence of a genome file.
+    fn put_length(&self, hint: &mut Hint) -> Result<(), AllocError> {
+        let value = field(self.line, 1);
+        put_length(value, hint)?;
+        match value {
+            _ if self.line.starts_with(b"@") => hint.line(&[
+                b"awk -F '[\\t:]' -v OFS='\\t' '/^@SQ/ { print $3, $5 }' FILE makes a genome file of a .dict",
+            ]),
+            [first, ..]
+                if self.fault.line == 1
+                    && first.is_ascii_alphabetic()
+                    && !is_number(self.line, 0) => { FileKind::Heading.put(hint) }
+            _ => Ok(()),
         }
     }
 

@@ -160,7 +160,11 @@ pub(crate) fn put_missing_column(
     let mut digits = Buffer::new();
     let width_text = digits.format(width).as_bytes();
     if code == 18 {
-        return hint.line(&[b"-s needs six columns, and the records have ", width_text]);
+        return hint.line(&[
+            b"-s needs six columns, and the records have ",
+            width_text,
+            b": leave it out, or give records with a strand",
+        ]);
     }
     let list = value_after(words, b"-c").unwrap_or(b"");
     for item in list.split(|byte| *byte == b',') {
@@ -222,7 +226,13 @@ fn put_unreadable<F: HintFiles>(
 ) -> Result<(), AllocError> {
     match files.open(name) {
         Err(NoFile::Missing) => put_missing_file(alloc, name, hint),
-        Err(NoFile::Directory) => hint.line(&[b"it is a directory, and no file"]),
+        Err(NoFile::Directory) => {
+            hint.line(&[
+                b"it is a directory, and no file: ls ",
+                name,
+                b" shows its files",
+            ])
+        }
         Err(NoFile::Forbidden) => {
             hint.line(&[b"the system doesn't allow to read it: ls -l shows whose it is"])
         }
@@ -232,8 +242,17 @@ fn put_unreadable<F: HintFiles>(
 
 /// Puts that there is no file of a name, which may be several names.
 fn put_missing_file(alloc: Global, name: &[u8], hint: &mut Hint) -> Result<(), AllocError> {
-    if !name.contains(&b',') {
-        return hint.line(&[b"there is no such file: ls shows those that there are"]);
+    match name {
+        [] => return hint.line(&[b"the name is empty: is a variable of the shell not set?"]),
+        [b'~', ..] => {
+            return hint.line(&[
+                b"there is no such file: the shell knows ~, and not in quotes: write the folder, or $HOME",
+            ]);
+        }
+        _ if !name.contains(&b',') => {
+            return hint.line(&[b"there is no such file: ls shows those that there are"]);
+        }
+        _ => {}
     }
     let mut names = Vec::new(alloc);
     for byte in name {

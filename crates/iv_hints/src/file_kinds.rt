@@ -11,13 +11,20 @@ pub(crate) enum FileKind {
     Gzip,
     Cram,
     Mark,
+    Wide,
+    Packed,
     Binary,
+    Page,
+    Sam,
     Returns,
     Vcf,
     Gff,
     Fasta,
     Spaces,
+    Mixed,
     Commas,
+    Semicolons,
+    Region,
     Quotes,
     Heading,
     Blank,
@@ -66,14 +73,22 @@ impl FileKind {
             Some(FileKind::Cram)
         } else if line.starts_with(BYTE_ORDER_MARK) {
             Some(FileKind::Mark)
+        } else if front.starts_with(b"\xff\xfe") || front.starts_with(b"\xfe\xff") {
+            Some(FileKind::Wide)
+        } else if front.starts_with(b"PK\x03\x04") {
+            Some(FileKind::Packed)
         } else if line.iter().any(|byte| is_binary(*byte)) {
             Some(FileKind::Binary)
         } else if has_inner_return(line) {
             Some(FileKind::Returns)
+        } else if line.starts_with(b"<") {
+            Some(FileKind::Page)
         } else if count_columns(line) < 2 && count_of(line, b' ') > 0 && !line.starts_with(b">") {
             Some(FileKind::Spaces)
         } else if count_columns(line) < 2 && count_of(line, b',') > 0 {
             Some(FileKind::Commas)
+        } else if count_columns(line) < 2 && count_of(line, b';') > 0 {
+            Some(FileKind::Semicolons)
         } else {
             None
         }
@@ -102,6 +117,12 @@ impl FileKind {
             Some(FileKind::Gff)
         } else if line.starts_with(b">") {
             Some(FileKind::Fasta)
+        } else if matches!(line, [b'@', b'A'..=b'Z', b'A'..=b'Z', b'\t', ..]) {
+            Some(FileKind::Sam)
+        } else if count_columns(line) == 2 && count_of(line, b' ') > 0 {
+            Some(FileKind::Mixed)
+        } else if count_columns(line) < 2 && count_of(line, b':') > 0 && count_of(line, b'-') > 0 {
+            Some(FileKind::Region)
         } else if line.starts_with(b"\"") {
             Some(FileKind::Quotes)
         } else if !line.is_empty() && line.iter().all(|byte| *byte == b'\t') {
@@ -138,6 +159,22 @@ impl FileKind {
                 b"the line begins with a byte order mark",
                 b"sed '1s/^\\xEF\\xBB\\xBF//' FILE takes it away",
             ),
+            FileKind::Wide => (
+                b"the file is UTF-16",
+                b"iconv -f UTF-16 -t UTF-8 FILE writes what is read",
+            ),
+            FileKind::Packed => (
+                b"the file is a workbook or another zip",
+                b"save the sheet as text separated by TABs, or take the file out by unzip",
+            ),
+            FileKind::Page => (
+                b"the file is a page of the web",
+                b"download the file itself: curl -fLO ADDRESS",
+            ),
+            FileKind::Sam => (
+                b"the file looks like SAM",
+                b"samtools view -b FILE | bedtools bamtobed -i stdin writes BED, with /dev/stdin as the file",
+            ),
             FileKind::Binary => (
                 b"the file isn't text",
                 b"a file is TAB-separated text, as in bedkeep --help",
@@ -161,6 +198,18 @@ impl FileKind {
             FileKind::Spaces => (
                 b"the line has spaces and no TAB",
                 b"sed 's/  */\\t/g' FILE writes TABs",
+            ),
+            FileKind::Mixed => (
+                b"the line has spaces beside its TABs",
+                b"sed 's/  */\\t/g' FILE writes TABs",
+            ),
+            FileKind::Semicolons => (
+                b"the line has semicolons and no TAB",
+                b"tr ';' '\\t' < FILE writes TABs",
+            ),
+            FileKind::Region => (
+                b"the line has a sequence, a start and an end in one column",
+                b"sed -E 's/:([0-9]+)-/\\t\\1\\t/' FILE makes three of it; a start that counts from 1 is one too great",
             ),
             FileKind::Commas => (
                 b"the line has commas and no TAB",

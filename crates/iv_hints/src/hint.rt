@@ -115,7 +115,7 @@ impl Hint {
         self.end_line()
     }
 
-    /// Adds a line of six pieces; some may be empty.
+    /// Adds a line of six pieces, which may live for different times; some may be empty.
     pub(crate) fn join(
         &mut self,
         first: &[u8],

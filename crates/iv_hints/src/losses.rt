@@ -27,7 +27,7 @@ pub(crate) fn put_loss<F: HintFiles>(
     let genome = front_of(alloc, files, plan.sizes_file(), BYTES)?;
     if is_bed(genome.bytes.as_slice()) {
         return hint.line(&[
-            b"all lengths of the genome file are 0; it looks like a BED file: cut -f1,3 makes a genome file of it",
+            b"all lengths of the genome file are 0; it looks like a BED file: cut -f1,3 GENOME makes a genome file of it",
         ]);
     }
     match plan.run() {
@@ -164,24 +164,20 @@ fn put_unread(
     hint: &mut Hint,
 ) -> Result<(), AllocError> {
     let shown_value = shown(value);
-    hint.join(
+    hint.line(&[
         b"column ",
         asked,
         b" has ",
         shown_value,
         b", which is no whole number",
-        b"",
-    )?;
+    ])?;
     let mut digits = Buffer::new();
     let number = digits.format(count).as_bytes();
-    hint.join(
+    hint.line(&[
         operation,
         b" reads whole numbers alone, and prints . for a block with another value; such values in the first 1000 lines: ",
         number,
-        b"",
-        b"",
-        b"",
-    )
+    ])
 }
 
 /// The name of a header of a FASTA file, if the line is one.

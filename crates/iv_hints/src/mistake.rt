@@ -2,7 +2,8 @@
 use crate::bedtools::{instead_of, is_other_subcommand};
 use crate::records::count_of;
 use crate::vocabulary::{
-    Options, Value, is_between, is_command, is_operation, needed_of, records_option,
+    Options, Value, is_between, is_command, is_operation, is_package_command, needed_of,
+    records_option,
 };
 use iv_args::Subcommand;
 use iv_text::read_number;
@@ -20,6 +21,8 @@ pub(crate) enum Mistake<'a> {
     OtherSubcommand(&'a [u8]),
     /// It is a command of a script.
     Command(&'a [u8]),
+    /// It is a command of the Python package.
+    PackageCommand(&'a [u8]),
     /// Help is asked for beside other arguments.
     HelpBesideWords(Subcommand),
     /// The name of a script is among the arguments of a session.
@@ -32,6 +35,10 @@ pub(crate) enum Mistake<'a> {
     TwoFiles(&'a [u8], &'a [u8], &'a [u8]),
     /// An item of a list comes after a space.
     SpacedList(&'a [u8], &'a [u8], &'a [u8]),
+    /// A value comes after an option that takes none.
+    FlagValue(&'a [u8], &'a [u8]),
+    /// An argument begins with a dash that is no hyphen.
+    Dash(&'a [u8]),
     /// An option and its value are one argument.
     OneWord(&'a [u8]),
     /// The option that names the records in other runs.
@@ -96,6 +103,8 @@ impl<'a> Mistake<'a> {
             Some(Mistake::HelpBesideWords(run))
         } else if is_command(word) {
             Some(Mistake::Command(word))
+        } else if is_package_command(word) {
+            Some(Mistake::PackageCommand(word))
         } else if is_other_subcommand(word) {
             Some(Mistake::OtherSubcommand(word))
         } else if matches!(word, b"-g" | b"-i" | b"-a" | b"-b") {
@@ -107,7 +116,8 @@ impl<'a> Mistake<'a> {
 
     /// The mistake in the arguments after a subcommand.
     fn of_run(run: Subcommand, words: &[&'a [u8]]) -> Option<Mistake<'a>> {
-        if words.iter().any(|word| matches!(*word, b"--help" | b"-h")) {
+        let is_help = |word: &&[u8]| matches!(*word, b"--help" | b"-h");
+        if words.iter().any(is_help) || matches!(words, [b"help"]) {
             return Some(Mistake::HelpBesideWords(run));
         }
         let options = Options {
@@ -155,7 +165,7 @@ impl<'a> Mistake<'a> {
                     return Some(Mistake::of_word(options, word, words, rest, reading.last));
                 }
                 None => {
-                    reading.last = None;
+                    reading.last = Some((word, b""));
                     reading.open = Some(*word).filter(|word| options.value(word) != Value::Nothing);
                 }
             }
@@ -188,14 +198,14 @@ impl<'a> Mistake<'a> {
         } else if options.is_view
             && matches!(
                 word,
-                b"-g" | b"-i" | b"-a" | b"-b" | b"-bed" | b"-fi" | b"-width"
+                b"-g" | b"-i" | b"-a" | b"-b" | b"-bed" | b"-fi" | b"-width" | b"-limit"
             )
         {
             Mistake::FileOption(word)
         } else if matches!(word, b"-i" | b"-a" | b"-bed") {
             Mistake::RecordsOption(options.run, word)
         } else {
-            match instead_of(word) {
+            match instead_of(word).filter(|_| options.run != Subcommand::Session) {
                 Some(text) => Mistake::OtherOption(word, text),
                 None => Mistake::NoOption(options, word),
             }
@@ -211,19 +221,24 @@ impl<'a> Mistake<'a> {
         last: Option<(&'a [u8], &'a [u8])>,
     ) -> Mistake<'a> {
         let run = options.run;
+        let has_all = options.is_view || has_records(run, words);
+        if word.starts_with(b"\xe2\x80") || word.starts_with(b"\xe2\x88\x92") {
+            return Mistake::Dash(word);
+        }
         if let Some((option, value)) = last {
             match options.value(option) {
+                Value::Nothing if has_all => return Mistake::FlagValue(option, word),
                 Value::Columns | Value::Operations => {
                     return Mistake::SpacedList(option, value, word);
                 }
-                Value::File if has_records(run, words) && !is_script_of(run, option) => {
+                Value::File if has_all && !is_script_of(run, option) => {
                     return Mistake::TwoFiles(option, value, word);
                 }
                 _ => {}
             }
         }
         match (run, rest) {
-            (_, [one, other, ..]) if !has_records(run, words) && !is_option_like(other) => {
+            (_, [one, other, ..]) if !has_all && !is_option_like(other) => {
                 Mistake::BareFiles(run, one, other)
             }
             (Subcommand::Session, _) => Mistake::Script(word),

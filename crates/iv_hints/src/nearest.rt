@@ -37,7 +37,7 @@ impl<'a> Nearest<'a> {
         alloc: Global,
         known: &'static [u8],
     ) -> Result<(), AllocError> {
-        if self.word.len() > MOST_BYTES {
+        if self.word.len() > MOST_BYTES || self.word == known {
             return Ok(());
         }
         let (word, letters) = (letters_of(self.word), letters_of(known));

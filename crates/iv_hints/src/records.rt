@@ -6,6 +6,14 @@ pub(crate) fn column(line: &[u8], number: usize) -> Option<&[u8]> {
     line.split(|byte| *byte == b'\t').nth(number)
 }
 
+/// The same, and nothing if it isn't there.
+pub(crate) fn field(line: &[u8], number: usize) -> &[u8] {
+    match column(line, number) {
+        Some(text) => text,
+        None => b"",
+    }
+}
+
 /// How many columns a line has.
 pub(crate) fn count_columns(line: &[u8]) -> usize {
     count_of(line, b'\t').saturating_add(1)

@@ -4,11 +4,11 @@ use crate::file_kinds::BYTE_ORDER_MARK;
 use crate::files::{HintFiles, front_of};
 use crate::hint::Hint;
 use crate::records::{
-    alike_in, column, count_columns, first_record, has_name, is_record, length_in,
+    alike_in, column, count_columns, field, first_record, has_name, is_record, length_in,
 };
 use crate::script::Refusal;
 use crate::unknown_command::put_no_command;
-use crate::values::{NumberFault, is_spaced, put_spaced, shown};
+use crate::values::{COMMENT, is_spaced, put_length, put_no_number, put_spaced, said, shown};
 use crate::words::put_view;
 use itoa::Buffer;
 use iv_args::{Plan, Slot};
@@ -46,14 +46,6 @@ pub fn hint_of_refusal<F: HintFiles>(
         }
     }
     Ok(hint)
-}
-
-/// A field of a line, counted from 0, nothing if it isn't there.
-fn field(line: &[u8], number: usize) -> &[u8] {
-    match column(line, number) {
-        Some(text) => text,
-        None => b"",
-    }
 }
 
 /// A refused edit, or a refused print of a region: its line, the width of the records that it is about, and the fronts of their file and
@@ -106,8 +98,8 @@ impl<'a> Refused<'a> {
         match code {
             2 => self.put_columns(hint),
             3 => self.put_sequence(hint),
-            4 => self.put_number(b"start", 1, hint),
-            5 => self.put_number(b"end", 2, hint),
+            4 => self.put_number(b"the start", 1, hint),
+            5 => self.put_number(b"the end", 2, hint),
             6 => self.put_order(hint),
             7 => self.put_past_end(hint),
             8 => self.put_text(b"column 4, the name,", 3, hint),
@@ -158,7 +150,12 @@ impl<'a> Refused<'a> {
             .line
             .split(|byte| matches!(*byte, b'\t' | b' '))
             .count();
-        if fields < wanted && parts > wanted {
+        let last = field(self.line, fields);
+        if last.starts_with(b"#") {
+            b": a comment has a line of its own"
+        } else if fields == 1 && last.contains(&b':') {
+            b": a sequence, a start and an end are three of them"
+        } else if fields < wanted && parts > wanted {
             b": spaces are no TABs, and sed 's/  */\\t/g' FILE writes TABs"
         } else if self.has_two() {
             b": replace has all columns of the old record, and then of the new one"
@@ -184,7 +181,7 @@ impl<'a> Refused<'a> {
         let found = first.format(fields).as_bytes();
         let width = second.format(self.width).as_bytes();
         let columns = columns_and(fields);
-        hint.join(found, columns, file, b" has ", width, remedy)
+        hint.line(&[found, columns, file, b" has ", width, remedy])
     }
 
     /// Puts which sequence is unknown.
@@ -197,10 +194,21 @@ impl<'a> Refused<'a> {
             return put_spaced(b"the name", name, hint);
         }
         if has_name(self.genome, next) && !self.has_region() {
-            return put_order_of_columns(name, next, hint);
+            return hint.line(&[
+                next,
+                b" is a sequence, and ",
+                name,
+                b" before it isn't: a record begins with its sequence",
+            ]);
         }
         match alike_in(self.genome, name) {
-            Some(known) => put_alike(name, known, hint),
+            Some(known) => hint.line(&[
+                b"the genome file has no ",
+                name,
+                b", and has ",
+                known,
+                b": write that",
+            ]),
             None => put_no_name(name, hint),
         }
     }
@@ -208,8 +216,7 @@ impl<'a> Refused<'a> {
     /// Puts which number is none.
     fn put_number(&self, subject: &[u8], place: usize, hint: &mut Hint) -> Result<(), AllocError> {
         if self.command() == b"resize".as_slice() {
-            let length = field(self.line, 2);
-            return put_length(length, hint);
+            return put_length(field(self.line, 2), hint);
         }
         let is_second = self.has_two() && read_number(self.column_of(false, place)).is_some();
         let value = self.column_of(is_second, place);
@@ -226,7 +233,20 @@ impl<'a> Refused<'a> {
         let is_second = self.has_two() && self.is_ordered(false);
         let start = self.column_of(is_second, 1);
         let end = self.column_of(is_second, 2);
-        put_unordered(start, end, hint)
+        if start == end {
+            return hint.line(&[
+                b"start and end are ",
+                start,
+                b": an interval has at least one base",
+            ]);
+        }
+        hint.line(&[
+            b"the start ",
+            start,
+            b" isn't below the end ",
+            end,
+            b": exchange the two, if that is meant",
+        ])
     }
 
     /// Whether a record ends in its sequence.
@@ -244,7 +264,13 @@ impl<'a> Refused<'a> {
         let name = self.column_of(is_second, 0);
         let end = self.column_of(is_second, 2);
         if !self.has_two() && self.is_inside(false) {
-            return put_resized(end, name, hint);
+            return hint.line(&[
+                b"the end is ",
+                end,
+                b", and a resize before has made ",
+                name,
+                b" shorter",
+            ]);
         }
         let remedy: &[u8] = if self.has_region() {
             b"a region ends there at most"
@@ -261,34 +287,42 @@ impl<'a> Refused<'a> {
     fn put_text(&self, subject: &[u8], place: usize, hint: &mut Hint) -> Result<(), AllocError> {
         let is_second = self.has_two() && !self.column_of(false, place).is_empty();
         let value = self.column_of(is_second, place);
-        put_wrong_text(subject, value, hint)
+        if value.is_empty() {
+            return hint.line(&[subject, b" is empty: a . says that there is none"]);
+        }
+        hint.line(&[subject, b" holds a CR or a NUL: ", value])
     }
 
     /// Puts which strand is none.
     fn put_strand(&self, hint: &mut Hint) -> Result<(), AllocError> {
         let is_first = matches!(self.column_of(false, 5), b"+" | b"-" | b".");
         let value = self.column_of(self.has_two() && is_first, 5);
-        put_no_strand(value, hint)
+        if value.contains(&b'#') {
+            return hint.line(&[b"the strand is \"", value, b"\": ", COMMENT]);
+        }
+        if is_spaced(value) {
+            return put_spaced(b"the strand", value, hint);
+        }
+        hint.line(&[b"the strand is +, - or ., and not ", said(value)])
     }
 
     /// Puts a record that ends after a new length.
     fn put_left_out(&self, hint: &mut Hint) -> Result<(), AllocError> {
         let name = field(self.line, 1);
         let length = field(self.line, 2);
-        hint.join(
+        hint.line(&[
             b"a record of ",
             name,
             b" ends after ",
             length,
             b": remove or replace it before, or take a greater length",
-            b"",
-        )?;
+        ])?;
         for line in lines_of(self.records) {
             let end = field(line, 2);
             let is_past = read_number(end) > read_number(length);
             let text = front(line);
             if is_record(line) && field(line, 0) == name && is_past {
-                return hint.join(self.name, b" has ", text, b"", b"", b"");
+                return hint.line(&[self.name, b" has ", text]);
             }
         }
         Ok(())
@@ -324,17 +358,13 @@ impl<'a> Refused<'a> {
     /// Puts which record is nearest to one that is absent.
     fn put_absent(&self, hint: &mut Hint) -> Result<(), AllocError> {
         match self.nearest() {
-            Some((count, _)) if count == self.width => hint.join(
+            Some((count, _)) if count == self.width => hint.line(&[
                 self.name,
                 b" has it: an earlier line removed or replaced it, or names it too often",
-                b"",
-                b"",
-                b"",
-                b"",
-            )?,
+            ])?,
             Some((_, line)) => put_nearest(self.width, self.name, line, hint)?,
             None if first_record(self.records).is_none() => {
-                hint.join(self.name, b" has no record", b"", b"", b"", b"")?;
+                hint.line(&[self.name, b" has no record"])?;
             }
             None => put_none_like(self.width, self.name, hint)?,
         }
@@ -356,84 +386,13 @@ fn columns_and(number: usize) -> &'static [u8] {
     }
 }
 
-/// Puts that a sequence is after another column.
-fn put_order_of_columns(name: &[u8], next: &[u8], hint: &mut Hint) -> Result<(), AllocError> {
-    hint.join(
-        next,
-        b" is a sequence, and ",
-        name,
-        b" before it isn't: a record begins with its sequence",
-        b"",
-        b"",
-    )
-}
-
-/// Puts which name a genome file has instead of another.
-fn put_alike(name: &[u8], known: &[u8], hint: &mut Hint) -> Result<(), AllocError> {
-    hint.join(
-        b"the genome file has no ",
-        name,
-        b", and has ",
-        known,
-        b": write that",
-        b"",
-    )
-}
-
 /// Puts that a genome file has no such name.
 fn put_no_name(name: &[u8], hint: &mut Hint) -> Result<(), AllocError> {
-    hint.join(
+    hint.line(&[
         b"the genome file has no ",
         name,
         b": cut -f1 GENOME prints its names",
-        b"",
-        b"",
-        b"",
-    )
-}
-
-/// Puts what is wrong with the length of a `resize`.
-fn put_length(value: &[u8], hint: &mut Hint) -> Result<(), AllocError> {
-    if read_number(value).is_some() {
-        return hint.join(
-            b"the length ",
-            value,
-            b" is above the limit: a sequence has at most 4000000000 positions",
-            b"",
-            b"",
-            b"",
-        );
-    }
-    let instead = NumberFault::of(value).instead();
-    hint.join(b"the length is ", value, b": ", instead, b"", b"")
-}
-
-/// Puts what is wrong with a start or an end.
-fn put_no_number(subject: &[u8], value: &[u8], hint: &mut Hint) -> Result<(), AllocError> {
-    let instead = NumberFault::of(value).instead();
-    hint.join(b"the ", subject, b" is \"", value, b"\": ", instead)
-}
-
-/// Puts that a start isn't below an end.
-fn put_unordered(start: &[u8], end: &[u8], hint: &mut Hint) -> Result<(), AllocError> {
-    if start == end {
-        return hint.join(
-            b"start and end are ",
-            start,
-            b": an interval has at least one base",
-            b"",
-            b"",
-            b"",
-        );
-    }
-    hint.join(
-        b"the start ",
-        start,
-        b" isn't below the end ",
-        end,
-        b": exchange the two, if that is meant",
-        b"",
-    )
+    ])
 }
 
 /// Puts that an end is past the end of its sequence, and what to do.
@@ -456,85 +415,32 @@ fn put_past(
     ])
 }
 
-/// Puts that an end is past a length that a line before has corrected.
-fn put_resized(end: &[u8], name: &[u8], hint: &mut Hint) -> Result<(), AllocError> {
-    hint.join(
-        b"the end is ",
-        end,
-        b", and a resize before has made ",
-        name,
-        b" shorter",
-        b"",
-    )
-}
-
-/// Puts what is wrong with a name or a score.
-fn put_wrong_text(subject: &[u8], value: &[u8], hint: &mut Hint) -> Result<(), AllocError> {
-    if value.is_empty() {
-        return hint.join(
-            subject,
-            b" is empty: a . says that there is none",
-            b"",
-            b"",
-            b"",
-            b"",
-        );
-    }
-    hint.join(subject, b" holds a CR or a NUL: ", value, b"", b"", b"")
-}
-
-/// Puts what is wrong with a strand.
-fn put_no_strand(value: &[u8], hint: &mut Hint) -> Result<(), AllocError> {
-    if value.contains(&b'#') {
-        return hint.join(
-            b"the strand is \"",
-            value,
-            b"\": a comment has a line of its own, which begins with #",
-            b"",
-            b"",
-            b"",
-        );
-    }
-    if is_spaced(value) {
-        return put_spaced(b"the strand", value, hint);
-    }
-    hint.join(
-        b"the strand is +, - or ., and not ",
-        value,
-        b"",
-        b"",
-        b"",
-        b"",
-    )
-}
-
 /// Puts which record of a file is nearest.
 fn put_nearest(width: usize, name: &[u8], line: &[u8], hint: &mut Hint) -> Result<(), AllocError> {
     let mut digits = Buffer::new();
     let number = digits.format(width).as_bytes();
     let text = front(line);
-    hint.join(
+    hint.line(&[
         b"all ",
         number,
         b" columns count, and ",
         name,
         b" has ",
         text,
-    )
+    ])
 }
 
 /// Puts that no record of a file is near.
 fn put_none_like(width: usize, name: &[u8], hint: &mut Hint) -> Result<(), AllocError> {
     let mut digits = Buffer::new();
     let number = digits.format(width).as_bytes();
-    hint.join(
+    hint.line(&[
         b"all ",
         number,
         b" columns count, and no record of ",
         name,
         b" is like it",
-        b"",
-    )
+    ])
 }
 
 /// Puts what is wrong with the words of a view.
@@ -547,7 +453,7 @@ fn put_view_words<F: HintFiles>(
     hint: &mut Hint,
 ) -> Result<(), AllocError> {
     let mut words: Vec<&[u8]> = Vec::new(alloc);
-    for word in column(line, 2).unwrap_or(b"").split(|byte| *byte == b' ') {
+    for word in field(line, 2).split(|byte| *byte == b' ') {
         if !word.is_empty() {
             words.push(word)?;
         }
@@ -561,14 +467,14 @@ fn put_view_words<F: HintFiles>(
 
 /// Puts what is wrong with a line that is about a view, or about memory.
 fn put_other(code: u8, line: &[u8], hint: &mut Hint) -> Result<(), AllocError> {
-    let name = shown(column(line, 1).unwrap_or(b""));
+    let name = said(field(line, 1));
     match code {
         12 => hint.line(&[
             b"the track has as many records as -limit allows, 4000000 if it isn't given: -limit N, up to 100000000",
         ]),
         13 => hint.line(&[
             b"a view's name has 1 to 32 characters and no space, and not \"",
-            name,
+            shown(field(line, 1)),
             b"\"",
         ]),
         14 => hint.line(&[name, b" is open: close it before, or take another name"]),

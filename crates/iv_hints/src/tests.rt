@@ -190,7 +190,7 @@ const DAMAGES: &[(LoadCause, u64, &[u8], &[u8])] = &[
         LoadCause::Columns,
         1,
         b"chr1\t10\n",
-        b"line 1: chr1\\t10\n  columns of this line, separated by TABs: 2; a BED file has 3 to 6",
+        b"line 1: chr1\\t10\n  columns of this line: 2; it looks like a line of a genome file, which comes after -g; a BED file has 3 to 6",
     ),
     (
         LoadCause::Record(Fault::Columns),
@@ -238,7 +238,7 @@ const DAMAGES: &[(LoadCause, u64, &[u8], &[u8])] = &[
         LoadCause::Record(Fault::StartNumber),
         1,
         b"chr1\t1,000\t2000\n",
-        b"line 1: chr1\\t1,000\\t2000\n  the start has 1 to 10 digits, and not 1,000\n  awk -F '\\t' -v OFS='\\t' '!/^#/ { gsub(\",\", \"\", $2); gsub(\",\", \"\", $3) } 1' FILE takes the commas away",
+        b"line 1: chr1\\t1,000\\t2000\n  the start is \"1,000\": without commas\n  awk -F '\\t' -v OFS='\\t' '!/^#/ { gsub(\",\", \"\", $2); gsub(\",\", \"\", $3) } 1' FILE takes the commas away",
     ),
     (
         LoadCause::Record(Fault::Name),
@@ -327,7 +327,7 @@ const OTHERS: &[(&[u8], ExitReason, &[u8])] = &[
     (
         b"merge -g folder -i a",
         ExitReason::Unreadable(Slot::Sizes),
-        b"it is a directory, and no file",
+        b"it is a directory, and no file: ls folder shows its files",
     ),
     (
         b"merge -g g -i secret",
@@ -347,7 +347,7 @@ const OTHERS: &[(&[u8], ExitReason, &[u8])] = &[
     (
         b"merge -g zero -i a",
         ExitReason::Done,
-        b"all lengths of the genome file are 0; it looks like a BED file: cut -f1,3 makes a genome file of it",
+        b"all lengths of the genome file are 0; it looks like a BED file: cut -f1,3 GENOME makes a genome file of it",
     ),
     (
         b"merge -g g -i a -c 4,5 -o count,sum",

@@ -2,7 +2,7 @@
 use crate::file_kinds::BYTE_ORDER_MARK;
 use crate::hint::Hint;
 use crate::nearest::Nearest;
-use crate::records::{column, count_columns, is_number};
+use crate::records::{count_columns, field, is_number};
 use crate::values::shown;
 use crate::vocabulary::{COMMANDS, is_between, is_command};
 use itoa::Buffer;
@@ -14,25 +14,22 @@ const ALL_RECORDS: &[u8] = b"open NAME records, and then print NAME, has all rec
 /// What prints a part of a view.
 const REGION: &[u8] = b"show NAME SEQUENCE START END has the rows of a view there";
 
-/// Words that are probably tried, and what to do.
+/// Words that are probably tried, in groups, and what to do.
 const OTHERS: &[(&[u8], &[u8])] = &[
-    (b"delete", b"remove takes a record out"),
-    (b"del", b"remove takes a record out"),
-    (b"insert", b"add puts a record in"),
-    (b"change", b"replace has the old record and the new one"),
-    (b"update", b"replace has the old record and the new one"),
+    (b"delete del rm", b"remove takes a record out"),
+    (b"insert put new", b"add puts a record in"),
+    (
+        b"change update edit modify move rename set",
+        b"replace has the old record and the new one",
+    ),
     (
         b"undo",
         b"write the edit that reverses it; python3 -m bedkeep.curate has undo",
     ),
     (b"help", b"bedkeep session --help lists the commands"),
-    (b"quit", b"a script ends with its input"),
-    (b"exit", b"a script ends with its input"),
-    (b"save", ALL_RECORDS),
-    (b"list", ALL_RECORDS),
-    (b"records", ALL_RECORDS),
-    (b"region", REGION),
-    (b"query", REGION),
+    (b"quit exit", b"a script ends with its input"),
+    (b"save list records", ALL_RECORDS),
+    (b"region query", REGION),
 ];
 
 /// The first word of a line, if spaces separate its words.
@@ -40,6 +37,13 @@ fn first_word(line: &[u8]) -> &[u8] {
     line.split(|byte| *byte == b' ' || *byte == b'\t')
         .next()
         .unwrap_or(line)
+}
+
+/// The command of a line and what follows it, if that is a comma or a semicolon.
+fn marked_command(line: &[u8]) -> Option<(&[u8], &[u8])> {
+    let command = line.split(|byte| matches!(*byte, b',' | b';')).next()?;
+    let mark = line.get(command.len()..)?.get(..1)?;
+    Some((command, mark)).filter(|_| is_command(command))
 }
 
 /// What follows a command, in a few words.
@@ -65,8 +69,11 @@ fn tabs_for(command: &[u8]) -> &'static [u8] {
 
 /// What to do instead of a word that is probably tried.
 fn other_word(word: &[u8]) -> Option<&'static [u8]> {
-    for (known, text) in OTHERS {
-        if word.eq_ignore_ascii_case(known) {
+    for (group, text) in OTHERS {
+        if group
+            .split(is_between)
+            .any(|known| word.eq_ignore_ascii_case(known))
+        {
             return Some(text);
         }
     }
@@ -79,21 +86,29 @@ pub(crate) fn put_no_command(
     line: &[u8],
     hint: &mut Hint,
 ) -> Result<(), AllocError> {
-    let field = column(line, 0).unwrap_or(b"");
+    let field = field(line, 0);
     let word = first_word(line);
     if let Some(rest) = line.strip_prefix(BYTE_ORDER_MARK) {
         let next = first_word(rest);
-        return hint.join(
+        return hint.line(&[
             b"a byte order mark is before ",
             next,
             b": sed '1s/^\\xEF\\xBB\\xBF//' FILE takes it away",
-            b"",
-            b"",
-            b"",
-        );
+        ]);
     }
-    if line.starts_with(b" ") {
-        return hint.line(&[b"the line begins with a space: sed 's/^ *//' FILE takes it away"]);
+    if matches!(line, [b' ' | b'\t', ..]) {
+        return hint.line(&[
+            b"the line begins with a space or a TAB: sed 's/^[ \\t]*//' FILE takes it away",
+        ]);
+    }
+    if let Some((command, mark)) = marked_command(line) {
+        return hint.line(&[
+            b"a TAB follows ",
+            command,
+            b": tr '",
+            mark,
+            b"' '\\t' < FILE writes TABs",
+        ]);
     }
     if is_command(field) {
         return put_fields(field, line, hint);
@@ -121,6 +136,11 @@ pub(crate) fn put_no_command(
 fn put_fields(command: &[u8], line: &[u8], hint: &mut Hint) -> Result<(), AllocError> {
     let meaning = fields_of(command);
     let fields = count_columns(line).saturating_sub(1);
+    let note: &[u8] = if fields == 1 && line.contains(&b' ') {
+        b", since spaces are no TABs"
+    } else {
+        b""
+    };
     let mut digits = Buffer::new();
     let number = digits.format(fields).as_bytes();
     hint.join(
@@ -129,7 +149,7 @@ fn put_fields(command: &[u8], line: &[u8], hint: &mut Hint) -> Result<(), AllocE
         meaning,
         b"; fields here: ",
         number,
-        b"",
+        note,
     )
 }
 
@@ -145,13 +165,9 @@ fn put_unknown(alloc: Global, word: &[u8], hint: &mut Hint) -> Result<(), AllocE
     }
     match nearest.found() {
         Some(known) => hint.join(text, b" is no command: is ", known, b" meant?", b"", b""),
-        None => hint.join(
+        None => hint.line(&[
             text,
             b" is no command: add, remove, replace, addb, removeb, replaceb, resize, open, close, print, printall, show or showall",
-            b"",
-            b"",
-            b"",
-            b"",
-        ),
+        ]),
     }
 }

@@ -1,6 +1,7 @@
 //! What is wrong with a value, and what to do about it in a file.
 use crate::hint::Hint;
 use crate::records::is_digits;
+use iv_text::read_number;
 use std::alloc::AllocError;
 
 /// How many bytes of a value are shown.
@@ -11,6 +12,7 @@ const MOST_VALUE_BYTES: usize = 40;
 pub(crate) enum NumberFault {
     Empty,
     Spaced,
+    Comment,
     Commas,
     Negative,
     Fraction,
@@ -20,6 +22,14 @@ pub(crate) enum NumberFault {
 /// As much of a value as is shown.
 pub(crate) fn shown(value: &[u8]) -> &[u8] {
     value.get(..MOST_VALUE_BYTES).unwrap_or(value)
+}
+
+/// The same, or two quotes if it is empty.
+pub(crate) fn said(value: &[u8]) -> &[u8] {
+    match value {
+        [] => b"\"\"",
+        _ => shown(value),
+    }
 }
 
 /// Whether a value has a space at one of its ends.
@@ -39,6 +49,8 @@ impl NumberFault {
             NumberFault::Empty
         } else if is_spaced(value) {
             NumberFault::Spaced
+        } else if value.contains(&b'#') {
+            NumberFault::Comment
         } else if value.contains(&b',') {
             NumberFault::Commas
         } else if value.strip_prefix(b"-").is_some_and(is_digits) {
@@ -55,6 +67,7 @@ impl NumberFault {
         match self {
             NumberFault::Empty => b"it is empty",
             NumberFault::Spaced => b"it has a space at an end",
+            NumberFault::Comment => COMMENT,
             NumberFault::Commas => b"without commas",
             NumberFault::Negative => b"the first position is 0",
             NumberFault::Fraction => b"without a point or an exponent",
@@ -75,11 +88,14 @@ impl NumberFault {
             NumberFault::Fraction => {
                 b"awk -F '\\t' -v OFS='\\t' 'NF > 2 { $2 = sprintf(\"%.0f\", $2); $3 = sprintf(\"%.0f\", $3) } 1' FILE writes whole numbers"
             }
-            NumberFault::Empty | NumberFault::Other =>
+            NumberFault::Empty | NumberFault::Comment | NumberFault::Other =>
                 b"column 2 is the start and column 3 the end",
         }
     }
 }
+
+/// Where a comment is.
+pub(crate) const COMMENT: &[u8] = b"a comment has a line of its own, which begins with #";
 
 /// What takes spaces away beside TABs and at the ends of lines.
 pub(crate) const SPACES_AWAY: &[u8] = b"sed 's/ *\\t */\\t/g; s/ *$//' FILE takes such spaces away";
@@ -92,6 +108,17 @@ fn is_decimal(value: &[u8]) -> bool {
         && !is_digits(value)
 }
 
+/// Puts a start or an end that is no number, and what to write instead.
+pub(crate) fn put_no_number(
+    subject: &[u8],
+    value: &[u8],
+    hint: &mut Hint,
+) -> Result<(), AllocError> {
+    let text = shown(value);
+    let instead = NumberFault::of(value).instead();
+    hint.join(subject, b" is \"", text, b"\": ", instead, b"")
+}
+
 /// Puts what is wrong with the start or the end of a record of a file, and what mends it.
 pub(crate) fn put_number(
     subject: &[u8],
@@ -99,37 +126,24 @@ pub(crate) fn put_number(
     hint: &mut Hint,
 ) -> Result<(), AllocError> {
     let value = value.unwrap_or(b"");
-    let fault = NumberFault::of(value);
-    if fault == NumberFault::Spaced {
-        put_spaced(subject, value, hint)?;
-    } else {
-        put_not_digits(subject, value, hint)?;
-    }
-    hint.line(&[fault.remedy()])
+    put_no_number(subject, value, hint)?;
+    hint.line(&[NumberFault::of(value).remedy()])
 }
 
-/// Puts that a value isn't digits.
-fn put_not_digits(subject: &[u8], value: &[u8], hint: &mut Hint) -> Result<(), AllocError> {
-    let text = shown(value);
-    hint.join(
-        subject,
-        b" has 1 to 10 digits, and not ",
-        text,
-        b"",
-        b"",
-        b"",
-    )
+/// Puts what is wrong with the length of a sequence.
+pub(crate) fn put_length(value: &[u8], hint: &mut Hint) -> Result<(), AllocError> {
+    if read_number(value).is_none() {
+        return put_no_number(b"the length", value, hint);
+    }
+    hint.line(&[
+        b"the length ",
+        value,
+        b" is above the limit: a sequence has at most 4000000000 positions",
+    ])
 }
 
 /// Puts that a value has a space at an end.
 pub(crate) fn put_spaced(subject: &[u8], value: &[u8], hint: &mut Hint) -> Result<(), AllocError> {
     let text = shown(value);
-    hint.join(
-        subject,
-        b" has a space at an end: \"",
-        text,
-        b"\"",
-        b"",
-        b"",
-    )
+    hint.line(&[subject, b" has a space at an end: \"", text, b"\""])
 }

@@ -85,6 +85,9 @@ pub(crate) const NOTICES: &[u8] = b"--help --version";
 pub(crate) const COMMANDS: &[u8] =
     b"add remove replace addb removeb replaceb resize open close print printall show showall";
 
+/// The commands of the Python package.
+const PACKAGE_COMMANDS: &[u8] = b"apply curate diff replay review";
+
 /// Operations of a summary.
 const OPERATIONS: &[u8] = b"count sum min max collapse distinct";
 
@@ -122,6 +125,11 @@ pub(crate) fn is_command(word: &[u8]) -> bool {
     lists(COMMANDS, word)
 }
 
+/// Whether a word is a command of the Python package.
+pub(crate) fn is_package_command(word: &[u8]) -> bool {
+    lists(PACKAGE_COMMANDS, word)
+}
+
 /// Whether a word is an operation of a summary.
 pub(crate) fn is_operation(word: &[u8]) -> bool {
     lists(OPERATIONS, word)
@@ -149,6 +157,14 @@ pub(crate) fn word_of(run: Subcommand) -> &'static [u8] {
 pub(crate) fn needed_of(run: Subcommand) -> &'static [u8] {
     match row_of(run) {
         Some(row) => row.2,
+        None => b"",
+    }
+}
+
+/// The options of the view of a kind of run.
+pub(crate) fn view_options(run: Subcommand) -> &'static [u8] {
+    match row_of(run) {
+        Some(row) => row.4,
         None => b"",
     }
 }

@@ -3,7 +3,10 @@ use crate::bedtools::instead_of_subcommand;
 use crate::hint::Hint;
 use crate::mistake::Mistake;
 use crate::nearest::Nearest;
-use crate::vocabulary::{NOTICES, Options, is_between, records_option, run_at, word_of};
+use crate::values::said;
+use crate::vocabulary::{
+    NOTICES, Options, is_between, records_option, run_at, view_options, word_of,
+};
 use itoa::Buffer;
 use iv_args::Subcommand;
 use std::alloc::{AllocError, Global};
@@ -40,23 +43,28 @@ pub(crate) fn put_view(alloc: Global, words: &[&[u8]], hint: &mut Hint) -> Resul
 
 /// Puts that a word is no view, and which is near.
 fn put_no_view(alloc: Global, word: &[u8], hint: &mut Hint) -> Result<(), AllocError> {
-    match near_run(alloc, word)? {
+    match near_run(alloc, word, 1, b"")? {
         Some(known) => put_near(word, b" is no view", b"", known, hint),
         None if word.is_empty() => hint.line(&[b"a view is missing after the name: ", VIEWS]),
         None => hint.line(&[word, b" is no view: ", VIEWS]),
     }
 }
 
-/// The subcommand that is near to a word.
-fn near_run(alloc: Global, word: &[u8]) -> Result<Option<&'static [u8]>, AllocError> {
+/// The subcommand that is near to a word, or one of other words. The first one is `session`, which is no view.
+fn near_run(
+    alloc: Global,
+    word: &[u8],
+    first: usize,
+    others: &'static [u8],
+) -> Result<Option<&'static [u8]>, AllocError> {
     let mut nearest = Nearest::to(word);
-    for place in 0..64usize {
+    for place in first..64usize {
         match run_at(place) {
             Some(known) => nearest.look_at(alloc, known)?,
             None => break,
         }
     }
-    for known in NOTICES.split(is_between) {
+    for known in others.split(is_between) {
         nearest.look_at(alloc, known)?;
     }
     Ok(nearest.found())
@@ -78,6 +86,11 @@ fn put_mistake(alloc: Global, mistake: Mistake<'_>, hint: &mut Hint) -> Result<(
             b" is a line of a session's script: printf '",
             word,
             b"\\t..\\n' | bedkeep session -g GENOME -i BED",
+        ]),
+        Mistake::PackageCommand(word) => hint.line(&[
+            word,
+            b" is a command of the Python package: python3 -m bedkeep ",
+            word,
         ]),
         Mistake::HelpBesideWords(run) => hint.line(&[
             b"help on ",
@@ -107,7 +120,8 @@ fn put_usage(hint: &mut Hint) -> Result<(), AllocError> {
 
 /// Puts that an argument is no subcommand, and which is near.
 fn put_no_subcommand(alloc: Global, word: &[u8], hint: &mut Hint) -> Result<(), AllocError> {
-    match near_run(alloc, word)? {
+    match near_run(alloc, word, 0, NOTICES)? {
+        _ if word == b"--version".as_slice() => hint.line(&[b"--version is given alone"]),
         Some(known) => put_near(word, b" isn't a subcommand", b"", known, hint),
         None if word == b"-v".as_slice() || word == b"-V".as_slice() => {
             hint.line(&[word, b" isn't an option of bedkeep: is --version meant?"])
@@ -139,8 +153,30 @@ fn put_no_option(
     }
     let text = b" isn't an option of ".as_slice();
     match nearest.found() {
-        Some(known) => put_near(word, text, word_of(options.run), known, hint),
-        None => put_parts(word, text, word_of(options.run), hint),
+        Some(known) => put_near(word, text, word_of(options.run), known, hint)?,
+        None => put_options(word, text, options, hint)?,
+    }
+    if options.run == Subcommand::Session {
+        return hint.line(&[b"a script is read from standard input: < SCRIPT"]);
+    }
+    Ok(())
+}
+
+/// Puts what an argument isn't, and of a view which options there are.
+fn put_options(
+    word: &[u8],
+    text: &[u8],
+    options: Options,
+    hint: &mut Hint,
+) -> Result<(), AllocError> {
+    let run = word_of(options.run);
+    let list = view_options(options.run);
+    if !options.is_view {
+        put_parts(word, text, run, hint)
+    } else if list.is_empty() {
+        hint.join(word, text, run, b", which has none", b"", b"")
+    } else {
+        hint.join(word, text, run, b", which has ", list, b"")
     }
 }
 
@@ -172,7 +208,7 @@ fn put_value(
     value: &[u8],
     hint: &mut Hint,
 ) -> Result<(), AllocError> {
-    hint.line(&[option, b" needs ", meaning, b", and not ", value])
+    hint.line(&[option, b" needs ", meaning, b", and not ", said(value)])
 }
 
 /// Puts that an option is missing.
@@ -189,6 +225,14 @@ fn put_option(mistake: Mistake<'_>, hint: &mut Hint) -> Result<(), AllocError> {
             records_option(run),
             hint,
         ),
+        Mistake::FlagValue(option, word) => {
+            hint.line(&[word, b" is no option, and ", option, b" takes no value"])
+        }
+        Mistake::Dash(word) => hint.line(&[
+            word,
+            b" begins with a dash that isn't -: write -",
+            word.get(3..).unwrap_or(b""),
+        ]),
         Mistake::OneWord(word) => hint.line(&[
             word,
             b" is no option: a space, and no =, is between an option and its value",
@@ -225,17 +269,17 @@ fn put_files(mistake: Mistake<'_>, hint: &mut Hint) -> Result<(), AllocError> {
             )
         }
         Mistake::TwoFiles(option, one, other) => put_two_files(option, one, other, hint),
-        Mistake::SpacedList(option, one, other) => hint.join(
+        Mistake::SpacedList(option, one, other) => hint.line(&[
             b"a list has commas and no spaces: ",
             option,
             b" ",
             one,
             b",",
             other,
-        ),
+        ]),
         Mistake::FileOption(option) => hint.line(&[
             option,
-            b" is no option of a view in a session: the files are given as it starts",
+            b" is no option of a view in a session, which has its files, -width and -limit as it starts",
         ]),
         other => put_together(other, hint),
     }
