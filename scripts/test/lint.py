@@ -10,9 +10,8 @@ that a count of items would leave its number, which no memory is large enough fo
 
 Meter: steps are counted by the meter that is handed in; a call that made a meter of its own would hide its steps.
 So a meter is made only in the functions that MAKES_A_METER names, file by file, once in each and in no loop: in the calls of a
-session, one for each, and in iv_pair, which counts no steps there, where a `Second` or its hits are made. No crate of kept
-views makes one, and no repair or print of a view. The functions that HANDS_ITS_METER_ON names do nothing but make one and hand it
-to one call, whose contract says how many steps it takes.
+session, one for each, for a line of a script, and in iv_pair, which counts no steps there, where a `Second` or its hits are made.
+No crate of kept views makes one, and no repair or print of a view.
 
 The crates of tests, test_*, may name such faults as values that they expect, and make meters.
 
@@ -33,12 +32,11 @@ METER = re.compile(r"\bMeter\s*>?\s*::\s*new\b")
 MAKES_A_METER = {
     "iv_pair/src/hits.rt": {"of"},
     "iv_pair/src/second.rt": {"from_batches", "hits"},
+    "iv_session/src/line.rt": {"run_request"},
     "iv_workspace/src/session/edits.rt": {"add", "remove", "replace", "add_second", "remove_second", "replace_second"},
     "iv_workspace/src/session/lengths.rt": {"has_record_past"},
     "iv_workspace/src/session/open_views.rt": {"open_view", "print_view", "show_view", "print_all", "show_all"},
 }
-HANDS_ITS_METER_ON = {"iv_workspace/src/session/open_views.rt": {"print_view", "show_view", "print_all", "show_all"}}
-ONE_CALL = re.compile(r"\{\s*self\.\w+\((?:(?:\w+|Some\(\w+\)),\s*)*&mut Meter::new\(\)(?:,\s*\w+)*,?\s*\)\s*\}")
 # A list of items in several vectors may be longer than any one of them, so their number is looked at before it grows.
 FULL_COUNTS = {
     "iv_text/src/batches.rt": (r"let Some\(len\) = self\.len\.checked_add\(1\) else \{", ""),
@@ -192,14 +190,6 @@ def meters_made(place, code):
         seen.add(start)
 
 
-def meters_kept(place, code):
-    """The functions that have to hand their meter to one call, and do something else."""
-    names = HANDS_ITS_METER_ON.get(place, set())
-    for head, (start, end) in bodies(code, "fn"):
-        if head.split("(")[0].split("<")[0].strip() in names and not ONE_CALL.fullmatch(code[start:end]):
-            yield start, "more than one call with a meter in it"
-
-
 def renamed(_place, code):
     """The places where a name that is looked for is given another one."""
     for m in [*RENAMED.finditer(code), *METER_CALLED_OTHERWISE.finditer(code)]:
@@ -217,7 +207,7 @@ def search(top):
     for path in sorted(top.glob("crates/*/src/**/*.rt")):
         text = path.read_text()
         place = path.relative_to(top / "crates").as_posix()
-        for look in (memory_made, meters_made, meters_kept, renamed):
+        for look in (memory_made, meters_made, renamed):
             for at, why in look(place, code_of(text)):
                 number = text.count("\n", 0, at) + 1
                 line = text.splitlines()[number - 1].strip()
@@ -227,11 +217,10 @@ def search(top):
 
 MADE = "is made here"
 METERS = "a meter of its own"
-MORE_CALLS = "more than one call"
 OTHER_NAME = "another name"
 
 # A crate, what is planted there, and the reason why it is refused, none if it is let through. A function called `may` is one
-# that may make a meter, in a crate that has such functions, and one called `hands_on` is one that has to hand it to one call.
+# that may make a meter, in a crate that has such functions.
 PLANTED = [
     ("iv_text", "fn f(n: usize) -> Result<(), LoadCause> { if n > 1000 { return Err(LoadCause::Memory); } Ok(()) }", MADE),
     ("iv_track", "fn f(n: u32) -> Result<(), AddFault> { match n { 0 => Ok(()), _ => Err(AddFault::NoMemory), } }", MADE),
@@ -273,9 +262,6 @@ PLANTED = [
     ("iv_pair", "fn may(n: u8) { for _ in 0..n { g(Meter::new()); } }", METERS),
     ("iv_pair", "fn may<A>(&self) { g(Meter::new()); }", None),
     ("iv_workspace", "fn may(&mut self) { let mut meter = Meter::new(); }", None),
-    ("iv_workspace", "fn hands_on<S>(&mut self, name: &[u8], sink: &mut S)\n    ensures { A }\n{\n    self.counted(name, &mut Meter::new(), sink)\n}", None),
-    ("iv_workspace", "fn hands_on(&mut self) { let mut meter = Meter::new(); self.look(&mut meter); self.counted(&mut meter) }", MORE_CALLS),
-    ("iv_workspace", "fn hands_on(&mut self) { self.look(); self.counted(&mut Meter::new()) }", MORE_CALLS),
     ("test_rows", "fn f() { g(Meter::new()); g(Meter::new()); }", None),
 ]
 
@@ -291,8 +277,7 @@ def try_planted():
             folder.mkdir(parents=True, exist_ok=True)
             (folder / f"planted_{number}.rt").write_text(text + "\n")
             if crate in map(crate_of, list(MAKES_A_METER)):
-                MAKES_A_METER[f"{crate}/src/planted_{number}.rt"] = {"may", "hands_on"}
-                HANDS_ITS_METER_ON[f"{crate}/src/planted_{number}.rt"] = {"hands_on"}
+                MAKES_A_METER[f"{crate}/src/planted_{number}.rt"] = {"may"}
         found = search(top)
     for number, (crate, text, why) in enumerate(PLANTED):
         refused = [line for line in found if f"/planted_{number}.rt:" in line]

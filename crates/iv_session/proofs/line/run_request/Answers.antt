@@ -56,7 +56,7 @@ returns-in_ok-close_view-in-Close g c =
     rw c.in-Close.is (done-silent (Ok (request.Close c.in-Close.name)) c.args.session.now _ _ (there, closed, refl))
 
 pub returns-in-Print : goal.returns-in-Print
-returns-in-Print g c = rw c.in-Print.is (printed-view c.in-Print.part c.args.session.now _ c.bytes-in-Print.result.now c.in-Print.name _ _ _ c.bytes-in-Print.ensures c.print.ensures)
+returns-in-Print g c = rw c.in-Print.is (printed-view c.in-Print.part c.args.session.now _ c.bytes-in-Print.result.now c.in-Print.name _ _ _ c.bytes-in-Print.ensures c.print_view_counted.ensures.printed)
 
 pub returns-in-PrintAll : goal.returns-in-PrintAll
-returns-in-PrintAll g c = rw c.in-PrintAll.is (printed-all c.in-PrintAll.part c.args.session.now _ _ _ _ c.print_all.ensures)
+returns-in-PrintAll g c = rw c.in-PrintAll.is (printed-all c.in-PrintAll.part c.args.session.now _ _ _ _ c.print_all_counted.ensures.printed)
