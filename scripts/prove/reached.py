@@ -95,7 +95,9 @@ def definitions():
                 if case:
                     makes[(crate, module, case[1])] = at
     for key, one in found.items():
-        one["own"] = {name: ("spec", key[1], key[2], name) for (_, crate, module, name) in found if (crate, module) == key[1:3]}
+        own = [name for (_, crate, module, name) in found if (crate, module) == key[1:3]]
+        own += [case for (crate, module, case) in makes if (crate, module) == key[1:3]]
+        one["own"] = {name: ("spec", key[1], key[2], name) for name in own}
     return found, makes
 
 

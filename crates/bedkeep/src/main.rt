@@ -53,8 +53,8 @@ impl StdFiles<'_> {
 impl InputFiles for StdFiles<'_> {
     type File = KeptSource<StdSource<File>>;
 
-    // What a file holds is not known.
-    ghost state = { λ files. record { contents = λ _. None; failed = files.failed } };
+    // What a file holds is not known, nor what happened to files.
+    ghost state = { λ files. record { contents = λ _. None; events = None; failed = files.failed } };
 
     fn open(&mut self, name: &[u8]) -> Result<KeptSource<StdSource<File>>, ReadFault> {
         // A name that is no text can't be opened.

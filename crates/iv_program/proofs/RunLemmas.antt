@@ -1,5 +1,8 @@
 -- Files that were read, and what a run does with them.
-use Rattle.std.proofs.Common.{◌≡◌, ◌⊎◌, inl, inr, ◌<◌, ◌≤◌, ◌^◌, ℕ, List, [], length, Option, None, Some, Result, Ok, Err, IfOk, IfErr, IfSome, refl, sym, ◌∙◌, subst, arith}
+use Rattle.std.proofs.Common.{◌≡◌, ◌⊎◌, inl, inr, ◌<◌, ◌≤◌, ◌^◌, ℕ, List, [], ◌∷◌, ◌++◌, length, false, Option, None, Some, Result, Ok, Err, IfOk, IfErr, IfSome, refl, sym, ap, ◌∙◌, subst, arith}
+use Rattle.std.proofs.lemmas.List.Elements.{All-nil, All-cons}
+use Rattle.std.specs.List.{All}
+use Rattle.std.specs.Option.{option_to_list}
 use Rattle.iv_bytes.specs.Sinks.{SinkState}
 use Rattle.iv_bytes.specs.Sources.{SourceState}
 use Rattle.iv_text.specs.declared.fault.Fault.{Fault}
@@ -14,7 +17,7 @@ use Rattle.iv_session.specs.declared.script.RunFault.{RunFault}
 use Rattle.iv_session.specs.declared.script.Summary.{Summary}
 use Rattle.iv_args.specs.InfoRequests.{notice_of}
 use Rattle.iv_args.specs.Texts.{notice_text}
-use Rattle.iv_args.specs.Words.{RunPlan, IsPlan}
+use Rattle.iv_args.specs.Words.{RunPlan, IsPlan, file_of}
 use Rattle.iv_args.specs.declared.info_request.InfoRequest.{InfoRequest}
 use Rattle.iv_args.specs.declared.plan.Slot.{Slot}
 use Rattle.iv_args.specs.declared.plan.Slot.TheVariants.{Sizes, First, Other, Bases}
@@ -25,76 +28,107 @@ use Rattle.iv_run.specs.declared.fault.CliFault.{CliFault}
 use Rattle.iv_run.specs.declared.fault.FileFault.{FileFault}
 use Rattle.iv_cli.specs.ExitReasons.{ending_of_words, name_meant}
 use Rattle.iv_cli.specs.declared.exit_reason.ExitReason.{ExitReason}
-use Rattle.iv_program.specs.Files.{FilesState, IsText, StopsFile}
+use Rattle.iv_program.specs.Files.{FilesState, IsText, StopsFile, after_one, after_reading}
 use Rattle.iv_program.specs.Limits.{most_file_bytes}
 use Rattle.iv_program.specs.Program.{Shown, Planned, Wrong, Ask, Finishes, Gives, Runs, world}
 use Rattle.iv_program.specs.Runs.{RunsPlan}
 use Rattle.iv_program.specs.Inside.Runs.{Says}
-use Rattle.iv_program.specs.Texts.{Texts, AreTexts, IsTextIfNamed, StopsAt}
+use Rattle.iv_program.specs.Texts.{Texts, AreTexts, HasText, IsTextIfNamed, StopsAt, names_before, names_of}
 use Rattle.iv_program.specs.declared.program.Ended.{Ended}
 
 -- ---- files that were read
 
-pub text-back : (a b : FilesState) (name text : List ℕ) → b ≡ a → IsText b name text → IsText a name text
-text-back a b name text same is = subst (λ (f : FilesState). IsText f name text) same is
+-- reading files leaves what they hold
+pub reading-contents : (names : List (List ℕ)) (files : FilesState) → (after_reading names files).contents ≡ files.contents
+reading-contents [] files = refl
+reading-contents (name ∷ names) files = reading-contents names (after_one false name files)
 
-pub named-back : (a b : FilesState) (name text : Option (List ℕ)) → b ≡ a → IsTextIfNamed b name text → IsTextIfNamed a name text
-named-back a b name text same is = subst (λ (f : FilesState). IsTextIfNamed f name text) same is
+-- some files are read, and then some more
+reading-append : (names more : List (List ℕ)) (files : FilesState) → after_reading (names ++ more) files ≡ after_reading more (after_reading names files)
+reading-append [] more files = refl
+reading-append (name ∷ names) more files = reading-append names more (after_one false name files)
 
--- the genome file was not read to its end
-pub stops-sizes : (plan : RunPlan) (f0 f1 : FilesState) (slot : Slot) (why : FileFault) → (slot ≡ Sizes) × StopsFile f0 plan.sizes why f1 → StopsAt plan f0 f1 slot why
-stops-sizes plan f0 f1 slot why is =
-    subst (λ (s : Slot). StopsAt plan f0 f1 s why) (sym is.0) (record { name = plan.sizes; named = refl; before = tt; stops = is.1 })
+contents-back : (names : List (List ℕ)) (a b : FilesState) → b ≡ after_reading names a → b.contents ≡ a.contents
+contents-back names a b is = ap (λ (f : FilesState). f.contents) is ∙ reading-contents names a
 
--- the first file was not
-pub stops-first : (plan : RunPlan) (f0 f1 f2 : FilesState) (sizes : List ℕ) (slot : Slot) (why : FileFault) → IsText f0 plan.sizes sizes → f1 ≡ f0
-    → slot ≡ First → StopsFile f1 plan.first why f2 → StopsAt plan f0 f2 slot why
-stops-first plan f0 f1 f2 sizes slot why read same is stops =
+text-back : (names : List (List ℕ)) (a b : FilesState) (name text : List ℕ) → b ≡ after_reading names a → IsText b name text → IsText a name text
+text-back names a b name text is has =
+    (subst (λ (c : List ℕ → Option (List ℕ)). IfSome (c name) (λ known. known ≡ text)) (contents-back names a b is) has.0, has.1)
+
+named-back : (names : List (List ℕ)) (a b : FilesState) (name text : Option (List ℕ)) → b ≡ after_reading names a → IsTextIfNamed b name text → IsTextIfNamed a name text
+named-back names a b None None is has = tt
+named-back names a b None (Some text) is has = absurd has
+named-back names a b (Some name) None is has = absurd has
+named-back names a b (Some name) (Some text) is has = text-back names a b name text is has
+
+-- the one of this name has a text, if there is one
+named-has : (files : FilesState) (name text : Option (List ℕ)) → IsTextIfNamed files name text → All (HasText files) (option_to_list name)
+named-has files None text has = All-nil (HasText files)
+named-has files (Some name) None has = absurd has
+named-has files (Some name) (Some text) has = All-cons (HasText files) name [] (text, has) (All-nil (HasText files))
+
+-- the file of a slot was not read to its end, and those before it were
+stops-at : (plan : RunPlan) (f0 f1 f2 : FilesState) (slot known : Slot) (name : List ℕ) (why : FileFault) → slot ≡ known → file_of plan known ≡ Some name
+    → All (HasText f0) (names_before plan known) → f1 ≡ after_reading (names_before plan known) f0 → StopsFile f1 name why f2 → StopsAt plan f0 f2 slot why
+stops-at plan f0 f1 f2 slot known name why is named before read stops =
     subst (λ (s : Slot). StopsAt plan f0 f2 s why) (sym is) (record {
-      name = plan.first;
-      named = refl;
-      before = (Some sizes, read);
-      stops = subst (λ (f : FilesState). StopsFile f plan.first why f2) same stops;
+      name = name;
+      named = named;
+      before = before;
+      stops = subst (λ (f : FilesState). StopsFile f name why f2) read stops;
     })
 
--- the second was not
-pub stops-other : (plan : RunPlan) (f0 f1 f2 f3 : FilesState) (sizes first : List ℕ) (slot : Slot) (why : FileFault) → IsText f0 plan.sizes sizes → f1 ≡ f0
-    → IsText f1 plan.first first → f2 ≡ f1
-    → (slot ≡ Other) × ((name : List ℕ) × (plan.other ≡ Some name) × StopsFile f2 name why f3) → StopsAt plan f0 f3 slot why
-stops-other plan f0 f1 f2 f3 sizes first slot why read same read_first same_first is =
-    subst (λ (s : Slot). StopsAt plan f0 f3 s why) (sym is.0) (record {
-      name = is.1.0;
-      named = is.1.1;
-      before = ((Some sizes, read), (Some first, text-back f0 f1 plan.first first same read_first));
-      stops = subst (λ (f : FilesState). StopsFile f is.1.0 why f3) (same_first ∙ same) is.1.2;
-    })
+module _ (plan : RunPlan) (f0 f1 : FilesState) (slot : Slot) (why : FileFault) where
+  -- the genome file was not read to its end
+  pub stops-sizes : (slot ≡ Sizes) × StopsFile f0 plan.sizes why f1 → StopsAt plan f0 f1 slot why
+  stops-sizes is = stops-at plan f0 f0 f1 slot Sizes plan.sizes why is.0 refl (All-nil (HasText f0)) refl is.1
 
--- the FASTA file was not
-pub stops-bases : (plan : RunPlan) (f0 f1 f2 f3 f4 : FilesState) (sizes first : List ℕ) (other : Option (List ℕ)) (slot : Slot) (why : FileFault)
-    → IsText f0 plan.sizes sizes → f1 ≡ f0 → IsText f1 plan.first first → f2 ≡ f1 → IsTextIfNamed f2 plan.other other → f3 ≡ f2
-    → (slot ≡ Bases) × ((name : List ℕ) × (plan.bases ≡ Some name) × StopsFile f3 name why f4) → StopsAt plan f0 f4 slot why
-stops-bases plan f0 f1 f2 f3 f4 sizes first other slot why read same read_first same_first read_other same_other is =
-    subst (λ (s : Slot). StopsAt plan f0 f4 s why) (sym is.0) (record {
-      name = is.1.0;
-      named = is.1.1;
-      before = (
-        (Some sizes, read),
-        (Some first, text-back f0 f1 plan.first first same read_first),
-        (other, named-back f0 f2 plan.other other (same_first ∙ same) read_other),
-      );
-      stops = subst (λ (f : FilesState). StopsFile f is.1.0 why f4) (same_other ∙ same_first ∙ same) is.1.2;
-    })
+module _ (plan : RunPlan) (f0 f1 : FilesState) (sizes : List ℕ) (has_sizes : IsText f0 plan.sizes sizes) (read_sizes : f1 ≡ after_reading (plan.sizes ∷ []) f0) where
+  -- the first file was not
+  pub stops-first : (f2 : FilesState) (slot : Slot) (why : FileFault) → slot ≡ First → StopsFile f1 plan.first why f2 → StopsAt plan f0 f2 slot why
+  stops-first f2 slot why is stops =
+      stops-at plan f0 f1 f2 slot First plan.first why is refl (All-cons (HasText f0) plan.sizes [] (sizes, has_sizes) (All-nil (HasText f0))) read_sizes stops
 
--- all of them were
-pub all-texts : (plan : RunPlan) (f0 f1 f2 f3 : FilesState) (sizes first : List ℕ) (other bases : Option (List ℕ))
-    → IsText f0 plan.sizes sizes → f1 ≡ f0 → IsText f1 plan.first first → f2 ≡ f1 → IsTextIfNamed f2 plan.other other → f3 ≡ f2
-    → IsTextIfNamed f3 plan.bases bases → AreTexts f0 plan (record { sizes = sizes; first = first; other = other; bases = bases })
-all-texts plan f0 f1 f2 f3 sizes first other bases read same read_first same_first read_other same_other read_bases = record {
-  sizes = read;
-  first = text-back f0 f1 plan.first first same read_first;
-  other = named-back f0 f2 plan.other other (same_first ∙ same) read_other;
-  bases = named-back f0 f3 plan.bases bases (same_other ∙ same_first ∙ same) read_bases;
-}
+  module _ (f2 : FilesState) (first : List ℕ) (has_first : IsText f1 plan.first first) (read_first : f2 ≡ after_reading (plan.first ∷ []) f1) where
+    read-two : f2 ≡ after_reading (names_before plan Other) f0
+    read-two = read_first ∙ ap (after_reading (plan.first ∷ [])) read_sizes
+
+    two-before : (names : List (List ℕ)) → All (HasText f0) names → All (HasText f0) (plan.sizes ∷ plan.first ∷ names)
+    two-before names have =
+        All-cons (HasText f0) plan.sizes (plan.first ∷ names) (sizes, has_sizes)
+        (All-cons (HasText f0) plan.first names (first, text-back (plan.sizes ∷ []) f0 f1 plan.first first read_sizes has_first) have)
+
+    -- the second was not
+    pub stops-other : (f3 : FilesState) (slot : Slot) (why : FileFault)
+        → (slot ≡ Other) × ((name : List ℕ) × (plan.other ≡ Some name) × StopsFile f2 name why f3) → StopsAt plan f0 f3 slot why
+    stops-other f3 slot why is = stops-at plan f0 f2 f3 slot Other is.1.0 why is.0 is.1.1 (two-before [] (All-nil (HasText f0))) read-two is.1.2
+
+    module _ (f3 : FilesState) (other : Option (List ℕ)) (has_other : IsTextIfNamed f2 plan.other other) (read_other : f3 ≡ after_reading (option_to_list plan.other) f2) where
+      read-three : f3 ≡ after_reading (names_before plan Bases) f0
+      read-three = read_other ∙ ap (after_reading (option_to_list plan.other)) read-two
+
+      -- the FASTA file was not
+      pub stops-bases : (f4 : FilesState) (slot : Slot) (why : FileFault)
+          → (slot ≡ Bases) × ((name : List ℕ) × (plan.bases ≡ Some name) × StopsFile f3 name why f4) → StopsAt plan f0 f4 slot why
+      stops-bases f4 slot why is =
+          stops-at plan f0 f3 f4 slot Bases is.1.0 why is.0 is.1.1
+          (two-before (option_to_list plan.other) (named-has f0 plan.other other (named-back (names_before plan Other) f0 f2 plan.other other read-two has_other)))
+          read-three is.1.2
+
+      -- all of them were
+      pub all-texts : (bases : Option (List ℕ)) → IsTextIfNamed f3 plan.bases bases
+          → AreTexts f0 plan (record { sizes = sizes; first = first; other = other; bases = bases })
+      all-texts bases has_bases = record {
+        sizes = has_sizes;
+        first = text-back (plan.sizes ∷ []) f0 f1 plan.first first read_sizes has_first;
+        other = named-back (names_before plan Other) f0 f2 plan.other other read-two has_other;
+        bases = named-back (names_before plan Bases) f0 f3 plan.bases bases read-three has_bases;
+      }
+
+      -- in the order of their slots
+      pub all-read : (f4 : FilesState) → f4 ≡ after_reading (option_to_list plan.bases) f3 → f4 ≡ after_reading (names_of plan) f0
+      all-read f4 read_bases =
+          read_bases ∙ ap (after_reading (option_to_list plan.bases)) read-three ∙ sym (reading-append (names_before plan Bases) (option_to_list plan.bases) f0)
 
 short : (n : ℕ) → n ≤ most_file_bytes → n < 2 ^ 32
 short n few = omega arith

@@ -15,14 +15,15 @@ use Rattle.iv_run.specs.declared.fault.FileFault.TheVariants as file
 use Rattle.iv_cli.specs.ExitReasons.{ending_after, ending_of, ending_of_file, is_through, line_of, name_meant, status_of}
 use Rattle.iv_cli.specs.declared.exit_reason.ExitReason.{ExitReason}
 use Rattle.iv_cli.specs.declared.exit_reason.ExitReason.TheVariants as exit_reason
-use Rattle.iv_program.specs.Files.{FilesState, StopsFile}
+use Rattle.iv_program.specs.Files.{FilesState, StopsFile, after_reading}
 use Rattle.iv_program.specs.Limits.{most_file_bytes}
 use Rattle.iv_program.specs.Outcomes.{AreSound, HasBytes, Hold, PrintsJust}
 use Rattle.iv_program.specs.Program.{Asked, Shown, Planned, Wrong, Ask, Finishes, Flushes, Runs, Serves, Tells, name_reported}
 use Rattle.iv_program.specs.Runs.{DoesWith, RunsPlan, World, ending_of_shot}
-use Rattle.iv_program.specs.Texts.{Texts, AreTexts, IsTextIfNamed}
+use Rattle.iv_program.specs.Texts.{Texts, AreTexts, IsTextIfNamed, names_before}
 use Rattle.iv_program.specs.declared.program.Ended.{Ended}
 use Rattle.iv_program.proofs.DoneLemmas.{one-plan, then-flushed}
+use Rattle.iv_program.proofs.RunLemmas.{reading-contents}
 
 -- ---- files
 
@@ -172,11 +173,13 @@ prints-just words before after plan texts answer none is view hold ran sound had
     of_plan name named (inr stopped) finishes = absurd (never stopped.fault stopped.stops.stops stopped.ended_is)
       where
         -- no file failed, none is too long, and there was memory
-        never : (why : FileFault) → StopsFile before.files stopped.stops.name why ran.reached.files → ran.ended ≡ ending_of_file stopped.slot why → ⊥
+        never : (why : FileFault) → StopsFile (after_reading (names_before plan stopped.slot) before.files) stopped.stops.name why ran.reached.files → ran.ended ≡ ending_of_file stopped.slot why → ⊥
         never file.Input stops e = sound-failed after.files.failed (ap (λ (f : FilesState). f.failed) (ran.files ∙ stops)) sound.files
         never file.TooLong stops e =
             let has = slot-known before.files plan texts stopped.slot stopped.stops.name hold stopped.stops.named in
-            not-long before.files stopped.stops.name has.0 has.1 stops.0
+            not-long before.files stopped.stops.name has.0 has.1
+            (subst (λ (c : List ℕ → Option (List ℕ)). IfSome (c stopped.stops.name) (λ known. most_file_bytes < length known))
+            (reading-contents (names_before plan stopped.slot) before.files) stops.0)
         never file.Memory stops e = had_memory
             (status-of ran.ended name ran.reached.streams.output after.streams.output ran.reached.streams.messages after.streams.messages answer.exit_reason finishes sound.output sound.messages ∙ ap status_of e)
 

@@ -1,30 +1,51 @@
 -- Files that are opened by their names.
-use Rattle.std.specs.Prelude.{◌≡◌, ℕ, ◌≤◌, ◌<◌, ◌||◌, List, Bool, true, false, Option, IfSome, length}
+use Rattle.std.specs.Prelude.{◌≡◌, ℕ, ◌≤◌, ◌<◌, ◌||◌, List, [], ◌∷◌, ◌++◌, Bool, true, false, Option, IfSome, length}
+use Rattle.std.specs.Option.{option_map}
 use Rattle.iv_bytes.specs.Sources.{SourceState}
 use Rattle.iv_run.specs.declared.fault.FileFault.{FileFault}
 use Rattle.iv_run.specs.declared.fault.FileFault.TheVariants.{Input, TooLong, Memory}
 use Rattle.iv_program.specs.Limits.{most_file_bytes}
 
--- the bytes of the file of each name, if those are known, and whether a file could not be opened or read
+-- what happens to files: one of this name is opened; one is closed, which failed or not
+pub data FileEvent : Type 0 where
+  Opened : List ℕ → FileEvent
+  Closed : Bool → FileEvent
+
+-- the bytes of the file of each name, if those are known; what happened to files so far, in this order, if that is known; and whether a
+-- file could not be opened or read
 pub record FilesState : Type 0 where
   pub contents : List ℕ → Option (List ℕ)
+  pub events : Option (List FileEvent)
   pub failed : Bool
 
 -- the file of a name that was just opened
 abbrev pub opened : FilesState → List ℕ → SourceState
 opened files name = record { coming = files.contents name; failed = false }
 
+-- the files once the one of this name is opened
+abbrev pub after_opening : List ℕ → FilesState → FilesState
+after_opening name files = record files { events = option_map (λ events. events ++ Opened name ∷ []) files.events }
+
 -- the files once one of them is closed, which may have failed
 abbrev pub after_closing : Bool → FilesState → FilesState
-after_closing failed files = record files { failed = failed || files.failed }
+after_closing failed files = record files { events = option_map (λ events. events ++ Closed failed ∷ []) files.events; failed = failed || files.failed }
+
+-- the files once the one of this name was opened, and closed before another was; one that can't be opened counts as closed and failed
+abbrev pub after_one : Bool → List ℕ → FilesState → FilesState
+after_one failed name files = after_closing failed (after_opening name files)
+
+-- the files once those of these names were read, each closed before the next was opened, and none of them failed
+abbrev pub after_reading : List (List ℕ) → FilesState → FilesState
+after_reading [] files = files
+after_reading (name ∷ names) files = after_reading names (after_one false name files)
 
 -- the file of this name has this text, and it is not too long
 abbrev pub IsText : FilesState → List ℕ → List ℕ → Type 0
 IsText files name text = IfSome (files.contents name) (λ known. known ≡ text) × (length text ≤ most_file_bytes)
 
--- why the file of this name was not read to its end, and the files afterwards: one of them failed; or it has too many bytes; or
--- an allocation failed
+-- why the file of this name was not read to its end, and the files afterwards: just this one was opened and closed, and it failed; or it
+-- has too many bytes; or an allocation failed
 abbrev pub StopsFile : FilesState → List ℕ → FileFault → FilesState → Type 0
-StopsFile old name Input new = new ≡ record old { failed = true }
-StopsFile old name TooLong new = IfSome (old.contents name) (λ known. most_file_bytes < length known) × (new ≡ old)
-StopsFile old name Memory new = new ≡ old
+StopsFile old name Input new = new ≡ after_one true name old
+StopsFile old name TooLong new = IfSome (old.contents name) (λ known. most_file_bytes < length known) × (new ≡ after_one false name old)
+StopsFile old name Memory new = new ≡ after_one false name old

@@ -15,9 +15,9 @@ use Rattle.iv_run.specs.declared.fault.CliFault.{CliFault}
 use Rattle.iv_run.specs.declared.fault.FileFault.{FileFault}
 use Rattle.iv_cli.specs.ExitReasons.{ending_of, ending_of_file, ending_of_run}
 use Rattle.iv_cli.specs.declared.exit_reason.ExitReason.{ExitReason}
-use Rattle.iv_program.specs.Files.{FilesState}
+use Rattle.iv_program.specs.Files.{FilesState, after_reading}
 use Rattle.iv_program.specs.Limits.{most_line_bytes}
-use Rattle.iv_program.specs.Texts.{Texts, AreTexts, StopsAt}
+use Rattle.iv_program.specs.Texts.{Texts, AreTexts, StopsAt, names_of}
 use Rattle.iv_cli.specs.declared.exit_reason.ExitReason.TheVariants as exit_reason
 
 -- all that a run uses: its files, its input, its output and its messages
@@ -63,11 +63,11 @@ DoesWith true plan texts before after ended line = RunsScript plan texts before 
 DoesWith false plan texts before after ended line =
     PrintsView plan texts before.output after.output ended × (after ≡ record before { output = after.output }) × (line ≡ 0)
 
--- all files of a plan were read, and this was done with their texts
+-- all files of a plan were read, one after another and each once, no other was opened, and this was done with their texts
 pub record HasRead (plan : RunPlan) (before after : World) (ended : ExitReason) (line : ℕ) : Type 0 where
   pub texts : Texts
   pub are : AreTexts before.files plan texts
-  pub same : after.files ≡ before.files
+  pub files : after.files ≡ after_reading (names_of plan) before.files
   pub does : DoesWith (is_session plan.run) plan texts before.streams after.streams ended line
 
 -- a file of a plan was not read to its end, and nothing was read or written

@@ -1,12 +1,12 @@
 //! Files that are opened by their names, and reading those of a plan.
-ghost use Rattle.std.specs.Prelude.{◌≡◌, List, ℕ, Option, None, Some, IfOk, IfErr, OnOk, OnErr, true};
-ghost use Rattle.std.specs.Option.{option_copied, option_map};
+ghost use Rattle.std.specs.Prelude.{◌≡◌, List, [], ◌∷◌, ℕ, Option, None, Some, IfOk, IfErr, OnOk, OnErr, true};
+ghost use Rattle.std.specs.Option.{option_copied, option_map, option_to_list};
 ghost use Rattle.iv_args.specs.Words.{file_of};
 ghost use Rattle.iv_run.specs.SoFar.{AreProjected, IsOfOneRun, IsSaid, SaysSecond};
 ghost use Rattle.iv_run.specs.Inside.SoFar.{SaysFirst};
-ghost use Rattle.iv_program.specs.Files.{FilesState, IsText, StopsFile, opened, after_closing};
+ghost use Rattle.iv_program.specs.Files.{FilesState, IsText, StopsFile, opened, after_opening, after_closing, after_one, after_reading};
 ghost use Rattle.iv_program.specs.Inside.Runs.{Says};
-ghost use Rattle.iv_program.specs.Texts.{Texts, AreTexts, IsTextIfNamed, StopsAt};
+ghost use Rattle.iv_program.specs.Texts.{Texts, AreTexts, IsTextIfNamed, StopsAt, names_of};
 
 use iv_args::{Plan, Slot};
 use iv_bytes::{ReadFault, Source};
@@ -23,14 +23,15 @@ pub trait InputFiles {
     /// A file that is open.
     type File: Source + Drop;
 
-    /// The bytes of the file of each name, if those are known, and whether a file could not be opened or read.
+    /// The bytes of the file of each name and what happened to files so far, if those are known, and whether a file could not be opened
+    /// or read.
     ghost state: { Self → FilesState };
 
     /// Opens the file of this name at its front.
     fn open(&mut self, name: &[u8]) -> Result<Self::File, ReadFault>
         ensures file { IfOk result (λ file. Self.File.state file ≡ opened (state self.old) name.now) }
-        ensures same { OnOk result (state self.new ≡ state self.old) }
-        ensures err { OnErr result (state self.new ≡ record (state self.old) { failed = true }) };
+        ensures ok { OnOk result (state self.new ≡ after_opening name.now (state self.old)) }
+        ensures err { OnErr result (state self.new ≡ after_one true name.now (state self.old)) };
 
     /// Takes back a file that is no longer needed. If it failed, that is remembered.
     fn close(&mut self, file: Self::File)
@@ -47,7 +48,7 @@ fn read_file<A: Allocator + Copy, F: InputFiles>(
     name: &[u8],
 ) -> Result<Vec<u8, A>, FileFault>
     ensures ok { IfOk result (λ bytes. IsText (F.state files.old) name.now bytes.items) }
-    ensures same { OnOk result (F.state files.new ≡ F.state files.old) }
+    ensures after { OnOk result (F.state files.new ≡ after_reading (name.now ∷ []) (F.state files.old)) }
     ensures err { IfErr result (λ fault. StopsFile (F.state files.old) name.now fault (F.state files.new)) }
 {
     let mut file = files.open(name)?;
@@ -64,7 +65,7 @@ fn read_named<A: Allocator + Copy, F: InputFiles>(
     name: &[u8],
 ) -> Result<Vec<u8, A>, SlotFault>
     ensures ok { IfOk result (λ bytes. IsText (F.state files.old) name.now bytes.items) }
-    ensures same { OnOk result (F.state files.new ≡ F.state files.old) }
+    ensures after { OnOk result (F.state files.new ≡ after_reading (name.now ∷ []) (F.state files.old)) }
     ensures err { IfErr result (λ why. (why.0 ≡ slot) × StopsFile (F.state files.old) name.now why.1 (F.state files.new)) }
 {
     match read_file(alloc, files, name) {
@@ -81,7 +82,7 @@ fn read_slot<A: Allocator + Copy, F: InputFiles>(
     slot: Slot,
 ) -> Result<Option<Vec<u8, A>>, SlotFault>
     ensures ok { IfOk result (λ read. IsTextIfNamed (F.state files.old) (file_of plan.now slot) (option_map (λ bytes. bytes.items) read)) }
-    ensures same { OnOk result (F.state files.new ≡ F.state files.old) }
+    ensures after { OnOk result (F.state files.new ≡ after_reading (option_to_list (file_of plan.now slot)) (F.state files.old)) }
     ensures err { IfErr result (λ why. (why.0 ≡ slot)
         × ((name : List ℕ) × (file_of plan.now slot ≡ Some name) × StopsFile (F.state files.old) name why.1 (F.state files.new))) }
 {
@@ -145,7 +146,7 @@ impl<A: Allocator + Copy> FileTexts<A> {
         plan: &Plan<'_, A>,
     ) -> Result<FileTexts<A>, SlotFault>
         ensures ok { IfOk result (λ texts. AreTexts (F.state files.old) plan.now texts) }
-        ensures same { OnOk result (F.state files.new ≡ F.state files.old) }
+        ensures after { OnOk result (F.state files.new ≡ after_reading (names_of plan.now) (F.state files.old)) }
         ensures err { IfErr result (λ why. StopsAt plan.now (F.state files.old) (F.state files.new) why.0 why.1) }
     {
         let sizes = read_named(alloc, files, Slot::Sizes, plan.sizes_file())?;
@@ -169,7 +170,7 @@ fn load_file<K: FromRecord<A>, A: Allocator + Copy, F: InputFiles>(
 ) -> Result<Result<ParsedFile<K, A>, LoadFault>, FileFault>
     ensures ok { IfOk result (λ said. (text : List ℕ) × IsText (F.state files.old) name.now text × IsSaid K.projected loading.now text said) }
     ensures kept { IfOk result (λ said. IfOk said (AreProjected K.projected loading.now.genome loading.now.limit)) }
-    ensures same { OnOk result (F.state files.new ≡ F.state files.old) }
+    ensures after { OnOk result (F.state files.new ≡ after_reading (name.now ∷ []) (F.state files.old)) }
     ensures err { IfErr result (λ fault. StopsFile (F.state files.old) name.now fault (F.state files.new)) }
 {
     let mut file = files.open(name)?;
@@ -187,7 +188,7 @@ fn load_named<K: FromRecord<A>, A: Allocator + Copy, F: InputFiles>(
 ) -> Result<Result<ParsedFile<K, A>, LoadFault>, SlotFault>
     ensures ok { IfOk result (λ said. (text : List ℕ) × IsText (F.state files.old) name.now text × IsSaid K.projected loading.now text said) }
     ensures kept { IfOk result (λ said. IfOk said (AreProjected K.projected loading.now.genome loading.now.limit)) }
-    ensures same { OnOk result (F.state files.new ≡ F.state files.old) }
+    ensures after { OnOk result (F.state files.new ≡ after_reading (name.now ∷ []) (F.state files.old)) }
     ensures err { IfErr result (λ why. (why.0 ≡ slot) × StopsFile (F.state files.old) name.now why.1 (F.state files.new)) }
 {
     match load_file(files, name, loading) {
@@ -205,7 +206,7 @@ fn read_second<K: FromRecord<A>, A: Allocator + Copy, F: InputFiles>(
     ensures ok { OnOk result ((other : Option (List ℕ)) × IsTextIfNamed (F.state files.old) plan.now.other other
         × ((sizes text : List ℕ) → SaysFirst K.projected sizes text loading.old → loading.old.second ≡ None → SaysSecond K.projected sizes text other loading.new)) }
     ensures run { IsOfOneRun loading.old loading.new }
-    ensures same { OnOk result (F.state files.new ≡ F.state files.old) }
+    ensures after { OnOk result (F.state files.new ≡ after_reading (option_to_list plan.now.other) (F.state files.old)) }
     ensures err { IfErr result (λ why. (why.0 ≡ Slot.Other)
         × ((name : List ℕ) × (plan.now.other ≡ Some name) × StopsFile (F.state files.old) name why.1 (F.state files.new))) }
 {
@@ -238,7 +239,7 @@ impl<K: FromRecord<A>, A: Allocator + Copy> ReadFiles<K, A> {
     ) -> Result<Self, SlotFault>
         ensures ok { IfOk result (λ read. (texts : Texts) × AreTexts (F.state files.old) plan.now texts
             × Says K.projected plan.now texts read.loading (option_map (λ bytes. bytes.items) read.bases)) }
-        ensures same { OnOk result (F.state files.new ≡ F.state files.old) }
+        ensures after { OnOk result (F.state files.new ≡ after_reading (names_of plan.now) (F.state files.old)) }
         ensures err { IfErr result (λ why. StopsAt plan.now (F.state files.old) (F.state files.new) why.0 why.1) }
     {
         let sizes = read_named(alloc, files, Slot::Sizes, plan.sizes_file())?;

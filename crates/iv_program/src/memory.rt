@@ -1,5 +1,5 @@
 //! Files in memory.
-ghost use Rattle.std.specs.Prelude.{◌≡◌, ◌<◌, false};
+ghost use Rattle.std.specs.Prelude.{◌≡◌, ◌<◌, None, false};
 ghost use Rattle.std.specs.Option.{option_copied};
 ghost use Rattle.iv_program.specs.Memory.{bytes_named};
 
@@ -52,7 +52,8 @@ impl<'a> MemFiles<'a> {
 impl<'a> InputFiles for MemFiles<'a> {
     type File = MemSource<'a>;
 
-    ghost state = { λ f. record { contents = bytes_named f.files.now; failed = f.failed } };
+    // What happened to them is not known.
+    ghost state = { λ f. record { contents = bytes_named f.files.now; events = None; failed = f.failed } };
 
     fn open(&mut self, name: &[u8]) -> Result<MemSource<'a>, ReadFault> {
         match bytes_of(self.files, name) {

@@ -11,11 +11,12 @@ ghost use Rattle.iv_run.specs.IntervalsViews.{AskForIntervals};
 ghost use Rattle.iv_run.specs.Inside.IntervalsViews.{AskForColumns};
 ghost use Rattle.iv_run.specs.Shots.{shown};
 ghost use Rattle.iv_cli.specs.ExitReasons.{is_through, line_of, status_of};
+ghost use Rattle.iv_program.specs.Files.{after_reading};
 ghost use Rattle.iv_program.specs.Outcomes.{AreSound, DoesAll, Hold, PrintsJust};
 ghost use Rattle.iv_program.specs.Program.{Finishes, Gives, Runs, Tells, world};
 ghost use Rattle.iv_program.specs.Runs.{PrintsView, RunsPlan, World, ending_of_shot};
 ghost use Rattle.iv_program.specs.Inside.Runs.{Says};
-ghost use Rattle.iv_program.specs.Texts.{Texts, AreTexts, StopsAt};
+ghost use Rattle.iv_program.specs.Texts.{Texts, AreTexts, StopsAt, names_of};
 ghost use Rattle.iv_program.specs.declared.program.Ended.{Ended};
 
 use crate::files::{FileTexts, InputFiles, ReadFiles, SlotFault};
@@ -112,7 +113,7 @@ fn print_view<A: Allocator + Copy, F: InputFiles, W: Sink>(
 ) -> Result<ExitReason, SlotFault>
     ensures ok { IfOk result (λ ended. (texts : Texts) × AreTexts (F.state files.old) plan.now texts
         × PrintsView plan.now texts (W.state output.old) (W.state output.new) ended) }
-    ensures same { OnOk result (F.state files.new ≡ F.state files.old) }
+    ensures after { OnOk result (F.state files.new ≡ after_reading (names_of plan.now) (F.state files.old)) }
     ensures err { IfErr result (λ why. StopsAt plan.now (F.state files.old) (F.state files.new) why.0 why.1) }
     ensures nothing { OnErr result (W.state output.new ≡ W.state output.old) }
 {

@@ -3,9 +3,10 @@ ghost use Rattle.std.specs.Prelude.{◌≡◌, ◌≤◌, IfOk, IfErr, OnOk, OnE
 ghost use Rattle.std.specs.Option.{option_map};
 ghost use Rattle.iv_session.specs.Streams.{streams};
 ghost use Rattle.iv_args.specs.Words.{RunPlan, most_limit};
+ghost use Rattle.iv_program.specs.Files.{after_reading};
 ghost use Rattle.iv_program.specs.Runs.{RunsScript, stopped_at};
 ghost use Rattle.iv_program.specs.Inside.Runs.{Says};
-ghost use Rattle.iv_program.specs.Texts.{Texts, AreTexts, StopsAt};
+ghost use Rattle.iv_program.specs.Texts.{Texts, AreTexts, StopsAt, names_of};
 
 use crate::files::{InputFiles, ReadFiles, SlotFault};
 use crate::program::Ended;
@@ -77,7 +78,7 @@ pub(crate) fn run_session<A: Allocator + Copy, F: InputFiles, R: Source, W: Sink
         × RunsScript plan.now texts
         (streams (R.state input.old) (W.state output.old) (E.state messages.old))
         (streams (R.state input.new) (W.state output.new) (E.state messages.new)) ended.exit_reason ended.line) }
-    ensures same { OnOk result (F.state files.new ≡ F.state files.old) }
+    ensures after { OnOk result (F.state files.new ≡ after_reading (names_of plan.now) (F.state files.old)) }
     ensures err { IfErr result (λ why. StopsAt plan.now (F.state files.old) (F.state files.new) why.0 why.1) }
     ensures nothing { OnErr result (streams (R.state input.new) (W.state output.new) (E.state messages.new)
         ≡ streams (R.state input.old) (W.state output.old) (E.state messages.old)) }
