@@ -1,11 +1,16 @@
 //! Lemmas on the definitions: functions that do nothing, whose contracts are the lemmas.
-ghost use Rattle.std.specs.Prelude.{◌≡◌, ◌↔◌, ◌⊎◌, ℕ, ◌+◌, ◌≤◌, ◌<◌, ◌++◌, ◌∷◌, [], List, Some, None, Result, Ok, Err, length};
+ghost use Rattle.std.specs.Prelude.{◌≡◌, ◌↔◌, ◌⊎◌, ℕ, ◌+◌, ◌≤◌, ◌<◌, ◌++◌, ◌∷◌, [], List, Some, None, Result, Ok, Err, length, IsNone};
+ghost use Rattle.std.specs.Io.KnownBytes.{Appends};
 ghost use Rattle.iv_text.specs.Bytes.{line_feed};
 ghost use Rattle.iv_text.specs.Lines.{lines, HasNoFeed};
 ghost use Rattle.iv_workspace.specs.States.{State};
 ghost use Rattle.iv_session.specs.Endings.{Ran, AreSound, HadMemory, IsTooLongAt};
 ghost use Rattle.iv_session.specs.Limits.{line_sizes, AreWithin, Passes, first_over};
+ghost use Rattle.iv_session.specs.ScriptLines.{Runs, RunsLast};
+ghost use Rattle.iv_session.specs.Stops.{Stopped};
 ghost use Rattle.iv_session.specs.Streams.{Streams};
+ghost use Rattle.iv_session.specs.Written.{outputs, messages_from};
+ghost use Rattle.iv_session.specs.declared.script.RunCause.{RunCause};
 ghost use Rattle.iv_session.specs.declared.script.RunCause.TheVariants.{Output, Messages};
 ghost use Rattle.iv_session.specs.declared.script.RunFault.{RunFault};
 ghost use Rattle.iv_session.specs.declared.script.Summary.{Summary};
@@ -32,4 +37,10 @@ pub fn too_long_is_exact()
     ensures done { (old new : State) (before after : Streams) (most_lines most : ℕ) (text : List ℕ) (summary : Summary) → before.input.coming ≡ Some text → Ran old new before after most_lines most (Ok summary) → first_over most_lines most 1 (line_sizes text) ≡ None }
     ensures noticed { (old new : State) (before after : Streams) (most_lines most n : ℕ) (text : List ℕ) (fault : RunFault) → before.input.coming ≡ Some text → Ran old new before after most_lines most (Err fault) → first_over most_lines most 1 (line_sizes text) ≡ Some n → fault.line ≤ n }
     ensures ran { (old new : State) (before after : Streams) (most_lines most n : ℕ) (text : List ℕ) (fault : RunFault) → before.input.coming ≡ Some text → Ran old new before after most_lines most (Err fault) → (fault.cause ≡ Output) ⊎ (fault.cause ≡ Messages) → first_over most_lines most 1 (line_sizes text) ≡ Some n → fault.line < n }
+{}
+
+/// A script that ends early has handed on all that the lines before wrote, where the output or the messages hold nothing back.
+pub fn lines_before_are_handed_on()
+    ensures output { (old new : State) (before after : Streams) (most_lines most n : ℕ) (cause : RunCause) (stopped : Stopped Runs RunsLast old new before after most_lines most n cause) → IsNone before.output.held → Appends before.output.reached stopped.reached.output.reached (outputs stopped.written) }
+    ensures messages { (old new : State) (before after : Streams) (most_lines most n : ℕ) (cause : RunCause) (stopped : Stopped Runs RunsLast old new before after most_lines most n cause) → IsNone before.messages.held → Appends before.messages.reached stopped.reached.messages.reached (messages_from 1 stopped.written) }
 {}

@@ -1,6 +1,6 @@
 use Rattle.std.proofs.Common.{◌≡◌, ◌∙◌, ◌<◌, refl, ap, sym, subst, arith}
 use Rattle.std.proofs.lemmas.Result.{err_from_is_err_and}
-use Rattle.iv_bytes.proofs.PutLemmas.{Puts-finished, FailsIn-given_up}
+use Rattle.iv_bytes.proofs.PutLemmas.{Puts-finished, FailsIn-given_up, same-top}
 use Rattle.std.specs.Prelude.{IfSome}
 use Rattle.iv_view.specs.RegionText.{IsWithin}
 use Rattle.iv_workspace.specs.Inside.ViewStates.{all_seen}
@@ -33,8 +33,7 @@ returns-in_err-put_views-clause-printed g c =
     let p = err_from_is_err_and c.from_residual-in_err-put_views.result c.from_residual-in_err-put_views.ensures.1 in
     let new = views-changed all_current _ c.args.self.now (all_seen c.refresh_all.new.self) c.self.view_is c.in_ok-refresh_all.ensures.ok in
     let failed = rw (c.new-buffer.ensures.same, c.new-buffer.ensures.empty) at c.in_err-put_views.ensures.text in
-    let names = failed.same in
-    let named : c.put_views.new.sink.sink.ghost_name ≡ c.new-buffer.result.sink.ghost_name = cc names in
+    let named : c.put_views.new.sink.sink.ghost_name ≡ c.new-buffer.result.sink.ghost_name = (same-top _ _ _ _ _ _ failed.same).0 in
     let same = c.in_err-put_views.sink-1-own.given.1 (sym c.new-buffer.ensures.same_reference ∙ sym named) in
     rw (p.1, p.2, same) (FailsIn-text _ _ _ _ (ap (all_text c.args.part) new ∙ same-all_text c.args.part c.args.self.now) (FailsIn-given_up _ _ _ _ _ _ failed), new)
 
@@ -42,8 +41,7 @@ pub returns-clause-printed : goal.returns-clause-printed
 returns-clause-printed g c =
     let new = views-changed all_current _ c.args.self.now (all_seen c.refresh_all.new.self) c.self.view_is c.in_ok-refresh_all.ensures.ok in
     let took = rw (c.new-buffer.ensures.same, c.new-buffer.ensures.empty) at c.in_ok-put_views.ensures.text in
-    let names = took.moved.same in
-    let named : c.put_views.new.sink.sink.ghost_name ≡ c.new-buffer.result.sink.ghost_name = cc names in
+    let named : c.put_views.new.sink.sink.ghost_name ≡ c.new-buffer.result.sink.ghost_name = (same-top _ _ _ _ _ _ took.moved.same).0 in
     let same = c.sink-2-1.given.1 (sym c.new-buffer.ensures.same_reference ∙ sym named) in
     let text = ap (all_text c.args.part) new ∙ same-all_text c.args.part c.args.self.now in
     rw same (all-answered c.args.part _ _ _ _ c.finish.result _ c.answer_of.ensures (Puts-text _ _ c.finish.result _ _ text (Puts-finished _ _ _ _ _ _ _ c.finish.result took c.finish.ensures)) new)

@@ -1,7 +1,7 @@
 use Rattle.std.proofs.Common.{◌≡◌, ◌∙◌, false, true, refl, ap, sym, subst}
 use Rattle.std.specs.Prelude.{IfNone, Option}
 use Rattle.std.proofs.lemmas.Result.{err_from_is_err_and}
-use Rattle.iv_bytes.proofs.PutLemmas.{Puts-finished}
+use Rattle.iv_bytes.proofs.PutLemmas.{Puts-finished, same-top}
 use Rattle.iv_view.specs.declared.view.View.{View}
 use Rattle.iv_workspace.specs.Inside.ViewStates.{IsKept, all_owned, all_seen}
 use Rattle.iv_workspace.specs.OpenViews.{current, with_current}
@@ -52,8 +52,7 @@ returns-clause-printed g c =
     let found = view-found _ c.in-Some.view (sym c.in-Some.is ∙ c.in_ok-view.ensures.view) in
     let text = same-text c.args.part _ c.args.self.now found.0 c.in-Some.view c.self.view_is found.2 in
     let took = rw (c.new-buffer.ensures.same, c.new-buffer.ensures.empty) at c.in_ok-put.ensures.text in
-    let names = took.moved.same in
-    let named : c.put.new.sink.sink.ghost_name ≡ c.new-buffer.result.sink.ghost_name = cc names in
+    let named : c.put.new.sink.sink.ghost_name ≡ c.new-buffer.result.sink.ghost_name = (same-top _ _ _ _ _ _ took.moved.same).0 in
     let same = c.sink-2-1.given.1 (sym c.new-buffer.ensures.same_reference ∙ sym named) in
     let puts = Puts-text _ _ c.finish.result _ _ text
     (rw (c.as_ref-second.ensures.value, c.as_ref-fasta.ensures.value) at (Puts-finished _ _ _ _ _ _ _ c.finish.result took c.finish.ensures)) in
