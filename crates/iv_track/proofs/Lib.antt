@@ -11,6 +11,7 @@ pub mod MapLemmas
 pub mod Nearest
 pub mod NumberOrder
 pub mod EntryIndexLemmas
+pub mod ReplacedLemmas
 pub mod RoomLemmas
 pub mod Splits
 pub mod StepLemmas

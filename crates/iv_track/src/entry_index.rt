@@ -4,6 +4,7 @@ ghost use Rattle.std.specs.List.{filter, slice_get, HoldsAt};
 ghost use Rattle.std.specs.Ordering.{is_le, is_lt};
 ghost use Rattle.std.specs.Option.{option_copied};
 ghost use Rattle.iv_track.specs.Inside.Chunks.{AreChunks, AreFilled, IsFound, IsGap, IsInside, IsWithin, IsSplit, IsIndexWithRoom, before, from, joined, most_at_once, most_in_chunk, starts_by};
+ghost use Rattle.iv_track.specs.Inside.Replaced.{IsAmong, IsReplaced};
 
 use crate::starts::Abbreviated;
 use std::alloc::{AllocError, Allocator};
@@ -260,7 +261,7 @@ pub(crate) fn first_from<T, A: Allocator>(chunks: &[Vec<T, A>], at: EntryIndex) 
     }
 }
 
-/// Inserts an entry at an index.
+/// Inserts an entry at an index: all chunks except that of the index are the same, which became one or two.
 ///
 /// # Errors
 ///
@@ -275,6 +276,7 @@ pub(crate) fn insert_at<T: Drop, A: Allocator + Clone + Drop>(
     ensures ok { OnOk result (joined chunks.new.items ≡ before chunks.old.items at ++ entry ∷ from chunks.old.items at) }
     ensures err { OnErr result (joined chunks.new.items ≡ joined chunks.old.items) }
     ensures filled { AreFilled chunks.new.items }
+    ensures others { IsReplaced chunks.old.items at.chunk 1 2 chunks.new.items }
 {
     if chunks.is_empty() {
         let mut first = Vec::with_capacity(chunks.allocator().clone()?, MOST_IN_CHUNK)?;
@@ -342,6 +344,7 @@ fn with_room<T: Drop, A: Allocator + Clone + Drop>(
     requires within { IsWithin chunks.old.items at }
     requires filled { AreFilled chunks.old.items }
     ensures ok { IfOk result (IsIndexWithRoom chunks.old.items at chunks.new.items) }
+    ensures others { IfOk result (λ q. IsAmong chunks.old.items at.chunk 1 2 chunks.new.items q.chunk) }
     ensures err { OnErr result (chunks.new.items ≡ chunks.old.items) }
     ensures filled { AreFilled chunks.new.items }
 {
@@ -399,7 +402,7 @@ fn move_tail<T, A: Allocator>(left: &mut Vec<T, A>, half: usize, right: &mut Vec
     right.reverse();
 }
 
-/// Takes the entry at an index out, and with it a chunk that it leaves empty.
+/// Takes the entry at an index out, and with it a chunk that it leaves empty: all other chunks are the same.
 pub(crate) fn remove_at<T: Drop, A: Allocator + Drop>(
     chunks: &mut Vec<Vec<T, A>, A>,
     at: EntryIndex,
@@ -409,6 +412,7 @@ pub(crate) fn remove_at<T: Drop, A: Allocator + Drop>(
     ensures value { from chunks.old.items at ≡ result ∷ drop 1 (from chunks.old.items at) }
     ensures rest { joined chunks.new.items ≡ before chunks.old.items at ++ drop 1 (from chunks.old.items at) }
     ensures filled { AreFilled chunks.new.items }
+    ensures others { IsReplaced chunks.old.items at.chunk 1 1 chunks.new.items }
 {
     let chunk = &mut chunks[at.chunk];
     let entry = chunk.remove(at.index);
