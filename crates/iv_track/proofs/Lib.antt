@@ -7,6 +7,7 @@ pub mod DifferentLemmas
 mod CopyLemmas
 pub mod Edits
 pub mod FindLemmas
+pub mod JoinLemmas
 pub mod MapLemmas
 pub mod Nearest
 pub mod NumberOrder

@@ -1,5 +1,5 @@
 //! Numbers instead of keys, by which a search begins.
-ghost use Rattle.std.specs.Prelude.{◌≡◌, ◌+◌, ◌<◌, ◌≤◌, [], vec_len, vec_capacity};
+ghost use Rattle.std.specs.Prelude.{◌≡◌, ◌+◌, ◌<◌, ◌≤◌, [], None, vec_len, vec_capacity, IfSome};
 ghost use Rattle.iv_track.specs.Inside.Replaced.{IsReplaced};
 
 use crate::entry_index::{EntryIndex, MOST_IN_CHUNK};
@@ -146,6 +146,19 @@ impl<A: Allocator + Clone + Drop> Starts<A> {
             remove_or_write(list, chunks, at);
         }
     }
+
+    /// Follows the chunks after the entries of the one after this, if there is one, were moved into it.
+    pub(crate) fn follow_join(&mut self, joined: Option<usize>)
+        ensures others { IfSome joined (λ chunk. IsReplaced self.old (chunk + 1) 1 1 self.new) }
+        ensures none { joined ≡ None → self.new ≡ self.old }
+    {
+        let Some(chunk) = joined else {
+            return;
+        };
+        if let Some(list) = &mut self.list {
+            remove_next(list, chunk);
+        }
+    }
 }
 
 /// The index after this one in a list of so many items, or its end.
@@ -229,6 +242,16 @@ fn remove_or_write<K: Abbreviated, V, A: Allocator>(
         return;
     }
     remove_start(list, at.chunk);
+}
+
+/// Removes the abbreviation of the chunk after this one, if there is one.
+fn remove_next<A: Allocator>(list: &mut Vec<u64, A>, chunk: usize)
+    ensures others { IsReplaced list.old.items (chunk + 1) 1 1 list.new.items }
+{
+    if chunk >= list.len() {
+        return;
+    }
+    remove_start(list, chunk + 1);
 }
 
 /// Removes the abbreviation of a chunk, if there is one.
