@@ -7,10 +7,12 @@ pub mod DifferentLemmas
 mod CopyLemmas
 pub mod Edits
 pub mod FindLemmas
+pub mod JoinLemmas
 pub mod MapLemmas
 pub mod Nearest
 pub mod NumberOrder
 pub mod EntryIndexLemmas
+pub mod ReplacedLemmas
 pub mod RoomLemmas
 pub mod Splits
 pub mod StepLemmas

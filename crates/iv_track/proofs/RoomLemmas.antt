@@ -7,6 +7,7 @@ use Rattle.std.proofs.Math.Seq.{take-add}
 use Rattle.std.proofs.lemmas.List.{take-append-drop, take-append-le, drop-append-le, take_at, drop_at, get_or_at, take_more_set, drop-set-lt, take-take, drop-drop, append-nil, length-append, length-take-le, length-drop, length_push}
 use Rattle.std.proofs.lemmas.List.Concat.{flat_map-append}
 use Rattle.iv_track.specs.Inside.Chunks.{joined, before, from, IsFilled, AreFilled, IsSplit, IsWithin, IsIndexWithRoom, most_in_chunk}
+use Rattle.iv_track.specs.Inside.Replaced.{IsReplaced, IsAmong}
 use Rattle.iv_track.proofs.ChunkLemmas.{before_at, from_at, filled-insert, filled-set}
 
 -- an index in a chunk between others
@@ -66,6 +67,14 @@ module _ {X Z : Type 0} {old : List (Vec X Z)} {c n size : ℕ} {new : List (Vec
   -- the same with the two parts together
   parts_left : new ≡ take c old ++ split.left ∷ split.right ∷ drop (c + 1) old
   parts_left = parts ∙ append_assoc (take c old) (split.left ∷ []) (split.right ∷ drop (c + 1) old)
+
+  -- the other chunks are the same
+  pub split_among : (q : ℕ) → c ≤ q → q < c + 2 → IsAmong old c 1 2 new q
+  split_among q no_less below = record {
+    replaced = record { others = split.left ∷ split.right ∷ []; few = omega arith; are = parts_left };
+    no_less = no_less;
+    below = below;
+  }
 
   -- the number of chunks before
   front_len : length (take c old) ≡ c

@@ -2,5 +2,6 @@
 pub mod Chunks
 pub mod Counted
 pub mod LengthClasses
+pub mod Replaced
 pub mod Steps
 pub mod Tracked

@@ -1,9 +1,10 @@
 //! Indexes in a list of chunks, and what is done at them.
-ghost use Rattle.std.specs.Prelude.{◌≡◌, ◌+◌, ◌-◌, ◌<◌, ◌≤◌, true, List, [], ◌∷◌, ◌++◌, length, take, drop, All, vec_len, vec_capacity, IfOk, OnOk, IfErr, OnErr};
+ghost use Rattle.std.specs.Prelude.{◌≡◌, ◌+◌, ◌-◌, ◌<◌, ◌≤◌, true, false, None, List, [], ◌∷◌, ◌++◌, length, take, drop, All, vec_len, vec_capacity, IfOk, OnOk, IfErr, OnErr, IfSome};
 ghost use Rattle.std.specs.List.{filter, slice_get, HoldsAt};
 ghost use Rattle.std.specs.Ordering.{is_le, is_lt};
 ghost use Rattle.std.specs.Option.{option_copied};
-ghost use Rattle.iv_track.specs.Inside.Chunks.{AreChunks, AreFilled, IsFound, IsGap, IsInside, IsWithin, IsSplit, IsIndexWithRoom, before, from, joined, most_at_once, most_in_chunk, starts_by};
+ghost use Rattle.iv_track.specs.Inside.Chunks.{AreChunks, AreFilled, AreSmall, IsFound, IsGap, IsInside, IsWithin, IsSplit, IsIndexWithRoom, before, from, joined, most_at_once, most_in_chunk, starts_by};
+ghost use Rattle.iv_track.specs.Inside.Replaced.{IsAmong, IsReplaced};
 
 use crate::starts::Abbreviated;
 use std::alloc::{AllocError, Allocator};
@@ -260,7 +261,7 @@ pub(crate) fn first_from<T, A: Allocator>(chunks: &[Vec<T, A>], at: EntryIndex) 
     }
 }
 
-/// Inserts an entry at an index.
+/// Inserts an entry at an index: all chunks except that of the index are the same, which became one or two.
 ///
 /// # Errors
 ///
@@ -275,6 +276,7 @@ pub(crate) fn insert_at<T: Drop, A: Allocator + Clone + Drop>(
     ensures ok { OnOk result (joined chunks.new.items ≡ before chunks.old.items at ++ entry ∷ from chunks.old.items at) }
     ensures err { OnErr result (joined chunks.new.items ≡ joined chunks.old.items) }
     ensures filled { AreFilled chunks.new.items }
+    ensures others { IsReplaced chunks.old.items at.chunk 1 2 chunks.new.items }
 {
     if chunks.is_empty() {
         let mut first = Vec::with_capacity(chunks.allocator().clone()?, MOST_IN_CHUNK)?;
@@ -342,6 +344,7 @@ fn with_room<T: Drop, A: Allocator + Clone + Drop>(
     requires within { IsWithin chunks.old.items at }
     requires filled { AreFilled chunks.old.items }
     ensures ok { IfOk result (IsIndexWithRoom chunks.old.items at chunks.new.items) }
+    ensures others { IfOk result (λ q. IsAmong chunks.old.items at.chunk 1 2 chunks.new.items q.chunk) }
     ensures err { OnErr result (chunks.new.items ≡ chunks.old.items) }
     ensures filled { AreFilled chunks.new.items }
 {
@@ -399,7 +402,7 @@ fn move_tail<T, A: Allocator>(left: &mut Vec<T, A>, half: usize, right: &mut Vec
     right.reverse();
 }
 
-/// Takes the entry at an index out, and with it a chunk that it leaves empty.
+/// Takes the entry at an index out, and with it a chunk that it leaves empty: all other chunks are the same.
 pub(crate) fn remove_at<T: Drop, A: Allocator + Drop>(
     chunks: &mut Vec<Vec<T, A>, A>,
     at: EntryIndex,
@@ -409,6 +412,7 @@ pub(crate) fn remove_at<T: Drop, A: Allocator + Drop>(
     ensures value { from chunks.old.items at ≡ result ∷ drop 1 (from chunks.old.items at) }
     ensures rest { joined chunks.new.items ≡ before chunks.old.items at ++ drop 1 (from chunks.old.items at) }
     ensures filled { AreFilled chunks.new.items }
+    ensures others { IsReplaced chunks.old.items at.chunk 1 1 chunks.new.items }
 {
     let chunk = &mut chunks[at.chunk];
     let entry = chunk.remove(at.index);
@@ -416,4 +420,70 @@ pub(crate) fn remove_at<T: Drop, A: Allocator + Drop>(
         chunks.remove(at.chunk);
     }
     entry
+}
+
+/// Moves the entries of a chunk into the one before it if one of the two is this chunk and both have few, and gives the index of the
+/// chunk that has them all. It takes no memory.
+///
+/// All other chunks are the same.
+pub(crate) fn join_small<T: Drop, A: Allocator + Drop>(
+    chunks: &mut Vec<Vec<T, A>, A>,
+    chunk: usize,
+) -> Option<usize>
+    requires filled { AreFilled chunks.old.items }
+    ensures same { joined chunks.new.items ≡ joined chunks.old.items }
+    ensures filled { AreFilled chunks.new.items }
+    ensures others { IfSome result (λ c. IsReplaced chunks.old.items c 2 1 chunks.new.items) }
+    ensures near { IfSome result (λ c. (c ≤ chunk) × (chunk ≤ c + 1)) }
+    ensures none { result ≡ None → chunks.new.items ≡ chunks.old.items }
+{
+    if join_next(chunks, chunk) {
+        return Some(chunk);
+    }
+    let before = chunk.checked_sub(1)?;
+    if join_next(chunks, before) {
+        return Some(before);
+    }
+    None
+}
+
+/// Moves the entries of the next chunk into this one if both have few, and gives whether they have.
+fn join_next<T: Drop, A: Allocator + Drop>(chunks: &mut Vec<Vec<T, A>, A>, chunk: usize) -> bool
+    requires filled { AreFilled chunks.old.items }
+    ensures same { joined chunks.new.items ≡ joined chunks.old.items }
+    ensures filled { AreFilled chunks.new.items }
+    ensures others { result ≡ true → IsReplaced chunks.old.items chunk 2 1 chunks.new.items }
+    ensures none { result ≡ false → chunks.new.items ≡ chunks.old.items }
+{
+    if !are_small(chunks, chunk) {
+        return false;
+    }
+    let next = chunks.remove(chunk + 1);
+    append_all(&mut chunks[chunk], next);
+    true
+}
+
+/// Whether a chunk and the next one have together less than half of the entries that one may have, and the first has room for them.
+fn are_small<T, A: Allocator>(chunks: &[Vec<T, A>], chunk: usize) -> bool
+    ensures { result ≡ true → AreSmall chunks.now chunk }
+{
+    if chunks.len() < 2 || chunks.len() - 2 < chunk {
+        return false;
+    }
+    let left = &chunks[chunk];
+    let right = &chunks[chunk + 1];
+    let len = left.len() + right.len();
+    len < MOST_IN_CHUNK / 2 && len <= left.capacity()
+}
+
+/// Adds the items of a vector to one that has room for them.
+fn append_all<T: Drop, A: Allocator + Drop>(left: &mut Vec<T, A>, right: Vec<T, A>)
+    requires room { vec_len left.old + vec_len right ≤ vec_capacity left.old }
+    ensures all { left.new.items ≡ left.old.items ++ right.items }
+{
+    let mut right = right;
+    match left.append(&mut right) {
+        Ok(()) => {}
+        Err(_) => unreachable!(),
+    }
 }

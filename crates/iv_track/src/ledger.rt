@@ -12,7 +12,8 @@ ghost use Rattle.iv_track.specs.Entries.{IsLedger, value_at, first_from, first_a
 ghost use Rattle.iv_track.specs.Steps.{ticked};
 
 use crate::entry_index::{
-    self, EntryIndex, append, find, index_after, index_from, insert_at, remove_at, with_last,
+    self, EntryIndex, append, find, index_after, index_from, insert_at, join_small, remove_at,
+    with_last,
 };
 use crate::meter::Meter;
 use crate::starts::{Abbreviated, Starts};
@@ -177,6 +178,8 @@ impl<K: Ord + Abbreviated + Drop, V: Drop, A: Allocator + Clone + Drop> Ledger<K
             Ok(at) => {
                 let (_, value) = remove_at(&mut self.chunks, at);
                 self.starts.follow_remove(&self.chunks, at);
+                let joined = join_small(&mut self.chunks, at.chunk);
+                self.starts.follow_join(joined);
                 self.len -= 1;
                 Some(value)
             }

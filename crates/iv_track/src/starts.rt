@@ -1,9 +1,11 @@
 //! Numbers instead of keys, by which a search begins.
-ghost use Rattle.std.specs.Prelude.{◌<◌, ◌≤◌, vec_len, vec_capacity};
+ghost use Rattle.std.specs.Prelude.{◌≡◌, ◌+◌, ◌<◌, ◌≤◌, [], None, vec_len, vec_capacity, IfSome};
+ghost use Rattle.iv_track.specs.Inside.Replaced.{IsReplaced};
 
 use crate::entry_index::{EntryIndex, MOST_IN_CHUNK};
 use iv_text::Record;
 use std::alloc::{AllocError, Allocator};
+use std::marker::Model;
 
 /// A key with a number for a first guess of where it is.
 ///
@@ -48,15 +50,29 @@ impl<A: Allocator> Abbreviated for Record<A> {
 
 /// The abbreviations of the first keys of chunks, side by side, so that a search for a chunk stays in few lines of memory.
 ///
-/// They give a search its first guess. No contract says what they are, and none rests on it.
+/// They give a search its first guess, and no answer rests on them. So the contracts don't say which numbers they are. They say which
+/// ones a call leaves as they were: all except those of the chunk at its index.
+///
+/// The model is their list.
 #[derive(Drop)]
 pub(crate) struct Starts<A: Allocator> {
     list: Option<Vec<u64, A>>,
 }
 
+impl<A: Allocator> Model for Starts<A> {
+    ghost use Rattle.std.specs.Prelude.{ℕ, List};
+    ghost use Rattle.iv_track.specs.Inside.Replaced.{listed};
+
+    ghost Value = { List ℕ };
+
+    ghost view = { λ s. listed s.list };
+}
+
 impl<A: Allocator + Clone + Drop> Starts<A> {
     /// No abbreviation yet; nothing is allocated.
-    pub(crate) fn new() -> Self {
+    pub(crate) fn new() -> Self
+        ensures { result ≡ [] }
+    {
         Starts { list: None }
     }
 
@@ -75,7 +91,9 @@ impl<A: Allocator + Clone + Drop> Starts<A> {
     }
 
     /// The abbreviations, in the order of the chunks.
-    pub(crate) fn as_slice(&self) -> &[u64] {
+    pub(crate) fn as_slice(&self) -> &[u64]
+        ensures { result.now ≡ self.now }
+    {
         match &self.list {
             Some(list) => list,
             None => &[],
@@ -87,7 +105,9 @@ impl<A: Allocator + Clone + Drop> Starts<A> {
         &mut self,
         chunks: &Vec<Vec<T, A>, A>,
         at: EntryIndex,
-    ) -> Result<(), AllocError> {
+    ) -> Result<(), AllocError>
+        ensures same { self.new ≡ self.old }
+    {
         if let Some(chunk) = chunks.get(at.chunk) {
             if chunk.len() < MOST_IN_CHUNK {
                 return Ok(());
@@ -106,20 +126,11 @@ impl<A: Allocator + Clone + Drop> Starts<A> {
         &mut self,
         chunks: &[Vec<(K, V), A>],
         at: EntryIndex,
-    ) {
-        let Some(list) = &mut self.list else {
-            return;
-        };
-        if list.len() < chunks.len() && list.len() < list.capacity() {
-            let next = if at.chunk < list.len() {
-                at.chunk + 1
-            } else {
-                list.len()
-            };
-            insert_start(list, chunks, next);
-        }
-        if at.index == 0 {
-            write_start(list, chunks, at.chunk);
+    )
+        ensures others { IsReplaced self.old at.chunk 1 2 self.new }
+    {
+        if let Some(list) = &mut self.list {
+            insert_and_write(list, chunks, at);
         }
     }
 
@@ -128,56 +139,126 @@ impl<A: Allocator + Clone + Drop> Starts<A> {
         &mut self,
         chunks: &[Vec<(K, V), A>],
         at: EntryIndex,
-    ) {
-        let Some(list) = &mut self.list else {
+    )
+        ensures others { IsReplaced self.old at.chunk 1 1 self.new }
+    {
+        if let Some(list) = &mut self.list {
+            remove_or_write(list, chunks, at);
+        }
+    }
+
+    /// Follows the chunks after the entries of the one after this, if there is one, were moved into it.
+    pub(crate) fn follow_join(&mut self, joined: Option<usize>)
+        ensures others { IfSome joined (λ chunk. IsReplaced self.old (chunk + 1) 1 1 self.new) }
+        ensures none { joined ≡ None → self.new ≡ self.old }
+    {
+        let Some(chunk) = joined else {
             return;
         };
-        if chunks.len() < list.len() {
-            if at.chunk < list.len() {
-                list.remove(at.chunk);
-            }
-            return;
-        }
-        if at.index == 0 {
-            write_start(list, chunks, at.chunk);
+        if let Some(list) = &mut self.list {
+            remove_next(list, chunk);
         }
     }
 }
 
-/// Inserts the abbreviation of the first key of a chunk that is new.
+/// The index after this one in a list of so many items, or its end.
+fn next_index(index: usize, len: usize) -> usize
+    ensures next { index < len → result ≡ index + 1 }
+    ensures end { len ≤ index → result ≡ len }
+{
+    if index < len { index + 1 } else { len }
+}
+
+/// The abbreviation of the first key of a chunk, if there is one.
+fn first_start<K: Abbreviated, V, A: Allocator>(
+    chunks: &[Vec<(K, V), A>],
+    chunk: usize,
+) -> Option<u64> {
+    let entry = chunks.get(chunk)?.first()?;
+    Some(entry.0.abbreviation())
+}
+
+/// Inserts the abbreviation of a chunk if there are more chunks than abbreviations.
 fn insert_start<K: Abbreviated, V, A: Allocator>(
     list: &mut Vec<u64, A>,
     chunks: &[Vec<(K, V), A>],
     chunk: usize,
 )
-    requires room { vec_len list.old < vec_capacity list.old }
     requires in_range { chunk ≤ vec_len list.old }
+    ensures others { IsReplaced list.old.items chunk 0 1 list.new.items }
 {
-    let Some(entries) = chunks.get(chunk) else {
+    if chunks.len() <= list.len() || list.capacity() <= list.len() {
+        return;
+    }
+    let Some(start) = first_start(chunks, chunk) else {
         return;
     };
-    let Some(entry) = entries.first() else {
-        return;
-    };
-    match list.insert(chunk, entry.0.abbreviation()) {
+    match list.insert(chunk, start) {
         Ok(()) => {}
         Err(_) => unreachable!(),
     }
 }
 
-/// Writes the abbreviation of the first key of a chunk.
+/// Writes the abbreviation of a chunk if the index is that of its first entry.
 fn write_start<K: Abbreviated, V, A: Allocator>(
     list: &mut Vec<u64, A>,
     chunks: &[Vec<(K, V), A>],
-    chunk: usize,
-) {
-    let Some(entries) = chunks.get(chunk) else {
+    at: EntryIndex,
+)
+    ensures others { IsReplaced list.old.items at.chunk 1 1 list.new.items }
+{
+    if at.index > 0 || list.len() <= at.chunk {
+        return;
+    }
+    let Some(start) = first_start(chunks, at.chunk) else {
         return;
     };
-    let Some(entry) = entries.first() else {
+    list[at.chunk] = start;
+}
+
+/// Inserts the abbreviation of the next chunk if there are more chunks than abbreviations, and writes as `write_start` does.
+fn insert_and_write<K: Abbreviated, V, A: Allocator>(
+    list: &mut Vec<u64, A>,
+    chunks: &[Vec<(K, V), A>],
+    at: EntryIndex,
+)
+    ensures others { IsReplaced list.old.items at.chunk 1 2 list.new.items }
+{
+    let next = next_index(at.chunk, list.len());
+    insert_start(list, chunks, next);
+    write_start(list, chunks, at);
+}
+
+/// Removes the abbreviation of a chunk if there are fewer chunks than abbreviations, or else writes it as `write_start` does.
+fn remove_or_write<K: Abbreviated, V, A: Allocator>(
+    list: &mut Vec<u64, A>,
+    chunks: &[Vec<(K, V), A>],
+    at: EntryIndex,
+)
+    ensures others { IsReplaced list.old.items at.chunk 1 1 list.new.items }
+{
+    if list.len() <= chunks.len() {
+        write_start(list, chunks, at);
         return;
-    };
-    if let Some(start) = list.get_mut(chunk) {
-        *start = entry.0.abbreviation();
+    }
+    remove_start(list, at.chunk);
+}
+
+/// Removes the abbreviation of the chunk after this one, if there is one.
+fn remove_next<A: Allocator>(list: &mut Vec<u64, A>, chunk: usize)
+    ensures others { IsReplaced list.old.items (chunk + 1) 1 1 list.new.items }
+{
+    if chunk >= list.len() {
+        return;
+    }
+    remove_start(list, chunk + 1);
+}
+
+/// Removes the abbreviation of a chunk, if there is one.
+fn remove_start<A: Allocator>(list: &mut Vec<u64, A>, chunk: usize)
+    ensures others { IsReplaced list.old.items chunk 1 0 list.new.items }
+{
+    if chunk < list.len() {
+        list.remove(chunk);
     }
 }

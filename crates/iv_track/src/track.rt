@@ -349,7 +349,8 @@ impl<A: Allocator + Copy> Track<A> {
 
     /// Adds the new record, of the track's width, and takes one copy of the old one. At most 8 steps.
     ///
-    /// The track holds at most its limit before; a full track is no hindrance.
+    /// The track holds at most its limit before; a full track is no hindrance. It is for callers outside this repository: a session makes
+    /// the same calls itself, and updates its views between them.
     ///
     /// # Errors
     ///

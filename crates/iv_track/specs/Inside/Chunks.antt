@@ -1,5 +1,5 @@
 -- Entries in order as a list of chunks, none of them empty.
-use Rattle.std.specs.Prelude.{◌≡◌, ℕ, ◌+◌, ◌<◌, ◌≤◌, ◌^◌, Bool, true, List, [], ◌∷◌, ◌++◌, length, take, drop, All, vec_len, slice_set}
+use Rattle.std.specs.Prelude.{◌≡◌, ℕ, ◌+◌, ◌<◌, ◌≤◌, ◌^◌, Bool, true, List, [], ◌∷◌, ◌++◌, length, take, drop, All, vec_len, vec_capacity, slice_set}
 use Rattle.std.specs.Vec.{vec_items}
 use Rattle.std.specs.List.{flat_map, HoldsAt, insert}
 use Rattle.std.specs.Ordering.{is_ge}
@@ -53,6 +53,11 @@ module _ {X Z : Type 0} where
     pub has_room : HoldsAt (λ chunk. vec_len chunk < most_in_chunk) new q.chunk
     pub same_before : before new q ≡ before old p
     pub same_from : from new q ≡ from old p
+
+  -- there is a chunk after the chunk c, and the entries of both together are few enough for one chunk, and for the room in c
+  pub record AreSmall (chunks : List (Vec X Z)) (c : ℕ) : Type 0 where
+    pub next_in_range : c + 1 < length chunks
+    pub few : HoldsAt (λ chunk. HoldsAt (λ next. (vec_len chunk + vec_len next ≤ most_in_chunk) × (vec_len chunk + vec_len next ≤ vec_capacity chunk)) chunks (c + 1)) chunks c
 
   -- the chunk c is split into one with its first n entries and one with the others
   pub record IsSplit (old : List (Vec X Z)) (c n : ℕ) (new : List (Vec X Z)) : Type 0 where

@@ -1,7 +1,9 @@
-use Rattle.std.proofs.Common.{rules, arith, ◌++◌, ◌∷◌, ◌≤◌, ◌∙◌, subst, sym, ap, vec_len}
+use Rattle.std.proofs.Common.{rules, arith, ◌≡◌, ◌<◌, ◌++◌, ◌∷◌, ◌≤◌, ◌∙◌, length, subst, sym, ap, vec_len}
 use Rattle.iv_track.proofs.ChunkLemmas.{joined-set_same, joined-set_inserted, before-from}
 use Rattle.iv_track.proofs.RoomLemmas.{always_on_err}
 use Rattle.iv_track.specs.Inside.Chunks.{IsIndexWithRoom, before, from}
+use Rattle.iv_track.specs.Inside.Replaced.{IsAmong, IsReplaced}
+use Rattle.iv_track.proofs.ReplacedLemmas.{replaced_none, replaced_among}
 use Rattle.iv_track.proofs.entry_index.insert_at.Goals as goal
 
 pub returns-in_err-insert-clause-err : goal.returns-in_err-insert-clause-err
@@ -30,3 +32,26 @@ returns-clause-ok g c =
     joined-set_inserted new q.chunk x place.chunk_in_range is c.insert.new.self q.index c.args.entry (omega (arith, within, x.ok.0)) (search rules)
     ∙ ap (λ xs. xs ++ c.args.entry ∷ from new q) place.same_before
     ∙ ap (λ xs. before old c.args.at ++ c.args.entry ∷ xs) place.same_from
+
+pub returns-in_err-place-clause-others : goal.returns-in_err-place-clause-others
+returns-in_err-place-clause-others g c =
+    let old = c.args.chunks.now.items in
+    let at = c.args.at.chunk in
+    let same : old ≡ c.with_room.new.chunks.items = search rules in
+    subst (λ xs. IsReplaced old at 1 2 xs) same (replaced_none old at 1 2 (omega arith))
+
+pub returns-in_err-insert-clause-others : goal.returns-in_err-insert-clause-others
+returns-in_err-insert-clause-others g c =
+    let old = c.args.chunks.now.items in
+    let at = c.args.at.chunk in
+    let lt : at < length old = search rules in
+    let among : IsAmong old at 1 2 c.with_room.new.chunks.items c.in_ok-place.place.chunk = search rules in
+    replaced_among among (omega (arith, lt)) c.insert.new.self
+
+pub returns-clause-others : goal.returns-clause-others
+returns-clause-others g c =
+    let old = c.args.chunks.now.items in
+    let at = c.args.at.chunk in
+    let lt : at < length old = search rules in
+    let among : IsAmong old at 1 2 c.with_room.new.chunks.items c.in_ok-place.place.chunk = search rules in
+    replaced_among among (omega (arith, lt)) c.insert.new.self
