@@ -87,6 +87,7 @@ GLOSSARY = {
         "unwrap_or": "`unwrap_or o d`: the value, or else d",
         "option_map": "`option_map f o`: f of the value, if there is one",
         "option_and_then": "`option_and_then f o`: the same for an f that may give none itself",
+        "option_zip": "`option_zip o p`: the pair of both values, if both are there",
         "option_to_list": "`option_to_list o`: the list of the value alone, or the empty one",
         "ok_or": "`ok_or o e`: `Ok` with the value, or else `Err e`",
         "IsSome": "`IsSome o`: there is a value",

@@ -12,8 +12,8 @@ use Rattle.iv_index.specs.Locators.{bare}
 use Rattle.iv_blocks.specs.Groups.{listed}
 use Rattle.iv_blocks.specs.IntervalOptions.{IsByIntervals}
 use Rattle.iv_blocks.specs.declared.options.BlockOptions.{BlockOptions}
-use Rattle.iv_view.specs.NarrowedViews.{narrowed, has_columns}
-use Rattle.iv_view.specs.Views.{as_merge, beside_second, kept_text, read_words}
+use Rattle.iv_view.specs.NarrowedViews.{as_merge, narrowed, has_columns}
+use Rattle.iv_view.specs.Views.{beside_second, kept_text, read_words}
 use Rattle.iv_view.proofs.NarrowingLemmas.{fault-narrowed, view-narrowed}
 use Rattle.iv_view.specs.declared.view.View.{View}
 use Rattle.iv_view.specs.declared.view.View.TheVariants as view

@@ -5,7 +5,7 @@ use Rattle.std.specs.Str.{bytes_eq}
 use Rattle.std.specs.Borrow.{Bor}
 use Rattle.std.proofs.lemmas.Bool.{cond-true, cond-false}
 use Rattle.std.proofs.lemmas.List.{take_all}
-use Rattle.iv_view.specs.Merge.{MergeArgs, said_by, with_flag, with_value}
+use Rattle.iv_view.specs.Merge.{MergeArgs, said_by, with_flag, with_option}
 
 -- a list of at least one begins with it
 pub one-up : {A : Type 0} (f : A → List ℕ) (xs : List A) (d : A) → 1 ≤ length xs → map f xs ≡ f (get_or xs 0 d) ∷ map f (take (length xs - 1) (drop 1 xs))
@@ -20,7 +20,7 @@ pub said-flag : (word : List ℕ) (words : List (List ℕ)) (said : MergeArgs) �
 said-flag word [] said is free =
     cond-true (bytes_eq word (codes "-s")) (with_flag said) None is ∙ cond-false said.stranded None (Some (record said { stranded = true })) free
 said-flag word (next ∷ words) said is free =
-    cond-true (bytes_eq word (codes "-s")) (option_and_then (said_by (next ∷ words)) (with_flag said)) (option_and_then (said_by words) (with_value word next said)) is
+    cond-true (bytes_eq word (codes "-s")) (option_and_then (said_by (next ∷ words)) (with_flag said)) (option_and_then (said_by words) (with_option word next said)) is
     ∙ ap (option_and_then (said_by (next ∷ words))) (cond-false said.stranded None (Some (record said { stranded = true })) free)
 
 -- a flag that was there before
@@ -28,14 +28,14 @@ pub said-twice : (word : List ℕ) (words : List (List ℕ)) (said : MergeArgs) 
 said-twice word [] said is there =
     cond-true (bytes_eq word (codes "-s")) (with_flag said) None is ∙ cond-true said.stranded None (Some (record said { stranded = true })) there
 said-twice word (next ∷ words) said is there =
-    cond-true (bytes_eq word (codes "-s")) (option_and_then (said_by (next ∷ words)) (with_flag said)) (option_and_then (said_by words) (with_value word next said)) is
+    cond-true (bytes_eq word (codes "-s")) (option_and_then (said_by (next ∷ words)) (with_flag said)) (option_and_then (said_by words) (with_option word next said)) is
     ∙ ap (option_and_then (said_by (next ∷ words))) (cond-true said.stranded None (Some (record said { stranded = true })) there)
 
 -- an option and its value
 pub said-value : (word value : List ℕ) (words : List (List ℕ)) (said : MergeArgs) → bytes_eq word (codes "-s") ≡ false
-    → said_by (word ∷ value ∷ words) said ≡ option_and_then (said_by words) (with_value word value said)
+    → said_by (word ∷ value ∷ words) said ≡ option_and_then (said_by words) (with_option word value said)
 said-value word value words said other =
-    cond-false (bytes_eq word (codes "-s")) (option_and_then (said_by (value ∷ words)) (with_flag said)) (option_and_then (said_by words) (with_value word value said)) other
+    cond-false (bytes_eq word (codes "-s")) (option_and_then (said_by (value ∷ words)) (with_flag said)) (option_and_then (said_by words) (with_option word value said)) other
 
 -- the words of a slice that are left after its first
 abbrev pub later : List (Bor (List ℕ)) → List (Bor (List ℕ))
@@ -52,7 +52,7 @@ going-flag ws d said all some is free known =
     ∙ known
 
 pub going-value : (ws : List (Bor (List ℕ))) (d e : Bor (List ℕ)) (said next : MergeArgs) (all : Option MergeArgs) → 1 ≤ length ws → 1 ≤ length (later ws)
-    → bytes_eq (get_or ws 0 d).now (codes "-s") ≡ false → with_value (get_or ws 0 d).now (get_or (later ws) 0 e).now said ≡ Some next
+    → bytes_eq (get_or ws 0 d).now (codes "-s") ≡ false → with_option (get_or ws 0 d).now (get_or (later ws) 0 e).now said ≡ Some next
     → said_by (texts ws) said ≡ all → said_by (texts (later (later ws))) next ≡ all
 going-value ws d e said next all some more other taken known =
     ap (option_and_then (said_by (texts (later (later ws))))) (sym taken)

@@ -1,7 +1,7 @@
 -- What words ask for on fewer than six columns, or without one of the files, is what they ask for with all of these, narrowed.
 use Rattle.std.proofs.Common.{◌≡◌, ◌∙◌, ℕ, zero, suc, ◌<◌, Bool, true, false, inl, inr, List, [], ◌∷◌, Option, Some, None, map, length, replicate, refl, sym, ap, arith}
 use Rattle.std.specs.Prelude.{Result, Ok, Err, ◌&&◌, ◌-◌, ◌==◌, not, nat_le, nat_lt, if◌then◌else◌, option_and_then, codes}
-use Rattle.std.specs.Option.{option_map}
+use Rattle.std.specs.Option.{option_map, ok_or}
 use Rattle.std.specs.Str.{bytes_eq}
 use Rattle.std.proofs.lemmas.Bool.{cases_lt, cond-true, cond-false, le-leb, ne_eqb, and_right}
 use Rattle.std.proofs.lemmas.List.{take_all, take-append-le}
@@ -13,24 +13,27 @@ use Rattle.iv_cover.specs.declared.column.ColumnSummary.{ColumnSummary}
 use Rattle.iv_cover.specs.declared.op.Op.{Op}
 use Rattle.iv_blocks.specs.Groups.{filled, listed, unused}
 use Rattle.iv_blocks.specs.declared.options.BlockOptions.{BlockOptions}
+use Rattle.iv_blocks.specs.declared.options.Summaries.{Summaries}
 use Rattle.iv_depth.specs.declared.depth_rows.DepthRows.{DepthRows}
 use Rattle.iv_fasta.specs.declared.rows.FastaRows.{FastaRows}
 use Rattle.iv_pair.specs.declared.pair_rows.PairRows.{PairRows}
 use Rattle.iv_pair.specs.declared.pair_rows.PairRows.TheVariants as pair
-use Rattle.iv_view.specs.Flags.{only_flag}
-use Rattle.iv_view.specs.Genomecov.{genomecov_rows}
-use Rattle.iv_view.specs.Getfasta.{fasta_rows_said}
-use Rattle.iv_view.specs.Intersect.{intersect_rows_said}
-use Rattle.iv_view.specs.Lists.{all_some}
-use Rattle.iv_view.specs.Merge.{MergeArgs, said_by, nothing_said, distance_of, lists_of, pairs_of, column_within, summary_within, filled_or_fault, asked_summaries, options_within, options_with, merge_options, cluster_distance}
-use Rattle.iv_view.specs.NarrowedViews.{number_of, has_columns, narrowed_options, narrowed}
-use Rattle.iv_view.specs.Views.{read_words, or_bad_words, as_merge, beside_second, beside_fasta, records_said}
+use Rattle.iv_view.specs.Chains.{if_ok}
+use Rattle.iv_view.specs.Flags.{only_flag, beside_flag, genomecov_rows, intersect_said, fasta_said}
+use Rattle.iv_view.specs.Lists.{all_some, pairs}
+use Rattle.iv_view.specs.Merge.{MergeArgs, said_by, nothing_said, distance_of, lists_of, summary_within, merge_options, cluster_distance}
+use Rattle.iv_view.specs.NarrowedViews.{number_of, has_columns, narrowed_options, as_merge, narrowed}
+use Rattle.iv_view.specs.Views.{read_words, or_bad_words, beside_second, beside_fasta}
 use Rattle.iv_view.specs.declared.view.View.{View}
 use Rattle.iv_view.specs.declared.view.View.TheVariants as view
 use Rattle.iv_view.specs.declared.view.KeptView.TheVariants as kept
 use Rattle.iv_view.specs.declared.written_view.WrittenView.TheVariants as written
 
 -- ---- one column
+
+-- the column of this number, if records of this width have it
+abbrev column_within : ℕ → ℕ → Option Column
+column_within width n = if nat_le n width then column_numbered n else None
 
 -- the column, if records of this width have it
 abbrev column_there : ℕ → Column → Option Column
@@ -156,31 +159,77 @@ module _ (width : ℕ) (stranded : Bool) (distance : ℕ) where
       else if stranded && nat_lt width 6 then Err fault.NoStrand
       else Ok (with_summaries summaries)
 
-  options-there : (b : Bool) (summaries : List ColumnSummary)
-      → options_within width stranded distance (filled_or_fault (if b then Some summaries else None)) ≡ if_there b summaries
+  -- the options on a track of this width, if the columns are there
+  abbrev options_within : ℕ → Option (List ColumnSummary) → Result BlockOptions Fault
+  options_within six r = if_ok (ok_or r fault.Column) (λ summaries. if stranded && nat_lt six 6 then Err fault.NoStrand else Ok (with_summaries summaries))
+
+  options-there : (b : Bool) (summaries : List ColumnSummary) → options_within width (if b then Some summaries else None) ≡ if_there b summaries
   options-there true summaries = refl
   options-there false summaries = refl
 
-  options-narrowed : (r : Option (List ColumnSummary))
-      → options_within width stranded distance (filled_or_fault (option_and_then (summaries_there width) r))
-      ≡ options_from width (options_within 6 stranded distance (filled_or_fault r))
+  options-narrowed : (r : Option (List ColumnSummary)) → options_within width (option_and_then (summaries_there width) r) ≡ options_from width (options_within 6 r)
   options-narrowed None = refl
   options-narrowed (Some summaries) =
       options-there (has_columns width summaries) summaries
       ∙ ap (λ (s : List ColumnSummary). if_there (has_columns width s) summaries) (sym (listed-filled summaries))
       ∙ sym (ap (options_from width) (cond-false (stranded && nat_lt 6 6) (Err fault.NoStrand) (Ok (with_summaries summaries)) (and_right stranded (nat_lt 6 6) refl)))
 
+  -- the options of summaries that are asked for, if they are
+  abbrev options_asked : ℕ → Option (List (ℕ × Op)) → Result BlockOptions Fault
+  options_asked six asked = if_ok (ok_or asked fault.Words) (λ asked. options_within six (all_some (map (summary_within six) asked)))
+
+  asked-narrowed : (asked : Option (List (ℕ × Op))) → options_asked width asked ≡ options_from width (options_asked 6 asked)
+  asked-narrowed None = refl
+  asked-narrowed (Some asked) = ap (options_within width) (summaries-narrowed width asked) ∙ options-narrowed (all_some (map (summary_within 6) asked))
+
+  -- the options of lists that are asked for, if they are
+  abbrev options_listed : ℕ → Option (List ℕ × List Op) → Result BlockOptions Fault
+  options_listed six lists = if_ok (ok_or lists fault.Words) (λ lists. options_asked six (pairs lists.0 lists.1))
+
+  lists-narrowed : (lists : Option (List ℕ × List Op)) → options_listed width lists ≡ options_from width (options_listed 6 lists)
+  lists-narrowed None = refl
+  lists-narrowed (Some lists) = asked-narrowed (pairs lists.0 lists.1)
+
+-- the summaries of lists on six columns, as they are read
+abbrev pub summaries_read : List ℕ × List Op → Result Summaries Fault
+summaries_read lists =
+    if_ok (ok_or (pairs lists.0 lists.1) fault.Words) (λ asked. ok_or (option_map filled (all_some (map (summary_within 6) asked))) fault.Column)
+
+module _ (stranded : Bool) (distance : ℕ) where
+  -- the options with these summaries
+  abbrev pub options_beside : Result Summaries Fault → Result BlockOptions Fault
+  options_beside read = if_ok read (λ summaries. Ok (record { distance = distance; stranded = stranded; summaries = summaries }))
+
+  columns-read : (r : Option (List ColumnSummary)) → options_within 6 stranded distance 6 r ≡ options_beside (ok_or (option_map filled r) fault.Column)
+  columns-read None = refl
+  columns-read (Some summaries) = cond-false (stranded && nat_lt 6 6) _ _ (and_right stranded (nat_lt 6 6) refl)
+
+  asked-read : (asked : Option (List (ℕ × Op)))
+      → options_asked 6 stranded distance 6 asked
+      ≡ options_beside (if_ok (ok_or asked fault.Words) (λ asked. ok_or (option_map filled (all_some (map (summary_within 6) asked))) fault.Column))
+  asked-read None = refl
+  asked-read (Some asked) = columns-read (all_some (map (summary_within 6) asked))
+
+-- the options of a merge on six columns, as they are read
+pub merge-read : (given : Option MergeArgs) (d c o : Option (List ℕ)) (stranded : Bool) → given ≡ Some (record { distance = d; columns = c; ops = o; stranded = stranded })
+    → (distance : ℕ) → distance_of d ≡ Some distance → (lists : List ℕ × List Op) → lists_of c o ≡ Some lists
+    → (read : Result Summaries Fault) → read ≡ summaries_read lists → merge_options 6 given ≡ options_beside stranded distance read
+merge-read given d c o stranded given_is distance distance_is lists lists_is read read_is =
+    ap (merge_options 6) given_is
+    ∙ ap (λ (x : Option ℕ). if_ok (ok_or x fault.Words) (λ n. options_listed 6 stranded n 6 (lists_of c o))) distance_is
+    ∙ ap (options_listed 6 stranded distance 6) lists_is
+    ∙ asked-read stranded distance (pairs lists.0 lists.1)
+    ∙ ap (options_beside stranded distance) (sym read_is)
+
 said-narrowed : (width : ℕ) (said : Option MergeArgs) → merge_options width said ≡ options_from width (merge_options 6 said)
 said-narrowed width None = refl
-said-narrowed width (Some said) = by (distance_of said.distance) (pairs_of (lists_of said.columns said.ops))
+said-narrowed width (Some said) = by (distance_of said.distance)
   where
-    by : (distance : Option ℕ) (asked : Option (List (ℕ × Op)))
-        → options_with width said.stranded distance (asked_summaries width asked) ≡ options_from width (options_with 6 said.stranded distance (asked_summaries 6 asked))
-    by None asked = refl
-    by (Some distance) None = refl
-    by (Some distance) (Some asked) =
-        ap (λ (r : Option (List ColumnSummary)). options_within width said.stranded distance (filled_or_fault r)) (summaries-narrowed width asked)
-        ∙ options-narrowed width said.stranded distance (all_some (map (summary_within 6) asked))
+    by : (distance : Option ℕ)
+        → if_ok (ok_or distance fault.Words) (λ distance. options_listed width said.stranded distance width (lists_of said.columns said.ops))
+        ≡ options_from width (if_ok (ok_or distance fault.Words) (λ distance. options_listed width said.stranded distance 6 (lists_of said.columns said.ops)))
+    by None = refl
+    by (Some distance) = lists-narrowed width said.stranded distance (lists_of said.columns said.ops)
 
 -- ---- all views
 
@@ -226,10 +275,6 @@ module _ (width : ℕ) (has_second has_bases : Bool) where
   narrowed-fasta (Some shown) =
       sym (ap here (cond-false (shown.stranded && nat_lt 6 6) (Err fault.NoStrand) (Ok (view.Written (written.Getfasta shown))) (and_right shown.stranded (nat_lt 6 6) refl)))
 
-  narrowed-records : (words : List (List ℕ)) → records_said words ≡ here (records_said words)
-  narrowed-records [] = refl
-  narrowed-records (word ∷ words) = refl
-
   words-narrowed : (words : List (List ℕ)) → read_words width has_second has_bases words ≡ here (read_words 6 true true words)
   words-narrowed [] = refl
   words-narrowed (word ∷ words) =
@@ -237,10 +282,10 @@ module _ (width : ℕ) (has_second has_bases : Bool) where
       (either (bytes_eq word (codes "cluster")) _ _ _ _ (narrowed-cluster (cluster_distance (said_by words nothing_said)))
       (either (bytes_eq word (codes "complement")) _ _ _ _ (narrowed-complement (only_flag (codes "-L") words))
       (either (bytes_eq word (codes "genomecov")) _ _ _ _ (narrowed-genomecov (genomecov_rows words))
-      (either (bytes_eq word (codes "intersect")) _ _ _ _ (narrowed-paired (option_map pair.Intersect (intersect_rows_said words)))
+      (either (bytes_eq word (codes "intersect")) _ _ _ _ (narrowed-paired (option_map pair.Intersect (beside_flag (codes "-wa") intersect_said words)))
       (either (bytes_eq word (codes "subtract")) _ _ _ _ (narrowed-paired (option_map pair.Subtract (only_flag (codes "-A") words)))
-      (either (bytes_eq word (codes "getfasta")) _ _ _ _ (narrowed-fasta (fasta_rows_said words))
-      (either (bytes_eq word (codes "records")) _ _ _ _ (narrowed-records words) refl)))))))
+      (either (bytes_eq word (codes "getfasta")) _ _ _ _ (narrowed-fasta (beside_flag (codes "-s") fasta_said words))
+      (either (bytes_eq word (codes "records") && length words == 0) _ _ _ _ refl refl)))))))
 
   -- what a view that was read is narrowed to
   pub view-narrowed : (words : List (List ℕ)) (v : View) → read_words 6 true true words ≡ Ok v → narrowed width has_second has_bases v ≡ read_words width has_second has_bases words

@@ -5,10 +5,8 @@ use Rattle.std.specs.Option.{is_some, option_to_list}
 use Rattle.std.specs.Str.{bytes_eq}
 use Rattle.std.proofs.lemmas.Slice.Eq.{bytes_eq-Decides}
 use Rattle.std.proofs.lemmas.List.Sorted.{IsPermutation-refl, IsPermutation-sym, IsPermutation-trans, IsPermutation-keeps, IsPermutation-middle, IsPermutation-to_front, IsPermutation-append_left, IsPermutation-append_right}
-use Rattle.iv_view.specs.Merge.{MergeArgs, said_by, with_flag, with_value_of, option_of, unless_given, nothing_said}
+use Rattle.iv_view.specs.Merge.{MergeArgs, said_by, with_flag, with_option, unless_given, nothing_said}
 use Rattle.iv_view.specs.Inside.MergeOptions.{MergeOption, Distance, Columns, Ops, Stranded, words_of, option_words, options_of}
-use Rattle.iv_view.specs.declared.merge.ValuedOption.{ValuedOption}
-use Rattle.iv_view.specs.declared.merge.ValuedOption.TheVariants as option
 
 some-same : {A : Type 0} (a b : A) → Some a ≡ Some b → a ≡ b
 some-same a b is = cc
@@ -210,32 +208,20 @@ then-some : (f : MergeArgs → Option MergeArgs) (o : Option MergeArgs) (new : M
 then-some f None new is = absurd (none≢some new is)
 then-some f (Some mid) new is = (mid, is)
 
--- the word of an option with a value
-abbrev name_of : ValuedOption → List ℕ
-name_of option.Distance = codes "-d"
-name_of option.Columns = codes "-c"
-name_of option.Ops = codes "-o"
+-- the word is that of an option with this value
+abbrev IsNamed : List ℕ → List ℕ → Type 0
+IsNamed word value = (a : MergeOption) × (word ∷ value ∷ [] ≡ words_of a)
 
--- the option with this value
-abbrev valued : ValuedOption → List ℕ → MergeOption
-valued option.Distance value = Distance value
-valued option.Columns value = Columns value
-valued option.Ops value = Ops value
-
-valued-words : (k : ValuedOption) (value : List ℕ) (words : List (List ℕ)) → name_of k ∷ value ∷ words ≡ words_of (valued k value) ++ words
-valued-words option.Distance value words = refl
-valued-words option.Columns value words = refl
-valued-words option.Ops value words = refl
-
-named : (word : List ℕ) (k : ValuedOption) → option_of word ≡ Some k → word ≡ name_of k
-named word k is = by (bytes_eq word (codes "-d")) refl (bytes_eq word (codes "-c")) refl (bytes_eq word (codes "-o")) refl is
+named : (word value : List ℕ) (old new : MergeArgs) → with_option word value old ≡ Some new → IsNamed word value
+named word value old new is = by (bytes_eq word (codes "-d")) refl (bytes_eq word (codes "-c")) refl (bytes_eq word (codes "-o")) refl is
   where
     by : (b : Bool) → bytes_eq word (codes "-d") ≡ b → (c : Bool) → bytes_eq word (codes "-c") ≡ c → (d : Bool) → bytes_eq word (codes "-o") ≡ d
-        → (if b then Some option.Distance else (if c then Some option.Columns else (if d then Some option.Ops else None))) ≡ Some k → word ≡ name_of k
-    by true e c f d g is = (bytes_eq-Decides word (codes "-d")).0 e ∙ ap name_of (some-same option.Distance k is)
-    by false e true f d g is = (bytes_eq-Decides word (codes "-c")).0 f ∙ ap name_of (some-same option.Columns k is)
-    by false e false f true g is = (bytes_eq-Decides word (codes "-o")).0 g ∙ ap name_of (some-same option.Ops k is)
-    by false e false f false g is = absurd (none≢some k is)
+        → (if b then unless_given old.distance (given (Distance value) old) else (if c then unless_given old.columns (given (Columns value) old) else (if d then unless_given old.ops (given (Ops value) old) else None))) ≡ Some new
+        → IsNamed word value
+    by true e c f d g is = (Distance value, ap (λ (w : List ℕ). w ∷ value ∷ []) ((bytes_eq-Decides word (codes "-d")).0 e))
+    by false e true f d g is = (Columns value, ap (λ (w : List ℕ). w ∷ value ∷ []) ((bytes_eq-Decides word (codes "-c")).0 f))
+    by false e false f true g is = (Ops value, ap (λ (w : List ℕ). w ∷ value ∷ []) ((bytes_eq-Decides word (codes "-o")).0 g))
+    by false e false f false g is = absurd (none≢some new is)
 
 read-one : (word : List ℕ) (old new : MergeArgs) (b : Bool) → bytes_eq word (codes "-s") ≡ b → (if b then with_flag old else None) ≡ Some new → AreOptions (word ∷ [])
 read-one word old new true e is = (Stranded ∷ [], ap (λ (w : List ℕ). w ∷ []) ((bytes_eq-Decides word (codes "-s")).0 e))
@@ -243,24 +229,24 @@ read-one word old new false e is = absurd (none≢some new is)
 
 read-more : (word next : List ℕ) (words : List (List ℕ)) (old new : MergeArgs)
     → ((mid : MergeArgs) → said_by (next ∷ words) mid ≡ Some new → AreOptions (next ∷ words)) → ((mid : MergeArgs) → said_by words mid ≡ Some new → AreOptions words)
-    → (b : Bool) → bytes_eq word (codes "-s") ≡ b → (o : Option ValuedOption) → option_of word ≡ o
-    → (if b then option_and_then (said_by (next ∷ words)) (with_flag old) else option_and_then (said_by words) (with_value_of o next old)) ≡ Some new
+    → (b : Bool) → bytes_eq word (codes "-s") ≡ b → (o : Option MergeArgs) → with_option word next old ≡ o
+    → (if b then option_and_then (said_by (next ∷ words)) (with_flag old) else option_and_then (said_by words) o) ≡ Some new
     → AreOptions (word ∷ next ∷ words)
 read-more word next words old new one two true e o at is =
     let mid = then-some (said_by (next ∷ words)) (with_flag old) new is in
     let rest = one mid.0 mid.1 in
     (Stranded ∷ rest.0, (λ i. (bytes_eq-Decides word (codes "-s")).0 e i ∷ rest.1 i))
 read-more word next words old new one two false e None at is = absurd (none≢some new is)
-read-more word next words old new one two false e (Some k) at is =
-    let mid = then-some (said_by words) (with_value_of (Some k) next old) new is in
-    let rest = two mid.0 mid.1 in
-    (valued k next ∷ rest.0, (λ i. named word k at i ∷ next ∷ rest.1 i) ∙ valued-words k next (option_words rest.0))
+read-more word next words old new one two false e (Some mid) at is =
+    let rest = two mid is in
+    let name = named word next old mid at in
+    (name.0 ∷ rest.0, (λ i. word ∷ next ∷ rest.1 i) ∙ ap (λ (l : List (List ℕ)). l ++ option_words rest.0) name.1)
 
 read-options : (words : List (List ℕ)) (old new : MergeArgs) → said_by words old ≡ Some new → AreOptions words
 read-options [] old new is = ([], refl)
 read-options (word ∷ []) old new is = read-one word old new (bytes_eq word (codes "-s")) refl is
 read-options (word ∷ next ∷ words) old new is =
-    read-more word next words old new (λ mid. read-options (next ∷ words) mid new) (λ mid. read-options words mid new) (bytes_eq word (codes "-s")) refl (option_of word) refl is
+    read-more word next words old new (λ mid. read-options (next ∷ words) mid new) (λ mid. read-options words mid new) (bytes_eq word (codes "-s")) refl (with_option word next old) refl is
 
 -- ---- what they mean are just their options
 

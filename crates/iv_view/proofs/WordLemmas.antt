@@ -1,18 +1,14 @@
 -- The words of a view.
 use Rattle.std.proofs.Common.{◌≡◌, ◌∙◌, ℕ, zero, suc, ◌+◌, ◌<◌, ◌≤◌, Bool, true, false, inl, inr, List, [], ◌∷◌, Option, Some, None, length, take, refl, sym, ap, subst, arith}
-use Rattle.std.specs.Prelude.{IsTrue, IfOk, Result, Ok, Err, ◌&&◌, nat_lt, if◌then◌else◌, option_and_then, codes}
+use Rattle.std.specs.Prelude.{◌==◌, IsTrue, IfOk, Result, Ok, Err, ◌&&◌, nat_lt, if◌then◌else◌, option_and_then, codes}
 use Rattle.std.specs.Str.{bytes_eq}
 use Rattle.std.proofs.lemmas.List.{take_all, length-take-le}
-use Rattle.std.proofs.lemmas.Bool.{cases_lt}
+use Rattle.std.proofs.lemmas.Bool.{cases_lt, ne_eqb}
 use Rattle.iv_text.specs.declared.fault.Fault.{Fault}
-use Rattle.iv_view.specs.Merge.{MergeArgs, said_by, with_flag, with_value, with_value_of, option_of, unless_given, nothing_said}
-use Rattle.iv_view.specs.Flags.{only_flag}
-use Rattle.iv_view.specs.Genomecov.{genomecov_rows}
-use Rattle.iv_view.specs.Getfasta as getfasta
-use Rattle.iv_view.specs.Intersect as intersect
-use Rattle.iv_view.specs.declared.merge.ValuedOption.{ValuedOption}
-use Rattle.iv_view.specs.declared.merge.ValuedOption.TheVariants as option
-use Rattle.iv_view.specs.Views.{read_words, or_bad_words, as_merge, beside_second, beside_fasta, needs_second, records_said}
+use Rattle.iv_view.specs.Merge.{MergeArgs, said_by, with_flag, with_option, unless_given, nothing_said}
+use Rattle.iv_view.specs.Flags.{only_flag, beside_flag, genomecov_rows, intersect_said, fasta_said}
+use Rattle.iv_view.specs.NarrowedViews.{as_merge}
+use Rattle.iv_view.specs.Views.{read_words, or_bad_words, beside_second, beside_fasta, needs_second}
 use Rattle.iv_blocks.specs.declared.options.BlockOptions.{BlockOptions}
 use Rattle.iv_fasta.specs.declared.rows.FastaRows.{FastaRows}
 use Rattle.iv_pair.specs.declared.pair_rows.PairRows.{PairRows}
@@ -42,23 +38,30 @@ abbrev pub rooms : MergeArgs → ℕ
 rooms said = flag_room said.stranded + (room said.distance + (room said.columns + room said.ops))
 
 -- a value takes the room of two words
-value-room : (option : Option ValuedOption) (value : List ℕ) (said next : MergeArgs) → with_value_of option value said ≡ Some next → rooms next + 2 ≤ rooms said
-value-room None value said next is = absurd (none-some next is)
-value-room (Some option.Distance) value said next is = given said.distance refl is
+value-room : (word value : List ℕ) (said next : MergeArgs) → with_option word value said ≡ Some next → rooms next + 2 ≤ rooms said
+value-room word value said next is = by (bytes_eq word (codes "-d")) (bytes_eq word (codes "-c")) (bytes_eq word (codes "-o")) is
   where
-    given : (d : Option (List ℕ)) → said.distance ≡ d → unless_given d (record said { distance = Some value }) ≡ Some next → rooms next + 2 ≤ rooms said
-    given None at is = let same = some-same _ _ is in omega (arith, ap room at, ap rooms same)
-    given (Some v) at is = absurd (none-some next is)
-value-room (Some option.Columns) value said next is = given said.columns refl is
-  where
-    given : (d : Option (List ℕ)) → said.columns ≡ d → unless_given d (record said { columns = Some value }) ≡ Some next → rooms next + 2 ≤ rooms said
-    given None at is = let same = some-same _ _ is in omega (arith, ap room at, ap rooms same)
-    given (Some v) at is = absurd (none-some next is)
-value-room (Some option.Ops) value said next is = given said.ops refl is
-  where
-    given : (d : Option (List ℕ)) → said.ops ≡ d → unless_given d (record said { ops = Some value }) ≡ Some next → rooms next + 2 ≤ rooms said
-    given None at is = let same = some-same _ _ is in omega (arith, ap room at, ap rooms same)
-    given (Some v) at is = absurd (none-some next is)
+    distance : (d : Option (List ℕ)) → said.distance ≡ d → unless_given d (record said { distance = Some value }) ≡ Some next → rooms next + 2 ≤ rooms said
+    distance None at is = let same = some-same _ _ is in omega (arith, ap room at, ap rooms same)
+    distance (Some v) at is = absurd (none-some next is)
+
+    columns : (d : Option (List ℕ)) → said.columns ≡ d → unless_given d (record said { columns = Some value }) ≡ Some next → rooms next + 2 ≤ rooms said
+    columns None at is = let same = some-same _ _ is in omega (arith, ap room at, ap rooms same)
+    columns (Some v) at is = absurd (none-some next is)
+
+    ops : (d : Option (List ℕ)) → said.ops ≡ d → unless_given d (record said { ops = Some value }) ≡ Some next → rooms next + 2 ≤ rooms said
+    ops None at is = let same = some-same _ _ is in omega (arith, ap room at, ap rooms same)
+    ops (Some v) at is = absurd (none-some next is)
+
+    by : (b c d : Bool)
+        → (if b then unless_given said.distance (record said { distance = Some value })
+        else (if c then unless_given said.columns (record said { columns = Some value })
+        else (if d then unless_given said.ops (record said { ops = Some value }) else None))) ≡ Some next
+        → rooms next + 2 ≤ rooms said
+    by true c d is = distance said.distance refl is
+    by false true d is = columns said.columns refl is
+    by false false true is = ops said.ops refl is
+    by false false false is = absurd (none-some next is)
 
 -- a flag takes the room of one
 flag-takes : (said next : MergeArgs) → with_flag said ≡ Some next → rooms next + 1 ≤ rooms said
@@ -81,15 +84,15 @@ too-many zero (word ∷ next ∷ words) said size more = absurd (omega arith)
 too-many (suc n) (word ∷ next ∷ words) said size more =
     go (λ after less. too-many n (next ∷ words) after (omega arith) (omega (arith, less, more)))
     (λ after less. too-many n words after (omega arith) (omega (arith, less, more)))
-    (bytes_eq word (codes "-s")) (with_flag said) refl (with_value word next said) refl
+    (bytes_eq word (codes "-s")) (with_flag said) refl (with_option word next said) refl
   where
     go : ((after : MergeArgs) → rooms after + 1 ≤ rooms said → said_by (next ∷ words) after ≡ None) → ((after : MergeArgs) → rooms after + 2 ≤ rooms said → said_by words after ≡ None)
-        → (b : Bool) (flag : Option MergeArgs) → with_flag said ≡ flag → (value : Option MergeArgs) → with_value word next said ≡ value
+        → (b : Bool) (flag : Option MergeArgs) → with_flag said ≡ flag → (value : Option MergeArgs) → with_option word next said ≡ value
         → (if b then option_and_then (said_by (next ∷ words)) flag else option_and_then (said_by words) value) ≡ None
     go one two true None is value at = refl
     go one two true (Some after) is value at = one after (flag-takes said after is)
     go one two false flag is None at = refl
-    go one two false flag is (Some after) at = two after (value-room (option_of word) next said after at)
+    go one two false flag is (Some after) at = two after (value-room word next said after at)
 
 -- words after the eighth change nothing
 options-cut : (words : List (List ℕ)) → said_by (take 8 words) nothing_said ≡ said_by words nothing_said
@@ -110,15 +113,18 @@ rows-cut [] = refl
 rows-cut (word ∷ []) = refl
 rows-cut (word ∷ next ∷ words) = refl
 
-intersect-cut : (words : List (List ℕ)) → intersect.intersect_rows_said (take 8 words) ≡ intersect.intersect_rows_said words
-intersect-cut words = flag-cut intersect.is_wa intersect.rows_beside intersect_others words
+intersect-cut : (words : List (List ℕ)) → beside_flag (codes "-wa") intersect_said (take 8 words) ≡ beside_flag (codes "-wa") intersect_said words
+intersect-cut words = flag-cut (codes "-wa") intersect_said intersect_others words
 
-fasta-cut : (words : List (List ℕ)) → getfasta.fasta_rows_said (take 8 words) ≡ getfasta.fasta_rows_said words
-fasta-cut words = flag-cut getfasta.is_s getfasta.rows_beside getfasta_others words
+fasta-cut : (words : List (List ℕ)) → beside_flag (codes "-s") fasta_said (take 8 words) ≡ beside_flag (codes "-s") fasta_said words
+fasta-cut words = flag-cut (codes "-s") fasta_said getfasta_others words
 
-records-cut : (words : List (List ℕ)) → records_said (take 8 words) ≡ records_said words
+not-empty : (word : List ℕ) (words : List (List ℕ)) → (length (word ∷ words) == 0) ≡ false
+not-empty word words = ne_eqb (length (word ∷ words)) 0 (λ e. omega (arith, e))
+
+records-cut : (words : List (List ℕ)) → (length (take 8 words) == 0) ≡ (length words == 0)
 records-cut [] = refl
-records-cut (word ∷ words) = refl
+records-cut (word ∷ words) = not-empty word (take 7 words) ∙ sym (not-empty word words)
 
 -- words after the ninth change nothing: no view has as many
 pub words-cut : (width : ℕ) (has_second has_bases : Bool) (words : List (List ℕ))
@@ -166,10 +172,6 @@ module _ (has_second has_bases : Bool) where
       served-either (shown.stranded && nat_lt width 6) _ _ tt
       (served-beside has_bases _ _ (λ is. (λ needs. absurd (cc needs), λ needs. is)))
 
-  served-records : (words : List (List ℕ)) → IsServed (records_said words)
-  served-records [] = (λ needs. absurd (cc needs), λ needs. absurd (cc needs))
-  served-records (word ∷ words) = tt
-
   served : (width : ℕ) (words : List (List ℕ)) → IsServed (read_words width has_second has_bases words)
   served width [] = tt
   served width (word ∷ words) =
@@ -180,7 +182,7 @@ module _ (has_second has_bases : Bool) where
       (served-either (bytes_eq word (codes "intersect")) _ _ (served-paired _)
       (served-either (bytes_eq word (codes "subtract")) _ _ (served-paired _)
       (served-either (bytes_eq word (codes "getfasta")) _ _ (served-fasta width _)
-      (served-either (bytes_eq word (codes "records")) _ _ (served-records words) tt)))))))
+      (served-either (bytes_eq word (codes "records") && length words == 0) _ _ (λ needs. absurd (cc needs), λ needs. absurd (cc needs)) tt)))))))
 
 pub needs-there : (width : ℕ) (has_second has_bases : Bool) (words : List (List ℕ)) (v : View)
     → read_words width has_second has_bases words ≡ Ok v → IsTrue (needs_second v) → IsTrue has_second

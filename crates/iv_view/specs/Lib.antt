@@ -1,9 +1,7 @@
+pub mod Chains
 pub mod Flags
 pub mod Lists
 pub mod Merge
-pub mod Genomecov
-pub mod Intersect
-pub mod Getfasta
 pub mod RecordRows
 pub mod Views
 pub mod NarrowedViews

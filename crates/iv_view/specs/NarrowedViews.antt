@@ -8,7 +8,8 @@ use Rattle.iv_cover.specs.declared.column.Column.TheVariants.{Sequence, Start, S
 use Rattle.iv_cover.specs.declared.column.ColumnSummary.{ColumnSummary}
 use Rattle.iv_blocks.specs.Groups.{listed}
 use Rattle.iv_blocks.specs.declared.options.BlockOptions.{BlockOptions}
-use Rattle.iv_view.specs.Views.{as_merge, beside_second, beside_fasta}
+use Rattle.iv_view.specs.Chains.{if_ok}
+use Rattle.iv_view.specs.Views.{beside_second, beside_fasta}
 use Rattle.iv_view.specs.declared.view.View.{View}
 use Rattle.iv_view.specs.declared.view.View.TheVariants as view
 use Rattle.iv_view.specs.declared.view.KeptView.TheVariants as kept
@@ -34,6 +35,10 @@ narrowed_options width options =
     if not (has_columns width (listed options.summaries)) then Err fault.Column
     else if options.stranded && nat_lt width 6 then Err fault.NoStrand
     else Ok options
+
+-- the view of a merge with these options
+abbrev pub as_merge : Result BlockOptions Fault → Result View Fault
+as_merge asked = if_ok asked (λ options. Ok (view.Kept (kept.Merge options)))
 
 -- the view of records of this width, beside a second file and a FASTA file or without, or its first fault
 abbrev pub narrowed : ℕ → Bool → Bool → View → Result View Fault

@@ -15,7 +15,6 @@ use Rattle.iv_view.specs.declared.view.View.{View}
 use Rattle.iv_view.specs.declared.view.View.TheVariants as view
 use Rattle.iv_view.specs.declared.view.KeptView.{KeptView}
 use Rattle.iv_view.specs.declared.view.KeptView.TheVariants as kept
-use Rattle.iv_view.specs.declared.written_view.WrittenView.{WrittenView}
 
 -- the region has a position, and ends within its sequence
 pub record IsWithin (g : Sequences) (at : Region) : Type 0 where
@@ -30,19 +29,12 @@ kept_text_in at (kept.Cluster distance) g rows = cluster_text_in distance g rows
 kept_text_in at (kept.Complement limited) g rows = complement_text_in limited g rows at.seq at.start at.stop
 kept_text_in at (kept.Genomecov shown) g rows = depth_text_in shown g rows at.seq at.start at.stop
 
--- of a view that is written from records: the rows of those records that share a position with the region
-abbrev pub written_text_in : Region → WrittenView → Sequences → List RecordValue → List RecordValue → Bases → List ℕ
-written_text_in at v g rows second bases = written_text v g (hits rows at.seq at.start at.stop) second bases
-
--- of any view
-abbrev pub view_text_in : Region → View → Sequences → List RecordValue → List RecordValue → Bases → List ℕ
-view_text_in at (view.Kept v) g rows second bases = kept_text_in at v g rows
-view_text_in at (view.Written v) g rows second bases = written_text_in at v g rows second bases
-
--- what is printed of a view: all of its text, or its rows that share a position with a region
+-- what is printed of a view: all of its text, or its rows that share a position with a region; if it is written from records, those are
+-- the rows of the records that do
 abbrev pub shown_text : Option Region → View → Sequences → List RecordValue → List RecordValue → Bases → List ℕ
 shown_text None v g rows second bases = view_text v g rows second bases
-shown_text (Some at) v g rows second bases = view_text_in at v g rows second bases
+shown_text (Some at) (view.Kept v) g rows second bases = kept_text_in at v g rows
+shown_text (Some at) (view.Written v) g rows second bases = written_text v g (hits rows at.seq at.start at.stop) second bases
 
 -- how many steps lie between two readings at most while such rows are printed from what is kept for a view: one for each row of
 -- `merge` or `complement`, and eight or two more; of depth two for each row above 0 and one for each record that may share a position

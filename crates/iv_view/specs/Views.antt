@@ -1,5 +1,5 @@
 -- The views: the words that ask for one, and its text.
-use Rattle.std.specs.Prelude.{ℕ, ◌+◌, Bool, true, false, nat_lt, ◌&&◌, if◌then◌else◌, List, [], ◌∷◌, Option, None, Some, Result, Ok, Err, codes}
+use Rattle.std.specs.Prelude.{ℕ, ◌+◌, ◌==◌, Bool, true, false, nat_lt, ◌&&◌, if◌then◌else◌, List, [], ◌∷◌, length, Option, None, Some, Result, Ok, Err, codes}
 use Rattle.std.specs.Option.{ok_or, option_map}
 use Rattle.std.specs.Str.{bytes_eq}
 use Rattle.iv_text.specs.Genome.{Sequences}
@@ -9,7 +9,6 @@ use Rattle.iv_text.specs.declared.fault.Fault.TheVariants as fault
 use Rattle.iv_blocks.specs.ClusterRows.{cluster_text}
 use Rattle.iv_blocks.specs.ComplementRows.{complement_text}
 use Rattle.iv_blocks.specs.MergeRows.{merge_text}
-use Rattle.iv_blocks.specs.declared.options.BlockOptions.{BlockOptions}
 use Rattle.iv_depth.specs.DepthRows.{depth_text}
 use Rattle.iv_fasta.specs.Fasta.{Bases}
 use Rattle.iv_fasta.specs.FastaRows.{fasta_text}
@@ -19,10 +18,8 @@ use Rattle.iv_pair.specs.declared.pair_rows.PairRows.{PairRows}
 use Rattle.iv_pair.specs.declared.pair_rows.PairRows.TheVariants as pair
 use Rattle.iv_track.specs.Steps.{TakesUpTo}
 use Rattle.iv_track.specs.Tracked.{Tracked, different_records}
-use Rattle.iv_view.specs.Flags.{only_flag}
-use Rattle.iv_view.specs.Genomecov.{genomecov_rows}
-use Rattle.iv_view.specs.Getfasta.{fasta_rows_said}
-use Rattle.iv_view.specs.Intersect.{intersect_rows_said}
+use Rattle.iv_view.specs.Chains.{if_ok}
+use Rattle.iv_view.specs.Flags.{only_flag, beside_flag, genomecov_rows, intersect_said, fasta_said}
 use Rattle.iv_view.specs.Merge.{said_by, nothing_said, merge_options, cluster_distance}
 use Rattle.iv_view.specs.RecordRows.{records_text}
 use Rattle.iv_view.specs.declared.view.View.{View}
@@ -43,42 +40,32 @@ needs_second (view.Written written.Records) = false
 abbrev pub or_bad_words : Option KeptView → Result View Fault
 or_bad_words asked = ok_or (option_map view.Kept asked) fault.Words
 
--- the view of a merge with these options
-abbrev pub as_merge : Result BlockOptions Fault → Result View Fault
-as_merge (Err why) = Err why
-as_merge (Ok options) = Ok (view.Kept (kept.Merge options))
-
 -- the view that needs a second file: bad words if there is none, and then a fault if there is no such file
 abbrev pub beside_second : Bool → Option PairRows → Result View Fault
-beside_second has_second None = Err fault.Words
-beside_second has_second (Some rows) = if has_second then Ok (view.Written (written.Paired rows)) else Err fault.NoSecond
+beside_second has_second asked =
+    if_ok (ok_or asked fault.Words) (λ rows. if has_second then Ok (view.Written (written.Paired rows)) else Err fault.NoSecond)
 
 -- the view that needs a FASTA file, on a track of this width: bad words if there is none, then a fault if there are no strands
 -- to show, and then one if there is no such file
 abbrev pub beside_fasta : ℕ → Bool → Option FastaRows → Result View Fault
-beside_fasta width has_bases None = Err fault.Words
-beside_fasta width has_bases (Some shown) =
+beside_fasta width has_bases asked =
+    if_ok (ok_or asked fault.Words) (λ shown.
     if shown.stranded && nat_lt width 6 then Err fault.NoStrand
     else if has_bases then Ok (view.Written (written.Getfasta shown))
-    else Err fault.NoFasta
-
--- the view of all records, which has no options
-abbrev pub records_said : List (List ℕ) → Result View Fault
-records_said [] = Ok (view.Written written.Records)
-records_said (word ∷ words) = Err fault.Words
+    else Err fault.NoFasta)
 
 -- the view that words ask for on a track of this width, beside a second file and a FASTA file or without, or their first fault
 abbrev pub read_words : ℕ → Bool → Bool → List (List ℕ) → Result View Fault
 read_words width has_second has_bases [] = Err fault.Words
 read_words width has_second has_bases (word ∷ words) =
-    if bytes_eq word (codes "merge") then as_merge (merge_options width (said_by words nothing_said))
+    if bytes_eq word (codes "merge") then if_ok (merge_options width (said_by words nothing_said)) (λ options. Ok (view.Kept (kept.Merge options)))
     else if bytes_eq word (codes "cluster") then or_bad_words (option_map kept.Cluster (cluster_distance (said_by words nothing_said)))
     else if bytes_eq word (codes "complement") then or_bad_words (option_map kept.Complement (only_flag (codes "-L") words))
     else if bytes_eq word (codes "genomecov") then or_bad_words (option_map kept.Genomecov (genomecov_rows words))
-    else if bytes_eq word (codes "intersect") then beside_second has_second (option_map pair.Intersect (intersect_rows_said words))
+    else if bytes_eq word (codes "intersect") then beside_second has_second (option_map pair.Intersect (beside_flag (codes "-wa") intersect_said words))
     else if bytes_eq word (codes "subtract") then beside_second has_second (option_map pair.Subtract (only_flag (codes "-A") words))
-    else if bytes_eq word (codes "getfasta") then beside_fasta width has_bases (fasta_rows_said words)
-    else if bytes_eq word (codes "records") then records_said words
+    else if bytes_eq word (codes "getfasta") then beside_fasta width has_bases (beside_flag (codes "-s") fasta_said words)
+    else if bytes_eq word (codes "records") && length words == 0 then Ok (view.Written written.Records)
     else Err fault.Words
 
 -- the text of a view of which a state is kept, on this genome for these records
@@ -97,9 +84,8 @@ written_text written.Records g rows second bases = records_text g rows
 -- how many steps lie between two readings at most while a view is written from these records: of `records` two, and one more for
 -- each different record; the others may take as many as they need
 abbrev pub WritesWithin : WrittenView → List RecordValue → ℕ → ℕ → Type 0
-WritesWithin (written.Paired shown) rows old new = Unit {0}
-WritesWithin (written.Getfasta shown) rows old new = Unit {0}
 WritesWithin written.Records rows old new = TakesUpTo old new (2 + different_records rows)
+WritesWithin shown rows old new = Unit {0}
 
 -- the records of a second file: none without one
 abbrev pub second_records : Option Tracked → List RecordValue

@@ -1,10 +1,8 @@
 //! The options of the views whose options are flags alone: each shows other rows.
-ghost use Rattle.std.specs.Prelude.{◌≡◌, codes, map};
+ghost use Rattle.std.specs.Prelude.{◌≡◌, ◌∷◌, [], codes, map};
 ghost use Rattle.std.specs.Option.{option_map};
-ghost use Rattle.iv_view.specs.Flags.{only_flag as flag_alone};
-ghost use Rattle.iv_view.specs.Genomecov.{genomecov_rows, rows_of_option as depth_rows_of_option};
-ghost use Rattle.iv_view.specs.Getfasta.{fasta_rows_said, is_s as says_s, rows_of_option as fasta_rows_of_option};
-ghost use Rattle.iv_view.specs.Intersect.{intersect_rows_said, is_wa as says_wa, rows_of_option as intersect_rows_of_option};
+ghost use Rattle.std.specs.Str.{bytes_eq};
+ghost use Rattle.iv_view.specs.Flags.{only_flag as flag_alone, beside_flag, genomecov_rows, intersect_said, fasta_said};
 ghost use Rattle.iv_view.specs.declared.view.KeptView.TheVariants.{Complement};
 
 use crate::view::KeptView;
@@ -32,7 +30,7 @@ pub(crate) fn read_genomecov(words: &[&[u8]]) -> Option<DepthRows>
 
 /// The rows that an option asks for.
 fn depth_rows_of(option: &[u8]) -> Option<DepthRows>
-    ensures { result ≡ depth_rows_of_option option.now }
+    ensures { result ≡ genomecov_rows (option.now ∷ []) }
 {
     if option == b"-bg".as_slice() {
         Some(DepthRows::Covered)
@@ -48,7 +46,7 @@ fn depth_rows_of(option: &[u8]) -> Option<DepthRows>
 /// The rows that the words after `intersect` ask for: `-wa`, and one of `-wb`, `-u`, `-v` and `-c`, in any order, or one
 /// of the two, or neither.
 pub(crate) fn read_intersect(words: &[&[u8]]) -> Option<IntersectRows>
-    ensures { result ≡ intersect_rows_said (map (λ word. word.now) words.now) }
+    ensures { result ≡ beside_flag (codes "-wa") intersect_said (map (λ word. word.now) words.now) }
 {
     match words {
         [] => Some(IntersectRows::Shared),
@@ -62,14 +60,14 @@ pub(crate) fn read_intersect(words: &[&[u8]]) -> Option<IntersectRows>
 
 /// Whether a word is the option that shows whole records.
 fn is_wa(word: &[u8]) -> bool
-    ensures { result ≡ says_wa word.now }
+    ensures { result ≡ bytes_eq word.now (codes "-wa") }
 {
     word == b"-wa".as_slice()
 }
 
 /// The rows that another option asks for, beside `-wa` or without it.
 fn intersect_rows_of(option: &[u8], whole: bool) -> Option<IntersectRows>
-    ensures { result ≡ intersect_rows_of_option whole option.now }
+    ensures { result ≡ intersect_said whole (option.now ∷ []) }
 {
     if option == b"-wb".as_slice() {
         if whole {
@@ -108,7 +106,7 @@ fn only_flag(flag: &[u8], words: &[&[u8]]) -> Option<bool>
 
 /// The rows that the words after `getfasta` ask for: `-s` and `-tab`, in any order, or one of the two, or neither.
 pub(crate) fn read_getfasta(words: &[&[u8]]) -> Option<FastaRows>
-    ensures { result ≡ fasta_rows_said (map (λ word. word.now) words.now) }
+    ensures { result ≡ beside_flag (codes "-s") fasta_said (map (λ word. word.now) words.now) }
 {
     match words {
         [] => Some(FastaRows {
@@ -128,14 +126,14 @@ pub(crate) fn read_getfasta(words: &[&[u8]]) -> Option<FastaRows>
 
 /// Whether a word is the option that shows strands.
 fn is_s(word: &[u8]) -> bool
-    ensures { result ≡ says_s word.now }
+    ensures { result ≡ bytes_eq word.now (codes "-s") }
 {
     word == b"-s".as_slice()
 }
 
 /// The rows that another option asks for, beside `-s` or without it.
 fn fasta_rows_of(option: &[u8], stranded: bool) -> Option<FastaRows>
-    ensures { result ≡ fasta_rows_of_option stranded option.now }
+    ensures { result ≡ fasta_said stranded (option.now ∷ []) }
 {
     if option == b"-tab".as_slice() {
         Some(FastaRows {

@@ -1,12 +1,14 @@
 //! The options of `merge` and `cluster`: the distance of blocks, and summaries of their columns.
-ghost use Rattle.std.specs.Prelude.{◌≡◌, ◌≤◌, ℕ, List, [], ◌∷◌, Option, Some, None, MatchOption, nat_le, if◌then◌else◌, length, map, replicate};
+ghost use Rattle.std.specs.Prelude.{◌≡◌, ◌≤◌, ℕ, List, [], ◌∷◌, Option, Some, None, IsSome, MatchOption, nat_le, if◌then◌else◌, length, map, replicate};
 ghost use Rattle.std.specs.List.{zip};
-ghost use Rattle.std.specs.Option.{option_map, option_copied};
+ghost use Rattle.std.specs.Option.{option_map, option_copied, ok_or};
 ghost use Rattle.iv_text.specs.Number.{number};
+ghost use Rattle.iv_text.specs.declared.fault.Fault.TheVariants as fault;
 ghost use Rattle.iv_cover.specs.Summaries.{op_named};
 ghost use Rattle.iv_blocks.specs.Groups.{filled};
 ghost use Rattle.iv_view.specs.Lists.{all_some, items_in, of_length, pairs};
-ghost use Rattle.iv_view.specs.Merge.{said_by, nothing_said, with_value, option_of, merge_options, cluster_distance, asked_summaries, distance_of, lists_of, summary_within};
+ghost use Rattle.iv_view.specs.Chains.{if_ok};
+ghost use Rattle.iv_view.specs.Merge.{said_by, nothing_said, with_option, merge_options, cluster_distance, distance_of, lists_of, summary_within};
 ghost use Rattle.iv_view.specs.NarrowedViews.{number_of as number_of_column, has_columns as columns_are_there, narrowed_options};
 
 use crate::view::ViewFault;
@@ -105,50 +107,29 @@ impl<'a> MergeArgs<'a> {
 
     /// Takes an option and its value, unless the option had one before.
     fn take(&mut self, option: &[u8], value: &'a [u8]) -> Option<()>
-        ensures { MatchOption result (with_value option.now value.now self.old ≡ None) (λ _. with_value option.now value.now self.old ≡ Some self.new) }
+        ensures { MatchOption result (with_option option.now value.now self.old ≡ None) (λ _. with_option option.now value.now self.old ≡ Some self.new) }
     {
-        match valued_option(option) {
-            Some(ValuedOption::Distance) if self.distance.is_none() => {
-                self.distance = Some(value);
-                Some(())
-            }
-            Some(ValuedOption::Columns) if self.columns.is_none() => {
-                self.columns = Some(value);
-                Some(())
-            }
-            Some(ValuedOption::Ops) if self.ops.is_none() => {
-                self.ops = Some(value);
-                Some(())
-            }
-            _ => None,
+        if option == b"-d".as_slice() {
+            give(&mut self.distance, value)
+        } else if option == b"-c".as_slice() {
+            give(&mut self.columns, value)
+        } else if option == b"-o".as_slice() {
+            give(&mut self.ops, value)
+        } else {
+            None
         }
     }
 }
 
-/// An option that takes a value.
-#[derive(Clone, Copy)]
-enum ValuedOption {
-    /// `-d`: the distance.
-    Distance,
-    /// `-c`: the columns.
-    Columns,
-    /// `-o`: the operations.
-    Ops,
-}
-
-/// The option with a value that a word is.
-fn valued_option(word: &[u8]) -> Option<ValuedOption>
-    ensures { result ≡ option_of word.now }
+/// Gives an option its value, unless it has one.
+fn give<'a>(option: &mut Option<&'a [u8]>, value: &'a [u8]) -> Option<()>
+    ensures { MatchOption result (IsSome (option_copied option.old)) (λ _. (option_copied option.old ≡ None) × (option_copied option.new ≡ Some value.now)) }
 {
-    if word == b"-d".as_slice() {
-        Some(ValuedOption::Distance)
-    } else if word == b"-c".as_slice() {
-        Some(ValuedOption::Columns)
-    } else if word == b"-o".as_slice() {
-        Some(ValuedOption::Ops)
-    } else {
-        None
+    if option.is_some() {
+        return None;
     }
+    *option = Some(value);
+    Some(())
 }
 
 /// The distance that a value means, 0 if there is none.
@@ -205,7 +186,7 @@ fn usual_ops() -> ArrayVec<Op, MOST_ITEMS>
 /// The summaries that columns and operations ask for, paired off.
 fn read_summaries(columns: &[u64], ops: &[Op]) -> Result<Summaries, ViewFault>
     requires few { (length columns.now ≤ 16) × (length ops.now ≤ 16) }
-    ensures { result ≡ asked_summaries 6 (pairs columns.now ops.now) }
+    ensures { result ≡ if_ok (ok_or (pairs columns.now ops.now) fault.Words) (λ asked. ok_or (option_map filled (all_some (map (summary_within 6) asked))) fault.Column) }
 {
     let count = columns.len().max(ops.len());
     let columns = repeated(columns, count).ok_or(ViewFault::Words)?;

@@ -1,6 +1,6 @@
 //! The kinds of view.
 ghost use Rattle.std.specs.Prelude.{◌≡◌, true, map};
-ghost use Rattle.iv_view.specs.Views.{read_words, or_bad_words as kept_or_bad_words, beside_second as beside_a_second, beside_fasta as beside_a_fasta, records_said};
+ghost use Rattle.iv_view.specs.Views.{read_words, or_bad_words as kept_or_bad_words, beside_second as beside_a_second, beside_fasta as beside_a_fasta};
 ghost use Rattle.iv_view.specs.NarrowedViews.{narrowed as narrowed_view};
 
 use crate::flags::{read_complement, read_genomecov, read_getfasta, read_intersect, read_subtract};
@@ -101,8 +101,8 @@ impl View {
             beside_second(EVERYTHING, read_subtract(options).map(PairRows::Subtract))
         } else if *word == b"getfasta".as_slice() {
             beside_fasta(EVERYTHING, read_getfasta(options))
-        } else if *word == b"records".as_slice() {
-            read_records(options)
+        } else if *word == b"records".as_slice() && options.is_empty() {
+            Ok(View::Written(WrittenView::Records))
         } else {
             Err(ViewFault::Words)
         }
@@ -165,15 +165,4 @@ fn beside_fasta(beside: Beside, asked: Option<FastaRows>) -> Result<View, ViewFa
         return Err(ViewFault::NoFasta);
     }
     Ok(View::Written(WrittenView::Getfasta(shown)))
-}
-
-/// The view of all records, or a fault of the words if there are options, since it has none.
-fn read_records(options: &[&[u8]]) -> Result<View, ViewFault>
-    ensures { result ≡ records_said (map (λ word. word.now) options.now) }
-{
-    if options.is_empty() {
-        Ok(View::Written(WrittenView::Records))
-    } else {
-        Err(ViewFault::Words)
-    }
 }

@@ -3,9 +3,8 @@ ghost use Rattle.std.specs.Prelude.{◌+◌, ◌<◌, [], ◌∷◌, IsTrue, IsS
 ghost use Rattle.std.specs.Option.{option_copied, unwrap_or};
 ghost use Rattle.iv_bytes.specs.Sinks.{Puts};
 ghost use Rattle.iv_pair.specs.PairRows.{pair_rows};
-ghost use Rattle.iv_track.specs.Regions.{near};
+ghost use Rattle.iv_track.specs.Regions.{hits as hits_in, near};
 ghost use Rattle.iv_track.specs.Steps.{TakesUpTo};
-ghost use Rattle.iv_view.specs.RegionText.{written_text_in};
 ghost use Rattle.iv_view.specs.Views.{needs_second, second_records, written_text, WritesWithin};
 ghost use Rattle.iv_view.specs.declared.view.View.TheVariants.{Written};
 
@@ -77,7 +76,7 @@ impl WrittenView {
         requires some { at.start < at.stop }
         requires second { IsTrue (needs_second (Written self)) → IsSome (option_copied second) }
         ensures text { Puts (S.state sink.old) (S.state sink.new) result
-            (written_text_in at self genome.now track.now.rows (second_records (option_copied second.entry)) (unwrap_or (option_copied fasta.entry) [])) }
+            (written_text self genome.now (hits_in track.now.rows at.seq at.start at.stop) (second_records (option_copied second.entry)) (unwrap_or (option_copied fasta.entry) [])) }
         ensures steps { TakesUpTo meter.old meter.new (2 + length (near at track.now.rows)) }
     {
         let mut hits = track.hits(at, meter);

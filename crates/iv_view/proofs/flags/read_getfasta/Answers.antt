@@ -1,7 +1,8 @@
 use Rattle.std.proofs.Common.{◌∙◌, ℕ, List, map, sym, arith}
 use Rattle.std.proofs.lemmas.List.{length-map}
 use Rattle.std.specs.Borrow.{Bor}
-use Rattle.iv_view.specs.Getfasta.{is_s, rows_beside}
+use Rattle.std.specs.Prelude.{codes}
+use Rattle.iv_view.specs.Flags.{fasta_said}
 use Rattle.iv_view.proofs.FlagLemmas.{three-words, flag-first-of}
 use Rattle.iv_view.proofs.RowLemmas.{getfasta_others}
 use Rattle.iv_view.proofs.flags.read_getfasta.Goals as goal
@@ -9,9 +10,9 @@ use Rattle.iv_view.proofs.flags.read_getfasta.Goals as goal
 pub returns-in-len2 : goal.returns-in-len2
 returns-in-len2 c =
     c.fasta_rows_of-in-len2.ensures
-    ∙ sym (flag-first-of is_s rows_beside getfasta_others c.args.words.now _ _ c.in-len2.len_at_least c.in-len2.len_below (sym c.is_s-then-words-lt3.ensures ∙ c.if-is_s-2.true))
+    ∙ sym (flag-first-of (codes "-s") fasta_said getfasta_others c.args.words.now _ _ c.in-len2.len_at_least c.in-len2.len_below (sym c.is_s-then-words-lt3.ensures ∙ c.if-is_s-2.true))
 
 pub returns-in_default-2 : goal.returns-in_default-2
 returns-in_default-2 c =
     let words = c.args.words.now in
-    sym (three-words is_s rows_beside getfasta_others (map (λ word. word.now) words) (omega (arith, length-map words (λ (word : Bor (List ℕ)). word.now), c.in_default.len_at_least)))
+    sym (three-words (codes "-s") fasta_said getfasta_others (map (λ word. word.now) words) (omega (arith, length-map words (λ (word : Bor (List ℕ)). word.now), c.in_default.len_at_least)))

@@ -1,8 +1,7 @@
 use Rattle.std.proofs.Common.{◌+◌, ◌≤◌, [], length}
 use Rattle.std.specs.Option.{option_copied, unwrap_or}
 use Rattle.iv_bytes.proofs.PutLemmas.{Underway}
-use Rattle.iv_track.specs.Regions.{near}
-use Rattle.iv_view.specs.RegionText.{written_text_in}
+use Rattle.iv_track.specs.Regions.{hits, near}
 use Rattle.iv_view.specs.Views.{second_records, written_text}
 use Rattle.iv_view.proofs.written_view.WrittenView.print_in.Given as goal
 
@@ -11,7 +10,7 @@ abbrev pub invariant-rows : goal.invariant-rows
 invariant-rows g l = record {
   put : Underway (g.S.Sink.state l.fn.sink) (g.S.Sink.state l.sink)
       (written_text l.self l.genome l.hits.rows (second_records (option_copied l.fn.second)) (unwrap_or (option_copied l.fn.fasta) []))
-      (written_text_in l.fn.at l.self l.genome l.track.rows (second_records (option_copied l.fn.second)) (unwrap_or (option_copied l.fn.fasta) []));
+      (written_text l.self l.genome (hits l.track.rows l.fn.at.seq l.fn.at.start l.fn.at.stop) (second_records (option_copied l.fn.second)) (unwrap_or (option_copied l.fn.fasta) []));
   no_less : l.fn.meter ≤ l.meter;
   at_most : l.meter + l.hits.passes ≤ l.fn.meter + (1 + length (near l.fn.at l.track.rows));
 }
