@@ -1,7 +1,7 @@
 -- A run that gives the status 0.
 use Rattle.std.proofs.Common.{◌≡◌, inl, inr, ℕ, Bool, true, false, List, [], ◌∷◌, append-nil, Option, None, Some, Result, Ok, Err, ◌==◌, if◌then◌else◌, refl, sym, ap, ◌∙◌, subst, eqb-true, arith}
 use Rattle.iv_bytes.proofs.PutLemmas.{Takes-append}
-use Rattle.iv_bytes.specs.Sinks.{SinkState, Takes}
+use Rattle.iv_bytes.specs.Sinks.{SinkState, Takes, waiting}
 use Rattle.iv_workspace.specs.States.{State}
 use Rattle.iv_session.specs.Endings.{Ran}
 use Rattle.iv_session.specs.ScriptLines.{Runs as LineRuns}
@@ -149,16 +149,21 @@ plan-done plan before reached after ended line (inr stopped) is flushed = absurd
 
 -- the output of a run with the status 0 was flushed, and what was asked for was done
 finished : (words : List (List ℕ)) (before after : World) (answer : Ended) (ran : Runs words before after answer) → status_of answer.exit_reason ≡ 0
-    → (ran.ended ≡ exit_reason.Done) × Takes ran.reached.streams.output after.streams.output []
+    → (ran.ended ≡ exit_reason.Done) × Flushes true ran.reached.streams.output after.streams.output
 finished words before after answer ran none =
     let ends = done-flushed ran.finishes.flushed ran.ended (sym ran.finishes.reported_is ∙ done-status answer.exit_reason (sym none)) in
     (ends.1, subst (λ (b : Bool). Flushes b ran.reached.streams.output after.streams.output) ends.0 ran.finishes.flush)
+
+-- nothing waits in the output after such a run
+pub none-waits : (words : List (List ℕ)) (before after : World) (answer : Ended) → Runs words before after answer → status_of answer.exit_reason ≡ 0
+    → waiting after.streams.output ≡ []
+none-waits words before after answer ran zero = (finished words before after answer ran zero).1.1
 
 pub info_request-done : (words : List (List ℕ)) (before after : World) (info_request : InfoRequest) (answer : Ended) → notice_of words ≡ Some info_request → Runs words before after answer
     → status_of answer.exit_reason ≡ 0 → Takes before.streams.output after.streams.output (notice_text info_request)
 info_request-done words before after info_request answer is ran zero = by ran.asked ran.ask ran.serves
   where
-    ends : (ran.ended ≡ exit_reason.Done) × Takes ran.reached.streams.output after.streams.output []
+    ends : (ran.ended ≡ exit_reason.Done) × Flushes true ran.reached.streams.output after.streams.output
     ends = finished words before after answer ran zero
 
     by : (asked : Asked) → Ask words asked → Serves asked before ran.reached ran.ended answer.line → Takes before.streams.output after.streams.output (notice_text info_request)
@@ -170,7 +175,7 @@ info_request-done words before after info_request answer is ran zero = by ran.as
             → Takes before.streams.output after.streams.output (notice_text info_request)
         given said same (inl took) =
             subst (λ (n : InfoRequest). Takes before.streams.output after.streams.output (notice_text n)) same
-            (then-flushed before.streams.output ran.reached.streams.output after.streams.output (notice_text said) took.1 ends.1)
+            (then-flushed before.streams.output ran.reached.streams.output after.streams.output (notice_text said) took.1 ends.1.0)
         given said same (inr lost) = absurd (cc (sym lost.0 ∙ ends.0))
     by (Planned plan) ask serves = absurd (cc (sym ask.0 ∙ is))
     by (Wrong refused.Words) ask serves = absurd (cc (sym ask.0 ∙ is))
@@ -217,11 +222,11 @@ pub plan-all-done : (words : List (List ℕ)) (before after : World) (plan : Run
     → status_of answer.exit_reason ≡ 0 → DoesAll plan before after
 plan-all-done words before after plan answer none is ran zero = by ran.asked ran.ask ran.serves
   where
-    ends : (ran.ended ≡ exit_reason.Done) × Takes ran.reached.streams.output after.streams.output []
+    ends : (ran.ended ≡ exit_reason.Done) × Flushes true ran.reached.streams.output after.streams.output
     ends = finished words before after answer ran zero
 
     by : (asked : Asked) → Ask words asked → Serves asked before ran.reached ran.ended answer.line → DoesAll plan before after
     by (Shown said) ask serves = absurd (cc (sym none ∙ ask))
     by (Planned other) ask serves =
-        subst (λ (p : RunPlan). DoesAll p before after) (one-plan words other plan ask.1 is) (plan-done other before ran.reached after ran.ended answer.line serves ends.0 ends.1)
+        subst (λ (p : RunPlan). DoesAll p before after) (one-plan words other plan ask.1 is) (plan-done other before ran.reached after ran.ended answer.line serves ends.0 ends.1.0)
     by (Wrong why) ask serves = absurd (no-word-fault why (sym ends.0 ∙ serves.1))

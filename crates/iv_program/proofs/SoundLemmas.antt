@@ -75,7 +75,7 @@ module _ (ended : ExitReason) (name : List ℕ) (out0 out1 said0 said1 : SinkSta
 
   -- the output was flushed
   flushed : Takes out0 out1 []
-  flushed = subst (λ (b : Bool). Flushes b out0 out1) flushed-true finishes.flush
+  flushed = (subst (λ (b : Bool). Flushes b out0 out1) flushed-true finishes.flush).0
 
   same-exit_reason : (e : ExitReason) → ending_after true e ≡ e
   same-exit_reason exit_reason.Done = refl

@@ -1,6 +1,6 @@
 -- What the program does.
 use Rattle.std.specs.Prelude.{◌≡◌, ℕ, ◌⊎◌, List, [], Bool, true, false, None, Some}
-use Rattle.iv_bytes.specs.Sinks.{SinkState, Takes, FailsIn}
+use Rattle.iv_bytes.specs.Sinks.{SinkState, Takes, FailsIn, waiting}
 use Rattle.iv_bytes.specs.Sources.{SourceState}
 use Rattle.iv_text.specs.declared.fault.Fault.{Fault}
 use Rattle.iv_text.specs.declared.fault.Fault.TheVariants as refused
@@ -53,9 +53,9 @@ name_reported (Shown info_request) ended = []
 name_reported (Planned plan) ended = name_meant plan ended
 name_reported (Wrong fault) ended = []
 
--- whether what was held could be handed on
+-- all that was held was handed on, so that nothing waits; or that failed
 abbrev pub Flushes : Bool → SinkState → SinkState → Type 0
-Flushes true old new = Takes old new []
+Flushes true old new = Takes old new [] × (waiting new ≡ [])
 Flushes false old new = FailsIn old new []
 
 -- a text was reported: all of it, or the messages failed in it

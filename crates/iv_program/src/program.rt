@@ -1,7 +1,7 @@
 //! The whole program: what the arguments ask for, the run of one subcommand, and how each run ends.
-ghost use Rattle.std.specs.Prelude.{◌≡◌, ◌≢◌, ◌<◌, ◌^◌, ℕ, List, Some, None, IfOk, IfErr, IfSome, OnOk, OnErr, length, map, true, false};
+ghost use Rattle.std.specs.Prelude.{◌≡◌, ◌≢◌, ◌<◌, ◌^◌, ℕ, List, [], Some, None, IfOk, IfErr, IfSome, OnOk, OnErr, length, map, true, false};
 ghost use Rattle.std.specs.Option.{option_map};
-ghost use Rattle.iv_bytes.specs.Sinks.{Takes};
+ghost use Rattle.iv_bytes.specs.Sinks.{Takes, waiting};
 ghost use Rattle.iv_index.specs.Locators.{bare};
 ghost use Rattle.iv_args.specs.InfoRequests.{notice_of};
 ghost use Rattle.iv_args.specs.Texts.{notice_text};
@@ -161,7 +161,7 @@ pub fn tell<E: Sink>(exit_reason: ExitReason, name: &[u8], messages: &mut E) -> 
     exit_reason.status()
 }
 
-/// Ends a run: the output hands on what it holds, and the ending is reported.
+/// Ends a run: the output hands on all that it holds, and the ending is reported.
 fn finish<W: Flush, E: Sink>(ended: Ended, name: &[u8], output: &mut W, messages: &mut E) -> Ended
     ensures exit_reason { Finishes ended.exit_reason name.now (W.state output.old) (W.state output.new) (E.state messages.old) (E.state messages.new) result.exit_reason }
     ensures line { result.line ≡ ended.line }
@@ -206,10 +206,11 @@ pub fn run_program<A: Allocator + Copy, F: InputFiles, R: Source, W: Flush, E: S
 }
 
 /// A run that gives the status 0 has done all that its arguments ask for: the output has taken the whole text of the notice or of the
-/// view for the files' bytes, or every line of the script was run and none refused.
+/// view for the files' bytes, or every line of the script was run and none refused. Nothing of it waits in the output.
 pub fn done_is_all()
     ensures info_request { (words : List (List ℕ)) (before after : World) (info_request : InfoRequest) (ended : Ended) → notice_of words ≡ Some info_request → Runs words before after ended → status_of ended.exit_reason ≡ 0 → Takes before.streams.output after.streams.output (notice_text info_request) }
     ensures plan { (words : List (List ℕ)) (before after : World) (plan : RunPlan) (ended : Ended) → notice_of words ≡ None → IsPlan words plan → Runs words before after ended → status_of ended.exit_reason ≡ 0 → DoesAll plan before after }
+    ensures flushed { (words : List (List ℕ)) (before after : World) (ended : Ended) → Runs words before after ended → status_of ended.exit_reason ≡ 0 → waiting after.streams.output ≡ [] }
 {}
 
 /// Arguments have at most one plan: they decide all of it.

@@ -1,8 +1,8 @@
 //! Sinks and sources over writers and readers of std that fail once, are interrupted or take nothing: what failed stays
 //! failed and is not tried again.
-use iv_bytes::{ReadFault, Sink, Source, StdSink, StdSource, WriteFault, put_all};
+use iv_bytes::{Flush, ReadFault, Sink, Source, StdSink, StdSource, WriteFault, put_all};
 use std::io;
-use std::io::Write;
+use std::io::{BufWriter, ErrorKind, Write};
 use std::test::Fail;
 use test_faults::{Bad, Device, FAILURES};
 
@@ -160,5 +160,15 @@ fn each_write_bad_in_turn(rt: HostRuntime) -> Result<(), Fail> {
     for bad in FAILURES {
         assert!(rt; is_kept(&kept(&rt, 5, bad), 4, 4, true));
     }
+    Ok(())
+}
+
+/// Writes into a buffer of std, which holds the text back, above a device that fails.
+#[test]
+fn a_flush_that_fails(rt: HostRuntime) -> Result<(), Fail> {
+    let device = Device::new(b"", 1, Bad::Fails(ErrorKind::BrokenPipe));
+    let mut sink = StdSink::new(BufWriter::new(rt.alloc(), device)?);
+    assert!(rt; put_all(&mut sink, TEXT).is_ok());
+    assert!(rt; sink.flush() == Err(WriteFault) && sink.failed());
     Ok(())
 }

@@ -1,4 +1,4 @@
-use Rattle.iv_program.proofs.DoneLemmas.{info_request-done, plan-all-done}
+use Rattle.iv_program.proofs.DoneLemmas.{info_request-done, none-waits, plan-all-done}
 use Rattle.iv_program.proofs.program.done_is_all.Goals as goal
 
 pub returns-clause-info_request : goal.returns-clause-info_request
@@ -6,3 +6,6 @@ returns-clause-info_request c = info_request-done
 
 pub returns-clause-plan : goal.returns-clause-plan
 returns-clause-plan c = plan-all-done
+
+pub returns-clause-flushed : goal.returns-clause-flushed
+returns-clause-flushed c = none-waits
