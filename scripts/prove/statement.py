@@ -148,7 +148,7 @@ The contract of `bedkeep`, and each definition on which it rests, after the one 
 ## How to read it
 
 - **A definition** begins with its name and its type: `f : A → B → C` takes an A and a B, and gives a C. Then come equations, of which the first that fits counts. `f x y` is f of x and y, without brackets or commas. `abbrev`, `unfoldable` and `pub` are for the prover. To find a definition, search for its name with ` :` after it.
-- **`Type 0`** is the type of types and of statements. `Sequences : Type 0` is a type. `Runs : State → ... → Type 0` is a statement about a State and more: it holds or doesn't. The names of both begin with a capital letter; those of values begin with a small one.
+- **`Type 0`** is the type of types and of statements. `Sequences : Type 0` is a type. `RunsLine : State → ... → Type 0` is a statement about a State and more: it holds or doesn't. The names of both begin with a capital letter; those of values begin with a small one.
 - **A record** has named fields. `r.x` is a field, `record {{ x = a }}` is made of fields, and `record r {{ x = a }}` is r except for this field. A record with parameters is a statement: it holds if there are values for all of its fields, and its fields that are statements hold.
 - **A `data`**, or an `enum` of Rust, is one of its cases. In `kind.Add` the case is `Add`, and its type is the one that the last line *Cases* gives for `kind.`.
 - **In an equation** `λ x. e` is the function that gives e for x; `let x = e in d` is d with e for x; and `elim e [ p ↦ a | q ↦ b ]` is a if e has the form p, and b if it has the form q. `_` is any value.
@@ -175,7 +175,7 @@ This is about any files, input, output and messages; `F.state`, `R.state`, `W.st
 FIRST = """\
 ## Part 1: edits, session and views
 
-The contract's `Runs` is about the whole program. It leads to the lines of a script through {chain}, which are in part 2: the input is split into lines, and each line in turn takes the session from one state to the next, and writes something. The `Runs` below says what one line may do. The text of a view, which is below too, is also what a run of one subcommand prints.
+The contract's `Runs` is about the whole program. It leads to the lines of a script through {chain}, which are in part 2: the input is split into lines, and each line in turn takes the session from one state to the next, and writes something. `RunsLine` says what one line may do. The text of a view, which is below too, is also what a run of one subcommand prints.
 """
 
 SECOND = """\

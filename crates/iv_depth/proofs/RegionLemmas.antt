@@ -7,7 +7,7 @@ use Rattle.iv_cover.specs.Runs.{Run, runs, Tiles}
 use Rattle.iv_cover.proofs.RunsLemmas.{runs-run, runs-none, Tiles-runs, Tiles-only}
 use Rattle.iv_depth.specs.Changes.{Entries}
 use Rattle.iv_depth.specs.DepthRows.{run_row, position_row, covered_runs}
-use Rattle.iv_depth.specs.RegionRows.{shares, rows_in, covered_runs_in}
+use Rattle.iv_depth.specs.RegionRows.{run_shares, rows_in, covered_runs_in}
 use Rattle.iv_depth.specs.Inside.Region.{IsRunStart, AreLeft, EndsRun, IsWalking}
 use Rattle.iv_depth.specs.Inside.RunRows.{run_rows, rows_from, covered_from}
 use Rattle.iv_depth.specs.declared.depth_rows.DepthRows.{DepthRows}
@@ -68,18 +68,18 @@ module _ (t : Run → Bool) (start stop : ℕ) (before : (x : Run) → x.stop �
 
 -- ---- the runs that share a position with the region
 
-shares-before : (start stop : ℕ) (x : Run) → x.stop ≤ start → shares start stop x ≡ false
+shares-before : (start stop : ℕ) (x : Run) → x.stop ≤ start → run_shares start stop x ≡ false
 shares-before start stop x low =
     let off : nat_lt start x.stop ≡ false = le-ltb start x.stop low in
     rw off (and-false (nat_lt x.start stop))
 
-shares-after : (start stop : ℕ) (x : Run) → stop ≤ x.start → shares start stop x ≡ false
+shares-after : (start stop : ℕ) (x : Run) → stop ≤ x.start → run_shares start stop x ≡ false
 shares-after start stop x high =
     let off : nat_lt x.start stop ≡ false = le-ltb x.start stop high in
     rw off refl
 
 abbrev both : ℕ → ℕ → Run → Bool
-both start stop run = nat_lt 0 run.value && shares start stop run
+both start stop run = nat_lt 0 run.value && run_shares start stop run
 
 both-before : (start stop : ℕ) (x : Run) → x.stop ≤ start → both start stop x ≡ false
 both-before start stop x low = rw (shares-before start stop x low) (and-false (nat_lt 0 x.value))
@@ -88,18 +88,18 @@ both-after : (start stop : ℕ) (x : Run) → stop ≤ x.start → both start st
 both-after start stop x high = rw (shares-after start stop x high) (and-false (nat_lt 0 x.value))
 
 module _ (f : ℕ → ℕ) (long start stop : ℕ) where
-  shared-skip : (s : ℕ) → s < long → IsRunStart f start s → filter (shares start stop) (runs f 0 long) ≡ filter (shares start stop) (runs f s long)
-  shared-skip s high begins = runs-skip (shares start stop) start stop (shares-before start stop) (shares-after start stop) f long s high begins.other begins.low
+  shared-skip : (s : ℕ) → s < long → IsRunStart f start s → filter (run_shares start stop) (runs f 0 long) ≡ filter (run_shares start stop) (runs f s long)
+  shared-skip s high begins = runs-skip (run_shares start stop) start stop (shares-before start stop) (shares-after start stop) f long s high begins.other begins.low
 
   covered-skip : (s : ℕ) → s < long → IsRunStart f start s → covered_runs_in f long start stop ≡ covered_from f long start stop s
   covered-skip s high begins =
-      filter-both (shares start stop) (λ run. nat_lt 0 run.value) (runs f 0 long)
+      filter-both (run_shares start stop) (λ run. nat_lt 0 run.value) (runs f 0 long)
       ∙ runs-skip (both start stop) start stop (both-before start stop) (both-after start stop) f long s high begins.other begins.low
-      ∙ sym (filter-both (shares start stop) (λ run. nat_lt 0 run.value) (runs f s long))
+      ∙ sym (filter-both (run_shares start stop) (λ run. nat_lt 0 run.value) (runs f s long))
 
   covered-after : (here : ℕ) → stop ≤ here → covered_from f long start stop here ≡ []
   covered-after here past =
-      filter-both (shares start stop) (λ run. nat_lt 0 run.value) (runs f here long)
+      filter-both (run_shares start stop) (λ run. nat_lt 0 run.value) (runs f here long)
       ∙ runs-after (both start stop) start stop (both-before start stop) (both-after start stop) f here long past
 
   -- at the run that holds the first position
@@ -114,7 +114,7 @@ module _ (f : ℕ → ℕ) (long start stop : ℕ) where
   pub rows-past : (shown : DepthRows) (name : List ℕ) (here : ℕ) → stop ≤ here → rows_from shown name f long start stop here ≡ []
   rows-past Covered name here past = ap (flat_map (run_row name)) (covered-after here past)
   rows-past All name here past =
-      ap (flat_map (run_row name)) (runs-after (shares start stop) start stop (shares-before start stop) (shares-after start stop) f here long past)
+      ap (flat_map (run_row name)) (runs-after (run_shares start stop) start stop (shares-before start stop) (shares-after start stop) f here long past)
   rows-past EachPosition name here past =
       let none : stop - max here start ≡ zero = omega (arith, past) in
       rw none refl
@@ -143,7 +143,7 @@ module _ (f : ℕ → ℕ) (rank long start stop here value to : ℕ) (change : 
           let o = e.other (omega (arith, short, some, within)) in
           absurd (o.0 (sym (same to (omega (arith, e.low)) short) ∙ o.1))
 
-  shares-run : shares start stop run ≡ true
+  shares-run : run_shares start stop run ≡ true
   shares-run =
       let a : nat_lt here stop ≡ true = lt-ltb here stop near in
       let b : nat_lt start to ≡ true = lt-ltb start to crosses in
@@ -163,12 +163,12 @@ module _ (f : ℕ → ℕ) (rank long start stop here value to : ℕ) (change : 
       ap (filter (λ run. nat_lt 0 run.value)) runs-here ∙ rw on refl
 
   count-bare : value ≡ 0 → length (covered_from f long start stop here) ≡ length (covered_from f long start stop to)
-  count-bare none = ap (λ (l : List Run). length (filter (shares start stop) l)) (covered-bare none)
+  count-bare none = ap (λ (l : List Run). length (filter (run_shares start stop) l)) (covered-bare none)
 
   count-here : value ≢ 0 → length (covered_from f long start stop here) ≡ length (covered_from f long start stop to) + 1
   count-here other =
-      ap (λ (l : List Run). length (filter (shares start stop) l)) (covered-here other)
-      ∙ kept-length (shares start stop) run (covered_runs f to long) shares-run
+      ap (λ (l : List Run). length (filter (run_shares start stop) l)) (covered-here other)
+      ∙ kept-length (run_shares start stop) run (covered_runs f to long) shares-run
 
   positions : (row : ℕ → ℕ → List ℕ)
       → flat_map (λ q. row q (f q)) (range_with_len (max here start) (stop - max here start))
@@ -191,20 +191,20 @@ module _ (f : ℕ → ℕ) (rank long start stop here value to : ℕ) (change : 
   -- its rows are the next
   pub rows-run : (shown : DepthRows) (name : List ℕ) → rows_from shown name f long start stop here ≡ run_rows shown name value start stop here to ++ rows_from shown name f long start stop to
   rows-run All name =
-      ap (λ (l : List Run). flat_map (run_row name) (filter (shares start stop) l)) runs-here
-      ∙ row-kept (run_row name) (shares start stop) run (runs f to long) shares-run
+      ap (λ (l : List Run). flat_map (run_row name) (filter (run_shares start stop) l)) runs-here
+      ∙ row-kept (run_row name) (run_shares start stop) run (runs f to long) shares-run
       ∙ ap (λ (l : List ℕ). l ++ rows_from All name f long start stop to) (sym (rows-one name value here to e.low))
   rows-run EachPosition name = positions (position_row name)
   rows-run Covered name = go value refl
     where
       go : (v : ℕ) → value ≡ v → rows_from Covered name f long start stop here ≡ run_rows Covered name value start stop here to ++ rows_from Covered name f long start stop to
       go zero none =
-          ap (λ (l : List Run). flat_map (run_row name) (filter (shares start stop) l)) (covered-bare none)
+          ap (λ (l : List Run). flat_map (run_row name) (filter (run_shares start stop) l)) (covered-bare none)
           ∙ ap (λ (l : List ℕ). l ++ rows_from Covered name f long start stop to) (sym (rows-bare name value here to e.low none))
       go (suc v) is =
           let other : value ≢ 0 = omega (arith, is) in
-          ap (λ (l : List Run). flat_map (run_row name) (filter (shares start stop) l)) (covered-here other)
-          ∙ row-kept (run_row name) (shares start stop) run (covered_runs f to long) shares-run
+          ap (λ (l : List Run). flat_map (run_row name) (filter (run_shares start stop) l)) (covered-here other)
+          ∙ row-kept (run_row name) (run_shares start stop) run (covered_runs f to long) shares-run
           ∙ ap (λ (l : List ℕ). l ++ rows_from Covered name f long start stop to) (sym (rows-covered name value here to e.low other))
 
 -- ---- the walk

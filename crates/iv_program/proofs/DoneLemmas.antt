@@ -4,7 +4,7 @@ use Rattle.iv_bytes.proofs.PutLemmas.{Takes-append}
 use Rattle.iv_bytes.specs.Sinks.{SinkState, Takes, waiting}
 use Rattle.iv_workspace.specs.States.{State}
 use Rattle.iv_session.specs.Endings.{Ran}
-use Rattle.iv_session.specs.ScriptLines.{Runs as LineRuns}
+use Rattle.iv_session.specs.ScriptLines.{RunsLine}
 use Rattle.iv_session.specs.Scripts.{Done}
 use Rattle.iv_session.specs.Streams.{Streams}
 use Rattle.iv_session.specs.declared.script.RunCause.{RunCause}
@@ -32,7 +32,7 @@ use Rattle.iv_cli.specs.declared.exit_reason.ExitReason.{ExitReason}
 use Rattle.iv_cli.specs.declared.exit_reason.ExitReason.TheVariants as exit_reason
 use Rattle.iv_program.specs.Limits.{most_line_bytes}
 use Rattle.iv_program.specs.Outcomes.{DoesAll, DoesAllWith, RunsAll}
-use Rattle.iv_program.specs.Program.{Asked, Shown, Planned, Wrong, Ask, Flushes, Gives, Runs, Serves}
+use Rattle.iv_program.specs.Program.{Asked, Shown, Planned, Wrong, Ask, Flushes, PutsNotice, Runs, Serves}
 use Rattle.iv_program.specs.Runs.{DoesWith, PrintsView, RunsOver, RunsPlan, RunsScript, World, ending_of_shot}
 use Rattle.iv_program.specs.Texts.{Texts}
 use Rattle.iv_program.specs.declared.program.Ended.{Ended}
@@ -120,7 +120,7 @@ script-done plan texts before reached after ended line runs is flushed = by runs
       begins = begins;
       reached = reached;
       count = summary.lines;
-      runs = subst (λ (n : ℕ). Done LineRuns s new before reached plan.limit most_line_bytes summary.lines n)
+      runs = subst (λ (n : ℕ). Done RunsLine s new before reached plan.limit most_line_bytes summary.lines n)
           (none-refused summary.refused (summary.refused == 0) refl e) ran;
       flushed = flushed;
     }
@@ -171,7 +171,7 @@ info_request-done words before after info_request answer is ran zero = by ran.as
         let same : said ≡ info_request = cc (sym ask ∙ is) in
         given said same serves.0
       where
-        given : (said : InfoRequest) → said ≡ info_request → Gives before.streams.output ran.reached.streams.output (notice_text said) ran.ended
+        given : (said : InfoRequest) → said ≡ info_request → PutsNotice before.streams.output ran.reached.streams.output (notice_text said) ran.ended
             → Takes before.streams.output after.streams.output (notice_text info_request)
         given said same (inl took) =
             subst (λ (n : InfoRequest). Takes before.streams.output after.streams.output (notice_text n)) same

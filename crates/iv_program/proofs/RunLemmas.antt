@@ -9,7 +9,7 @@ use Rattle.iv_text.specs.declared.fault.Fault.{Fault}
 use Rattle.iv_text.specs.declared.fault.Fault.TheVariants as refused
 use Rattle.iv_workspace.specs.States.{State}
 use Rattle.iv_session.specs.Endings.{Ran}
-use Rattle.iv_session.specs.ScriptLines.{Runs as LineRuns, RunsLast}
+use Rattle.iv_session.specs.ScriptLines.{RunsLine, RunsLast}
 use Rattle.iv_session.specs.Scripts.{Done}
 use Rattle.iv_session.specs.Stops.{Stopped}
 use Rattle.iv_session.specs.Streams.{Streams}
@@ -30,7 +30,7 @@ use Rattle.iv_cli.specs.ExitReasons.{ending_of_words, name_meant}
 use Rattle.iv_cli.specs.declared.exit_reason.ExitReason.{ExitReason}
 use Rattle.iv_program.specs.Files.{FilesState, IsText, StopsFile, after_one, after_reading}
 use Rattle.iv_program.specs.Limits.{most_file_bytes}
-use Rattle.iv_program.specs.Program.{Shown, Planned, Wrong, Ask, Finishes, Gives, Runs, world}
+use Rattle.iv_program.specs.Program.{Shown, Planned, Wrong, Ask, Finishes, PutsNotice, Runs, world}
 use Rattle.iv_program.specs.Runs.{RunsPlan}
 use Rattle.iv_program.specs.Inside.Runs.{Says}
 use Rattle.iv_program.specs.Texts.{Texts, AreTexts, HasText, IsTextIfNamed, StopsAt, names_before, names_of}
@@ -158,8 +158,8 @@ report-of plan texts known bases r says report =
     (report texts.sizes texts.first texts.other says.known_is)))
 
 pub ran-of : (old new : State) (before after : Streams) (lines most : ℕ) (r : Result Summary RunFault)
-    → IfOk r (λ summary. Done LineRuns old new before after lines most summary.lines summary.refused)
-    → IfErr r (λ why. Stopped LineRuns RunsLast old new before after lines most why.line why.cause)
+    → IfOk r (λ summary. Done RunsLine old new before after lines most summary.lines summary.refused)
+    → IfErr r (λ why. Stopped RunsLine RunsLast old new before after lines most why.line why.cause)
     → Ran old new before after lines most r
 ran-of old new before after lines most (Ok summary) done stopped = done
 ran-of old new before after lines most (Err why) done stopped = stopped
@@ -168,7 +168,7 @@ ran-of old new before after lines most (Err why) done stopped = stopped
 
 module _ (words : List (List ℕ)) (answer : Ended) where
   pub gave-info_request : (info_request : InfoRequest) (files : FilesState) (input : SourceState) (o0 o1 o2 s0 s1 : SinkState) (ended : ExitReason) → notice_of words ≡ Some info_request
-      → Gives o0 o1 (notice_text info_request) ended → Finishes ended [] o1 o2 s0 s1 answer.exit_reason → answer.line ≡ 0
+      → PutsNotice o0 o1 (notice_text info_request) ended → Finishes ended [] o1 o2 s0 s1 answer.exit_reason → answer.line ≡ 0
       → Runs words (world files input o0 s0) (world files input o2 s1) answer
   gave-info_request info_request files input o0 o1 o2 s0 s1 ended is gives finishes no_line = record {
     asked = Shown info_request;

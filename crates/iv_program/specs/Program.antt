@@ -35,13 +35,13 @@ Ask words (Wrong refused.NoMemory) = notice_of words ≡ None
 Ask words (Wrong other) = ⊥
 
 -- a text was put, or the output failed in it
-abbrev pub Gives : SinkState → SinkState → List ℕ → ExitReason → Type 0
-Gives old new text ended = ((ended ≡ exit_reason.Done) × Takes old new text) ⊎ ((ended ≡ exit_reason.Output) × FailsIn old new text)
+abbrev pub PutsNotice : SinkState → SinkState → List ℕ → ExitReason → Type 0
+PutsNotice old new text ended = ((ended ≡ exit_reason.Done) × Takes old new text) ⊎ ((ended ≡ exit_reason.Output) × FailsIn old new text)
 
 -- what was asked for was done, and ended so, at this line of its script if it ended early at one
 abbrev pub Serves : Asked → World → World → ExitReason → ℕ → Type 0
 Serves (Shown info_request) before after ended line =
-    Gives before.streams.output after.streams.output (notice_text info_request) ended
+    PutsNotice before.streams.output after.streams.output (notice_text info_request) ended
     × (after ≡ record before { streams = record before.streams { output = after.streams.output } })
     × (line ≡ 0)
 Serves (Planned plan) before after ended line = RunsPlan plan before after ended line

@@ -13,7 +13,7 @@ ghost use Rattle.iv_run.specs.Shots.{shown};
 ghost use Rattle.iv_cli.specs.ExitReasons.{is_through, line_of, status_of};
 ghost use Rattle.iv_program.specs.Files.{after_reading};
 ghost use Rattle.iv_program.specs.Outcomes.{AreSound, DoesAll, Hold, PrintsJust};
-ghost use Rattle.iv_program.specs.Program.{Finishes, Gives, Runs, Tells, world};
+ghost use Rattle.iv_program.specs.Program.{Finishes, PutsNotice, Runs, Tells, world};
 ghost use Rattle.iv_program.specs.Runs.{PrintsView, RunsPlan, World, ending_of_shot};
 ghost use Rattle.iv_program.specs.Inside.Runs.{Says};
 ghost use Rattle.iv_program.specs.Texts.{Texts, AreTexts, StopsAt, names_of};
@@ -57,7 +57,7 @@ impl Ended {
 
 /// Prints a notice.
 fn print_notice<W: Sink>(info_request: InfoRequest, output: &mut W) -> ExitReason
-    ensures { Gives (W.state output.old) (W.state output.new) (notice_text info_request) result }
+    ensures { PutsNotice (W.state output.old) (W.state output.new) (notice_text info_request) result }
 {
     match put_all(output, info_request.text()) {
         Ok(()) => ExitReason::Done,

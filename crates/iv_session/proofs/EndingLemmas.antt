@@ -3,7 +3,7 @@ use Rattle.std.proofs.Common.{◌≡◌, ◌≢◌, ℕ, ◌+◌, ◌≤◌, ◌
 use Rattle.iv_bytes.specs.Sources.{SourceState, IsInput}
 use Rattle.iv_session.specs.Endings.{Ran, AreSound, HadMemory, IsTooLongAt}
 use Rattle.iv_session.specs.Limits.{line_sizes, Keeps, first_over}
-use Rattle.iv_session.specs.ScriptLines.{Runs, RunsLast}
+use Rattle.iv_session.specs.ScriptLines.{RunsLine, RunsLast}
 use Rattle.iv_session.specs.Stops.{Stopped}
 use Rattle.iv_session.specs.Streams.{Streams}
 use Rattle.iv_session.specs.declared.script.RunCause.{RunCause}
@@ -27,7 +27,7 @@ done-none old new before after most_lines most text summary known ran =
 
 -- the first line that passes a limit is not before the one that the run ended at
 from-line : (old new : State) (before after : Streams) (most_lines most n : ℕ) (cause : RunCause) (text : List ℕ)
-    → before.input.coming ≡ Some text → (u : Stopped Runs RunsLast old new before after most_lines most n cause)
+    → before.input.coming ≡ Some text → (u : Stopped RunsLine RunsLast old new before after most_lines most n cause)
     → first_over most_lines most 1 (line_sizes text) ≡ first_over most_lines most n (line_sizes (u.given ++ u.more))
 from-line old new before after most_lines most n cause text known u =
     let rest : List ℕ = u.given ++ u.more in
@@ -55,13 +55,13 @@ pub stopped-ran : (old new : State) (before after : Streams) (most_lines most n 
     → first_over most_lines most 1 (line_sizes text) ≡ Some n → fault.line < n
 stopped-ran old new before after most_lines most n text fault known ran sink is = go fault.cause ran sink
   where
-    past : (cause : RunCause) (u : Stopped Runs RunsLast old new before after most_lines most fault.line cause)
+    past : (cause : RunCause) (u : Stopped RunsLine RunsLast old new before after most_lines most fault.line cause)
         → Keeps most_lines most fault.line (line_sizes (u.given ++ u.more)) → fault.line < n
     past cause u keeps =
         over-past most_lines most fault.line n (line_sizes (u.given ++ u.more)) keeps
         (sym (from-line old new before after most_lines most fault.line cause text known u) ∙ is)
 
-    go : (cause : RunCause) → Stopped Runs RunsLast old new before after most_lines most fault.line cause
+    go : (cause : RunCause) → Stopped RunsLine RunsLast old new before after most_lines most fault.line cause
         → (cause ≡ Output) ⊎ (cause ≡ Messages) → fault.line < n
     go Output u sink = past Output u u.why.0
     go Messages u sink = past Messages u u.why.0
@@ -82,7 +82,7 @@ too_long-exact old new before after most_lines most n text (Ok summary) known ra
 )
 too_long-exact old new before after most_lines most n text (Err fault) known ran sound memory = go fault.cause ran memory
   where
-    go : (cause : RunCause) → Stopped Runs RunsLast old new before after most_lines most fault.line cause → cause ≢ Memory
+    go : (cause : RunCause) → Stopped RunsLine RunsLast old new before after most_lines most fault.line cause → cause ≢ Memory
         → ((fault.line ≡ n) × (cause ≡ TooLong)) ↔ (first_over most_lines most 1 (line_sizes text) ≡ Some n)
     go TooLong u memory =
         let first : first_over most_lines most 1 (line_sizes text) ≡ Some fault.line =

@@ -6,12 +6,12 @@ use Rattle.iv_text.specs.Fields.{words}
 use Rattle.iv_text.specs.RecordValue.{RecordValue}
 use Rattle.iv_text.specs.declared.fault.Fault.TheVariants as fault
 use Rattle.iv_session.specs.Requests.{asked}
-use Rattle.iv_session.specs.ScriptLines.{Runs}
+use Rattle.iv_session.specs.ScriptLines.{RunsLine}
 use Rattle.iv_session.specs.Scripts.{Steps}
 use Rattle.iv_workspace.specs.OpenViews.{Shown}
 use Rattle.iv_track.specs.Edits.{with_record}
 use Rattle.iv_workspace.specs.States.{State, with_track}
-use Rattle.iv_workspace.specs.Views.{opened, all_text, text_in}
+use Rattle.iv_workspace.specs.Views.{view_asked, all_text, text_in}
 use Rattle.iv_view.specs.Views.{read_words}
 use Rattle.iv_session.specs.Written.{Written, printed, refused_by}
 use Rattle.iv_session.specs.declared.request.Request.TheVariants as request
@@ -88,13 +88,13 @@ spaces-are_no_words = refl
 pub no_words-are_no_view : read_words 3 false false (words []) ≡ Err fault.Words
 no_words-are_no_view = refl
 
-pub names-are_not_empty : opened empty [] (codes "merge" ∷ []) ≡ Err fault.BadName
+pub names-are_not_empty : view_asked empty [] (codes "merge" ∷ []) ≡ Err fault.BadName
 names-are_not_empty = refl
 
-pub names-are_taken_once : opened with_a_view (codes "m") [] ≡ Err fault.Taken
+pub names-are_taken_once : view_asked with_a_view (codes "m") [] ≡ Err fault.Taken
 names-are_taken_once = refl
 
-pub names-come_before_words : opened with_a_view (codes "n") [] ≡ Err fault.Words
+pub names-come_before_words : view_asked with_a_view (codes "n") [] ≡ Err fault.Words
 names-come_before_words = refl
 
 pub views-are_under_their_names : all_text None (record with_a_view { views = (codes "b", merging) ∷ (codes "a", merging) ∷ [] }) ≡ codes "#b\n#a\n"
@@ -112,7 +112,7 @@ script =
 abbrev silent : Written
 silent = printed []
 
-pub script-steps : Steps Runs empty script (silent ∷ silent ∷ silent ∷ printed (text_in None with_two plain_merge) ∷ refused_by 7 ∷ []) with_two
+pub script-steps : Steps RunsLine empty script (silent ∷ silent ∷ silent ∷ printed (text_in None with_two plain_merge) ∷ refused_by 7 ∷ []) with_two
 script-steps = (
   with_a_view,
   inl ([], ((plain_merge, refl, refl), refl), refl),
@@ -135,13 +135,13 @@ script-steps = (
 abbrev with_stale : State
 with_stale = record with_one { views = (codes "m", record { view = plain_merge; stale = true }) ∷ [] }
 
-pub edits-may_leave_a_view_stale : Runs with_a_view (codes "add" ++ tab ++ codes "chr1" ++ tab ++ codes "10" ++ tab ++ codes "20") with_stale silent
+pub edits-may_leave_a_view_stale : RunsLine with_a_view (codes "add" ++ tab ++ codes "chr1" ++ tab ++ codes "10" ++ tab ++ codes "20") with_stale silent
 edits-may_leave_a_view_stale = inl ([], ((omega arith, (refl, (refl, refl, (λ stale. refl), (λ none. absurd (cc (none))), tt))), refl), refl)
 
-pub prints-may_want_memory : Runs with_stale (codes "print" ++ tab ++ codes "m") with_stale (refused_by 22)
+pub prints-may_want_memory : RunsLine with_stale (codes "print" ++ tab ++ codes "m") with_stale (refused_by 22)
 prints-may_want_memory = inr (fault.NoMemory, (record { view = plain_merge; stale = true }, refl, refl), refl, refl)
 
-pub prints-make_a_view_current : Runs with_stale (codes "print" ++ tab ++ codes "m") with_one (printed (text_in None with_one plain_merge))
+pub prints-make_a_view_current : RunsLine with_stale (codes "print" ++ tab ++ codes "m") with_one (printed (text_in None with_one plain_merge))
 prints-make_a_view_current = inl (text_in None with_one plain_merge, (record { view = plain_merge; stale = true }, refl, refl, refl), refl)
 
 -- ---- a second file
@@ -157,13 +157,13 @@ other = record {
 abbrev beside : State
 beside = record with_one { second = Some other; views = (codes "v", record { view = view.Written (written.Paired (pair.Intersect rows.IfNoHit)); stale = false }) ∷ [] }
 
-pub bad_words-come_before_the_file : opened empty (codes "i") (codes "intersect" ∷ codes "-u" ∷ codes "-v" ∷ []) ≡ Err fault.Words
+pub bad_words-come_before_the_file : view_asked empty (codes "i") (codes "intersect" ∷ codes "-u" ∷ codes "-v" ∷ []) ≡ Err fault.Words
 bad_words-come_before_the_file = refl
 
-pub no_second-is_reported : opened empty (codes "i") (codes "intersect" ∷ codes "-c" ∷ codes "-wa" ∷ []) ≡ Err fault.NoSecond
+pub no_second-is_reported : view_asked empty (codes "i") (codes "intersect" ∷ codes "-c" ∷ codes "-wa" ∷ []) ≡ Err fault.NoSecond
 no_second-is_reported = refl
 
-pub options-go_in_any_order : opened (record empty { second = Some other }) (codes "i") (codes "intersect" ∷ codes "-wb" ∷ codes "-wa" ∷ []) ≡ Ok (view.Written (written.Paired (pair.Intersect rows.WholeAndHit)))
+pub options-go_in_any_order : view_asked (record empty { second = Some other }) (codes "i") (codes "intersect" ∷ codes "-wb" ∷ codes "-wa" ∷ []) ≡ Ok (view.Written (written.Paired (pair.Intersect rows.WholeAndHit)))
 options-go_in_any_order = refl
 
 pub records_with_a_hit-are_left_out : all_text None beside ≡ codes "#v\n"
@@ -189,16 +189,16 @@ hits-are_no_neighbours = refl
 abbrev with_bases : State
 with_bases = record empty { track = record { rows = record second_row { seq = 1; width = 6 } ∷ []; width = 6; limit = 2 }; bases = Some (Some (codes "ACGT") ∷ None ∷ None ∷ []) }
 
-pub strands-come_before_the_file : opened empty (codes "f") (codes "getfasta" ∷ codes "-s" ∷ []) ≡ Err fault.NoStrand
+pub strands-come_before_the_file : view_asked empty (codes "f") (codes "getfasta" ∷ codes "-s" ∷ []) ≡ Err fault.NoStrand
 strands-come_before_the_file = refl
 
-pub no_fasta-is_reported : opened empty (codes "f") (codes "getfasta" ∷ codes "-tab" ∷ []) ≡ Err fault.NoFasta
+pub no_fasta-is_reported : view_asked empty (codes "f") (codes "getfasta" ∷ codes "-tab" ∷ []) ≡ Err fault.NoFasta
 no_fasta-is_reported = refl
 
-pub no_option-is_twice : opened with_bases (codes "f") (codes "getfasta" ∷ codes "-tab" ∷ codes "-tab" ∷ []) ≡ Err fault.Words
+pub no_option-is_twice : view_asked with_bases (codes "f") (codes "getfasta" ∷ codes "-tab" ∷ codes "-tab" ∷ []) ≡ Err fault.Words
 no_option-is_twice = refl
 
-pub bases-are_shown_with_strands : opened with_bases (codes "f") (codes "getfasta" ∷ codes "-tab" ∷ codes "-s" ∷ []) ≡ Ok (view.Written (written.Getfasta (record { stranded = true; tab = true })))
+pub bases-are_shown_with_strands : view_asked with_bases (codes "f") (codes "getfasta" ∷ codes "-tab" ∷ codes "-s" ∷ []) ≡ Ok (view.Written (written.Getfasta (record { stranded = true; tab = true })))
 bases-are_shown_with_strands = refl
 
 pub sequences_without_bases-are_left_out : text_in None with_bases (view.Written (written.Getfasta (record { stranded = false; tab = false }))) ≡ []

@@ -13,12 +13,12 @@ use Rattle.iv_view.proofs.WordLemmas.{words-cut}
 use Rattle.iv_workspace.specs.OpenViews.{Shown}
 use Rattle.iv_workspace.specs.Prints.{PrintedNamed, PrintedView, PrintedAll, IsButCurrent}
 use Rattle.iv_workspace.specs.States.{State}
-use Rattle.iv_workspace.specs.Views.{view_named, opened, unless_fault, has_name_fault, name_faults, Opens, RefusesOpen, all_text, print_code, text_in}
+use Rattle.iv_workspace.specs.Views.{view_named, view_asked, unless_fault, has_name_fault, name_faults, Opens, RefusesOpen, all_text, print_code, text_in}
 use Rattle.iv_workspace.specs.declared.fault.PrintFault.{PrintFault}
 use Rattle.iv_workspace.specs.declared.fault.PrintFault.TheVariants as printing
 use Rattle.iv_session.specs.Requests.{asked}
 use Rattle.iv_session.specs.Written.{Written, printed, refused_by, refusal_count, message_if}
-use Rattle.iv_session.specs.ScriptLines.{AsksToPrint, Ends, Runs, RunsLast, DoesAsked, RefusesAsked, Leaves}
+use Rattle.iv_session.specs.ScriptLines.{AsksToPrint, Ends, RunsLine, RunsLast, DoesAsked, RefusesAsked, Leaves}
 use Rattle.iv_session.specs.Inside.ScriptLines.{Writes, WritesFault}
 use Rattle.iv_session.specs.Inside.Scripts.{RanLine, FailedLine, Tells, refusals_of}
 use Rattle.iv_session.specs.declared.request.Request.{Request}
@@ -79,7 +79,7 @@ is-asked asks old new out0 out1 r result is writes =
     subst (λ (a : Result Request Fault). Writes a old new out0 out1 result) is writes
 
 -- words that are cut off after the ninth open the same view
-opened-cut : (s : State) (name text : List ℕ) → opened s name (take 9 (words text)) ≡ opened s name (words text)
+opened-cut : (s : State) (name text : List ℕ) → view_asked s name (take 9 (words text)) ≡ view_asked s name (words text)
 opened-cut s name text =
     ap (unless_fault (find (has_name_fault s name) name_faults)) (words-cut s.track.width (is_some s.second) (is_some s.bases) (words text))
 
@@ -163,11 +163,11 @@ fresher-ends asks old new written (inr (f, why, left, is)) which = fresher-left 
 -- the fact that each line ends with
 abbrev pub Ran : State → List ℕ → State → ℕ → SinkState → SinkState → SinkState → SinkState → Result Outcome RunCause → Type 0
 Ran old text new n out0 out1 said0 said1 result = MatchResult result
-    (λ ended_as. RanLine (Runs old text new) n out0 out1 said0 said1 ended_as) (λ failed. FailedLine (RunsLast failed old text new) n out0 out1 said0 said1 failed)
+    (λ ended_as. RanLine (RunsLine old text new) n out0 out1 said0 said1 ended_as) (λ failed. FailedLine (RunsLast failed old text new) n out0 out1 said0 said1 failed)
 
 -- a line that was done
 pub ran-done : (old : State) (text : List ℕ) (new : State) (n : ℕ) (out0 out1 said : SinkState)
-    → Writes (asked old text) old new out0 out1 (Ok tt) → RanLine (Runs old text new) n out0 out1 said said outcome.Done
+    → Writes (asked old text) old new out0 out1 (Ok tt) → RanLine (RunsLine old text new) n out0 out1 said said outcome.Done
 ran-done old text new n out0 out1 said did = record {
   written = did.written;
   makes = did.ends;

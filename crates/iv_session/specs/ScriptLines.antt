@@ -64,8 +64,8 @@ Ends asks old new written =
     ⊎ ((f : Fault) × RefusesAsked asks old f × Leaves asks old new × (written ≡ refused_by (code_of f)))
 
 -- what a line may do: from one state to another, with what it writes
-abbrev pub Runs : State → List ℕ → State → Written → Type 0
-Runs old line new written = Ends (asked old line) old new written
+abbrev pub RunsLine : State → List ℕ → State → Written → Type 0
+RunsLine old line new written = Ends (asked old line) old new written
 
 -- a view is to be printed, or all of them
 abbrev pub AsksToPrint : Result Request Fault → Type 0
@@ -82,4 +82,4 @@ EndsAt other asks old new written = ⊥
 
 -- what the last line of a run may do that ends at a sink for this cause: what lines may do, and no more than that
 abbrev pub RunsLast : RunCause → State → List ℕ → State → Written → Type 0
-RunsLast failed old line new written = Runs old line new written × EndsAt failed (asked old line) old new written
+RunsLast failed old line new written = RunsLine old line new written × EndsAt failed (asked old line) old new written

@@ -16,7 +16,7 @@ use Rattle.iv_workspace.specs.Inside.ViewStates.{all_seen}
 use Rattle.iv_workspace.specs.OpenViews.{current, all_current, with_current}
 use Rattle.iv_workspace.specs.Prints.{PrintedAll, PrintedView, with_all_printed, with_printed}
 use Rattle.iv_workspace.specs.States.{State}
-use Rattle.iv_workspace.specs.Views.{heading, headed_text, all_text, text_in}
+use Rattle.iv_workspace.specs.Views.{name_line, headed_text, all_text, text_in}
 use Rattle.iv_workspace.specs.declared.fault.PrintFault.{PrintFault}
 use Rattle.iv_workspace.specs.declared.fault.PrintFault.TheVariants as printing
 use Rattle.iv_workspace.specs.OpenViews.{Shown}
@@ -104,10 +104,10 @@ all-fresh views more is = subst (λ (l : List (List ℕ × Shown)). All (λ v. v
 
 -- the view at an index is the next to be printed
 pub views-next : (part : Option Region) (inside s : State) → inside ≡ s → (i : ℕ) (v : List ℕ × Shown) → Some v ≡ slice_get inside.views i
-    → flat_map (headed_text part s) (drop i s.views) ≡ heading v.0 ++ (text_in part s v.1.view ++ flat_map (headed_text part s) (drop (i + 1) s.views))
+    → flat_map (headed_text part s) (drop i s.views) ≡ name_line v.0 ++ (text_in part s v.1.view ++ flat_map (headed_text part s) (drop (i + 1) s.views))
 views-next part inside s same i v found =
     let at : Some v ≡ slice_get s.views i = found ∙ ap (λ (t : State). slice_get t.views i) same in
     let low = slice_get_within s.views i v (sym at) in
     let is : get_or s.views i v ≡ v = get_or_from_slice_get s.views i v v (sym at) in
     ap (flat_map (headed_text part s)) (drop-cons s.views i v low ∙ ap₂ (λ (q : List ℕ × Shown) (k : ℕ). q ∷ drop k s.views) is (sym (add-one i)))
-    ∙ append_assoc (heading v.0) (text_in part s v.1.view) (flat_map (headed_text part s) (drop (i + 1) s.views))
+    ∙ append_assoc (name_line v.0) (text_in part s v.1.view) (flat_map (headed_text part s) (drop (i + 1) s.views))

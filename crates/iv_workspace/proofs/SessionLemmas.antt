@@ -19,7 +19,7 @@ use Rattle.iv_view.specs.declared.kept_state.StateKey.{StateKey}
 use Rattle.iv_view.specs.declared.view.View.{View}
 use Rattle.iv_view.specs.KeptStates.{state_key_of}
 use Rattle.iv_workspace.specs.OpenViews.{Shown, Stales, Freshens, all_current, with_current}
-use Rattle.iv_workspace.specs.Views.{is_view_name, view_named, words_said, opened}
+use Rattle.iv_workspace.specs.Views.{is_view_name, view_named, words_said, view_asked}
 use Rattle.iv_workspace.proofs.OpenViewLemmas.{all-current, freshens-all, freshens-one}
 use Rattle.iv_workspace.specs.States.{State, IsButStale, tracked}
 use Rattle.iv_workspace.specs.Inside.States.{IsTrackOn, IsServed, AreServed, IsWrittenFresh, AreWrittenFresh, IsSession}
@@ -107,9 +107,9 @@ replaced-in inside s mid new before r after q same first next session order ther
 
 -- if the name has no fault, the words decide
 pub no-name_fault : (inside s : State) (name : List ℕ) (words : List (List ℕ)) (v : View) → inside ≡ s → is_view_name name ≡ true → is_some (view_named inside.views name) ≡ false
-    → length inside.views < 64 → words_said inside words ≡ Ok v → opened s name words ≡ Ok v
+    → length inside.views < 64 → words_said inside words ≡ Ok v → view_asked s name words ≡ Ok v
 no-name_fault inside s name words v same good free few said =
-    subst (λ (t : State). opened t name words ≡ Ok v) same (rw (good, free, lt-leb 64 (length inside.views) few) said)
+    subst (λ (t : State). view_asked t name words ≡ Ok v) same (rw (good, free, lt-leb 64 (length inside.views) few) said)
 
 -- ---- views beside a second file
 

@@ -53,16 +53,16 @@ unless_fault None said = said
 unless_fault (Some f) said = Err f
 
 -- the view that is opened under a name by these words: the first fault of the name, or else what the words say
-abbrev pub opened : State → List ℕ → List (List ℕ) → Result View Fault
-opened s name words = unless_fault (find (has_name_fault s name) name_faults) (words_said s words)
+abbrev pub view_asked : State → List ℕ → List (List ℕ) → Result View Fault
+view_asked s name words = unless_fault (find (has_name_fault s name) name_faults) (words_said s words)
 
 -- the view of these words is opened under the name: it is the last, and current
 abbrev pub Opens : State → List ℕ → List (List ℕ) → State → Type 0
-Opens old name words new = (view : View) × (opened old name words ≡ Ok view) × (new ≡ with_view old name view)
+Opens old name words new = (view : View) × (view_asked old name words ≡ Ok view) × (new ≡ with_view old name view)
 
 -- why no view is opened: for the first fault; or an allocation failed, if there is none
 abbrev pub RefusesOpen : State → List ℕ → List (List ℕ) → Fault → Type 0
-RefusesOpen s name words f = (opened s name words ≡ Err f) ⊎ ((f ≡ fault.NoMemory) × IsOk (opened s name words))
+RefusesOpen s name words f = (view_asked s name words ≡ Err f) ⊎ ((f ≡ fault.NoMemory) × IsOk (view_asked s name words))
 
 -- what is printed of a view, all of it or a region: its text for the records as they are, beside the second file's records and the
 -- bases, if there are any
@@ -70,12 +70,12 @@ abbrev pub text_in : Option Region → State → View → List ℕ
 text_in part s v = shown_text part v s.genome s.track.rows (second_records s.second) (unwrap_or s.bases [])
 
 -- the line above a view's text, if all views are printed
-abbrev pub heading : List ℕ → List ℕ
-heading name = codes "#" ++ name ++ codes "\n"
+abbrev pub name_line : List ℕ → List ℕ
+name_line name = codes "#" ++ name ++ codes "\n"
 
 -- the same under its heading
 abbrev pub headed_text : Option Region → State → List ℕ × Shown → List ℕ
-headed_text part s v = heading v.0 ++ text_in part s v.1.view
+headed_text part s v = name_line v.0 ++ text_in part s v.1.view
 
 -- the same of all views, in order of opening
 abbrev pub all_text : Option Region → State → List ℕ

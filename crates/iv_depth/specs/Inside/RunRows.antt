@@ -3,7 +3,7 @@ use Rattle.std.specs.Prelude.{ℕ, ◌-◌, List, max, min, filter}
 use Rattle.std.specs.List.{flat_map, range_with_len}
 use Rattle.iv_cover.specs.Runs.{Run, runs}
 use Rattle.iv_depth.specs.DepthRows.{run_row, position_row, covered_runs, rows_between}
-use Rattle.iv_depth.specs.RegionRows.{shares}
+use Rattle.iv_depth.specs.RegionRows.{run_shares}
 use Rattle.iv_depth.specs.declared.depth_rows.DepthRows.{DepthRows}
 use Rattle.iv_depth.specs.declared.depth_rows.DepthRows.TheVariants.{Covered, All, EachPosition}
 
@@ -15,11 +15,11 @@ run_rows EachPosition name depth start stop from to = rows_between EachPosition 
 
 -- the runs of a depth above 0 that share a position with the region, from a position on
 abbrev pub covered_from : (ℕ → ℕ) → ℕ → ℕ → ℕ → ℕ → List Run
-covered_from f long start stop from = filter (shares start stop) (covered_runs f from long)
+covered_from f long start stop from = filter (run_shares start stop) (covered_runs f from long)
 
 -- the rows of the region from a position on
 abbrev pub rows_from : DepthRows → List ℕ → (ℕ → ℕ) → ℕ → ℕ → ℕ → ℕ → List ℕ
 rows_from Covered name f long start stop from = flat_map (run_row name) (covered_from f long start stop from)
-rows_from All name f long start stop from = flat_map (run_row name) (filter (shares start stop) (runs f from long))
+rows_from All name f long start stop from = flat_map (run_row name) (filter (run_shares start stop) (runs f from long))
 rows_from EachPosition name f long start stop from =
     flat_map (λ p. position_row name p (f p)) (range_with_len (max from start) (stop - max from start))

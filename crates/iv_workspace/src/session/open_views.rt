@@ -7,7 +7,7 @@ ghost use Rattle.iv_view.specs.RegionText.{IsWithin};
 ghost use Rattle.iv_workspace.specs.OpenViews.{stale_count};
 ghost use Rattle.iv_workspace.specs.Prints.{PrintedNamed, PrintedAll, NamedPrintsWithin, AllPrintWithin};
 ghost use Rattle.iv_workspace.specs.States.{without_view};
-ghost use Rattle.iv_workspace.specs.Views.{all_text, heading, is_view_name as is_name, view_named, RefusesOpen, Opens};
+ghost use Rattle.iv_workspace.specs.Views.{all_text, name_line, is_view_name as is_name, view_named, RefusesOpen, Opens};
 
 use super::Session;
 use crate::fault::PrintFault;
@@ -37,7 +37,7 @@ fn is_view_name(name: &[u8]) -> bool
 
 /// Puts the line above a view's text, `#NAME`.
 fn put_heading<S: Sink>(sink: &mut S, name: &[u8]) -> Result<(), WriteFault>
-    ensures { Puts (S.state sink.old) (S.state sink.new) result (heading name.now) }
+    ensures { Puts (S.state sink.old) (S.state sink.new) result (name_line name.now) }
 {
     put_pieces(sink, &[b"#", name, b"\n"])
 }
