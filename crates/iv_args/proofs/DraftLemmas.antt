@@ -1,15 +1,15 @@
 -- The words of a run, taken from the front.
 use Rattle.std.proofs.Common.{◌≡◌, ℕ, ◌+◌, ◌-◌, ◌≤◌, Bool, true, false, List, [], ◌∷◌, ◌++◌, Option, Some, None, Bor, length, map, take, drop, refl, sym, ap, ◌∙◌, subst, arith, append-nil, append_assoc, length-append, length-drop}
 use lib.ListN.{get_or}
-use Rattle.std.specs.Prelude.{filter}
+use Rattle.std.specs.Prelude.{filter, if◌then◌else◌}
 use Rattle.std.specs.List.{slice_get}
-use Rattle.std.specs.Option.{option_map, option_and_then, option_to_list}
+use Rattle.std.specs.Option.{is_some, option_map, option_and_then, option_to_list}
 use Rattle.std.proofs.lemmas.List.{take_all, map-append}
 use Rattle.std.proofs.lemmas.List.Elements.{filter-append}
 use Rattle.iv_args.specs.declared.subcommand.Subcommand.{Subcommand}
 use Rattle.iv_args.specs.declared.subcommand.RunOption.{RunOption}
 use Rattle.iv_args.specs.declared.subcommand.RunOption.TheVariants as option
-use Rattle.iv_args.specs.Words.{Setting, SplitWords, split_words, split_last, split_next, with_setting, with_words, option_of, takes_value, values_of, is_option}
+use Rattle.iv_args.specs.Words.{SplitWords, split_words, split_next, option_of, takes_value, values_of, is_option}
 use Rattle.iv_args.specs.Inside.Drafts.{PartialPlan, unless_given, with_value, viewed, last_drafted, next_drafted, drafted}
 
 pub none≢some : {A : Type 0} (a : A) → None ≡ Some a → ⊥
@@ -17,6 +17,22 @@ none≢some a e = cc
 
 pub some-same : {A : Type 0} (a b : A) → Some a ≡ Some b → a ≡ b
 some-same a b e = cc
+
+-- an option and its value
+abbrev pub Setting : Type 0
+Setting = RunOption × List ℕ
+
+-- the parts, and a setting before them
+abbrev pub with_setting : Setting → SplitWords → SplitWords
+with_setting setting parts = record parts { settings = setting ∷ parts.settings }
+
+-- the parts, and words of the view before them
+abbrev pub with_words : List (List ℕ) → SplitWords → SplitWords
+with_words words parts = record parts { view = words ++ parts.view }
+
+-- the last word: an option would lack its value
+abbrev pub split_last : Option RunOption → List ℕ → Option SplitWords
+split_last asked word = if is_some asked then None else Some (record { settings = []; view = word ∷ [] })
 
 -- ---- one word at a time
 

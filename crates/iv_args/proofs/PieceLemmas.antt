@@ -1,6 +1,6 @@
 -- Pieces of the words of a run that are exchanged, and an option that comes twice.
 use Rattle.std.proofs.Common.{◌≡◌, ◌≢◌, ◌↔◌, ℕ, ◌+◌, ◌≤◌, Bool, true, false, true≢false, List, [], ◌∷◌, ◌++◌, Option, Some, None, length, map, cond, refl, sym, ap, ◌∙◌, subst, arith, append_assoc, unwrap_or}
-use Rattle.std.specs.Prelude.{◌||◌, filter, All}
+use Rattle.std.specs.Prelude.{◌||◌, if◌then◌else◌, filter, All}
 use Rattle.std.specs.List.{AllByRecursion}
 use Rattle.std.specs.Option.{option_map, option_to_list, is_some}
 use Rattle.std.proofs.lemmas.Bool.{false≢true}
@@ -8,9 +8,9 @@ use Rattle.std.proofs.lemmas.List.Elements.{recursion_from_All}
 use Rattle.iv_args.specs.declared.subcommand.Subcommand.{Subcommand}
 use Rattle.iv_args.specs.declared.subcommand.RunOption.{RunOption}
 use Rattle.iv_args.specs.declared.subcommand.RunOption.TheVariants as option
-use Rattle.iv_args.specs.Words.{RunPlan, IsPlan, Setting, SplitWords, split_words, split_last, split_next, with_setting, with_words, run_of, option_of, takes_value, lead, values_of, is_option, limit_said, width_said}
+use Rattle.iv_args.specs.Words.{RunPlan, IsPlan, SplitWords, split_words, split_next, run_of, is_session, option_of, takes_value, values_of, is_option, limit_said, width_said}
 use Rattle.iv_args.specs.Inside.Pieces.{Piece, piece_words, IsPiece}
-use Rattle.iv_args.proofs.DraftLemmas.{none≢some, some-same}
+use Rattle.iv_args.proofs.DraftLemmas.{none≢some, some-same, Setting, with_setting, with_words, split_last}
 use Rattle.iv_args.proofs.WordLemmas.{width-once, limit-once, few-listed}
 
 -- ---- what a piece adds to the parts of the words after it
@@ -173,9 +173,10 @@ plan-alike word rest other plan is like = record {
   bases = sym (like.2.values option.Bases) ∙ is.bases;
   width = ap width_said (sym (like.2.values option.Width)) ∙ is.width;
   limit = ap limit_said (sym (like.2.values option.Limit)) ∙ is.limit;
-  view = is.view ∙ ap (λ (w : List ℕ). lead plan.run w ++ is.parts.view) (head-is is.are) ∙ ap (λ (l : List (List ℕ)). lead plan.run word ++ l) like.2.view;
-  has_other = is.has_other;
-  has_bases = is.has_bases;
+  view =
+      is.view ∙ ap (λ (w : List ℕ). if is_session plan.run then is.parts.view else w ∷ is.parts.view) (head-is is.are)
+      ∙ ap (λ (l : List (List ℕ)). if is_session plan.run then l else word ∷ l) like.2.view;
+  needed = is.needed;
   understood = is.understood;
 }
 

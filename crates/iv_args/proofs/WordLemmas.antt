@@ -1,14 +1,18 @@
 -- The words of a run: those that are a plan, and those that are none.
-use Rattle.std.proofs.Common.{◌≡◌, ℕ, ◌≤◌, Bool, true, false, List, [], ◌∷◌, ◌++◌, Option, Some, None, length, refl, sym, ap, ◌∙◌, subst, arith, ◌⊎◌, inl, inr, Result, Ok, Err}
-use Rattle.std.specs.Prelude.{◌&&◌, ◌||◌, not, IsTrue, IsSome, IfOk, IfErr}
-use Rattle.std.specs.Option.{option_to_list, is_some}
+use Rattle.std.proofs.Common.{◌≡◌, ℕ, ◌≤◌, true, false, List, [], ◌∷◌, ◌++◌, Option, Some, None, length, refl, sym, ap, ◌∙◌, subst, arith, ◌⊎◌, inl, inr, Result, Ok, Err}
+use Rattle.std.specs.Prelude.{◌≢◌, if◌then◌else◌, IfOk, IfErr}
+use Rattle.std.specs.Option.{option_to_list}
+use Rattle.std.proofs.lemmas.Bool.{false≢true}
 use Rattle.iv_text.specs.declared.fault.Fault.{Fault}
 use Rattle.iv_text.specs.declared.fault.Fault.TheVariants as fault
+use Rattle.iv_view.specs.Views.{read_words}
+use Rattle.iv_view.specs.declared.view.View.{View}
 use Rattle.iv_args.specs.declared.subcommand.Subcommand.{Subcommand}
+use Rattle.iv_args.specs.declared.subcommand.Subcommand.TheVariants as kind
 use Rattle.iv_args.specs.declared.subcommand.RunOption.{RunOption}
 use Rattle.iv_args.specs.declared.subcommand.RunOption.TheVariants as option
-use Rattle.iv_args.specs.Words.{RunPlan, IsPlan, SplitWords, split_words, run_of, lead, values_of, limit_said, width_said, needs_other, needs_bases, are_view_words}
-use Rattle.iv_args.specs.Inside.Drafts.{PartialPlan, begun_by, drafted, Makes}
+use Rattle.iv_args.specs.Words.{RunPlan, IsPlan, SplitWords, split_words, run_of, is_session, values_of, limit_said, width_said, has_needed_files, AreViewWords}
+use Rattle.iv_args.specs.Inside.Drafts.{PartialPlan, begun_by, drafted, lead, are_understood, are_view_words, Makes}
 use Rattle.iv_args.proofs.DraftLemmas.{none≢some, some-same, listed, Gives, drafted-gives, drafted-never}
 
 -- nothing is given by the first word
@@ -20,32 +24,28 @@ begun-says run word option.Bases = refl
 begun-says run word option.Width = refl
 begun-says run word option.Limit = refl
 
--- if a file is needed it is named
-needed-of : (other bases other_needed bases_needed : Bool) → ((other || not other_needed) && (bases || not bases_needed)) ≡ true
-    → (other_needed ≡ true → other ≡ true) × (bases_needed ≡ true → bases ≡ true)
-needed-of true true o b h = (λ _. refl, λ _. refl)
-needed-of true false o false h = (λ _. refl, λ e. e)
-needed-of true false o true h = (λ _. refl, λ _. h)
-needed-of false true false b h = (λ e. e, λ _. refl)
-needed-of false false false false h = (λ e. e, λ e. e)
-needed-of false false false true h = (λ e. e, λ _. h)
-needed-of false bases true b h = (λ _. h, λ _. absurd (no h))
-  where
-    no : false ≡ true → ⊥
-    no e = cc
+-- the words of a view begin with that of the run, except in a session
+lead-is : (run : Subcommand) (word : List ℕ) (words : List (List ℕ)) → lead run word ++ words ≡ (if is_session run then words else word ∷ words)
+lead-is kind.Session word words = refl
+lead-is run word words = refl
 
-needed-by : (other bases other_needed bases_needed : Bool) → (other_needed ≡ true → other ≡ true) → (bases_needed ≡ true → bases ≡ true)
-    → ((other || not other_needed) && (bases || not bases_needed)) ≡ true
-needed-by true true o b f g = refl
-needed-by true false o false f g = refl
-needed-by true false o true f g = g refl
-needed-by false true false b f g = refl
-needed-by false false false false f g = refl
-needed-by false false false true f g = g refl
-needed-by false bases true b f g = absurd (no (f refl))
-  where
-    no : false ≡ true → ⊥
-    no e = cc
+-- words of a view that are accepted have no fault that is seen without the files
+understood-of : (r : Result View Fault) → are_understood r ≡ true → r ≢ Err fault.Words
+understood-of r h is = false≢true (sym (ap are_understood is) ∙ h)
+
+understood-by : (r : Result View Fault) → r ≢ Err fault.Words → are_understood r ≡ true
+understood-by (Ok view) h = refl
+understood-by (Err fault.Words) h = absurd (h refl)
+understood-by (Err why) h = refl
+
+accepted-of : (run : Subcommand) (words : List (List ℕ)) → are_view_words run words ≡ true → AreViewWords run words
+accepted-of kind.Session [] h = refl
+accepted-of kind.Session (word ∷ words) h = absurd (false≢true h)
+accepted-of run words h = understood-of (read_words 6 true true words) h
+
+accepted-by : (run : Subcommand) (words : List (List ℕ)) → AreViewWords run words → are_view_words run words ≡ true
+accepted-by kind.Session words h = ap (are_view_words kind.Session) h
+accepted-by run words h = understood-by (read_words 6 true true words) h
 
 -- a width is given by one value at most
 pub width-once : (values : List (List ℕ)) (width : ℕ) → width_said values ≡ Some width → length values ≤ 1
@@ -74,7 +74,6 @@ module _ (word : List ℕ) (rest : List (List ℕ)) (run : Subcommand) (is_run :
   pub accept : (said : PartialPlan) (plan : RunPlan) → drafted run rest (begun_by run word) ≡ Some said → Makes run said plan → IsPlan (word ∷ rest) plan
   accept said plan h made =
       let g = drafted-gives run rest (begun_by run word) said h in
-      let needed = needed-of (is_some said.other) (is_some said.bases) (needs_other run) (needs_bases run) made.needed in
       record {
         word = word;
         rest = rest;
@@ -88,10 +87,12 @@ module _ (word : List ℕ) (rest : List (List ℕ)) (run : Subcommand) (is_run :
         bases = values-said said g option.Bases ∙ ap option_to_list made.bases;
         width = ap width_said (values-said said g option.Width) ∙ made.width;
         limit = ap limit_said (values-said said g option.Limit) ∙ made.limit;
-        view = sym made.view ∙ g.view ∙ ap (λ (r : Subcommand). lead r word ++ g.parts.view) (sym made.run_is);
-        has_other = λ needs. subst (λ (o : Option (List ℕ)). IsSome o) made.other (needed.0 (subst (λ (r : Subcommand). IsTrue (needs_other r)) made.run_is needs));
-        has_bases = λ needs. subst (λ (o : Option (List ℕ)). IsSome o) made.bases (needed.1 (subst (λ (r : Subcommand). IsTrue (needs_bases r)) made.run_is needs));
-        understood = ap (λ (r : Subcommand). are_view_words r plan.view) made.run_is ∙ ap (are_view_words run) (sym made.view) ∙ made.understood;
+        view = sym made.view ∙ g.view ∙ ap (λ (r : Subcommand). lead r word ++ g.parts.view) (sym made.run_is) ∙ lead-is plan.run word g.parts.view;
+        needed =
+            ap (λ (r : Subcommand). has_needed_files r plan.other plan.bases) made.run_is ∙ ap (λ (o : Option (List ℕ)). has_needed_files run o plan.bases) (sym made.other)
+            ∙ ap (λ (o : Option (List ℕ)). has_needed_files run said.other o) (sym made.bases) ∙ made.needed;
+        understood =
+            accepted-of plan.run plan.view (ap (λ (r : Subcommand). are_view_words r plan.view) made.run_is ∙ ap (are_view_words run) (sym made.view) ∙ made.understood);
       }
 
   pub accept-from : (first said : PartialPlan) (plan : RunPlan) → first ≡ begun_by run word → drafted run rest first ≡ Some said → Makes run said plan
@@ -167,7 +168,7 @@ module _ (word : List ℕ) (rest : List (List ℕ)) (run : Subcommand) (is_run :
       let bases : said.bases ≡ plan.bases = said-same said.bases plan.bases (at option.Bases ∙ is.bases) in
       let view : said.view ≡ plan.view =
       g.view ∙ ap (λ (p : SplitWords). lead run word ++ p.view) parts ∙ ap (λ (r : Subcommand). lead r word ++ is.parts.view) (sym of.run_is)
-      ∙ ap (λ (w : List ℕ). lead plan.run w ++ is.parts.view) (sym of.word_is) ∙ sym is.view in
+      ∙ ap (λ (w : List ℕ). lead plan.run w ++ is.parts.view) (sym of.word_is) ∙ lead-is plan.run is.word is.parts.view ∙ sym is.view in
       record {
         run_is = of.run_is;
         sizes = said-value said.sizes plan.sizes (at option.Sizes ∙ is.sizes);
@@ -177,10 +178,10 @@ module _ (word : List ℕ) (rest : List (List ℕ)) (run : Subcommand) (is_run :
         width = ap width_said (at option.Width) ∙ is.width;
         limit = ap limit_said (at option.Limit) ∙ is.limit;
         view = view;
-        needed = needed-by (is_some said.other) (is_some said.bases) (needs_other run) (needs_bases run)
-            (λ needs. subst (λ (o : Option (List ℕ)). IsSome o) (sym other) (is.has_other (subst (λ (r : Subcommand). IsTrue (needs_other r)) (sym of.run_is) needs)))
-            (λ needs. subst (λ (o : Option (List ℕ)). IsSome o) (sym bases) (is.has_bases (subst (λ (r : Subcommand). IsTrue (needs_bases r)) (sym of.run_is) needs)));
-        understood = ap (are_view_words run) view ∙ ap (λ (r : Subcommand). are_view_words r plan.view) (sym of.run_is) ∙ is.understood;
+        needed =
+            ap (λ (r : Subcommand). has_needed_files r said.other said.bases) (sym of.run_is) ∙ ap (λ (o : Option (List ℕ)). has_needed_files plan.run o said.bases) other
+            ∙ ap (λ (o : Option (List ℕ)). has_needed_files plan.run plan.other o) bases ∙ is.needed;
+        understood = ap (are_view_words run) view ∙ ap (λ (r : Subcommand). are_view_words r plan.view) (sym of.run_is) ∙ accepted-by plan.run plan.view is.understood;
       }
 
   pub refuse-plan : (said : PartialPlan) → drafted run rest (begun_by run word) ≡ Some said → ((plan : RunPlan) → ¬ Makes run said plan)

@@ -1,6 +1,7 @@
 //! What the program says about itself.
-ghost use Rattle.std.specs.Prelude.{◌≡◌, map};
-ghost use Rattle.iv_args.specs.InfoRequests.{notice_of, is_help_command as help_command, is_help_option as help_option};
+ghost use Rattle.std.specs.Prelude.{◌≡◌, ◌||◌, codes, map};
+ghost use Rattle.std.specs.Str.{bytes_eq};
+ghost use Rattle.iv_args.specs.InfoRequests.{notice_of};
 ghost use Rattle.iv_args.specs.Texts.{notice_text};
 
 use crate::help::{HELP, help_of};
@@ -24,14 +25,14 @@ proved with rattle-kit-13f logic dac8208d650f15bf
 
 /// Whether a first argument asks for help.
 fn is_help_command(word: &[u8]) -> bool
-    ensures { result ≡ help_command word.now }
+    ensures { result ≡ (bytes_eq word.now (codes "--help") || bytes_eq word.now (codes "help")) }
 {
     word == b"--help".as_slice() || word == b"help".as_slice()
 }
 
 /// Whether an option asks for help.
 fn is_help_option(word: &[u8]) -> bool
-    ensures { result ≡ help_option word.now }
+    ensures { result ≡ (bytes_eq word.now (codes "--help") || bytes_eq word.now (codes "-h")) }
 {
     word == b"--help".as_slice() || word == b"-h".as_slice()
 }

@@ -2,8 +2,8 @@
 ghost use Rattle.std.specs.Prelude.{◌≡◌, ◌≤◌, ◌⊎◌, ◌∷◌, [], true, Some, None, IsSome, IfOk, IfErr, OnOk, map, length, drop};
 ghost use Rattle.std.specs.Option.{option_copied, option_to_list};
 ghost use Rattle.iv_view.specs.Views.{read_words};
-ghost use Rattle.iv_args.specs.Words.{RunPlan, IsPlan, are_view_words, file_of, is_session, limit_of, limit_said, most_limit, width_of, width_said};
-ghost use Rattle.iv_args.specs.Inside.Drafts.{Makes, begun_by, drafted, has_needed_files, viewed, with_value};
+ghost use Rattle.iv_args.specs.Words.{RunPlan, IsPlan, file_of, has_needed_files, is_session, limit_said, most_limit, width_said};
+ghost use Rattle.iv_args.specs.Inside.Drafts.{Makes, are_view_words, begun_by, drafted, viewed, with_value};
 ghost use Rattle.iv_text.specs.Widths.{IsWidth};
 
 use crate::subcommand::{RunOption, Subcommand};
@@ -30,11 +30,18 @@ const USUAL_WIDTH: u8 = 3;
 
 /// The width that a value means: one digit from 3 to 6.
 fn read_width(value: &[u8]) -> Option<u8>
-    ensures { result ≡ width_of value.now }
+    ensures { result ≡ width_said (value.now ∷ []) }
 {
-    match value {
-        [digit] if *digit >= b'3' && *digit <= b'6' => Some(*digit - b'0'),
-        _ => None,
+    if value == b"3".as_slice() {
+        Some(3)
+    } else if value == b"4".as_slice() {
+        Some(4)
+    } else if value == b"5".as_slice() {
+        Some(5)
+    } else if value == b"6".as_slice() {
+        Some(6)
+    } else {
+        None
     }
 }
 
@@ -46,7 +53,7 @@ const MOST_LIMIT: u64 = 100_000_000;
 
 /// The limit that a value means: a number from 1 to 100,000,000.
 fn read_limit(value: &[u8]) -> Option<u32>
-    ensures { result ≡ limit_of value.now }
+    ensures { result ≡ limit_said (value.now ∷ []) }
 {
     let limit = read_number(value)?;
     if limit < 1 || limit > MOST_LIMIT {
@@ -190,9 +197,13 @@ impl<'a, A: Allocator + Copy> PlanDraft<'a, A> {
 
     /// Whether each file is named that this kind of run needs beside the genome and the records.
     fn has_needed(&self, run: Subcommand) -> bool
-        ensures { result ≡ has_needed_files run self.now }
+        ensures { result ≡ has_needed_files run self.now.other self.now.bases }
     {
-        (self.other.is_some() || !run.needs_other()) && (self.bases.is_some() || !run.needs_bases())
+        match run {
+            Subcommand::Intersect | Subcommand::Subtract => self.other.is_some(),
+            Subcommand::Getfasta => self.bases.is_some(),
+            _ => true,
+        }
     }
 
     /// What the arguments of the view ask for, for records of six columns beside both files.

@@ -1,7 +1,9 @@
 //! The kinds of run, and what an argument is in each.
 ghost use Rattle.std.specs.Prelude.{◌≡◌, ◌≢◌, ◌↔◌, ◌++◌, ◌∷◌, [], ℕ, List, Some, All};
+ghost use Rattle.std.specs.Map.{lookup};
+ghost use Rattle.std.specs.Str.{bytes_eq};
 ghost use Rattle.iv_args.specs.Inside.Pieces.{Piece, IsPiece, piece_words};
-ghost use Rattle.iv_args.specs.Words.{IsPlan, RunPlan, run_of, option_of, takes_value as value_follows, first_option as option_of_first, takes_other as other_taken, needs_other as other_needed, takes_bases as bases_taken, needs_bases as bases_needed};
+ghost use Rattle.iv_args.specs.Words.{IsPlan, RunPlan, run_of, file_options, option_of, takes_value as value_follows};
 ghost use Rattle.iv_args.specs.declared.subcommand.RunOption.{RunOption};
 
 /// A kind of run: a session, or a subcommand that prints its view of the files and ends.
@@ -63,71 +65,42 @@ impl Subcommand {
         }
     }
 
-    /// The option that names the file of the records.
-    fn first_option(self) -> &'static [u8]
-        ensures { result.now ≡ option_of_first self }
-    {
-        match self {
-            Subcommand::Intersect | Subcommand::Subtract => b"-a",
-            Subcommand::Getfasta => b"-bed",
-            Subcommand::Session
-            | Subcommand::Merge
-            | Subcommand::Cluster
-            | Subcommand::Complement
-            | Subcommand::Genomecov
-            | Subcommand::Records => b"-i",
-        }
-    }
-
-    /// Whether a second file can be named.
-    fn takes_other(self) -> bool
-        ensures { result ≡ other_taken self }
-    {
-        matches!(
-            self,
-            Subcommand::Session | Subcommand::Intersect | Subcommand::Subtract
-        )
-    }
-
-    /// Whether a second file has to be named.
-    pub(crate) fn needs_other(self) -> bool
-        ensures { result ≡ other_needed self }
-    {
-        matches!(self, Subcommand::Intersect | Subcommand::Subtract)
-    }
-
-    /// Whether a FASTA file can be named.
-    fn takes_bases(self) -> bool
-        ensures { result ≡ bases_taken self }
-    {
-        matches!(self, Subcommand::Session | Subcommand::Getfasta)
-    }
-
-    /// Whether a FASTA file has to be named.
-    pub(crate) fn needs_bases(self) -> bool
-        ensures { result ≡ bases_needed self }
-    {
-        matches!(self, Subcommand::Getfasta)
-    }
-
     /// The option that an argument is.
     pub(crate) fn option(self, word: &[u8]) -> Option<RunOption>
         ensures { result ≡ option_of self word.now }
     {
         if word == b"-g".as_slice() {
             Some(RunOption::Sizes)
-        } else if word == self.first_option() {
-            Some(RunOption::First)
-        } else if self.takes_other() && word == b"-b".as_slice() {
-            Some(RunOption::Other)
-        } else if self.takes_bases() && word == b"-fi".as_slice() {
-            Some(RunOption::Bases)
         } else if word == b"-width".as_slice() {
             Some(RunOption::Width)
         } else if word == b"-limit".as_slice() {
             Some(RunOption::Limit)
         } else {
-            None
+            self.file_option(word)
+        }
+    }
+
+    /// The option that an argument is, if it names the file of the records, the second file or the FASTA file.
+    fn file_option(self, word: &[u8]) -> Option<RunOption>
+        ensures { result ≡ lookup (bytes_eq word.now) (file_options self) }
+    {
+        match self {
+            Subcommand::Session if word == b"-i".as_slice() => Some(RunOption::First),
+            Subcommand::Session if word == b"-b".as_slice() => Some(RunOption::Other),
+            Subcommand::Session if word == b"-fi".as_slice() => Some(RunOption::Bases),
+            Subcommand::Session => None,
+            Subcommand::Intersect | Subcommand::Subtract if word == b"-a".as_slice() => {
+                Some(RunOption::First)
+            }
+            Subcommand::Intersect | Subcommand::Subtract if word == b"-b".as_slice() => {
+                Some(RunOption::Other)
+            }
+            Subcommand::Intersect | Subcommand::Subtract => None,
+            Subcommand::Getfasta if word == b"-bed".as_slice() => Some(RunOption::First),
+            Subcommand::Getfasta if word == b"-fi".as_slice() => Some(RunOption::Bases),
+            Subcommand::Getfasta => None,
+            _ if word == b"-i".as_slice() => Some(RunOption::First),
+            _ => None,
         }
     }
 

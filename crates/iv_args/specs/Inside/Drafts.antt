@@ -1,10 +1,15 @@
 -- What is read of the words of a run so far. This is the state of their reader, as seen by its proof.
-use Rattle.std.specs.Prelude.{◌≡◌, ℕ, Bool, true, false, ◌++◌, List, [], ◌∷◌, Option, None, Some, ◌&&◌, ◌||◌, not}
-use Rattle.std.specs.Option.{option_and_then, option_to_list, is_some}
+use Rattle.std.specs.Prelude.{◌≡◌, ℕ, Bool, true, false, ◌++◌, List, [], ◌∷◌, Option, None, Some, Result, Ok, Err}
+use Rattle.std.specs.Option.{option_and_then, option_to_list}
 use Rattle.iv_args.specs.declared.subcommand.Subcommand.{Subcommand}
 use Rattle.iv_args.specs.declared.subcommand.RunOption.{RunOption}
 use Rattle.iv_args.specs.declared.subcommand.RunOption.TheVariants as option
-use Rattle.iv_args.specs.Words.{RunPlan, option_of, takes_value, lead, limit_said, width_said, needs_other, needs_bases, are_view_words}
+use Rattle.iv_text.specs.declared.fault.Fault.{Fault}
+use Rattle.iv_text.specs.declared.fault.Fault.TheVariants as fault
+use Rattle.iv_view.specs.Views.{read_words}
+use Rattle.iv_view.specs.declared.view.View.{View}
+use Rattle.iv_args.specs.declared.subcommand.Subcommand.TheVariants as kind
+use Rattle.iv_args.specs.Words.{RunPlan, option_of, takes_value, limit_said, width_said, has_needed_files}
 
 -- what is read of the words so far
 pub record PartialPlan : Type 0 where
@@ -15,6 +20,11 @@ pub record PartialPlan : Type 0 where
   pub width : Option (List ℕ)
   pub limit : Option (List ℕ)
   pub view : List (List ℕ)
+
+-- the first word of the view: that of the run; a session has none
+abbrev pub lead : Subcommand → List ℕ → List (List ℕ)
+lead kind.Session word = []
+lead run word = word ∷ []
 
 -- what is read once the first word is
 abbrev pub begun_by : Subcommand → List ℕ → PartialPlan
@@ -56,9 +66,17 @@ drafted run (word ∷ []) said = last_drafted (option_of run word) word said
 drafted run (word ∷ next ∷ words) said =
     next_drafted (option_of run word) (takes_value run word) word next (drafted run words) (drafted run (next ∷ words)) said
 
--- whether each file is named that this kind of run needs beside the genome and the records
-abbrev pub has_needed_files : Subcommand → PartialPlan → Bool
-has_needed_files run said = (is_some said.other || not (needs_other run)) && (is_some said.bases || not (needs_bases run))
+-- whether words were read as those of a view, or have a fault that only the files can show
+abbrev pub are_understood : Result View Fault → Bool
+are_understood (Ok view) = true
+are_understood (Err fault.Words) = false
+are_understood (Err why) = true
+
+-- whether the words of the view are accepted
+abbrev pub are_view_words : Subcommand → List (List ℕ) → Bool
+are_view_words kind.Session [] = true
+are_view_words kind.Session (word ∷ words) = false
+are_view_words run words = are_understood (read_words 6 true true words)
 
 -- what is read of words makes a plan of this kind
 pub record Makes (run : Subcommand) (said : PartialPlan) (plan : RunPlan) : Type 0 where
@@ -70,5 +88,5 @@ pub record Makes (run : Subcommand) (said : PartialPlan) (plan : RunPlan) : Type
   pub width : width_said (option_to_list said.width) ≡ Some plan.width
   pub limit : limit_said (option_to_list said.limit) ≡ Some plan.limit
   pub view : said.view ≡ plan.view
-  pub needed : has_needed_files run said ≡ true
+  pub needed : has_needed_files run said.other said.bases ≡ true
   pub understood : are_view_words run said.view ≡ true
