@@ -1,7 +1,7 @@
 //! How a run ends: its exit status, and its line on standard error.
-ghost use Rattle.std.specs.Prelude.{◌≡◌, true};
+ghost use Rattle.std.specs.Prelude.{◌≡◌, ◌++◌, true, codes, decimal};
 ghost use Rattle.iv_bytes.specs.Sinks.{Puts};
-ghost use Rattle.iv_cli.specs.ExitReasons.{status_of, ending_of, ending_of_run, ending_after, words_text as text_of_words, name_meant, said, said_of, said_of_line, line_of, is_through};
+ghost use Rattle.iv_cli.specs.ExitReasons.{status_of, ending_of, ending_of_run, ending_after, words_text as text_of_words, name_meant, line_of, is_through};
 
 use itoa::Buffer;
 use iv_args::{Plan, Slot};
@@ -208,14 +208,14 @@ fn words_text(code: u8) -> &'static [u8]
 
 /// Puts a line.
 fn put_said<S: Sink>(text: &[u8], sink: &mut S) -> Result<(), WriteFault>
-    ensures { Puts (S.state sink.old) (S.state sink.new) result (said text.now) }
+    ensures { Puts (S.state sink.old) (S.state sink.new) result (codes "bedkeep: " ++ text.now ++ codes "\n") }
 {
     put_pieces(sink, &[b"bedkeep: ", text, b"\n"])
 }
 
 /// Puts a line about a file.
 fn put_said_of<S: Sink>(name: &[u8], text: &[u8], sink: &mut S) -> Result<(), WriteFault>
-    ensures { Puts (S.state sink.old) (S.state sink.new) result (said_of name.now text.now) }
+    ensures { Puts (S.state sink.old) (S.state sink.new) result (codes "bedkeep: " ++ (name.now ++ codes ": " ++ text.now) ++ codes "\n") }
 {
     put_pieces(sink, &[b"bedkeep: ", name, b": ", text, b"\n"])
 }
@@ -227,7 +227,7 @@ fn put_damage<S: Sink>(
     text: &[u8],
     sink: &mut S,
 ) -> Result<(), WriteFault>
-    ensures { Puts (S.state sink.old) (S.state sink.new) result (said_of_line name.now number text.now) }
+    ensures { Puts (S.state sink.old) (S.state sink.new) result (codes "bedkeep: " ++ (name.now ++ codes ": " ++ codes "line " ++ decimal number ++ codes ": " ++ text.now) ++ codes "\n") }
 {
     let mut digits = Buffer::new();
     put_pieces(
