@@ -12,7 +12,8 @@ use Rattle.iv_run.specs.declared.fault.CliFault.TheVariants.{Damaged, Memory}
 use Rattle.iv_args.specs.declared.plan.Slot.{Slot}
 use Rattle.iv_args.specs.declared.plan.Slot.TheVariants.{Sizes, First, Other, Bases}
 use Rattle.iv_fasta.specs.Fasta as Fasta
-use Rattle.iv_run.specs.Loading.{IsAnswer, Parsed, parsed, bases_said, second_of, with_bases, with_second, with_first, with_genome, fault_of, damage_of}
+use Rattle.iv_view.specs.Chains.{if_ok}
+use Rattle.iv_run.specs.Loading.{IsAnswer, Parsed, parsed, map_fault, bases_said, second_of, fault_of, damage_of}
 use Rattle.std.specs.Option.{option_map, option_transpose}
 use Rattle.iv_text.specs.BedReading.{projected_bed, projected_or_fault}
 use Rattle.iv_text.specs.Read.{Fits}
@@ -48,6 +49,23 @@ reported-by slot f P leads (inr is) = elim (reported f.cause (Damaged slot f)) [
 ]
 
 -- ---- the first damaged file
+
+-- the files once the FASTA file is read, or the fault of that
+abbrev pub with_bases : Sequences → Bed → Option Bed → ℕ → Result (Option Fasta.Bases) LoadFault → Result Parsed CliFault
+with_bases g first second limit read =
+    if_ok (map_fault (Damaged Bases) read) (λ bases. Ok (record { genome = g; first = first; second = second; bases = bases; limit = limit }))
+
+-- the files once the second file is read, or the fault of the first damaged one from there on
+abbrev pub with_second : Sequences → Bed → Option (List ℕ) → ℕ → Result (Option Bed) LoadFault → Result Parsed CliFault
+with_second g first bases limit read = if_ok (map_fault (Damaged Other) read) (λ second. with_bases g first second limit (bases_said g bases))
+
+-- the files once the first file is read, or the fault of the first damaged one from there on
+abbrev pub with_first : Sequences → ℕ → Option (List ℕ) → Option (List ℕ) → ℕ → Result Bed LoadFault → Result Parsed CliFault
+with_first g width other bases limit read = if_ok (map_fault (Damaged First) read) (λ first. with_second g first bases limit (second_of g width limit other))
+
+-- the files once the genome file is read, or the fault of the first damaged one
+abbrev pub with_genome : ℕ → List ℕ → Option (List ℕ) → Option (List ℕ) → ℕ → Result Sequences LoadFault → Result Parsed CliFault
+with_genome width first other bases limit read = if_ok (map_fault (Damaged Sizes) read) (λ g. with_first g width other bases limit (bed_of g width limit first))
 
 module _ (width : ℕ) (sizes text : List ℕ) (limit : ℕ) where
   -- whatever the other files are, this is the first fault

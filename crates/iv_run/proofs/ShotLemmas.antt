@@ -4,6 +4,7 @@ use Rattle.iv_bytes.specs.Sinks.{SinkState}
 use Rattle.iv_text.specs.BedFile.{Bed, bed_of}
 use Rattle.iv_text.specs.Genome.{Sequences}
 use Rattle.iv_text.specs.GenomeFile.{genome_of}
+use Rattle.iv_text.specs.Fault.{code_of}
 use Rattle.iv_text.specs.declared.fault.LoadFault.{LoadFault}
 use Rattle.iv_text.specs.declared.fault.Fault.{Fault}
 use Rattle.iv_text.specs.declared.fault.Fault.TheVariants as refused
@@ -12,8 +13,18 @@ use Rattle.iv_view.specs.declared.view.View.{View}
 use Rattle.iv_run.specs.Inside.Prints.{Prints}
 use Rattle.iv_run.specs.declared.fault.CliFault.{CliFault}
 use Rattle.iv_run.specs.declared.fault.CliFault.TheVariants as fault
-use Rattle.iv_run.specs.Loading.{Parsed, parsed, second_of, bases_said, with_bases, with_second, with_first, with_genome, fault_of_words}
-use Rattle.iv_run.specs.Shots.{Shows, shown_of, text_or_fault, text_beside, view_beside}
+use Rattle.iv_run.specs.Loading.{Parsed, parsed, map_fault, second_of, bases_said, fault_of_words}
+use Rattle.iv_run.specs.Shots.{Shows, text_beside, view_beside}
+use Rattle.iv_run.proofs.LoadLemmas.{with_bases, with_second, with_first, with_genome}
+use Rattle.iv_view.specs.Chains.{if_ok}
+
+-- the text of the view that was asked for, or the fault of its words
+abbrev pub text_or_fault : Parsed → Result View Fault → Result (List ℕ) CliFault
+text_or_fault files read = if_ok (map_fault (λ why. fault.Words (code_of why)) read) (λ view. Ok (text_beside files view))
+
+-- the text of the view that words ask for, unless the files are damaged, or else the fault of the words
+abbrev pub shown_of : List (List ℕ) → Result Parsed CliFault → Result (List ℕ) CliFault
+shown_of words read = if_ok read (λ files. text_or_fault files (view_beside files words))
 
 -- ---- damaged files
 

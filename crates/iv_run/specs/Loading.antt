@@ -11,6 +11,7 @@ use Rattle.iv_text.specs.declared.fault.LoadCause.TheVariants as cause
 use Rattle.iv_text.specs.declared.fault.Fault.{Fault}
 use Rattle.iv_text.specs.declared.fault.Fault.TheVariants as refused
 use Rattle.iv_fasta.specs.Fasta as fasta
+use Rattle.iv_view.specs.Chains.{if_ok}
 use Rattle.iv_run.specs.declared.fault.CliFault.{CliFault}
 use Rattle.iv_run.specs.declared.fault.CliFault.TheVariants.{Words, Damaged, Memory}
 use Rattle.iv_args.specs.declared.plan.Slot.{Slot}
@@ -55,28 +56,18 @@ second_of g width limit text = option_transpose (option_map (bed_of g width limi
 abbrev pub bases_said : Sequences → Option (List ℕ) → Result (Option fasta.Bases) LoadFault
 bases_said g text = option_transpose (option_map (fasta.fasta_of g) text)
 
--- the files once the FASTA file is read, or the fault of that
-abbrev pub with_bases : Sequences → Bed → Option Bed → ℕ → Result (Option fasta.Bases) LoadFault → Result Parsed CliFault
-with_bases g first second limit (Err f) = Err (Damaged Bases f)
-with_bases g first second limit (Ok bases) = Ok (record { genome = g; first = first; second = second; bases = bases; limit = limit })
-
--- the files once the second file is read, or the fault of the first damaged one from there on
-abbrev pub with_second : Sequences → Bed → Option (List ℕ) → ℕ → Result (Option Bed) LoadFault → Result Parsed CliFault
-with_second g first bases limit (Err f) = Err (Damaged Other f)
-with_second g first bases limit (Ok second) = with_bases g first second limit (bases_said g bases)
-
--- the files once the first file is read, or the fault of the first damaged one from there on
-abbrev pub with_first : Sequences → ℕ → Option (List ℕ) → Option (List ℕ) → ℕ → Result Bed LoadFault → Result Parsed CliFault
-with_first g width other bases limit (Err f) = Err (Damaged First f)
-with_first g width other bases limit (Ok first) = with_second g first bases limit (second_of g width limit other)
-
--- the files once the genome file is read, or the fault of the first damaged one
-abbrev pub with_genome : ℕ → List ℕ → Option (List ℕ) → Option (List ℕ) → ℕ → Result Sequences LoadFault → Result Parsed CliFault
-with_genome width first other bases limit (Err f) = Err (Damaged Sizes f)
-with_genome width first other bases limit (Ok g) = with_first g width other bases limit (bed_of g width limit first)
+-- the same result, with this made of its fault
+abbrev pub map_fault : {A E F : Type 0} → (E → F) → Result A E → Result A F
+map_fault make (Ok value) = Ok value
+map_fault make (Err fault) = Err (make fault)
 
 -- the files of these bytes: the genome file, the first file, and the second and the FASTA file, if there are any. A
 -- BED file without a record has this width, and a track holds at most as many records as the limit; or the fault of the first
 -- damaged file
 abbrev pub parsed : ℕ → List ℕ → List ℕ → Option (List ℕ) → Option (List ℕ) → ℕ → Result Parsed CliFault
-parsed width sizes first other bases limit = with_genome width first other bases limit (genome_of sizes)
+parsed width sizes first other bases limit =
+    if_ok (map_fault (Damaged Sizes) (genome_of sizes)) (λ g.
+    if_ok (map_fault (Damaged First) (bed_of g width limit first)) (λ records.
+    if_ok (map_fault (Damaged Other) (second_of g width limit other)) (λ second.
+    if_ok (map_fault (Damaged Bases) (bases_said g bases)) (λ found.
+    Ok (record { genome = g; first = records; second = second; bases = found; limit = limit })))))

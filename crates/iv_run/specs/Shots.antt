@@ -7,11 +7,12 @@ use Rattle.iv_text.specs.Fault.{code_of}
 use Rattle.iv_text.specs.Ordered.{ordered}
 use Rattle.iv_text.specs.RecordValue.{RecordValue}
 use Rattle.iv_text.specs.declared.fault.Fault.{Fault}
+use Rattle.iv_view.specs.Chains.{if_ok}
 use Rattle.iv_view.specs.Views.{read_words, view_text}
 use Rattle.iv_view.specs.declared.view.View.{View}
 use Rattle.iv_run.specs.declared.fault.CliFault.{CliFault}
 use Rattle.iv_run.specs.declared.fault.CliFault.TheVariants as fault
-use Rattle.iv_run.specs.Loading.{Parsed, parsed}
+use Rattle.iv_run.specs.Loading.{Parsed, parsed, map_fault}
 use Rattle.iv_args.specs.Words.{RunPlan}
 
 -- the records of a second file in track order, none without one
@@ -26,20 +27,12 @@ view_beside files words = read_words files.first.width (is_some files.second) (i
 abbrev pub text_beside : Parsed → View → List ℕ
 text_beside files view = view_text view files.genome (ordered files.first.rows) (ordered_other files.second) (unwrap_or files.bases [])
 
--- the text of the view that was asked for, or the fault of its words
-abbrev pub text_or_fault : Parsed → Result View Fault → Result (List ℕ) CliFault
-text_or_fault files (Err why) = Err (fault.Words (code_of why))
-text_or_fault files (Ok view) = Ok (text_beside files view)
-
--- the text of the view that words ask for, unless the files are damaged, or else the fault of the words
-abbrev pub shown_of : List (List ℕ) → Result Parsed CliFault → Result (List ℕ) CliFault
-shown_of words (Err damaged) = Err damaged
-shown_of words (Ok files) = text_or_fault files (view_beside files words)
-
 -- what a run of the plan prints for the bytes of the genome file, of the first file, and of the second and the FASTA file, if
 -- there are any; or its first fault: that of a damaged file, and then that of the words of the view
 abbrev pub shown : RunPlan → List ℕ → List ℕ → Option (List ℕ) → Option (List ℕ) → ℕ → Result (List ℕ) CliFault
-shown plan sizes first other bases limit = shown_of plan.view (parsed plan.width sizes first other bases limit)
+shown plan sizes first other bases limit =
+    if_ok (parsed plan.width sizes first other bases limit) (λ files.
+    if_ok (map_fault (λ why. fault.Words (code_of why)) (view_beside files plan.view)) (λ view. Ok (text_beside files view)))
 
 -- what a run leaves of its output, if this is what it is to print: all of the text; or a prefix of it, the output failed;
 -- or nothing, for a fault that it is to report, or for out of memory
