@@ -543,6 +543,17 @@ def one_long_name(size):
     return {"g": f"{name}\t{size * 300 + 1_000}\n", "a": lines(f"{name}\t%d\t%d", spread(size))}
 
 
+def one_sequence(size):
+    return {"g": genome(size), "a": bed(spread(size))}
+
+
+def moved_to_the_end(size):
+    """Nine records in ten are removed, and as many others added in the last tenth of the sequence."""
+    gone = [row for number, row in enumerate(spread(size)) if number % 10]
+    others = [(start, start + 20) for start in range(size * 270, size * 270 + len(gone) * 33, 33)]
+    return edits("remove", gone) + edits("add", others) + prints("records")(size)
+
+
 def mostly_unknown_bases(size):
     """So many bytes of bases, a tenth of them of a sequence of the genome."""
     known = size // 10
@@ -554,6 +565,7 @@ MEMORY = [
     ("a run of merge", "merge -g g -i a", one_long_name, None, "VmHWM", 16),
     ("a session", "session -g g -i a", one_long_name, prints("records"), "VmHWM", 58),
     ("a session with merge", "session -g g -i a", one_long_name, prints("merge"), "VmHWM", 95),
+    ("a session that removes and adds", "session -g g -i a", one_sequence, moved_to_the_end, "VmHWM", 88),
     ("bases that no record can name", "session -g g -i a -fi f", mostly_unknown_bases, prints("getfasta"), "VmRSS", 0.2),
 ]
 
@@ -578,7 +590,7 @@ def memory(runs):
     """Bytes held for each record, or byte, beyond some."""
     found = []
     for name, arguments, files, script, what, most in MEMORY:
-        small, large = (20_000, 120_000) if files is one_long_name else (2_000_000, 22_000_000)
+        small, large = (2_000_000, 22_000_000) if files is mostly_unknown_bases else (20_000, 120_000)
         sizes = [held(runs, arguments, runs.write(f"{name} {size}", {**files(size), "script": script(size) if script else ""}), what)
                  for size in (small, large)]
         each = (sizes[1] - sizes[0]) / (large - small)
