@@ -33,7 +33,7 @@ pub line-whole : (w : ℕ) (text : List ℕ) (p : Locator) → length (columns (
     → (6 ≤ w → IsSome (strand_of (column (columns (line_at text p.line)) 5))) → HasAllColumns w text p
 line-whole w text p count few strand = record { all = whole-printed w (columns (line_at text p.line)) count few strand }
 
--- at width 3 nothing is asked of a line
+-- at width 3 it holds for any line
 pub three-whole : (text : List ℕ) (ps : List Locator) → All (HasAllColumns 3 text) ps
 three-whole text [] = All-nil (HasAllColumns 3 text)
 three-whole text (p ∷ ps) = All-cons (HasAllColumns 3 text) p ps (record { all = λ some. absurd (omega arith) }) (three-whole text ps)

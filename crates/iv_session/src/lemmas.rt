@@ -39,7 +39,7 @@ pub fn too_long_is_exact()
     ensures ran { (old new : State) (before after : Streams) (most_lines most n : ℕ) (text : List ℕ) (fault : RunFault) → before.input.coming ≡ Some text → Ran old new before after most_lines most (Err fault) → (fault.cause ≡ Output) ⊎ (fault.cause ≡ Messages) → first_over most_lines most 1 (line_sizes text) ≡ Some n → fault.line < n }
 {}
 
-/// A script that ends early has handed on all that the lines before wrote, where the output or the messages hold nothing back.
+/// A script that ends early has handed on all that the lines before wrote, if the output or the messages hold nothing back.
 pub fn lines_before_are_handed_on()
     ensures output { (old new : State) (before after : Streams) (most_lines most n : ℕ) (cause : RunCause) (stopped : Stopped RunsLine RunsLast old new before after most_lines most n cause) → IsNone before.output.held → Appends before.output.reached stopped.reached.output.reached (outputs stopped.written) }
     ensures messages { (old new : State) (before after : Streams) (most_lines most n : ℕ) (cause : RunCause) (stopped : Stopped RunsLine RunsLast old new before after most_lines most n cause) → IsNone before.messages.held → Appends before.messages.reached stopped.reached.messages.reached (messages_from 1 stopped.written) }
