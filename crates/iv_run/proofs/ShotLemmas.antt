@@ -16,7 +16,7 @@ use Rattle.iv_run.specs.declared.fault.CliFault.TheVariants as fault
 use Rattle.iv_run.specs.Loading.{Parsed, parsed, map_fault, second_of, bases_said, fault_of_words}
 use Rattle.iv_run.specs.Shots.{Shows, text_beside, view_beside}
 use Rattle.iv_run.proofs.LoadLemmas.{with_bases, with_second, with_first, with_genome}
-use Rattle.iv_view.specs.Chains.{if_ok}
+use Rattle.iv_text.specs.Chains.{if_ok}
 
 -- the text of the view that was asked for, or the fault of its words
 abbrev pub text_or_fault : Parsed → Result View Fault → Result (List ℕ) CliFault

@@ -7,7 +7,7 @@ use Rattle.iv_text.specs.Fault.{code_of}
 use Rattle.iv_text.specs.Ordered.{ordered}
 use Rattle.iv_text.specs.RecordValue.{RecordValue}
 use Rattle.iv_text.specs.declared.fault.Fault.{Fault}
-use Rattle.iv_view.specs.Chains.{if_ok}
+use Rattle.iv_text.specs.Chains.{if_ok}
 use Rattle.iv_view.specs.Views.{read_words, view_text}
 use Rattle.iv_view.specs.declared.view.View.{View}
 use Rattle.iv_run.specs.declared.fault.CliFault.{CliFault}

@@ -4,6 +4,7 @@ use Rattle.std.specs.Prelude.{IsSome, MatchOption, MatchResult, find}
 use Rattle.std.specs.Option.{is_some}
 use Rattle.iv_bytes.specs.Sinks.{SinkState, Takes, FailsIn}
 use Rattle.iv_bytes.proofs.PutLemmas.{Takes-nothing}
+use Rattle.iv_text.specs.Chains.{unless_fault}
 use Rattle.iv_text.specs.Fault.{code_of}
 use Rattle.iv_text.specs.Fields.{words}
 use Rattle.iv_text.specs.declared.fault.Fault.{Fault}
@@ -13,7 +14,7 @@ use Rattle.iv_view.proofs.WordLemmas.{words-cut}
 use Rattle.iv_workspace.specs.OpenViews.{Shown}
 use Rattle.iv_workspace.specs.Prints.{PrintedNamed, PrintedView, PrintedAll, IsButCurrent}
 use Rattle.iv_workspace.specs.States.{State}
-use Rattle.iv_workspace.specs.Views.{view_named, view_asked, unless_fault, has_name_fault, name_faults, Opens, RefusesOpen, all_text, print_code, text_in}
+use Rattle.iv_workspace.specs.Views.{view_named, view_asked, has_name_fault, name_faults, Opens, RefusesOpen, all_text, print_code, text_in}
 use Rattle.iv_workspace.specs.declared.fault.PrintFault.{PrintFault}
 use Rattle.iv_workspace.specs.declared.fault.PrintFault.TheVariants as printing
 use Rattle.iv_session.specs.Requests.{asked}

@@ -1,3 +1,4 @@
+pub mod Chains
 pub mod Bytes
 pub mod Lines
 pub mod Fields

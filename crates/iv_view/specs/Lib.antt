@@ -1,4 +1,3 @@
-pub mod Chains
 pub mod Flags
 pub mod Lists
 pub mod Merge

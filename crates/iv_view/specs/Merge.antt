@@ -11,7 +11,7 @@ use Rattle.iv_cover.specs.declared.column.ColumnSummary.{ColumnSummary}
 use Rattle.iv_cover.specs.declared.op.Op.{Op}
 use Rattle.iv_blocks.specs.Groups.{filled}
 use Rattle.iv_blocks.specs.declared.options.BlockOptions.{BlockOptions}
-use Rattle.iv_view.specs.Chains.{if_ok}
+use Rattle.iv_text.specs.Chains.{if_ok}
 use Rattle.iv_view.specs.Lists.{all_some, items_in, pairs}
 
 -- the options that are given: the values of `-d`, `-c` and `-o` as they are written, and whether `-s` is there

@@ -18,7 +18,7 @@ use Rattle.iv_pair.specs.declared.pair_rows.PairRows.{PairRows}
 use Rattle.iv_pair.specs.declared.pair_rows.PairRows.TheVariants as pair
 use Rattle.iv_track.specs.Steps.{TakesUpTo}
 use Rattle.iv_track.specs.Tracked.{Tracked, different_records}
-use Rattle.iv_view.specs.Chains.{if_ok}
+use Rattle.iv_text.specs.Chains.{if_ok}
 use Rattle.iv_view.specs.Flags.{only_flag, beside_flag, genomecov_rows, intersect_said, fasta_said}
 use Rattle.iv_view.specs.Merge.{said_by, nothing_said, merge_options, cluster_distance}
 use Rattle.iv_view.specs.RecordRows.{records_text}

@@ -7,7 +7,7 @@ ghost use Rattle.iv_text.specs.declared.fault.Fault.TheVariants as fault;
 ghost use Rattle.iv_cover.specs.Summaries.{op_named};
 ghost use Rattle.iv_blocks.specs.Groups.{filled};
 ghost use Rattle.iv_view.specs.Lists.{all_some, items_in, of_length, pairs};
-ghost use Rattle.iv_view.specs.Chains.{if_ok};
+ghost use Rattle.iv_text.specs.Chains.{if_ok};
 ghost use Rattle.iv_view.specs.Merge.{said_by, nothing_said, with_option, merge_options, cluster_distance, distance_of, lists_of, summary_within};
 ghost use Rattle.iv_view.specs.NarrowedViews.{number_of as number_of_column, has_columns as columns_are_there, narrowed_options};
 

@@ -1,6 +1,7 @@
 -- The region of a sequence that three fields mean.
-use Rattle.std.specs.Prelude.{ℕ, List, [], ◌∷◌, Option, None, Some, Result, Ok, Err, find}
+use Rattle.std.specs.Prelude.{ℕ, List, [], ◌∷◌, Result, Ok, find}
 use Rattle.std.specs.Option.{unwrap_or}
+use Rattle.iv_text.specs.Chains.{unless_fault}
 use Rattle.iv_text.specs.Genome.{Sequences, rank_of}
 use Rattle.iv_text.specs.Read.{has_fault, number_in}
 use Rattle.iv_text.specs.declared.fault.Fault.{Fault}
@@ -11,13 +12,8 @@ use Rattle.iv_track.specs.declared.region.Region.{Region}
 abbrev pub region_faults : List Fault
 region_faults = fault.StartNumber ∷ fault.StopNumber ∷ fault.Order ∷ fault.UnknownSeq ∷ fault.PastEnd ∷ []
 
--- a fault, or else the region
-abbrev pub region_or : Option Fault → Region → Result Region Fault
-region_or None at = Ok at
-region_or (Some f) at = Err f
-
 -- the region that a name, a start and an end mean, or the first fault
 abbrev pub region_said : Sequences → List ℕ → List ℕ → List ℕ → Result Region Fault
 region_said g name start stop =
-    region_or (find (has_fault g 3 (name ∷ start ∷ stop ∷ [])) region_faults)
-    (record { seq = unwrap_or (rank_of g name) 0; start = number_in start; stop = number_in stop })
+    unless_fault (find (has_fault g 3 (name ∷ start ∷ stop ∷ [])) region_faults)
+    (Ok (record { seq = unwrap_or (rank_of g name) 0; start = number_in start; stop = number_in stop }))

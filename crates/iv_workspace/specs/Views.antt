@@ -4,6 +4,7 @@ use Rattle.std.specs.List.{list_all, flat_map}
 use Rattle.std.specs.Option.{is_some, unwrap_or}
 use Rattle.std.specs.Map.{lookup}
 use Rattle.std.specs.Str.{bytes_eq}
+use Rattle.iv_text.specs.Chains.{unless_fault}
 use Rattle.iv_text.specs.Fault.{code_of}
 use Rattle.iv_text.specs.declared.fault.Fault.{Fault}
 use Rattle.iv_text.specs.declared.fault.Fault.TheVariants as fault
@@ -46,11 +47,6 @@ has_name_fault s name other = false
 -- the faults of a name, in the order in which they are reported
 abbrev pub name_faults : List Fault
 name_faults = fault.BadName ∷ fault.Taken ∷ fault.TooMany ∷ []
-
--- a fault, or else what the words say
-abbrev pub unless_fault : Option Fault → Result View Fault → Result View Fault
-unless_fault None said = said
-unless_fault (Some f) said = Err f
 
 -- the view that is opened under a name by these words: the first fault of the name, or else what the words say
 abbrev pub view_asked : State → List ℕ → List (List ℕ) → Result View Fault
