@@ -1,10 +1,10 @@
 //! A list in vectors of bounded length.
-ghost use Rattle.std.specs.Prelude.{◌≡◌, ◌<◌, ◌∷◌, ◌++◌, ◌↔◌, [], All, length, IsTrue, IfOk, OnOk, OnErr};
+ghost use Rattle.std.specs.Prelude.{◌≡◌, ◌<◌, ◌∷◌, ◌++◌, ◌↔◌, [], All, None, length, true, IsTrue, IfOk, OnOk, OnErr};
 ghost use Rattle.std.specs.Iterator.{YieldsFirst, item_count};
 ghost use Rattle.std.specs.List.Sorted.{IsSorted};
 ghost use Rattle.std.specs.Option.{option_copied, option_to_list};
 ghost use Rattle.std.specs.Vec.Iter.{into_iter_items, into_iter_len};
-ghost use Rattle.iv_text.specs.Inside.Batches.{HasItem, TakesVector, ascends, comes_below, items_of};
+ghost use Rattle.iv_text.specs.Inside.Batches.{HasItem, TakesVector, ascends, comes_below as is_below, items_of};
 
 use std::alloc::{AllocError, Allocator, Global};
 use std::cmp::Ordering;
@@ -36,23 +36,28 @@ impl<T, A: Allocator> Model for Batches<T, A> {
     ghost invariant = { λ b. All HasItem b.full.items × (b.len ≡ length (items_of b.full.items ++ b.last.items)) };
 }
 
-/// Whether an item is less than the one before it, if there is one.
-fn is_less<T: Ord>(item: &T, before: Option<&T>) -> bool
-    ensures { result ≡ comes_below T.cmp item.now (option_copied before.entry) }
+/// Whether an item may not come after the one before it, if there is one: it is less, or, if all are to differ, equal.
+fn comes_below<T: Ord>(item: &T, before: Option<&T>, strictly: bool) -> bool
+    ensures { result ≡ is_below T.cmp strictly item.now (option_copied before.entry) }
 {
     match before {
-        Some(before) => item.cmp(before) == Ordering::Less,
+        Some(before) => match item.cmp(before) {
+            Ordering::Less => true,
+            Ordering::Equal => strictly,
+            Ordering::Greater => false,
+        },
         None => false,
     }
 }
 
-/// Whether no item is less than the one before it, nor the first less than this one, if there is one.
-fn do_ascend<T: Ord>(before: Option<&T>, items: &[T]) -> bool
-    ensures { result ≡ ascends T.cmp (option_copied before.entry) items.now }
+/// Whether no item is less than the one before it, nor the first less than this one, if there is one; nor equal, if all are to
+/// differ.
+fn do_ascend<T: Ord>(before: Option<&T>, items: &[T], strictly: bool) -> bool
+    ensures { result ≡ ascends T.cmp strictly (option_copied before.entry) items.now }
 {
     let mut before = before;
     for item in items {
-        if is_less(item, before) {
+        if comes_below(item, before, strictly) {
             return false;
         }
         before = Some(item);
@@ -112,14 +117,28 @@ impl<T: Ord, A: Allocator> Batches<T, A> {
     pub fn is_sorted(&self) -> bool
         ensures { IsTrue result ↔ IsSorted T.cmp self.now }
     {
+        self.do_ascend(false)
+    }
+
+    /// Whether each item is greater than the one before it, so that no two are equal.
+    pub fn is_strictly_sorted(&self) -> bool
+        ensures { result ≡ ascends T.cmp true None self.now }
+    {
+        self.do_ascend(true)
+    }
+
+    /// Whether no item is less than the one before it, nor equal, if all are to differ.
+    fn do_ascend(&self, strictly: bool) -> bool
+        ensures { result ≡ ascends T.cmp strictly None self.now }
+    {
         let mut before = None;
         for vector in &self.full {
-            if !do_ascend(before, vector.as_slice()) {
+            if !do_ascend(before, vector.as_slice(), strictly) {
                 return false;
             }
             before = vector.as_slice().last();
         }
-        do_ascend(before, self.last.as_slice())
+        do_ascend(before, self.last.as_slice(), strictly)
     }
 }
 

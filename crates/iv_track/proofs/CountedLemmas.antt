@@ -13,11 +13,14 @@ use Rattle.std.proofs.lemmas.Bool.{cond-true, cond-false}
 use Rattle.std.proofs.lemmas.Iterator.{YieldsList, items_from_drains}
 use Rattle.std.proofs.lemmas.Iterator.Consumers.{YieldsList-from_shown}
 use Rattle.std.proofs.lemmas.List.Elements.{All-from_recursion}
-use Rattle.iv_text.specs.Ordered.{AreInOrder}
+use Rattle.std.proofs.lemmas.List.Sorted.{IsPermutation-refl}
+use Rattle.iv_text.specs.Ordered.{AreInOrder, ordered}
 use Rattle.iv_text.specs.RecordValue.{RecordValue, IsPlaced, record_cmp, records_total}
+use Rattle.iv_text.proofs.BatchLemmas.{strictly-sorted, strictly-rest, strictly-apart}
+use Rattle.iv_text.proofs.OrderedLemmas.{ordered-in_order, ordered-sorted}
 use Rattle.iv_text.proofs.RecordLemmas.{rows_exact}
 use Rattle.iv_track.specs.Copies.{expanded}
-use Rattle.iv_track.specs.Inside.Counted.{grouped_from, grouped, GivesEntry}
+use Rattle.iv_track.specs.Inside.Counted.{grouped_from, grouped, AreDistinct, GivesEntry}
 use Rattle.iv_track.specs.Entries.{IsLedger}
 
 -- the entries of a list in order: its different records in order, which are placed, each with the number of its copies
@@ -102,6 +105,20 @@ grouped-counted (r ∷ rs) order placed = record {
   placed = All-from_recursion IsPlaced (keys_of (grouped_from record_cmp r 1 rs)) placed;
 }
 
+-- ---- records of which no two are equal
+
+pub distinct-ordered : (rows : List RecordValue) → AreDistinct rows → rows ≡ ordered rows
+distinct-ordered rows up = ordered-sorted rows rows (IsPermutation-refl rows) (strictly-sorted record_cmp rows up)
+
+pub distinct-rest : (r : RecordValue) (rows : List RecordValue) → AreDistinct (r ∷ rows) → AreDistinct rows
+distinct-rest = strictly-rest record_cmp
+
+-- the first is an entry of its own
+pub distinct-first : (r : RecordValue) (rows : List RecordValue) → AreDistinct (r ∷ rows) → grouped record_cmp (r ∷ rows) ≡ (r, 1) ∷ grouped record_cmp rows
+distinct-first r [] up = refl
+distinct-first r (q ∷ qs) up =
+    cond-false (is_eq (record_cmp q r)) (grouped_from record_cmp r 2 qs) ((r, 1) ∷ grouped_from record_cmp q 1 qs) (strictly-apart record_cmp r q qs up)
+
 -- ---- what the iterator gives
 
 gives-list : (es : List (RecordValue × ℕ)) → YieldsList GivesEntry (λ e. e) es es
@@ -123,7 +140,7 @@ yielded-placed s [] t y = tt
 yielded-placed s (x ∷ xs) t y = (y.1.1, yielded-placed y.0 xs t y.2)
 
 -- the entries of records in order
-pub given-counted : (rows : List RecordValue) (xs : List (RecordValue × ℕ)) → AreInOrder rows → Drains GivesEntry (grouped record_cmp rows) xs → AreCounted xs rows
+given-counted : (rows : List RecordValue) (xs : List (RecordValue × ℕ)) → AreInOrder rows → Drains GivesEntry (grouped record_cmp rows) xs → AreCounted xs rows
 given-counted rows xs order run =
     let same : xs ≡ grouped record_cmp rows = given-entries (grouped record_cmp rows) xs run in
     subst (λ es. AreCounted es rows) (sym same)
@@ -131,6 +148,11 @@ given-counted rows xs order run =
 
 pub given-ordered : (rows : List RecordValue) (xs : List (RecordValue × ℕ)) → AreInOrder rows → Drains GivesEntry (grouped record_cmp rows) xs → IsLedger record_cmp xs
 given-ordered rows xs order run = subst (IsLedger record_cmp) (sym (given-entries (grouped record_cmp rows) xs run)) (grouped-ordered rows order)
+
+-- the entries of records, in the order of a track
+pub ordered-counted : (rows : List RecordValue) (left xs : List (RecordValue × ℕ)) → left ≡ grouped record_cmp (ordered rows) → Drains GivesEntry left xs → AreCounted xs (ordered rows)
+ordered-counted rows left xs is run =
+    given-counted (ordered rows) xs (ordered-in_order rows) (subst (λ (es : List (RecordValue × ℕ)). Drains GivesEntry es xs) is run)
 
 -- ---- one entry
 

@@ -107,8 +107,8 @@ impl<A: Allocator + Copy> Track<A> {
         ensures { IfOk result (λ t. t ≡ record { rows = ordered rows; width = width; limit = limit }) }
     {
         let len = rows.len() as u32;
-        let sorted = in_order(rows)?;
-        let ledger = Ledger::from_entries(alloc, Counted::of(sorted))?;
+        let entries = Counted::of(rows)?;
+        let ledger = Ledger::from_entries(alloc, entries)?;
         let lengths = LengthClasses::of(ledger.all());
         Ok(Track {
             ledger,
@@ -391,19 +391,4 @@ fn least_from<A: Allocator + Copy>(alloc: A, seq: u32, start: u64) -> Option<Rec
     // No record starts so late.
     let next = seq.checked_add(1)?;
     Some(Record::least_at(alloc, next, 0))
-}
-
-/// These records in the order of a track. If they are already, they stay as they are, and no memory is taken.
-fn in_order<A: Allocator + Copy>(
-    rows: Batches<Record<A>, A>,
-) -> Result<Batches<Record<A>, A>, AllocError>
-    ensures same { IfOk result (λ sorted. IsPermutation rows sorted) }
-    ensures sorted { IfOk result (λ sorted. IsSorted record_cmp sorted) }
-{
-    if rows.is_sorted() {
-        return Ok(rows);
-    }
-    let mut rows = rows.into_vec()?;
-    rows.sort()?;
-    Ok(Batches::of(rows))
 }

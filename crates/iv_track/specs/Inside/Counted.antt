@@ -1,10 +1,11 @@
 -- Equal neighbours of a list as one entry each. This is the state of the iterator that a track is built from, as seen by
 -- its proof.
-use Rattle.std.specs.Prelude.{ℕ, ◌+◌, List, [], ◌∷◌, Option, Some, None, if◌then◌else◌, IfSome}
+use Rattle.std.specs.Prelude.{◌≡◌, ℕ, ◌+◌, true, List, [], ◌∷◌, Option, Some, None, if◌then◌else◌, IfSome}
 use Rattle.std.specs.Iterator.{YieldsFirst}
 use Rattle.std.specs.declared.cmp.Ordering.{Ordering}
 use Rattle.std.specs.Ordering.{is_eq}
-use Rattle.iv_text.specs.RecordValue.{RecordValue, IsPlaced}
+use Rattle.iv_text.specs.Inside.Batches.{ascends}
+use Rattle.iv_text.specs.RecordValue.{RecordValue, IsPlaced, record_cmp}
 
 module _ {K : Type 0} (cmp : K → K → Ordering) where
   -- the entries of a list of which n neighbours alike k were taken, and these are left
@@ -16,6 +17,10 @@ module _ {K : Type 0} (cmp : K → K → Ordering) where
   abbrev pub grouped : List K → List (K × ℕ)
   grouped [] = []
   grouped (k ∷ ks) = grouped_from k 1 ks
+
+-- each record is greater than the one before it, in the order of a track
+abbrev pub AreDistinct : List RecordValue → Type 0
+AreDistinct rows = ascends record_cmp true None rows ≡ true
 
 -- the one that was read ahead, if there is one, and those that are left
 abbrev pub left : {K : Type 0} → Option K → List K → List K

@@ -4,4 +4,4 @@ use Rattle.iv_text.specs.Inside.Batches.{ascends}
 use Rattle.iv_text.proofs.batches.do_ascend.Given as goal
 
 abbrev pub invariant-loop-item : goal.invariant-loop-item
-invariant-loop-item g l = ascends g.T.Ord.cmp (option_copied l.before) (drop l.item-index l.items) ≡ ascends g.T.Ord.cmp (option_copied l.fn.before) l.items
+invariant-loop-item g l = ascends g.T.Ord.cmp l.fn.strictly (option_copied l.before) (drop l.item-index l.items) ≡ ascends g.T.Ord.cmp l.fn.strictly (option_copied l.fn.before) l.items
