@@ -11,8 +11,10 @@ use Rattle.iv_text.specs.declared.fault.LoadCause.{LoadCause}
 use Rattle.iv_text.specs.declared.fault.LoadCause.TheVariants as cause
 use Rattle.iv_text.specs.declared.fault.LoadFault.{LoadFault}
 use Rattle.iv_text.proofs.FileMeaningLemmas.{IsRun, run-value, run-fault}
-use Rattle.iv_fasta.specs.Fasta.{Found, Stretch, Bases, header_name, is_no_base, has_wrong_length, by_rank, with_bases, with_lengths, after_fasta_line, after_fasta_lines, fasta_of}
-use Rattle.iv_fasta.specs.Inside.FastaMeaning.{is_header, before_header, sequences_from, sequences_said, line_cause, HaveRightLengths, IsFirstWrongLength}
+use Rattle.iv_fasta.specs.Fasta.{Found, Stretch, Bases, header_name, has_wrong_length, with_bases, after_fasta_line, fasta_of}
+use Rattle.iv_fasta.specs.Inside.Drafts.{after_fasta_lines}
+use Rattle.iv_fasta.specs.Inside.Fasta.{is_no_base}
+use Rattle.iv_fasta.specs.Inside.FastaMeaning.{is_header, before_header, sequences_from, sequences_said, line_cause, HaveRightLengths, IsFirstWrongLength, with_lengths, by_rank}
 
 -- ---- the lines before the next header
 
