@@ -64,8 +64,8 @@ Bases = List (Option (List ℕ))
 abbrev pub fasta_of : Sequences → List ℕ → Result Bases LoadFault
 fasta_of g text =
     if_ok (after_all after_fasta_line 1 [] (lines text)) (λ found. elim (find (has_wrong_length g) found) [
-    | None ↦ Ok (map (λ s. option_map (λ (f : Stretch). f.bases) (lookup (bytes_eq s.0) found)) g)
-    | Some s ↦ Err (record { line = s.1.line; cause = cause.WrongLength })
+      | None ↦ Ok (map (λ s. option_map (λ (f : Stretch). f.bases) (lookup (bytes_eq s.0) found)) g)
+      | Some s ↦ Err (record { line = s.1.line; cause = cause.WrongLength })
     ])
 
 -- the bases of the sequence of this rank, if the file has it

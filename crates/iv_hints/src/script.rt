@@ -12,8 +12,8 @@ const MOST_MESSAGE_BYTES: usize = 200;
 /// How many refused lines of one kind have a hint.
 const MOST_OF_A_KIND: u8 = 3;
 
-/// The faults that messages name.
-const FAULTS: [Fault; 24] = [
+/// The faults that messages name, except out of memory.
+const FAULTS: [Fault; 23] = [
     Fault::Command,
     Fault::Columns,
     Fault::UnknownSeq,
@@ -35,7 +35,6 @@ const FAULTS: [Fault; 24] = [
     Fault::NoSecond,
     Fault::NoFasta,
     Fault::NoView,
-    Fault::NoMemory,
     Fault::Shorter,
     Fault::Fixed,
 ];
@@ -176,6 +175,9 @@ fn after_last_feed(text: &[u8]) -> &[u8] {
 
 /// The number of the fault with this text.
 fn code_of(text: &[u8]) -> Option<u8> {
+    if text == b"no memory".as_slice() {
+        return Some(22);
+    }
     for fault in &FAULTS {
         if fault_text(*fault) == text {
             return Some(fault.code());
