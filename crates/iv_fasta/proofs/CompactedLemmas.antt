@@ -7,6 +7,7 @@ use Rattle.std.specs.Map.{lookup}
 use Rattle.std.proofs.lemmas.Bool.{cond-true}
 use Rattle.std.proofs.lemmas.Slice.Eq.{bytes_eq-Decides}
 use Rattle.iv_text.proofs.NamedLemmas.{there-is}
+use Rattle.iv_text.specs.Chains.{if_ok}
 use Rattle.iv_text.specs.Lines.{lines, begins_with}
 use Rattle.iv_text.specs.Read.{length_of}
 use Rattle.std.specs.Str.{bytes_eq}
@@ -190,8 +191,7 @@ module _ (g : Sequences) where
   -- ---- the whole text
 
   abbrev ended : Result Found LoadFault → Result Bases LoadFault
-  ended (Ok found) = with_lengths g found
-  ended (Err f) = Err f
+  ended read = if_ok read (with_lengths g)
 
   compacted-ok : (r : Result Found LoadFault) (d : Draft) → along r ≡ Ok d → ended r ≡ with_lengths g d.found
   compacted-ok (Ok found) d is = let same : compacted found ≡ d = cc in sym (lengths-compacted found) ∙ ap (λ (e : Draft). with_lengths g e.found) same

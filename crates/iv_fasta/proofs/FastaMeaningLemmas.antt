@@ -2,6 +2,7 @@
 use Rattle.std.proofs.Common.{◌≡◌, ◌↔◌, ◌⊎◌, inl, inr, ℕ, ◌+◌, ◌++◌, ◌==◌, ◌&&◌, Bool, true, false, not, cond, List, [], ◌∷◌, Option, None, Some, Result, Ok, Err, length, find, is_some, append_assoc, append-nil, refl, sym, ◌∙◌, ap, ap₂, subst, arith}
 use Rattle.std.specs.List.{list_any, concat}
 use Rattle.std.proofs.lemmas.Bool.{cond-true, cond-false, eqb-true}
+use Rattle.iv_text.specs.Chains.{if_ok}
 use Rattle.iv_text.specs.FileMeaning.{HaveNoCause, IsFirstFault}
 use Rattle.iv_text.specs.Genome.{Sequences}
 use Rattle.iv_text.specs.GenomeFile.{bad_name}
@@ -213,11 +214,11 @@ same-run n found (line ∷ more) = by (after_fasta_line n found line) (λ next. 
 whole : (g : Sequences) (text : List ℕ) (r : Result Counted LoadFault) → run 1 (says []) (lines text) ≡ r
     → fasta_of g text ≡ elim r as (λ _. Result Bases LoadFault) [ Ok s ↦ with_lengths g s.1 | Err f ↦ Err f ]
 whole g text r is =
-    ap (λ (o : Result Found LoadFault). elim o as (λ _. Result Bases LoadFault) [ Ok found ↦ with_lengths g found | Err f ↦ Err f ])
+    ap (λ (o : Result Found LoadFault). if_ok o (with_lengths g))
     (same-run 1 [] (lines text) ∙ ap sequences-in is) ∙ by r
   where
     by : (r : Result Counted LoadFault)
-        → elim (sequences-in r) as (λ _. Result Bases LoadFault) [ Ok found ↦ with_lengths g found | Err f ↦ Err f ]
+        → if_ok (sequences-in r) (with_lengths g)
         ≡ elim r as (λ _. Result Bases LoadFault) [ Ok s ↦ with_lengths g s.1 | Err f ↦ Err f ]
     by (Ok s) = refl
     by (Err f) = refl

@@ -5,7 +5,10 @@ use iv_text::{Fault, LoadCause, RecordFault, fault_text, load_text};
 fn texts_of_script_faults(rt: HostRuntime) {
     let mut number = 0u8;
     for (fault, text) in [
-        (Fault::Command, b"no such command or wrong fields".as_slice()),
+        (
+            Fault::Command,
+            b"no such command or wrong fields".as_slice(),
+        ),
         (Fault::Columns, b"wrong number of columns"),
         (Fault::UnknownSeq, b"unknown sequence"),
         (Fault::StartNumber, b"start is not a number"),

@@ -72,7 +72,14 @@ fn merge_without_values(rt: HostRuntime) -> Result<(), Fail> {
     let inputs = alone(b"chr1\t10\t20\ta\t5\nchr1\t14\t20\td\t2.5\n");
     let rows = b"chr1\t10\t20\t.\t.\t.\n";
     assert!(rt; prints(&rt, b"merge -c 5 -o sum,min,max -g g -i a", &inputs, rows)?);
-    assert!(rt; is_reported(&rt, b"merge -g g -i a -c 6", &inputs, CliFault::Words(Fault::Column))?);
+    assert!(rt;
+        is_reported(
+            &rt,
+            b"merge -g g -i a -c 6",
+            &inputs,
+            CliFault::Words(Fault::Column)
+        )?
+    );
     Ok(())
 }
 
