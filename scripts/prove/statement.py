@@ -67,6 +67,7 @@ GLOSSARY = {
         "flat_map": "`flat_map f xs`: the lists f x of each x of xs, joined",
         "filter_map": "`filter_map f xs`: the values of f x for each x of xs, without those x for which there is none",
         "fold": "`fold f a xs`: a, changed by each item in turn: f (f a x) y for the items x and y",
+        "reduce": "`reduce f xs`: the first item, changed so by each of the others, if there is one",
         "take drop": "`take n xs`, `drop n xs`: the first n items, and the others",
         "replicate": "`replicate n x`: n times x",
         "reverse": "`reverse xs`: the items from the last to the first",

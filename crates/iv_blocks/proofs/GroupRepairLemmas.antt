@@ -13,7 +13,8 @@ use Rattle.iv_text.specs.declared.record_ref.Strand.TheVariants.{Plus, Minus, Do
 use Rattle.iv_track.specs.Entries.{IsLedger, value_at}
 use Rattle.iv_track.specs.Steps.{TakesUpTo}
 use Rattle.iv_cover.specs.TrackBlocks.{start_of, stop_of}
-use Rattle.iv_cover.specs.Blocks.{block_at, reaches}
+use Rattle.iv_cover.specs.Blocks.{block_at}
+use Rattle.iv_cover.specs.Inside.Blocks.{reaches}
 use Rattle.iv_text.proofs.ListLemmas.{Mem, any-at, mem-filter, mem-filter_from, all-mem, mem-all, filter-agree, filter-filter, filter-weaker, same_tests}
 use Rattle.iv_cover.proofs.Groups.{HasOneMore, one_more}
 use Rattle.iv_cover.proofs.BlockLemmas.{one_more-filter}

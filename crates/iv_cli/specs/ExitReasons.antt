@@ -1,10 +1,11 @@
 -- How a run ends: its exit status, and its line on standard error.
-use Rattle.std.specs.Prelude.{ℕ, ◌++◌, ◌==◌, ◌&&◌, nat_le, Bool, if◌then◌else◌, List, [], Option, None, Some, Result, Ok, Err, codes, decimal}
+use Rattle.std.specs.Prelude.{ℕ, ◌++◌, ◌==◌, nat_le, Bool, if◌then◌else◌, List, [], Option, None, Some, Result, Ok, Err, codes, decimal}
 use Rattle.std.specs.Option.{is_some, option_and_then, unwrap_or}
 use Rattle.std.specs.declared.io.ErrorKind.{ErrorKind}
 use Rattle.std.specs.declared.io.ErrorKind.TheVariants.{OutOfMemory}
 use Rattle.iv_text.specs.Fault.{fault_text, load_text}
 use Rattle.iv_text.specs.declared.fault.Fault.{Fault}
+use Rattle.iv_text.specs.declared.fault.Fault.TheVariants as refused
 use Rattle.iv_session.specs.declared.script.Summary.{Summary}
 use Rattle.iv_session.specs.declared.script.RunFault.{RunFault}
 use Rattle.iv_session.specs.declared.script.RunCause.{RunCause}
@@ -19,10 +20,6 @@ use Rattle.iv_run.specs.declared.fault.FileFault.TheVariants as file
 use Rattle.iv_args.specs.declared.plan.Slot.{Slot}
 use Rattle.iv_args.specs.Words.{RunPlan, file_of}
 
--- the text of a fault of words; a number that the table of faults lacks is reported as bad options
-abbrev pub words_text : ℕ → List ℕ
-words_text code = if nat_le 1 code && nat_le code 24 then fault_text code else fault_text 16
-
 -- how an ending is reported: its exit status, the file that it speaks of, and what is said of it
 pub record Report : Type 0 where
   pub status : ℕ
@@ -33,7 +30,7 @@ pub record Report : Type 0 where
 abbrev pub report_of : ExitReason → Report
 report_of exit_reason.Done = record { status = 0; slot = None; text = [] }
 report_of exit_reason.Refused = record { status = 1; slot = None; text = [] }
-report_of (exit_reason.Words code) = record { status = 2; slot = None; text = words_text code }
+report_of (exit_reason.Words f) = record { status = 2; slot = None; text = fault_text f }
 report_of (exit_reason.Damaged slot damage) =
     record { status = 3; slot = Some slot; text = codes "line " ++ decimal damage.line ++ codes ": " ++ load_text damage.cause }
 report_of (exit_reason.Unreadable slot) = record { status = 4; slot = Some slot; text = codes "cannot be read" }
@@ -50,11 +47,11 @@ status_of ended = (report_of ended).status
 -- the ending if the system does not give the words, by the kind of its error
 abbrev pub ending_of_kind : ErrorKind → ExitReason
 ending_of_kind OutOfMemory = exit_reason.Memory
-ending_of_kind kind = exit_reason.Words 16
+ending_of_kind kind = exit_reason.Words refused.Words
 
 -- the ending of a run with a fault
 abbrev pub ending_of : CliFault → ExitReason
-ending_of (fault.Words code) = exit_reason.Words code
+ending_of (fault.Words f) = exit_reason.Words f
 ending_of (fault.Damaged slot damage) = exit_reason.Damaged slot damage
 ending_of fault.Output = exit_reason.Output
 ending_of fault.Memory = exit_reason.Memory

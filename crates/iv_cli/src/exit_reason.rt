@@ -1,7 +1,7 @@
 //! How a run ends: its exit status, and its line on standard error.
 ghost use Rattle.std.specs.Prelude.{◌≡◌, ◌++◌, true, codes, decimal};
 ghost use Rattle.iv_bytes.specs.Sinks.{Puts};
-ghost use Rattle.iv_cli.specs.ExitReasons.{status_of, ending_of, ending_of_run, ending_after, words_text as text_of_words, name_meant, line_of, is_through};
+ghost use Rattle.iv_cli.specs.ExitReasons.{status_of, ending_of, ending_of_run, ending_after, name_meant, line_of, is_through};
 
 use itoa::Buffer;
 use iv_args::{Plan, Slot};
@@ -19,8 +19,8 @@ pub enum ExitReason {
     Done,
     /// Lines of the script were refused, and all else was done. The messages name each.
     Refused,
-    /// The arguments are wrong; the number of their fault in the table of faults.
-    Words(u8),
+    /// The arguments are wrong.
+    Words(Fault),
     /// A file is damaged; its first fault.
     Damaged(Slot, LoadFault),
     /// A file cannot be read.
@@ -59,7 +59,7 @@ impl From<io::Error> for ExitReason {
     fn from(error: io::Error) -> ExitReason {
         match error.kind() {
             ErrorKind::OutOfMemory => ExitReason::Memory,
-            _ => ExitReason::Words(16),
+            _ => ExitReason::Words(Fault::Words),
         }
     }
 }
@@ -84,7 +84,7 @@ impl From<CliFault> for ExitReason {
 
     fn from(fault: CliFault) -> ExitReason {
         match fault {
-            CliFault::Words(code) => ExitReason::Words(code),
+            CliFault::Words(fault) => ExitReason::Words(fault),
             CliFault::Damaged(slot, damage) => ExitReason::Damaged(slot, damage),
             CliFault::Output => ExitReason::Output,
             CliFault::Memory => ExitReason::Memory,
@@ -169,7 +169,7 @@ impl ExitReason {
     {
         match self {
             ExitReason::Done | ExitReason::Refused => Ok(()),
-            ExitReason::Words(code) => put_said(words_text(code), sink),
+            ExitReason::Words(fault) => put_said(fault_text(fault), sink),
             ExitReason::Damaged(_, damage) => {
                 put_damage(name, damage.line, load_text(&damage.cause), sink)
             }
@@ -192,17 +192,6 @@ impl ExitReason {
             | ExitReason::TooLong(slot) => { plan.file(slot).unwrap_or(b"") }
             _ => b"",
         }
-    }
-}
-
-/// The text of a fault of arguments.
-fn words_text(code: u8) -> &'static [u8]
-    ensures { result.now ≡ text_of_words code }
-{
-    if 1 <= code && code <= 24 {
-        fault_text(code)
-    } else {
-        fault_text(16)
     }
 }
 

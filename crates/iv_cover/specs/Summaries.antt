@@ -1,6 +1,7 @@
 -- What each operation gives for values in the order of a track.
-use Rattle.std.specs.Prelude.{ℕ, ◌==◌, ℤ, pos, neg_ℤ, ◌+ℤ◌, List, [], ◌∷◌, length, fold, Option, Some, None, if◌then◌else◌, codes, decimal}
-use Rattle.std.specs.List.{join_with_byte}
+use Rattle.std.specs.Prelude.{ℕ, ◌==◌, ℤ, pos, neg_ℤ, ◌+ℤ◌, List, [], ◌∷◌, length, Option, Some, None, if◌then◌else◌, codes, decimal}
+use Rattle.std.specs.List.{join_with_byte, reduce}
+use Rattle.std.specs.Map.{lookup}
 use Rattle.std.specs.Int.{int_min, int_max}
 use Rattle.std.specs.Fmt.{signed_decimal}
 use Rattle.std.specs.Option.{option_map, option_and_then}
@@ -16,13 +17,9 @@ use Rattle.iv_cover.specs.declared.op.Op.TheVariants.{Count, Sum, Min, Max, Coll
 -- the operation of this name
 abbrev pub op_named : List ℕ → Option Op
 op_named name =
-    if bytes_eq name (codes "count") then Some Count
-    else if bytes_eq name (codes "sum") then Some Sum
-    else if bytes_eq name (codes "min") then Some Min
-    else if bytes_eq name (codes "max") then Some Max
-    else if bytes_eq name (codes "collapse") then Some Collapse
-    else if bytes_eq name (codes "distinct") then Some Distinct
-    else None
+    lookup (bytes_eq name)
+    ((codes "count", Count) ∷ (codes "sum", Sum) ∷ (codes "min", Min) ∷ (codes "max", Max) ∷ (codes "collapse", Collapse)
+    ∷ (codes "distinct", Distinct) ∷ [])
 
 -- the number that a value is: an optional minus sign, and 1 to 15 digits
 abbrev pub number_of : List ℕ → Option ℤ
@@ -38,11 +35,6 @@ numbers_of (value ∷ values) =
     if bytes_eq value (codes ".")
     then numbers_of values
     else option_and_then (λ number. option_map (λ numbers. number ∷ numbers) (numbers_of values)) (number_of value)
-
--- numbers combined two by two, if there are any
-abbrev pub taken_together : (ℤ → ℤ → ℤ) → List ℤ → Option ℤ
-taken_together both [] = None
-taken_together both (number ∷ numbers) = Some (fold both number numbers)
 
 -- a number in decimal; a full stop if there is none
 abbrev pub number_text : Option ℤ → List ℕ
@@ -66,8 +58,8 @@ different (value ∷ values) = with_value value (different values)
 -- what the operation gives for the values
 abbrev pub summary_of : Op → List (List ℕ) → List ℕ
 summary_of Count values = decimal (length values)
-summary_of Sum values = number_text (option_and_then (taken_together ◌+ℤ◌) (numbers_of values))
-summary_of Min values = number_text (option_and_then (taken_together int_min) (numbers_of values))
-summary_of Max values = number_text (option_and_then (taken_together int_max) (numbers_of values))
+summary_of Sum values = number_text (option_and_then (reduce ◌+ℤ◌) (numbers_of values))
+summary_of Min values = number_text (option_and_then (reduce int_min) (numbers_of values))
+summary_of Max values = number_text (option_and_then (reduce int_max) (numbers_of values))
 summary_of Collapse values = join_with_byte comma values
 summary_of Distinct values = join_with_byte comma (different values)

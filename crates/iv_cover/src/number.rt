@@ -1,10 +1,11 @@
 //! Numbers among the values of a column, and how they are combined.
 ghost use Rattle.std.specs.Prelude.{◌≡◌, ◌≤◌, ◌+◌, ◌<◌, ◌^◌, ◌∷◌, List, ℕ, None, unsigned_abs, IfOk, IfSome, OnErr, decimal};
+ghost use Rattle.std.specs.List.{reduce};
 ghost use Rattle.std.specs.Option.{option_and_then};
 ghost use Rattle.iv_cover.specs.Columns.{column_value};
 ghost use Rattle.iv_cover.specs.Inside.NumberFolds.{both_of, with_number, size, going};
 ghost use Rattle.iv_cover.specs.ParsedNumber.{IsShort, spelled};
-ghost use Rattle.iv_cover.specs.Summaries.{number_of, numbers_of, taken_together};
+ghost use Rattle.iv_cover.specs.Summaries.{number_of, numbers_of};
 
 use crate::column::Column;
 use crate::value::Value;
@@ -91,7 +92,7 @@ impl NumberFold {
         column: Column,
         values: &V,
     ) -> Option<i128>
-        ensures { result ≡ option_and_then (taken_together (both_of self)) (numbers_of (V.left name.now column values.now)) }
+        ensures { result ≡ option_and_then (reduce (both_of self)) (numbers_of (V.left name.now column values.now)) }
     {
         values.lemma_of_size();
         let mut left = values.again();

@@ -9,7 +9,8 @@ use Rattle.std.specs.Map.{lookup}
 use Rattle.std.specs.Option.{option_map, unwrap_or}
 use Rattle.std.specs.Str.{bytes_eq}
 use Rattle.iv_text.specs.Genome.{Sequences}
-use Rattle.iv_fasta.specs.Fasta.{Stretch, Found, Bases, by_rank, bases_of}
+use Rattle.iv_fasta.specs.Fasta.{Stretch, Found, Bases, bases_of}
+use Rattle.iv_fasta.specs.Inside.FastaMeaning.{by_rank}
 use Rattle.iv_fasta.specs.Inside.BaseRanges.{bases_at, placed, EndsWithin, IsPlacedWithin}
 use Rattle.iv_fasta.specs.declared.fasta_draft.BaseRange.{BaseRange}
 

@@ -7,21 +7,24 @@ use Rattle.std.specs.Map.{lookup}
 use Rattle.std.proofs.lemmas.Bool.{cond-true}
 use Rattle.std.proofs.lemmas.Slice.Eq.{bytes_eq-Decides}
 use Rattle.iv_text.proofs.NamedLemmas.{there-is}
-use Rattle.iv_text.specs.Lines.{lines}
+use Rattle.iv_text.specs.Chains.{if_ok}
+use Rattle.iv_text.specs.Lines.{lines, begins_with}
 use Rattle.iv_text.specs.Read.{length_of}
 use Rattle.std.specs.Str.{bytes_eq}
 use Rattle.iv_text.specs.Named.{names_of, name_index}
-use Rattle.iv_text.specs.Genome.{Sequences, rank_of}
-use Rattle.iv_text.specs.GenomeFile.{begins_with, bad_name}
-use Rattle.iv_fasta.specs.Fasta.{Stretch, Found, header_sign, is_no_base, header_name, with_header, with_bases, with_base_line, after_fasta_line, after_fasta_lines, Bases, has_wrong_length, by_rank, with_lengths, fasta_of}
-use Rattle.iv_fasta.specs.Inside.Drafts.{Draft, headed, with_compacted_line, after_compacted_line, after_compacted_lines}
+use Rattle.iv_text.specs.Genome.{Sequences}
+use Rattle.iv_text.specs.GenomeFile.{bad_name}
+use Rattle.iv_fasta.specs.Fasta.{Stretch, Found, header_sign, header_name, with_bases, after_fasta_line, Bases, has_wrong_length, fasta_of}
+use Rattle.iv_fasta.specs.Inside.FastaMeaning.{with_lengths, by_rank}
+use Rattle.iv_fasta.specs.Inside.Fasta.{is_no_base}
+use Rattle.iv_fasta.specs.Inside.Drafts.{Draft, headed, with_compacted_line, after_compacted_line, after_compacted_lines, with_header, with_base_line, after_fasta_lines}
 use Rattle.iv_text.specs.declared.fault.LoadCause.{LoadCause}
 use Rattle.iv_text.specs.declared.fault.LoadCause.TheVariants as cause
 use Rattle.iv_text.specs.declared.fault.LoadFault.{LoadFault}
 
 module _ (g : Sequences) where
   abbrev pub named : List ℕ → Bool
-  named name = is_some (rank_of g name)
+  named name = is_some (name_index g name)
 
   abbrev pub kept_one : List ℕ × Stretch → List ℕ × Stretch
   kept_one s = (s.0, record { line = s.1.line; bases = cond (named s.0) s.1.bases [] })
@@ -188,8 +191,7 @@ module _ (g : Sequences) where
   -- ---- the whole text
 
   abbrev ended : Result Found LoadFault → Result Bases LoadFault
-  ended (Ok found) = with_lengths g found
-  ended (Err f) = Err f
+  ended read = if_ok read (with_lengths g)
 
   compacted-ok : (r : Result Found LoadFault) (d : Draft) → along r ≡ Ok d → ended r ≡ with_lengths g d.found
   compacted-ok (Ok found) d is = let same : compacted found ≡ d = cc in sym (lengths-compacted found) ∙ ap (λ (e : Draft). with_lengths g e.found) same

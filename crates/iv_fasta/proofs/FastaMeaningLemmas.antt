@@ -2,6 +2,7 @@
 use Rattle.std.proofs.Common.{◌≡◌, ◌↔◌, ◌⊎◌, inl, inr, ℕ, ◌+◌, ◌++◌, ◌==◌, ◌&&◌, Bool, true, false, not, cond, List, [], ◌∷◌, Option, None, Some, Result, Ok, Err, length, find, is_some, append_assoc, append-nil, refl, sym, ◌∙◌, ap, ap₂, subst, arith}
 use Rattle.std.specs.List.{list_any, concat}
 use Rattle.std.proofs.lemmas.Bool.{cond-true, cond-false, eqb-true}
+use Rattle.iv_text.specs.Chains.{if_ok}
 use Rattle.iv_text.specs.FileMeaning.{HaveNoCause, IsFirstFault}
 use Rattle.iv_text.specs.Genome.{Sequences}
 use Rattle.iv_text.specs.GenomeFile.{bad_name}
@@ -11,8 +12,10 @@ use Rattle.iv_text.specs.declared.fault.LoadCause.{LoadCause}
 use Rattle.iv_text.specs.declared.fault.LoadCause.TheVariants as cause
 use Rattle.iv_text.specs.declared.fault.LoadFault.{LoadFault}
 use Rattle.iv_text.proofs.FileMeaningLemmas.{IsRun, run-value, run-fault}
-use Rattle.iv_fasta.specs.Fasta.{Found, Stretch, Bases, header_name, is_no_base, has_wrong_length, by_rank, with_bases, with_lengths, after_fasta_line, after_fasta_lines, fasta_of}
-use Rattle.iv_fasta.specs.Inside.FastaMeaning.{is_header, before_header, sequences_from, sequences_said, line_cause, HaveRightLengths, IsFirstWrongLength}
+use Rattle.iv_fasta.specs.Fasta.{Found, Stretch, Bases, header_name, has_wrong_length, with_bases, after_fasta_line, fasta_of}
+use Rattle.iv_fasta.specs.Inside.Drafts.{after_fasta_lines}
+use Rattle.iv_fasta.specs.Inside.Fasta.{is_no_base}
+use Rattle.iv_fasta.specs.Inside.FastaMeaning.{is_header, before_header, sequences_from, sequences_said, line_cause, HaveRightLengths, IsFirstWrongLength, with_lengths, by_rank}
 
 -- ---- the lines before the next header
 
@@ -211,11 +214,11 @@ same-run n found (line ∷ more) = by (after_fasta_line n found line) (λ next. 
 whole : (g : Sequences) (text : List ℕ) (r : Result Counted LoadFault) → run 1 (says []) (lines text) ≡ r
     → fasta_of g text ≡ elim r as (λ _. Result Bases LoadFault) [ Ok s ↦ with_lengths g s.1 | Err f ↦ Err f ]
 whole g text r is =
-    ap (λ (o : Result Found LoadFault). elim o as (λ _. Result Bases LoadFault) [ Ok found ↦ with_lengths g found | Err f ↦ Err f ])
+    ap (λ (o : Result Found LoadFault). if_ok o (with_lengths g))
     (same-run 1 [] (lines text) ∙ ap sequences-in is) ∙ by r
   where
     by : (r : Result Counted LoadFault)
-        → elim (sequences-in r) as (λ _. Result Bases LoadFault) [ Ok found ↦ with_lengths g found | Err f ↦ Err f ]
+        → if_ok (sequences-in r) (with_lengths g)
         ≡ elim r as (λ _. Result Bases LoadFault) [ Ok s ↦ with_lengths g s.1 | Err f ↦ Err f ]
     by (Ok s) = refl
     by (Err f) = refl

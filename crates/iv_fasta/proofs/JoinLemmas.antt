@@ -7,7 +7,8 @@ use Rattle.std.proofs.lemmas.List.{length_push}
 use Rattle.std.proofs.lemmas.List.Elements.{All-head, All-tail}
 use Rattle.iv_text.specs.declared.fault.LoadCause.{LoadCause}
 use Rattle.iv_text.specs.declared.fault.LoadFault.{LoadFault}
-use Rattle.iv_fasta.specs.Fasta.{Stretch, Found, header_name, with_bases, after_fasta_line, after_fasta_lines}
+use Rattle.iv_fasta.specs.Fasta.{Stretch, Found, header_name, with_bases, after_fasta_line}
+use Rattle.iv_fasta.specs.Inside.Drafts.{after_fasta_lines}
 use Rattle.iv_fasta.specs.Inside.Fasta.{IsNewHeader, IsBaseLine, with_joined}
 
 -- the last sequence takes the bases

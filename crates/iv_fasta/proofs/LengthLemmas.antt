@@ -8,15 +8,17 @@ use Rattle.std.proofs.lemmas.Option.{slice_get-map, slice_get_within, get_or_fro
 use Rattle.std.specs.Map.{lookup}
 use Rattle.std.specs.Option.{option_map, unwrap_or}
 use Rattle.std.specs.Str.{bytes_eq}
-use Rattle.iv_text.specs.Genome.{Sequences, AreRanked, rank_of, length_at}
+use Rattle.iv_text.specs.Genome.{Sequences, AreRanked, length_at}
+use Rattle.iv_text.specs.Named.{name_index}
 use Rattle.iv_text.specs.Read.{length_of}
 use Rattle.iv_text.specs.declared.fault.LoadCause.TheVariants as cause
 use Rattle.iv_text.specs.declared.fault.LoadFault.{LoadFault}
-use Rattle.iv_fasta.specs.Fasta.{Stretch, Found, Bases, differs, has_wrong_length, by_rank, with_lengths, bases_of, HasLengthsOf}
+use Rattle.iv_fasta.specs.Fasta.{Stretch, Found, Bases, has_wrong_length, bases_of, HasLengthsOf}
+use Rattle.iv_fasta.specs.Inside.FastaMeaning.{differs, with_lengths, by_rank}
 use Rattle.iv_fasta.specs.Inside.BaseRanges.{bases_at}
 use Rattle.iv_fasta.specs.declared.fasta_draft.BaseRange.{BaseRange}
 
-differs-named : (g : Sequences) (name : List ℕ) (count r n : ℕ) → Some r ≡ rank_of g name → length_at g r ≡ Some n → not (count == n) ≡ differs g name count
+differs-named : (g : Sequences) (name : List ℕ) (count r n : ℕ) → Some r ≡ name_index g name → length_at g r ≡ Some n → not (count == n) ≡ differs g name count
 differs-named g name count r n named long =
     let is : length_of g name ≡ n = ap (λ o. unwrap_or (length_at g (unwrap_or o 0)) 0) (sym named) ∙ ap (λ o. unwrap_or o 0) long in
     ap (λ (k : ℕ). not (count == k)) (sym is) ∙ ap (λ (o : Option ℕ). is_some o && not (count == length_of g name)) named
@@ -81,7 +83,7 @@ lengths-at g found seq bases (Some s) ranked right at is = by (lookup (bytes_eq 
     by None there is = cc
     by (Some st) there is =
         let same : st.bases ≡ bases = same_Some st.bases bases is in
-        let rank : rank_of g s.0 ≡ Some seq = ranked seq s.0 (ap (option_map (λ (x : List ℕ × ℕ). x.0)) at) in
+        let rank : name_index g s.0 ≡ Some seq = ranked seq s.0 (ap (option_map (λ (x : List ℕ × ℕ). x.0)) at) in
         let long : length_at g seq ≡ Some s.1 = ap (option_map (λ (x : List ℕ × ℕ). x.1)) at in
         let says : not (length st.bases == s.1) ≡ false = differs-named g s.0 (length st.bases) seq s.1 (sym rank) long ∙ not-wrong g found s.0 st right there in
         let equal : length st.bases ≡ s.1 = eqb-true (length st.bases) s.1 (not-false (length st.bases == s.1) says) in

@@ -6,10 +6,11 @@ use Rattle.std.specs.List.{list_any, before_first}
 use Rattle.std.specs.Option.{is_some}
 use Rattle.iv_text.specs.Named.{name_index}
 use Rattle.iv_text.specs.Genome.{Sequences}
-use Rattle.iv_text.specs.GenomeFile.{begins_with, bad_name}
-use Rattle.iv_fasta.specs.Fasta.{Found, header_sign, is_blank, is_no_base, header_name, with_header}
-use Rattle.iv_fasta.specs.Inside.Drafts.{NamedHeaders, cut, Draft, drafted, headed, with_compacted_line, after_compacted_line, after_compacted_lines}
-use Rattle.iv_text.specs.Lines.{lines}
+use Rattle.iv_text.specs.GenomeFile.{bad_name}
+use Rattle.iv_fasta.specs.Fasta.{Found, header_sign, header_name}
+use Rattle.iv_fasta.specs.Inside.Fasta.{is_blank, is_no_base}
+use Rattle.iv_fasta.specs.Inside.Drafts.{NamedHeaders, cut, Draft, drafted, headed, with_compacted_line, after_compacted_line, after_compacted_lines, with_header}
+use Rattle.iv_text.specs.Lines.{lines, begins_with}
 use Rattle.iv_text.specs.declared.fault.LoadCause.{LoadCause}
 use Rattle.iv_text.specs.declared.fault.LoadFault.{LoadFault}
 use Rattle.iv_text.specs.declared.fault.LoadCause.TheVariants as cause

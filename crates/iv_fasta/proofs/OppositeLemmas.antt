@@ -2,7 +2,7 @@
 use Rattle.std.proofs.Common.{◌≡◌, ℕ, ◌+◌, ◌-◌, ◌<◌, List, [], ◌∷◌, ◌++◌, length, map, reverse, take, drop, get_or, set, sym, ◌∙◌, ap, arith, take-append-drop}
 use Rattle.std.proofs.lemmas.List.{reverse-append, length-reverse, get_or-reverse, get_or-map, map-append, length-map, take_more_set, take_more}
 use Rattle.iv_fasta.specs.Complement.{complement}
-use Rattle.iv_fasta.specs.FastaRows.{opposite}
+use Rattle.iv_fasta.specs.Inside.FastaRows.{opposite}
 
 pub length-opposite : (bases : List ℕ) → length (opposite bases) ≡ length bases
 length-opposite bases = length-map (reverse bases) complement ∙ length-reverse bases

@@ -7,8 +7,8 @@ use Rattle.std.specs.Option.{option_map}
 use Rattle.iv_text.specs.Genome.{Sequences}
 use Rattle.iv_text.specs.RecordValue.{RecordValue}
 use Rattle.iv_fasta.specs.Fasta.{Bases, bases_of}
-use Rattle.iv_fasta.specs.FastaRows.{head, shown_strand, shown_bases, framed, row_beside, fasta_rows}
-use Rattle.iv_fasta.specs.Inside.FastaRows.{front}
+use Rattle.iv_fasta.specs.FastaRows.{head, shown_strand, shown_bases, framed, fasta_rows}
+use Rattle.iv_fasta.specs.Inside.FastaRows.{front, row_beside}
 use Rattle.iv_fasta.specs.declared.rows.FastaRows.{FastaRows}
 
 framed-by : (tab : Bool) (heading bases : List ℕ)

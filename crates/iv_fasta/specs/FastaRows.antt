@@ -1,10 +1,10 @@
 -- The rows of getfasta.
-use Rattle.std.specs.Prelude.{ℕ, ◌++◌, Bool, true, false, List, [], ◌∷◌, Option, None, Some, map, reverse, codes, decimal, slice_range, if◌then◌else◌}
+use Rattle.std.specs.Prelude.{ℕ, ◌++◌, List, [], ◌∷◌, Option, None, Some, map, reverse, codes, decimal, slice_range, if◌then◌else◌}
 use Rattle.std.specs.List.{flat_map}
 use Rattle.iv_text.specs.Genome.{Sequences, sequence_name}
 use Rattle.iv_text.specs.RecordValue.{RecordValue, strand_byte}
 use Rattle.iv_text.specs.declared.record_ref.Strand.{Strand}
-use Rattle.iv_text.specs.declared.record_ref.Strand.TheVariants.{Plus, Minus, Dot}
+use Rattle.iv_text.specs.declared.record_ref.Strand.TheVariants.{Minus}
 use Rattle.iv_fasta.specs.Complement.{complement}
 use Rattle.iv_fasta.specs.Fasta.{Bases, bases_of}
 use Rattle.iv_fasta.specs.declared.rows.FastaRows.{FastaRows}
@@ -22,20 +22,11 @@ shown_strand shown r = if shown.stranded then r.strand else None
 abbrev pub head : FastaRows → Sequences → RecordValue → List ℕ
 head shown g r = sequence_name g r.seq ++ codes ":" ++ decimal r.start ++ codes "-" ++ decimal r.stop ++ bracketed (shown_strand shown r)
 
--- the record is on the strand `-`
-abbrev pub is_minus : Option Strand → Bool
-is_minus None = false
-is_minus (Some Plus) = false
-is_minus (Some Minus) = true
-is_minus (Some Dot) = false
-
--- the opposite strand of some bases: they are read backwards, and each is its complement
-abbrev pub opposite : List ℕ → List ℕ
-opposite bases = map complement (reverse bases)
-
--- the bases that are shown of those that a record covers, by the strand that is shown of it: on `-` the opposite ones
+-- the bases that are shown of those that a record covers, by the strand that is shown of it: on `-` they are read backwards, and each
+-- is its complement
 abbrev pub shown_bases : Option Strand → List ℕ → List ℕ
-shown_bases strand bases = if is_minus strand then opposite bases else bases
+shown_bases (Some Minus) bases = map complement (reverse bases)
+shown_bases other bases = bases
 
 -- a head and its bases: on one line, separated by a TAB; or each on a line of its own, and `>` before the head
 abbrev pub framed : FastaRows → List ℕ → List ℕ → List ℕ
@@ -43,14 +34,12 @@ framed shown heading bases =
     if shown.tab then heading ++ codes "\t" ++ bases ++ codes "\n"
     else codes ">" ++ heading ++ codes "\n" ++ bases ++ codes "\n"
 
--- the row of a record beside the bases of its sequence: nothing if there are none
-abbrev pub row_beside : FastaRows → Sequences → RecordValue → Option (List ℕ) → List ℕ
-row_beside shown g r None = []
-row_beside shown g r (Some bases) = framed shown (head shown g r) (shown_bases (shown_strand shown r) (slice_range bases r.start r.stop))
-
--- the row of a record
+-- the row of a record: nothing if the file lacks its sequence
 abbrev pub fasta_rows : FastaRows → Sequences → Bases → RecordValue → List ℕ
-fasta_rows shown g fasta r = row_beside shown g r (bases_of fasta r.seq)
+fasta_rows shown g fasta r = elim (bases_of fasta r.seq) [
+  | None ↦ []
+  | Some bases ↦ framed shown (head shown g r) (shown_bases (shown_strand shown r) (slice_range bases r.start r.stop))
+]
 
 -- all rows: those of each record, in the order of the list
 abbrev pub fasta_text : FastaRows → Sequences → Bases → List RecordValue → List ℕ

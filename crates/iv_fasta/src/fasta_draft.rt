@@ -5,14 +5,15 @@ ghost use Rattle.std.specs.List.{list_any, before_first};
 ghost use Rattle.std.specs.Map.{lookup};
 ghost use Rattle.std.specs.Option.{option_map};
 ghost use Rattle.std.specs.Str.{bytes_eq};
-ghost use Rattle.iv_text.specs.GenomeFile.{begins_with};
-ghost use Rattle.iv_text.specs.Lines.{lines};
+ghost use Rattle.iv_text.specs.Lines.{lines, begins_with};
 ghost use Rattle.iv_text.specs.Named.{name_index};
 ghost use Rattle.iv_text.specs.declared.name_map.NameHasher.TheVariants as hasher;
 ghost use Rattle.iv_text.specs.declared.fault.LoadCause.TheVariants as cause;
-ghost use Rattle.iv_fasta.specs.Fasta.{header_sign, is_blank, is_no_base, Stretch, header_name, has_wrong_length, differs as differs_in, with_header, with_lengths, by_rank, bases_of};
+ghost use Rattle.iv_fasta.specs.Fasta.{header_sign, Stretch, header_name, has_wrong_length, bases_of};
+ghost use Rattle.iv_fasta.specs.Inside.FastaMeaning.{differs as differs_in, with_lengths, by_rank};
+ghost use Rattle.iv_fasta.specs.Inside.Fasta.{is_blank, is_no_base};
 ghost use Rattle.iv_fasta.specs.Inside.BaseRanges.{bases_at, placed, EndsWithin, IsPlacedWithin};
-ghost use Rattle.iv_fasta.specs.Inside.Drafts.{cut, end_at, StartInOrder, StartInOrder-prop, sequence_at, drafted, headed, with_compacted_line, after_compacted_lines};
+ghost use Rattle.iv_fasta.specs.Inside.Drafts.{cut, end_at, StartInOrder, StartInOrder-prop, sequence_at, drafted, headed, with_compacted_line, after_compacted_lines, with_header};
 
 use iv_text::{
     ContentSeed, Genome, LoadCause, LoadFault, NameMap, is_bad_name, lines_of, split_line,

@@ -4,9 +4,10 @@ ghost use Rattle.iv_text.specs.FileMeaning.{HaveNoCause, IsFirstFault};
 ghost use Rattle.iv_text.specs.Genome.{Sequences};
 ghost use Rattle.iv_text.specs.Lines.{lines};
 ghost use Rattle.iv_text.specs.declared.fault.LoadFault.{LoadFault};
-ghost use Rattle.iv_fasta.specs.Fasta.{Bases, Found, after_fasta_lines, by_rank, fasta_of};
+ghost use Rattle.iv_fasta.specs.Fasta.{Bases, Found, fasta_of};
+ghost use Rattle.iv_fasta.specs.Inside.Drafts.{after_fasta_lines};
 ghost use Rattle.iv_fasta.specs.Inside.Fasta.{IsNewHeader, IsBaseLine, with_joined};
-ghost use Rattle.iv_fasta.specs.Inside.FastaMeaning.{line_cause, sequences_said, HaveRightLengths, IsFirstWrongLength};
+ghost use Rattle.iv_fasta.specs.Inside.FastaMeaning.{line_cause, sequences_said, HaveRightLengths, IsFirstWrongLength, by_rank};
 
 /// The lines of bases after a header, joined in their order, are the bases of one more sequence.
 ///

@@ -1,8 +1,8 @@
 //! The rows of getfasta, and the complement of bases.
 ghost use Rattle.std.specs.Prelude.{◌≡◌, [], if◌then◌else◌, length, codes};
 ghost use Rattle.iv_bytes.specs.Sinks.{Puts};
-ghost use Rattle.iv_fasta.specs.FastaRows.{opposite, bracketed, shown_strand as strand_of, is_minus as says_minus, shown_bases, fasta_rows, fasta_text};
-ghost use Rattle.iv_fasta.specs.Inside.FastaRows.{front};
+ghost use Rattle.iv_fasta.specs.FastaRows.{bracketed, shown_strand as strand_of, shown_bases, fasta_rows, fasta_text};
+ghost use Rattle.iv_fasta.specs.Inside.FastaRows.{front, opposite};
 ghost use Rattle.iv_fasta.specs.Complement.{complement as complement_of};
 
 use crate::fasta::Fasta;
@@ -137,18 +137,10 @@ fn strand_mark<'t>(strand: Option<Strand>) -> &'t [u8]
 fn put_bases<S: Sink>(strand: Option<Strand>, bases: &[u8], sink: &mut S) -> Result<(), WriteFault>
     ensures { Puts (S.state sink.old) (S.state sink.new) result (shown_bases strand bases.now) }
 {
-    if is_minus(strand) {
-        put_opposite(bases, sink)
-    } else {
-        put_all(sink, bases)
+    match strand {
+        Some(Strand::Minus) => put_opposite(bases, sink),
+        Some(Strand::Plus | Strand::Dot) | None => put_all(sink, bases),
     }
-}
-
-/// Whether a record is on the strand `-`.
-fn is_minus(strand: Option<Strand>) -> bool
-    ensures { result ≡ says_minus strand }
-{
-    matches!(strand, Some(Strand::Minus))
 }
 
 /// Puts the opposite strand of some bases, through a chunk on the stack.

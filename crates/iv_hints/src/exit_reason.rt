@@ -9,7 +9,7 @@ use crate::words::put_words;
 use itoa::Buffer;
 use iv_args::{Plan, Slot};
 use iv_cli::ExitReason;
-use iv_text::{LoadCause, LoadFault, read_number};
+use iv_text::{Fault, LoadCause, LoadFault, read_number};
 use std::alloc::{AllocError, Global};
 
 /// The hint below the line of an ending, given the arguments after the program's name, the line of the script at which the run ended
@@ -28,7 +28,7 @@ pub fn hint_of<F: HintFiles>(
     let mut hint = Hint::new(alloc);
     match (exit_reason, Plan::read(alloc, words)) {
         (ExitReason::Refused, _) => {}
-        (ExitReason::Words(16), _) => put_words(alloc, words, &mut hint)?,
+        (ExitReason::Words(Fault::Words), _) => put_words(alloc, words, &mut hint)?,
         (ExitReason::InputUnreadable, _) => {
             put_script_line(line, b": the input failed there", &mut hint)?;
         }
@@ -115,7 +115,7 @@ fn put_of_plan<F: HintFiles>(
             hint.line(&[b"a file has at most 4294967295 bytes"])?;
             hint.line(&[IN_PARTS])
         }
-        ExitReason::Words(code) => put_columns(alloc, plan, code, files, hint),
+        ExitReason::Words(fault) => put_columns(alloc, plan, fault.code(), files, hint),
         _ => Ok(()),
     }
 }

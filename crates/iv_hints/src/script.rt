@@ -1,6 +1,6 @@
 //! What is kept of a script while it runs: the lines that were read last, and how often each kind of message was written.
 use crate::records::count_of;
-use iv_text::{fault_text, read_number};
+use iv_text::{Fault, fault_text, read_number};
 use std::alloc::{AllocError, Global};
 
 /// How many bytes are kept of a line before the piece that was read last.
@@ -12,8 +12,32 @@ const MOST_MESSAGE_BYTES: usize = 200;
 /// How many refused lines of one kind have a hint.
 const MOST_OF_A_KIND: u8 = 3;
 
-/// How many kinds of message there are, counted from 1.
-const KINDS: u8 = 24;
+/// The faults that messages name, except out of memory.
+const FAULTS: [Fault; 23] = [
+    Fault::Command,
+    Fault::Columns,
+    Fault::UnknownSeq,
+    Fault::StartNumber,
+    Fault::StopNumber,
+    Fault::Order,
+    Fault::PastEnd,
+    Fault::Name,
+    Fault::Score,
+    Fault::Strand,
+    Fault::Absent,
+    Fault::Full,
+    Fault::BadName,
+    Fault::Taken,
+    Fault::TooMany,
+    Fault::Words,
+    Fault::Column,
+    Fault::NoStrand,
+    Fault::NoSecond,
+    Fault::NoFasta,
+    Fault::NoView,
+    Fault::Shorter,
+    Fault::Fixed,
+];
 
 /// A refused line of a script: its number, and that of the fault in its message.
 #[derive(Clone, Copy, Debug, PartialEq, Eq)]
@@ -151,9 +175,12 @@ fn after_last_feed(text: &[u8]) -> &[u8] {
 
 /// The number of the fault with this text.
 fn code_of(text: &[u8]) -> Option<u8> {
-    for code in 1..=KINDS {
-        if fault_text(code) == text {
-            return Some(code);
+    if text == b"no memory".as_slice() {
+        return Some(22);
+    }
+    for fault in &FAULTS {
+        if fault_text(*fault) == text {
+            return Some(fault.code());
         }
     }
     None

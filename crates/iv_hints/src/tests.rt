@@ -141,7 +141,7 @@ fn are_hints_on_words(rt: &HostRuntime, table: &[(&[u8], &[u8])]) -> Result<bool
         if !hints(
             rt.alloc(),
             words.as_slice(),
-            ExitReason::Words(16),
+            ExitReason::Words(Fault::Words),
             &[],
             hint.as_slice(),
         )? {
@@ -336,7 +336,7 @@ const OTHERS: &[(&[u8], ExitReason, &[u8])] = &[
     ),
     (
         b"merge -g g -i a -c 6",
-        ExitReason::Words(17),
+        ExitReason::Words(Fault::Column),
         b"-c 6: the records have columns 1 to 5",
     ),
     (

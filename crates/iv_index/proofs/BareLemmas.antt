@@ -11,7 +11,8 @@ use Rattle.iv_text.specs.Genome.{Sequences}
 use Rattle.iv_text.specs.BedReading.{IsProjected}
 use Rattle.iv_text.specs.Ordered.{added, ordered, AreInOrder}
 use Rattle.iv_text.specs.Read.{IsOnGenome}
-use Rattle.iv_text.specs.RecordValue.{RecordValue, beside_cmp, record_cmp}
+use Rattle.iv_text.specs.RecordValue.{RecordValue, record_cmp}
+use Rattle.iv_text.specs.Inside.RecordValue.{beside_cmp}
 use Rattle.iv_text.proofs.OrderedLemmas.{ordered-in_order, rows-alone}
 use Rattle.iv_index.specs.Locators.{bare}
 use Rattle.iv_index.specs.Inside.Locators.{record_at, records_at}

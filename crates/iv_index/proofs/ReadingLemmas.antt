@@ -10,11 +10,12 @@ use Rattle.iv_text.proofs.ReadLemmas.{hit}
 use Rattle.iv_text.proofs.BedReadingLemmas.{begun-sound, fit-all, kept-all, rows-all, sound-kept, whole-file}
 use Rattle.iv_text.specs.Fields.{columns}
 use Rattle.iv_text.specs.Genome.{Sequences}
-use Rattle.iv_text.specs.BedReading.{AreSound, Held, RefusesLines, Shows, TakesLines, after, begun, byte_after, none_held, shown}
+use Rattle.iv_text.specs.BedReading.{AreSound, Held, RefusesLines, Shows, TakesLines, after, begun, byte_after, none_held, shown, finished}
 use Rattle.iv_text.specs.Lines.{lines}
-use Rattle.iv_text.specs.Read.{read, row, or_fault, has_fault, faults, column, Fits}
+use Rattle.iv_text.specs.Read.{read, row, has_fault, faults, column, Fits}
+use Rattle.iv_text.specs.Chains.{unless_fault}
 use Rattle.iv_text.specs.RecordValue.{RecordValue, strand_of}
-use Rattle.iv_text.specs.BedFile.{Draft, bed_of, finished}
+use Rattle.iv_text.specs.BedFile.{Draft, bed_of}
 use Rattle.iv_text.specs.declared.fault.Fault.{Fault}
 use Rattle.iv_text.specs.declared.fault.Fault.TheVariants as fault
 use Rattle.iv_text.specs.declared.fault.LoadFault.{LoadFault}
@@ -25,14 +26,14 @@ use Rattle.iv_index.specs.declared.locator.Locator.{Locator}
 
 -- ---- the record of a line
 
-or_fault-ok : (o : Option Fault) (q r : RecordValue) → or_fault o q ≡ Ok r → q ≡ r
+or_fault-ok : (o : Option Fault) (q r : RecordValue) → unless_fault o (Ok q) ≡ Ok r → q ≡ r
 or_fault-ok None q r h = cc
 or_fault-ok (Some f) q r h = cc
 
 row-is : (g : Sequences) (w : ℕ) (line : List ℕ) (r : RecordValue) → read g w line ≡ Ok r → row g w (columns line) ≡ r
 row-is g w line r says = or_fault-ok (find (has_fault g w (columns line)) faults) (row g w (columns line)) r says
 
-or_fault-hit : (o : Option Fault) (f : Fault) (q r : RecordValue) → o ≡ Some f → or_fault o q ≡ Ok r → ⊥
+or_fault-hit : (o : Option Fault) (f : Fault) (q r : RecordValue) → o ≡ Some f → unless_fault o (Ok q) ≡ Ok r → ⊥
 or_fault-hit None f q r is h = cc
 or_fault-hit (Some e) f q r is h = cc
 

@@ -1,6 +1,7 @@
 //! How many records there are of each length.
 ghost use Rattle.std.specs.Prelude.{◌≡◌, ℕ, ◌+◌, ◌-◌, ◌<◌, ◌≤◌, ◌^◌, length, OnOk, OnErr, IfOk};
-ghost use Rattle.iv_text.specs.Ordered.{added_by, copies_by};
+ghost use Rattle.iv_text.specs.Ordered.{added_by};
+ghost use Rattle.iv_text.specs.Inside.Ordered.{copies_by};
 ghost use Rattle.iv_text.specs.RecordValue.{RecordValue};
 ghost use Rattle.iv_track.specs.Copies.{removed_by, expanded};
 ghost use Rattle.iv_track.specs.Steps.{TakesUpTo};

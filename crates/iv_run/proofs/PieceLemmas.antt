@@ -1,8 +1,8 @@
 -- A BED file that comes in pieces.
 use Rattle.std.proofs.Common.{◌≡◌, ◌∙◌, ◌⊎◌, inl, inr, ℕ, ◌+◌, ◌<◌, ◌≤◌, ◌++◌, List, [], Result, Ok, Err, IfOk, length, sym, ap, subst, append_assoc, append-nil, length-append, arith}
-use Rattle.iv_text.specs.BedFile.{Bed, Draft, finished}
+use Rattle.iv_text.specs.BedFile.{Bed, Draft}
 use Rattle.iv_text.specs.Genome.{Sequences}
-use Rattle.iv_text.specs.BedReading.{AreSound, Reading, begun, coming, projected_bed_of, size_of}
+use Rattle.iv_text.specs.BedReading.{AreSound, Reading, begun, coming, projected_bed_of, size_of, finished}
 use Rattle.iv_text.specs.RecordValue.{RecordValue}
 use Rattle.iv_text.specs.declared.fault.LoadFault.{LoadFault}
 use Rattle.iv_text.specs.declared.fault.LoadCause.TheVariants as cause

@@ -4,7 +4,6 @@ use Rattle.iv_bytes.specs.Sinks.{SinkState}
 use Rattle.iv_text.specs.BedFile.{Bed, bed_of}
 use Rattle.iv_text.specs.Genome.{Sequences}
 use Rattle.iv_text.specs.GenomeFile.{genome_of}
-use Rattle.iv_text.specs.Fault.{code_of}
 use Rattle.iv_text.specs.declared.fault.LoadFault.{LoadFault}
 use Rattle.iv_text.specs.declared.fault.Fault.{Fault}
 use Rattle.iv_text.specs.declared.fault.Fault.TheVariants as refused
@@ -13,14 +12,14 @@ use Rattle.iv_view.specs.declared.view.View.{View}
 use Rattle.iv_run.specs.Inside.Prints.{Prints}
 use Rattle.iv_run.specs.declared.fault.CliFault.{CliFault}
 use Rattle.iv_run.specs.declared.fault.CliFault.TheVariants as fault
-use Rattle.iv_run.specs.Loading.{Parsed, parsed, map_fault, second_of, bases_said, fault_of_words}
+use Rattle.iv_run.specs.Loading.{Parsed, parsed, second_of, bases_said, fault_of_words}
 use Rattle.iv_run.specs.Shots.{Shows, text_beside, view_beside}
 use Rattle.iv_run.proofs.LoadLemmas.{with_bases, with_second, with_first, with_genome}
-use Rattle.iv_text.specs.Chains.{if_ok}
+use Rattle.iv_text.specs.Chains.{if_ok, map_fault}
 
 -- the text of the view that was asked for, or the fault of its words
 abbrev pub text_or_fault : Parsed → Result View Fault → Result (List ℕ) CliFault
-text_or_fault files read = if_ok (map_fault (λ why. fault.Words (code_of why)) read) (λ view. Ok (text_beside files view))
+text_or_fault files read = if_ok (map_fault fault.Words read) (λ view. Ok (text_beside files view))
 
 -- the text of the view that words ask for, unless the files are damaged, or else the fault of the words
 abbrev pub shown_of : List (List ℕ) → Result Parsed CliFault → Result (List ℕ) CliFault

@@ -2,7 +2,6 @@
 use Rattle.std.specs.Prelude.{◌≡◌, ◌⊎◌, ℕ, List, Option, Result, Ok, Err}
 use Rattle.std.specs.Option.{option_map, option_transpose}
 use Rattle.iv_text.specs.Genome.{Sequences}
-use Rattle.iv_text.specs.Fault.{code_of}
 use Rattle.iv_text.specs.GenomeFile.{genome_of}
 use Rattle.iv_text.specs.BedFile.{Bed, bed_of}
 use Rattle.iv_text.specs.declared.fault.LoadFault.{LoadFault}
@@ -11,7 +10,7 @@ use Rattle.iv_text.specs.declared.fault.LoadCause.TheVariants as cause
 use Rattle.iv_text.specs.declared.fault.Fault.{Fault}
 use Rattle.iv_text.specs.declared.fault.Fault.TheVariants as refused
 use Rattle.iv_fasta.specs.Fasta as fasta
-use Rattle.iv_text.specs.Chains.{if_ok}
+use Rattle.iv_text.specs.Chains.{if_ok, map_fault}
 use Rattle.iv_run.specs.declared.fault.CliFault.{CliFault}
 use Rattle.iv_run.specs.declared.fault.CliFault.TheVariants.{Words, Damaged, Memory}
 use Rattle.iv_args.specs.declared.plan.Slot.{Slot}
@@ -35,10 +34,10 @@ abbrev pub IsReport : {T : Type 0} → Result T CliFault → Result T CliFault �
 IsReport (Ok value) said = said ≡ Ok value
 IsReport (Err fault) said = (fault ≡ Memory) ⊎ (said ≡ Err fault)
 
--- how a fault of words is reported: by its number, but out of memory as that
+-- how a fault of words is reported: out of memory as that
 abbrev pub fault_of_words : Fault → CliFault
 fault_of_words refused.NoMemory = Memory
-fault_of_words why = Words (code_of why)
+fault_of_words why = Words why
 
 -- the files of a run, and how many records each track of them may hold
 pub record Parsed : Type 0 where
@@ -55,11 +54,6 @@ second_of g width limit text = option_transpose (option_map (bed_of g width limi
 -- a FASTA file that may be left out, or its first fault
 abbrev pub bases_said : Sequences → Option (List ℕ) → Result (Option fasta.Bases) LoadFault
 bases_said g text = option_transpose (option_map (fasta.fasta_of g) text)
-
--- the same result, with this made of its fault
-abbrev pub map_fault : {A E F : Type 0} → (E → F) → Result A E → Result A F
-map_fault make (Ok value) = Ok value
-map_fault make (Err fault) = Err (make fault)
 
 -- the files of these bytes: the genome file, the first file, and the second and the FASTA file, if there are any. A
 -- BED file without a record has this width, and a track holds at most as many records as the limit; or the fault of the first

@@ -3,16 +3,15 @@ use Rattle.std.specs.Prelude.{◌≡◌, ℕ, List, [], Option, Result, Ok, Err}
 use Rattle.std.specs.Option.{is_some, option_map, unwrap_or}
 use Rattle.iv_bytes.specs.Sinks.{SinkState, Takes, FailsIn}
 use Rattle.iv_text.specs.BedFile.{Bed}
-use Rattle.iv_text.specs.Fault.{code_of}
 use Rattle.iv_text.specs.Ordered.{ordered}
 use Rattle.iv_text.specs.RecordValue.{RecordValue}
 use Rattle.iv_text.specs.declared.fault.Fault.{Fault}
-use Rattle.iv_text.specs.Chains.{if_ok}
+use Rattle.iv_text.specs.Chains.{if_ok, map_fault}
 use Rattle.iv_view.specs.Views.{read_words, view_text}
 use Rattle.iv_view.specs.declared.view.View.{View}
 use Rattle.iv_run.specs.declared.fault.CliFault.{CliFault}
 use Rattle.iv_run.specs.declared.fault.CliFault.TheVariants as fault
-use Rattle.iv_run.specs.Loading.{Parsed, parsed, map_fault}
+use Rattle.iv_run.specs.Loading.{Parsed, parsed}
 use Rattle.iv_args.specs.Words.{RunPlan}
 
 -- the records of a second file in track order, none without one
@@ -32,7 +31,7 @@ text_beside files view = view_text view files.genome (ordered files.first.rows) 
 abbrev pub shown : RunPlan → List ℕ → List ℕ → Option (List ℕ) → Option (List ℕ) → ℕ → Result (List ℕ) CliFault
 shown plan sizes first other bases limit =
     if_ok (parsed plan.width sizes first other bases limit) (λ files.
-    if_ok (map_fault (λ why. fault.Words (code_of why)) (view_beside files plan.view)) (λ view. Ok (text_beside files view)))
+    if_ok (map_fault fault.Words (view_beside files plan.view)) (λ view. Ok (text_beside files view)))
 
 -- what a run leaves of its output, if this is what it is to print: all of the text; or a prefix of it, the output failed;
 -- or nothing, for a fault that it is to report, or for out of memory

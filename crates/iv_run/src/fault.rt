@@ -44,9 +44,9 @@ impl From<ReadFault> for FileFault {
 /// Why a run does not come to its end.
 #[derive(Clone, Copy, Debug, PartialEq, Eq, Error)]
 pub enum CliFault {
-    /// The arguments are wrong; the number of the fault in the table of faults.
-    #[error("E{0}")]
-    Words(u8),
+    /// The arguments are wrong.
+    #[error("{0}")]
+    Words(Fault),
     /// A file is damaged: which one, and its first fault.
     #[error("{1}")]
     Damaged(Slot, LoadFault),
@@ -83,7 +83,7 @@ impl From<(Slot, LoadFault)> for CliFault {
     }
 }
 
-/// Out of memory, or a fault of arguments, by its number.
+/// Out of memory, or a fault of arguments.
 impl From<Fault> for CliFault {
     ghost use Rattle.std.specs.Prelude.{◌≡◌};
     ghost use Rattle.iv_run.specs.Loading.{fault_of_words};
@@ -93,7 +93,7 @@ impl From<Fault> for CliFault {
     fn from(why: Fault) -> CliFault {
         match why {
             Fault::NoMemory => CliFault::Memory,
-            _ => CliFault::Words(why.code()),
+            _ => CliFault::Words(why),
         }
     }
 }

@@ -112,7 +112,7 @@ script =
 abbrev silent : Written
 silent = printed []
 
-pub script-steps : Steps RunsLine empty script (silent ∷ silent ∷ silent ∷ printed (text_in None with_two plain_merge) ∷ refused_by 7 ∷ []) with_two
+pub script-steps : Steps RunsLine empty script (silent ∷ silent ∷ silent ∷ printed (text_in None with_two plain_merge) ∷ refused_by fault.PastEnd ∷ []) with_two
 script-steps = (
   with_a_view,
   inl ([], ((plain_merge, refl, refl), refl), refl),
@@ -138,7 +138,7 @@ with_stale = record with_one { views = (codes "m", record { view = plain_merge; 
 pub edits-may_leave_a_view_stale : RunsLine with_a_view (codes "add" ++ tab ++ codes "chr1" ++ tab ++ codes "10" ++ tab ++ codes "20") with_stale silent
 edits-may_leave_a_view_stale = inl ([], ((omega arith, (refl, (refl, refl, (λ stale. refl), (λ none. absurd (cc (none))), tt))), refl), refl)
 
-pub prints-may_want_memory : RunsLine with_stale (codes "print" ++ tab ++ codes "m") with_stale (refused_by 22)
+pub prints-may_want_memory : RunsLine with_stale (codes "print" ++ tab ++ codes "m") with_stale (refused_by fault.NoMemory)
 prints-may_want_memory = inr (fault.NoMemory, (record { view = plain_merge; stale = true }, refl, refl), refl, refl)
 
 pub prints-make_a_view_current : RunsLine with_stale (codes "print" ++ tab ++ codes "m") with_one (printed (text_in None with_one plain_merge))

@@ -5,7 +5,6 @@ use Rattle.std.specs.Option.{is_some}
 use Rattle.iv_bytes.specs.Sinks.{SinkState, Takes, FailsIn}
 use Rattle.iv_bytes.proofs.PutLemmas.{Takes-nothing}
 use Rattle.iv_text.specs.Chains.{unless_fault}
-use Rattle.iv_text.specs.Fault.{code_of}
 use Rattle.iv_text.specs.Fields.{words}
 use Rattle.iv_text.specs.declared.fault.Fault.{Fault}
 use Rattle.iv_text.specs.declared.fault.Fault.TheVariants as fault
@@ -14,13 +13,14 @@ use Rattle.iv_view.proofs.WordLemmas.{words-cut}
 use Rattle.iv_workspace.specs.OpenViews.{Shown}
 use Rattle.iv_workspace.specs.Prints.{PrintedNamed, PrintedView, PrintedAll, IsButCurrent}
 use Rattle.iv_workspace.specs.States.{State}
-use Rattle.iv_workspace.specs.Views.{view_named, view_asked, has_name_fault, name_faults, Opens, RefusesOpen, all_text, print_code, text_in}
+use Rattle.iv_workspace.specs.Views.{view_named, view_asked, has_name_fault, name_faults, Opens, RefusesOpen, all_text, text_in}
 use Rattle.iv_workspace.specs.declared.fault.PrintFault.{PrintFault}
 use Rattle.iv_workspace.specs.declared.fault.PrintFault.TheVariants as printing
 use Rattle.iv_session.specs.Requests.{asked}
 use Rattle.iv_session.specs.Written.{Written, printed, refused_by, refusal_count, message_if}
 use Rattle.iv_session.specs.ScriptLines.{AsksToPrint, Ends, RunsLine, RunsLast, DoesAsked, RefusesAsked, Leaves}
 use Rattle.iv_session.specs.Inside.ScriptLines.{Writes, WritesFault}
+use Rattle.iv_session.specs.Inside.Scripts.{refusal_of}
 use Rattle.iv_session.specs.Inside.Scripts.{RanLine, FailedLine, Tells, refusals_of}
 use Rattle.iv_session.specs.declared.request.Request.{Request}
 use Rattle.iv_session.specs.declared.request.Request.TheVariants as request
@@ -61,7 +61,7 @@ done-failed asks old new out0 out1 text print does failed = record {
 pub refused : (asks : Result Request Fault) (old new : State) (out : SinkState) (f : Fault)
     → RefusesAsked asks old f → Leaves asks old new → Writes asks old new out out (Err (printing.Refused f))
 refused asks old new out f why left = record {
-  written = refused_by (code_of f);
+  written = refused_by f;
   ends = inr (f, why, left, refl);
   writes = (Takes-nothing out, refl);
   prints = λ none. absurd (cc none);
@@ -179,10 +179,10 @@ ran-done old text new n out0 out1 said did = record {
 
 -- a line that was not done
 pub ran-fault : (old : State) (text : List ℕ) (new : State) (n : ℕ) (out0 out1 said0 said1 : SinkState) (f : PrintFault) (result : Result Outcome RunCause)
-    → Writes (asked old text) old new out0 out1 (Err f) → Tells (print_code f) n said0 said1 result → Ran old text new n out0 out1 said0 said1 result
-ran-fault old text new n out0 out1 said0 said1 f result did says = by (print_code f) result did.writes did.prints says
+    → Writes (asked old text) old new out0 out1 (Err f) → Tells (refusal_of f) n said0 said1 result → Ran old text new n out0 out1 said0 said1 result
+ran-fault old text new n out0 out1 said0 said1 f result did says = by (refusal_of f) result did.writes did.prints says
   where
-    by : (code : Option ℕ) (result : Result Outcome RunCause) → WritesFault code out0 out1 did.written → (code ≡ None → AsksToPrint (asked old text))
+    by : (code : Option Fault) (result : Result Outcome RunCause) → WritesFault code out0 out1 did.written → (code ≡ None → AsksToPrint (asked old text))
         → Tells code n said0 said1 result → Ran old text new n out0 out1 said0 said1 result
     by None (Ok ended_as) writes prints says = absurd says
     by None (Err failed) writes prints says =

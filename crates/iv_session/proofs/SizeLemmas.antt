@@ -3,7 +3,7 @@ use Rattle.std.proofs.Common.{◌≡◌, ◌≢◌, ℕ, suc, ◌+◌, ◌≤◌
 use Rattle.std.proofs.lemmas.Bool.{false≢true, cond-true, cond-false, ne_eqb, lt-ltb, le-ltb}
 use Rattle.std.proofs.lemmas.List.Elements.{All-head, All-tail}
 use Rattle.std.specs.List.{onto_first}
-use Rattle.iv_text.specs.Lines.{begins_with_feed, lines, HasNoFeed}
+use Rattle.iv_text.specs.Lines.{begins_with, lines, HasNoFeed}
 use Rattle.iv_session.specs.Limits.{one_longer, line_sizes, AreWholeLines, AreWithin, Keeps, Passes, is_over, first_over}
 
 not_feed : (b : ℕ) (bs : List ℕ) → HasNoFeed (b ∷ bs) → (b == 10) ≡ false
@@ -102,7 +102,7 @@ onto-length b [] (text ∷ texts) same = absurd (omega (arith, same))
 onto-length b (size ∷ sizes) [] same = absurd (omega (arith, same))
 onto-length b (size ∷ sizes) (text ∷ texts) same = same
 
-length-step : (b : ℕ) (bs : List ℕ) → length (line_sizes bs) ≡ length (lines bs) → (t u : Bool) → ((b == 13) && begins_with_feed bs) ≡ u
+length-step : (b : ℕ) (bs : List ℕ) → length (line_sizes bs) ≡ length (lines bs) → (t u : Bool) → ((b == 13) && begins_with 10 bs) ≡ u
     → length (cond t (0 ∷ line_sizes bs) (one_longer (line_sizes bs))) ≡ length (cond t ([] ∷ lines bs) (cond u (lines bs) (onto_first b (lines bs))))
 length-step b bs rest true u is = ap suc rest
 length-step b [] rest false true is = absurd (false≢true (sym (none (b == 13)) ∙ is))
@@ -116,7 +116,7 @@ length-step b bs rest false false is = onto-length b (line_sizes bs) (lines bs) 
 -- there are as many sizes as lines
 pub length-sizes : (text : List ℕ) → length (line_sizes text) ≡ length (lines text)
 length-sizes [] = refl
-length-sizes (b ∷ bs) = length-step b bs (length-sizes bs) (b == 10) ((b == 13) && begins_with_feed bs) refl
+length-sizes (b ∷ bs) = length-step b bs (length-sizes bs) (b == 10) ((b == 13) && begins_with 10 bs) refl
 
 -- both lists have a first size, and that of the second is no smaller
 record Grows (xs ys : List ℕ) : Type 0 where

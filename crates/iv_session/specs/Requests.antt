@@ -5,7 +5,7 @@ use Rattle.std.specs.Str.{bytes_eq}
 use Rattle.iv_text.specs.Bytes.{number_sign}
 use Rattle.iv_text.specs.Fields.{columns}
 use Rattle.iv_text.specs.Genome.{Sequences, most_length}
-use Rattle.iv_text.specs.GenomeFile.{begins_with}
+use Rattle.iv_text.specs.Lines.{begins_with}
 use Rattle.iv_text.specs.Number.{number}
 use Rattle.iv_text.specs.Read.{column}
 use Rattle.iv_text.specs.declared.fault.Fault.{Fault}

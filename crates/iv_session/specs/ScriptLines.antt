@@ -1,6 +1,5 @@
 -- What a line of a script may do.
 use Rattle.std.specs.Prelude.{◌≡◌, ◌<◌, ◌⊎◌, ℕ, true, List, [], None, Some, Result, Ok, Err, IsSome}
-use Rattle.iv_text.specs.Fault.{code_of}
 use Rattle.iv_text.specs.Fields.{words}
 use Rattle.iv_text.specs.declared.fault.Fault.{Fault}
 use Rattle.iv_workspace.specs.OpenViews.{Shown, stale_count}
@@ -61,7 +60,7 @@ Leaves other old new = new ≡ old
 abbrev pub Ends : Result Request Fault → State → State → Written → Type 0
 Ends asks old new written =
     ((text : List ℕ) × DoesAsked asks old new text × (written ≡ printed text))
-    ⊎ ((f : Fault) × RefusesAsked asks old f × Leaves asks old new × (written ≡ refused_by (code_of f)))
+    ⊎ ((f : Fault) × RefusesAsked asks old f × Leaves asks old new × (written ≡ refused_by f))
 
 -- what a line may do: from one state to another, with what it writes
 abbrev pub RunsLine : State → List ℕ → State → Written → Type 0

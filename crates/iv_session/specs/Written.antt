@@ -2,6 +2,7 @@
 use Rattle.std.specs.Prelude.{ℕ, ◌+◌, ◌++◌, List, [], ◌∷◌, Option, None, Some, codes, decimal}
 use Rattle.std.specs.List.{flat_map}
 use Rattle.iv_text.specs.Fault.{fault_text}
+use Rattle.iv_text.specs.declared.fault.Fault.{Fault}
 
 -- what a line writes: a text to the output, and if it is refused the reason to the messages
 pub record Written : Type 0 where
@@ -12,9 +13,9 @@ pub record Written : Type 0 where
 abbrev pub printed : List ℕ → Written
 printed text = record { output = text; refusal = None }
 
--- a line that is refused for the fault with this number
-abbrev pub refused_by : ℕ → Written
-refused_by code = record { output = []; refusal = Some (fault_text code) }
+-- a line that is refused for this fault
+abbrev pub refused_by : Fault → Written
+refused_by f = record { output = []; refusal = Some (fault_text f) }
 
 -- the message on line number n
 abbrev pub message : ℕ → List ℕ → List ℕ

@@ -8,9 +8,12 @@ use Rattle.std.proofs.lemmas.Option.{none-some}
 use Rattle.iv_text.specs.Fields.{columns}
 use Rattle.iv_text.specs.Lines.{lines}
 use Rattle.iv_text.specs.Genome.{Sequences}
-use Rattle.iv_text.specs.Read.{has_fault, faults, row, or_fault}
+use Rattle.iv_text.specs.Read.{has_fault, faults, row}
+use Rattle.iv_text.specs.Chains.{unless_fault}
 use Rattle.iv_text.specs.RecordValue.{RecordValue}
-use Rattle.iv_text.specs.BedFile.{is_unread, is_width, with_row, Bed, Draft, drafted, width_at, after_record, after_records, finished, bed_of}
+use Rattle.iv_text.specs.BedFile.{is_unread, is_width, Bed, Draft, after_record, bed_of}
+use Rattle.iv_text.specs.BedReading.{after_records, finished}
+use Rattle.iv_text.specs.Inside.BedFile.{width_at, with_row}
 use Rattle.iv_text.specs.FileMeaning.{HaveNoCause, IsFirstFault, record_lines, first_width, records_of, bed_from, width_after, has_row_cause, row_causes, record_cause}
 use Rattle.iv_text.specs.declared.fault.Fault.{Fault}
 use Rattle.iv_text.specs.declared.fault.LoadCause.{LoadCause}
@@ -82,12 +85,12 @@ outcome more None = Ok more
 outcome more (Some c) = Err c
 
 row-by : (limit w : ℕ) (rows : List RecordValue) (r : RecordValue) (fits : Bool) (f : Option Fault)
-    → cond fits (drafted w (with_row limit rows (or_fault f r))) (Err cause.Columns) ≡ outcome (record { width = Some w; rows = rows ++ r ∷ [] }) (cause_by fits f (nat_le limit (length rows)))
+    → cond fits (with_row limit w rows (unless_fault f (Ok r))) (Err cause.Columns) ≡ outcome (record { width = Some w; rows = rows ++ r ∷ [] }) (cause_by fits f (nat_le limit (length rows)))
 row-by limit w rows r false f = refl
 row-by limit w rows r true (Some f) = refl
 row-by limit w rows r true None = by (nat_le limit (length rows))
   where
-    by : (full : Bool) → drafted w (cond full (Err cause.TooMany) (Ok (rows ++ r ∷ []))) ≡ outcome (record { width = Some w; rows = rows ++ r ∷ [] }) (cond full (Some cause.TooMany) None)
+    by : (full : Bool) → cond full (Err cause.TooMany) (Ok (record { width = Some w; rows = rows ++ r ∷ [] })) ≡ outcome (record { width = Some w; rows = rows ++ r ∷ [] }) (cond full (Some cause.TooMany) None)
     by true = refl
     by false = refl
 

@@ -8,10 +8,11 @@ use Rattle.std.proofs.lemmas.Bool.Decides.{nat_tests}
 use Rattle.std.proofs.Math.Nat.{mod-add-mod, mod-eq_of_lt}
 use Rattle.std.proofs.lemmas.List.{length-map, map-append, drop_all, take_more, drop-drop}
 use Rattle.std.proofs.lemmas.List.Elements.{All-nil, All-cons, All-append, All-head, All-tail}
-use Rattle.iv_text.specs.BedFile.{Bed, Draft, drafted, width_at, with_row, is_unread, is_width, after_record, after_records, finished}
+use Rattle.iv_text.specs.BedFile.{Bed, Draft, is_unread, is_width, after_record}
+use Rattle.iv_text.specs.Inside.BedFile.{width_at, with_row}
 use Rattle.iv_text.specs.Fields.{columns}
 use Rattle.iv_text.specs.Genome.{Sequences}
-use Rattle.iv_text.specs.Lines.{begins_with_feed, lines}
+use Rattle.iv_text.specs.Lines.{begins_with, lines}
 use Rattle.iv_text.specs.Read.{read, Fits}
 use Rattle.iv_text.specs.RecordValue.{RecordValue}
 use Rattle.iv_text.specs.declared.fault.Fault.{Fault}
@@ -20,7 +21,7 @@ use Rattle.iv_text.specs.declared.fault.LoadCause.TheVariants as cause
 use Rattle.iv_text.specs.declared.fault.LoadFault.{LoadFault}
 use Rattle.iv_text.specs.FastLine.{IsFastLine}
 use Rattle.iv_text.specs.declared.record_reader.FastLine.{FastLine}
-use Rattle.iv_text.specs.BedReading.{LinesRead, known, projected_draft, after, IsReadAt, IsProjected, AreSound, Held, shown, byte_after, BeginsAfter, Shows, TakesLines, RefusesLines, Reading, begun, coming, projected_or_fault, projected_bed_of}
+use Rattle.iv_text.specs.BedReading.{LinesRead, known, projected_draft, after, IsReadAt, IsProjected, AreSound, Held, shown, byte_after, BeginsAfter, Shows, TakesLines, RefusesLines, Reading, begun, coming, projected_or_fault, projected_bed_of, after_records, finished}
 use Rattle.iv_text.specs.Inside.BedReading.{Takes, Refuses, TakesLine, RefusesLine, EndsAtFeed, IsEnded}
 use Rattle.iv_text.proofs.BedLemmas.{row-unread, row-columns, row-taken}
 
@@ -36,7 +37,7 @@ has_line-step false false b ls some = (b ∷ some.0, some.1, ap (onto_first b) s
 
 has_line : (xs : List ℕ) → HasLine (lines (xs ++ 10 ∷ []))
 has_line [] = ([], [], refl)
-has_line (x ∷ xs) = has_line-step (x == 10) ((x == 13) && begins_with_feed (xs ++ 10 ∷ [])) x (lines (xs ++ 10 ∷ [])) (has_line xs)
+has_line (x ∷ xs) = has_line-step (x == 10) ((x == 13) && begins_with 10 (xs ++ 10 ∷ [])) x (lines (xs ++ 10 ∷ [])) (has_line xs)
 
 cut-step : (t u : Bool) (b : ℕ) (ls more : List (List ℕ)) → HasLine ls
     → cond t ([] ∷ (ls ++ more)) (cond u (ls ++ more) (onto_first b (ls ++ more))) ≡ cond t ([] ∷ ls) (cond u ls (onto_first b ls)) ++ more
@@ -44,7 +45,7 @@ cut-step true u b ls more some = refl
 cut-step false true b ls more some = refl
 cut-step false false b ls more some = ap (λ (l : List (List ℕ)). onto_first b (l ++ more)) some.2 ∙ sym (ap (λ (l : List (List ℕ)). onto_first b l ++ more) some.2)
 
-same-first : (xs more : List ℕ) → begins_with_feed ((xs ++ 10 ∷ []) ++ more) ≡ begins_with_feed (xs ++ 10 ∷ [])
+same-first : (xs more : List ℕ) → begins_with 10 ((xs ++ 10 ∷ []) ++ more) ≡ begins_with 10 (xs ++ 10 ∷ [])
 same-first [] more = refl
 same-first (x ∷ xs) more = refl
 
@@ -53,7 +54,7 @@ lines-cut : (xs more : List ℕ) → lines ((xs ++ 10 ∷ []) ++ more) ≡ lines
 lines-cut [] more = refl
 lines-cut (x ∷ xs) more =
     (λ i. cond (x == 10) ([] ∷ lines-cut xs more i) (cond ((x == 13) && same-first xs more i) (lines-cut xs more i) (onto_first x (lines-cut xs more i))))
-    ∙ cut-step (x == 10) ((x == 13) && begins_with_feed (xs ++ 10 ∷ [])) x (lines (xs ++ 10 ∷ [])) (lines more) (has_line xs)
+    ∙ cut-step (x == 10) ((x == 13) && begins_with 10 (xs ++ 10 ∷ [])) x (lines (xs ++ 10 ∷ [])) (lines more) (has_line xs)
 
 pub lines-fed : (bytes more : List ℕ) → EndsAtFeed bytes → lines (bytes ++ more) ≡ lines bytes ++ lines more
 lines-fed bytes more ends =
@@ -86,13 +87,13 @@ abbrev pub turned : Sequences → ℕ → ℕ → List (List ℕ) → Result Dra
 turned g limit n rest (Ok more) = after_records g limit (n + 1) more rest
 turned g limit n rest (Err c) = Err (record { line = n; cause = c })
 
-pub full-row : (limit : ℕ) (rows : List RecordValue) (r : RecordValue) → limit ≤ length rows → with_row limit rows (Ok r) ≡ Err cause.TooMany
-full-row limit rows r full = cond-true _ _ _ (le-leb limit (length rows) full)
+pub full-row : (limit w : ℕ) (rows : List RecordValue) (r : RecordValue) → limit ≤ length rows → with_row limit w rows (Ok r) ≡ Err cause.TooMany
+full-row limit w rows r full = cond-true _ _ _ (le-leb limit (length rows) full)
 
-pub free-row : (limit : ℕ) (rows : List RecordValue) (r : RecordValue) → length rows < limit → with_row limit rows (Ok r) ≡ Ok (rows ++ r ∷ [])
-free-row limit rows r free = by (nat_le limit (length rows)) refl
+pub free-row : (limit w : ℕ) (rows : List RecordValue) (r : RecordValue) → length rows < limit → with_row limit w rows (Ok r) ≡ Ok (record { width = Some w; rows = rows ++ r ∷ [] })
+free-row limit w rows r free = by (nat_le limit (length rows)) refl
   where
-    by : (t : Bool) → nat_le limit (length rows) ≡ t → cond t (Err cause.TooMany) (Ok (rows ++ r ∷ [])) ≡ Ok (rows ++ r ∷ [])
+    by : (t : Bool) → nat_le limit (length rows) ≡ t → cond {A = Result Draft LoadCause} t (Err cause.TooMany) (Ok (record { width = Some w; rows = rows ++ r ∷ [] })) ≡ Ok (record { width = Some w; rows = rows ++ r ∷ [] })
     by true e = absurd (grind (arith, nat_tests, e))
     by false e = refl
 
@@ -110,14 +111,14 @@ module _ (projected : RecordValue → RecordValue) where
   kept-more xs ys r same = map-append projected xs (r ∷ []) ∙ ap (λ (l : List RecordValue). l ++ projected r ∷ []) same ∙ sym (map-append projected ys (r ∷ []))
 
 module _ (projected : RecordValue → RecordValue) (g : Sequences) (limit : ℕ) where
-  alike-drafted : (w : ℕ) (xs ys : List RecordValue) (r : Result RecordValue Fault) → map projected xs ≡ map projected ys → AreAlike projected (drafted w (with_row limit xs r)) (drafted w (with_row limit ys r))
-  alike-drafted w xs ys (Err f) same = refl
-  alike-drafted w xs ys (Ok r) same = by (nat_le limit (length xs)) (nat_le limit (length ys)) (ap (nat_le limit) long)
+  alike-with_row : (w : ℕ) (xs ys : List RecordValue) (r : Result RecordValue Fault) → map projected xs ≡ map projected ys → AreAlike projected (with_row limit w xs r) (with_row limit w ys r)
+  alike-with_row w xs ys (Err f) same = refl
+  alike-with_row w xs ys (Ok r) same = by (nat_le limit (length xs)) (nat_le limit (length ys)) (ap (nat_le limit) long)
     where
       long : length xs ≡ length ys
       long = omega (arith, length-map xs projected, length-map ys projected, ap (λ (l : List RecordValue). length l) same)
 
-      by : (s t : Bool) → s ≡ t → AreAlike projected (drafted w (cond s (Err cause.TooMany) (Ok (xs ++ r ∷ [])))) (drafted w (cond t (Err cause.TooMany) (Ok (ys ++ r ∷ []))))
+      by : (s t : Bool) → s ≡ t → AreAlike projected (cond s (Err cause.TooMany) (Ok (record { width = Some w; rows = xs ++ r ∷ [] }))) (cond t (Err cause.TooMany) (Ok (record { width = Some w; rows = ys ++ r ∷ [] })))
       by true true e = refl
       by false false e = (refl, kept-more projected xs ys r same)
       by true false e = cc
@@ -134,8 +135,8 @@ module _ (projected : RecordValue → RecordValue) (g : Sequences) (limit : ℕ)
   unfolding after_record
   alike-row w xs ys line same =
       let n : ℕ = unwrap_or w (length (columns line)) in
-      alike-cases w xs ys (is_unread line) (is_width n) (drafted n (with_row limit xs (read g n line))) (drafted n (with_row limit ys (read g n line))) same
-      (alike-drafted n xs ys (read g n line) same)
+      alike-cases w xs ys (is_unread line) (is_width n) (with_row limit n xs (read g n line)) (with_row limit n ys (read g n line)) same
+      (alike-with_row n xs ys (read g n line) same)
 
   alike-turned : (n : ℕ) (ls : List (List ℕ))
       → ((w : Option ℕ) (xs ys : List RecordValue) → map projected xs ≡ map projected ys
@@ -182,13 +183,13 @@ module _ (projected : RecordValue → RecordValue) (g : Sequences) (limit : ℕ)
       → w ≡ unwrap_or old.width (length (columns line)) → 3 ≤ w → w ≤ 6 → read g w line ≡ Err f → Refuses projected g limit old all (cause.Record f)
   record-refused old all left line w f is unread wide low high says =
       line-refused old all left line (cause.Record f) is
-      (row-taken g limit (known old) line w (Err (cause.Record f)) unread wide low high (ap (with_row limit old.rows) says))
+      (row-taken g limit (known old) line w (Err (cause.Record f)) unread wide low high (ap (with_row limit w old.rows) says))
 
   pub full-refused : (old : LinesRead) (all left : List (List ℕ)) (line : List ℕ) (w : ℕ) (r : RecordValue) → all ≡ line ∷ left → is_unread line ≡ false
       → w ≡ unwrap_or old.width (length (columns line)) → 3 ≤ w → w ≤ 6 → read g w line ≡ Ok r → limit ≤ length old.rows → Refuses projected g limit old all cause.TooMany
   full-refused old all left line w r is unread wide low high says full =
       line-refused old all left line cause.TooMany is
-      (row-taken g limit (known old) line w (Err cause.TooMany) unread wide low high (ap (with_row limit old.rows) says ∙ full-row limit old.rows r full))
+      (row-taken g limit (known old) line w (Err cause.TooMany) unread wide low high (ap (with_row limit w old.rows) says ∙ full-row limit w old.rows r full))
 
   -- what is held of the records before, at the width that is found
   rows-before : (old : LinesRead) (w other : ℕ) → AreSound projected g limit old → w ≡ unwrap_or old.width other → All (IsProjected projected g w) old.rows
@@ -219,11 +220,12 @@ module _ (projected : RecordValue → RecordValue) (g : Sequences) (limit : ℕ)
       → all ≡ line ∷ left → is_unread line ≡ false → w ≡ unwrap_or old.width (length (columns line)) → 3 ≤ w → w ≤ 6
       → read g w line ≡ Ok r → k ≡ projected r → length old.rows < limit → new.rows ≡ old.rows ++ k ∷ [] → new.width ≡ Some w → Takes projected g limit old new all left
   record-taken again old new all left line w r k is unread wide low high says kept_is free grown width =
-      let gives : with_row limit old.rows (read g w line) ≡ Ok (old.rows ++ r ∷ []) = ap (with_row limit old.rows) says ∙ free-row limit old.rows r free in
+      let next : Draft = record { width = Some w; rows = old.rows ++ r ∷ [] } in
+      let gives : with_row limit w old.rows (read g w line) ≡ Ok next = ap (with_row limit w old.rows) says ∙ free-row limit w old.rows r free in
       let same : projected r ≡ projected k = sym (ap projected kept_is ∙ again r) in
       let rows : map projected (old.rows ++ r ∷ []) ≡ map projected new.rows =
       map-append projected old.rows (r ∷ []) ∙ ap (λ (b : RecordValue). map projected old.rows ++ b ∷ []) same ∙ sym (map-append projected old.rows (k ∷ [])) ∙ ap (map projected) (sym grown) in
-      line-taken old new all left line (record { width = Some w; rows = old.rows ++ r ∷ [] }) is (row-taken g limit (known old) line w (Ok (old.rows ++ r ∷ [])) unread wide low high gives) (sym width) rows
+      line-taken old new all left line next is (row-taken g limit (known old) line w (Ok next) unread wide low high gives) (sym width) rows
 
   -- a width that is known is one of 3 to 6
   pub known-wide : (old : LinesRead) (w : ℕ) → AreSound projected g limit old → old.width ≡ Some w → (3 ≤ w) × (w ≤ 6)

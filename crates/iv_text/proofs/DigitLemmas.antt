@@ -12,7 +12,7 @@ use Rattle.std.proofs.lemmas.Simd.{length-chunk, length-zip2, zip2_splat, zip2_s
 use Rattle.std.specs.Char.{is_ascii_digit}
 use Rattle.std.specs.List.{prefix_len}
 use Rattle.std.specs.Str.{all_ascii_digits}
-use Rattle.iv_text.specs.Number.{decimal_from}
+use Rattle.iv_text.specs.Inside.Number.{decimal_from}
 use Rattle.iv_text.specs.Inside.OnePass.{BeginsWithNumber}
 use Rattle.iv_text.proofs.OnePassLemmas.{decimal-more, digit-bound, digits-more, number-is, rest-whole}
 

@@ -14,14 +14,13 @@ use Rattle.std.specs.Option.{is_some, option_map}
 use Rattle.std.specs.Str.{all_ascii_digits, bytes_eq}
 use Rattle.iv_text.proofs.LineLemmas.{strip-is, strip-more, lines-line}
 use Rattle.iv_text.proofs.OnePassLemmas.{and_true, number-digits, column-last, column-more, line-read, record_of}
-use Rattle.iv_text.specs.BedFile.{is_unread, is_headed, track_word, browser_word}
-use Rattle.iv_text.specs.Fields.{is_separator}
-use Rattle.iv_text.specs.Inside.Fields.{HasNoTab}
+use Rattle.iv_text.specs.BedFile.{is_unread, is_headed}
+use Rattle.iv_text.specs.Inside.Fields.{HasNoTab, is_separator}
 use Rattle.iv_text.specs.Genome.{Sequences, length_at}
-use Rattle.iv_text.specs.Lines.{lines, HasNoFeed}
+use Rattle.iv_text.specs.Lines.{lines, HasNoFeed, begins_with}
 use Rattle.iv_text.specs.Inside.OnePass.{ArePassed, BeginsWithInterval, BeginsWithCell, BeginsWithCells, IsCell, ends_cell, laid}
-use Rattle.iv_text.specs.GenomeFile.{begins_with}
-use Rattle.iv_text.specs.Read.{column, bad_text, is_line_byte}
+use Rattle.iv_text.specs.Read.{column, bad_text}
+use Rattle.iv_text.specs.Inside.Read.{is_line_byte}
 use Rattle.iv_text.specs.RecordValue.{strand_of}
 use Rattle.iv_text.specs.FastLine.{IsFastLine}
 use Rattle.iv_text.specs.declared.record_reader.FastLine.{FastLine}
@@ -119,14 +118,14 @@ unread-after [] rest other = cc
 unread-after (b ∷ bs) rest other =
     let name : List ℕ = b ∷ bs in
     let line : List ℕ = name ++ 9 ∷ rest in
-    let first = or_false ((length name == 0) || begins_with 35 name || is_headed track_word name) (is_headed browser_word name) other in
-    let second = or_false ((length name == 0) || begins_with 35 name) (is_headed track_word name) first.0 in
+    let first = or_false ((length name == 0) || begins_with 35 name || is_headed (codes "track") name) (is_headed (codes "browser") name) other in
+    let second = or_false ((length name == 0) || begins_with 35 name) (is_headed (codes "track") name) first.0 in
     let third = or_false (length name == 0) (begins_with 35 name) second.0 in
-    or_neither ((length line == 0) || begins_with 35 line || is_headed track_word line) (is_headed browser_word line)
-    (or_neither ((length line == 0) || begins_with 35 line) (is_headed track_word line)
+    or_neither ((length line == 0) || begins_with 35 line || is_headed (codes "track") line) (is_headed (codes "browser") line)
+    (or_neither ((length line == 0) || begins_with 35 line) (is_headed (codes "track") line)
     (or_neither (length line == 0) (begins_with 35 line) (ne_eqb (length line) 0 (λ e. omega (arith, e))) third.1)
-    (headed-after track_word name rest (no_tab-plain track_word refl) (no_tab-plain (track_word ++ codes " ") refl) second.1))
-    (headed-after browser_word name rest (no_tab-plain browser_word refl) (no_tab-plain (browser_word ++ codes " ") refl) first.1)
+    (headed-after (codes "track") name rest (no_tab-plain (codes "track") refl) (no_tab-plain (codes "track" ++ codes " ") refl) second.1))
+    (headed-after (codes "browser") name rest (no_tab-plain (codes "browser") refl) (no_tab-plain (codes "browser" ++ codes " ") refl) first.1)
 
 -- ---- the line
 

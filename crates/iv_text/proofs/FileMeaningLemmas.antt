@@ -8,7 +8,8 @@ use Rattle.iv_text.specs.Fields.{columns}
 use Rattle.iv_text.specs.Lines.{lines}
 use Rattle.iv_text.specs.Genome.{Sequences}
 use Rattle.iv_text.specs.Read.{column, number_in}
-use Rattle.iv_text.specs.GenomeFile.{is_skipped, has_cause, causes, sequence, after_line, after_lines, genome_of}
+use Rattle.iv_text.specs.GenomeFile.{is_skipped, has_cause, causes, sequence, after_line, genome_of}
+use Rattle.iv_text.specs.Inside.GenomeFile.{after_lines}
 use Rattle.iv_text.specs.FileMeaning.{HaveNoCause, IsFirstFault, sequences_of, sequence_cause}
 use Rattle.iv_text.specs.declared.fault.LoadCause.{LoadCause}
 use Rattle.iv_text.specs.declared.fault.LoadFault.{LoadFault}

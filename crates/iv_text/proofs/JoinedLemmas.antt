@@ -7,10 +7,12 @@ use Rattle.std.proofs.lemmas.Bool.{eqb-true, false≢true}
 use Rattle.std.proofs.lemmas.List.Splits.{join_with_byte-slice_split, length-slice_split}
 use Rattle.iv_bytes.proofs.PutLemmas.{Puts-back, FailsIn-front}
 use Rattle.iv_bytes.specs.Sinks.{SinkState, FailsIn, Puts, Takes}
-use Rattle.iv_text.specs.Fields.{columns, is_separator}
+use Rattle.iv_text.specs.Fields.{columns}
+use Rattle.iv_text.specs.Inside.Fields.{is_separator}
 use Rattle.iv_text.specs.Read.{column}
 use Rattle.iv_text.specs.Genome.{Sequences, sequence_name}
-use Rattle.iv_text.specs.RecordText.{interval_columns, interval_text, strand_text, tabbed}
+use Rattle.iv_text.specs.RecordText.{interval_text, strand_text}
+use Rattle.iv_text.specs.Inside.RecordText.{interval_columns, tabbed}
 use Rattle.iv_text.specs.RecordValue.{RecordValue, strand_of}
 use Rattle.iv_text.specs.declared.record_ref.Strand.TheVariants.{Plus, Minus, Dot}
 

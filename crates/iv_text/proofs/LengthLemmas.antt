@@ -4,8 +4,8 @@ use Rattle.std.specs.Str.{bytes_eq}
 use Rattle.std.proofs.lemmas.List.Quantifiers.{position-Some}
 use Rattle.std.proofs.lemmas.List.{length-map}
 use Rattle.indexmap.specs.Layout.{set_value_at}
-use Rattle.iv_text.specs.Named.{names_of}
-use Rattle.iv_text.specs.Genome.{Sequences, name_at, length_at, rank_of, with_length}
+use Rattle.iv_text.specs.Named.{names_of, name_index}
+use Rattle.iv_text.specs.Genome.{Sequences, name_at, length_at, with_length}
 
 -- a value that is written is the length of its name
 pub with_length-is : (g : Sequences) (rank n : ℕ) → set_value_at g rank n ≡ with_length g rank n
@@ -28,7 +28,7 @@ name_at-with_length (s ∷ g) (suc rank) n zero = refl
 name_at-with_length (s ∷ g) (suc rank) n (suc k) = name_at-with_length g rank n k
 
 -- and the rank of each name
-pub rank_of-with_length : (g : Sequences) (rank n : ℕ) (name : List ℕ) → rank_of (with_length g rank n) name ≡ rank_of g name
+pub rank_of-with_length : (g : Sequences) (rank n : ℕ) (name : List ℕ) → name_index (with_length g rank n) name ≡ name_index g name
 rank_of-with_length g rank n name = ap (position (bytes_eq name)) (names-with_length g rank n)
 
 -- there are as many
@@ -58,7 +58,7 @@ with_length-same (s ∷ g) zero n at = let same : s.1 ≡ n = cc at in ap (λ (m
 with_length-same (s ∷ g) (suc rank) n at = ap (λ (rest : Sequences). s ∷ rest) (with_length-same g rank n at)
 
 -- a name that has a rank is within the genome
-pub rank-within : (g : Sequences) (name : List ℕ) (rank : ℕ) → rank_of g name ≡ Some rank → rank < length g
+pub rank-within : (g : Sequences) (name : List ℕ) (rank : ℕ) → name_index g name ≡ Some rank → rank < length g
 rank-within g name rank at =
     let found = position-Some (bytes_eq name) (names_of g) rank [] at in
     let within : rank < length (names_of g) = found.0 in

@@ -8,9 +8,10 @@ use Rattle.std.proofs.lemmas.List.Elements.{All-nil, All-cons}
 use Rattle.std.proofs.lemmas.List.Splits.{slice_split_none, slice_split_at}
 use Rattle.std.specs.Char.{is_ascii_digit}
 use Rattle.std.specs.Str.{all_ascii_digits}
-use Rattle.iv_text.specs.Fields.{columns, is_separator}
-use Rattle.iv_text.specs.Number.{number, decimal_from}
-use Rattle.iv_text.specs.Inside.Fields.{HasNoTab}
+use Rattle.iv_text.specs.Fields.{columns}
+use Rattle.iv_text.specs.Number.{number}
+use Rattle.iv_text.specs.Inside.Number.{decimal_from}
+use Rattle.iv_text.specs.Inside.Fields.{HasNoTab, is_separator}
 use Rattle.iv_text.specs.Inside.OnePass.{ArePassed, BeginsWithNumber, BeginsWithInterval, IsNamed}
 use Rattle.iv_text.specs.declared.record_ref.Strand.{Strand}
 use Rattle.std.specs.Borrow.{Bor}
@@ -20,8 +21,10 @@ use Rattle.iv_text.proofs.ReadLemmas.{skip, hit}
 use Rattle.iv_text.specs.declared.fault.Fault.{Fault}
 use Rattle.iv_text.specs.declared.fault.Fault.TheVariants as fault
 use Rattle.std.specs.Cmp.Lexicographic.{same_text, pointwise}
-use Rattle.iv_text.specs.Genome.{Sequences, rank_of, length_at}
-use Rattle.iv_text.specs.Read.{read, row, column, or_fault, has_fault, faults, bad_text, number_in, length_of, AreSound}
+use Rattle.iv_text.specs.Genome.{Sequences, length_at}
+use Rattle.iv_text.specs.Named.{name_index}
+use Rattle.iv_text.specs.Read.{read, row, column, has_fault, faults, bad_text, number_in, length_of, AreSound}
+use Rattle.iv_text.specs.Chains.{unless_fault}
 use Rattle.iv_text.specs.Inside.Read.{AreColumns}
 use Rattle.iv_text.specs.RecordValue.{RecordValue, IsRecord, strand_of}
 use Rattle.std.proofs.lemmas.List.{take-append-drop, get_or_past}
@@ -162,13 +165,13 @@ abbrev pub record_of : ℕ → ℕ → ℕ → List ℕ → List ℕ → Option 
 record_of rank from to name score strand w = record { seq = rank; start = from; stop = to; name = name; score = score; strand = strand; width = w }
 
 sound-line : (g : Sequences) (w : ℕ) (line seq start stop name score sixth : List ℕ) (rank from to len : ℕ) (strand : Option Strand)
-    → AreColumns w (columns line) seq start stop name score sixth → rank_of g seq ≡ Some rank → length_at g rank ≡ Some len → number start ≡ Some from → number stop ≡ Some to
+    → AreColumns w (columns line) seq start stop name score sixth → name_index g seq ≡ Some rank → length_at g rank ≡ Some len → number start ≡ Some from → number stop ≡ Some to
     → strand ≡ strand_of sixth → from < to → to ≤ len → AreSound w name score strand
     → read g w line ≡ Ok (record_of rank from to name score strand w)
 sound-line g w line seq start stop name score sixth rank from to len strand cols rank_is length_is start_is stop_is strand_is some within sound =
     let cs = columns line in
     let r : RecordValue = row g w cs in
-    let ranked : rank_of g (column cs 0) ≡ Some rank = ap (rank_of g) cols.seq_is ∙ rank_is in
+    let ranked : name_index g (column cs 0) ≡ Some rank = ap (name_index g) cols.seq_is ∙ rank_is in
     let starts : number (column cs 1) ≡ Some from = ap number cols.start_is ∙ start_is in
     let stops : number (column cs 2) ≡ Some to = ap number cols.stop_is ∙ stop_is in
     let stranded : strand_of (column cs 5) ≡ strand = ap strand_of cols.strand_is ∙ sym strand_is in
@@ -188,7 +191,7 @@ sound-line g w line seq start stop name score sixth rank from to len strand cols
     (guarded 6 w (is_none (strand_of (column cs 5))) (λ h. ap is_none stranded ∙ is_there strand (sound.strand_good h))) in
     let same : r ≡ record_of rank from to name score strand w =
     λ i. record { seq = at_rank i; start = at_start i; stop = at_stop i; name = cols.name_is i; score = cols.score_is i; strand = stranded i; width = w } in
-    ap (λ o. or_fault o r) none ∙ ap Ok same
+    ap (λ o. unless_fault o (Ok r)) none ∙ ap Ok same
 
 -- the columns beyond the width are empty
 pub row-of : (w : ℕ) (cs : List (List ℕ)) (seq start stop name score sixth : List ℕ) (rank from to : ℕ) (strand : Option Strand)
@@ -215,22 +218,22 @@ line-read g w line rest name score sixth others rank from to strand place after 
 
 -- ---- a line that was read names its record's sequence
 
-or_fault-ok : (o : Option Fault) (q r : RecordValue) → or_fault o q ≡ Ok r → q ≡ r
+or_fault-ok : (o : Option Fault) (q r : RecordValue) → unless_fault o (Ok q) ≡ Ok r → q ≡ r
 or_fault-ok None q r h = cc
 or_fault-ok (Some f) q r h = cc
 
-or_fault-hit : (o : Option Fault) (f : Fault) (q r : RecordValue) → o ≡ Some f → or_fault o q ≡ Ok r → ⊥
+or_fault-hit : (o : Option Fault) (f : Fault) (q r : RecordValue) → o ≡ Some f → unless_fault o (Ok q) ≡ Ok r → ⊥
 or_fault-hit None f q r is h = cc
 or_fault-hit (Some e) f q r is h = cc
 
 later_faults : List Fault
 later_faults = fault.StartNumber ∷ fault.StopNumber ∷ fault.Order ∷ fault.PastEnd ∷ fault.Name ∷ fault.Score ∷ fault.Strand ∷ []
 
-pub read-ranked : (g : Sequences) (w : ℕ) (line : List ℕ) (r : RecordValue) → read g w line ≡ Ok r → rank_of g (column (columns line) 0) ≡ Some r.seq
+pub read-ranked : (g : Sequences) (w : ℕ) (line : List ℕ) (r : RecordValue) → read g w line ≡ Ok r → name_index g (column (columns line) 0) ≡ Some r.seq
 unfolding later_faults
-read-ranked g w line r says = by (rank_of g (column (columns line) 0)) refl (has_fault g w (columns line) fault.Columns) refl
+read-ranked g w line r says = by (name_index g (column (columns line) 0)) refl (has_fault g w (columns line) fault.Columns) refl
   where
-    by : (o : Option ℕ) → rank_of g (column (columns line) 0) ≡ o → (b : Bool) → has_fault g w (columns line) fault.Columns ≡ b → rank_of g (column (columns line) 0) ≡ Some r.seq
+    by : (o : Option ℕ) → name_index g (column (columns line) 0) ≡ o → (b : Bool) → has_fault g w (columns line) fault.Columns ≡ b → name_index g (column (columns line) 0) ≡ Some r.seq
     by (Some k) is b many =
         is ∙ ap Some (sym (ap (λ (o : Option ℕ). unwrap_or o 0) is) ∙ ap (λ (q : RecordValue). q.seq) (or_fault-ok (find (has_fault g w (columns line)) faults) (row g w (columns line)) r says))
     by None is true many = absurd (or_fault-hit (find (has_fault g w (columns line)) faults) fault.Columns (row g w (columns line)) r (hit (has_fault g w (columns line)) fault.Columns (fault.UnknownSeq ∷ later_faults) many) says)

@@ -1,12 +1,22 @@
 -- A BED file that is read in pieces: what is held of its records, and what is known of it after some of its bytes.
 use Rattle.std.specs.Prelude.{◌≡◌, ◌≤◌, ℕ, ◌+◌, ◌%◌, ◌^◌, ◌++◌, All, MatchOption, List, [], ◌∷◌, Option, None, Result, Ok, Err, length, map, drop}
-use Rattle.iv_text.specs.BedFile.{Bed, Draft, after_records, bed_of}
+use Rattle.std.specs.Option.{unwrap_or}
+use Rattle.iv_text.specs.BedFile.{Bed, Draft, after_record, bed_of}
+use Rattle.iv_text.specs.Chains.{if_ok, after_all}
 use Rattle.iv_text.specs.Genome.{Sequences}
 use Rattle.iv_text.specs.Lines.{lines}
 use Rattle.iv_text.specs.Read.{read, Fits}
 use Rattle.iv_text.specs.RecordValue.{RecordValue}
 use Rattle.iv_text.specs.declared.fault.LoadFault.{LoadFault}
 use Rattle.iv_text.specs.declared.record_reader.FastLine.{FastLine}
+
+-- what is known of a file after lines of which the first has the number n, or the first fault
+abbrev pub after_records : Sequences → ℕ → ℕ → Draft → List (List ℕ) → Result Draft LoadFault
+after_records g limit n d lines = after_all (λ n. after_record g limit) n d lines
+
+-- the file that is known, or its fault: one without a record has the width that is handed in
+abbrev pub finished : ℕ → Result Draft LoadFault → Result Bed LoadFault
+finished empty known = if_ok known (λ d. Ok (record { width = unwrap_or d.width empty; rows = d.rows }))
 
 -- the record is that of some line of this width, and its interval is that of the line that was read in one pass
 pub record IsReadAt (width : ℕ) (l : FastLine) (r : RecordValue) : Type 0 where

@@ -12,25 +12,19 @@ abbrev pub strand_text : Option Strand → List ℕ
 strand_text None = []
 strand_text (Some s) = strand_byte s ∷ []
 
--- these columns, as many as the width has after the third, each with a TAB in front of it
-abbrev pub tabbed : ℕ → List (List ℕ) → List ℕ
-tabbed width columns = flat_map (λ column. codes "\t" ++ column) (take (width - 3) columns)
-
 -- the columns of a record after the third, each with a TAB in front of it
 abbrev pub rest_text : RecordValue → List ℕ
-rest_text r = tabbed r.width (r.name ∷ r.score ∷ strand_text r.strand ∷ [])
+rest_text r = flat_map (λ column. codes "\t" ++ column) (take (r.width - 3) (r.name ∷ r.score ∷ strand_text r.strand ∷ []))
 
 -- the columns of an interval: the name of its sequence, start and stop, with a TAB between two of them
 abbrev pub interval_text : List ℕ → ℕ → ℕ → List ℕ
 interval_text name start stop = name ++ codes "\t" ++ decimal start ++ codes "\t" ++ decimal stop
 
--- the first three columns of a record on this genome
-abbrev pub interval_columns : Sequences → RecordValue → List ℕ
-interval_columns g r = interval_text (sequence_name g r.seq) r.start r.stop
-
 -- the columns of a record on this genome, with a TAB between two of them
 abbrev pub record_text : Sequences → RecordValue → List ℕ
-record_text g r = interval_columns g r ++ rest_text r
+record_text g r =
+    (sequence_name g r.seq ++ codes "\t" ++ decimal r.start ++ codes "\t" ++ decimal r.stop)
+    ++ flat_map (λ column. codes "\t" ++ column) (take (r.width - 3) (r.name ∷ r.score ∷ strand_text r.strand ∷ []))
 
 -- the record of this interval whose columns after the third are those of a text, as far as the width goes
 abbrev pub joined_record : ℕ → ℕ → ℕ → List ℕ → ℕ → RecordValue

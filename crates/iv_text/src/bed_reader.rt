@@ -1,8 +1,7 @@
 //! A BED file that comes in pieces.
 ghost use Rattle.std.specs.Prelude.{◌≡◌, ◌<◌, ◌≤◌, ◌+◌, ◌^◌, ◌⊎◌, ◌++◌, ℕ, List, [], length, drop, take, map, Ok, Err, All, IfOk, IfErr, OnOk};
-ghost use Rattle.iv_text.specs.BedFile.{finished};
 ghost use Rattle.iv_text.specs.declared.fault.LoadCause.TheVariants as cause;
-ghost use Rattle.iv_text.specs.BedReading.{AreSound, IsProjected, begun, coming, size_of};
+ghost use Rattle.iv_text.specs.BedReading.{AreSound, IsProjected, begun, coming, size_of, finished};
 ghost use Rattle.iv_text.specs.Inside.BedReading.{IsEnded, EndsAtFeed};
 ghost use Rattle.iv_text.specs.Widths.{IsWidth};
 

@@ -5,7 +5,7 @@ ghost use Rattle.iv_text.specs.Inside.OnePass.{ends_cell, BeginsWithCell, Begins
 ghost use Rattle.iv_text.specs.Read.{bad_text, read, column, Fits};
 ghost use Rattle.iv_text.specs.RecordValue.{strand_of};
 ghost use Rattle.iv_text.specs.Fields.{columns as columns_of};
-ghost use Rattle.iv_text.specs.Genome.{rank_of};
+ghost use Rattle.iv_text.specs.Named.{name_index};
 ghost use Rattle.iv_text.specs.FastLine.{IsFastLine};
 ghost use Rattle.iv_text.specs.Widths.{IsWidth};
 
@@ -200,7 +200,7 @@ fn named_by<'t, A: Allocator + Copy>(
     line: &'t [u8],
     rank: u32,
 ) -> Option<Named<'t>>
-    requires { rank_of genome.now (column (columns_of line.now) 0) ≡ Some rank }
+    requires { name_index genome.now (column (columns_of line.now) 0) ≡ Some rank }
     ensures { IfSome result (λ b. IsNamed genome.now b.name.now b.rank b.length) }
 {
     let (name, _) = cut_first_column(line);

@@ -1,7 +1,8 @@
 //! Records as they are printed.
 ghost use Rattle.std.specs.Prelude.{◌≡◌, ◌+◌, ◌≤◌, ◌++◌, length, codes, decimal};
 ghost use Rattle.iv_bytes.specs.Sinks.{Puts};
-ghost use Rattle.iv_text.specs.RecordText.{interval_columns, strand_text, rest_text, record_text};
+ghost use Rattle.iv_text.specs.RecordText.{strand_text, rest_text, record_text};
+ghost use Rattle.iv_text.specs.Inside.RecordText.{interval_columns};
 
 use crate::genome::Genome;
 use crate::record_ref::{RecordRef, Strand};

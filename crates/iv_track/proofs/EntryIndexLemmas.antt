@@ -11,7 +11,8 @@ use Rattle.std.specs.Ordering.{is_le, ordering_then, nat_cmp}
 use Rattle.std.specs.Option.{option_cmp}
 use Rattle.std.specs.Cmp.Lexicographic.{slice_cmp}
 use Rattle.iv_text.specs.declared.record_ref.Strand.{Strand}
-use Rattle.iv_text.specs.RecordValue.{RecordValue, IsPlaced, record_cmp, strand_cmp}
+use Rattle.iv_text.specs.RecordValue.{RecordValue, IsPlaced, record_cmp}
+use Rattle.iv_text.specs.Inside.RecordValue.{strand_cmp}
 use Rattle.iv_track.specs.Tracked.{is_from}
 use Rattle.iv_track.specs.Inside.Tracked.{BeginsFrom}
 use Rattle.iv_track.proofs.NumberOrder.{le-cmp}

@@ -1,18 +1,19 @@
 -- A track after an edit, and why an edit is refused.
 use Rattle.std.specs.Prelude.{◌≡◌, ◌<◌, ◌≤◌, length}
-use Rattle.iv_text.specs.Ordered.{added, copies}
-use Rattle.iv_text.specs.RecordValue.{RecordValue}
-use Rattle.iv_track.specs.Tracked.{Tracked, removed}
+use Rattle.iv_text.specs.Ordered.{added_by, copies}
+use Rattle.iv_text.specs.RecordValue.{RecordValue, record_cmp}
+use Rattle.iv_track.specs.Copies.{removed_by}
+use Rattle.iv_track.specs.Tracked.{Tracked}
 use Rattle.iv_text.specs.declared.fault.Fault.{Fault}
 use Rattle.iv_text.specs.declared.fault.Fault.TheVariants as fault
 
 -- the track with one more record, in its place in the order
 abbrev pub with_record : RecordValue → Tracked → Tracked
-with_record r t = record t { rows = added t.rows r }
+with_record r t = record t { rows = added_by record_cmp t.rows r }
 
 -- the track with one copy of a record fewer
 abbrev pub without_record : RecordValue → Tracked → Tracked
-without_record r t = record t { rows = removed t.rows r }
+without_record r t = record t { rows = removed_by record_cmp t.rows r }
 
 -- the track with one copy of r fewer, and one more of q
 abbrev pub with_replaced : RecordValue → RecordValue → Tracked → Tracked

@@ -7,9 +7,9 @@ use Rattle.iv_track.specs.declared.region.Region.{Region}
 abbrev pub overlaps : ℕ → ℕ → ℕ → RecordValue → Bool
 overlaps seq start stop q = (q.seq == seq) && (nat_lt q.start stop && nat_lt start q.stop)
 
--- those records, in their order, copies repeated
+-- the records on the sequence of this rank that share a position with the interval from start to stop, in their order, copies repeated
 abbrev pub hits : List RecordValue → ℕ → ℕ → ℕ → List RecordValue
-hits rows seq start stop = filter (overlaps seq start stop) rows
+hits rows seq start stop = filter (λ q. (q.seq == seq) && (nat_lt q.start stop && nat_lt start q.stop)) rows
 
 -- the greatest number of positions that a record has, 0 if there is no record
 abbrev pub longest : List RecordValue → ℕ

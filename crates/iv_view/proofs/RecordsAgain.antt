@@ -14,16 +14,20 @@ use Rattle.std.proofs.lemmas.List.Quantifiers.{position-Some}
 use Rattle.std.proofs.lemmas.List.Splits.{join_with_byte-slice_split}
 use Rattle.std.proofs.lemmas.Option.{slice_get-map, slice_get-get_or}
 use Rattle.std.proofs.lemmas.Slice.Eq.{bytes_eq-Decides}
-use Rattle.iv_text.specs.BedFile.{is_unread, is_headed, is_width, track_word, browser_word, with_row, Bed, Draft, drafted, width_at, after_record, after_records, finished, bed_of}
-use Rattle.iv_text.specs.Fields.{columns, fields, is_separator}
-use Rattle.iv_text.specs.Genome.{Sequences, rank_of, length_at, sequence_name}
-use Rattle.iv_text.specs.GenomeFile.{begins_with}
-use Rattle.iv_text.specs.Inside.Fields.{HasNoTab}
-use Rattle.iv_text.specs.Lines.{lines, begins_with_feed, HasNoFeed}
-use Rattle.iv_text.specs.Named.{names_of}
-use Rattle.iv_text.specs.Number.{number, decimal_from}
+use Rattle.iv_text.specs.BedFile.{is_unread, is_headed, is_width, Bed, Draft, after_record, bed_of}
+use Rattle.iv_text.specs.BedReading.{after_records, finished}
+use Rattle.iv_text.specs.Inside.BedFile.{width_at, with_row}
+use Rattle.iv_text.specs.Fields.{columns, fields}
+use Rattle.iv_text.specs.Genome.{Sequences, length_at, sequence_name}
+use Rattle.iv_text.specs.Inside.Fields.{HasNoTab, is_separator}
+use Rattle.iv_text.specs.Lines.{lines, HasNoFeed, begins_with}
+use Rattle.iv_text.specs.Named.{names_of, name_index}
+use Rattle.iv_text.specs.Number.{number}
+use Rattle.iv_text.specs.Inside.Number.{decimal_from}
 use Rattle.iv_text.specs.Ordered.{ordered}
-use Rattle.iv_text.specs.Read.{read, read_columns, row, column, or_fault, has_fault, faults, bad_text, is_line_byte, number_in, length_of, Fits}
+use Rattle.iv_text.specs.Read.{read, read_columns, row, column, has_fault, faults, bad_text, number_in, length_of, Fits}
+use Rattle.iv_text.specs.Chains.{unless_fault}
+use Rattle.iv_text.specs.Inside.Read.{is_line_byte}
 use Rattle.iv_text.specs.RecordText.{record_text, strand_text}
 use Rattle.iv_text.specs.RecordValue.{RecordValue, strand_of, record_cmp}
 use Rattle.iv_text.specs.declared.fault.Fault.{Fault}
@@ -149,11 +153,11 @@ text-columns name start stop cells p q r plain =
 
 alike : (g : Sequences) (w : ℕ) (cs ds : List (List ℕ)) → length ds ≡ length cs → column ds 0 ≡ column cs 0 → number (column ds 1) ≡ number (column cs 1) → number (column ds 2) ≡ number (column cs 2)
     → column ds 3 ≡ column cs 3 → column ds 4 ≡ column cs 4 → strand_of (column ds 5) ≡ strand_of (column cs 5) → read_columns g w ds ≡ read_columns g w cs
-alike g w cs ds long first start stop name score strand = λ i. or_fault (find (λ f. same f i) faults) (rows i)
+alike g w cs ds long first start stop name score strand = λ i. unless_fault (find (λ f. same f i) faults) (Ok (rows i))
   where
     same : (f : Fault) → has_fault g w ds f ≡ has_fault g w cs f
     same fault.Columns = ap (λ (n : ℕ). not (n == w)) long
-    same fault.UnknownSeq = ap (λ (c : List ℕ). is_none (rank_of g c)) first
+    same fault.UnknownSeq = ap (λ (c : List ℕ). is_none (name_index g c)) first
     same fault.StartNumber = ap is_none start
     same fault.StopNumber = ap is_none stop
     same fault.Order = λ i. nat_le (unwrap_or (stop i) 0) (unwrap_or (start i) 0)
@@ -165,7 +169,7 @@ alike g w cs ds long first start stop name score strand = λ i. or_fault (find (
 
     rows : row g w ds ≡ row g w cs
     rows = λ i. record {
-      seq = unwrap_or (rank_of g (first i)) 0;
+      seq = unwrap_or (name_index g (first i)) 0;
       start = unwrap_or (start i) 0;
       stop = unwrap_or (stop i) 0;
       name = name i;
@@ -199,7 +203,7 @@ some-is None none = cc
 some-is (Some n) none = refl
 
 -- the name at the rank of a name
-name-at : (g : Sequences) (name : List ℕ) (rank : ℕ) → rank_of g name ≡ Some rank → sequence_name g rank ≡ name
+name-at : (g : Sequences) (name : List ℕ) (rank : ℕ) → name_index g name ≡ Some rank → sequence_name g rank ≡ name
 name-at g name rank at =
     let found = position-Some (bytes_eq name) (names_of g) rank [] at in
     ap (λ (o : Option (List ℕ)). unwrap_or o []) (sym (slice_get-map (λ (s : List ℕ × ℕ). s.0) g rank) ∙ slice_get-get_or (names_of g) rank [] found.0)
@@ -232,7 +236,7 @@ row-again g w cs low high plain none =
     let free = passed (has_fault g w cs) faults none in
     let r : RecordValue = row g w cs in
     let many : length cs ≡ w = same_count (length cs) w free.0 in
-    let named : sequence_name g r.seq ≡ column cs 0 = name-at g (column cs 0) r.seq (some-is (rank_of g (column cs 0)) free.1.0) in
+    let named : sequence_name g r.seq ≡ column cs 0 = name-at g (column cs 0) r.seq (some-is (name_index g (column cs 0)) free.1.0) in
     let starts : number (column cs 1) ≡ Some r.start = some-is (number (column cs 1)) free.1.1.0 in
     let stops : number (column cs 2) ≡ Some r.stop = some-is (number (column cs 2)) free.1.1.1.0 in
     let start_low : r.start < 10 ^ 10 = number-small (column cs 1) r.start starts in
@@ -247,9 +251,9 @@ row-again g w cs low high plain none =
     (cell-at (w - 3) cells 0 (λ c. c ≡ column cs 3) (λ _. refl) (λ past. sym (get_or_past cs 3 [] (omega arith))))
     (cell-at (w - 3) cells 1 (λ c. c ≡ column cs 4) (λ _. refl) (λ past. sym (get_or_past cs 4 [] (omega arith))))
     (cell-at (w - 3) cells 2 (λ c. strand_of c ≡ strand_of (column cs 5)) (λ _. strand-back (strand_of (column cs 5))) (λ past. ap strand_of (sym (get_or_past cs 5 [] (omega arith)))))
-    ∙ ap (λ (o : Option Fault). or_fault o r) none
+    ∙ ap (λ (o : Option Fault). unless_fault o (Ok r)) none
 
-or_fault-parts : (o : Option Fault) (q r : RecordValue) → or_fault o q ≡ Ok r → (o ≡ None) × (q ≡ r)
+or_fault-parts : (o : Option Fault) (q r : RecordValue) → unless_fault o (Ok q) ≡ Ok r → (o ≡ None) × (q ≡ r)
 or_fault-parts None q r is = (refl, same is)
   where
     same : ◌≡◌ {A = Result RecordValue Fault} (Ok q) (Ok r) → q ≡ r
@@ -269,17 +273,17 @@ line-again g w line r low high reads =
 
 -- a line means the same record while the names are the same and the record is within its sequence
 pub line-lengths : (g h : Sequences) (w : ℕ) (line : List ℕ) (r : RecordValue) → names_of h ≡ names_of g → Fits h w r → read g w line ≡ Ok r → read h w line ≡ Ok r
-line-lengths g h w line r named fits reads = (λ i. or_fault (find (λ f. same f i) faults) (rows i)) ∙ reads
+line-lengths g h w line r named fits reads = (λ i. unless_fault (find (λ f. same f i) faults) (Ok (rows i))) ∙ reads
   where
     parts : (find (has_fault g w (columns line)) faults ≡ None) × (row g w (columns line) ≡ r)
     parts = or_fault-parts (find (has_fault g w (columns line)) faults) (row g w (columns line)) r reads
 
-    ranks : rank_of h (column (columns line) 0) ≡ rank_of g (column (columns line) 0)
+    ranks : name_index h (column (columns line) 0) ≡ name_index g (column (columns line) 0)
     ranks = ap (position (bytes_eq (column (columns line) 0))) named
 
     within : number_in (column (columns line) 2) ≤ length_of h (column (columns line) 0)
     within =
-        let seq_is : unwrap_or (rank_of h (column (columns line) 0)) 0 ≡ r.seq = ap (λ (o : Option ℕ). unwrap_or o 0) ranks ∙ ap (λ (q : RecordValue). q.seq) parts.1 in
+        let seq_is : unwrap_or (name_index h (column (columns line) 0)) 0 ≡ r.seq = ap (λ (o : Option ℕ). unwrap_or o 0) ranks ∙ ap (λ (q : RecordValue). q.seq) parts.1 in
         let stop_is : number_in (column (columns line) 2) ≡ r.stop = ap (λ (q : RecordValue). q.stop) parts.1 in
         let most : length_of h (column (columns line) 0) ≡ unwrap_or (length_at h r.seq) 0 = ap (λ k. unwrap_or (length_at h k) 0) seq_is in
         omega (arith, fits.is_placed.within.1)
@@ -419,8 +423,8 @@ module _ (g : Sequences) (limit w : ℕ) (low : 3 ≤ w) (high : w ≤ 6) where
   row-taken_again : (d : Draft) (r : RecordValue) → IsBedRow g w r → w ≡ width_at d (record_text g r) → length d.rows < limit
       → after_record g limit d (record_text g r) ≡ Ok (record { width = Some w; rows = d.rows ++ r ∷ [] })
   row-taken_again d r is wide room =
-      row-taken g limit d (record_text g r) w (Ok (d.rows ++ r ∷ [])) is.unread wide low high
-      (ap (with_row limit d.rows) (line-again g w is.of_line.0 r low high is.of_line.1) ∙ cond-false _ _ _ (lt-leb limit (length d.rows) room))
+      row-taken g limit d (record_text g r) w (Ok (record { width = Some w; rows = d.rows ++ r ∷ [] })) is.unread wide low high
+      (ap (with_row limit w d.rows) (line-again g w is.of_line.0 r low high is.of_line.1) ∙ cond-false _ _ _ (lt-leb limit (length d.rows) room))
 
   rows-taken_again : (n : ℕ) (done rows : List RecordValue) → All (IsBedRow g w) rows → length done + length rows ≤ limit
       → after_records g limit n (record { width = Some w; rows = done }) (map (record_text g) rows) ≡ Ok (record { width = Some w; rows = done ++ rows })
@@ -453,7 +457,7 @@ onto-feed b (l ∷ ls) other plain = All-cons HasNoFeed (b ∷ l) ls (All-cons (
 -- no line holds a LF
 lines-feed : (text : List ℕ) → All HasNoFeed (lines text)
 lines-feed [] = All-nil HasNoFeed
-lines-feed (b ∷ bs) = by (b == 10) refl ((b == 13) && begins_with_feed bs) (lines-feed bs)
+lines-feed (b ∷ bs) = by (b == 10) refl ((b == 13) && begins_with 10 bs) (lines-feed bs)
   where
     by : (t : Bool) → (b == 10) ≡ t → (u : Bool) → All HasNoFeed (lines bs) → All HasNoFeed (cond t ([] ∷ lines bs) (cond u (lines bs) (onto_first b (lines bs))))
     by true is u rest = All-cons HasNoFeed [] (lines bs) (All-nil (λ c. c ≢ 10)) rest
@@ -466,7 +470,7 @@ joined (c ∷ []) many = absurd (omega arith)
 joined (c ∷ d ∷ cs) many = (join_with_byte 9 (d ∷ cs), refl)
 
 -- a header ends before the first TAB
-headed-same : (name xs ys : List ℕ) → (is_headed track_word (name ++ 9 ∷ xs) ≡ is_headed track_word (name ++ 9 ∷ ys)) × (is_headed browser_word (name ++ 9 ∷ xs) ≡ is_headed browser_word (name ++ 9 ∷ ys))
+headed-same : (name xs ys : List ℕ) → (is_headed (codes "track") (name ++ 9 ∷ xs) ≡ is_headed (codes "track") (name ++ 9 ∷ ys)) × (is_headed (codes "browser") (name ++ 9 ∷ xs) ≡ is_headed (codes "browser") (name ++ 9 ∷ ys))
 headed-same [] xs ys = (refl, refl)
 headed-same (a ∷ []) xs ys = (refl, refl)
 headed-same (a ∷ b ∷ []) xs ys = (refl, refl)
@@ -533,17 +537,17 @@ module _ (g : Sequences) (limit : ℕ) where
       wide : is_width (width_at d line) ≡ true → (3 ≤ width_at d line) × (width_at d line ≤ 6)
       wide fits = let both = and_parts (nat_le 3 (width_at d line)) (nat_le (width_at d line) 6) fits in (leb-true 3 (width_at d line) both.0, leb-true (width_at d line) 6 both.1)
 
-      taken : (x : Result (List RecordValue) LoadCause) → is_unread line ≡ false → is_width (width_at d line) ≡ true → with_row limit d.rows (read g (width_at d line) line) ≡ x → after_record g limit d line ≡ drafted (width_at d line) x
+      taken : (x : Result Draft LoadCause) → is_unread line ≡ false → is_width (width_at d line) ≡ true → with_row limit (width_at d line) d.rows (read g (width_at d line) line) ≡ x → after_record g limit d line ≡ x
       taken x unread fits gives = row-taken g limit d line (width_at d line) x unread refl (wide fits).0 (wide fits).1 gives
 
       by : (t : Bool) → is_unread line ≡ t → (u : Bool) → is_width (width_at d line) ≡ u → (x : Result RecordValue Fault) → read g (width_at d line) line ≡ x → (v : Bool) → nat_le limit (length d.rows) ≡ v → IsKnown g limit e
       by true unread u fits x reads v full = subst (IsKnown g limit) (same d (row-unread g limit d line unread)) known
       by false unread false fits x reads v full = absurd (ok-err e cause.Columns (sym is ∙ row-columns g limit d line unread fits))
-      by false unread true fits (Err f) reads v full = absurd (ok-err e (cause.Record f) (sym is ∙ taken (Err (cause.Record f)) unread fits (ap (with_row limit d.rows) reads)))
-      by false unread true fits (Ok r) reads true full = absurd (ok-err e cause.TooMany (sym is ∙ taken (Err cause.TooMany) unread fits (ap (with_row limit d.rows) reads ∙ cond-true _ _ _ full)))
+      by false unread true fits (Err f) reads v full = absurd (ok-err e (cause.Record f) (sym is ∙ taken (Err (cause.Record f)) unread fits (ap (with_row limit (width_at d line) d.rows) reads)))
+      by false unread true fits (Ok r) reads true full = absurd (ok-err e cause.TooMany (sym is ∙ taken (Err cause.TooMany) unread fits (ap (with_row limit (width_at d line) d.rows) reads ∙ cond-true _ _ _ full)))
       by false unread true fits (Ok r) reads false full =
           let w : ℕ = width_at d line in
-          subst (IsKnown g limit) (same (record { width = Some w; rows = d.rows ++ r ∷ [] }) (taken (Ok (d.rows ++ r ∷ [])) unread fits (ap (with_row limit d.rows) reads ∙ cond-false _ _ _ full)))
+          subst (IsKnown g limit) (same (record { width = Some w; rows = d.rows ++ r ∷ [] }) (taken (Ok (record { width = Some w; rows = d.rows ++ r ∷ [] })) unread fits (ap (with_row limit (width_at d line) d.rows) reads ∙ cond-false _ _ _ full)))
           (known-row d line w r known refl (wide fits).0 (wide fits).1 (leb-false limit (length d.rows) full) (line-row g w line r (wide fits).0 plain unread reads))
 
   known-lines : (n : ℕ) (d e : Draft) (ls : List (List ℕ)) → All HasNoFeed ls → IsKnown g limit d → after_records g limit n d ls ≡ Ok e → IsKnown g limit e

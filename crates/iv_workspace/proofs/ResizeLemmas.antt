@@ -7,7 +7,8 @@ use Rattle.std.specs.Option.{is_some, option_map, unwrap_or}
 use Rattle.std.specs.Prelude.{All, IfSome, filter, not}
 use Rattle.std.proofs.lemmas.Bool.{and_parts, and_cases, or_parts, or_from, or_left, not-false, cases_Bool, cases_eq, cond-true, cond-false, ne_eqb, ltb-true, ltb-false, lt-ltb, eqb-true, eqb-false, true≢false, false_from_ne_true}
 use Rattle.std.proofs.lemmas.Map.Views.{exact_unsigned_eq}
-use Rattle.iv_text.specs.Genome.{Sequences, length_at, rank_of, with_length}
+use Rattle.iv_text.specs.Genome.{Sequences, length_at, with_length}
+use Rattle.iv_text.specs.Named.{name_index}
 use Rattle.iv_text.specs.Ordered.{AreInOrder}
 use Rattle.iv_text.specs.Read.{IsWithin, Fits}
 use Rattle.iv_text.specs.RecordValue.{RecordValue}
@@ -185,25 +186,25 @@ session-resized inside s g views seq n same is new none =
 -- ---- what a resize answers
 
 module _ (s : State) (name : List ℕ) (n : ℕ) where
-  pub resized-unknown : rank_of s.genome name ≡ None → resized s name n ≡ Err fault.UnknownSeq
+  pub resized-unknown : name_index s.genome name ≡ None → resized s name n ≡ Err fault.UnknownSeq
   resized-unknown none = ap (λ (o : Option ℕ). resized_if s o n) none
 
-  pub resized-shorter : (seq : ℕ) → rank_of s.genome name ≡ Some seq → has_record_past s seq n ≡ true → resized s name n ≡ Err fault.Shorter
+  pub resized-shorter : (seq : ℕ) → name_index s.genome name ≡ Some seq → has_record_past s seq n ≡ true → resized s name n ≡ Err fault.Shorter
   resized-shorter seq at past = ap (λ (o : Option ℕ). resized_if s o n) at ∙ cond-true _ _ _ past
 
-  pub resized-fixed : (seq : ℕ) → rank_of s.genome name ≡ Some seq → has_record_past s seq n ≡ false → has_other_bases s.bases seq n ≡ true
+  pub resized-fixed : (seq : ℕ) → name_index s.genome name ≡ Some seq → has_record_past s seq n ≡ false → has_other_bases s.bases seq n ≡ true
       → resized s name n ≡ Err fault.Fixed
   resized-fixed seq at past other = ap (λ (o : Option ℕ). resized_if s o n) at ∙ cond-false _ _ _ past ∙ cond-true _ _ _ other
 
-  pub resized-done : (seq : ℕ) → rank_of s.genome name ≡ Some seq → has_record_past s seq n ≡ false → has_other_bases s.bases seq n ≡ false
+  pub resized-done : (seq : ℕ) → name_index s.genome name ≡ Some seq → has_record_past s seq n ≡ false → has_other_bases s.bases seq n ≡ false
       → resized s name n ≡ Ok (with_sequence_length s seq n)
   resized-done seq at past other = ap (λ (o : Option ℕ). resized_if s o n) at ∙ cond-false _ _ _ past ∙ cond-false _ _ _ other
 
 -- the session as its fields are written
-pub resized-in : (inside s : State) (g : Sequences) (name : List ℕ) (seq n : ℕ) → inside ≡ s → Some seq ≡ rank_of inside.genome name → has_record_past s seq n ≡ false
+pub resized-in : (inside s : State) (g : Sequences) (name : List ℕ) (seq n : ℕ) → inside ≡ s → Some seq ≡ name_index inside.genome name → has_record_past s seq n ≡ false
     → has_other_bases s.bases seq n ≡ false → g ≡ with_length inside.genome seq n → resized s name n ≡ Ok (record inside { genome = g })
 resized-in inside s g name seq n same at past other is =
-    resized-done s name n seq (ap (λ (t : State). rank_of t.genome name) (sym same) ∙ sym at) past other
+    resized-done s name n seq (ap (λ (t : State). name_index t.genome name) (sym same) ∙ sym at) past other
     ∙ ap (λ (t : State). Ok (with_sequence_length t seq n)) (sym same)
     ∙ ap (λ (h : Sequences). Ok (record inside { genome = h })) (sym is)
 
@@ -225,11 +226,11 @@ lengths-corrected g fasta seq n are within not_other k bases at = elim (cases_eq
 
 -- what follows from an accepted resize
 accepted : (old new : State) (name : List ℕ) (n : ℕ) → resized old name n ≡ Ok new
-    → (seq : ℕ) × (rank_of old.genome name ≡ Some seq) × (has_other_bases old.bases seq n ≡ false) × (with_sequence_length old seq n ≡ new)
-accepted old new name n is = by (rank_of old.genome name) refl is
+    → (seq : ℕ) × (name_index old.genome name ≡ Some seq) × (has_other_bases old.bases seq n ≡ false) × (with_sequence_length old seq n ≡ new)
+accepted old new name n is = by (name_index old.genome name) refl is
   where
-    by : (o : Option ℕ) → rank_of old.genome name ≡ o → resized_if old o n ≡ Ok new
-        → (seq : ℕ) × (rank_of old.genome name ≡ Some seq) × (has_other_bases old.bases seq n ≡ false) × (with_sequence_length old seq n ≡ new)
+    by : (o : Option ℕ) → name_index old.genome name ≡ o → resized_if old o n ≡ Ok new
+        → (seq : ℕ) × (name_index old.genome name ≡ Some seq) × (has_other_bases old.bases seq n ≡ false) × (with_sequence_length old seq n ≡ new)
     by None at is = absurd (cc is)
     by (Some seq) at is = elim (cases_Bool (has_record_past old seq n)) [
       | inl past ↦

@@ -2,7 +2,8 @@
 use Rattle.std.specs.Prelude.{ℕ, List, [], ◌∷◌, Result, Ok, find}
 use Rattle.std.specs.Option.{unwrap_or}
 use Rattle.iv_text.specs.Chains.{unless_fault}
-use Rattle.iv_text.specs.Genome.{Sequences, rank_of}
+use Rattle.iv_text.specs.Genome.{Sequences}
+use Rattle.iv_text.specs.Named.{name_index}
 use Rattle.iv_text.specs.Read.{has_fault, number_in}
 use Rattle.iv_text.specs.declared.fault.Fault.{Fault}
 use Rattle.iv_text.specs.declared.fault.Fault.TheVariants as fault
@@ -16,4 +17,4 @@ region_faults = fault.StartNumber ∷ fault.StopNumber ∷ fault.Order ∷ fault
 abbrev pub region_said : Sequences → List ℕ → List ℕ → List ℕ → Result Region Fault
 region_said g name start stop =
     unless_fault (find (has_fault g 3 (name ∷ start ∷ stop ∷ [])) region_faults)
-    (Ok (record { seq = unwrap_or (rank_of g name) 0; start = number_in start; stop = number_in stop }))
+    (Ok (record { seq = unwrap_or (name_index g name) 0; start = number_in start; stop = number_in stop }))

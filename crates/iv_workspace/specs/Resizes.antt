@@ -2,7 +2,8 @@
 use Rattle.std.specs.Prelude.{ℕ, ◌==◌, ◌&&◌, ◌||◌, not, nat_lt, Bool, false, if◌then◌else◌, List, [], Option, None, Some, Result, Ok, Err, length}
 use Rattle.std.specs.List.{list_any}
 use Rattle.std.specs.Option.{option_map, unwrap_or}
-use Rattle.iv_text.specs.Genome.{rank_of, with_length}
+use Rattle.iv_text.specs.Genome.{with_length}
+use Rattle.iv_text.specs.Named.{name_index}
 use Rattle.iv_text.specs.RecordValue.{RecordValue}
 use Rattle.iv_text.specs.declared.fault.Fault.{Fault}
 use Rattle.iv_text.specs.declared.fault.Fault.TheVariants as fault
@@ -46,4 +47,4 @@ resized_if s (Some seq) n = resized_at s seq n
 
 -- the session with this length of the sequence of a name, or the first fault
 abbrev pub resized : State → List ℕ → ℕ → Result State Fault
-resized s name n = resized_if s (rank_of s.genome name) n
+resized s name n = resized_if s (name_index s.genome name) n

@@ -27,7 +27,7 @@ fn statuses_of_damage(rt: HostRuntime) {
 /// The statuses of words that are refused, of an output that fails, and if there is no memory.
 fn other_statuses() -> [u8; 3] {
     [
-        status(&CliFault::Words(16)),
+        status(&CliFault::Words(Fault::Words)),
         status(&CliFault::Output),
         status(&CliFault::Memory),
     ]
@@ -89,7 +89,7 @@ fn lines_of_endings(rt: HostRuntime) -> Result<(), Fail> {
     for (reason, want) in [
         (ExitReason::Done, b"".as_slice()),
         (ExitReason::Refused, b""),
-        (ExitReason::Words(16), b"bedkeep: bad options\n"),
+        (ExitReason::Words(Fault::Words), b"bedkeep: bad options\n"),
         (
             ExitReason::Damaged(Slot::Sizes, damage),
             b"bedkeep: g: line 7: bad name\n",

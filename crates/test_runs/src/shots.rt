@@ -3,7 +3,7 @@ use crate::piece_fixtures::damage;
 use crate::shot_fixtures::{alone, beside, ends, is_reported, prints, prints_each};
 use iv_args::Slot;
 use iv_run::{CliFault, Inputs};
-use iv_text::{LoadCause, RecordFault};
+use iv_text::{Fault, LoadCause, RecordFault};
 use std::test::Fail;
 
 #[test]
@@ -72,7 +72,14 @@ fn merge_without_values(rt: HostRuntime) -> Result<(), Fail> {
     let inputs = alone(b"chr1\t10\t20\ta\t5\nchr1\t14\t20\td\t2.5\n");
     let rows = b"chr1\t10\t20\t.\t.\t.\n";
     assert!(rt; prints(&rt, b"merge -c 5 -o sum,min,max -g g -i a", &inputs, rows)?);
-    assert!(rt; is_reported(&rt, b"merge -g g -i a -c 6", &inputs, CliFault::Words(17))?);
+    assert!(rt;
+        is_reported(
+            &rt,
+            b"merge -g g -i a -c 6",
+            &inputs,
+            CliFault::Words(Fault::Column)
+        )?
+    );
     Ok(())
 }
 
@@ -148,11 +155,11 @@ fn files_without_a_record(rt: HostRuntime) -> Result<(), Fail> {
 /// The same of columns that it lacks.
 #[test]
 fn columns_without_a_record(rt: HostRuntime) -> Result<(), Fail> {
-    for (words, code) in [
-        (b"merge -g g -i a -s".as_slice(), 18),
-        (b"merge -g g -i a -c 5 -width 4", 17),
+    for (words, fault) in [
+        (b"merge -g g -i a -s".as_slice(), Fault::NoStrand),
+        (b"merge -g g -i a -c 5 -width 4", Fault::Column),
     ] {
-        assert!(rt; is_reported(&rt, words, &alone(b""), CliFault::Words(code))?);
+        assert!(rt; is_reported(&rt, words, &alone(b""), CliFault::Words(fault))?);
     }
     Ok(())
 }
@@ -191,7 +198,7 @@ fn getfasta(rt: HostRuntime) -> Result<(), Fail> {
             b"getfasta -g g -bed a -fi f -s",
             &narrow,
             bases,
-            Some(CliFault::Words(18)),
+            Some(CliFault::Words(Fault::NoStrand)),
             b""
         )?
     );

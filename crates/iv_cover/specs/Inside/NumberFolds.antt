@@ -1,8 +1,9 @@
 -- How two numbers are combined.
 use Rattle.std.specs.Prelude.{ℕ, ℤ, ◌+ℤ◌, unsigned_abs, fold, List, Option, None, Some}
 use Rattle.std.specs.Int.{int_min, int_max}
+use Rattle.std.specs.List.{reduce}
 use Rattle.std.specs.Option.{option_and_then}
-use Rattle.iv_cover.specs.Summaries.{numbers_of, taken_together}
+use Rattle.iv_cover.specs.Summaries.{numbers_of}
 use Rattle.iv_cover.specs.declared.number.NumberFold.{NumberFold}
 use Rattle.iv_cover.specs.declared.number.NumberFold.TheVariants.{Sum, Least, Greatest}
 
@@ -24,7 +25,7 @@ size (Some number) = unsigned_abs number
 
 -- the remaining numbers, combined with what was combined before
 abbrev pub from_taken : (ℤ → ℤ → ℤ) → Option ℤ → List ℤ → Option ℤ
-from_taken both None numbers = taken_together both numbers
+from_taken both None numbers = reduce both numbers
 from_taken both (Some taken) numbers = Some (fold both taken numbers)
 
 -- the numbers among remaining values, combined with what was combined before; none if some value is no number

@@ -1,17 +1,39 @@
 -- What is held of a FASTA file while it is read: the bases of the sequences that the genome names, all in one list.
-use Rattle.std.specs.Prelude.{◌≤◌, ℕ, ◌+◌, ◌==◌, Bool, cond, List, [], ◌∷◌, Option, None, Some, Result, Ok, Err, length, slice_range}
+use Rattle.std.specs.Prelude.{◌≤◌, ℕ, ◌++◌, ◌==◌, Bool, cond, List, [], ◌∷◌, Option, None, Some, Result, Ok, Err, length, slice_range}
 use Rattle.std.specs.List.{list_any}
 use Rattle.std.specs.Coded.{×_prop, le_prop}
 use Rattle.std.specs.Option.{is_some}
-use Rattle.iv_text.specs.Genome.{Sequences, rank_of}
-use Rattle.iv_text.specs.GenomeFile.{begins_with}
-use Rattle.iv_fasta.specs.Fasta.{Stretch, Found, header_sign, is_no_base, header_name, with_header, with_bases}
+use Rattle.iv_text.specs.Chains.{after_all}
+use Rattle.iv_text.specs.Genome.{Sequences}
+use Rattle.iv_text.specs.GenomeFile.{bad_name}
+use Rattle.iv_text.specs.Named.{name_index}
+use Rattle.iv_text.specs.Lines.{begins_with}
+use Rattle.iv_fasta.specs.Fasta.{Stretch, Found, header_sign, header_name, with_bases, after_fasta_line}
+use Rattle.iv_fasta.specs.Inside.Fasta.{is_no_base}
 use Rattle.iv_fasta.specs.Inside.BaseRanges.{bases_at}
 use Rattle.iv_fasta.specs.declared.fasta_draft.BaseRange.{BaseRange}
 use Rattle.iv_fasta.specs.declared.fasta_draft.Header.{Header}
 use Rattle.iv_text.specs.declared.fault.LoadCause.{LoadCause}
 use Rattle.iv_text.specs.declared.fault.LoadCause.TheVariants as cause
 use Rattle.iv_text.specs.declared.fault.LoadFault.{LoadFault}
+
+-- the sequences with one more, or the fault of its header, which has this number
+abbrev pub with_header : ℕ → Found → List ℕ → Result Found LoadCause
+with_header n found name =
+    cond (bad_name name) (Err cause.Name)
+    (cond (is_some (name_index found name)) (Err cause.Repeated)
+    (Ok (found ++ (name, record { line = n; bases = [] }) ∷ [])))
+
+-- the sequences after a line of bases, or its first fault
+abbrev pub with_base_line : Found → List ℕ → Result Found LoadCause
+with_base_line found line =
+    cond (length found == 0) (Err cause.BasesFirst)
+    (cond (list_any is_no_base line) (Err cause.Base)
+    (Ok (with_bases found line)))
+
+-- the sequences after lines of which the first has the number n, or the first fault
+abbrev pub after_fasta_lines : ℕ → Found → List (List ℕ) → Result Found LoadFault
+after_fasta_lines n found lines = after_all after_fasta_line n found lines
 
 -- a text that is read: the bases that are held of it, and what remains to be read
 pub record Halves : Type 0 where
@@ -62,7 +84,7 @@ drafted headers bases named = record { found = cut headers bases; named = named 
 -- what is held after a header, or its fault
 abbrev pub headed : Sequences → List ℕ → Result Found LoadCause → Result Draft LoadCause
 headed g name (Err c) = Err c
-headed g name (Ok found) = Ok (record { found = found; named = is_some (rank_of g name) })
+headed g name (Ok found) = Ok (record { found = found; named = is_some (name_index g name) })
 
 -- what is held after a line of bases, or its first fault: nothing of it if the genome doesn't name the sequence
 abbrev pub with_compacted_line : Draft → List ℕ → Result Draft LoadCause
@@ -79,5 +101,4 @@ after_compacted_line g n d line =
 
 -- what is held after lines of which the first has the number n, or the first fault
 abbrev pub after_compacted_lines : Sequences → ℕ → Draft → List (List ℕ) → Result Draft LoadFault
-after_compacted_lines g n d [] = Ok d
-after_compacted_lines g n d (line ∷ lines) = elim (after_compacted_line g n d line) [ Ok more ↦ after_compacted_lines g (n + 1) more lines | Err c ↦ Err (record { line = n; cause = c }) ]
+after_compacted_lines g n d lines = after_all (after_compacted_line g) n d lines

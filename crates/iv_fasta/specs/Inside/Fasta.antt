@@ -1,9 +1,19 @@
--- A header and the lines of bases after it.
-use Rattle.std.specs.Prelude.{◌≡◌, ℕ, ◌+◌, ◌++◌, true, false, List, [], ◌∷◌, None}
+-- Bytes of a FASTA file, and a header with the lines of bases after it.
+use Rattle.std.specs.Prelude.{◌≡◌, ℕ, ◌+◌, ◌++◌, ◌==◌, ◌||◌, nat_lt, Bool, true, false, List, [], ◌∷◌, None}
+use Rattle.iv_text.specs.Bytes.{tab, space}
 use Rattle.std.specs.List.{list_any, concat}
 use Rattle.iv_text.specs.Named.{name_index}
-use Rattle.iv_text.specs.GenomeFile.{begins_with, bad_name}
-use Rattle.iv_fasta.specs.Fasta.{Found, header_name, header_sign, is_no_base}
+use Rattle.iv_text.specs.GenomeFile.{bad_name}
+use Rattle.iv_text.specs.Lines.{begins_with}
+use Rattle.iv_fasta.specs.Fasta.{Found, header_name, header_sign}
+
+-- a name ends before a space and before a TAB
+abbrev pub is_blank : ℕ → Bool
+is_blank b = b == space || b == tab
+
+-- no base is this byte: it is not one of 33 to 126
+abbrev pub is_no_base : ℕ → Bool
+is_no_base b = nat_lt b 33 || nat_lt 126 b
 
 -- the line is the header of one more sequence: its name is good and new
 pub record IsNewHeader (found : Found) (line : List ℕ) : Type 0 where

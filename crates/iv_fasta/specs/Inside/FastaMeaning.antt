@@ -1,14 +1,31 @@
 -- What a FASTA file means, line by line: its sequences if no line has a cause to refuse it, else the first fault.
-use Rattle.std.specs.Prelude.{◌≡◌, ℕ, ◌+◌, ◌==◌, ◌&&◌, Bool, false, not, cond, List, [], ◌∷◌, Option, None, Some, length, find}
+use Rattle.std.specs.Prelude.{◌≡◌, ℕ, ◌+◌, ◌==◌, ◌&&◌, Bool, false, not, cond, List, [], ◌∷◌, Option, None, Some, Result, Ok, Err, length, map, find}
 use Rattle.std.specs.List.{list_any, concat}
-use Rattle.std.specs.Option.{is_some}
+use Rattle.std.specs.Map.{lookup}
+use Rattle.std.specs.Option.{is_some, option_map}
+use Rattle.std.specs.Str.{bytes_eq}
 use Rattle.iv_text.specs.Genome.{Sequences}
-use Rattle.iv_text.specs.GenomeFile.{begins_with, bad_name}
+use Rattle.iv_text.specs.GenomeFile.{bad_name}
+use Rattle.iv_text.specs.Lines.{begins_with}
 use Rattle.iv_text.specs.Named.{name_index}
+use Rattle.iv_text.specs.Read.{length_of}
 use Rattle.iv_text.specs.declared.fault.LoadCause.{LoadCause}
 use Rattle.iv_text.specs.declared.fault.LoadCause.TheVariants as cause
 use Rattle.iv_text.specs.declared.fault.LoadFault.{LoadFault}
-use Rattle.iv_fasta.specs.Fasta.{Found, Stretch, header_sign, header_name, is_no_base, has_wrong_length}
+use Rattle.iv_fasta.specs.Fasta.{Bases, Found, Stretch, header_sign, header_name, has_wrong_length}
+use Rattle.iv_fasta.specs.Inside.Fasta.{is_no_base}
+
+-- the genome names a sequence so, and gives it another number of bases
+abbrev pub differs : Sequences → List ℕ → ℕ → Bool
+differs g name count = is_some (name_index g name) && not (count == length_of g name)
+
+-- the bases of the sequences that the genome names; others are left out
+abbrev pub by_rank : Sequences → Found → Bases
+by_rank g found = map (λ s. option_map (λ (f : Stretch). f.bases) (lookup (bytes_eq s.0) found)) g
+
+-- the bases by rank, or the fault of the first sequence that has a wrong length: its line is the header's
+abbrev pub with_lengths : Sequences → Found → Result Bases LoadFault
+with_lengths g found = elim (find (has_wrong_length g) found) [ None ↦ Ok (by_rank g found) | Some s ↦ Err (record { line = s.1.line; cause = cause.WrongLength }) ]
 
 -- the line is a header
 abbrev pub is_header : List ℕ → Bool

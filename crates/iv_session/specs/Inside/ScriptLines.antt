@@ -1,30 +1,28 @@
 -- What one line writes, as the functions that run it see it.
-use Rattle.std.specs.Prelude.{◌≡◌, ℕ, Option, None, Some, Result, Ok, Err}
+use Rattle.std.specs.Prelude.{◌≡◌, Option, None, Some, Result, Ok, Err}
 use Rattle.iv_bytes.specs.Sinks.{SinkState, Takes, FailsIn}
 use Rattle.iv_text.specs.Fault.{fault_text}
 use Rattle.iv_text.specs.declared.fault.Fault.{Fault}
 use Rattle.iv_workspace.specs.States.{State}
-use Rattle.iv_workspace.specs.Views.{print_code}
+use Rattle.iv_session.specs.Inside.Scripts.{refusal_of}
 use Rattle.iv_session.specs.Written.{Written}
 use Rattle.iv_workspace.specs.declared.fault.PrintFault.{PrintFault}
 use Rattle.iv_session.specs.declared.request.Request.{Request}
 use Rattle.iv_session.specs.ScriptLines.{AsksToPrint, Ends}
 
--- what is written of a line that was not done, by the number of its fault: with one it is refused, and without one
--- the output failed at its text
-abbrev pub WritesFault : Option ℕ → SinkState → SinkState → Written → Type 0
+-- what is written of a line that was not done: with a fault it is refused, and without one the output failed at its text
+abbrev pub WritesFault : Option Fault → SinkState → SinkState → Written → Type 0
 WritesFault None out0 out1 written = FailsIn out0 out1 written.output × (written.refusal ≡ None)
-WritesFault (Some code) out0 out1 written =
-    Takes out0 out1 written.output × (written.refusal ≡ Some (fault_text code))
+WritesFault (Some f) out0 out1 written = Takes out0 out1 written.output × (written.refusal ≡ Some (fault_text f))
 
 abbrev pub WritesAs : Result (Unit {0}) PrintFault → SinkState → SinkState → Written → Type 0
 WritesAs (Ok done) out0 out1 written = Takes out0 out1 written.output × (written.refusal ≡ None)
-WritesAs (Err f) out0 out1 written = WritesFault (print_code f) out0 out1 written
+WritesAs (Err f) out0 out1 written = WritesFault (refusal_of f) out0 out1 written
 
--- a line of whose fault no number is known is a print
+-- a line that has no fault, and at whose text the output failed, is a print
 abbrev pub PrintsUnless : Result (Unit {0}) PrintFault → Result Request Fault → Type 0
 PrintsUnless (Ok done) asks = Unit {0}
-PrintsUnless (Err f) asks = print_code f ≡ None → AsksToPrint asks
+PrintsUnless (Err f) asks = refusal_of f ≡ None → AsksToPrint asks
 
 -- a line that asks for this ends as it may, and writes its text
 pub record Writes (asks : Result Request Fault) (old new : State) (out0 out1 : SinkState) (result : Result (Unit {0}) PrintFault) : Type 0 where

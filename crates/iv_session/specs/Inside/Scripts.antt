@@ -2,6 +2,9 @@
 use Rattle.std.specs.Prelude.{Option, Some, None, Result, Ok, Err, ◌≡◌, ℕ}
 use Rattle.iv_bytes.specs.Sinks.{SinkState, Takes, FailsIn}
 use Rattle.iv_text.specs.Fault.{fault_text}
+use Rattle.iv_text.specs.declared.fault.Fault.{Fault}
+use Rattle.iv_workspace.specs.declared.fault.PrintFault.{PrintFault}
+use Rattle.iv_workspace.specs.declared.fault.PrintFault.TheVariants as printing
 use Rattle.iv_session.specs.Written.{Written, message_if, message, refusal_count}
 use Rattle.iv_session.specs.declared.line.Outcome.{Outcome}
 use Rattle.iv_session.specs.declared.script.RunCause.{RunCause}
@@ -28,9 +31,14 @@ pub record FailedLine (may : Written → Type 0) (n : ℕ) (out0 out1 said0 said
   pub makes : may written
   pub texts : FailedTexts failed out0 out1 said0 said1 written.output (message_if n written.refusal)
 
--- a line that was not done is reported, by the number of its fault; without one the output failed
-abbrev pub Tells : Option ℕ → ℕ → SinkState → SinkState → Result Outcome RunCause → Type 0
+-- the fault for which a line is refused; none if the output failed
+abbrev pub refusal_of : PrintFault → Option Fault
+refusal_of (printing.Refused f) = Some f
+refusal_of printing.Write = None
+
+-- a line that was not done is reported by its fault; without one the output failed
+abbrev pub Tells : Option Fault → ℕ → SinkState → SinkState → Result Outcome RunCause → Type 0
 Tells None n said0 said1 (Ok ended_as) = ⊥
 Tells None n said0 said1 (Err failed) = (said1 ≡ said0) × (failed ≡ cause.Output)
-Tells (Some code) n said0 said1 (Ok ended_as) = Takes said0 said1 (message n (fault_text code)) × (ended_as ≡ outcome.Refused)
-Tells (Some code) n said0 said1 (Err failed) = FailsIn said0 said1 (message n (fault_text code)) × (failed ≡ cause.Messages)
+Tells (Some f) n said0 said1 (Ok ended_as) = Takes said0 said1 (message n (fault_text f)) × (ended_as ≡ outcome.Refused)
+Tells (Some f) n said0 said1 (Err failed) = FailsIn said0 said1 (message n (fault_text f)) × (failed ≡ cause.Messages)

@@ -1,12 +1,11 @@
 -- One line of a BED file that is read in pieces, and bytes that end with their line.
 use Rattle.std.specs.Prelude.{◌≡◌, ◌⊎◌, ℕ, ◌+◌, ◌++◌, List, [], ◌∷◌, Err, drop}
 use Rattle.iv_text.specs.Bytes.{line_feed}
-use Rattle.iv_text.specs.BedFile.{after_records}
 use Rattle.iv_text.specs.Genome.{Sequences}
 use Rattle.iv_text.specs.Lines.{lines}
 use Rattle.iv_text.specs.RecordValue.{RecordValue}
 use Rattle.iv_text.specs.declared.fault.LoadCause.{LoadCause}
-use Rattle.iv_text.specs.BedReading.{AreSound, Held, LinesRead, Shows, known, projected_draft, shown}
+use Rattle.iv_text.specs.BedReading.{AreSound, Held, LinesRead, Shows, known, projected_draft, shown, after_records}
 
 -- the first of these lines was read, and those others are left: whatever comes after them, and whatever the line's number is
 abbrev pub Takes : (RecordValue → RecordValue) → Sequences → ℕ → LinesRead → LinesRead → List (List ℕ) → List (List ℕ) → Type 0

@@ -1,7 +1,10 @@
--- Bytes that have no TAB among them.
-use Rattle.std.specs.Prelude.{◌≡◌, All, ℕ, false, List}
+-- The byte that separates fields, and bytes that have no TAB among them.
+use Rattle.std.specs.Prelude.{◌≡◌, ◌==◌, All, ℕ, Bool, false, List}
 use Rattle.iv_text.specs.Bytes.{tab}
-use Rattle.iv_text.specs.Fields.{is_separator}
+
+-- the byte is the one that separates fields
+abbrev pub is_separator : ℕ → ℕ → Bool
+is_separator separator b = b == separator
 
 -- no TAB is among the bytes
 abbrev pub HasNoTab : List ℕ → Type 0

@@ -2,12 +2,14 @@
 use Rattle.std.specs.Prelude.{◌≡◌, ◌<◌, ◌≤◌, All, ℕ, ◌+◌, ◌||◌, Bool, false, List, [], ◌∷◌, ◌++◌, Some, length}
 use Rattle.iv_text.specs.BedFile.{is_unread}
 use Rattle.iv_text.specs.Bytes.{tab}
-use Rattle.iv_text.specs.Fields.{columns, is_separator}
-use Rattle.iv_text.specs.Inside.Fields.{HasNoTab}
+use Rattle.iv_text.specs.Fields.{columns}
+use Rattle.iv_text.specs.Inside.Fields.{HasNoTab, is_separator}
 use Rattle.iv_text.specs.Lines.{HasNoFeed}
 use Rattle.iv_text.specs.Number.{number}
-use Rattle.iv_text.specs.Genome.{Sequences, rank_of, length_at}
-use Rattle.iv_text.specs.Read.{column, is_line_byte, AreSound}
+use Rattle.iv_text.specs.Genome.{Sequences, length_at}
+use Rattle.iv_text.specs.Named.{name_index}
+use Rattle.iv_text.specs.Read.{column, AreSound}
+use Rattle.iv_text.specs.Inside.Read.{is_line_byte}
 use Rattle.iv_text.specs.RecordValue.{strand_of}
 
 -- the name is that of a sequence of the genome, with its rank and its length; it holds no TAB and no LF, and as a line it would be no header
@@ -15,7 +17,7 @@ pub record IsNamed (g : Sequences) (name : List ℕ) (rank len : ℕ) : Type 0 w
   pub plain : HasNoTab name
   pub one_line : HasNoFeed name
   pub unread : is_unread name ≡ false
-  pub rank_is : rank_of g name ≡ Some rank
+  pub rank_is : name_index g name ≡ Some rank
   pub length_is : length_at g rank ≡ Some len
 
 -- the text begins with digits that mean n, and the rest is after them

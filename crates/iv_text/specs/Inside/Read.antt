@@ -1,6 +1,11 @@
--- The columns of a line that a record of some width has.
-use Rattle.std.specs.Prelude.{◌≡◌, ℕ, Bool, cond, List, ◌∷◌, length}
+-- The bytes of a name or a score, and the columns of a line that a record of some width has.
+use Rattle.std.specs.Prelude.{◌≡◌, ℕ, ◌==◌, ◌||◌, Bool, cond, List, ◌∷◌, length}
+use Rattle.iv_text.specs.Bytes.{nul, line_feed, carriage_return}
 use Rattle.iv_text.specs.Read.{column}
+
+-- no name and no score holds this byte
+abbrev pub is_line_byte : ℕ → Bool
+is_line_byte b = b == carriage_return || b == line_feed || b == nul
 
 -- a column in front of the others, if it is wanted
 abbrev pub chosen : Bool → List ℕ → List (List ℕ) → List (List ℕ)

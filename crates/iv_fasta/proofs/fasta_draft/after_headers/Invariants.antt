@@ -1,8 +1,7 @@
 use Rattle.std.proofs.Common.{◌≡◌, filter}
 use Rattle.std.specs.Hash.DefaultHasher.{initial, write}
 use Rattle.std.specs.List.{fold}
-use Rattle.iv_text.specs.GenomeFile.{begins_with}
-use Rattle.iv_text.specs.Lines.{lines}
+use Rattle.iv_text.specs.Lines.{lines, begins_with}
 use Rattle.iv_fasta.specs.Fasta.{header_sign}
 use Rattle.iv_fasta.proofs.fasta_draft.after_headers.Given as goal
 

@@ -2,7 +2,7 @@ use Rattle.std.proofs.Common.{◌≡◌, ap, sym, ◌∙◌, length, take, arith
 use Rattle.std.proofs.lemmas.List.{take_all}
 use Rattle.std.proofs.lemmas.List.Sums.{position_or_len_is}
 use Rattle.std.specs.List.{position_or_len}
-use Rattle.iv_fasta.specs.Fasta.{is_blank}
+use Rattle.iv_fasta.specs.Inside.Fasta.{is_blank}
 use Rattle.iv_fasta.proofs.fasta_draft.before_blank.Goals as goal
 
 pub returns-then-ends_name : goal.returns-then-ends_name

@@ -1,6 +1,6 @@
 use Rattle.std.proofs.Common.{◌≡◌, take}
 use Rattle.std.specs.List.{list_any}
-use Rattle.iv_fasta.specs.Fasta.{is_no_base}
+use Rattle.iv_fasta.specs.Inside.Fasta.{is_no_base}
 use Rattle.iv_fasta.proofs.fasta_draft.has_no_base.Given as goal
 
 abbrev pub invariant-loop-b : goal.invariant-loop-b

@@ -1,6 +1,6 @@
 use Rattle.std.proofs.Common.{length}
 use Rattle.iv_bytes.proofs.PutLemmas.{Underway}
-use Rattle.iv_fasta.specs.FastaRows.{opposite}
+use Rattle.iv_fasta.specs.Inside.FastaRows.{opposite}
 use Rattle.iv_fasta.proofs.rows.put_opposite.Given as goal
 
 abbrev pub invariant-loop-rest : goal.invariant-loop-rest

@@ -1,5 +1,5 @@
 use Rattle.std.proofs.Common.{◌≡◌, take}
-use Rattle.iv_fasta.specs.FastaRows.{opposite}
+use Rattle.iv_fasta.specs.Inside.FastaRows.{opposite}
 use Rattle.iv_fasta.proofs.rows.write_opposite.Given as goal
 
 abbrev pub invariant-loop-at : goal.invariant-loop-at

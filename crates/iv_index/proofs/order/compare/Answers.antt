@@ -1,6 +1,6 @@
 use Rattle.std.proofs.Common.{sym, ◌∙◌, ap}
 use Rattle.std.specs.Ordering.{is_ne, nat_cmp}
-use Rattle.iv_text.specs.RecordValue.{beside_cmp}
+use Rattle.iv_text.specs.Inside.RecordValue.{beside_cmp}
 use Rattle.iv_index.specs.Inside.Locators.{record_at}
 use Rattle.iv_index.proofs.OrderLemmas.{decided, tied}
 use Rattle.iv_index.proofs.order.compare.Goals as goal

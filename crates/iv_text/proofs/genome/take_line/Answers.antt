@@ -3,7 +3,7 @@ use Rattle.std.proofs.lemmas.Bool.{le-leb, lt-leb}
 use Rattle.std.specs.Option.{is_some}
 use Rattle.std.proofs.lemmas.Result.{err_from_is_err_and}
 use Rattle.iv_text.specs.Fields.{columns as columns_of}
-use Rattle.iv_text.specs.Genome.{rank_of}
+use Rattle.iv_text.specs.Named.{name_index}
 use Rattle.iv_text.specs.Read.{column}
 use Rattle.iv_text.specs.GenomeFile.{has_cause}
 use Rattle.iv_text.specs.declared.fault.LoadCause.TheVariants as cause
@@ -24,8 +24,8 @@ returns-then-is_some-clause-err g c =
     let seqs = c.args.genome.now in
     let cs = columns_of c.args.line.now in
     let name : column cs 0 ≡ c.in_ok-name.name.now = ap (λ p. p.0) c.in_ok-name.ensures.ok in
-    let there : is_some (rank_of seqs (column cs 0)) ≡ true =
-    ap (λ n. is_some (rank_of seqs n)) name ∙ ap is_some (sym c.rank.ensures.value) ∙ sym c.is_some.ensures ∙ c.if-is_some.true in
+    let there : is_some (name_index seqs (column cs 0)) ≡ true =
+    ap (λ n. is_some (name_index seqs n)) name ∙ ap is_some (sym c.rank.ensures.value) ∙ sym c.is_some.ensures ∙ c.if-is_some.true in
     inr (line-refused seqs c.args.line.now cause.Repeated (sym c.is_skipped.ensures ∙ c.if-is_skipped.false)
     (c.in_ok-name.ensures.none seqs ∙ hit (has_cause seqs cs) cause.Repeated (cause.TooMany ∷ []) there))
 
@@ -34,8 +34,8 @@ returns-then-count-ge1000000-clause-err g c =
     let seqs = c.args.genome.now in
     let cs = columns_of c.args.line.now in
     let name : column cs 0 ≡ c.in_ok-name.name.now = ap (λ p. p.0) c.in_ok-name.ensures.ok in
-    let there : is_some (rank_of seqs (column cs 0)) ≡ false =
-    ap (λ n. is_some (rank_of seqs n)) name ∙ ap is_some (sym c.rank.ensures.value) ∙ sym c.is_some.ensures ∙ c.if-is_some.false in
+    let there : is_some (name_index seqs (column cs 0)) ≡ false =
+    ap (λ n. is_some (name_index seqs n)) name ∙ ap is_some (sym c.rank.ensures.value) ∙ sym c.is_some.ensures ∙ c.if-is_some.false in
     let full : nat_le 1000000 (length seqs) ≡ true = le-leb 1000000 (length seqs) (omega (arith, c.count.ensures.value)) in
     inr (line-refused seqs c.args.line.now cause.TooMany (sym c.is_skipped.ensures ∙ c.if-is_skipped.false)
     (c.in_ok-name.ensures.none seqs ∙ skip (has_cause seqs cs) cause.Repeated (cause.TooMany ∷ []) there
@@ -46,8 +46,8 @@ returns-clause-ok g c =
     let seqs = c.args.genome.now in
     let cs = columns_of c.args.line.now in
     let name : column cs 0 ≡ c.in_ok-name.name.now = ap (λ p. p.0) c.in_ok-name.ensures.ok in
-    let there : is_some (rank_of seqs (column cs 0)) ≡ false =
-    ap (λ n. is_some (rank_of seqs n)) name ∙ ap is_some (sym c.rank.ensures.value) ∙ sym c.is_some.ensures ∙ c.if-is_some.false in
+    let there : is_some (name_index seqs (column cs 0)) ≡ false =
+    ap (λ n. is_some (name_index seqs n)) name ∙ ap is_some (sym c.rank.ensures.value) ∙ sym c.is_some.ensures ∙ c.if-is_some.false in
     let room : nat_le 1000000 (length seqs) ≡ false = lt-leb 1000000 (length seqs) (omega (arith, c.count.ensures.value)) in
     line-taken seqs c.args.line.now c.in_ok-name.name.now c.in_ok-name.length (sym c.is_skipped.ensures ∙ c.if-is_skipped.false)
     (c.in_ok-name.ensures.none seqs ∙ skip (has_cause seqs cs) cause.Repeated (cause.TooMany ∷ []) there

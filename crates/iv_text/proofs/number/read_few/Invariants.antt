@@ -1,5 +1,5 @@
 use Rattle.std.proofs.Common.{◌≡◌, ◌^◌, ◌<◌, take}
-use Rattle.iv_text.specs.Number.{decimal_from}
+use Rattle.iv_text.specs.Inside.Number.{decimal_from}
 use Rattle.iv_text.proofs.number.read_few.Given as goal
 
 abbrev pub invariant-loop-at : goal.invariant-loop-at

@@ -2,7 +2,7 @@ use Rattle.std.proofs.Common.{◌≡◌, ◌+◌, ◌-◌, ◌*◌, ◌∙◌, �
 use Rattle.std.proofs.lemmas.List.{take_more}
 use Rattle.std.specs.Char.{is_ascii_digit}
 use Rattle.std.specs.Str.{all_ascii_digits}
-use Rattle.iv_text.specs.Number.{decimal_from}
+use Rattle.iv_text.specs.Inside.Number.{decimal_from}
 use Rattle.iv_text.proofs.OnePassLemmas.{decimal-more, digits-more, digit-bound, bound-more, number-is, rest-whole}
 use Rattle.iv_text.proofs.number.split_slowly.Goals as goal
 

@@ -1,6 +1,6 @@
 use Rattle.std.proofs.Common.{◌≡◌, drop}
 use Rattle.std.specs.List.{list_any}
-use Rattle.iv_text.specs.Read.{is_line_byte}
+use Rattle.iv_text.specs.Inside.Read.{is_line_byte}
 use Rattle.iv_text.proofs.record_ref.is_bad_text.Given as goal
 
 abbrev pub invariant-loop-b : goal.invariant-loop-b

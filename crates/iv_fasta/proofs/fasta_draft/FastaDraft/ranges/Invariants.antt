@@ -1,6 +1,6 @@
 use Rattle.std.proofs.Common.{◌≡◌, take, length}
 use Rattle.std.specs.Prelude.{All}
-use Rattle.iv_fasta.specs.Fasta.{by_rank}
+use Rattle.iv_fasta.specs.Inside.FastaMeaning.{by_rank}
 use Rattle.iv_fasta.specs.Inside.BaseRanges.{placed, IsPlacedWithin}
 use Rattle.iv_fasta.specs.Inside.Drafts.{cut}
 use Rattle.iv_fasta.proofs.fasta_draft.FastaDraft.ranges.Given as goal

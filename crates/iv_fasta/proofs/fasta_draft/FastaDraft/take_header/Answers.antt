@@ -2,8 +2,8 @@ use Rattle.std.proofs.Common.{Bool, Ok, Err, ◌≡◌, ◌-◌, ap, sym, ◌∙
 use Rattle.std.specs.List.{before_first}
 use Rattle.std.specs.Option.{is_some}
 use Rattle.iv_text.specs.declared.fault.LoadCause.TheVariants as cause
-use Rattle.iv_fasta.specs.Fasta.{is_blank, with_header}
-use Rattle.iv_fasta.specs.Inside.Drafts.{NamedHeaders, StartInOrder, cut, drafted, headed}
+use Rattle.iv_fasta.specs.Inside.Fasta.{is_blank}
+use Rattle.iv_fasta.specs.Inside.Drafts.{NamedHeaders, StartInOrder, cut, drafted, headed, with_header}
 use Rattle.iv_fasta.proofs.CutLemmas.{place-cut, starts-push}
 use Rattle.iv_fasta.proofs.LineLemmas.{name-within, header-repeated, headed-taken}
 use Rattle.iv_fasta.proofs.fasta_draft.FastaDraft.take_header.Goals as goal

@@ -2,8 +2,8 @@ use Rattle.std.proofs.Common.{◌≡◌, ◌∷◌, ◌++◌, [], cond, ap, sym,
 use Rattle.std.proofs.lemmas.Bool.{cond-true, cond-false, ne_eqb, eq-eqb}
 use Rattle.std.proofs.lemmas.Result.{err_from_is_err_and}
 use Rattle.iv_text.specs.Lines.{lines}
-use Rattle.iv_fasta.specs.Fasta.{header_name, with_header}
-use Rattle.iv_fasta.specs.Inside.Drafts.{cut, drafted, headed}
+use Rattle.iv_fasta.specs.Fasta.{header_name}
+use Rattle.iv_fasta.specs.Inside.Drafts.{cut, drafted, headed, with_header}
 use Rattle.iv_fasta.proofs.CutLemmas.{starts-more}
 use Rattle.iv_fasta.proofs.LineLemmas.{compacted-empty, compacted-header, compacted-bases, line-read, line-stops}
 use Rattle.iv_fasta.proofs.fasta_draft.FastaDraft.take_line.Goals as goal

@@ -1,7 +1,7 @@
 use Rattle.std.proofs.Common.{◌≡◌, ◌∙◌, ◌++◌, List, ℕ, [], Ok, sym, ap, inl, inr, append-nil}
-use Rattle.iv_text.specs.BedFile.{bed_of, finished}
+use Rattle.iv_text.specs.BedFile.{bed_of}
 use Rattle.iv_text.specs.RecordValue.{RecordValue}
-use Rattle.iv_text.specs.BedReading.{Reading, begun, coming}
+use Rattle.iv_text.specs.BedReading.{Reading, begun, coming, finished}
 use Rattle.iv_text.proofs.BedReadingLemmas.{handed-on, kept-all, rows-all, fit-all, whole-file}
 use Rattle.iv_text.proofs.bed_file.BedFile.parse.Goals as goal
 

@@ -1,9 +1,9 @@
 use Rattle.std.proofs.Common.{All, subst, ◌∙◌, ℕ, List, [], Result, Ok, sym, ap, inl, inr, map, unwrap_or, append-nil}
-use Rattle.iv_text.specs.BedFile.{Bed, finished}
+use Rattle.iv_text.specs.BedFile.{Bed}
 use Rattle.iv_text.specs.Lines.{lines}
 use Rattle.iv_text.specs.RecordValue.{RecordValue}
 use Rattle.iv_text.specs.declared.fault.LoadFault.{LoadFault}
-use Rattle.iv_text.specs.BedReading.{IsProjected, Reading, after, coming, shown}
+use Rattle.iv_text.specs.BedReading.{IsProjected, Reading, after, coming, shown, finished}
 use Rattle.iv_text.proofs.BedReadingLemmas.{handed-on, projected-again, refused-so, sound-kept, taken-so}
 use Rattle.iv_text.proofs.bed_reader.BedReader.finish.Goals as goal
 

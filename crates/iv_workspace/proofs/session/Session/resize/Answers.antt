@@ -1,6 +1,5 @@
 use Rattle.std.proofs.Common.{◌∙◌, List, ℕ, sym, ap, subst}
-use Rattle.iv_text.specs.Genome.{rank_of}
-use Rattle.iv_text.specs.Named.{names_of}
+use Rattle.iv_text.specs.Named.{names_of, name_index}
 use Rattle.iv_text.proofs.LengthLemmas.{names-with_length, rank-within}
 use Rattle.iv_workspace.specs.Inside.ViewStates.{AreRight, all_seen}
 use Rattle.iv_workspace.specs.States.{State}
@@ -9,18 +8,18 @@ use Rattle.iv_workspace.proofs.session.Session.resize.Goals as goal
 
 pub returns-in_default-clause-why : goal.returns-in_default-clause-why
 returns-in_default-clause-why g c =
-    resized-unknown c.args.self.now c.args.name.now c.args.length (ap (λ (s : State). rank_of s.genome c.args.name.now) (sym c.self.view_is) ∙ sym c.in_default.ensures.value)
+    resized-unknown c.args.self.now c.args.name.now c.args.length (ap (λ (s : State). name_index s.genome c.args.name.now) (sym c.self.view_is) ∙ sym c.in_default.ensures.value)
 
 pub returns-then-has_record_past-clause-why : goal.returns-then-has_record_past-clause-why
 returns-then-has_record_past-clause-why g c =
     resized-shorter c.args.self.now c.args.name.now c.args.length c.in-Some.seq
-    (ap (λ (s : State). rank_of s.genome c.args.name.now) (sym c.self.view_is) ∙ sym c.in-Some.ensures.value)
+    (ap (λ (s : State). name_index s.genome c.args.name.now) (sym c.self.view_is) ∙ sym c.in-Some.ensures.value)
     (sym c.has_record_past.ensures ∙ c.if-has_record_past.true)
 
 pub returns-then-has_other_bases-clause-why : goal.returns-then-has_other_bases-clause-why
 returns-then-has_other_bases-clause-why g c =
     resized-fixed c.args.self.now c.args.name.now c.args.length c.in-Some.seq
-    (ap (λ (s : State). rank_of s.genome c.args.name.now) (sym c.self.view_is) ∙ sym c.in-Some.ensures.value)
+    (ap (λ (s : State). name_index s.genome c.args.name.now) (sym c.self.view_is) ∙ sym c.in-Some.ensures.value)
     (sym c.has_record_past.ensures ∙ c.if-has_record_past.false)
     (sym c.has_other_bases.ensures ∙ c.if-has_other_bases.true)
 
