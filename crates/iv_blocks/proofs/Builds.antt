@@ -11,8 +11,8 @@ use Rattle.iv_track.specs.Entries.{IsLedger, value_at}
 use Rattle.iv_cover.specs.Blocks.{block_at}
 use Rattle.iv_cover.specs.TrackBlocks.{start_of, stop_of}
 use Rattle.iv_text.proofs.ListLemmas.{Mem, filter-agree, filter-filter, filter-none, all-mem, mem-all, same_tests}
-use Rattle.iv_blocks.specs.Groups.{is_in_group, is_on_side, group, listed}
-use Rattle.iv_blocks.specs.Inside.Groups.{starts_between, between, members_between, is_minus}
+use Rattle.iv_blocks.specs.Inside.Groups.{is_in_group, starts_between, between, members_between, is_minus}
+use Rattle.iv_blocks.specs.Groups.{is_on_side, group, listed}
 use Rattle.iv_blocks.specs.KeptBlocks.{Key, key_cmp, Kept, Entries, KeptBlocks, kept_block, kept_at, name_of, AreBlocksOf}
 use Rattle.iv_blocks.specs.Inside.Insertion.{AreInserted, AreInsertedOn}
 use Rattle.iv_blocks.specs.declared.group.Group.{Group}

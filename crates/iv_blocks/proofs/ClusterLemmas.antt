@@ -26,7 +26,8 @@ use Rattle.iv_text.proofs.PrecedesLemmas.{Precedes, precedes-from}
 use Rattle.iv_text.proofs.ListLemmas.{Mem, filter-agree, mem-filter}
 use Rattle.iv_blocks.specs.Inside.BlockCursor.{interval_of, starts_until, drop_while, BeginsElse}
 use Rattle.iv_blocks.specs.ClusterRows.{blocks_before, blocks_until, cluster_row}
-use Rattle.iv_blocks.specs.Groups.{is_in_group, group, listed}
+use Rattle.iv_blocks.specs.Inside.Groups.{is_in_group}
+use Rattle.iv_blocks.specs.Groups.{group, listed}
 use Rattle.iv_blocks.specs.KeptBlocks.{Key, Kept, Entries, AreBlocksOf, key_cmp, kept_at, kept_block, name_of}
 use Rattle.iv_blocks.specs.declared.options.BlockOptions.{BlockOptions}
 use Rattle.iv_blocks.proofs.BlockCursorLemmas.{take-all, begins-else, take-first, take-none, drop-first, drop-none}

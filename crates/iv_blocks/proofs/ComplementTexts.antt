@@ -11,7 +11,7 @@ use Rattle.iv_cover.specs.Inside.RemainingBlocks.{is_joined, block_of, joined, c
 use Rattle.iv_cover.specs.TrackBlocks.{Group, start_of, stop_of, block_on, blocks_on, blocks_of}
 use Rattle.iv_cover.proofs.Comings.{coming-joined, coming-split_up}
 use Rattle.iv_cover.proofs.Positions.{values-agree}
-use Rattle.iv_blocks.specs.ComplementRows.{complement_text}
+use Rattle.iv_blocks.specs.Inside.Texts.{complement_text}
 use Rattle.iv_blocks.specs.Groups.{group}
 use Rattle.iv_blocks.proofs.ClusterLemmas.{on-is}
 use Rattle.iv_blocks.proofs.ComplementLemmas.{place_of, interval_at, intervals_on, gaps-of_blocks}

@@ -16,7 +16,8 @@ use Rattle.iv_cover.specs.TrackBlocks.{start_of, stop_of}
 use Rattle.iv_cover.proofs.Cover.{Free, Lasting, IsBlock, next_start, home, home-starts, home-le}
 use Rattle.iv_cover.proofs.EmptyLemmas.{empty_runs-none, empty_runs-skip}
 use Rattle.iv_cover.proofs.EmptyMeanings.{empty-bare}
-use Rattle.iv_blocks.specs.ComplementRows.{gap_row, is_shown}
+use Rattle.iv_blocks.specs.ComplementRows.{gap_row}
+use Rattle.iv_blocks.specs.Inside.Texts.{is_shown}
 use Rattle.iv_blocks.specs.Groups.{group, joined, listed}
 use Rattle.iv_blocks.specs.Inside.BlockCursor.{gap_between}
 use Rattle.iv_blocks.specs.Inside.Lookups.{IsFirstBlock, IsLastBlock}

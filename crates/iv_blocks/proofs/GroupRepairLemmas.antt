@@ -19,8 +19,8 @@ use Rattle.iv_text.proofs.ListLemmas.{Mem, any-at, mem-filter, mem-filter_from, 
 use Rattle.iv_cover.proofs.Groups.{HasOneMore, one_more}
 use Rattle.iv_cover.proofs.BlockLemmas.{one_more-filter}
 use Rattle.iv_cover.proofs.Cover.{Covered, Lasting, IsBlock, starts_in, starts_in-true, stops_within}
-use Rattle.iv_blocks.specs.Groups.{is_strand, is_on_side, is_in_group, group, listed}
-use Rattle.iv_blocks.specs.Inside.Groups.{between, between_on, members_between, starts_between, is_apart, is_minus}
+use Rattle.iv_blocks.specs.Groups.{is_strand, is_on_side, group, listed}
+use Rattle.iv_blocks.specs.Inside.Groups.{is_in_group, between, between_on, members_between, starts_between, is_apart, is_minus}
 use Rattle.iv_blocks.specs.KeptBlocks.{Key, key_cmp, Kept, Entries, KeptBlocks, AreBlocksOf, kept_at, kept_block, name_of, around, within_block, block_steps}
 use Rattle.iv_blocks.specs.Inside.Lookups.{kept_in, IsLastBlock}
 use Rattle.iv_blocks.specs.Inside.Insertion.{key_of, IsOfOther, AreInserted, with_block}

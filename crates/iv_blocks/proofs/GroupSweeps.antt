@@ -14,8 +14,8 @@ use Rattle.iv_cover.specs.TrackBlocks.{start_of, stop_of}
 use Rattle.iv_text.proofs.ListLemmas.{Mem, mem-filter, mem-filter_from, filter-agree, filter-filter, filter-none, all-mem, same_tests}
 use Rattle.iv_cover.proofs.Groups.{mem-left, mem-right, mem-append}
 use Rattle.iv_cover.proofs.Cover.{Lasting, starts_in}
-use Rattle.iv_blocks.specs.Groups.{is_in_group, group, listed}
-use Rattle.iv_blocks.specs.Inside.Groups.{starts_between, between, between_on, members_between, is_apart, is_minus}
+use Rattle.iv_blocks.specs.Inside.Groups.{is_in_group, starts_between, between, between_on, members_between, is_apart, is_minus}
+use Rattle.iv_blocks.specs.Groups.{group, listed}
 use Rattle.iv_blocks.specs.KeptBlocks.{Key, key_cmp, Kept, Entries, KeptBlocks, kept_block, kept_at}
 use Rattle.iv_blocks.specs.Inside.Insertion.{key_of, IsOfOther, with_block, AreInserted}
 use Rattle.iv_blocks.specs.declared.group.Group.{Group}

@@ -15,7 +15,8 @@ use Rattle.iv_cover.proofs.Cover.{no_start-test, block_at-none}
 use Rattle.iv_cover.proofs.WalkLemmas.{blocks-none}
 use Rattle.iv_cover.proofs.Positions.{values-agree}
 use Rattle.iv_text.proofs.ListLemmas.{Mem, mem-filter, all-mem, filter-none}
-use Rattle.iv_blocks.specs.Groups.{is_in_group, is_on_side, group, sides, listed}
+use Rattle.iv_blocks.specs.Inside.Groups.{is_in_group}
+use Rattle.iv_blocks.specs.Groups.{is_on_side, group, sides, listed}
 use Rattle.iv_blocks.specs.KeptBlocks.{Key, Kept, Entries, AreBlocksOf, kept_at, kept_block, name_of}
 use Rattle.iv_blocks.specs.MergeRows.{side_blocks}
 use Rattle.iv_blocks.specs.declared.options.BlockOptions.{BlockOptions}

@@ -12,8 +12,8 @@ use Rattle.iv_text.proofs.InOrderLemmas.{all-recursion, recursion-all, in_order-
 use Rattle.iv_text.proofs.ListLemmas.{Mem, mem-filter, filter-agree, filter-filter, filter-none, same_tests}
 use Rattle.iv_text.proofs.PrecedesLemmas.{Precedes, precedes-from}
 use Rattle.iv_blocks.specs.Inside.MembersLeft.{MembersLeft, IsAhead}
-use Rattle.iv_blocks.specs.Groups.{is_in_group, is_on_side}
-use Rattle.iv_blocks.specs.Inside.Groups.{starts_between, between_on, members_between, is_apart, is_minus}
+use Rattle.iv_blocks.specs.Inside.Groups.{is_in_group, starts_between, between_on, members_between, is_apart, is_minus}
+use Rattle.iv_blocks.specs.Groups.{is_on_side}
 use Rattle.iv_blocks.specs.declared.group.Group.{Group}
 
 -- ---- lists in order

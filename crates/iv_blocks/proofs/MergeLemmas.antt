@@ -10,7 +10,8 @@ use Rattle.iv_text.specs.Read.{Fits}
 use Rattle.iv_text.specs.RecordValue.{RecordValue}
 use Rattle.iv_blocks.specs.Groups.{sides}
 use Rattle.iv_blocks.specs.KeptBlocks.{Key, Kept, Entries, AreBlocksOf}
-use Rattle.iv_blocks.specs.MergeRows.{side_blocks, side_rows, merge_text, all_blocks}
+use Rattle.iv_blocks.specs.MergeRows.{side_blocks, all_blocks}
+use Rattle.iv_blocks.specs.Inside.Texts.{side_rows, merge_text}
 use Rattle.iv_blocks.specs.declared.options.BlockOptions.{BlockOptions}
 use Rattle.iv_blocks.proofs.KeptLemmas.{entries-are, entry_of, flat_map-agree, flat_map-flat_map}
 

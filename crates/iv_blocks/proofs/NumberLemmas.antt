@@ -19,7 +19,8 @@ use Rattle.iv_cover.proofs.Meanings.{member-means}
 use Rattle.iv_cover.proofs.WalkLemmas.{on-from}
 use Rattle.iv_cover.proofs.Positions.{range-more, values, values-none, values-some}
 use Rattle.iv_text.proofs.ListLemmas.{Mem, contains-mem, mem-contains, all-mem}
-use Rattle.iv_blocks.specs.ClusterRows.{blocks_before, block_number}
+use Rattle.iv_blocks.specs.ClusterRows.{blocks_before}
+use Rattle.iv_blocks.specs.Inside.Texts.{block_number}
 
 -- ---- how many values there are
 

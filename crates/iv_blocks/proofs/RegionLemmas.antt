@@ -27,7 +27,8 @@ use Rattle.iv_blocks.specs.Inside.Lookups.{IsLastBlock}
 use Rattle.iv_blocks.specs.Inside.Regions.{ReachesFrom, row_past}
 use Rattle.iv_blocks.specs.KeptBlocks.{Key, Kept, Entries, AreBlocksOf, key_cmp, kept_at, name_of}
 use Rattle.iv_blocks.specs.MergeRows.{block_row, side_blocks}
-use Rattle.iv_blocks.specs.RegionRows.{shares, side_blocks_in, blocks_in, merge_text_in}
+use Rattle.iv_blocks.specs.RegionRows.{shares, side_blocks_in, blocks_in}
+use Rattle.iv_blocks.specs.Inside.Texts.{merge_text_in}
 use Rattle.iv_blocks.specs.declared.options.BlockOptions.{BlockOptions}
 use Rattle.iv_blocks.proofs.ComplementLemmas.{mem-values}
 use Rattle.iv_blocks.proofs.EntryLemmas.{from, from-step, walked-on, later-keys, side_entries, none-past as no_entry}
@@ -339,12 +340,12 @@ module _ (o : BlockOptions) (g : Sequences) (rows : List RecordValue) (s start s
       ∙ ap (λ (l : List (ℕ × (ℕ × List RecordValue))). side_blocks_in o g rows s start stop false ++ l) (append-nil (side_blocks_in o g rows s start stop true))
 
   pub text-together : o.stranded ≡ false → merge_text_in o g rows s start stop ≡ side_text false
-  text-together e = ap (flat_map (block_row (sequence_name g s) (listed o.summaries))) (blocks-together e)
+  text-together e = ap (λ (b : Bool). flat_map side_text (sides b)) e ∙ append-nil (side_text false)
 
   pub text-apart : o.stranded ≡ true → merge_text_in o g rows s start stop ≡ side_text false ++ side_text true
   text-apart e =
-      ap (flat_map (block_row (sequence_name g s) (listed o.summaries))) (blocks-apart e)
-      ∙ flat_map-append (block_row (sequence_name g s) (listed o.summaries)) (side_blocks_in o g rows s start stop false) (side_blocks_in o g rows s start stop true)
+      ap (λ (b : Bool). flat_map side_text (sides b)) e
+      ∙ ap (λ (l : List ℕ). side_text false ++ l) (append-nil (side_text true))
 
   pub count-together : o.stranded ≡ false → length (blocks_in o g rows s start stop) ≡ length (side_blocks_in o g rows s start stop false)
   count-together e = ap (λ (l : List (ℕ × (ℕ × List RecordValue))). length l) (blocks-together e)

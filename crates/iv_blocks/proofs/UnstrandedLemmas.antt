@@ -18,7 +18,8 @@ use Rattle.iv_cover.specs.Inside.RemainingBlocks.{coming, is_joined}
 use Rattle.iv_cover.specs.declared.block.Block.{Block}
 use Rattle.iv_cover.specs.declared.column.ColumnSummary.{ColumnSummary}
 use Rattle.iv_cover.proofs.Comings.{coming-begun, coming-joined, coming-split_up}
-use Rattle.iv_blocks.specs.Groups.{is_in_group, group, sides, listed}
+use Rattle.iv_blocks.specs.Inside.Groups.{is_in_group}
+use Rattle.iv_blocks.specs.Groups.{group, sides, listed}
 use Rattle.iv_blocks.specs.KeptBlocks.{Key, Entries, key_cmp, kept_at}
 use Rattle.iv_blocks.specs.MergeRows.{side_blocks}
 use Rattle.iv_blocks.specs.Inside.UnstrandedBlocks.{kept_entry, entries_with, plain_entry, GivesKept}

@@ -1,6 +1,6 @@
 -- The rows of a cluster.
 use Rattle.std.specs.Prelude.{ℕ, ◌+◌, ◌++◌, List, length, map, sum, codes, decimal}
-use Rattle.std.specs.List.{flat_map, range_with_len}
+use Rattle.std.specs.List.{range_with_len}
 use Rattle.iv_text.specs.Genome.{Sequences, sequence_length}
 use Rattle.iv_text.specs.RecordText.{record_text}
 use Rattle.iv_text.specs.RecordValue.{RecordValue}
@@ -17,14 +17,6 @@ abbrev pub blocks_until : ℕ → Sequences → List RecordValue → ℕ → ℕ
 blocks_until d g rows rank position =
     sum (map (λ s. blocks_before d rows s (sequence_length g s)) (range_with_len 0 rank)) + blocks_before d rows rank position
 
--- the number of a record's block, from 1: how many blocks there are up to its own
-abbrev pub block_number : ℕ → Sequences → List RecordValue → RecordValue → ℕ
-block_number d g rows r = blocks_until d g rows r.seq (r.start + 1)
-
--- the row of a record: its columns, the number of its block, and a line feed
+-- the row of a record: its columns, the number of its block from 1, which is how many blocks there are up to its own, and a line feed
 abbrev pub cluster_row : ℕ → Sequences → List RecordValue → RecordValue → List ℕ
-cluster_row d g rows r = record_text g r ++ codes "\t" ++ decimal (block_number d g rows r) ++ codes "\n"
-
--- all rows: one for each record, in the order of the track
-abbrev pub cluster_text : ℕ → Sequences → List RecordValue → List ℕ
-cluster_text d g rows = flat_map (cluster_row d g rows) rows
+cluster_row d g rows r = record_text g r ++ codes "\t" ++ decimal (blocks_until d g rows r.seq (r.start + 1)) ++ codes "\n"

@@ -1,8 +1,10 @@
 -- The rows of a complement.
-use Rattle.std.specs.Prelude.{ℕ, ◌++◌, ◌==◌, Bool, ◌||◌, not, List, [], codes, decimal, if◌then◌else◌}
-use Rattle.std.specs.List.{flat_map, range_with_len, list_any}
-use Rattle.iv_text.specs.Genome.{Sequences, seq_count, sequence_name, sequence_length}
+use Rattle.std.specs.Prelude.{ℕ, ◌++◌, ◌==◌, Bool, ◌||◌, not, List, [], Option, codes, decimal, if◌then◌else◌}
+use Rattle.std.specs.List.{flat_map, list_any}
+use Rattle.iv_text.specs.Genome.{Sequences, sequence_name, sequence_length}
 use Rattle.iv_text.specs.RecordValue.{RecordValue}
+use Rattle.iv_track.specs.Parts.{intervals_in}
+use Rattle.iv_track.specs.declared.region.Region.{Region}
 use Rattle.iv_cover.specs.Depth.{depth}
 use Rattle.iv_cover.specs.Runs.{Run, empty_runs}
 
@@ -10,18 +12,12 @@ use Rattle.iv_cover.specs.Runs.{Run, empty_runs}
 abbrev pub gap_row : List ℕ → Run → List ℕ
 gap_row name gap = name ++ codes "\t" ++ decimal gap.start ++ codes "\t" ++ decimal gap.stop ++ codes "\n"
 
--- the sequence of this rank is shown: each is, or if only some are, those with a record
-abbrev pub is_shown : Bool → List RecordValue → ℕ → Bool
-is_shown limited rows rank = not limited || list_any (λ r. r.seq == rank) rows
-
--- the gaps of a sequence: the maximal intervals that no record covers; none if it isn't shown
+-- the gaps of a sequence: the maximal intervals that no record covers; none if only sequences with a record are shown, and it has none
 abbrev pub gaps : Bool → Sequences → List RecordValue → ℕ → List Run
-gaps limited g rows rank = if is_shown limited rows rank then empty_runs (depth rows rank) 0 (sequence_length g rank) else []
+gaps limited g rows rank =
+    if not limited || list_any (λ r. r.seq == rank) rows then empty_runs (depth rows rank) 0 (sequence_length g rank) else []
 
--- their rows
-abbrev pub gap_rows : Bool → Sequences → List RecordValue → ℕ → List ℕ
-gap_rows limited g rows rank = flat_map (gap_row (sequence_name g rank)) (gaps limited g rows rank)
-
--- all rows: those of each sequence, by rank
-abbrev pub complement_text : Bool → Sequences → List RecordValue → List ℕ
-complement_text limited g rows = flat_map (gap_rows limited g rows) (range_with_len 0 (seq_count g))
+-- the rows of a complement on the sequence of this rank: one for each gap
+abbrev pub gap_rows : Option Region → Bool → Sequences → List RecordValue → ℕ → List ℕ
+gap_rows part limited g rows rank =
+    flat_map (gap_row (sequence_name g rank)) (intervals_in (λ gap. gap.start) (λ gap. gap.stop) part (gaps limited g rows rank))

@@ -21,13 +21,9 @@ is_strand minus (Some Dot) = false
 abbrev pub is_on_side : Bool → Bool → RecordValue → Bool
 is_on_side stranded minus r = if stranded then is_strand minus r.strand else not minus
 
--- the record is on the sequence of this rank, and on this side
-abbrev pub is_in_group : Bool → ℕ → Bool → RecordValue → Bool
-is_in_group stranded rank minus r = (r.seq == rank) && is_on_side stranded minus r
-
 -- the records on the sequence of this rank and on this side
 abbrev pub group : Bool → ℕ → Bool → List RecordValue → List RecordValue
-group stranded rank minus rows = filter (is_in_group stranded rank minus) rows
+group stranded rank minus rows = filter (λ r. (r.seq == rank) && is_on_side stranded minus r) rows
 
 -- the sides whose blocks are printed, in order: with strands apart, `+` and then `-`
 abbrev pub sides : Bool → List Bool
@@ -37,13 +33,9 @@ sides stranded = if stranded then false ∷ true ∷ [] else false ∷ []
 abbrev pub listed : Summaries → List ColumnSummary
 listed s = take s.count s.summaries
 
--- an entry that holds no summary
-abbrev pub unused : ColumnSummary
-unused = record { column = Sequence; op = Count }
-
--- the summaries of a list of at most 16
+-- the summaries of a list of at most 16; the entries after them hold none
 abbrev pub filled : List ColumnSummary → Summaries
-filled summaries = record { summaries = summaries ++ replicate (16 - length summaries) unused; count = length summaries }
+filled summaries = record { summaries = summaries ++ replicate (16 - length summaries) (record { column = Sequence; op = Count }); count = length summaries }
 
 -- records of both strands are joined at this distance, and there are no summaries
 abbrev pub joined : ℕ → BlockOptions

@@ -10,3 +10,4 @@ pub mod BlockCursor
 pub mod BlockSweeps
 pub mod MergeSweeps
 pub mod Regions
+pub mod Texts

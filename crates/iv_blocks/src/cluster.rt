@@ -6,7 +6,7 @@ ghost use Rattle.iv_text.specs.Named.{names_of};
 ghost use Rattle.iv_text.specs.Read.{Fits};
 ghost use Rattle.iv_track.specs.Steps.{TakesUpTo};
 ghost use Rattle.iv_blocks.specs.Inside.BlockCursor.{starts_until, drop_while, TakesForEach};
-ghost use Rattle.iv_blocks.specs.ClusterRows.{cluster_text};
+ghost use Rattle.iv_blocks.specs.Inside.Texts.{cluster_text};
 ghost use Rattle.iv_blocks.specs.Groups.{joined};
 ghost use Rattle.iv_blocks.specs.KeptBlocks.{AreBlocksOf};
 ghost use Rattle.iv_blocks.specs.MergeRows.{all_blocks};

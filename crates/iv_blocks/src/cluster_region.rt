@@ -8,7 +8,7 @@ ghost use Rattle.iv_track.specs.Steps.{TakesUpTo};
 ghost use Rattle.iv_blocks.specs.ClusterRows.{blocks_until};
 ghost use Rattle.iv_blocks.specs.Groups.{joined};
 ghost use Rattle.iv_blocks.specs.KeptBlocks.{AreBlocksOf};
-ghost use Rattle.iv_blocks.specs.RegionRows.{cluster_text_in};
+ghost use Rattle.iv_blocks.specs.Inside.Texts.{cluster_text_in};
 
 use crate::block_cursor::BlockCursor;
 use crate::blocks::Blocks;

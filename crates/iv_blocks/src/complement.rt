@@ -8,7 +8,8 @@ ghost use Rattle.iv_text.specs.Read.{Fits};
 ghost use Rattle.iv_track.specs.Steps.{TakesUpTo};
 ghost use Rattle.iv_blocks.specs.Inside.BlockCursor.{gap_between, gaps_between, starts_until, drop_while, texts, TakesForEach};
 ghost use Rattle.iv_blocks.specs.KeptBlocks.{AreBlocksOf};
-ghost use Rattle.iv_blocks.specs.ComplementRows.{complement_text, gap_row};
+ghost use Rattle.iv_blocks.specs.Inside.Texts.{complement_text};
+ghost use Rattle.iv_blocks.specs.ComplementRows.{gap_row};
 ghost use Rattle.iv_blocks.specs.Groups.{joined};
 ghost use Rattle.iv_blocks.specs.MergeRows.{all_blocks};
 

@@ -11,7 +11,8 @@ ghost use Rattle.iv_blocks.specs.Groups.{joined};
 ghost use Rattle.iv_blocks.specs.Inside.BlockCursor.{gap_between};
 ghost use Rattle.iv_blocks.specs.Inside.Regions.{BeginsGap, gaps_from, kept_on};
 ghost use Rattle.iv_blocks.specs.KeptBlocks.{AreBlocksOf, Kept};
-ghost use Rattle.iv_blocks.specs.RegionRows.{complement_text_in, gaps_in};
+ghost use Rattle.iv_blocks.specs.Inside.Texts.{complement_text_in};
+ghost use Rattle.iv_blocks.specs.RegionRows.{gaps_in};
 
 use crate::blocks::Blocks;
 use crate::complement::put_gap;

@@ -3,8 +3,8 @@ ghost use Rattle.std.specs.Prelude.{◌≡◌, if◌then◌else◌, not, Bool, t
 ghost use Rattle.std.specs.Iterator.{YieldsFirstRef};
 ghost use Rattle.iv_text.specs.Ordered.{AreInOrder};
 ghost use Rattle.iv_track.specs.Steps.{TakesUpTo};
-ghost use Rattle.iv_blocks.specs.Groups.{is_in_group, is_on_side, is_strand};
-ghost use Rattle.iv_blocks.specs.Inside.Groups.{between_on, is_apart, is_minus as is_minus_side, is_on, members_between};
+ghost use Rattle.iv_blocks.specs.Inside.Groups.{is_in_group, between_on, is_apart, is_minus as is_minus_side, is_on, members_between};
+ghost use Rattle.iv_blocks.specs.Groups.{is_on_side, is_strand};
 ghost use Rattle.iv_blocks.specs.Inside.MembersLeft.{TakesForEach, end_step};
 ghost use Rattle.iv_blocks.specs.Inside.Insertion.{key_of};
 

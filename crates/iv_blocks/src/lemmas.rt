@@ -7,7 +7,7 @@ ghost use Rattle.iv_cover.specs.BlockTerms.{BelongsTo};
 ghost use Rattle.iv_cover.specs.Depth.{depth};
 ghost use Rattle.iv_cover.specs.Runs.{Run, empty_runs};
 ghost use Rattle.iv_text.specs.CoveredPositions.{on};
-ghost use Rattle.iv_blocks.specs.ClusterRows.{block_number};
+ghost use Rattle.iv_blocks.specs.Inside.Texts.{block_number};
 
 /// The gaps of a sequence are exactly the maximal intervals on which the records' depth is 0.
 ///

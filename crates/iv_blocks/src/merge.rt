@@ -5,7 +5,8 @@ ghost use Rattle.iv_text.specs.Named.{names_of};
 ghost use Rattle.iv_text.specs.Read.{Fits};
 ghost use Rattle.iv_track.specs.Steps.{TakesUpTo};
 ghost use Rattle.iv_blocks.specs.KeptBlocks.{AreBlocksOf};
-ghost use Rattle.iv_blocks.specs.MergeRows.{all_blocks, merge_text};
+ghost use Rattle.iv_blocks.specs.MergeRows.{all_blocks};
+ghost use Rattle.iv_blocks.specs.Inside.Texts.{merge_text};
 
 use crate::blocks::Blocks;
 use crate::group::FIRST_KEY;

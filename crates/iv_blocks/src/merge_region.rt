@@ -12,7 +12,8 @@ ghost use Rattle.iv_blocks.specs.Inside.Lookups.{kept_in};
 ghost use Rattle.iv_blocks.specs.Inside.Regions.{ReachesFrom, row_past};
 ghost use Rattle.iv_blocks.specs.KeptBlocks.{AreBlocksOf};
 ghost use Rattle.iv_blocks.specs.MergeRows.{block_row};
-ghost use Rattle.iv_blocks.specs.RegionRows.{blocks_in, merge_text_in, side_blocks_in};
+ghost use Rattle.iv_blocks.specs.RegionRows.{blocks_in, side_blocks_in};
+ghost use Rattle.iv_blocks.specs.Inside.Texts.{merge_text_in};
 
 use crate::blocks::Blocks;
 use crate::group::{Group, Side};

@@ -6,7 +6,7 @@ ghost use Rattle.iv_text.specs.Read.{IsOnGenome};
 ghost use Rattle.iv_cover.specs.Results.{HasRoom};
 ghost use Rattle.iv_blocks.specs.Groups.{listed};
 ghost use Rattle.iv_blocks.specs.Inside.Groups.{is_on};
-ghost use Rattle.iv_blocks.specs.MergeRows.{merge_text};
+ghost use Rattle.iv_blocks.specs.Inside.Texts.{merge_text};
 ghost use Rattle.iv_blocks.specs.Inside.MergeSweeps.{group_row, group_rows, sequence_rows};
 
 use crate::group::Side;

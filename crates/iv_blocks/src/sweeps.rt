@@ -10,9 +10,7 @@ ghost use Rattle.iv_index.specs.Inside.Spans.{record_of_span, span_records};
 ghost use Rattle.iv_cover.specs.Inside.RemainingBlocks.{coming};
 ghost use Rattle.iv_cover.specs.TrackBlocks.{GivesFirst, blocks_of};
 ghost use Rattle.iv_blocks.specs.Inside.BlockSweeps.{interval_of, interval_row, next_start, numbered_row};
-ghost use Rattle.iv_blocks.specs.ClusterRows.{cluster_text};
-ghost use Rattle.iv_blocks.specs.ComplementRows.{complement_text};
-ghost use Rattle.iv_blocks.specs.MergeRows.{merge_text};
+ghost use Rattle.iv_blocks.specs.Inside.Texts.{cluster_text, complement_text, merge_text};
 ghost use Rattle.iv_blocks.specs.IntervalOptions.{IsByIntervals};
 ghost use Rattle.iv_blocks.specs.declared.options.BlockOptions.{BlockOptions};
 

@@ -2,7 +2,7 @@
 use Rattle.std.proofs.Common.{◌≡◌, ℕ, zero, suc, ◌+◌, ◌-◌, ◌<◌, ◌≤◌, ◌++◌, List, [], refl, arith}
 use Rattle.std.specs.List.{flat_map, range_with_len}
 use Rattle.iv_text.specs.Genome.{Sequences, seq_count}
-use Rattle.iv_depth.specs.DepthRows.{sequence_text, text_by}
+use Rattle.iv_depth.specs.Inside.Texts.{sequence_text, text_by}
 use Rattle.iv_depth.specs.declared.depth_rows.DepthRows.{DepthRows}
 
 module _ (shown : DepthRows) (g : Sequences) (f : ℕ → ℕ → ℕ) where

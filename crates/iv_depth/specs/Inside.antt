@@ -6,3 +6,4 @@ pub mod Edges
 pub mod NetChanges
 pub mod Region
 pub mod RunRows
+pub mod Texts

@@ -6,8 +6,9 @@ ghost use Rattle.iv_text.specs.Read.{Fits};
 ghost use Rattle.iv_cover.specs.Depth.{depth};
 ghost use Rattle.iv_track.specs.Steps.{TakesUpTo};
 ghost use Rattle.iv_depth.specs.Changes.{AreChangesOf};
-ghost use Rattle.iv_depth.specs.DepthRows.{depth_text, all_covered_runs};
-ghost use Rattle.iv_depth.specs.RegionRows.{depth_text_in, covered_runs_in};
+ghost use Rattle.iv_depth.specs.Inside.Texts.{depth_text, depth_text_in};
+ghost use Rattle.iv_depth.specs.DepthRows.{all_covered_runs};
+ghost use Rattle.iv_depth.specs.RegionRows.{covered_runs_in};
 
 use crate::changes::{Changes, add_record, take_record};
 use crate::depth_rows::{DepthRows, put_genome};

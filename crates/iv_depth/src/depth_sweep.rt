@@ -4,7 +4,7 @@ ghost use Rattle.iv_bytes.specs.Sinks.{Puts};
 ghost use Rattle.iv_text.specs.Ordered.{AreInOrder};
 ghost use Rattle.iv_text.specs.Read.{IsOnGenome};
 ghost use Rattle.iv_index.specs.Inside.Spans.{span_records};
-ghost use Rattle.iv_depth.specs.DepthRows.{depth_text};
+ghost use Rattle.iv_depth.specs.Inside.Texts.{depth_text};
 ghost use Rattle.iv_depth.specs.Inside.Edges.{AreStopsOf};
 
 use crate::depth_rows::{DepthRows, put_sequence};

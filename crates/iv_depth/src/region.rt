@@ -3,7 +3,8 @@ ghost use Rattle.std.specs.Prelude.{◌≡◌, ◌+◌, ◌*◌, ◌<◌, ◌≤
 ghost use Rattle.iv_bytes.specs.Sinks.{Puts};
 ghost use Rattle.iv_text.specs.Genome.{sequence_name, sequence_length};
 ghost use Rattle.iv_track.specs.Steps.{TakesUpTo};
-ghost use Rattle.iv_depth.specs.RegionRows.{rows_in, covered_runs_in};
+ghost use Rattle.iv_depth.specs.Inside.Texts.{rows_in};
+ghost use Rattle.iv_depth.specs.RegionRows.{covered_runs_in};
 ghost use Rattle.iv_depth.specs.Inside.Region.{AreChangesOn, IsRunStart, AreLeft, EndsRun};
 ghost use Rattle.iv_depth.specs.Inside.RunRows.{run_rows};
 ghost use Rattle.iv_depth.specs.Inside.Walks.{depth_by};

@@ -13,9 +13,8 @@ use Rattle.iv_text.proofs.ListLemmas.{all-mem, any-found, any-at}
 use Rattle.iv_index.specs.Cover.{is_covered}
 use Rattle.iv_track.specs.Regions.{overlaps}
 use Rattle.iv_pair.specs.Hits.{hits_of}
-use Rattle.iv_pair.specs.IntersectRows.{record_line, any_line, none_line}
+use Rattle.iv_pair.specs.IntersectRows.{intersect_rows, record_line}
 use Rattle.iv_pair.specs.PairRows.{pair_rows}
-use Rattle.iv_pair.specs.SubtractRows.{uncovered_rows}
 use Rattle.iv_pair.specs.declared.intersect.IntersectRows.TheVariants.{Shared, SharedAndHit, Whole, WholeAndHit, IfHit, IfNoHit, Count}
 use Rattle.iv_pair.specs.declared.pair_rows.PairRows.{PairRows}
 use Rattle.iv_pair.specs.declared.pair_rows.PairRows.TheVariants.{Intersect, Subtract}
@@ -34,16 +33,16 @@ same_tests false false f h = refl
 abbrev has_hit : List RecordValue → RecordValue → Bool
 has_hit rows a = list_any (overlaps a.seq a.start a.stop) rows
 
-any-line : (g : Sequences) (a : RecordValue) (rows : List RecordValue) → any_line g a (hits_of rows a) ≡ cond (has_hit rows a) (record_line g a) []
+any-line : (g : Sequences) (a : RecordValue) (rows : List RecordValue) → intersect_rows IfHit g a (hits_of rows a) ≡ cond (has_hit rows a) (record_line g a) []
 any-line g a [] = refl
-any-line g a (q ∷ rows) = elim (overlaps a.seq a.start a.stop q) as (λ c. any_line g a (cond c (q ∷ hits_of rows a) (hits_of rows a)) ≡ cond (c || has_hit rows a) (record_line g a) []) [
+any-line g a (q ∷ rows) = elim (overlaps a.seq a.start a.stop q) as (λ c. intersect_rows IfHit g a (cond c (q ∷ hits_of rows a) (hits_of rows a)) ≡ cond (c || has_hit rows a) (record_line g a) []) [
   | true ↦ refl
   | false ↦ any-line g a rows
 ]
 
-none-line : (g : Sequences) (a : RecordValue) (rows : List RecordValue) → none_line g a (hits_of rows a) ≡ cond (has_hit rows a) [] (record_line g a)
+none-line : (g : Sequences) (a : RecordValue) (rows : List RecordValue) → intersect_rows IfNoHit g a (hits_of rows a) ≡ cond (has_hit rows a) [] (record_line g a)
 none-line g a [] = refl
-none-line g a (q ∷ rows) = elim (overlaps a.seq a.start a.stop q) as (λ c. none_line g a (cond c (q ∷ hits_of rows a) (hits_of rows a)) ≡ cond (c || has_hit rows a) [] (record_line g a)) [
+none-line g a (q ∷ rows) = elim (overlaps a.seq a.start a.stop q) as (λ c. intersect_rows IfNoHit g a (cond c (q ∷ hits_of rows a) (hits_of rows a)) ≡ cond (c || has_hit rows a) [] (record_line g a)) [
   | true ↦ refl
   | false ↦ none-line g a rows
 ]
@@ -71,7 +70,7 @@ depth-zero (q ∷ rows) seq p =
       | false ↦ ap (λ n. n == 0) (zero-add (depth rows seq p)) ∙ depth-zero rows seq p
     ])
 
-uncovered-alike : (g : Sequences) (a : RecordValue) (second other : List RecordValue) → CoverAlike second other → uncovered_rows g a second ≡ uncovered_rows g a other
+uncovered-alike : (g : Sequences) (a : RecordValue) (second other : List RecordValue) → CoverAlike second other → pair_rows (Subtract false) g a second ≡ pair_rows (Subtract false) g a other
 uncovered-alike g a second other alike =
     ap (flat_map (λ (run : Run). record_line g (part a run.start run.stop)))
     (empty-alike (depth second a.seq) (depth other a.seq) (λ p. depth-zero second a.seq p ∙ ap not (alike a.seq p) ∙ sym (depth-zero other a.seq p)) a.start a.stop)

@@ -8,10 +8,10 @@ use Rattle.iv_bytes.proofs.PutLemmas.{Underway, Underway-begin, Underway-fails, 
 use Rattle.iv_text.specs.Genome.{Sequences}
 use Rattle.iv_text.specs.RecordValue.{RecordValue}
 use Rattle.iv_pair.specs.Hits.{hits_of}
-use Rattle.iv_pair.specs.IntersectRows.{any_line, intersect_rows, none_line}
+use Rattle.iv_pair.specs.IntersectRows.{intersect_rows}
 use Rattle.iv_pair.specs.Inside.HitLines.{AllOverlap, Overlaps, hit_line}
 use Rattle.iv_pair.specs.declared.intersect.IntersectRows.{IntersectRows}
-use Rattle.iv_pair.specs.declared.intersect.IntersectRows.TheVariants.{Shared, SharedAndHit, Whole, WholeAndHit}
+use Rattle.iv_pair.specs.declared.intersect.IntersectRows.TheVariants.{IfHit, IfNoHit, Shared, SharedAndHit, Whole, WholeAndHit}
 use Rattle.iv_pair.proofs.HitsLemmas.{hits-overlap}
 use Rattle.iv_pair.proofs.YieldLemmas.{ended, went}
 
@@ -27,11 +27,11 @@ lines-rows shown g a found (inr (inr (inr e))) = rw e refl
 -- a record has no line if it has a hit and none is asked for, or the other way round
 pub not-asked : {S A : Type 0} (steps : S → Option A → S → Type 0) (v : A → RecordValue) (has : Bool) (first : Option A) (s t : S) (found : List RecordValue)
     (g : Sequences) (a : RecordValue) → AlwaysYields steps v s found → steps s first t → beq (is_some first) has ≡ false
-    → (if has then any_line g a found else none_line g a found) ≡ []
-not-asked steps v true None s t found g a all step other = ap (any_line g a) (ended steps v found s t all step)
+    → (if has then intersect_rows IfHit g a found else intersect_rows IfNoHit g a found) ≡ []
+not-asked steps v true None s t found g a all step other = ap (intersect_rows IfHit g a) (ended steps v found s t all step)
 not-asked steps v true (Some x) s t found g a all step other = absurd (true≢false other)
 not-asked steps v false None s t found g a all step other = absurd (true≢false other)
-not-asked steps v false (Some x) s t found g a all step other = ap (none_line g a) (went steps v found s t x all step).1
+not-asked steps v false (Some x) s t found g a all step other = ap (intersect_rows IfNoHit g a) (went steps v found s t x all step).1
 
 -- a line was put for each hit of a record
 pub Puts-hits : {T E : Type 0} (shown : IntersectRows) (g : Sequences) (a : RecordValue) (second : List RecordValue) (old new : SinkState) (result : Result T E)

@@ -19,22 +19,14 @@ pair_line g a b = record_text g a ++ (codes "\t" ++ record_line g b)
 abbrev pub shared : RecordValue → RecordValue → RecordValue
 shared a b = part a (max a.start b.start) (min a.stop b.stop)
 
--- a record if it has a hit
-abbrev pub any_line : Sequences → RecordValue → List RecordValue → List ℕ
-any_line g a [] = []
-any_line g a (b ∷ found) = record_line g a
-
--- a record if it has none
-abbrev pub none_line : Sequences → RecordValue → List RecordValue → List ℕ
-none_line g a [] = record_line g a
-none_line g a (b ∷ found) = []
-
--- the rows of a record and its hits
+-- the rows of a record and its hits: one for each hit, or the record if it has a hit or has none, or the record and how many it has
 abbrev pub intersect_rows : IntersectRows → Sequences → RecordValue → List RecordValue → List ℕ
 intersect_rows Shared g a found = flat_map (λ b. record_line g (shared a b)) found
 intersect_rows SharedAndHit g a found = flat_map (λ b. pair_line g (shared a b) b) found
 intersect_rows Whole g a found = flat_map (λ b. record_line g a) found
 intersect_rows WholeAndHit g a found = flat_map (λ b. pair_line g a b) found
-intersect_rows IfHit g a found = any_line g a found
-intersect_rows IfNoHit g a found = none_line g a found
+intersect_rows IfHit g a [] = []
+intersect_rows IfHit g a (b ∷ found) = record_line g a
+intersect_rows IfNoHit g a [] = record_line g a
+intersect_rows IfNoHit g a (b ∷ found) = []
 intersect_rows Count g a found = record_text g a ++ (codes "\t" ++ (decimal (length found) ++ codes "\n"))

@@ -1,6 +1,5 @@
 pub mod Hits
 pub mod IntersectRows
-pub mod SubtractRows
 pub mod PairRows
 pub mod Counts
 pub mod Pairs

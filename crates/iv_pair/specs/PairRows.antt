@@ -1,18 +1,23 @@
 -- The rows of an intersect or a subtract.
-use Rattle.std.specs.Prelude.{ℕ, List}
+use Rattle.std.specs.Prelude.{ℕ, if◌then◌else◌, List}
 use Rattle.std.specs.List.{flat_map}
 use Rattle.iv_text.specs.Genome.{Sequences}
-use Rattle.iv_text.specs.RecordValue.{RecordValue}
-use Rattle.iv_pair.specs.Hits.{hits_of}
-use Rattle.iv_pair.specs.IntersectRows.{intersect_rows}
-use Rattle.iv_pair.specs.SubtractRows.{subtract_rows}
+use Rattle.iv_text.specs.RecordValue.{RecordValue, part}
+use Rattle.iv_track.specs.Regions.{hits}
+use Rattle.iv_cover.specs.Depth.{depth}
+use Rattle.iv_cover.specs.Runs.{empty_runs}
+use Rattle.iv_pair.specs.IntersectRows.{intersect_rows, record_line}
+use Rattle.iv_pair.specs.declared.intersect.IntersectRows.TheVariants.{IfNoHit}
 use Rattle.iv_pair.specs.declared.pair_rows.PairRows.{PairRows}
 use Rattle.iv_pair.specs.declared.pair_rows.PairRows.TheVariants.{Intersect, Subtract}
 
--- the rows of a record beside the second list
+-- the rows of a record beside the second list: those of an intersect with its hits; or of a subtract, the record if it has no hit if
+-- only whole records are taken away, and otherwise its maximal intervals that no record of the second list covers
 abbrev pub pair_rows : PairRows → Sequences → RecordValue → List RecordValue → List ℕ
-pair_rows (Intersect shown) g a second = intersect_rows shown g a (hits_of second a)
-pair_rows (Subtract whole) g a second = subtract_rows whole g a second
+pair_rows (Intersect shown) g a second = intersect_rows shown g a (hits second a.seq a.start a.stop)
+pair_rows (Subtract whole) g a second =
+    if whole then intersect_rows IfNoHit g a (hits second a.seq a.start a.stop)
+    else flat_map (λ run. record_line g (part a run.start run.stop)) (empty_runs (depth second a.seq) a.start a.stop)
 
 -- all rows: those of each record of the first list, in its order
 abbrev pub pair_text : PairRows → Sequences → List RecordValue → List RecordValue → List ℕ

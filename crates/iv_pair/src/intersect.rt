@@ -6,9 +6,9 @@ ghost use Rattle.std.specs.Option.{IsSomeAnd};
 ghost use Rattle.iv_bytes.specs.Sinks.{Puts};
 ghost use Rattle.iv_text.specs.RecordValue.{RecordValue};
 ghost use Rattle.iv_pair.specs.Hits.{hits_of};
-ghost use Rattle.iv_pair.specs.IntersectRows.{shared, record_line, pair_line, any_line, none_line, intersect_rows};
+ghost use Rattle.iv_pair.specs.IntersectRows.{shared, record_line, pair_line, intersect_rows};
 ghost use Rattle.iv_pair.specs.Inside.HitLines.{Overlaps, AllOverlap, hit_line};
-ghost use Rattle.iv_pair.specs.declared.intersect.IntersectRows.TheVariants.{Count};
+ghost use Rattle.iv_pair.specs.declared.intersect.IntersectRows.TheVariants.{IfHit, IfNoHit, Count};
 
 use iv_bytes::{Sink, WriteFault, put_all};
 use iv_text::{BedRecord, Genome, RecordRef, put_line, put_numbered, put_record};
@@ -182,7 +182,7 @@ pub(crate) fn put_if<
     S: Sink,
 >(has: bool, genome: &Genome<A>, row: &R, hits: H, sink: &mut S) -> Result<(), WriteFault>
     requires { H.can_next hits }
-    ensures { (found : List RecordValue) → AlwaysYields H.next_gives T.as_record hits found → Puts (S.state sink.old) (S.state sink.new) result (if has then any_line genome.now (R.as_record row.now) found else none_line genome.now (R.as_record row.now) found) }
+    ensures { (found : List RecordValue) → AlwaysYields H.next_gives T.as_record hits found → Puts (S.state sink.old) (S.state sink.new) result (if has then intersect_rows IfHit genome.now (R.as_record row.now) found else intersect_rows IfNoHit genome.now (R.as_record row.now) found) }
 {
     let mut hits = hits;
     if hits.next().is_some() == has {

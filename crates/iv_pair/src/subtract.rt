@@ -1,12 +1,13 @@
 //! The rows of a subtract.
-ghost use Rattle.std.specs.Prelude.{◌≤◌, List};
+ghost use Rattle.std.specs.Prelude.{◌≤◌, false, List};
 ghost use Rattle.std.specs.Iterator.{AlwaysYields, IsFinite};
 ghost use Rattle.iv_bytes.specs.Sinks.{Puts};
 ghost use Rattle.iv_text.specs.Ordered.{AreInOrder};
 ghost use Rattle.iv_text.specs.RecordValue.{RecordValue};
 ghost use Rattle.iv_pair.specs.Hits.{hits_of};
 ghost use Rattle.iv_pair.specs.Inside.HitLines.{part_line};
-ghost use Rattle.iv_pair.specs.SubtractRows.{subtract_rows, uncovered_rows};
+ghost use Rattle.iv_pair.specs.PairRows.{pair_rows};
+ghost use Rattle.iv_pair.specs.declared.pair_rows.PairRows.TheVariants.{Subtract};
 
 use crate::intersect::put_if;
 use iv_bytes::{Sink, WriteFault};
@@ -25,7 +26,7 @@ pub fn put_subtract<
 >(whole: bool, genome: &Genome<A>, row: &R, hits: H, sink: &mut S) -> Result<(), WriteFault>
     requires starts { H.can_next hits }
     requires ends { IsFinite (H.remaining hits) }
-    ensures { (second : List RecordValue) → AreInOrder second → AlwaysYields H.next_gives T.as_record hits (hits_of second (R.as_record row.now)) → Puts (S.state sink.old) (S.state sink.new) result (subtract_rows whole genome.now (R.as_record row.now) second) }
+    ensures { (second : List RecordValue) → AreInOrder second → AlwaysYields H.next_gives T.as_record hits (hits_of second (R.as_record row.now)) → Puts (S.state sink.old) (S.state sink.new) result (pair_rows (Subtract whole) genome.now (R.as_record row.now) second) }
 {
     if whole {
         put_if(false, genome, row, hits, sink)
@@ -44,7 +45,7 @@ fn put_uncovered<A: Allocator + Copy, R: BedRecord, T: BedRecord, H: Iterator<It
 ) -> Result<(), WriteFault>
     requires starts { H.can_next hits }
     requires ends { IsFinite (H.remaining hits) }
-    ensures { (second : List RecordValue) → AreInOrder second → AlwaysYields H.next_gives T.as_record hits (hits_of second (R.as_record row.now)) → Puts (S.state sink.old) (S.state sink.new) result (uncovered_rows genome.now (R.as_record row.now) second) }
+    ensures { (second : List RecordValue) → AreInOrder second → AlwaysYields H.next_gives T.as_record hits (hits_of second (R.as_record row.now)) → Puts (S.state sink.old) (S.state sink.new) result (pair_rows (Subtract false) genome.now (R.as_record row.now) second) }
 {
     let mut from = row.start();
     for hit in hits {

@@ -12,11 +12,13 @@ use Rattle.iv_cover.specs.Depth.{depth}
 use Rattle.iv_cover.specs.Runs.{empty_runs}
 use Rattle.iv_cover.specs.TrackBlocks.{start_of, stop_of}
 use Rattle.iv_cover.specs.declared.column.ColumnSummary.{ColumnSummary}
-use Rattle.iv_blocks.specs.ComplementRows.{complement_text, gap_row}
-use Rattle.iv_blocks.specs.Groups.{group, is_in_group, sides}
-use Rattle.iv_blocks.specs.MergeRows.{block_row, merge_text}
+use Rattle.iv_blocks.specs.Inside.Texts.{complement_text, merge_text}
+use Rattle.iv_blocks.specs.ComplementRows.{gap_row}
+use Rattle.iv_blocks.specs.Groups.{group, sides}
+use Rattle.iv_blocks.specs.Inside.Groups.{is_in_group}
+use Rattle.iv_blocks.specs.MergeRows.{block_row}
 use Rattle.iv_blocks.specs.declared.options.BlockOptions.{BlockOptions}
-use Rattle.iv_depth.specs.DepthRows.{depth_text, text_by}
+use Rattle.iv_depth.specs.Inside.Texts.{depth_text, text_by}
 use Rattle.iv_depth.specs.declared.depth_rows.DepthRows.{DepthRows}
 use Rattle.iv_index.specs.Locators.{bare}
 use Rattle.iv_index.proofs.BareLemmas.{count-bare}

@@ -157,12 +157,12 @@ module _ (words : List (List ℕ)) where
 pub shows-places : (plan : RunPlan) (sizes text : List ℕ) (other bases : Option (List ℕ)) (limit : ℕ) (files : Parsed)
     → ReportsProjected bare (Ok files) (parsed plan.width sizes text other bases limit)
     → (v : IntervalsView) (ask : AskForIntervals plan.view v) (old new : SinkState) (result : Result (Unit {0}) CliFault)
-    → Prints old new result (kept_text ask.asked files.genome (ordered files.first.rows)) → Shows old new result (shown plan sizes text other bases limit)
+    → Prints old new result (kept_text None ask.asked files.genome (ordered files.first.rows)) → Shows old new result (shown plan sizes text other bases limit)
 shows-places plan sizes text other bases limit files said v ask old new result prints =
     let whole = said.0 in
-    let text_is : kept_text ask.asked files.genome (ordered files.first.rows) ≡ kept_text ask.asked whole.genome (ordered whole.first.rows) =
-    ap (λ (f : Parsed). kept_text ask.asked f.genome (ordered f.first.rows)) said.2
-    ∙ ap (kept_text ask.asked whole.genome) (ordered-bare whole.first.rows)
+    let text_is : kept_text None ask.asked files.genome (ordered files.first.rows) ≡ kept_text None ask.asked whole.genome (ordered whole.first.rows) =
+    ap (λ (f : Parsed). kept_text None ask.asked f.genome (ordered f.first.rows)) said.2
+    ∙ ap (kept_text None ask.asked whole.genome) (ordered-bare whole.first.rows)
     ∙ needs-places v ask.asked ask.is_view whole.genome (ordered whole.first.rows) in
     shows-text (parsed plan.width sizes text other bases limit) whole said.1 plan.view (view.Kept ask.asked) (ask.reads whole.first.width (is_some whole.second) (is_some whole.bases)) old new result
     (subst (Prints old new result) text_is prints)

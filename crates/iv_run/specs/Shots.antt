@@ -1,5 +1,5 @@
 -- What a run of one subcommand prints.
-use Rattle.std.specs.Prelude.{◌≡◌, ℕ, List, [], Option, Result, Ok, Err}
+use Rattle.std.specs.Prelude.{◌≡◌, ℕ, List, [], Option, None, Result, Ok, Err}
 use Rattle.std.specs.Option.{is_some, option_map, unwrap_or}
 use Rattle.iv_bytes.specs.Sinks.{SinkState, Takes, FailsIn}
 use Rattle.iv_text.specs.BedFile.{Bed}
@@ -7,7 +7,7 @@ use Rattle.iv_text.specs.Ordered.{ordered}
 use Rattle.iv_text.specs.RecordValue.{RecordValue}
 use Rattle.iv_text.specs.declared.fault.Fault.{Fault}
 use Rattle.iv_text.specs.Chains.{if_ok, map_fault}
-use Rattle.iv_view.specs.Views.{read_words, view_text}
+use Rattle.iv_view.specs.Views.{read_words, shown_text}
 use Rattle.iv_view.specs.declared.view.View.{View}
 use Rattle.iv_run.specs.declared.fault.CliFault.{CliFault}
 use Rattle.iv_run.specs.declared.fault.CliFault.TheVariants as fault
@@ -24,7 +24,7 @@ view_beside files words = read_words files.first.width (is_some files.second) (i
 
 -- what the view prints for the files: its text for their records in track order
 abbrev pub text_beside : Parsed → View → List ℕ
-text_beside files view = view_text view files.genome (ordered files.first.rows) (ordered_other files.second) (unwrap_or files.bases [])
+text_beside files view = shown_text None view files.genome (ordered files.first.rows) (ordered_other files.second) (unwrap_or files.bases [])
 
 -- what a run of the plan prints for the bytes of the genome file, of the first file, and of the second and the FASTA file, if
 -- there are any; or its first fault: that of a damaged file, and then that of the words of the view

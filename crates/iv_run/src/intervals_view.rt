@@ -82,7 +82,7 @@ impl IntervalsView {
     ) -> Result<(), CliFault>
         requires order { AreInOrder (span_records spans.now) }
         requires on_genome { All (IsOnGenome genome.now) (span_records spans.now) }
-        ensures { (view : KeptView) → IsViewOf self view → Prints (S.state sink.old) (S.state sink.new) result (kept_text view genome.now (span_records spans.now)) }
+        ensures { (view : KeptView) → IsViewOf self view → Prints (S.state sink.old) (S.state sink.new) result (kept_text None view genome.now (span_records spans.now)) }
     {
         let mut buffer = Buffered::new(sink);
         self.put(alloc, spans, genome, &mut buffer)?;
@@ -100,7 +100,7 @@ impl IntervalsView {
     ) -> Result<(), CliFault>
         requires order { AreInOrder (span_records spans.now) }
         requires on_genome { All (IsOnGenome genome.now) (span_records spans.now) }
-        ensures text { (view : KeptView) → IsViewOf self view → Prints (S.state sink.old) (S.state sink.new) result (kept_text view genome.now (span_records spans.now)) }
+        ensures text { (view : KeptView) → IsViewOf self view → Prints (S.state sink.old) (S.state sink.new) result (kept_text None view genome.now (span_records spans.now)) }
         ensures alone { result ≡ Err CliFault.Memory → sink.new ≡ sink.old }
     {
         match self {
@@ -121,7 +121,7 @@ fn print_files<A: Allocator + Copy, S: Sink>(
     files: LoadedFiles<Span, A>,
     sink: &mut S,
 ) -> Result<(), CliFault>
-    ensures { (asked : KeptView) → IsViewOf view asked → Prints (S.state sink.old) (S.state sink.new) result (kept_text asked files.genome (ordered files.first.rows)) }
+    ensures { (asked : KeptView) → IsViewOf view asked → Prints (S.state sink.old) (S.state sink.new) result (kept_text None asked files.genome (ordered files.first.rows)) }
 {
     let LoadedFiles {
         alloc,

@@ -1,5 +1,5 @@
 //! A run of one subcommand, without a script, over the bytes of its files.
-ghost use Rattle.std.specs.Prelude.{◌≡◌, ◌<◌, ◌≤◌, ◌^◌, ◌⊎◌, All, List, ℕ, [], Ok, Err, IsSome, IfSome, IfOk, IfErr, OnOk, length};
+ghost use Rattle.std.specs.Prelude.{◌≡◌, ◌<◌, ◌≤◌, ◌^◌, ◌⊎◌, All, List, ℕ, [], None, Ok, Err, IsSome, IfSome, IfOk, IfErr, OnOk, length};
 ghost use Rattle.std.specs.Option.{option_copied, option_map, unwrap_or};
 ghost use Rattle.iv_bytes.specs.Sinks.{Puts};
 ghost use Rattle.iv_text.specs.Genome.{Sequences};
@@ -11,7 +11,7 @@ ghost use Rattle.iv_track.specs.Tracked.{most_records};
 ghost use Rattle.iv_fasta.specs.FastaRows.{fasta_text};
 ghost use Rattle.iv_pair.specs.CoverAlone.{DependsOnCoverAlone, HaveBases};
 ghost use Rattle.iv_pair.specs.PairRows.{pair_text};
-ghost use Rattle.iv_view.specs.RecordRows.{records_text};
+ghost use Rattle.iv_view.specs.Inside.Texts.{records_text};
 ghost use Rattle.iv_view.specs.Views.{kept_text};
 ghost use Rattle.iv_run.specs.Loading.{parsed, second_of};
 ghost use Rattle.iv_run.specs.Inside.IntervalsViews.{AskForColumns, NeedsColumns};
@@ -146,7 +146,7 @@ impl<'t, A: Allocator + Copy> TextFiles<'t, A> {
     /// Puts the text of a view of the first file, for its records in the order of a track.
     fn put_kept_view<S: Sink>(self, alloc: A, view: KeptView, sink: &mut S) -> Result<(), CliFault>
         requires { NeedsColumns view }
-        ensures text { Prints (S.state sink.old) (S.state sink.new) result (kept_text view self.entry.genome (ordered self.entry.first.rows)) }
+        ensures text { Prints (S.state sink.old) (S.state sink.new) result (kept_text None view self.entry.genome (ordered self.entry.first.rows)) }
         ensures alone { result ≡ Err CliFault.Memory → sink.new ≡ sink.old }
     {
         let TextFiles {
@@ -236,7 +236,7 @@ fn sweep<'t, A: Allocator + Copy, S: Sink>(
     requires columns { NeedsColumns view }
     requires order { AreInOrder records }
     requires on_genome { All (IsOnGenome genome.now) records }
-    ensures text { Prints (S.state sink.old) (S.state sink.new) result (kept_text view genome.now records.entry) }
+    ensures text { Prints (S.state sink.old) (S.state sink.new) result (kept_text None view genome.now records.entry) }
     ensures alone { result ≡ Err CliFault.Memory → sink.new ≡ sink.old }
 {
     match view {

@@ -43,7 +43,8 @@ use Rattle.iv_text.proofs.LineLemmas.{lines-line, strip-is, strip-more}
 use Rattle.iv_text.proofs.OnePassLemmas.{decimal-more, digits-more, number-is, digit-bound, bound-more, powers-grow, column-more, column-last, read-ranked}
 use Rattle.iv_text.proofs.OrderedLemmas.{all-all_added, length-all_added}
 use Rattle.iv_view.specs.Inside.RowsAgain.{IsOfLine, IsBedRow}
-use Rattle.iv_view.specs.RecordRows.{record_row, records_text}
+use Rattle.iv_pair.specs.IntersectRows.{record_line}
+use Rattle.iv_view.specs.Inside.Texts.{records_text}
 
 -- ---- numbers in decimal
 
@@ -390,7 +391,7 @@ strip-kept x [] plain = strip-is x [] ∙ cond-false _ _ _ (ne_eqb x 13 (not-ret
 strip-kept x (y ∷ xs) plain = strip-more x y xs ∙ ap (λ t. x ∷ t) (strip-kept y xs (All-tail IsPlain x (y ∷ xs) plain))
 
 -- the row of such a record is one line
-row-line : (g : Sequences) (w : ℕ) (r : RecordValue) (more : List ℕ) → IsBedRow g w r → lines (record_row g r ++ more) ≡ record_text g r ∷ lines more
+row-line : (g : Sequences) (w : ℕ) (r : RecordValue) (more : List ℕ) → IsBedRow g w r → lines (record_line g r ++ more) ≡ record_text g r ∷ lines more
 row-line g w r more is =
     let parts = line-parts g w r is.of_line in
     let name : List ℕ = sequence_name g r.seq in

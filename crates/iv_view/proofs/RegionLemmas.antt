@@ -1,5 +1,6 @@
 -- The rows of a region: of written views record by record, and the records that cover its first position.
 use Rattle.std.proofs.Common.{◌≡◌, ◌∙◌, ℕ, ◌+◌, ◌*◌, ◌<◌, ◌≤◌, ◌&&◌, ◌==◌, nat_lt, List, [], ◌∷◌, ◌++◌, true, ap, arith, length}
+use Rattle.std.specs.List.{flat_map}
 use Rattle.std.proofs.lemmas.Bool.{and_from, and_parts, lt-ltb, ltb-true}
 use Rattle.std.proofs.lemmas.List.Sums.{length-filter}
 use Rattle.std.proofs.lemmas.Grind.{flat_map-append}
@@ -9,23 +10,17 @@ use Rattle.iv_text.proofs.ListLemmas.{filter-agree, filter-weaker, same_tests}
 use Rattle.iv_text.specs.Genome.{Sequences}
 use Rattle.iv_text.specs.RecordValue.{RecordValue}
 use Rattle.iv_fasta.specs.Fasta.{Bases}
-use Rattle.iv_fasta.specs.FastaRows.{fasta_rows}
-use Rattle.iv_pair.specs.PairRows.{pair_rows}
 use Rattle.iv_pair.proofs.HitsLemmas.{covers_from, covers_parts}
 use Rattle.iv_track.specs.Regions.{hits, longest, near, overlaps}
 use Rattle.iv_track.specs.declared.region.Region.{Region}
 use Rattle.iv_track.proofs.RegionLemmas.{overlaps_from, overlaps_parts}
-use Rattle.iv_view.specs.RecordRows.{record_row}
-use Rattle.iv_view.specs.Views.{written_text}
+use Rattle.iv_view.specs.Views.{written_rows}
 use Rattle.iv_view.specs.declared.written_view.WrittenView.{WrittenView}
-use Rattle.iv_view.specs.declared.written_view.WrittenView.TheVariants as written
 
 -- the rows of the first record are before those of the others
 pub first-rows : (v : WrittenView) (g : Sequences) (r : RecordValue) (rows second : List RecordValue) (bases : Bases)
-    → written_text v g (r ∷ rows) second bases ≡ written_text v g (r ∷ []) second bases ++ written_text v g rows second bases
-first-rows (written.Paired shown) g r rows second bases = flat_map-append (λ a. pair_rows shown g a second) (r ∷ []) rows
-first-rows (written.Getfasta shown) g r rows second bases = flat_map-append (fasta_rows shown g bases) (r ∷ []) rows
-first-rows written.Records g r rows second bases = flat_map-append (record_row g) (r ∷ []) rows
+    → flat_map (written_rows v g second bases) (r ∷ rows) ≡ flat_map (written_rows v g second bases) (r ∷ []) ++ flat_map (written_rows v g second bases) rows
+first-rows v g r rows second bases = flat_map-append (written_rows v g second bases) (r ∷ []) rows
 
 -- the records that share a position with an interval of one position are those that cover it
 pub first-depth : (rows : List RecordValue) (seq p : ℕ) → length (hits rows seq p (p + 1)) ≡ depth rows seq p

@@ -1,12 +1,14 @@
 -- The rows of written views: those that words ask for, and those that there are without bases.
 use Rattle.std.proofs.Common.{◌≡◌, ℕ, true, List, [], ◌∷◌, refl, ap}
 use Rattle.std.specs.Prelude.{codes}
+use Rattle.std.specs.List.{flat_map}
 use Rattle.std.proofs.lemmas.Slice.Eq.{bytes_eq-Decides}
-use Rattle.iv_fasta.specs.FastaRows.{fasta_text}
 use Rattle.iv_fasta.specs.declared.rows.FastaRows.{FastaRows}
 use Rattle.iv_text.specs.Genome.{Sequences}
 use Rattle.iv_text.specs.RecordValue.{RecordValue}
 use Rattle.iv_view.specs.Flags.{intersect_said, fasta_said}
+use Rattle.iv_view.specs.Views.{written_rows}
+use Rattle.iv_view.specs.declared.written_view.WrittenView.TheVariants.{Getfasta}
 use Rattle.iv_view.proofs.FlagLemmas.{AreOthers}
 
 -- the options of `intersect` beside `-wa`
@@ -24,6 +26,6 @@ getfasta_others = record {
 }
 
 -- without bases there is no row
-pub no-bases : (shown : FastaRows) (g : Sequences) (rows : List RecordValue) → fasta_text shown g [] rows ≡ []
-no-bases shown g [] = refl
-no-bases shown g (r ∷ rows) = no-bases shown g rows
+pub no-bases : (shown : FastaRows) (g : Sequences) (second rows : List RecordValue) → flat_map (written_rows (Getfasta shown) g second []) rows ≡ []
+no-bases shown g second [] = refl
+no-bases shown g second (r ∷ rows) = no-bases shown g second rows

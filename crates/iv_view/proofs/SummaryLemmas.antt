@@ -6,8 +6,8 @@ use Rattle.std.specs.Option.{option_map}
 use Rattle.iv_cover.specs.declared.column.ColumnSummary.{ColumnSummary}
 use Rattle.iv_cover.specs.declared.op.Op.{Op}
 use Rattle.iv_cover.specs.declared.op.Op.TheVariants.{Count}
-use Rattle.iv_blocks.specs.Groups.{filled, unused}
-use Rattle.iv_blocks.specs.Inside.Groups.{pushed}
+use Rattle.iv_blocks.specs.Groups.{filled}
+use Rattle.iv_blocks.specs.Inside.Groups.{unused, pushed}
 use Rattle.iv_blocks.specs.declared.options.Summaries.{Summaries}
 use Rattle.iv_view.specs.Lists.{all_some}
 use Rattle.iv_view.specs.Merge.{summary_within}

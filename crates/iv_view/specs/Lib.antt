@@ -1,7 +1,6 @@
 pub mod Flags
 pub mod Lists
 pub mod Merge
-pub mod RecordRows
 pub mod Views
 pub mod NarrowedViews
 pub mod KeptStates

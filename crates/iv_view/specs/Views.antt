@@ -1,27 +1,31 @@
 -- The views: the words that ask for one, and its text.
 use Rattle.std.specs.Prelude.{ℕ, ◌+◌, ◌==◌, Bool, true, false, nat_lt, ◌&&◌, if◌then◌else◌, List, [], ◌∷◌, length, Option, None, Some, Result, Ok, Err, codes}
+use Rattle.std.specs.List.{flat_map}
 use Rattle.std.specs.Option.{ok_or, option_map}
 use Rattle.std.specs.Str.{bytes_eq}
-use Rattle.iv_text.specs.Genome.{Sequences}
+use Rattle.iv_text.specs.Genome.{Sequences, sequence_length, sequence_name}
 use Rattle.iv_text.specs.RecordValue.{RecordValue}
 use Rattle.iv_text.specs.declared.fault.Fault.{Fault}
 use Rattle.iv_text.specs.declared.fault.Fault.TheVariants as fault
-use Rattle.iv_blocks.specs.ClusterRows.{cluster_text}
-use Rattle.iv_blocks.specs.ComplementRows.{complement_text}
-use Rattle.iv_blocks.specs.MergeRows.{merge_text}
-use Rattle.iv_depth.specs.DepthRows.{depth_text}
+use Rattle.iv_cover.specs.Depth.{depth}
+use Rattle.iv_blocks.specs.ClusterRows.{cluster_row}
+use Rattle.iv_blocks.specs.ComplementRows.{gap_rows}
+use Rattle.iv_blocks.specs.MergeRows.{merge_rows}
+use Rattle.iv_depth.specs.DepthRows.{depth_rows}
 use Rattle.iv_fasta.specs.Fasta.{Bases}
-use Rattle.iv_fasta.specs.FastaRows.{fasta_text}
+use Rattle.iv_fasta.specs.FastaRows.{fasta_rows}
 use Rattle.iv_fasta.specs.declared.rows.FastaRows.{FastaRows}
-use Rattle.iv_pair.specs.PairRows.{pair_text}
+use Rattle.iv_pair.specs.IntersectRows.{record_line}
+use Rattle.iv_pair.specs.PairRows.{pair_rows}
 use Rattle.iv_pair.specs.declared.pair_rows.PairRows.{PairRows}
 use Rattle.iv_pair.specs.declared.pair_rows.PairRows.TheVariants as pair
+use Rattle.iv_track.specs.Parts.{records_in, sequences_in}
 use Rattle.iv_track.specs.Steps.{TakesUpTo}
 use Rattle.iv_track.specs.Tracked.{Tracked, different_records}
+use Rattle.iv_track.specs.declared.region.Region.{Region}
 use Rattle.iv_text.specs.Chains.{if_ok}
 use Rattle.iv_view.specs.Flags.{only_flag, beside_flag, genomecov_rows, intersect_said, fasta_said}
 use Rattle.iv_view.specs.Merge.{said_by, nothing_said, merge_options, cluster_distance}
-use Rattle.iv_view.specs.RecordRows.{records_text}
 use Rattle.iv_view.specs.declared.view.View.{View}
 use Rattle.iv_view.specs.declared.view.View.TheVariants as view
 use Rattle.iv_view.specs.declared.view.KeptView.{KeptView}
@@ -68,19 +72,6 @@ read_words width has_second has_bases (word ∷ words) =
     else if bytes_eq word (codes "records") && length words == 0 then Ok (view.Written written.Records)
     else Err fault.Words
 
--- the text of a view of which a state is kept, on this genome for these records
-abbrev pub kept_text : KeptView → Sequences → List RecordValue → List ℕ
-kept_text (kept.Merge options) g rows = merge_text options g rows
-kept_text (kept.Cluster distance) g rows = cluster_text distance g rows
-kept_text (kept.Complement limited) g rows = complement_text limited g rows
-kept_text (kept.Genomecov shown) g rows = depth_text shown g rows
-
--- the text of a view that is written from these records, those of the second file and these bases
-abbrev pub written_text : WrittenView → Sequences → List RecordValue → List RecordValue → Bases → List ℕ
-written_text (written.Paired shown) g rows second bases = pair_text shown g rows second
-written_text (written.Getfasta shown) g rows second bases = fasta_text shown g bases rows
-written_text written.Records g rows second bases = records_text g rows
-
 -- how many steps lie between two readings at most while a view is written from these records: of `records` two, and one more for
 -- each different record; the others may take as many as they need
 abbrev pub WritesWithin : WrittenView → List RecordValue → ℕ → ℕ → Type 0
@@ -92,8 +83,23 @@ abbrev pub second_records : Option Tracked → List RecordValue
 second_records None = []
 second_records (Some second) = second.rows
 
--- the text that a view means, on this genome for these records, beside the records of the second file and the bases of the
--- FASTA file, of each none if there is no such file
-abbrev pub view_text : View → Sequences → List RecordValue → List RecordValue → Bases → List ℕ
-view_text (view.Kept v) g rows second bases = kept_text v g rows
-view_text (view.Written v) g rows second bases = written_text v g rows second bases
+-- what is printed of a view of which a state is kept, all of it or a region: of `cluster`, whose rows are records, those of such
+-- records, with the numbers that they have among all
+abbrev pub kept_text : Option Region → KeptView → Sequences → List RecordValue → List ℕ
+kept_text part (kept.Merge options) g rows = sequences_in part g (merge_rows part options g rows)
+kept_text part (kept.Cluster distance) g rows = flat_map (cluster_row distance g rows) (records_in part rows)
+kept_text part (kept.Complement limited) g rows = sequences_in part g (gap_rows part limited g rows)
+kept_text part (kept.Genomecov shown) g rows =
+    sequences_in part g (λ rank. depth_rows part shown (sequence_name g rank) (depth rows rank) (sequence_length g rank))
+
+-- the rows of a record in a view that is written from records, beside those of the second file and these bases
+abbrev pub written_rows : WrittenView → Sequences → List RecordValue → Bases → RecordValue → List ℕ
+written_rows (written.Paired shown) g second bases r = pair_rows shown g r second
+written_rows (written.Getfasta shown) g second bases r = fasta_rows shown g bases r
+written_rows written.Records g second bases r = record_line g r
+
+-- what is printed of a view on this genome for these records, all of it or a region, beside the records of the second file and the
+-- bases of the FASTA file, of each none if there is no such file; of a view that is written from records, the rows of those in the part
+abbrev pub shown_text : Option Region → View → Sequences → List RecordValue → List RecordValue → Bases → List ℕ
+shown_text part (view.Kept v) g rows second bases = kept_text part v g rows
+shown_text part (view.Written v) g rows second bases = flat_map (written_rows v g second bases) (records_in part rows)

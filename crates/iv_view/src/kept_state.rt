@@ -1,5 +1,5 @@
 //! What is kept for views: the blocks of records, or their depth.
-ghost use Rattle.std.specs.Prelude.{◌≡◌, ◌↔◌, ◌+◌, ◌*◌, All, IsTrue, length};
+ghost use Rattle.std.specs.Prelude.{◌≡◌, ◌↔◌, ◌+◌, ◌*◌, None, Some, All, IsTrue, length};
 ghost use Rattle.iv_bytes.specs.Sinks.{Puts};
 ghost use Rattle.iv_text.specs.Named.{names_of};
 ghost use Rattle.iv_text.specs.Read.{Fits};
@@ -9,8 +9,9 @@ ghost use Rattle.iv_track.specs.Regions.{near};
 ghost use Rattle.iv_track.specs.Steps.{TakesUpTo};
 ghost use Rattle.iv_cover.specs.Depth.{depth as depth_of};
 ghost use Rattle.iv_depth.specs.Changes.{AreChangesOf};
-ghost use Rattle.iv_depth.specs.RegionRows.{covered_runs_in, depth_text_in};
-ghost use Rattle.iv_view.specs.RegionText.{IsWithin, PrintsInWithin, kept_text_in};
+ghost use Rattle.iv_depth.specs.RegionRows.{covered_runs_in};
+ghost use Rattle.iv_depth.specs.Inside.Texts.{depth_text_in};
+ghost use Rattle.iv_view.specs.RegionText.{IsWithin, PrintsInWithin};
 ghost use Rattle.iv_view.specs.Views.{kept_text};
 
 use crate::view::{KeptView, View};
@@ -68,7 +69,7 @@ impl KeptView {
         requires kept { what_is_kept state.now ≡ kept_for self }
         requires right { IsRight state.now (names_of genome.now) track.now.rows }
         requires fit { All (Fits genome.now track.now.width) track.now.rows }
-        ensures text { Puts (S.state sink.old) (S.state sink.new) result (kept_text self genome.now track.now.rows) }
+        ensures text { Puts (S.state sink.old) (S.state sink.new) result (kept_text None self genome.now track.now.rows) }
         ensures steps { PrintsWithin self genome.now track.now.rows meter.old meter.new }
     {
         match (self, state) {
@@ -107,7 +108,7 @@ impl KeptView {
         requires within { IsWithin genome.now at }
         requires right { IsRight state.now (names_of genome.now) track.now.rows }
         requires fit { All (Fits genome.now track.now.width) track.now.rows }
-        ensures text { Puts (S.state sink.old) (S.state sink.new) result (kept_text_in at self genome.now track.now.rows) }
+        ensures text { Puts (S.state sink.old) (S.state sink.new) result (kept_text (Some at) self genome.now track.now.rows) }
         ensures steps { PrintsInWithin at self genome.now track.now.rows meter.old meter.new }
     {
         match (self, state) {

@@ -10,7 +10,7 @@ ghost use Rattle.iv_text.specs.RecordValue.{RecordValue};
 ghost use Rattle.iv_text.specs.Widths.{IsWidth};
 ghost use Rattle.iv_view.specs.Merge.{MergeArgs, said_by, nothing_said};
 ghost use Rattle.iv_view.specs.Inside.RowsAgain.{IsBedRow};
-ghost use Rattle.iv_view.specs.RecordRows.{records_text};
+ghost use Rattle.iv_view.specs.Inside.Texts.{records_text};
 ghost use Rattle.iv_view.specs.Inside.MergeOptions.{MergeOption, words_of, option_words, options_of};
 
 /// Words of `merge` and `cluster` are accepted exactly if they are those of options in some order, each of which comes once;

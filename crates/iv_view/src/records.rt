@@ -3,7 +3,7 @@ ghost use Rattle.std.specs.Prelude.{◌+◌, replicate};
 ghost use Rattle.iv_bytes.specs.Sinks.{Puts};
 ghost use Rattle.iv_track.specs.Steps.{TakesUpTo};
 ghost use Rattle.iv_track.specs.Tracked.{different_records};
-ghost use Rattle.iv_view.specs.RecordRows.{records_text};
+ghost use Rattle.iv_view.specs.Inside.Texts.{records_text};
 
 use iv_bytes::{Sink, WriteFault};
 use iv_text::{Genome, Record, put_line};

@@ -1,11 +1,12 @@
 //! The views that have no state.
 ghost use Rattle.std.specs.Prelude.{◌+◌, ◌<◌, [], ◌∷◌, IsTrue, IsSome, length};
+ghost use Rattle.std.specs.List.{flat_map};
 ghost use Rattle.std.specs.Option.{option_copied, unwrap_or};
 ghost use Rattle.iv_bytes.specs.Sinks.{Puts};
 ghost use Rattle.iv_pair.specs.PairRows.{pair_rows};
 ghost use Rattle.iv_track.specs.Regions.{hits as hits_in, near};
 ghost use Rattle.iv_track.specs.Steps.{TakesUpTo};
-ghost use Rattle.iv_view.specs.Views.{needs_second, second_records, written_text, WritesWithin};
+ghost use Rattle.iv_view.specs.Views.{needs_second, second_records, written_rows, WritesWithin};
 ghost use Rattle.iv_view.specs.declared.view.View.TheVariants.{Written};
 
 use crate::records::print_records;
@@ -43,7 +44,7 @@ impl WrittenView {
     ) -> Result<(), WriteFault>
         requires { IsTrue (needs_second (Written self)) → IsSome (option_copied second) }
         ensures text { Puts (S.state sink.old) (S.state sink.new) result
-            (written_text self genome.now track.now.rows (second_records (option_copied second.entry)) (unwrap_or (option_copied fasta.entry) [])) }
+            (flat_map (written_rows self genome.now (second_records (option_copied second.entry)) (unwrap_or (option_copied fasta.entry) [])) track.now.rows) }
         ensures steps { WritesWithin self track.now.rows meter.old meter.new }
     {
         match self {
@@ -76,7 +77,7 @@ impl WrittenView {
         requires some { at.start < at.stop }
         requires second { IsTrue (needs_second (Written self)) → IsSome (option_copied second) }
         ensures text { Puts (S.state sink.old) (S.state sink.new) result
-            (written_text self genome.now (hits_in track.now.rows at.seq at.start at.stop) (second_records (option_copied second.entry)) (unwrap_or (option_copied fasta.entry) [])) }
+            (flat_map (written_rows self genome.now (second_records (option_copied second.entry)) (unwrap_or (option_copied fasta.entry) [])) (hits_in track.now.rows at.seq at.start at.stop)) }
         ensures steps { TakesUpTo meter.old meter.new (2 + length (near at track.now.rows)) }
     {
         let mut hits = track.hits(at, meter);
@@ -97,7 +98,7 @@ impl WrittenView {
     ) -> Result<(), WriteFault>
         requires { IsTrue (needs_second (Written self)) → IsSome (option_copied second) }
         ensures { Puts (S.state sink.old) (S.state sink.new) result
-            (written_text self genome.now (row.now ∷ []) (second_records (option_copied second.entry)) (unwrap_or (option_copied fasta.entry) [])) }
+            (flat_map (written_rows self genome.now (second_records (option_copied second.entry)) (unwrap_or (option_copied fasta.entry) [])) (row.now ∷ [])) }
     {
         match self {
             WrittenView::Paired(rows) => match second {

@@ -9,8 +9,7 @@ use Rattle.iv_text.specs.Fault.{code_of}
 use Rattle.iv_text.specs.declared.fault.Fault.{Fault}
 use Rattle.iv_text.specs.declared.fault.Fault.TheVariants as fault
 use Rattle.iv_track.specs.declared.region.Region.{Region}
-use Rattle.iv_view.specs.RegionText.{shown_text}
-use Rattle.iv_view.specs.Views.{read_words, second_records}
+use Rattle.iv_view.specs.Views.{read_words, second_records, shown_text}
 use Rattle.iv_view.specs.declared.view.View.{View}
 use Rattle.iv_workspace.specs.OpenViews.{Shown}
 use Rattle.iv_workspace.specs.States.{State, with_view}

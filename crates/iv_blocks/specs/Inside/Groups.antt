@@ -1,12 +1,14 @@
 -- Sides, and the records of a group that start within a range.
 use Rattle.std.specs.Prelude.{ℕ, ◌+◌, slice_set, ◌==◌, ◌&&◌, nat_le, nat_lt, Bool, true, false, List, filter}
 use Rattle.iv_text.specs.RecordValue.{RecordValue}
+use Rattle.iv_cover.specs.declared.column.Column.TheVariants.{Sequence}
 use Rattle.iv_cover.specs.declared.column.ColumnSummary.{ColumnSummary}
+use Rattle.iv_cover.specs.declared.op.Op.TheVariants.{Count}
 use Rattle.iv_blocks.specs.declared.group.Group.{Group}
 use Rattle.iv_blocks.specs.declared.group.Side.{Side}
 use Rattle.iv_blocks.specs.declared.options.Summaries.{Summaries}
 use Rattle.iv_blocks.specs.declared.group.Side.TheVariants as side
-use Rattle.iv_blocks.specs.Groups.{is_in_group, is_on_side}
+use Rattle.iv_blocks.specs.Groups.{is_on_side}
 
 -- whether it is the side of one strand
 abbrev pub is_apart : Side → Bool
@@ -24,6 +26,10 @@ is_minus side.Minus = true
 abbrev pub is_on : Side → RecordValue → Bool
 is_on s r = is_on_side (is_apart s) (is_minus s) r
 
+-- the record is on the sequence of this rank, and on this side
+abbrev pub is_in_group : Bool → ℕ → Bool → RecordValue → Bool
+is_in_group stranded rank minus r = (r.seq == rank) && is_on_side stranded minus r
+
 -- the record starts at `from` or after, and below `to`
 abbrev pub starts_between : ℕ → ℕ → RecordValue → Bool
 starts_between from to r = nat_le from r.start && nat_lt r.start to
@@ -39,6 +45,10 @@ between_on rank from to rows = filter (λ r. (r.seq == rank) && starts_between f
 -- those of them in the group
 abbrev pub members_between : Group → ℕ → ℕ → List RecordValue → List RecordValue
 members_between g from to rows = filter (λ r. is_in_group (is_apart g.side) g.rank (is_minus g.side) r && starts_between from to r) rows
+
+-- an entry that holds no summary
+abbrev pub unused : ColumnSummary
+unused = record { column = Sequence; op = Count }
 
 -- one more summary at the end
 abbrev pub pushed : Summaries → ColumnSummary → Summaries

@@ -5,7 +5,7 @@ use Rattle.iv_text.specs.RecordValue.{RecordValue}
 use Rattle.iv_track.specs.Entries.{value_at}
 use Rattle.iv_cover.specs.Depth.{depth}
 use Rattle.iv_cover.specs.Runs.{Run, empty_runs}
-use Rattle.iv_blocks.specs.ComplementRows.{is_shown}
+use Rattle.iv_blocks.specs.Inside.Texts.{is_shown}
 use Rattle.iv_blocks.specs.KeptBlocks.{Entries, Kept, key_cmp}
 use Rattle.iv_blocks.specs.RegionRows.{shares}
 

@@ -1,5 +1,5 @@
 -- Which views need nothing of a record except its interval.
-use Rattle.std.specs.Prelude.{◌≡◌, List, map}
+use Rattle.std.specs.Prelude.{◌≡◌, List, None, map}
 use Rattle.iv_text.specs.Genome.{Sequences}
 use Rattle.iv_text.specs.RecordValue.{RecordValue}
 use Rattle.iv_index.specs.Locators.{bare}
@@ -8,4 +8,4 @@ use Rattle.iv_view.specs.declared.view.KeptView.{KeptView}
 
 -- on each genome and for each list of records, the text stays as it is if only the intervals of the records are held
 abbrev pub NeedsIntervalsAlone : KeptView → Type 0
-NeedsIntervalsAlone view = (g : Sequences) (rows : List RecordValue) → kept_text view g (map bare rows) ≡ kept_text view g rows
+NeedsIntervalsAlone view = (g : Sequences) (rows : List RecordValue) → kept_text None view g (map bare rows) ≡ kept_text None view g rows

@@ -7,7 +7,7 @@ use Rattle.iv_index.specs.Inside.Spans.{span_records}
 use Rattle.iv_index.specs.declared.span.Span.{Span}
 use Rattle.iv_cover.specs.TrackBlocks.{blocks_of}
 use Rattle.iv_blocks.specs.Inside.BlockSweeps.{interval_of, interval_row}
-use Rattle.iv_blocks.specs.MergeRows.{merge_text}
+use Rattle.iv_blocks.specs.Inside.Texts.{merge_text}
 use Rattle.iv_blocks.specs.IntervalOptions.{IsByIntervals}
 use Rattle.iv_blocks.specs.declared.options.BlockOptions.{BlockOptions}
 use Rattle.iv_blocks.proofs.MergeTexts.{text-blocks}

@@ -1,6 +1,6 @@
 use Rattle.std.proofs.Common.{◌+◌, ◌≤◌, length}
 use Rattle.iv_bytes.proofs.PutLemmas.{Underway}
-use Rattle.iv_depth.specs.DepthRows.{text_by}
+use Rattle.iv_depth.specs.Inside.Texts.{text_by}
 use Rattle.iv_depth.specs.Inside.Walks.{AreAhead, depth_by}
 use Rattle.iv_depth.proofs.Genomes.{texts_from}
 use Rattle.iv_depth.proofs.depth_rows.put_genome.Given as goal

@@ -3,7 +3,7 @@ use Rattle.iv_bytes.proofs.PutLemmas.{Underway}
 use Rattle.iv_cover.specs.Depth.{depth}
 use Rattle.iv_index.proofs.SequenceLemmas.{is_from}
 use Rattle.iv_index.specs.Inside.Spans.{span_records}
-use Rattle.iv_depth.specs.DepthRows.{depth_text}
+use Rattle.iv_depth.specs.Inside.Texts.{depth_text}
 use Rattle.iv_depth.proofs.Genomes.{texts_from}
 use Rattle.iv_depth.proofs.depth_sweep.put_genome.Given as goal
 

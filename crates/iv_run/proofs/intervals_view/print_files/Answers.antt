@@ -1,4 +1,4 @@
-use Rattle.std.proofs.Common.{List, sym, subst, ap, ◌∙◌}
+use Rattle.std.proofs.Common.{List, None, sym, subst, ap, ◌∙◌}
 use Rattle.std.specs.Prelude.{All}
 use Rattle.iv_text.specs.Ordered.{AreInOrder, ordered}
 use Rattle.iv_text.specs.Read.{IsOnGenome}
@@ -27,5 +27,5 @@ print-requires-clause-on_genome g c =
 pub returns : goal.returns
 returns g c = λ asked is.
     let rows = ap span_records c.as_slice.ensures.value ∙ c.sort_spans.ensures ∙ ap ordered c.in_ok-spans.ensures in
-    subst (λ (files : Parsed). Prints (g.S.Sink.state c.args.sink.now) (g.S.Sink.state c.print.new.sink) c.print.result (kept_text asked files.genome (ordered files.first.rows))) c.files.view_is
-    (subst (λ (l : List RecordValue). Prints (g.S.Sink.state c.args.sink.now) (g.S.Sink.state c.print.new.sink) c.print.result (kept_text asked c.files.inside.genome l)) rows (c.print.ensures asked is))
+    subst (λ (files : Parsed). Prints (g.S.Sink.state c.args.sink.now) (g.S.Sink.state c.print.new.sink) c.print.result (kept_text None asked files.genome (ordered files.first.rows))) c.files.view_is
+    (subst (λ (l : List RecordValue). Prints (g.S.Sink.state c.args.sink.now) (g.S.Sink.state c.print.new.sink) c.print.result (kept_text None asked c.files.inside.genome l)) rows (c.print.ensures asked is))

@@ -8,14 +8,15 @@ use Rattle.iv_track.specs.Copies.{expanded}
 use Rattle.iv_track.specs.Tracked.{different_records}
 use Rattle.iv_track.proofs.StepLemmas.{takes_none, takes_one_more}
 use Rattle.iv_track.proofs.WalkLemmas.{filter-from_first}
-use Rattle.iv_view.specs.RecordRows.{record_row, records_text}
+use Rattle.iv_pair.specs.IntersectRows.{record_line}
+use Rattle.iv_view.specs.Inside.Texts.{records_text}
 use Rattle.iv_view.proofs.records.print_records.Goals as goal
 
 -- the rows of an entry are before those of the others
 first-rows : (g : Sequences) (entries rest : List (RecordValue × ℕ)) (r : RecordValue) (n : ℕ) → entries ≡ (r, n) ∷ rest
     → records_text g (expanded entries) ≡ records_text g (replicate n r) ++ records_text g (expanded rest)
 first-rows g entries rest r n first =
-    ap (λ (es : List (RecordValue × ℕ)). records_text g (expanded es)) first ∙ flat_map-append (record_row g) (replicate n r) (expanded rest)
+    ap (λ (es : List (RecordValue × ℕ)). records_text g (expanded es)) first ∙ flat_map-append (record_line g) (replicate n r) (expanded rest)
 
 pub entries-init : goal.entries-init
 entries-init g c =

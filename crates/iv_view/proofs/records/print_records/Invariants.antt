@@ -2,7 +2,7 @@ use Rattle.std.proofs.Common.{◌+◌, ◌≤◌, length}
 use Rattle.iv_bytes.proofs.PutLemmas.{Underway}
 use Rattle.iv_track.specs.Copies.{expanded}
 use Rattle.iv_track.specs.Tracked.{different_records}
-use Rattle.iv_view.specs.RecordRows.{records_text}
+use Rattle.iv_view.specs.Inside.Texts.{records_text}
 use Rattle.iv_view.proofs.records.print_records.Given as goal
 
 -- the rows of the entries that are left remain to be written

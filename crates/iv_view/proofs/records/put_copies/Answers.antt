@@ -1,7 +1,7 @@
 use Rattle.std.proofs.Common.{◌≡◌, ◌-◌, ◌+◌, ◌<◌, ℕ, ◌∷◌, suc, zero, sym, ap, subst, arith}
 use Rattle.std.specs.Prelude.{replicate}
 use Rattle.iv_bytes.proofs.PutLemmas.{Underway, Underway-begin, Underway-more, Underway-fails, Underway-ends, Puts-err}
-use Rattle.iv_view.specs.RecordRows.{records_text}
+use Rattle.iv_view.specs.Inside.Texts.{records_text}
 use Rattle.iv_view.proofs.records.put_copies.Goals as goal
 
 -- a copy that is left is the first of those that are left

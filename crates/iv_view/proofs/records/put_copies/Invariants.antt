@@ -1,7 +1,7 @@
 use Rattle.std.proofs.Common.{◌-◌}
 use Rattle.std.specs.Prelude.{replicate}
 use Rattle.iv_bytes.proofs.PutLemmas.{Underway}
-use Rattle.iv_view.specs.RecordRows.{records_text}
+use Rattle.iv_view.specs.Inside.Texts.{records_text}
 use Rattle.iv_view.proofs.records.put_copies.Given as goal
 
 -- the rows of the copies that are left remain to be written

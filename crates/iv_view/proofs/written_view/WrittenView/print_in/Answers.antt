@@ -1,8 +1,9 @@
 use Rattle.std.proofs.Common.{◌≡◌, ◌∙◌, ◌∷◌, List, [], ap, arith}
+use Rattle.std.specs.List.{flat_map}
 use Rattle.std.specs.Option.{option_copied, unwrap_or}
 use Rattle.iv_bytes.proofs.PutLemmas.{Underway-begin, Underway-more, Underway-fails, Puts-err}
 use Rattle.iv_text.specs.RecordValue.{RecordValue}
-use Rattle.iv_view.specs.Views.{second_records, written_text}
+use Rattle.iv_view.specs.Views.{second_records, written_rows}
 use Rattle.iv_view.proofs.RegionLemmas.{first-rows}
 use Rattle.iv_view.proofs.written_view.WrittenView.print_in.Goals as goal
 
@@ -20,7 +21,7 @@ rows-preserved g c =
     let second = second_records (option_copied a.second) in
     let bases = unwrap_or (option_copied a.fasta) [] in
     let first : c.rows.hits.rows ≡ c.in-Some.row.now ∷ c.next.new.self.rows = c.in-Some.ensures.row in
-    let next = ap (λ (l : List RecordValue). written_text a.self a.genome.now l second bases) first ∙ first-rows a.self a.genome.now c.in-Some.row.now c.next.new.self.rows second bases in
+    let next = ap (flat_map (written_rows a.self a.genome.now second bases)) first ∙ first-rows a.self a.genome.now c.in-Some.row.now c.next.new.self.rows second bases in
     record {
       put = Underway-more _ _ _ _ _ _ (rw next at i.put) c.in_ok-put_rows.ensures;
       no_less = omega (arith, i.no_less, c.in-Some.ensures.steps);
@@ -34,7 +35,7 @@ returns-in_err-put_rows g c =
     let second = second_records (option_copied a.second) in
     let bases = unwrap_or (option_copied a.fasta) [] in
     let first : c.rows.hits.rows ≡ c.in-Some.row.now ∷ c.next.new.self.rows = c.in-Some.ensures.row in
-    let next = ap (λ (l : List RecordValue). written_text a.self a.genome.now l second bases) first ∙ first-rows a.self a.genome.now c.in-Some.row.now c.next.new.self.rows second bases in
+    let next = ap (flat_map (written_rows a.self a.genome.now second bases)) first ∙ first-rows a.self a.genome.now c.in-Some.row.now c.next.new.self.rows second bases in
     record {
       text = Puts-err _ _ c.from_residual.result _ c.from_residual.ensures.0
           (Underway-fails _ _ _ _ _ _ (rw next at i.put) c.in_err-put_rows.ensures);

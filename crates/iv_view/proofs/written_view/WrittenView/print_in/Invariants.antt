@@ -1,16 +1,17 @@
 use Rattle.std.proofs.Common.{◌+◌, ◌≤◌, [], length}
+use Rattle.std.specs.List.{flat_map}
 use Rattle.std.specs.Option.{option_copied, unwrap_or}
 use Rattle.iv_bytes.proofs.PutLemmas.{Underway}
 use Rattle.iv_track.specs.Regions.{hits, near}
-use Rattle.iv_view.specs.Views.{second_records, written_text}
+use Rattle.iv_view.specs.Views.{second_records, written_rows}
 use Rattle.iv_view.proofs.written_view.WrittenView.print_in.Given as goal
 
 -- the rows of the hits that are left remain to be written
 abbrev pub invariant-rows : goal.invariant-rows
 invariant-rows g l = record {
   put : Underway (g.S.Sink.state l.fn.sink) (g.S.Sink.state l.sink)
-      (written_text l.self l.genome l.hits.rows (second_records (option_copied l.fn.second)) (unwrap_or (option_copied l.fn.fasta) []))
-      (written_text l.self l.genome (hits l.track.rows l.fn.at.seq l.fn.at.start l.fn.at.stop) (second_records (option_copied l.fn.second)) (unwrap_or (option_copied l.fn.fasta) []));
+      (flat_map (written_rows l.self l.genome (second_records (option_copied l.fn.second)) (unwrap_or (option_copied l.fn.fasta) [])) l.hits.rows)
+      (flat_map (written_rows l.self l.genome (second_records (option_copied l.fn.second)) (unwrap_or (option_copied l.fn.fasta) [])) (hits l.track.rows l.fn.at.seq l.fn.at.start l.fn.at.stop));
   no_less : l.fn.meter ≤ l.meter;
   at_most : l.meter + l.hits.passes ≤ l.fn.meter + (1 + length (near l.fn.at l.track.rows));
 }
