@@ -89,6 +89,9 @@ fn after_strand(text: &[u8]) -> Option<&[u8]>
 }
 
 /// What follows the cells of a record of this width, if a text begins with them.
+///
+/// It is a part of its callers, which read each line of a file: a call would hand the answer over in memory.
+#[inline(always)]
 pub(crate) fn after_cells(width: u8, text: &[u8]) -> Option<&[u8]>
     requires { IsWidth width }
     ensures { IfSome result (λ rest. BeginsWithCells width text.now rest.now) }
