@@ -1,7 +1,7 @@
 //! Records read line after line.
 ghost use Rattle.std.specs.Prelude.{◌≡◌, ◌≤◌, false, [], ◌∷◌, IfSome, IsSome, length, take, ℕ, ◌+◌, ◌/◌, ◌%◌, ◌^◌, ◌<◌, ◌++◌, None, Some, Ok, IfOk, slice_index};
 ghost use Rattle.std.specs.Option.{is_some};
-ghost use Rattle.iv_text.specs.Inside.OnePass.{ends_cell, BeginsWithCell, BeginsWithCells, IsCell, IsNamed, BeginsWithInterval};
+ghost use Rattle.iv_text.specs.Inside.OnePass.{ends_cell, BeginsWithCell, BeginsWithCells, IsCell, IsFirstLine, IsNamed, BeginsWithInterval};
 ghost use Rattle.iv_text.specs.Read.{bad_text, read, column, Fits};
 ghost use Rattle.iv_text.specs.RecordValue.{strand_of};
 ghost use Rattle.iv_text.specs.Fields.{columns as columns_of};
@@ -13,7 +13,9 @@ use crate::fault::RecordFault;
 use crate::genome::Genome;
 use crate::lines::{after_byte, after_line_end, columns_after, cut_first_column, is_unread};
 use crate::number::split_number;
-use crate::record_ref::{RecordRef, are_sound, optional_columns_of, read_record, read_strand};
+use crate::record_ref::{
+    OptionalColumns, RecordRef, are_sound, optional_columns_of, read_record, read_strand,
+};
 use bstr::ByteSlice;
 use std::alloc::Allocator;
 use std::marker::Model;
@@ -57,17 +59,17 @@ fn count_cell(text: &[u8]) -> usize
     ends.trailing_zeros() as usize
 }
 
-/// What follows a TAB and a name or a score, if a text begins with them.
+/// A name or a score after a TAB, and what follows it, if a text begins with them.
 #[inline(always)]
-fn after_text(text: &[u8]) -> Option<&[u8]>
-    ensures { IfSome result (λ rest. BeginsWithCell (λ cell. bad_text cell ≡ false) text.now rest.now) }
+fn split_text(text: &[u8]) -> Option<(&[u8], &[u8])>
+    ensures { IfSome result (λ p. BeginsWithCell (λ cell. bad_text cell ≡ false) text.now p.0.now p.1.now) }
 {
     let cell = after_byte(text, b'\t')?;
     let end = count_cell(cell);
     if end == 0 {
         return None;
     }
-    Some(&cell[end..])
+    Some((&cell[..end], &cell[end..]))
 }
 
 /// Whether the byte alone means a strand.
@@ -77,37 +79,47 @@ fn is_strand(byte: u8) -> bool
     byte == b'+' || byte == b'-' || byte == b'.'
 }
 
-/// What follows a TAB and the byte of a strand, if a text begins with them.
-fn after_strand(text: &[u8]) -> Option<&[u8]>
-    ensures { IfSome result (λ rest. BeginsWithCell (λ cell. IsSome (strand_of cell)) text.now rest.now) }
+/// The byte of a strand after a TAB, and what follows it, if a text begins with them.
+#[inline(always)]
+fn split_strand(text: &[u8]) -> Option<(&[u8], &[u8])>
+    ensures { IfSome result (λ p. BeginsWithCell (λ cell. IsSome (strand_of cell)) text.now p.0.now p.1.now) }
 {
     let strand = after_byte(text, b'\t')?;
     match strand {
-        [byte, rest @ ..] if is_strand(*byte) => Some(rest),
+        [byte, rest @ ..] if is_strand(*byte) => Some((&strand[..1], rest)),
         _ => None,
     }
 }
 
-/// What follows the cells of a record of this width, if a text begins with them.
+/// The columns of a record of this width after its interval, and what follows them, if a text begins with them.
 ///
 /// It is a part of its callers, which read each line of a file: a call would hand the answer over in memory.
 #[inline(always)]
-pub(crate) fn after_cells(width: u8, text: &[u8]) -> Option<&[u8]>
+fn split_cells(width: u8, text: &[u8]) -> Option<(OptionalColumns<'_>, &[u8])>
     requires { IsWidth width }
-    ensures { IfSome result (λ rest. BeginsWithCells width text.now rest.now) }
+    ensures { IfSome result (λ p. BeginsWithCells width text.now p.0.name.now p.0.score.now p.0.strand.now p.1.now) }
 {
+    let mut columns = OptionalColumns {
+        name: b"",
+        score: b"",
+        strand: b"",
+    };
     if width == 3 {
-        return Some(text);
+        return Some((columns, text));
     }
-    let after_name = after_text(text)?;
+    let (name, after_name) = split_text(text)?;
+    columns.name = name;
     if width == 4 {
-        return Some(after_name);
+        return Some((columns, after_name));
     }
-    let after_score = after_text(after_name)?;
+    let (score, after_score) = split_text(after_name)?;
+    columns.score = score;
     if width == 5 {
-        return Some(after_score);
+        return Some((columns, after_score));
     }
-    after_strand(after_score)
+    let (strand, rest) = split_strand(after_score)?;
+    columns.strand = strand;
+    Some((columns, rest))
 }
 
 /// The first line of a text, read in one pass: the interval of its record, 0-based and half-open, and how long the line is.
@@ -259,7 +271,7 @@ impl<'g, 't, A: Allocator + Copy> RecordReader<'g, 't, A> {
         ensures { IfSome result (λ l. IsFastLine self.now width text.now l) }
     {
         let front = self.split_interval(text)?;
-        let end = after_cells(width, front.rest)?;
+        let (_, end) = split_cells(width, front.rest)?;
         let next = after_line_end(end)?;
         Some(FastLine {
             seq: front.rank,
@@ -267,6 +279,28 @@ impl<'g, 't, A: Allocator + Copy> RecordReader<'g, 't, A> {
             stop: front.stop,
             size: text.len() - next.len(),
         })
+    }
+
+    /// The record of the first line of a text, and how long the line is, under the conditions of [`read_fast`](Self::read_fast).
+    #[inline(always)]
+    pub(crate) fn read_first<'a>(&self, width: u8, text: &'a [u8]) -> Option<(RecordRef<'a>, usize)>
+        requires { IsWidth width }
+        ensures { IfSome result (λ p. IsFirstLine self.now width text.now p.0 p.1) }
+    {
+        let front = self.split_interval(text)?;
+        let (columns, end) = split_cells(width, front.rest)?;
+        let next = after_line_end(end)?;
+        let strand = read_strand(columns.strand);
+        let record = RecordRef::of_columns(
+            front.rank,
+            front.start,
+            front.stop,
+            columns.name,
+            columns.score,
+            strand,
+            width,
+        );
+        Some((record, text.len() - next.len()))
     }
 
     /// The record of a line that names the sequence of the line before, read in one pass from its front.
