@@ -20,6 +20,10 @@ pub record IsNamed (g : Sequences) (name : List ℕ) (rank len : ℕ) : Type 0 w
   pub rank_is : rank_of g name ≡ Some rank
   pub length_is : length_at g rank ≡ Some len
 
+-- the text begins with the name of a sequence and a TAB, and the rest is after them
+abbrev pub BeginsWithName : Sequences → List ℕ → List ℕ → ℕ → ℕ → List ℕ → Type 0
+BeginsWithName g text name rank len rest = IsNamed g name rank len × (text ≡ name ++ tab ∷ rest)
+
 -- the text begins with digits that mean n, and the rest is after them
 abbrev pub BeginsWithNumber : List ℕ → ℕ → List ℕ → Type 0
 BeginsWithNumber text n rest = (digits : List ℕ) × (text ≡ digits ++ rest) × (number digits ≡ Some n)
