@@ -11,7 +11,7 @@ use Rattle.std.specs.Str.{all_ascii_digits}
 use Rattle.iv_text.specs.Fields.{columns, is_separator}
 use Rattle.iv_text.specs.Number.{number, decimal_from}
 use Rattle.iv_text.specs.Inside.Fields.{HasNoTab}
-use Rattle.iv_text.specs.Inside.OnePass.{ArePassed, BeginsWithName, BeginsWithNumber, BeginsWithInterval, IsNamed}
+use Rattle.iv_text.specs.Inside.OnePass.{ArePassed, BeginsWithName, BeginsWithNumber, BeginsWithInterval}
 use Rattle.iv_text.specs.declared.record_ref.Strand.{Strand}
 use Rattle.std.specs.Borrow.{Bor}
 use Rattle.std.specs.Prelude.{MatchOption, IfSome, IsSome}

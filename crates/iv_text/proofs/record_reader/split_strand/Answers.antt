@@ -1,4 +1,4 @@
-use Rattle.std.proofs.Common.{[], ◌∷◌, List, ℕ, get_or, take, drop, length, ◌-◌, ap, sym, ◌∙◌, subst}
+use Rattle.std.proofs.Common.{◌∷◌, List, ℕ, get_or, take, drop, length, ◌-◌, ap, sym, ◌∙◌, subst}
 use Rattle.std.specs.Prelude.{IsSome}
 use Rattle.iv_text.specs.Inside.OnePass.{BeginsWithCell}
 use Rattle.iv_text.specs.RecordValue.{strand_of}
