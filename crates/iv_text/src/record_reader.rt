@@ -156,7 +156,7 @@ struct Front<'a> {
 /// How many slots for sequences a reader has.
 const SLOTS: usize = 256;
 
-/// With this odd factor the chromosomes of a human, a mouse, a dog, a fly and a yeast have a slot each, however they are named.
+/// With this odd factor the chromosomes of a human, a mouse, a dog, a fly and a yeast have a slot each, by their usual names.
 const MIXER: u32 = 0xE1EA_24C5;
 
 /// Reads the records of lines one after another, faster if a line names a sequence that a line before named.
