@@ -20,6 +20,7 @@ use Rattle.iv_text.specs.declared.fault.LoadCause.{LoadCause}
 use Rattle.iv_text.specs.declared.fault.LoadCause.TheVariants as cause
 use Rattle.iv_text.specs.declared.fault.LoadFault.{LoadFault}
 use Rattle.iv_text.specs.FastLine.{IsFastLine}
+use Rattle.iv_text.specs.Inside.OnePass.{IsFirstLine}
 use Rattle.iv_text.specs.declared.record_reader.FastLine.{FastLine}
 use Rattle.iv_text.specs.BedReading.{LinesRead, known, projected_draft, after, IsReadAt, IsProjected, AreSound, Held, shown, byte_after, BeginsAfter, Shows, TakesLines, RefusesLines, Reading, begun, coming, projected_or_fault, projected_bed_of, after_records, finished}
 use Rattle.iv_text.specs.Inside.BedReading.{Takes, Refuses, TakesLine, RefusesLine, EndsAtFeed, IsEnded}
@@ -352,6 +353,19 @@ module _ {K : Type 0} (held_of : RecordValue → ℕ → K) (g : Sequences) (lim
       → TakesLine held_of g limit old new text l.size
   short-taken old new w text l one short wide is one_is small free new_is =
       held-taken old new text short.line l.size w short.row one short.lines_are short.unread (known-at old.width w short.line is) wide.0 wide.1 short.reads short.fits one_is small free new_is
+
+  -- the same, if all its columns were read
+  pub first-taken : (old new : Held K) (w : ℕ) (text : List ℕ) (r : RecordValue) (size : ℕ) (one : K) → IsFirstLine g w text r size → (3 ≤ w) × (w ≤ 6) → old.width ≡ Some w
+      → one ≡ held_of r old.at → old.at < 2 ^ 32 → length old.kept < limit → new ≡ record old { width = Some w; kept = old.kept ++ one ∷ [] }
+      → (0 < size) × (size ≤ length text) × TakesLine held_of g limit old new text size
+  first-taken old new w text r size one first wide is one_is small free new_is =
+      let l = first.0 in
+      let short = first.1 in
+      subst (λ n. (0 < n) × (n ≤ length text) × TakesLine held_of g limit old new text n) first.3 (
+        short.some,
+        short.within,
+        short-taken old new w text l one short wide is (one_is ∙ ap (λ (row : RecordValue). held_of row old.at) (sym first.2)) small free new_is,
+      )
 
   -- it is one too many
   pub short-full : (old : Held K) (w : ℕ) (text : List ℕ) (l : FastLine) → IsFastLine g w text l → (3 ≤ w) × (w ≤ 6) → old.width ≡ Some w → limit ≤ length old.kept

@@ -13,7 +13,7 @@ use Rattle.std.specs.Io.BufRead.{strip_last}
 use Rattle.std.specs.Option.{is_some, option_map}
 use Rattle.std.specs.Str.{all_ascii_digits, bytes_eq}
 use Rattle.iv_text.proofs.LineLemmas.{strip-is, strip-more, lines-line}
-use Rattle.iv_text.proofs.OnePassLemmas.{and_true, number-digits, column-last, column-more, line-read, record_of}
+use Rattle.iv_text.proofs.OnePassLemmas.{and_true, number-digits, column-last, column-more, line-read, record_of, row-of}
 use Rattle.iv_text.specs.BedFile.{is_unread, is_headed}
 use Rattle.iv_text.specs.Inside.Fields.{HasNoTab, is_separator}
 use Rattle.iv_text.specs.Genome.{Sequences, length_at}
@@ -21,9 +21,10 @@ use Rattle.iv_text.specs.Lines.{lines, HasNoFeed, begins_with}
 use Rattle.iv_text.specs.Inside.OnePass.{ArePassed, BeginsWithInterval, BeginsWithCell, BeginsWithCells, IsCell, ends_cell, laid}
 use Rattle.iv_text.specs.Read.{column, bad_text}
 use Rattle.iv_text.specs.Inside.Read.{is_line_byte}
-use Rattle.iv_text.specs.RecordValue.{strand_of}
+use Rattle.iv_text.specs.RecordValue.{IsRecord, strand_of}
 use Rattle.iv_text.specs.FastLine.{IsFastLine}
 use Rattle.iv_text.specs.declared.record_reader.FastLine.{FastLine}
+use Rattle.iv_text.specs.declared.record_ref.Strand.{Strand}
 
 -- ---- bytes that are no end of a line
 
@@ -221,43 +222,76 @@ laid-in-front : (text cell after rest : List ℕ) (cells : List (List ℕ)) → 
 laid-in-front text cell after rest cells first others =
     first ∙ ap (λ t. 9 ∷ (cell ++ t)) others ∙ ap (λ t. 9 ∷ t) (sym (append_assoc cell (laid cells) rest))
 
-pub four-columns : (w : ℕ) (text rest : List ℕ) → w ≡ 4 → BeginsWithCell IsText text rest → BeginsWithCells w text rest
-four-columns w text rest is name = record {
-  cells = name.0 ∷ [];
-  text_is = laid-in-front text name.0 rest rest [] name.1 refl;
-  plain = All-cons IsCell name.0 [] name.2 (All-nil IsCell);
+pub three-columns : (w : ℕ) (text : List ℕ) → w ≡ 3 → BeginsWithCells w text [] [] [] text
+three-columns w text is = record {
+  cells = [];
+  text_is = refl;
+  plain = All-nil IsCell;
   count = sym is;
-  sound = record { name_good = λ wide. name.3; score_good = λ wide. absurd (omega (arith, wide, is)); strand_good = λ wide. absurd (omega (arith, wide, is)) };
+  name_is = refl;
+  score_is = refl;
+  strand_is = refl;
+  sound = record { name_good = λ wide. absurd (omega (arith, wide, is)); score_good = λ wide. absurd (omega (arith, wide, is)); strand_good = λ wide. absurd (omega (arith, wide, is)) };
 }
 
-pub five-columns : (w : ℕ) (text after rest : List ℕ) → w ≡ 5 → BeginsWithCell IsText text after → BeginsWithCell IsText after rest → BeginsWithCells w text rest
-five-columns w text after rest is name score = record {
-  cells = name.0 ∷ score.0 ∷ [];
-  text_is = laid-in-front text name.0 after rest (score.0 ∷ []) name.1 (laid-in-front after score.0 rest rest [] score.1 refl);
-  plain = All-cons IsCell name.0 (score.0 ∷ []) name.2 (All-cons IsCell score.0 [] score.2 (All-nil IsCell));
+pub four-columns : (w : ℕ) (text name rest : List ℕ) → w ≡ 4 → BeginsWithCell IsText text name rest → BeginsWithCells w text name [] [] rest
+four-columns w text name rest is one = record {
+  cells = name ∷ [];
+  text_is = laid-in-front text name rest rest [] one.0 refl;
+  plain = All-cons IsCell name [] one.1 (All-nil IsCell);
   count = sym is;
-  sound = record { name_good = λ wide. name.3; score_good = λ wide. score.3; strand_good = λ wide. absurd (omega (arith, wide, is)) };
+  name_is = refl;
+  score_is = refl;
+  strand_is = refl;
+  sound = record { name_good = λ wide. one.2; score_good = λ wide. absurd (omega (arith, wide, is)); strand_good = λ wide. absurd (omega (arith, wide, is)) };
 }
 
-pub six-columns : (w : ℕ) (text after_name after_score rest : List ℕ) → w ≡ 6 → BeginsWithCell IsText text after_name → BeginsWithCell IsText after_name after_score → BeginsWithCell IsStrand after_score rest → BeginsWithCells w text rest
-six-columns w text after_name after_score rest is name score strand = record {
-  cells = name.0 ∷ score.0 ∷ strand.0 ∷ [];
-  text_is = laid-in-front text name.0 after_name rest (score.0 ∷ strand.0 ∷ []) name.1
-      (laid-in-front after_name score.0 after_score rest (strand.0 ∷ []) score.1 (laid-in-front after_score strand.0 rest rest [] strand.1 refl));
-  plain = All-cons IsCell name.0 (score.0 ∷ strand.0 ∷ []) name.2 (All-cons IsCell score.0 (strand.0 ∷ []) score.2 (All-cons IsCell strand.0 [] strand.2 (All-nil IsCell)));
+pub five-columns : (w : ℕ) (text name after score rest : List ℕ) → w ≡ 5 → BeginsWithCell IsText text name after → BeginsWithCell IsText after score rest → BeginsWithCells w text name score [] rest
+five-columns w text name after score rest is one two = record {
+  cells = name ∷ score ∷ [];
+  text_is = laid-in-front text name after rest (score ∷ []) one.0 (laid-in-front after score rest rest [] two.0 refl);
+  plain = All-cons IsCell name (score ∷ []) one.1 (All-cons IsCell score [] two.1 (All-nil IsCell));
   count = sym is;
-  sound = record { name_good = λ wide. name.3; score_good = λ wide. score.3; strand_good = λ wide. strand.3 };
+  name_is = refl;
+  score_is = refl;
+  strand_is = refl;
+  sound = record { name_good = λ wide. one.2; score_good = λ wide. two.2; strand_good = λ wide. absurd (omega (arith, wide, is)) };
 }
+
+pub six-columns : (w : ℕ) (text name after_name score after_score strand rest : List ℕ) → w ≡ 6 → BeginsWithCell IsText text name after_name → BeginsWithCell IsText after_name score after_score → BeginsWithCell IsStrand after_score strand rest
+    → BeginsWithCells w text name score strand rest
+six-columns w text name after_name score after_score strand rest is one two three = record {
+  cells = name ∷ score ∷ strand ∷ [];
+  text_is = laid-in-front text name after_name rest (score ∷ strand ∷ []) one.0
+      (laid-in-front after_name score after_score rest (strand ∷ []) two.0 (laid-in-front after_score strand rest rest [] three.0 refl));
+  plain = All-cons IsCell name (score ∷ strand ∷ []) one.1 (All-cons IsCell score (strand ∷ []) two.1 (All-cons IsCell strand [] three.1 (All-nil IsCell)));
+  count = sym is;
+  name_is = refl;
+  score_is = refl;
+  strand_is = refl;
+  sound = record { name_good = λ wide. one.2; score_good = λ wide. two.2; strand_good = λ wide. three.2 };
+}
+
+-- the columns of such cells are those of a record
+pub cells-record : (w rank start stop : ℕ) (text name score strand rest : List ℕ) (s : Option Strand) → BeginsWithCells w text name score strand rest → s ≡ strand_of strand → start < stop
+    → IsRecord (record_of rank start stop name score s w)
+cells-record w rank start stop text name score strand rest s after is some =
+    row-of w ([] ∷ [] ∷ [] ∷ after.cells) [] [] [] name score strand rank start stop s
+    (record { count = omega (arith, after.count); seq_is = refl; start_is = refl; stop_is = refl; name_is = after.name_is; score_is = after.score_is; strand_is = after.strand_is }) is some
 
 -- a text of at least one byte
 pub first-byte : (text : List ℕ) → 1 ≤ length text → text ≡ get_or text 0 0 ∷ take (length text - 1) (drop 1 text)
 first-byte text some = grind (arith, common_steps)
 
+pub first-alone : (text : List ℕ) → 1 ≤ length text → take 1 text ≡ get_or text 0 0 ∷ []
+first-alone text some = grind (arith, common_steps)
+
 -- ---- a line of a record
 
-pub short-line : (g : Sequences) (w : ℕ) (text next : List ℕ) (l : FastLine) (rest end : List ℕ) → BeginsWithInterval g text l.seq l.start l.stop rest → BeginsWithCells w rest end
-    → (end ≡ 10 ∷ next) ⊎ (end ≡ 13 ∷ 10 ∷ next) → l.size ≡ length text - length next → IsFastLine g w text l
-short-line g w text next l rest end place after feed size_is =
+pub short-line : (g : Sequences) (w : ℕ) (text next : List ℕ) (l : FastLine) (rest name score strand end : List ℕ) → BeginsWithInterval g text l.seq l.start l.stop rest → BeginsWithCells w rest name score strand end
+    → (end ≡ 10 ∷ next) ⊎ (end ≡ 13 ∷ 10 ∷ next) → l.size ≡ length text - length next
+    → (short : IsFastLine g w text l) × (short.row ≡ record_of l.seq l.start l.stop name score (strand_of strand) w)
+short-line g w text next l rest name score strand end place after feed size_is =
     let cells : List (List ℕ) = after.cells in
     let tail : List ℕ = place.stops ++ laid cells in
     let line : List ℕ = place_line place.name place.starts tail in
@@ -283,21 +317,22 @@ short-line g w text next l rest end place after feed size_is =
       some = place.some;
       within = place.within;
     } in
-    record {
+    let short : IsFastLine g w text l = record {
       line = line;
-      row = record_of l.seq l.start l.stop (column cells 0) (column cells 1) (strand_of (column cells 2)) w;
+      row = record_of l.seq l.start l.stop name score (strand_of strand) w;
       lines_are = ap lines text_is ∙ ends.3 ∙ ap (λ (t : List ℕ). line ∷ lines t) (sym (ap (drop l.size) (text_is ∙ ends.2) ∙ sized.1));
       some = omega (arith, ends.1, sized.0);
       within = omega arith;
       unread = unread-after place.name (place.starts ++ 9 ∷ tail) place.named.unread;
-      reads = line-read g w line (laid cells) (column cells 0) (column cells 1) (column cells 2) cells l.seq l.start l.stop (strand_of (column cells 2)) alone (laid-after cells after.plain)
-          (λ a b c. record { count = omega (arith, after.count); seq_is = refl; start_is = refl; stop_is = refl; name_is = refl; score_is = refl; strand_is = refl })
+      reads = line-read g w line (laid cells) name score strand cells l.seq l.start l.stop (strand_of strand) alone (laid-after cells after.plain)
+          (λ a b c. record { count = omega (arith, after.count); seq_is = refl; start_is = refl; stop_is = refl; name_is = after.name_is; score_is = after.score_is; strand_is = after.strand_is })
           refl after.sound;
       seq_is = refl;
       start_is = refl;
       stop_is = refl;
       fits = record { width_is = refl; is_placed = record { some = place.some; within = (ranked g l.seq place.len place.named.length_is, subst (λ n. l.stop ≤ n) (sym (ap (λ (o : Option ℕ). unwrap_or o 0) place.named.length_is)) place.within) }; beside = after.sound };
-    }
+    } in
+    (short, refl)
   where
     ranked : (h : Sequences) (rank len : ℕ) → length_at h rank ≡ Some len → rank < length h
     ranked h rank len is = by (slice_get h rank) refl is

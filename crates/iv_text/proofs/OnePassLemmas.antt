@@ -12,7 +12,7 @@ use Rattle.iv_text.specs.Fields.{columns}
 use Rattle.iv_text.specs.Number.{number}
 use Rattle.iv_text.specs.Inside.Number.{decimal_from}
 use Rattle.iv_text.specs.Inside.Fields.{HasNoTab, is_separator}
-use Rattle.iv_text.specs.Inside.OnePass.{ArePassed, BeginsWithNumber, BeginsWithInterval, IsNamed}
+use Rattle.iv_text.specs.Inside.OnePass.{ArePassed, BeginsWithName, BeginsWithNumber, BeginsWithInterval, IsNamed}
 use Rattle.iv_text.specs.declared.record_ref.Strand.{Strand}
 use Rattle.std.specs.Borrow.{Bor}
 use Rattle.std.specs.Prelude.{MatchOption, IfSome, IsSome}
@@ -121,16 +121,16 @@ place-columns line name d1 d2 rest others whole p0 p1 p2 after =
     ∙ ap (λ (cs : List (List ℕ)). name ∷ d1 ∷ cs) (after d2 p2)
 
 -- columns that were cut from the front of a text
-pub place-begins : (g : Sequences) (text name r0 r1 r2 r3 rest : List ℕ) (rank from to len : ℕ)
-    → text ≡ name ++ r0 → r0 ≡ 9 ∷ r1 → BeginsWithNumber r1 from r2 → r2 ≡ 9 ∷ r3 → BeginsWithNumber r3 to rest → IsNamed g name rank len → from < to → to ≤ len
+pub place-begins : (g : Sequences) (text name r1 r2 r3 rest : List ℕ) (rank from to len : ℕ)
+    → BeginsWithName g text name rank len r1 → BeginsWithNumber r1 from r2 → r2 ≡ 9 ∷ r3 → BeginsWithNumber r3 to rest → from < to → to ≤ len
     → BeginsWithInterval g text rank from to rest
-place-begins g text name r0 r1 r2 r3 rest rank from to len e0 e1 starts e2 stops named some within = record {
+place-begins g text name r1 r2 r3 rest rank from to len named starts e2 stops some within = record {
   name = name;
   starts = starts.0;
   stops = stops.0;
   len = len;
-  text_is = e0 ∙ ap (λ t. name ++ t) (e1 ∙ ap (λ t. 9 ∷ t) (starts.1 ∙ ap (λ t. starts.0 ++ t) (e2 ∙ ap (λ t. 9 ∷ t) stops.1)));
-  named = named;
+  text_is = named.1 ∙ ap (λ t. name ++ 9 ∷ t) (starts.1 ∙ ap (λ t. starts.0 ++ t) (e2 ∙ ap (λ t. 9 ∷ t) stops.1));
+  named = named.0;
   start_is = starts.2;
   stop_is = stops.2;
   some = some;

@@ -162,8 +162,7 @@ impl<K: FromRecord<A>, A: Allocator + Copy> BedLines<K, A> {
         Ok(())
     }
 
-    /// Takes the first line of a text if a width is known, the reader reads the line in one pass, and the interval of its record is
-    /// all that is held of it. It answers the line's size.
+    /// Takes the first line of a text, if a width is known and the reader reads the line in one pass. It answers the line's size.
     #[inline(always)]
     fn take_fast(
         &mut self,
@@ -183,7 +182,7 @@ impl<K: FromRecord<A>, A: Allocator + Copy> BedLines<K, A> {
             return Ok(None);
         };
         if !K::is_interval_alone(width) {
-            return Ok(None);
+            return self.take_first(alloc, reader, limit, width, text);
         }
         let Some(line) = reader.read_fast(width, text) else {
             return Ok(None);
@@ -194,6 +193,32 @@ impl<K: FromRecord<A>, A: Allocator + Copy> BedLines<K, A> {
         };
         self.take_one(limit, width, one)?;
         Ok(Some(line.size))
+    }
+
+    /// Takes the first line of a text if the reader reads all columns of its record in one pass. It answers the line's size.
+    fn take_first(
+        &mut self,
+        alloc: A,
+        reader: &RecordReader<'_, '_, A>,
+        limit: u32,
+        width: u8,
+        text: &[u8],
+    ) -> Result<Option<usize>, LoadCause>
+        requires sound { AreSound K.projected reader.now limit (shown K.as_record self.old) }
+        requires known { self.old.width ≡ Some width }
+        ensures number { self.new.number ≡ self.old.number }
+        ensures at { OnOk result (self.new.at ≡ self.old.at) }
+        ensures ok { IfOk result (λ taken. MatchOption taken (self.new ≡ self.old)
+            (λ size. (0 < size) × (size ≤ length text.now) × TakesLine K.held_of reader.now limit self.old self.new text.now size)) }
+        ensures err { IfErr result (λ c. (c ≡ cause.Memory) ⊎ RefusesLine K.held_of reader.now limit self.old text.now c) }
+    {
+        let Some((record, size)) = reader.read_first(width, text) else {
+            return Ok(None);
+        };
+        let at = self.at();
+        let one = held_of(alloc, &record, at)?;
+        self.take_one(limit, width, one)?;
+        Ok(Some(size))
     }
 
     /// Takes the first line of a text, and what is held of its record, if it has one. It answers the line's size.

@@ -1,10 +1,11 @@
 //! Records read line after line.
 ghost use Rattle.std.specs.Prelude.{◌≡◌, ◌≤◌, false, [], ◌∷◌, IfSome, IsSome, length, take, ℕ, ◌+◌, ◌/◌, ◌%◌, ◌^◌, ◌<◌, ◌++◌, None, Some, Ok, IfOk, slice_index};
 ghost use Rattle.std.specs.Option.{is_some};
-ghost use Rattle.iv_text.specs.Inside.OnePass.{ends_cell, BeginsWithCell, BeginsWithCells, IsCell, IsNamed, BeginsWithInterval};
+ghost use Rattle.iv_text.specs.Inside.OnePass.{BeginsWithName, ends_cell, BeginsWithCell, BeginsWithCells, IsCell, IsFirstLine, IsNamed, BeginsWithInterval};
 ghost use Rattle.iv_text.specs.Read.{bad_text, read, column, Fits};
 ghost use Rattle.iv_text.specs.RecordValue.{strand_of};
 ghost use Rattle.iv_text.specs.Fields.{columns as columns_of};
+ghost use Rattle.iv_text.specs.Bytes.{tab};
 ghost use Rattle.iv_text.specs.Named.{name_index};
 ghost use Rattle.iv_text.specs.FastLine.{IsFastLine};
 ghost use Rattle.iv_text.specs.Widths.{IsWidth};
@@ -13,7 +14,9 @@ use crate::fault::RecordFault;
 use crate::genome::Genome;
 use crate::lines::{after_byte, after_line_end, columns_after, cut_first_column, is_unread};
 use crate::number::split_number;
-use crate::record_ref::{RecordRef, are_sound, optional_columns_of, read_record, read_strand};
+use crate::record_ref::{
+    OptionalColumns, RecordRef, are_sound, optional_columns_of, read_record, read_strand,
+};
 use bstr::ByteSlice;
 use std::alloc::Allocator;
 use std::marker::Model;
@@ -57,17 +60,17 @@ fn count_cell(text: &[u8]) -> usize
     ends.trailing_zeros() as usize
 }
 
-/// What follows a TAB and a name or a score, if a text begins with them.
+/// A name or a score after a TAB, and what follows it, if a text begins with them.
 #[inline(always)]
-fn after_text(text: &[u8]) -> Option<&[u8]>
-    ensures { IfSome result (λ rest. BeginsWithCell (λ cell. bad_text cell ≡ false) text.now rest.now) }
+fn split_text(text: &[u8]) -> Option<(&[u8], &[u8])>
+    ensures { IfSome result (λ p. BeginsWithCell (λ cell. bad_text cell ≡ false) text.now p.0.now p.1.now) }
 {
     let cell = after_byte(text, b'\t')?;
     let end = count_cell(cell);
     if end == 0 {
         return None;
     }
-    Some(&cell[end..])
+    Some((&cell[..end], &cell[end..]))
 }
 
 /// Whether the byte alone means a strand.
@@ -77,34 +80,47 @@ fn is_strand(byte: u8) -> bool
     byte == b'+' || byte == b'-' || byte == b'.'
 }
 
-/// What follows a TAB and the byte of a strand, if a text begins with them.
-fn after_strand(text: &[u8]) -> Option<&[u8]>
-    ensures { IfSome result (λ rest. BeginsWithCell (λ cell. IsSome (strand_of cell)) text.now rest.now) }
+/// The byte of a strand after a TAB, and what follows it, if a text begins with them.
+#[inline(always)]
+fn split_strand(text: &[u8]) -> Option<(&[u8], &[u8])>
+    ensures { IfSome result (λ p. BeginsWithCell (λ cell. IsSome (strand_of cell)) text.now p.0.now p.1.now) }
 {
     let strand = after_byte(text, b'\t')?;
     match strand {
-        [byte, rest @ ..] if is_strand(*byte) => Some(rest),
+        [byte, rest @ ..] if is_strand(*byte) => Some((&strand[..1], rest)),
         _ => None,
     }
 }
 
-/// What follows the cells of a record of this width, if a text begins with them.
-pub(crate) fn after_cells(width: u8, text: &[u8]) -> Option<&[u8]>
+/// The columns of a record of this width after its interval, and what follows them, if a text begins with them.
+///
+/// It is a part of its callers, which read each line of a file: a call would hand the answer over in memory.
+#[inline(always)]
+fn split_cells(width: u8, text: &[u8]) -> Option<(OptionalColumns<'_>, &[u8])>
     requires { IsWidth width }
-    ensures { IfSome result (λ rest. BeginsWithCells width text.now rest.now) }
+    ensures { IfSome result (λ p. BeginsWithCells width text.now p.0.name.now p.0.score.now p.0.strand.now p.1.now) }
 {
+    let mut columns = OptionalColumns {
+        name: b"",
+        score: b"",
+        strand: b"",
+    };
     if width == 3 {
-        return Some(text);
+        return Some((columns, text));
     }
-    let after_name = after_text(text)?;
+    let (name, after_name) = split_text(text)?;
+    columns.name = name;
     if width == 4 {
-        return Some(after_name);
+        return Some((columns, after_name));
     }
-    let after_score = after_text(after_name)?;
+    let (score, after_score) = split_text(after_name)?;
+    columns.score = score;
     if width == 5 {
-        return Some(after_score);
+        return Some((columns, after_score));
     }
-    after_strand(after_score)
+    let (strand, rest) = split_strand(after_score)?;
+    columns.strand = strand;
+    Some((columns, rest))
 }
 
 /// The first line of a text, read in one pass: the interval of its record, 0-based and half-open, and how long the line is.
@@ -137,20 +153,29 @@ struct Front<'a> {
     rest: &'a [u8],
 }
 
-/// Reads the records of lines one after another, faster if a line names the sequence of the line before.
+/// How many slots for sequences a reader has.
+const SLOTS: usize = 256;
+
+/// With this odd factor the chromosomes of a human, a mouse, a dog, a fly and a yeast have a slot each, by their usual names.
+const MIXER: u32 = 0xE1EA_24C5;
+
+/// Reads the records of lines one after another, faster if a line names a sequence that a line before named.
 ///
 /// Its value is that of its genome: what it answers doesn't depend on the lines that it read.
 ///
-/// Most lines of a sorted file are of that kind. Reading them in one pass saves a search for each TAB and a lookup of the name, at the
-/// price of a second body under one contract. In unsorted files the comparison with the name before is wasted: 30 to 45 ns a record.
+/// Reading such a line in one pass saves a search for each TAB and a lookup of the name in the genome, at the price of a second body
+/// under one contract. In a sorted file it mostly is the sequence of the line before, which is compared first.
 #[derive(Drop)]
 pub struct RecordReader<'g, 't, A: Allocator> {
     genome: &'g Genome<A>,
-    before: Option<Named<'t>>,
+    /// The sequence that was looked up last.
+    last: Option<Named<'t>>,
+    /// Those that were looked up, each in the slot of its name, the later one if two have the same.
+    known: [Option<Named<'t>>; SLOTS],
 }
 
 impl<'g, 't, A: Allocator> Model for RecordReader<'g, 't, A> {
-    ghost use Rattle.std.specs.Prelude.{IfSome};
+    ghost use Rattle.std.specs.Prelude.{All, IfSome};
     ghost use Rattle.iv_text.specs.Genome.{Sequences};
     ghost use Rattle.iv_text.specs.Inside.OnePass.{IsNamed};
 
@@ -158,7 +183,8 @@ impl<'g, 't, A: Allocator> Model for RecordReader<'g, 't, A> {
 
     ghost view = { λ r. r.genome.now };
 
-    ghost invariant = { λ r. IfSome r.before (λ b. IsNamed r.genome.now b.name.now b.rank b.length) };
+    ghost invariant = { λ r. IfSome r.last (λ n. IsNamed r.genome.now n.name.now n.rank n.length)
+        × All (λ slot. IfSome slot (λ n. IsNamed r.genome.now n.name.now n.rank n.length)) r.known };
 }
 
 /// The four bytes from this index on as one number, the first one lowest.
@@ -194,6 +220,41 @@ fn after_name<'t>(line: &'t [u8], name: &[u8]) -> Option<&'t [u8]>
     Some(&line[size..])
 }
 
+/// What follows a name and a TAB that a line begins with.
+#[inline(always)]
+fn after_column<'t>(line: &'t [u8], name: &[u8]) -> Option<&'t [u8]>
+    ensures { IfSome result (λ rest. line.now ≡ name.now ++ tab ∷ rest.now) }
+{
+    after_byte(after_name(line, name)?, b'\t')
+}
+
+/// Four more bytes, or one, mixed into a number.
+#[inline(always)]
+fn mix(number: u32, more: u32) -> u32 {
+    number.wrapping_mul(MIXER).wrapping_add(more)
+}
+
+/// The slot of a name: mixed from four bytes at its front, four in its middle and four at its end, among which are all those of a
+/// name of 4 to 12 bytes.
+#[inline(always)]
+fn slot_of(name: &[u8]) -> usize
+    ensures { result < 256 }
+{
+    let size = name.len();
+    let mut mixed: u32 = 0;
+    if size < 4 {
+        for byte in name {
+            mixed = mix(mixed, u32::from(*byte));
+        }
+    } else {
+        mixed = mix(
+            mix(word_at(name, 0), word_at(name, (size - 4) / 2)),
+            word_at(name, size - 4),
+        );
+    }
+    (mixed.wrapping_mul(MIXER) / 0x100_0000) as usize
+}
+
 /// The sequence that a line names, whose rank is known. `None` if the name holds a LF, or is a header by itself.
 fn named_by<'t, A: Allocator + Copy>(
     genome: &Genome<A>,
@@ -218,35 +279,58 @@ impl<'g, 't, A: Allocator + Copy> RecordReader<'g, 't, A> {
     {
         RecordReader {
             genome,
-            before: None,
+            last: None,
+            known: [None; SLOTS],
         }
     }
 
-    /// The three columns that a text begins with, if they name the sequence of the line before and lie on it.
+    /// The sequence that a text begins with, if a line before named it, and what follows its TAB.
+    #[inline(always)]
+    fn split_name<'a>(&self, text: &'a [u8]) -> Option<(Named<'t>, &'a [u8])>
+        ensures { IfSome result (λ p. BeginsWithName self.now text.now p.0.name.now p.0.rank p.0.length p.1.now) }
+    {
+        if let Some(last) = self.last {
+            if let Some(rest) = after_column(text, last.name) {
+                return Some((last, rest));
+            }
+        }
+        self.split_known(text)
+    }
+
+    /// The same, by the slot of the name.
+    #[inline(never)]
+    fn split_known<'a>(&self, text: &'a [u8]) -> Option<(Named<'t>, &'a [u8])>
+        ensures { IfSome result (λ p. BeginsWithName self.now text.now p.0.name.now p.0.rank p.0.length p.1.now) }
+    {
+        let name = &text[..count_cell(text)];
+        let known = self.known[slot_of(name)]?;
+        let rest = after_column(text, known.name)?;
+        Some((known, rest))
+    }
+
+    /// The three columns that a text begins with, if they name a sequence that a line before named, and lie on it.
     ///
     /// `None` leaves it open.
     #[inline(always)]
     fn split_interval<'a>(&self, text: &'a [u8]) -> Option<Front<'a>>
         ensures { IfSome result (λ f. BeginsWithInterval self.now text.now f.rank f.start f.stop f.rest.now) }
     {
-        let before = self.before?;
-        let rest = after_name(text, before.name)?;
-        let from_start = after_byte(rest, b'\t')?;
+        let (named, from_start) = self.split_name(text)?;
         let (start, after) = split_number(from_start)?;
         let from_stop = after_byte(after, b'\t')?;
         let (stop, rest) = split_number(from_stop)?;
-        if start >= stop || stop > u64::from(before.length) {
+        if start >= stop || stop > u64::from(named.length) {
             return None;
         }
         Some(Front {
-            rank: before.rank,
+            rank: named.rank,
             start: start as u32,
             stop: stop as u32,
             rest,
         })
     }
 
-    /// The first line of a text, if it names the sequence of the line before and means a record of this width
+    /// The first line of a text, if it names a sequence that a line before named and means a record of this width
     /// that ends at a LF: read in one pass, which finds the line's end too.
     ///
     /// `None` leaves it open: [`read`](Self::read) answers for every line.
@@ -256,7 +340,7 @@ impl<'g, 't, A: Allocator + Copy> RecordReader<'g, 't, A> {
         ensures { IfSome result (λ l. IsFastLine self.now width text.now l) }
     {
         let front = self.split_interval(text)?;
-        let end = after_cells(width, front.rest)?;
+        let (_, end) = split_cells(width, front.rest)?;
         let next = after_line_end(end)?;
         Some(FastLine {
             seq: front.rank,
@@ -266,7 +350,29 @@ impl<'g, 't, A: Allocator + Copy> RecordReader<'g, 't, A> {
         })
     }
 
-    /// The record of a line that names the sequence of the line before, read in one pass from its front.
+    /// The record of the first line of a text, and how long the line is, under the conditions of [`read_fast`](Self::read_fast).
+    #[inline(always)]
+    pub(crate) fn read_first<'a>(&self, width: u8, text: &'a [u8]) -> Option<(RecordRef<'a>, usize)>
+        requires { IsWidth width }
+        ensures { IfSome result (λ p. IsFirstLine self.now width text.now p.0 p.1) }
+    {
+        let front = self.split_interval(text)?;
+        let (columns, end) = split_cells(width, front.rest)?;
+        let next = after_line_end(end)?;
+        let strand = read_strand(columns.strand);
+        let record = RecordRef::of_columns(
+            front.rank,
+            front.start,
+            front.stop,
+            columns.name,
+            columns.score,
+            strand,
+            width,
+        );
+        Some((record, text.len() - next.len()))
+    }
+
+    /// The record of a line that names a sequence that a line before named, read in one pass from its front.
     ///
     /// `None` leaves it open: the line begins with another name, or means no record.
     fn read_again(&self, width: u8, line: &'t [u8]) -> Option<RecordRef<'t>>
@@ -294,7 +400,7 @@ impl<'g, 't, A: Allocator + Copy> RecordReader<'g, 't, A> {
     }
 
     /// The record that the next line means at a width, or its first fault, as
-    /// [`read_record`](crate::read_record) answers it. A line after one of the same sequence is read in one pass.
+    /// [`read_record`](crate::read_record) answers it. A line that names a known sequence is read in one pass.
     pub fn read(&mut self, width: u8, line: &'t [u8]) -> Result<RecordRef<'t>, RecordFault>
         requires { IsWidth width }
         ensures same { self.new ≡ self.old }
@@ -305,7 +411,10 @@ impl<'g, 't, A: Allocator + Copy> RecordReader<'g, 't, A> {
             return Ok(row);
         }
         let row = read_record(self.genome, width, line)?;
-        self.before = named_by(self.genome, line, row.rank);
+        self.last = named_by(self.genome, line, row.rank);
+        if let Some(named) = self.last {
+            self.known[slot_of(named.name)] = self.last;
+        }
         Ok(row)
     }
 }

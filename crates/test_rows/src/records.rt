@@ -180,7 +180,27 @@ fn short_lines(rt: HostRuntime) -> Result<(), Fail> {
     Ok(())
 }
 
-/// The same of lines with more columns.
+/// The rank of a line's sequence, if the line is known at once after these two.
+fn rank_after(genome: &Genome, before: [&[u8]; 2], text: &[u8]) -> Result<Option<u32>, Fail> {
+    let mut reader = RecordReader::new(genome);
+    for line in before {
+        reader.read(3, line)?;
+    }
+    let line = reader.read_fast(3, text);
+    Ok(line.map(|line| line.seq))
+}
+
+#[test]
+fn short_lines_of_two_sequences(rt: HostRuntime) -> Result<(), Fail> {
+    let genome = genome(&rt)?;
+    let before = [b"chr1\t1\t2".as_slice(), b"chr2\t1\t2"];
+    assert_eq!(rt; rank_after(&genome, before, b"chr1\t3\t5\n")?, Some(0));
+    assert_eq!(rt; rank_after(&genome, before, b"chr2\t3\t5\n")?, Some(1));
+    assert_eq!(rt; rank_after(&genome, before, b"chr\t3\t5\n")?, None);
+    Ok(())
+}
+
+/// Whether texts begin with a line of more columns that is known at once, or don't.
 fn are_short_with_cells(genome: &Genome) -> bool {
     for (width, text, size) in [
         (4, b"chr2\t3\t50\tn 1\nchr1\t1\t2\tn\n".as_slice(), Some(14)),

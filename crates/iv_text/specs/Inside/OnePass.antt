@@ -2,6 +2,7 @@
 use Rattle.std.specs.Prelude.{◌≡◌, ◌<◌, ◌≤◌, All, ℕ, ◌+◌, ◌||◌, Bool, false, List, [], ◌∷◌, ◌++◌, Some, length}
 use Rattle.iv_text.specs.BedFile.{is_unread}
 use Rattle.iv_text.specs.Bytes.{tab}
+use Rattle.iv_text.specs.FastLine.{IsFastLine}
 use Rattle.iv_text.specs.Fields.{columns}
 use Rattle.iv_text.specs.Inside.Fields.{HasNoTab, is_separator}
 use Rattle.iv_text.specs.Lines.{HasNoFeed}
@@ -10,7 +11,8 @@ use Rattle.iv_text.specs.Genome.{Sequences, length_at}
 use Rattle.iv_text.specs.Named.{name_index}
 use Rattle.iv_text.specs.Read.{column, AreSound}
 use Rattle.iv_text.specs.Inside.Read.{is_line_byte}
-use Rattle.iv_text.specs.RecordValue.{strand_of}
+use Rattle.iv_text.specs.RecordValue.{RecordValue, strand_of}
+use Rattle.iv_text.specs.declared.record_reader.FastLine.{FastLine}
 
 -- the name is that of a sequence of the genome, with its rank and its length; it holds no TAB and no LF, and as a line it would be no header
 pub record IsNamed (g : Sequences) (name : List ℕ) (rank len : ℕ) : Type 0 where
@@ -19,6 +21,10 @@ pub record IsNamed (g : Sequences) (name : List ℕ) (rank len : ℕ) : Type 0 w
   pub unread : is_unread name ≡ false
   pub rank_is : name_index g name ≡ Some rank
   pub length_is : length_at g rank ≡ Some len
+
+-- the text begins with the name of a sequence and a TAB, and the rest is after them
+abbrev pub BeginsWithName : Sequences → List ℕ → List ℕ → ℕ → ℕ → List ℕ → Type 0
+BeginsWithName g text name rank len rest = IsNamed g name rank len × (text ≡ name ++ tab ∷ rest)
 
 -- the text begins with digits that mean n, and the rest is after them
 abbrev pub BeginsWithNumber : List ℕ → ℕ → List ℕ → Type 0
@@ -49,19 +55,27 @@ ends_cell b = is_line_byte b || is_separator tab b
 abbrev pub IsCell : List ℕ → Type 0
 IsCell cell = All (λ b. ends_cell b ≡ false) cell
 
--- the text begins with a TAB and a good cell, and the rest is after them
-abbrev pub BeginsWithCell : (List ℕ → Type 0) → List ℕ → List ℕ → Type 0
-BeginsWithCell Good text rest = (cell : List ℕ) × (text ≡ tab ∷ (cell ++ rest)) × IsCell cell × Good cell
+-- the text begins with a TAB and this cell, which is good, and the rest is after them
+abbrev pub BeginsWithCell : (List ℕ → Type 0) → List ℕ → List ℕ → List ℕ → Type 0
+BeginsWithCell Good text cell rest = (text ≡ tab ∷ (cell ++ rest)) × IsCell cell × Good cell
 
 -- cells, each after its TAB
 abbrev pub laid : List (List ℕ) → List ℕ
 laid [] = []
 laid (cell ∷ cells) = tab ∷ (cell ++ laid cells)
 
--- the text begins with the cells of a record of this width after its interval, each after its TAB, and the rest is after them
-pub record BeginsWithCells (width : ℕ) (text rest : List ℕ) : Type 0 where
+-- the text begins with the cells of a record of this width after its interval, each after its TAB, and the rest is after them; its
+-- columns are these, and those beyond the width are empty
+pub record BeginsWithCells (width : ℕ) (text name score strand rest : List ℕ) : Type 0 where
   pub cells : List (List ℕ)
   pub text_is : text ≡ laid cells ++ rest
   pub plain : All IsCell cells
   pub count : 3 + length cells ≡ width
-  pub sound : AreSound width (column cells 0) (column cells 1) (strand_of (column cells 2))
+  pub name_is : column cells 0 ≡ name
+  pub score_is : column cells 1 ≡ score
+  pub strand_is : column cells 2 ≡ strand
+  pub sound : AreSound width name score (strand_of strand)
+
+-- the text begins with a line of this record that has so many bytes and is read in one pass
+abbrev pub IsFirstLine : Sequences → ℕ → List ℕ → RecordValue → ℕ → Type 0
+IsFirstLine g width text row size = (l : FastLine) × (fast : IsFastLine g width text l) × (fast.row ≡ row) × (l.size ≡ size)

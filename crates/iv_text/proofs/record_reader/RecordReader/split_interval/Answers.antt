@@ -4,8 +4,7 @@ use Rattle.iv_text.proofs.record_reader.RecordReader.split_interval.Goals as goa
 
 pub returns : goal.returns
 returns g c =
-    let before = c.in_ok-before.before in
-    let named = rw c.in_ok-before.was at c.self.invariant in
-    rw (← c.self.view_is) (place-begins c.self.inside.genome.now c.args.text.now before.name.now c.in_ok-rest.rest.now c.in_ok-from_start.from_start.now c.in_ok-start.after.now c.in_ok-from_stop.from_stop.now
-    c.in_ok-stop.rest.now before.rank c.in_ok-start.start c.in_ok-stop.stop before.length
-    c.in_ok-rest.ensures c.in_ok-from_start.ensures c.in_ok-start.ensures c.in_ok-from_stop.ensures c.in_ok-stop.ensures named (omega arith) (omega arith))
+    let named = c.in_ok-named.named in
+    place-begins c.args.self.now c.args.text.now named.name.now c.in_ok-named.from_start.now c.in_ok-start.after.now c.in_ok-from_stop.from_stop.now
+    c.in_ok-stop.rest.now named.rank c.in_ok-start.start c.in_ok-stop.stop named.length
+    c.in_ok-named.ensures c.in_ok-start.ensures c.in_ok-from_stop.ensures c.in_ok-stop.ensures (omega arith) (omega arith)

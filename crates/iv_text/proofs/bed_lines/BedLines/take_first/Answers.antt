@@ -1,0 +1,33 @@
+use Rattle.std.proofs.Common.{◌∙◌, ◌<◌, ◌^◌, ℕ, sym, ap, subst, inl, inr}
+use Rattle.iv_text.specs.declared.fault.LoadCause.{LoadCause}
+use Rattle.iv_text.specs.BedReading.{shown}
+use Rattle.iv_text.specs.Inside.BedReading.{RefusesLine}
+use Rattle.iv_text.proofs.BedReadingLemmas.{handed-on, known-wide, first-taken, short-full}
+use Rattle.iv_text.proofs.bed_lines.BedLines.take_first.Goals as goal
+
+pub returns-in_err-take_one-clause-err : goal.returns-in_err-take_one-clause-err
+returns-in_err-take_one-clause-err g c =
+    let k = g.K.FromRecord in
+    let genome = c.args.reader.now in
+    let old = c.args.self.now in
+    let w = c.args.width in
+    let first = c.in-Some.ensures in
+    let wide = known-wide k.projected genome c.args.limit (shown k.as_record old) w c.requires.sound c.requires.known in
+    handed-on c.from_residual-in_err-take_one.result _ _ c.from_residual-in_err-take_one.ensures.1
+    (elim c.in_err-take_one.ensures.err [
+      | inl memory ↦ inl memory
+      | inr full ↦ inr (subst (λ (f : LoadCause). RefusesLine k.held_of genome c.args.limit old c.args.text.now f) (sym full.0)
+          (short-full k.held_of genome c.args.limit old w c.args.text.now first.0 first.1 wide c.requires.known full.1))
+    ])
+
+pub returns-clause-ok : goal.returns-clause-ok
+returns-clause-ok g c =
+    let k = g.K.FromRecord in
+    let genome = c.args.reader.now in
+    let old = c.args.self.now in
+    let w = c.args.width in
+    let wide = known-wide k.projected genome c.args.limit (shown k.as_record old) w c.requires.sound c.requires.known in
+    let taken = c.in_ok-take_one.ensures in
+    first-taken k.held_of genome c.args.limit old c.take_one.new.self w c.args.text.now c.in-Some.record c.in-Some.size c.in_ok-one.one c.in-Some.ensures wide c.requires.known
+    (c.in_ok-one.ensures.ok ∙ ap (k.held_of c.in-Some.record) c.at-at.ensures.value)
+    (subst (λ (n : ℕ). n < 2 ^ 32) c.at-at.ensures.value c.at-at.ensures.small) taken.free taken.ok
