@@ -1,13 +1,13 @@
 -- The entries of one group from a key on, and the rows of those that share a position with a region.
 use Rattle.std.proofs.Common.{◌≡◌, ◌⊎◌, ℕ, ◌+◌, ◌<◌, ◌≤◌, inl, inr, ◌&&◌, nat_lt, min, Bool, true, false, List, [], ◌∷◌, ◌++◌, filter, map, length, Option, Some, None, refl, sym, ◌∙◌, ap, ap₂, subst, arith, All, lt-ltb, ltb-true, append-nil, length-append}
-use Rattle.std.specs.declared.cmp.Ordering.TheVariants.{Less, Equal, Greater}
+use Rattle.std.specs.declared.cmp.Ordering.TheVariants.{Less, Greater}
 use Rattle.std.specs.Prelude.{codes, decimal}
 use Rattle.std.specs.Cmp.{Equal-is, ranked, tied_itself}
-use Rattle.std.specs.List.{flat_map, cons_option}
+use Rattle.std.specs.List.{flat_map}
 use Rattle.std.specs.List.Sorted.{IsStrictlySortedBy}
 use Rattle.std.specs.BTreeMap.{is_at}
-use Rattle.std.specs.Option.{option_map}
-use Rattle.std.specs.Ordering.{nat_cmp, is_eq, is_le, is_lt, ordering_reverse}
+use Rattle.std.specs.Option.{option_map, unwrap_or}
+use Rattle.std.specs.Ordering.{nat_cmp, is_eq, is_le, ordering_reverse}
 use Rattle.std.proofs.lemmas.Bool.{and_parts, and_from, cases_Bool, cases_lt, cond-true, cond-false, false_from_ne_true}
 use Rattle.std.proofs.lemmas.List.{length-map}
 use Rattle.std.proofs.lemmas.List.Concat.{flat_map-append}
@@ -18,20 +18,20 @@ use Rattle.iv_text.specs.Genome.{Sequences, sequence_name, sequence_length}
 use Rattle.iv_text.specs.Named.{names_of}
 use Rattle.iv_text.specs.Read.{Fits}
 use Rattle.iv_text.specs.RecordValue.{RecordValue}
-use Rattle.iv_text.proofs.ListLemmas.{Mem, mem-filter, all-mem, filter-none, filter-weaker}
+use Rattle.iv_text.proofs.ListLemmas.{Mem, mem-filter, all-mem, filter-agree, filter-none}
 use Rattle.iv_track.specs.Entries.{IsLedger, value_at}
 use Rattle.iv_cover.specs.TrackBlocks.{start_of, stop_of}
 use Rattle.iv_cover.proofs.Cover.{Lasting, IsBlock, ends_before}
 use Rattle.iv_blocks.specs.Groups.{group, listed, sides}
 use Rattle.iv_blocks.specs.Inside.Lookups.{IsLastBlock}
-use Rattle.iv_blocks.specs.Inside.Regions.{ReachesFrom, row_past}
+use Rattle.iv_blocks.specs.Inside.Regions.{ReachesFrom}
 use Rattle.iv_blocks.specs.KeptBlocks.{Key, Kept, Entries, AreBlocksOf, key_cmp, kept_at, name_of}
 use Rattle.iv_blocks.specs.MergeRows.{block_row, side_blocks}
 use Rattle.iv_blocks.specs.RegionRows.{shares, side_blocks_in, blocks_in}
 use Rattle.iv_blocks.specs.Inside.Texts.{merge_text_in}
 use Rattle.iv_blocks.specs.declared.options.BlockOptions.{BlockOptions}
 use Rattle.iv_blocks.proofs.ComplementLemmas.{mem-values}
-use Rattle.iv_blocks.proofs.EntryLemmas.{from, from-step, walked-on, later-keys, side_entries, none-past as no_entry}
+use Rattle.iv_blocks.proofs.EntryLemmas.{from, walked-on, later-keys, side_entries, none-past as no_entry}
 use Rattle.iv_blocks.proofs.JoinLemmas.{none-some}
 use Rattle.iv_blocks.proofs.KeptLemmas.{group-in, side-is, entry_of, none-past}
 use Rattle.iv_blocks.proofs.Keys.{keys_total, keys_exact}
@@ -48,6 +48,10 @@ filter-mapped p q f (x ∷ xs) same = elim (cases_Bool (q x)) [
   | inl e ↦ cond-true (p (f x)) _ _ (same x ∙ e) ∙ ap (λ l. f x ∷ l) (filter-mapped p q f xs same) ∙ sym (ap (map f) (cond-true (q x) (x ∷ filter q xs) (filter q xs) e))
   | inr e ↦ cond-false (p (f x)) _ _ (same x ∙ e) ∙ filter-mapped p q f xs same ∙ sym (ap (map f) (cond-false (q x) (x ∷ filter q xs) (filter q xs) e))
 ]
+
+both-true : (a b : Bool) → b ≡ true → (a && b) ≡ a
+both-true true b e = e
+both-true false b e = refl
 
 -- ---- entries in order
 
@@ -91,11 +95,74 @@ module _ (s : ℕ) (t : Bool) where
   key-is : (e : Key × Kept) → is_of e ≡ true → e.0 ≡ (s, t, e.0.2)
   key-is e yes_of = sym (keys_exact (s, t, e.0.2) e.0 ((Equal-is (key_cmp (s, t, e.0.2) e.0)).0 yes_of))
 
-module _ (s : ℕ) (t : Bool) (start stop : ℕ) where
+module _ (s : ℕ) (t : Bool) (stop : ℕ) where
   -- the entry is of this side, and starts before the region stops
   abbrev pub is_early : Key × Kept → Bool
   is_early e = is_of s t e && nat_lt e.0.2 stop
 
+  early-parts : (e : Key × Kept) → is_early e ≡ true → (e.0 ≡ (s, t, e.0.2)) × (e.0.2 < stop)
+  early-parts e yes_early =
+      let both = and_parts (is_of s t e) (nat_lt e.0.2 stop) yes_early in
+      (key-is s t e both.0, ltb-true _ _ both.1)
+
+  -- if the first entry is past the region, so are all
+  past-all : (p : ℕ) (e : Key × Kept) (rest : Entries) → Ascends (e ∷ rest) → is_le (key_cmp (s, t, p) e.0) ≡ true
+      → (e.0.0 ≡ s → e.0.1 ≡ t → ⊥) ⊎ ((e.0 ≡ (s, t, e.0.2)) × (stop ≤ e.0.2)) → (f : Key × Kept) → Mem f (e ∷ rest) → is_early f ≡ true → ⊥
+  past-all p e rest h after (inl beside) f (inl at) yes_early =
+      let own = (early-parts f yes_early).0 in
+      let key : e.0 ≡ (s, t, f.0.2) = ap (λ (y : Key × Kept). y.0) at ∙ own in
+      beside (ap (λ (k : Key). k.0) key) (ap (λ (k : Key). k.1) key)
+  past-all p e rest h after (inl beside) f (inr m) yes_early =
+      let own = (early-parts f yes_early).0 in
+      let before : key_cmp f.0 e.0 ≡ Less = ap (λ (k : Key). key_cmp k e.0) own ∙ beside-after s t p f.0.2 e.0 beside after in
+      let never : Less ≡ Greater = sym (h.0 f m) ∙ keys_total.antisymm e.0 f.0 ∙ ap ordering_reverse before in
+      cc
+  past-all p e rest h after (inr late) f (inl at) yes_early =
+      omega (arith, ap (λ (y : Key × Kept). y.0.2) at, (early-parts f yes_early).1, late.1)
+  past-all p e rest h after (inr late) f (inr m) yes_early =
+      let own = early-parts f yes_early in
+      let less : nat_cmp e.0.2 f.0.2 ≡ Less
+      = sym (key_cmp-group s t e.0.2 f.0.2) ∙ sym (ap₂ (λ (j k : Key). key_cmp j k) late.0 own.0) ∙ h.0 f m in
+      omega (arith, ranked e.0.2 f.0.2 Less (sym less), own.1, late.1)
+
+  none-early_at : (p : ℕ) (walk rest : Entries) (e : Key × Kept) → walk ≡ e ∷ rest → Ascends walk → ((f : Key × Kept) → Mem f walk → is_le (key_cmp (s, t, p) f.0) ≡ true)
+      → (e.0.0 ≡ s → e.0.1 ≡ t → ⊥) ⊎ ((e.0 ≡ (s, t, e.0.2)) × (stop ≤ e.0.2)) → filter is_early walk ≡ []
+  none-early_at p walk rest e first h after past =
+      let h2 : Ascends (e ∷ rest) = subst Ascends first h in
+      let at : is_le (key_cmp (s, t, p) e.0) ≡ true = after e (subst (λ (l : Entries). Mem e l) (sym first) (inl refl)) in
+      ap (filter is_early) first ∙ filter-none is_early (e ∷ rest) (λ f m. false_from_ne_true _ (past-all p e rest h2 at past f m))
+
+  at-start : (x : ℕ) (e : Key × Kept) → e.0 ≡ (s, t, x) → e.0 ≡ (s, t, e.0.2)
+  at-start x e is = is ∙ ap (λ (n : ℕ). (s, t, n)) (sym (ap (λ (k : Key). k.2) is))
+
+  pub none-beside : (p : ℕ) (walk rest : Entries) (e : Key × Kept) → walk ≡ e ∷ rest → Ascends walk → ((f : Key × Kept) → Mem f walk → is_le (key_cmp (s, t, p) f.0) ≡ true)
+      → (e.0.0 ≡ s → e.0.1 ≡ t → ⊥) → filter is_early walk ≡ []
+  none-beside p walk rest e first h after beside = none-early_at p walk rest e first h after (inl beside)
+
+  pub none-past_stop : (p : ℕ) (walk rest : Entries) (e : Key × Kept) → walk ≡ e ∷ rest → Ascends walk → ((f : Key × Kept) → Mem f walk → is_le (key_cmp (s, t, p) f.0) ≡ true)
+      → (x : ℕ) → e.0 ≡ (s, t, x) → stop ≤ x → filter is_early walk ≡ []
+  none-past_stop p walk rest e first h after x is high =
+      none-early_at p walk rest e first h after (inr (at-start x e is, omega (arith, ap (λ (k : Key). k.2) is, high)))
+
+  -- the first entry and the others
+  early-next : (walk rest : Entries) (e : Key × Kept) → walk ≡ e ∷ rest → (x : ℕ) → e.0 ≡ (s, t, x) → x < stop → filter is_early walk ≡ e ∷ filter is_early rest
+  early-next walk rest e first x is low =
+      ap (filter is_early) first
+      ∙ cond-true (is_early e) _ _ (and_from _ _ (of-is s t e (at-start x e is)) (lt-ltb _ _ (omega (arith, ap (λ (k : Key). k.2) is, low))))
+
+  -- its row and theirs
+  pub rows-next : (g : Sequences) (name : List ℕ) (walk rest : Entries) (e : Key × Kept) → walk ≡ e ∷ rest → (x : ℕ) → e.0 ≡ (s, t, x) → x < stop → name ≡ sequence_name g s
+      → flat_map (entry_row g) (filter is_early walk) ≡ (name ++ codes "\t" ++ decimal x ++ codes "\t" ++ decimal e.1.stop ++ e.1.results ++ codes "\n") ++ flat_map (entry_row g) (filter is_early rest)
+  rows-next g name walk rest e first x is low named =
+      ap (flat_map (entry_row g)) (early-next walk rest e first x is low)
+      ∙ ap₂ (λ (n : List ℕ) (y : ℕ). (n ++ codes "\t" ++ decimal y ++ codes "\t" ++ decimal e.1.stop ++ e.1.results ++ codes "\n") ++ flat_map (entry_row g) (filter is_early rest))
+      (ap (λ (k : Key). sequence_name g k.0) is ∙ sym named) (ap (λ (k : Key). k.2) is)
+
+  -- and one less is left
+  pub count-next : (walk rest : Entries) (e : Key × Kept) → walk ≡ e ∷ rest → (x : ℕ) → e.0 ≡ (s, t, x) → x < stop → length (filter is_early walk) ≡ length (filter is_early rest) + 1
+  count-next walk rest e first x is low = omega (arith, ap (λ (l : Entries). length l) (early-next walk rest e first x is low))
+
+module _ (s : ℕ) (t : Bool) (start stop : ℕ) where
   -- the entry is of this side, and shares a position with the region
   abbrev pub is_in : Key × Kept → Bool
   is_in e = is_of s t e && shares start stop e.0.2 e.1.stop
@@ -106,78 +173,12 @@ module _ (s : ℕ) (t : Bool) (start stop : ℕ) where
       let ends = and_parts (nat_lt e.0.2 stop) (nat_lt start e.1.stop) both.1 in
       (key-is s t e both.0, ltb-true _ _ ends.0, ltb-true _ _ ends.1)
 
-  in-from : (e : Key × Kept) → e.0 ≡ (s, t, e.0.2) → e.0.2 < stop → start < e.1.stop → is_in e ≡ true
-  in-from e is low high = and_from _ _ (of-is s t e is) (and_from _ _ (lt-ltb _ _ low) (lt-ltb _ _ high))
-
-  -- if the first entry is past the region, so are all
-  past-all : (p : ℕ) (e : Key × Kept) (rest : Entries) → Ascends (e ∷ rest) → is_le (key_cmp (s, t, p) e.0) ≡ true
-      → (e.0.0 ≡ s → e.0.1 ≡ t → ⊥) ⊎ ((e.0 ≡ (s, t, e.0.2)) × (stop ≤ e.0.2)) → (f : Key × Kept) → Mem f (e ∷ rest) → is_in f ≡ true → ⊥
-  past-all p e rest h after (inl beside) f (inl at) yes_in =
-      let own = (in-parts f yes_in).0 in
-      let key : e.0 ≡ (s, t, f.0.2) = ap (λ (y : Key × Kept). y.0) at ∙ own in
-      beside (ap (λ (k : Key). k.0) key) (ap (λ (k : Key). k.1) key)
-  past-all p e rest h after (inl beside) f (inr m) yes_in =
-      let own = (in-parts f yes_in).0 in
-      let before : key_cmp f.0 e.0 ≡ Less = ap (λ (k : Key). key_cmp k e.0) own ∙ beside-after s t p f.0.2 e.0 beside after in
-      let never : Less ≡ Greater = sym (h.0 f m) ∙ keys_total.antisymm e.0 f.0 ∙ ap ordering_reverse before in
-      cc
-  past-all p e rest h after (inr late) f (inl at) yes_in =
-      omega (arith, ap (λ (y : Key × Kept). y.0.2) at, (in-parts f yes_in).1, late.1)
-  past-all p e rest h after (inr late) f (inr m) yes_in =
-      let own = in-parts f yes_in in
-      let less : nat_cmp e.0.2 f.0.2 ≡ Less
-      = sym (key_cmp-group s t e.0.2 f.0.2) ∙ sym (ap₂ (λ (j k : Key). key_cmp j k) late.0 own.0) ∙ h.0 f m in
-      omega (arith, ranked e.0.2 f.0.2 Less (sym less), own.1, late.1)
-
-  none-in_at : (p : ℕ) (walk rest : Entries) (e : Key × Kept) → walk ≡ e ∷ rest → Ascends walk → ((f : Key × Kept) → Mem f walk → is_le (key_cmp (s, t, p) f.0) ≡ true)
-      → (e.0.0 ≡ s → e.0.1 ≡ t → ⊥) ⊎ ((e.0 ≡ (s, t, e.0.2)) × (stop ≤ e.0.2)) → filter is_in walk ≡ []
-  none-in_at p walk rest e first h after past =
-      let h2 : Ascends (e ∷ rest) = subst Ascends first h in
-      let at : is_le (key_cmp (s, t, p) e.0) ≡ true = after e (subst (λ (l : Entries). Mem e l) (sym first) (inl refl)) in
-      ap (filter is_in) first ∙ filter-none is_in (e ∷ rest) (λ f m. false_from_ne_true _ (past-all p e rest h2 at past f m))
-
-  at-start : (x : ℕ) (e : Key × Kept) → e.0 ≡ (s, t, x) → e.0 ≡ (s, t, e.0.2)
-  at-start x e is = is ∙ ap (λ (n : ℕ). (s, t, n)) (sym (ap (λ (k : Key). k.2) is))
-
-  pub none-beside : (p : ℕ) (walk rest : Entries) (e : Key × Kept) → walk ≡ e ∷ rest → Ascends walk → ((f : Key × Kept) → Mem f walk → is_le (key_cmp (s, t, p) f.0) ≡ true)
-      → (e.0.0 ≡ s → e.0.1 ≡ t → ⊥) → filter is_in walk ≡ []
-  none-beside p walk rest e first h after beside = none-in_at p walk rest e first h after (inl beside)
-
-  pub none-past_stop : (p : ℕ) (walk rest : Entries) (e : Key × Kept) → walk ≡ e ∷ rest → Ascends walk → ((f : Key × Kept) → Mem f walk → is_le (key_cmp (s, t, p) f.0) ≡ true)
-      → (x : ℕ) → e.0 ≡ (s, t, x) → stop ≤ x → filter is_in walk ≡ []
-  none-past_stop p walk rest e first h after x is high =
-      none-in_at p walk rest e first h after (inr (at-start x e is, omega (arith, ap (λ (k : Key). k.2) is, high)))
-
-  -- the row of the first entry, if it reaches into the region, and those of the others
-  rows-first : (g : Sequences) (name : List ℕ) (walk rest : Entries) (e : Key × Kept) → walk ≡ e ∷ rest → e.0 ≡ (s, t, e.0.2) → e.0.2 < stop → name ≡ sequence_name g s
-      → flat_map (entry_row g) (filter is_in walk) ≡ row_past start name e.0.2 e.1 ++ flat_map (entry_row g) (filter is_in rest)
-  rows-first g name walk rest e first is low named = ap (λ (l : Entries). flat_map (entry_row g) (filter is_in l)) first ∙ elim (cases_Bool (nat_lt start e.1.stop)) [
-    | inl yes_past ↦
-        ap (flat_map (entry_row g)) (cond-true (is_in e) (e ∷ filter is_in rest) (filter is_in rest) (in-from e is low (ltb-true _ _ yes_past)))
-        ∙ ap (λ (l : List ℕ). l ++ flat_map (entry_row g) (filter is_in rest))
-        (ap (λ (n : List ℕ). n ++ codes "\t" ++ decimal e.0.2 ++ codes "\t" ++ decimal e.1.stop ++ e.1.results ++ codes "\n") (ap (λ (k : Key). sequence_name g k.0) is ∙ sym named)
-        ∙ sym (cond-true (nat_lt start e.1.stop) _ _ yes_past))
-    | inr no_past ↦
-        ap (flat_map (entry_row g)) (cond-false (is_in e) (e ∷ filter is_in rest) (filter is_in rest)
-        (ap₂ (λ (a b : Bool). a && (b && nat_lt start e.1.stop)) (of-is s t e is) (lt-ltb _ _ low) ∙ no_past))
-        ∙ ap (λ (l : List ℕ). l ++ flat_map (entry_row g) (filter is_in rest)) (sym (cond-false (nat_lt start e.1.stop) _ _ no_past))
+  -- of an entry that stops past the region's start, both tests say the same
+  in-is_early : (e : Key × Kept) → (e.0 ≡ (s, t, e.0.2) → start < e.1.stop) → is_early s t stop e ≡ is_in e
+  in-is_early e past = elim (cases_Bool (is_of s t e)) [
+    | inl own ↦ ap (λ (b : Bool). is_of s t e && b) (sym (both-true (nat_lt e.0.2 stop) (nat_lt start e.1.stop) (lt-ltb _ _ (past (key-is s t e own)))))
+    | inr other ↦ ap (λ (b : Bool). b && nat_lt e.0.2 stop) other ∙ sym (ap (λ (b : Bool). b && shares start stop e.0.2 e.1.stop) other)
   ]
-
-  -- and one less is left
-  count-first : (walk rest : Entries) (e : Key × Kept) → walk ≡ e ∷ rest → e.0 ≡ (s, t, e.0.2) → e.0.2 < stop → length (filter is_early walk) ≡ length (filter is_early rest) + 1
-  count-first walk rest e first is low =
-      let one : filter is_early (e ∷ rest) ≡ e ∷ filter is_early rest = cond-true (is_early e) _ _ (and_from _ _ (of-is s t e is) (lt-ltb _ _ low)) in
-      omega (arith, ap (λ (l : Entries). length (filter is_early l)) first, ap (λ (l : Entries). length l) one)
-
-  pub rows-next : (g : Sequences) (name : List ℕ) (walk rest : Entries) (e : Key × Kept) → walk ≡ e ∷ rest → (x : ℕ) → e.0 ≡ (s, t, x) → x < stop → name ≡ sequence_name g s
-      → flat_map (entry_row g) (filter is_in walk) ≡ row_past start name x e.1 ++ flat_map (entry_row g) (filter is_in rest)
-  rows-next g name walk rest e first x is low named =
-      let at : e.0.2 ≡ x = ap (λ (k : Key). k.2) is in
-      rows-first g name walk rest e first (at-start x e is) (omega (arith, at, low)) named
-      ∙ ap (λ (n : ℕ). row_past start name n e.1 ++ flat_map (entry_row g) (filter is_in rest)) at
-
-  pub count-next : (walk rest : Entries) (e : Key × Kept) → walk ≡ e ∷ rest → (x : ℕ) → e.0 ≡ (s, t, x) → x < stop → length (filter is_early walk) ≡ length (filter is_early rest) + 1
-  count-next walk rest e first x is low = count-first walk rest e first (at-start x e is) (omega (arith, ap (λ (k : Key). k.2) is, low))
 
 module _ (o : BlockOptions) (g : Sequences) (width : ℕ) (rows : List RecordValue) (entries : Entries) (right : AreBlocksOf o (names_of g) rows entries) (fit : All (Fits g width) rows) (s : ℕ) (t : Bool) where
   -- what is kept of the block of this side that starts at a position
@@ -199,7 +200,7 @@ module _ (o : BlockOptions) (g : Sequences) (width : ℕ) (rows : List RecordVal
   -- ---- where a walk begins
 
   module _ (position last : ℕ) (is : last ≡ min (sequence_length g s) position) where
-    after-last : (x : ℕ) (b : Kept) → last < x → look x ≡ Some b → position < b.stop
+    after-last : (x : ℕ) (b : Kept) → last ≤ x → look x ≡ Some b → position < b.stop
     after-last x b high e = omega (arith, is, starts-low x b e, (block-is x b e).long, high)
 
     pub reaches-none : ((x : ℕ) → x ≤ last → look x ≡ None) → ReachesFrom look position last
@@ -208,18 +209,43 @@ module _ (o : BlockOptions) (g : Sequences) (width : ℕ) (rows : List RecordVal
       after = after-last;
     }
 
-    pub reaches-some : (found : ℕ × ℕ) → IsLastBlock look last found → ReachesFrom look position found.0
-    reaches-some found entry = record {
-      before = λ x b low e. omega (
-        arith,
-        is,
-        entry.within,
-        ends_before start_of stop_of o.distance (group o.stranded s t rows) found.0 x b.stop (block-is found.0 _ entry.is).free (block-is x b e) low,
-      );
+    -- a block that starts before the last one ends before it
+    early : (found : ℕ × ℕ) → IsLastBlock look last found → (x : ℕ) (b : Kept) → x < found.0 → look x ≡ Some b → b.stop ≤ position
+    early found entry x b low e = omega (
+      arith,
+      is,
+      entry.within,
+      ends_before start_of stop_of o.distance (group o.stranded s t rows) found.0 x b.stop (block-is found.0 _ entry.is).free (block-is x b e) low,
+    )
+
+    same-stop : (found : ℕ × ℕ) → IsLastBlock look last found → (x : ℕ) (b : Kept) → x ≡ found.0 → look x ≡ Some b → b.stop ≡ found.1
+    same-stop found entry x b at e =
+        ap (λ (v : Option Kept). unwrap_or (option_map (λ (k : Kept). k.stop) v) 0) (sym e ∙ ap look at ∙ entry.is)
+
+    -- the last block, if it stops past the position
+    pub reaches-some : (found : ℕ × ℕ) → IsLastBlock look last found → position < found.1 → ReachesFrom look position found.0
+    reaches-some found entry past = record {
+      before = early found entry;
       after = λ x b high e. elim (cases_lt last x) [
-        | inl past ↦ after-last x b past e
-        | inr until ↦ absurd (none-some b (sym (entry.none x high until) ∙ e))
+        | inl late ↦ after-last x b (omega arith) e
+        | inr until ↦ elim (cases_lt found.0 x) [
+          | inl beyond ↦ absurd (none-some b (sym (entry.none x beyond until) ∙ e))
+          | inr here ↦ omega (arith, past, same-stop found entry x b (omega arith) e)
+        ]
       ];
+    }
+
+    -- the end of its sequence or the position, if it doesn't
+    pub reaches-past : (found : ℕ × ℕ) → IsLastBlock look last found → found.1 ≤ position → ReachesFrom look position last
+    reaches-past found entry stops = record {
+      before = λ x b low e. elim (cases_lt x found.0) [
+        | inl before ↦ early found entry x b before e
+        | inr until ↦ elim (cases_lt found.0 x) [
+          | inl beyond ↦ absurd (none-some b (sym (entry.none x beyond (omega arith)) ∙ e))
+          | inr here ↦ omega (arith, stops, same-stop found entry x b (omega arith) e)
+        ]
+      ];
+      after = after-last;
     }
 
   -- ---- the rows of a walk
@@ -265,64 +291,20 @@ module _ (o : BlockOptions) (g : Sequences) (width : ℕ) (rows : List RecordVal
         ∙ filter-mapped (is_in s t start stop) (λ b. shares start stop b.0 b.1.0) (entry_of o g s t) (side_blocks o g rows s t)
         (λ b. ap (λ (y : Bool). y && shares start stop b.0 b.1.0) (of-key s t b.0 (entry_of o g s t b).1))
 
-    pub rows-in : flat_map (entry_row g) (filter (is_in s t start stop) (from (s, t, low) entries)) ≡ flat_map (block_row (sequence_name g s) (listed o.summaries)) (side_blocks_in o g rows s start stop t)
-    rows-in = ap (flat_map (entry_row g)) entries-in ∙ flat_map-map (entry_row g) (entry_of o g s t) (side_blocks_in o g rows s start stop t)
-
-    count-in : length (filter (is_in s t start stop) (from (s, t, low) entries)) ≡ length (side_blocks_in o g rows s start stop t)
-    count-in = ap (λ (l : Entries). length l) entries-in ∙ length-map (side_blocks_in o g rows s start stop t) (entry_of o g s t)
-
-    -- of those after the first each one that starts before the region stops shares a position with it
-    weaker : (e : Key × Kept) → Mem e (filter (λ e. is_lt (key_cmp (s, t, low) e.0)) entries) → is_early s t start stop e ≡ true → is_in s t start stop e ≡ true
-    weaker e m yes_early =
-        let both = and_parts (is_of s t e) (nat_lt e.0.2 stop) yes_early in
-        let own : e.0 ≡ (s, t, e.0.2) = key-is s t e both.0 in
-        let inside = mem-filter (λ e. is_lt (key_cmp (s, t, low) e.0)) entries e m in
-        let less : is_lt (nat_cmp low e.0.2) ≡ true
-        = ap is_lt (sym (key_cmp-group s t low e.0.2)) ∙ ap (λ (k : Key). is_lt (key_cmp (s, t, low) k)) (sym own) ∙ inside.1 in
+    -- each one that starts before the region stops shares a position with it
+    early-in : filter (is_early s t stop) (from (s, t, low) entries) ≡ filter (is_in s t start stop) (from (s, t, low) entries)
+    early-in = filter-agree (is_early s t stop) (is_in s t start stop) (from (s, t, low) entries) (λ e m. in-is_early s t start stop e (λ own.
+        let inside = mem-filter (λ e. is_le (key_cmp (s, t, low) e.0)) entries e m in
+        let high : is_le (nat_cmp low e.0.2) ≡ true
+        = ap is_le (sym (key_cmp-group s t low e.0.2)) ∙ ap (λ (k : Key). is_le (key_cmp (s, t, low) k)) (sym own) ∙ inside.1 in
         let at : look e.0.2 ≡ Some e.1 = ap (value_at key_cmp entries) (sym own) ∙ value-of entries e (ascends-all entries right.ordered) inside.0 in
-        in-from s t start stop e own (ltb-true _ _ both.1) (reaches.after e.0.2 e.1 (lt-from low e.0.2 (nat_cmp low e.0.2) refl less) at)
-      where
-        lt-from : (a b : ℕ) (c : _) → nat_cmp a b ≡ c → is_lt c ≡ true → a < b
-        lt-from a b Less is yes_less = ranked a b Less (sym is)
-        lt-from a b Equal is yes_less = cc
-        lt-from a b Greater is yes_less = cc
+        reaches.after e.0.2 e.1 (le_from_is_le low e.0.2 high) at))
 
-    pub few-early : length (filter (is_early s t start stop) (from (s, t, low) entries)) ≤ length (side_blocks_in o g rows s start stop t) + 1
-    few-early =
-        let rest : Entries = filter (λ e. is_lt (key_cmp (s, t, low) e.0)) entries in
-        let step = from-step entries (s, t, low) right.ordered in
-        go (option_map (λ v. ((s, t, low), v)) (value_at key_cmp entries (s, t, low))) rest step (filter-weaker (is_early s t start stop) (is_in s t start stop) rest weaker)
-      where
-        go : (first : Option (Key × Kept)) (rest : Entries) → from (s, t, low) entries ≡ cons_option first rest → length (filter (is_early s t start stop) rest) ≤ length (filter (is_in s t start stop) rest)
-            → length (filter (is_early s t start stop) (from (s, t, low) entries)) ≤ length (side_blocks_in o g rows s start stop t) + 1
-        go None rest is fewer = omega (
-          arith,
-          fewer,
-          count-in,
-          ap (λ (l : Entries). length (filter (is_early s t start stop) l)) is,
-          ap (λ (l : Entries). length (filter (is_in s t start stop) l)) is,
-        )
-        go (Some e) rest is fewer = omega (
-          arith,
-          fewer,
-          count-in,
-          ap (λ (l : Entries). length (filter (is_early s t start stop) l)) is,
-          ap (λ (l : Entries). length (filter (is_in s t start stop) l)) is,
-          one-more (is_early s t start stop) e rest,
-          one-more2 (is_in s t start stop) e rest,
-        )
-          where
-            one-more : (p : Key × Kept → Bool) (e : Key × Kept) (rest : Entries) → length (filter p (e ∷ rest)) ≤ length (filter p rest) + 1
-            one-more p e rest = elim (cases_Bool (p e)) [
-              | inl yes_p ↦ omega (arith, ap (λ (l : Entries). length l) (cond-true (p e) (e ∷ filter p rest) (filter p rest) yes_p))
-              | inr no_p ↦ omega (arith, ap (λ (l : Entries). length l) (cond-false (p e) (e ∷ filter p rest) (filter p rest) no_p))
-            ]
+    pub rows-in : flat_map (entry_row g) (filter (is_early s t stop) (from (s, t, low) entries)) ≡ flat_map (block_row (sequence_name g s) (listed o.summaries)) (side_blocks_in o g rows s start stop t)
+    rows-in = ap (flat_map (entry_row g)) (early-in ∙ entries-in) ∙ flat_map-map (entry_row g) (entry_of o g s t) (side_blocks_in o g rows s start stop t)
 
-            one-more2 : (p : Key × Kept → Bool) (e : Key × Kept) (rest : Entries) → length (filter p rest) ≤ length (filter p (e ∷ rest))
-            one-more2 p e rest = elim (cases_Bool (p e)) [
-              | inl yes_p ↦ omega (arith, ap (λ (l : Entries). length l) (cond-true (p e) (e ∷ filter p rest) (filter p rest) yes_p))
-              | inr no_p ↦ omega (arith, ap (λ (l : Entries). length l) (cond-false (p e) (e ∷ filter p rest) (filter p rest) no_p))
-            ]
+    pub count-in : length (filter (is_early s t stop) (from (s, t, low) entries)) ≡ length (side_blocks_in o g rows s start stop t)
+    count-in = ap (λ (l : Entries). length l) (early-in ∙ entries-in) ∙ length-map (side_blocks_in o g rows s start stop t) (entry_of o g s t)
 
 -- ---- the sides
 

@@ -1,15 +1,15 @@
 //! The rows of a merge in one region.
-ghost use Rattle.std.specs.Prelude.{◌≡◌, ◌+◌, ◌<◌, All, length};
+ghost use Rattle.std.specs.Prelude.{◌≡◌, ◌+◌, ◌*◌, ◌<◌, All, length};
 ghost use Rattle.std.specs.List.{flat_map};
 ghost use Rattle.iv_bytes.specs.Sinks.{Puts};
 ghost use Rattle.iv_text.specs.Genome.{sequence_name};
 ghost use Rattle.iv_text.specs.Named.{names_of};
 ghost use Rattle.iv_text.specs.Read.{Fits};
 ghost use Rattle.iv_track.specs.Steps.{TakesUpTo};
-ghost use Rattle.iv_blocks.specs.Groups.{listed};
+ghost use Rattle.iv_blocks.specs.Groups.{listed, sides};
 ghost use Rattle.iv_blocks.specs.Inside.Groups.{is_minus};
 ghost use Rattle.iv_blocks.specs.Inside.Lookups.{kept_in};
-ghost use Rattle.iv_blocks.specs.Inside.Regions.{ReachesFrom, row_past};
+ghost use Rattle.iv_blocks.specs.Inside.Regions.{ReachesFrom};
 ghost use Rattle.iv_blocks.specs.KeptBlocks.{AreBlocksOf};
 ghost use Rattle.iv_blocks.specs.MergeRows.{block_row};
 ghost use Rattle.iv_blocks.specs.RegionRows.{blocks_in, side_blocks_in};
@@ -17,7 +17,6 @@ ghost use Rattle.iv_blocks.specs.Inside.Texts.{merge_text_in};
 
 use crate::blocks::Blocks;
 use crate::group::{Group, Side};
-use crate::kept_block::KeptBlock;
 use crate::merge::put_block;
 use crate::repair::of_group;
 use iv_bytes::{Sink, WriteFault};
@@ -29,8 +28,8 @@ impl<A: Allocator + Copy> Blocks<A> {
     /// Prints the rows of a `merge` whose block shares a position with the region from `start` to `stop`, which is not included, of
     /// the sequence of this rank.
     ///
-    /// At most 8 steps more than there are rows, however many blocks there are elsewhere. On a fault the sink has taken a prefix of
-    /// the rows.
+    /// At most 3 steps more than there are rows, or 6 with strands apart, however many blocks there are elsewhere. On a fault the sink
+    /// has taken a prefix of the rows.
     pub fn print_merge_in<S: Sink>(
         &self,
         seq: u32,
@@ -45,7 +44,7 @@ impl<A: Allocator + Copy> Blocks<A> {
         requires right { AreBlocksOf self.now.options (names_of genome.now) track.now.rows self.now.entries }
         requires fit { All (Fits genome.now track.now.width) track.now.rows }
         ensures text { Puts (S.state sink.old) (S.state sink.new) result (merge_text_in self.now.options genome.now track.now.rows seq start stop) }
-        ensures steps { TakesUpTo meter.old meter.new (8 + length (blocks_in self.now.options genome.now track.now.rows seq start stop)) }
+        ensures steps { TakesUpTo meter.old meter.new (3 * length (sides self.now.options.stranded) + length (blocks_in self.now.options genome.now track.now.rows seq start stop)) }
     {
         if !self.options.stranded {
             let both = Group {
@@ -66,7 +65,7 @@ impl<A: Allocator + Copy> Blocks<A> {
         self.print_side_in(minus, start, stop, track, genome, meter, sink)
     }
 
-    /// Prints the rows of the group's blocks that share a position with the region. At most 4 steps more than there are rows.
+    /// Prints the rows of the group's blocks that share a position with the region. At most 3 steps more than there are rows.
     fn print_side_in<S: Sink>(
         &self,
         group: Group,
@@ -81,7 +80,7 @@ impl<A: Allocator + Copy> Blocks<A> {
         requires fit { All (Fits genome.now track.now.width) track.now.rows }
         ensures text { Puts (S.state sink.old) (S.state sink.new) result (flat_map (block_row (sequence_name genome.now group.rank) (listed self.now.options.summaries))
             (side_blocks_in self.now.options genome.now track.now.rows group.rank start stop (is_minus group.side))) }
-        ensures steps { TakesUpTo meter.old meter.new (4 + length (side_blocks_in self.now.options genome.now track.now.rows group.rank start stop (is_minus group.side))) }
+        ensures steps { TakesUpTo meter.old meter.new (3 + length (side_blocks_in self.now.options genome.now track.now.rows group.rank start stop (is_minus group.side))) }
     {
         let name = genome.name_of(group.rank);
         let low = self.reaching_from(group, start, track, genome, meter);
@@ -93,13 +92,13 @@ impl<A: Allocator + Copy> Blocks<A> {
             if u64::from(from) >= stop {
                 return Ok(());
             }
-            put_block_past(start, name, from, block, sink)?;
+            put_block(name, from, block, sink)?;
         }
         Ok(())
     }
 
-    /// Where to look for the group's blocks that stop past the position: of those that start here or later, at most the first
-    /// doesn't. One step.
+    /// Where the group's blocks begin that stop past the position: those that start here or later do, and the others don't. One
+    /// step.
     fn reaching_from(
         &self,
         group: Group,
@@ -117,24 +116,14 @@ impl<A: Allocator + Copy> Blocks<A> {
         let end = genome.length_u32(group.rank).unwrap_or(0);
         let last = u64::from(end).min(position) as u32;
         match self.before(group, last, meter) {
-            Some((start, _)) => start,
+            Some((start, stop)) => {
+                if u64::from(stop) > position {
+                    start
+                } else {
+                    last
+                }
+            }
             None => last,
         }
     }
-}
-
-/// Puts the row of a block, if it stops past the position.
-fn put_block_past<A: Allocator, S: Sink>(
-    position: u64,
-    name: &[u8],
-    start: u32,
-    block: &KeptBlock<A>,
-    sink: &mut S,
-) -> Result<(), WriteFault>
-    ensures { Puts (S.state sink.old) (S.state sink.new) result (row_past position name.now start block.now) }
-{
-    if u64::from(block.stop()) <= position {
-        return Ok(());
-    }
-    put_block(name, start, block, sink)
 }

@@ -7,6 +7,7 @@ use Rattle.iv_track.specs.Steps.{TakesUpTo}
 use Rattle.iv_track.specs.declared.region.Region.{Region}
 use Rattle.iv_cover.specs.Depth.{depth}
 use Rattle.iv_blocks.specs.ClusterRows.{blocks_until}
+use Rattle.iv_blocks.specs.Groups.{sides}
 use Rattle.iv_blocks.specs.RegionRows.{blocks_in, gaps_in}
 use Rattle.iv_depth.specs.RegionRows.{covered_runs_in}
 use Rattle.iv_view.specs.declared.view.KeptView.{KeptView}
@@ -18,10 +19,11 @@ pub record IsWithin (g : Sequences) (at : Region) : Type 0 where
   pub ends : at.stop ≤ sequence_length g at.seq
 
 -- how many steps lie between two readings at most while such rows are printed from what is kept for a view: one for each row of
--- `merge` or `complement`, and eight or two more; of depth two for each row above 0 and one for each record that may share a position
--- with the region, and five more; of `cluster` one for each record that may share a position with the region and each block up to its end, and four more
+-- `merge` or `complement`, and three more for each side, or two more; of depth two for each row above 0 and one for each record that
+-- may share a position with the region, and five more; of `cluster` one for each record that may share a position with the region and
+-- each block up to its end, and four more
 abbrev pub PrintsInWithin : Region → KeptView → Sequences → List RecordValue → ℕ → ℕ → Type 0
-PrintsInWithin at (kept.Merge options) g rows old new = TakesUpTo old new (8 + length (blocks_in options g rows at.seq at.start at.stop))
+PrintsInWithin at (kept.Merge options) g rows old new = TakesUpTo old new (3 * length (sides options.stranded) + length (blocks_in options g rows at.seq at.start at.stop))
 PrintsInWithin at (kept.Cluster distance) g rows old new = TakesUpTo old new (4 + length (near at rows) + blocks_until distance g rows at.seq at.stop)
 PrintsInWithin at (kept.Complement limited) g rows old new = TakesUpTo old new (2 + length (gaps_in limited g rows at.seq at.start at.stop))
 PrintsInWithin at (kept.Genomecov shown) g rows old new =

@@ -1,5 +1,5 @@
 -- The blocks of one group that may share a position with a region. This is the state of a print, as seen by its proof.
-use Rattle.std.specs.Prelude.{◌≡◌, ◌⊎◌, ℕ, ◌<◌, ◌≤◌, ◌++◌, nat_lt, Bool, false, List, [], filter, Option, None, Some, codes, decimal, if◌then◌else◌}
+use Rattle.std.specs.Prelude.{◌≡◌, ◌⊎◌, ℕ, ◌<◌, ◌≤◌, Bool, false, List, [], filter, Option, None, Some, if◌then◌else◌}
 use Rattle.iv_text.specs.Genome.{Sequences, sequence_length}
 use Rattle.iv_text.specs.RecordValue.{RecordValue}
 use Rattle.iv_track.specs.Entries.{value_at}
@@ -9,17 +9,10 @@ use Rattle.iv_blocks.specs.Inside.Texts.{is_shown}
 use Rattle.iv_blocks.specs.KeptBlocks.{Entries, Kept, key_cmp}
 use Rattle.iv_blocks.specs.RegionRows.{shares}
 
--- the blocks before `low` stop at the position or before it, and those after `low` stop past it
+-- the blocks before `low` stop at the position or before it, and those from `low` on stop past it
 pub record ReachesFrom (look : ℕ → Option Kept) (position low : ℕ) : Type 0 where
   pub before : (x : ℕ) (b : Kept) → x < low → look x ≡ Some b → b.stop ≤ position
-  pub after : (x : ℕ) (b : Kept) → low < x → look x ≡ Some b → position < b.stop
-
--- the row of a block that starts at x, if it stops past the position
-abbrev pub row_past : ℕ → List ℕ → ℕ → Kept → List ℕ
-row_past position name x b =
-    if nat_lt position b.stop
-    then name ++ codes "\t" ++ decimal x ++ codes "\t" ++ decimal b.stop ++ b.results ++ codes "\n"
-    else []
+  pub after : (x : ℕ) (b : Kept) → low ≤ x → look x ≡ Some b → position < b.stop
 
 -- what is kept of the block of a sequence that starts at x, if there is one and strands are together
 abbrev pub kept_on : Entries → ℕ → ℕ → Option Kept

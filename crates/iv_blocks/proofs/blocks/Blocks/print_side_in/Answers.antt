@@ -7,7 +7,7 @@ use Rattle.iv_blocks.specs.Inside.Groups.{is_minus}
 use Rattle.iv_blocks.specs.Inside.Insertion.{key_of}
 use Rattle.iv_blocks.specs.KeptBlocks.{Key, Kept, KeptBlocks, Entries, key_cmp}
 use Rattle.iv_blocks.proofs.EntryLemmas.{from}
-use Rattle.iv_blocks.proofs.RegionLemmas.{Ascends, ascends-all, ascends-filter, rows-in, few-early, rows-next, count-next, none-beside, none-past_stop}
+use Rattle.iv_blocks.proofs.RegionLemmas.{Ascends, ascends-all, ascends-filter, rows-in, count-in, rows-next, count-next, none-beside, none-past_stop}
 use Rattle.iv_blocks.proofs.blocks.Blocks.print_side_in.Goals as goal
 
 pub loop-key-init : goal.loop-key-init
@@ -18,14 +18,14 @@ loop-key-init g c =
     let walked : c.walk-walk.result ≡ from (key_of a.group low) a.self.now.entries
     = c.walk-walk.ensures.entries ∙ ap₂ (λ (k : Key) (l : Entries). from k l) c.key.ensures (ap (λ (b : KeptBlocks). b.entries) c.self.view_is) in
     let one = takes_one_more _ _ _ 0 (takes_none c.reaching_from-low.new.meter) c.walk-walk.ensures.step in
-    let few = few-early a.self.now.options a.genome.now a.track.now.width a.track.now.rows a.self.now.entries c.requires.right c.requires.fit a.group.rank t a.start a.stop low c.reaching_from-low.ensures.low in
+    let count = count-in a.self.now.options a.genome.now a.track.now.width a.track.now.rows a.self.now.entries c.requires.right c.requires.fit a.group.rank t a.start a.stop low c.reaching_from-low.ensures.low in
     let text = rows-in a.self.now.options a.genome.now a.track.now.width a.track.now.rows a.self.now.entries c.requires.right c.requires.fit a.group.rank t a.start a.stop low c.reaching_from-low.ensures.low in
     rw walked (record {
       put = rw text (Underway-begin _ _);
       ascends = ascends-filter (λ e. is_le (key_cmp (key_of a.group low) e.0)) a.self.now.entries (ascends-all a.self.now.entries c.requires.right.ordered);
       after = λ f m. (mem-filter (λ (e : Key × Kept). is_le (key_cmp (key_of a.group low) e.0)) a.self.now.entries f m).1;
       no_less = omega (arith, one, c.reaching_from-low.ensures.steps);
-      at_most = omega (arith, one, c.reaching_from-low.ensures.steps, few);
+      at_most = omega (arith, one, c.reaching_from-low.ensures.steps, count);
     })
 
 pub loop-key-preserved : goal.loop-key-preserved
@@ -36,30 +36,30 @@ loop-key-preserved g c =
     let e : Key × Kept = (c.in-Some.key.now, c.in-Some.block.now) in
     let first : c.loop-key.walk ≡ e ∷ c.next.new.self = c.in-Some.ensures.next in
     let is = c.in-Some-of_group.ensures.0 in
-    let next = rows-next a.group.rank t a.start a.stop a.genome.now c.name_of-name.result.now c.loop-key.walk c.next.new.self e first c.in-Some-of_group.from is
+    let next = rows-next a.group.rank t a.stop a.genome.now c.name_of-name.result.now c.loop-key.walk c.next.new.self e first c.in-Some-of_group.from is
     (omega (arith, c.if-from-stop.false, c.from.ensures)) c.name_of-name.ensures in
-    let count = count-next a.group.rank t a.start a.stop c.loop-key.walk c.next.new.self e first c.in-Some-of_group.from is (omega (arith, c.if-from-stop.false, c.from.ensures)) in
+    let count = count-next a.group.rank t a.stop c.loop-key.walk c.next.new.self e first c.in-Some-of_group.from is (omega (arith, c.if-from-stop.false, c.from.ensures)) in
     let one = takes_one_more _ _ _ 0 (takes_none c.loop-key.meter) c.in-Some.ensures.step in
     record {
-      put = Underway-more _ _ _ _ _ _ (rw next at i.put) c.in_ok-put_block_past.ensures;
+      put = Underway-more _ _ _ _ _ _ (rw next at i.put) c.in_ok-put_block.ensures;
       ascends = (subst Ascends first i.ascends).1;
       after = λ f m. i.after f (subst (λ (l : Entries). Mem f l) (sym first) (inr m));
       no_less = omega (arith, i.no_less, one);
       at_most = omega (arith, i.at_most, count, one);
     }
 
-pub returns-in_err-put_block_past : goal.returns-in_err-put_block_past
-returns-in_err-put_block_past g c =
+pub returns-in_err-put_block : goal.returns-in_err-put_block
+returns-in_err-put_block g c =
     let a = c.args in
     let i = c.loop-key.invariant in
     let e : Key × Kept = (c.in-Some.key.now, c.in-Some.block.now) in
     let first : c.loop-key.walk ≡ e ∷ c.next.new.self = c.in-Some.ensures.next in
-    let next = rows-next a.group.rank (is_minus a.group.side) a.start a.stop a.genome.now c.name_of-name.result.now c.loop-key.walk c.next.new.self e first c.in-Some-of_group.from c.in-Some-of_group.ensures.0
+    let next = rows-next a.group.rank (is_minus a.group.side) a.stop a.genome.now c.name_of-name.result.now c.loop-key.walk c.next.new.self e first c.in-Some-of_group.from c.in-Some-of_group.ensures.0
     (omega (arith, c.if-from-stop.false, c.from.ensures)) c.name_of-name.ensures in
     let one = takes_one_more _ _ _ 0 (takes_none c.loop-key.meter) c.in-Some.ensures.step in
     record {
       text = Puts-err _ _ c.from_residual.result _ c.from_residual.ensures.0
-          (Underway-fails _ _ _ _ _ _ (rw next at i.put) c.in_err-put_block_past.ensures);
+          (Underway-fails _ _ _ _ _ _ (rw next at i.put) c.in_err-put_block.ensures);
       steps = record { no_less = omega (arith, i.no_less, one); at_most = omega (arith, i.at_most, one) };
     }
 
@@ -68,7 +68,7 @@ returns-in_default-of_group g c =
     let a = c.args in
     let i = c.loop-key.invariant in
     let e : Key × Kept = (c.in-Some.key.now, c.in-Some.block.now) in
-    let none = none-beside a.group.rank (is_minus a.group.side) a.start a.stop c.reaching_from-low.result c.loop-key.walk c.next.new.self e c.in-Some.ensures.next i.ascends i.after c.in_default-of_group.ensures in
+    let none = none-beside a.group.rank (is_minus a.group.side) a.stop c.reaching_from-low.result c.loop-key.walk c.next.new.self e c.in-Some.ensures.next i.ascends i.after c.in_default-of_group.ensures in
     let one = takes_one_more _ _ _ 0 (takes_none c.loop-key.meter) c.in-Some.ensures.step in
     record {
       text = Underway-ends _ _ _ (rw none at i.put);
@@ -80,7 +80,7 @@ returns-then-from-stop g c =
     let a = c.args in
     let i = c.loop-key.invariant in
     let e : Key × Kept = (c.in-Some.key.now, c.in-Some.block.now) in
-    let none = none-past_stop a.group.rank (is_minus a.group.side) a.start a.stop c.reaching_from-low.result c.loop-key.walk c.next.new.self e c.in-Some.ensures.next i.ascends i.after
+    let none = none-past_stop a.group.rank (is_minus a.group.side) a.stop c.reaching_from-low.result c.loop-key.walk c.next.new.self e c.in-Some.ensures.next i.ascends i.after
     c.in-Some-of_group.from c.in-Some-of_group.ensures.0 (omega (arith, c.if-from-stop.true, c.from.ensures)) in
     let one = takes_one_more _ _ _ 0 (takes_none c.loop-key.meter) c.in-Some.ensures.step in
     record {
